@@ -207,7 +207,7 @@ static bool is_near(const struct kind *kind, const Elf64_Rela *r, const struct s
 }
 
 /* Has a branch in code go by a thunk, if it doesn't reach its target, or its function expects other
- * registers. Whether it has added one. The answer of what is near is asked for once. */
+ * registers. Whether it has added one. What is near is computed once. */
 static bool add_thunk(struct section *s, Elf64_Rela *r, const struct linker_utils_stub *stub) {
     struct kind *kind = kind_of(s, r);
     struct symbol *to = symbol_at(s, r);

@@ -1,10 +1,11 @@
--- AArch64: in the final bytes of a section rewritten instructions do what the object's do with the values
--- of their relocations (ELF for the Arm 64-bit Architecture, "Relocation optimization", and the sequences
--- of thread-local storage).
+-- AArch64: in the final bytes of a section rewritten instructions do what the object's do with the
+-- values of their relocations (ELF for the Arm 64-bit Architecture, "Relocation optimization", and
+-- the sequences of thread-local storage).
 use Rattle.std.specs.Prelude.{◌≡◌, ◌≢◌, ℕ, ◌+◌, ◌<◌, ◌==◌, List, [], ◌∷◌, Some, IsSomeAnd}
 use Rattle.std.specs.Prelude.{slice_get, Option, Bool, false, ◌^◌}
 use Rattle.linker_aarch64.specs.AArch64Rewrites.{rd_of}
-use Rattle.linker_aarch64.specs.declared.rewrites.RelaxationKind.TheVariants.{AdrpX0, LdrX0, MovkX0, MovzX0Lsl16}
+use Rattle.linker_aarch64.specs.declared.rewrites.RelaxationKind.TheVariants.{AdrpX0, LdrX0, MovkX0}
+use Rattle.linker_aarch64.specs.declared.rewrites.RelaxationKind.TheVariants.{MovzX0Lsl16}
 use Rattle.linker_aarch64.specs.declared.rewrites.RelaxationKind.{RelaxationKind}
 use Rattle.linker_elf.specs.AArch64Relocations.{aarch64_name, aarch64_row}
 use Rattle.linker_elf.specs.ElfNames.{IsNameOf}
@@ -15,8 +16,11 @@ use Rattle.linker_elf.specs.declared.elf.choice.Choice.{Choice}
 use Rattle.linker_final.specs.Final.{Linked, IsLinked, count, instruction_at, two_at}
 use Rattle.linker_final.specs.Final.{IsRewrittenByNoOther, IsWrittenByNoOther}
 use Rattle.linker_laws.specs.AArch64Machine.{State, load_64, RunAlike, RunAlikeBut, next_pc}
-use Rattle.linker_laws.specs.AArch64RewriteLaws.{Descriptor, DescriptorOf, RunAlikeBehindCall, four, scratch}
-use Rattle.linker_laws.specs.AArch64RewriteLaws.{IsRelocated, Changes, AgreeBut, HasHigh, StepSo, behind, pair, thread_offset, with_register, without_register, word_of}
+use Rattle.linker_laws.specs.AArch64RewriteLaws.{Descriptor, DescriptorOf, RunAlikeBehindCall, four}
+use Rattle.linker_laws.specs.AArch64RewriteLaws.{scratch}
+use Rattle.linker_laws.specs.AArch64RewriteLaws.{IsRelocated, Changes, AgreeBut, HasHigh, StepSo}
+use Rattle.linker_laws.specs.AArch64RewriteLaws.{behind, pair, thread_offset, with_register}
+use Rattle.linker_laws.specs.AArch64RewriteLaws.{without_register, word_of}
 use Rattle.linker_laws.specs.Schemes.{AreAddresses, plt_address, symbol_address}
 use Rattle.linker_rewriting.specs.Decisions.{decision_at}
 use Rattle.linker_rewriting.specs.declared.decisions.Decision.TheVariants.{Rewritten, TakenAlong}
@@ -27,8 +31,8 @@ use Rattle.linker_utils.specs.declared.architecture.Relaxation.{Relaxation}
 use Rattle.linker_utils.specs.declared.architecture.Relaxation.TheVariants as relaxations
 use Rattle.linker_utils.specs.declared.elf.Architecture.TheVariants.{AArch64}
 
--- The relocations at two indexes are of one S + A, and the second is of the instruction behind that of
--- the first.
+-- The relocations at two indexes are of one S + A, and the second is of the instruction behind that
+-- of the first.
 pub record AreNext (l : Linked) (i j : ℕ) : Type 0 where
   pub first_below : i < count l
   pub second_below : j < count l
@@ -69,8 +73,8 @@ LoadsTheSame l i row =
 
 -- ---- addresses by `adr`
 
--- They are those of an `adrp` and of the `add` behind it. The second is rewritten, which takes the first
--- along.
+-- They are those of an `adrp` and of the `add` behind it. The second is rewritten, which takes the
+-- first along.
 pub record AreOfAddress (l : Linked) (i j : ℕ) : Type 0 where
   pub together : AreNext l i j
   pub low :
@@ -97,8 +101,9 @@ MakesTheSame l i row =
 -- ---- the halves of initial-exec
 
 -- Two states agree but for what high halves put in registers. The instruction of a relocation at an
--- index is executed: in one of them the object's with the value of its relocation, and in the other the
--- final bytes. Then they agree but for its register, which has the high part of the variable's offset.
+-- index is executed: in one of them the object's with the value of its relocation, and in the other
+-- the final bytes. Then they agree but for its register, which has the high part of the variable's
+-- offset.
 abbrev pub HighDoesTheSame : Linked → ℕ → RelocationKindInfo → Type 0
 HighDoesTheSame l i row =
     let r = relocation_in l.relocations i in
@@ -112,8 +117,8 @@ HighDoesTheSame l i row =
     → StepSo (word_of adrp) s (word_of (instruction_at l.final r.offset)) t
     (λ u v. AgreeBut (with_register n c) u v × HasHigh n operands u v)
 
--- From states whose register has that, and where the GOT's entry holds the offset, the low half leaves
--- the offset in both.
+-- From states whose register has that, and where the GOT's entry holds the offset, the low half
+-- leaves the offset in both.
 abbrev pub LowDoesTheSame : Linked → ℕ → RelocationKindInfo → Type 0
 LowDoesTheSame l i row =
     let r = relocation_in l.relocations i in
@@ -130,8 +135,8 @@ LowDoesTheSame l i row =
 
 -- ---- TLS descriptors
 
--- The relocations at four indexes are those of the sequence of a TLS descriptor, and all are rewritten, the
--- first two by two kinds.
+-- The relocations at four indexes are those of the sequence of a TLS descriptor, and all are
+-- rewritten, the first two by two kinds.
 pub record AreOfDescriptor (l : Linked) (high low : RelaxationKind) (i j k m : ℕ) : Type 0 where
   pub first : AreNext l i j
   pub second : AreNext l j k
@@ -151,8 +156,8 @@ pub record AreOfDescriptor (l : Linked) (high low : RelaxationKind) (i j k m : �
   pub call_chosen : Choice Relaxation ℕ
   pub call_decided : decision_at l.decisions m ≡ Rewritten call_chosen
 
--- From any state before the sequence, the object's instructions with their relocations' values run to
--- the call, and the final bytes end as the called function returns.
+-- From any state before the sequence, the object's instructions with their relocations' values run
+-- to the call, and the final bytes end as the called function returns.
 abbrev pub OffsetIsTheSame : Linked → ℕ → RelocationKindInfo → Type 0
 OffsetIsTheSame l i row =
     let r = relocation_in l.relocations i in
@@ -206,8 +211,8 @@ BranchDoesTheSame name differing l i row =
 
 -- ---- the laws
 
--- of every load of an address from the GOT that a linker rewrites, where no other rewrite has a byte
--- of the `adrp`
+-- of every load of an address from the GOT that a linker rewrites, where no other rewrite has a
+-- byte of the `adrp`
 abbrev pub GotLoads : Type 0
 GotLoads =
     (l : Linked) → IsLinked l → l.setting.architecture ≡ AArch64
@@ -253,8 +258,8 @@ Addresses =
     → IsWrittenByNoOther l i (relocation_in l.relocations i).offset
     → IsSomeAnd (aarch64_row names.R_AARCH64_ADR_PREL_PG_HI21) (MakesTheSame l i)
 
--- of every sequence of a TLS descriptor that is rewritten by two kinds, where no other relocation has a
--- field in the two instructions that become `nop`
+-- of every sequence of a TLS descriptor that is rewritten by two kinds, where no other relocation
+-- has a field in the two instructions that become `nop`
 abbrev pub EachDescriptor : RelaxationKind → RelaxationKind
     → (Linked → ℕ → RelocationKindInfo → Type 0) → Type 0
 EachDescriptor high low Holds =

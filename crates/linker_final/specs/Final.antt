@@ -1,10 +1,12 @@
 -- A section of code of an object as a linker rewrites it in a phase and then writes its values.
-use Rattle.std.specs.Prelude.{◌≡◌, ◌≢◌, ◌⊎◌, ℕ, ◌+◌, ◌/◌, ◌^◌, ◌<◌, ◌≤◌, List, ◌++◌, length, take, drop, get_or, ℤ, Some}
+use Rattle.std.specs.Prelude.{◌≡◌, ◌≢◌, ◌⊎◌, ℕ, ◌+◌, ◌/◌, ◌^◌, ◌<◌, ◌≤◌, List, ◌++◌, length, take}
+use Rattle.std.specs.Prelude.{drop, get_or, ℤ, Some}
 use Rattle.std.specs.List.{All}
 use Rattle.linker_elf.specs.declared.elf.RelocationKindInfo.{RelocationKindInfo}
 use Rattle.linker_final.specs.declared.sections.LinkError.{LinkError}
 use Rattle.linker_final.specs.declared.sections.LinkError.TheVariants.{Rewriting, Writing}
-use Rattle.linker_rewriting.specs.Decisions.{IsRejected, AreDecidedIn, decision_at, start_at, written_end_at}
+use Rattle.linker_rewriting.specs.Decisions.{IsRejected, AreDecidedIn, decision_at, start_at}
+use Rattle.linker_rewriting.specs.Decisions.{written_end_at}
 use Rattle.linker_rewriting.specs.Facts.{Setting}
 use Rattle.linker_rewriting.specs.Kept.{IsWritingCause}
 use Rattle.linker_rewriting.specs.Rewritten.{AreRelocationsAfter, AreDone, OthersStay}
@@ -22,8 +24,8 @@ use Rattle.linker_section.specs.declared.facts.Addresses.{Addresses}
 use Rattle.linker_section.specs.declared.facts.Symbol.{Symbol}
 use Rattle.linker_utils.specs.declared.elf.Architecture.{Architecture}
 
--- What is passed to `rewrite_section` or `rewrite_placed_section` and then to `relocate_section`, and
--- what they leave.
+-- What is passed to `rewrite_section` or `rewrite_placed_section` and then to `relocate_section`,
+-- and what they leave.
 pub record Linked : Type 0 where
   -- what rewrites are chosen by
   pub setting : Setting
@@ -123,7 +125,8 @@ instruction_at bytes o = take 4 (drop o bytes)
 abbrev pub two_at : List ℕ → ℕ → List ℕ
 two_at bytes o = take 8 (drop o bytes)
 
--- no rewrite of another relocation than the one at an index has a byte of the instruction at an offset
+-- no rewrite of another relocation than the one at an index has a byte of the instruction at an
+-- offset
 abbrev pub IsRewrittenByNoOther : Linked → ℕ → ℕ → Type 0
 IsRewrittenByNoOther l i o =
     (j at : ℕ) → j < count l → j ≢ i → o ≤ at → at < o + 4

@@ -1,6 +1,6 @@
--- LoongArch: in the final bytes of a section rewritten instructions do what the object's do with the
--- values of their relocations (LoongArch ELF psABI, relaxation and the sequences of thread-local
--- storage).
+-- LoongArch: in the final bytes of a section rewritten instructions do what the object's do with
+-- the values of their relocations (LoongArch ELF psABI, relaxation and the sequences of
+-- thread-local storage).
 use Rattle.std.specs.Prelude.{◌≡◌, ◌≢◌, ℕ, pos, ◌+◌, ◌/◌, ◌<◌, ◌^◌, Bool, true, List, Option, Some}
 use Rattle.std.specs.Prelude.{IsSomeAnd, slice_get, ⊤}
 use Rattle.linker_elf.specs.ElfNames.{IsNameOf}
@@ -14,7 +14,8 @@ use Rattle.linker_elf.specs.declared.loongarch64.relocations.LoongArch64Relocati
 use Rattle.linker_elf.specs.declared.loongarch64.relocations.LoongArch64Relocation.TheVariants as names
 use Rattle.linker_final.specs.Final.{Linked, IsLinked, count, instruction_at}
 use Rattle.linker_final.specs.Final.{IsRewrittenByNoOther, IsWrittenByNoOther}
-use Rattle.linker_laws.specs.LoongArchMachine.{State, AreAlikeBut, action_of, but_written, read, step}
+use Rattle.linker_laws.specs.LoongArchMachine.{State, AreAlikeBut, action_of, but_written, read}
+use Rattle.linker_laws.specs.LoongArchMachine.{step}
 use Rattle.linker_laws.specs.LoongArchRewriteLaws.{AgreeBut, Changes, Descriptor, Fits32, Has}
 use Rattle.linker_laws.specs.LoongArchRewriteLaws.{HasDescriptor, HaveShortened, IsRelocated}
 use Rattle.linker_laws.specs.LoongArchRewriteLaws.{LoadsEntry, RunAlike, StepSo, StoresTheSame}
@@ -41,8 +42,8 @@ use Rattle.linker_utils.specs.declared.elf.Architecture.TheVariants.{LoongArch64
 -- ---- loads of addresses from the GOT
 
 -- From any state before the `pcalau12i` of a relocation at an index, where the entry at an address
--- holds S + A, the final bytes of the pair run and end as the object's with their relocations' values
--- do. The distances to the entry and to the symbol, in pages, have 32 bits.
+-- holds S + A, the final bytes of the pair run and end as the object's with their relocations'
+-- values do. The distances to the entry and to the symbol, in pages, have 32 bits.
 abbrev pub LoadsTheSame : Linked → ℕ → RelocationKindInfo → Type 0
 LoadsTheSame l i row =
     let r = relocation_in l.relocations i in
@@ -61,9 +62,9 @@ LoadsTheSame l i row =
 -- ---- the halves of initial-exec, and of a TLS descriptor that became one of local-exec
 
 -- Two states agree but for what high halves put in registers. The instruction of a relocation at an
--- index is executed: in one of them the object's with the value of its relocation, and in the other the
--- final bytes. Then they agree but for its register, which has the high part of the variable's offset
--- in the other. The distance to the entry, in pages, and the offset have 32 bits.
+-- index is executed: in one of them the object's with the value of its relocation, and in the other
+-- the final bytes. Then they agree but for its register, which has the high part of the variable's
+-- offset in the other. The distance to the entry, in pages, and the offset have 32 bits.
 abbrev pub HighDoesTheSame : LoongArch64Relocation → Linked → ℕ → RelocationKindInfo → Type 0
 HighDoesTheSame name l i row =
     let r = relocation_in l.relocations i in
@@ -78,8 +79,8 @@ HighDoesTheSame name l i row =
     (λ u v. AgreeBut (with_register n c) u v
     × (n ≢ 0 → Has n (near_page (entry_and_addend operands)) (high_offset operands) u v))
 
--- From states whose source register has that, and where the GOT's entry holds the offset, the low half
--- leaves the offset in both.
+-- From states whose source register has that, and where the GOT's entry holds the offset, the low
+-- half leaves the offset in both.
 abbrev pub LowDoesTheSame : Linked → ℕ → RelocationKindInfo → Type 0
 LowDoesTheSame l i row =
     let r = relocation_in l.relocations i in
@@ -96,8 +97,8 @@ LowDoesTheSame l i row =
 
 -- ---- TLS descriptors
 
--- The `addi.d` of the sequence of a TLS descriptor makes its address, where `a0` has the high half. In
--- the final bytes it leaves the offset in `a0`, where `a0` has that of the offset.
+-- The `addi.d` of the sequence of a TLS descriptor makes its address, where `a0` has the high half.
+-- In the final bytes it leaves the offset in `a0`, where `a0` has that of the offset.
 abbrev pub LowMakesOffset : Linked → ℕ → RelocationKindInfo → Type 0
 LowMakesOffset l i row =
     let r = relocation_in l.relocations i in
@@ -110,8 +111,8 @@ LowMakesOffset l i row =
     → StepSo (word_of addi) s (word_of (instruction_at l.final r.offset)) t
     (λ u v. AgreeBut (with_register 4 c) u v × HasDescriptor operands u v)
 
--- For initial-exec, `a0` has the high half of the address of the offset's entry in the GOT, which there
--- is.
+-- For initial-exec, `a0` has the high half of the address of the offset's entry in the GOT, which
+-- there is.
 abbrev pub PageDoesTheSame : Linked → ℕ → RelocationKindInfo → Type 0
 PageDoesTheSame l i row =
     let r = relocation_in l.relocations i in
@@ -177,9 +178,9 @@ CallDoesNothing l i row =
 
 -- ---- low parts of local-exec over the thread pointer
 
--- The object's instruction adds the low part to a register that has the thread pointer's number. The
--- final bytes add it to the thread pointer, whatever is in the registers that differ. The offset has
--- 12 bits.
+-- The object's instruction adds the low part to a register that has the thread pointer's number.
+-- The final bytes add it to the thread pointer, whatever is in the registers that differ. The
+-- offset has 12 bits.
 abbrev pub LowPartDoesTheSame : Linked → ℕ → RelocationKindInfo → Type 0
 LowPartDoesTheSame l i row =
     let r = relocation_in l.relocations i in
@@ -195,8 +196,8 @@ LowPartDoesTheSame l i row =
     → StepSo (word_of low) s (word_of (instruction_at l.final r.offset)) t
     (HaveShortened (but_written differing action (rd_of word)) (sum_64 s.pc 4) (sum_64 t.pc 4))
 
--- The same of any bytes that are the rewritten instruction with its relocation applied: elsewhere too,
--- as where the instructions before it are deleted.
+-- The same of any bytes that are the rewritten instruction with its relocation applied: elsewhere
+-- too, as where the instructions before it are deleted.
 abbrev pub MovedDoesTheSame : Linked → ℕ → Type 0
 MovedDoesTheSame l i =
     let o = (relocation_in l.relocations i).offset in

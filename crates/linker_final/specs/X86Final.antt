@@ -1,6 +1,6 @@
--- x86-64: in the final bytes of a section each rewritten instruction does what the object's does with
--- the value of its relocation (x86-64 psABI, "Optimize GOTPCRELX Relocations" and "ELF Handling For
--- Thread-Local Storage").
+-- x86-64: in the final bytes of a section each rewritten instruction does what the object's does
+-- with the value of its relocation (x86-64 psABI, "Optimize GOTPCRELX Relocations" and "ELF
+-- Handling For Thread-Local Storage").
 use Rattle.std.specs.Prelude.{◌≡◌, ℕ, ◌+◌, ◌-◌, ◌<◌, List, drop, Option, Some, None, IsSomeAnd}
 use Rattle.std.specs.Prelude.{slice_get}
 use Rattle.linker_elf.specs.ElfNames.{IsNameOf}
@@ -24,8 +24,8 @@ use Rattle.linker_utils.specs.Architectures.{IsRow}
 use Rattle.linker_utils.specs.declared.architecture.Relaxation.{Relaxation}
 use Rattle.linker_utils.specs.declared.elf.Architecture.TheVariants.{X86_64}
 
--- The operand of an instruction that is in the GOT: how many bytes of the instruction are before the
--- field of its distance, and what the entry holds.
+-- The operand of an instruction that is in the GOT: how many bytes of the instruction are before
+-- the field of its distance, and what the entry holds.
 pub record GotOperand : Type 0 where
   pub back : ℕ
   pub held : Operands → ℕ
@@ -44,9 +44,9 @@ got_operand names.R_X86_64_CODE_4_GOTTPOFF = operand 4 thread_offset
 got_operand names.R_X86_64_CODE_6_GOTTPOFF = operand 6 thread_offset
 got_operand name = None
 
--- The instruction of the relocation at an index, which has become one of a row. From any state before
--- it, where the entry at an address holds what the written value stands for, the final bytes do what
--- the object's bytes in their place do with the relocation's value.
+-- The instruction of the relocation at an index, which has become one of a row. From any state
+-- before it, where the entry at an address holds what the written value stands for, the final bytes
+-- do what the object's bytes in their place do with the relocation's value.
 abbrev pub DoesTheSame : Linked → ℕ → X86_64Relocation → GotOperand → RelocationKindInfo → Type 0
 DoesTheSame l i name operand row =
     let r = relocation_in l.relocations i in
@@ -61,8 +61,8 @@ DoesTheSame l i name operand row =
     → IsSomeAnd (step (drop (r.offset - operand.back) original) s) (λ t.
     step (drop (r.offset - operand.back) l.final) s ≡ Some t)
 
--- So it is of each such relocation whose instruction is rewritten, where no other rewrite or relocation
--- has a byte of the instruction.
+-- So it is of each such relocation whose instruction is rewritten, where no other rewrite or
+-- relocation has a byte of the instruction.
 abbrev pub RewrittenDoTheSame : X86_64Relocation → GotOperand → Type 0
 RewrittenDoTheSame name operand =
     (l : Linked) → IsLinked l → l.setting.architecture ≡ X86_64

@@ -1,6 +1,8 @@
--- x86-64: in the final bytes of a section the sequences for thread-local variables do what the object's
--- do with the values of their relocations (x86-64 psABI, "ELF Handling For Thread-Local Storage").
-use Rattle.std.specs.Prelude.{◌≡◌, ◌≢◌, ℕ, ◌+◌, ◌-◌, ◌^◌, ◌<◌, ◌≤◌, Bool, true, false, ⊤, neg_ℤ, pos}
+-- x86-64: in the final bytes of a section the sequences for thread-local variables do what the
+-- object's do with the values of their relocations (x86-64 psABI, "ELF Handling For Thread-Local
+-- Storage").
+use Rattle.std.specs.Prelude.{◌≡◌, ◌≢◌, ℕ, ◌+◌, ◌-◌, ◌^◌, ◌<◌, ◌≤◌, Bool, true, false, ⊤, neg_ℤ}
+use Rattle.std.specs.Prelude.{pos}
 use Rattle.std.specs.Prelude.{List, drop, Option, Some, None, IsSomeAnd, slice_get}
 use Rattle.linker_elf.specs.ElfNames.{IsNameOf}
 use Rattle.linker_elf.specs.Relocate.{number_of_bytes}
@@ -15,9 +17,12 @@ use Rattle.linker_final.specs.Final.{AreAlone, HasNoByte, IsLinked, Linked, coun
 use Rattle.linker_laws.specs.Schemes.{AreAddresses}
 use Rattle.linker_laws.specs.X86Machine.{State, extended, load, step}
 use Rattle.linker_laws.specs.X86RewriteLaws.{IsRelocated, thread_offset}
-use Rattle.linker_laws.specs.X86ThreadLaws.{AgreeAfterCall, AgreeBut, Changes, EndAlike, HasDescriptor}
-use Rattle.linker_laws.specs.X86ThreadLaws.{HasThreadPointer, IsDescriptorCall, ReachTheSame, WritesNothing}
-use Rattle.linker_laws.specs.X86ThreadLaws.{also_register, behind_call, reg_after_rex, reg_after_rex2}
+use Rattle.linker_laws.specs.X86ThreadLaws.{AgreeAfterCall, AgreeBut, Changes, EndAlike}
+use Rattle.linker_laws.specs.X86ThreadLaws.{HasDescriptor}
+use Rattle.linker_laws.specs.X86ThreadLaws.{HasThreadPointer, IsDescriptorCall, ReachTheSame}
+use Rattle.linker_laws.specs.X86ThreadLaws.{WritesNothing}
+use Rattle.linker_laws.specs.X86ThreadLaws.{also_register, behind_call, reg_after_rex}
+use Rattle.linker_laws.specs.X86ThreadLaws.{reg_after_rex2}
 use Rattle.linker_rewriting.specs.Decisions.{decision_at}
 use Rattle.linker_rewriting.specs.declared.decisions.Decision.TheVariants.{Rewritten}
 use Rattle.linker_section.specs.Relocations.{relocation_in}
@@ -28,8 +33,8 @@ use Rattle.linker_utils.specs.declared.architecture.Relaxation.TheVariants as re
 use Rattle.linker_utils.specs.declared.elf.Architecture.TheVariants.{X86_64}
 use Rattle.linker_x86_64.specs.declared.rewrites.RelaxationKind.TheVariants as kinds
 
--- the object's bytes from so many before an offset to so many behind it, in their place in the final
--- section
+-- the object's bytes from so many before an offset to so many behind it, in their place in the
+-- final section
 abbrev pub object_in : Linked → ℕ → ℕ → ℕ → List ℕ
 object_in l o back end = put_back (o - back) (back + end) l.section l.final
 
@@ -61,8 +66,8 @@ EachRewritten name Holds =
 
 -- ---- calls of `__tls_get_addr`
 
--- A `lea` of the address of a GOT entry and a call, which are rewritten: how many bytes the `lea` has
--- before its field, how many the call has, and how many instructions are left of them.
+-- A `lea` of the address of a GOT entry and a call, which are rewritten: how many bytes the `lea`
+-- has before its field, how many the call has, and how many instructions are left of them.
 pub record CallSequence : Type 0 where
   pub back : ℕ
   pub call : ℕ
@@ -85,9 +90,9 @@ local_dynamic (relaxations.X86_64 kinds.TlsLdToLocalExecNoPlt) = sequence 3 6 1
 local_dynamic (relaxations.X86_64 kinds.TlsLdToLocalExec64) = sequence 3 15 2
 local_dynamic kind = None
 
--- From any state before the `lea` of the relocation at an index, where the called function returns the
--- variable's address for the GOT's entry at an address, the final bytes end as the object's with the
--- relocation's value do when the function has returned.
+-- From any state before the `lea` of the relocation at an index, where the called function returns
+-- the variable's address for the GOT's entry at an address, the final bytes end as the object's
+-- with the relocation's value do when the function has returned.
 abbrev pub AddressIsTheSame : Linked → ℕ → Choice Relaxation ℕ → CallSequence → RelocationKindInfo
     → Type 0
 AddressIsTheSame l i chosen q row =
@@ -126,9 +131,9 @@ BlockIsReplaced l i q row =
 
 -- ---- offsets in the module's block
 
--- The field of n bytes of the relocation at an index leads from the block's address, in the object's
--- bytes with the relocation's value, to where it leads in the final ones from the thread pointer. The
--- symbol isn't an undefined weak one.
+-- The field of n bytes of the relocation at an index leads from the block's address, in the
+-- object's bytes with the relocation's value, to where it leads in the final ones from the thread
+-- pointer. The symbol isn't an undefined weak one.
 abbrev pub LeadsToTheSame : ℕ → (ℕ → ℕ) → X86_64Relocation → Linked → ℕ → RelocationKindInfo → Type 0
 LeadsToTheSame n read name l i row =
     let r = relocation_in l.relocations i in
@@ -143,10 +148,11 @@ LeadsToTheSame n read name l i row =
 
 -- ---- descriptors
 
--- Two states agree but for some registers, bytes of memory and maybe flags. The `lea` of the relocation
--- at an index, with n bytes before its field, is executed: in one of them the object's with the
--- relocation's value, and in the other the final bytes. Then they agree but for its register too, which
--- has the descriptor's address in the one and the variable's offset in the other.
+-- Two states agree but for some registers, bytes of memory and maybe flags. The `lea` of the
+-- relocation at an index, with n bytes before its field, is executed: in one of them the object's
+-- with the relocation's value, and in the other the final bytes. Then they agree but for its
+-- register too, which has the descriptor's address in the one and the variable's offset in the
+-- other.
 abbrev pub LeaDoesTheSame : ℕ → X86_64Relocation → (List ℕ → ℕ) → Linked → ℕ → Choice Relaxation ℕ
     → RelocationKindInfo → Type 0
 LeaDoesTheSame n name register_of l i chosen row =
@@ -189,7 +195,8 @@ GeneralDynamic =
     AreAloneWithNext l i (o - q.back) (o + (4 + q.call))
     → IsSomeAnd (x86_64_row names.R_X86_64_TPOFF32) (AddressIsTheSame l i chosen q)))
 
--- Of every call of `__tls_get_addr` for a module's block that a linker rewrites, by the same premise.
+-- Of every call of `__tls_get_addr` for a module's block that a linker rewrites, by the same
+-- premise.
 abbrev pub LocalDynamic : Type 0
 LocalDynamic =
     EachRewritten names.R_X86_64_TLSLD (λ l i chosen.

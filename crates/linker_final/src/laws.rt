@@ -1,7 +1,7 @@
 //! Laws of the final bytes of sections, by architecture.
 //!
-//! Each joins what `rewrite_section` and `relocate_section` leave with the laws of single rewrites of
-//! `linker_laws`.
+//! Each joins what `rewrite_section` and `relocate_section` leave with the laws of single rewrites
+//! of `linker_laws`.
 
 ghost use Rattle.linker_final.specs.AArch64Final as aarch64_final;
 ghost use Rattle.linker_final.specs.Final as final_bytes;
@@ -12,22 +12,23 @@ ghost use Rattle.linker_final.specs.X86Final as x86_64_final;
 ghost use Rattle.linker_final.specs.X86ThreadFinal as x86_64_threads;
 
 /// All architectures: what no rewrite took. Each byte that neither a rewrite nor a field has is the
-/// object's. Each relocation that is neither rewritten nor taken along is the object's, and its field
-/// holds its part of what its relocations compose.
+/// object's. Each relocation that is neither rewritten nor taken along is the object's, and its
+/// field holds its part of what its relocations compose.
 pub fn others()
     ensures bytes { final_bytes.OtherBytes }
     ensures fields { final_bytes.OtherFields }
 {}
 
-/// x86-64: each instruction whose operand in the GOT became an address, a distance or an offset from
-/// the thread pointer takes every state in which the GOT's entry holds that to the same state as the
-/// object's instruction does.
+/// x86-64: each instruction whose operand in the GOT became an address, a distance or an offset
+/// from the thread pointer takes every state in which the GOT's entry holds that to the same state
+/// as the object's instruction does.
 ///
-/// Where a call of `__tls_get_addr` was rewritten, rax is the variable's address as after the call, and
-/// what the call keeps is as it leaves it. Where one for a module's block was, rax is the thread
-/// pointer, and the offsets that became offsets from it lead from there to the same addresses. The
-/// `lea` of a descriptor's address, into any register, and the call of its function have a law each, of
-/// two runs, whatever stands between them: the variable's offset is in rax behind the call in both.
+/// Where a call of `__tls_get_addr` was rewritten, rax is the variable's address as after the call,
+/// and what the call keeps is as it leaves it. Where one for a module's block was, rax is the
+/// thread pointer, and the offsets that became offsets from it lead from there to the same
+/// addresses. The `lea` of a descriptor's address, into any register, and the call of its function
+/// have a law each, of two runs, whatever stands between them: the variable's offset is in rax
+/// behind the call in both.
 pub fn x86_64()
     ensures got_operands { x86_64_final.GotOperands }
     ensures general_dynamic { x86_64_threads.GeneralDynamic }
@@ -39,11 +40,11 @@ pub fn x86_64()
     linker_laws::rewrites::x86_64();
 }
 
-/// AArch64: rewritten instructions do in the final bytes what the object's do. They are each address by
-/// two instructions that became one, each load of an address from the GOT that became a sum of its page
-/// and the rest, each half of initial-exec that became a move, each sequence of a TLS descriptor that
-/// became one of local-exec or of initial-exec, and each branch to an undefined weak symbol that became
-/// `nop`.
+/// AArch64: rewritten instructions do in the final bytes what the object's do. They are each
+/// address by two instructions that became one, each load of an address from the GOT that became a
+/// sum of its page and the rest, each half of initial-exec that became a move, each sequence of a
+/// TLS descriptor that became one of local-exec or of initial-exec, and each branch to an undefined
+/// weak symbol that became `nop`.
 pub fn aarch64()
     ensures addresses { aarch64_final.Addresses }
     ensures got_loads { aarch64_final.GotLoads }
@@ -55,13 +56,13 @@ pub fn aarch64()
     linker_laws::rewrites::aarch64();
 }
 
-/// RISC-V: rewritten instructions do in the final bytes what the object's do. They are each load of an
-/// address from the GOT that became a sum of the place and the distance, each low part of an offset that
-/// is over the thread pointer, and each sequence of a TLS descriptor that became one of local-exec. What
-/// became a nop does nothing. The high part and the sum of such an offset are deleted, and what they
-/// leave in registers is a premise of the low part's law. The offset had 12 bits when rewrites were
-/// chosen. Loads, low parts and sequences do the same wherever a linker applies their relocations, as in
-/// a section that it packs first.
+/// RISC-V: rewritten instructions do in the final bytes what the object's do. They are each load of
+/// an address from the GOT that became a sum of the place and the distance, each low part of an
+/// offset that is over the thread pointer, and each sequence of a TLS descriptor that became one of
+/// local-exec. What became a nop does nothing. The high part and the sum of such an offset are
+/// deleted, and what they leave in registers is a premise of the low part's law. The offset had 12
+/// bits when rewrites were chosen. Loads, low parts and sequences do the same wherever a linker
+/// applies their relocations, as in a section that it packs first.
 pub fn riscv64()
     ensures got_loads { riscv64_final.GotLoads }
     ensures low_parts { riscv64_final.LowParts }
@@ -79,11 +80,11 @@ pub fn riscv64()
     linker_laws::rewrites::riscv64();
 }
 
-/// LoongArch: rewritten instructions do in the final bytes what the object's do. They are each load of
-/// an address from the GOT that became a sum of its page and the rest, each half of initial-exec that
-/// became a half of local-exec, each instruction of a TLS descriptor that became one of local-exec or
-/// of initial-exec, and each low part of local-exec over the thread pointer, also where instructions
-/// before it are deleted then.
+/// LoongArch: rewritten instructions do in the final bytes what the object's do. They are each load
+/// of an address from the GOT that became a sum of its page and the rest, each half of initial-exec
+/// that became a half of local-exec, each instruction of a TLS descriptor that became one of
+/// local-exec or of initial-exec, and each low part of local-exec over the thread pointer, also
+/// where instructions before it are deleted then.
 pub fn loongarch64()
     ensures got_loads { loongarch64_final.GotLoads }
     ensures high_halves { loongarch64_final.HighHalves }
@@ -95,10 +96,10 @@ pub fn loongarch64()
     linker_laws::rewrites::loongarch64();
 }
 
-/// PowerPC64: rewritten instructions do in the final bytes what the object's do. They are each `nop`
-/// behind a call that restores the TOC pointer, each high and low half of an address near the TOC
-/// pointer and near the thread pointer, each instruction of initial-exec, of general-dynamic and of
-/// local-dynamic TLS, and each load of an address from the GOT that became a sum.
+/// PowerPC64: rewritten instructions do in the final bytes what the object's do. They are each
+/// `nop` behind a call that restores the TOC pointer, each high and low half of an address near the
+/// TOC pointer and near the thread pointer, each instruction of initial-exec, of general-dynamic
+/// and of local-dynamic TLS, and each load of an address from the GOT that became a sum.
 pub fn ppc64()
     ensures calls { ppc64_final.Calls }
     ensures toc_halves { ppc64_final.TocHalves }

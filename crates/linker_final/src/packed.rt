@@ -141,8 +141,8 @@ fn first_untranslated(
 ///
 /// `Misplaced`: the section isn't at the address where its first byte goes. `Untranslated`: a
 /// relocation isn't at its translated place. `Packing`: an item can't be written. `Writing`: the
-/// section is packed, and no value is written. The errors are promised of deltas that are valid, as
-/// `pack_run` says.
+/// section is packed, and no value is written. The contract of each error requires valid deltas, as
+/// that of `pack_run` does.
 pub fn pack_section(
     machine: Machine,
     section: &[u8],
@@ -221,11 +221,11 @@ pub fn shorter_riscv64()
     linker_laws::rewrites::riscv64();
 }
 
-/// RISC-V: what was rewritten before the section was packed, and stays, does in the final bytes what
-/// the object's instructions do, each with the values of its relocations in its own layout. It is
-/// each load of an address from the GOT that became a sum of the place and the distance, each low part
-/// of an offset that is over the thread pointer, and each sequence of a TLS descriptor that became one
-/// of local-exec. What became a nop does nothing.
+/// RISC-V: what was rewritten before the section was packed, and stays, does in the final bytes
+/// what the object's instructions do, each with the values of its relocations in its own layout. It
+/// is each load of an address from the GOT that became a sum of the place and the distance, each
+/// low part of an offset that is over the thread pointer, and each sequence of a TLS descriptor
+/// that became one of local-exec. What became a nop does nothing.
 pub fn joined_riscv64()
     ensures got_loads { riscv_joined.PackedGotLoads }
     ensures low_parts { riscv_joined.PackedLowParts }
@@ -258,8 +258,8 @@ pub fn shorter_loongarch64()
 }
 
 /// LoongArch: what was rewritten before the section was packed, and stays, does in the final bytes
-/// what the object's instruction does, each with the value of its relocation in its own layout. It is
-/// each low part of local-exec that is over the thread pointer.
+/// what the object's instruction does, each with the value of its relocation in its own layout. It
+/// is each low part of local-exec that is over the thread pointer.
 pub fn joined_loongarch64()
     ensures low_parts { loongarch_joined.PackedLowParts }
 {

@@ -22,13 +22,13 @@ pub enum LinkError {
 }
 
 /// Rewrites the instructions of a section by `rewrite_section`, and then writes its values by
-/// `relocate_rewritten_section`. What it leaves is what the laws are about (`IsLinked`). A linker that
-/// makes its GOT by what was rewritten calls both itself.
+/// `relocate_rewritten_section`. What it leaves is what the laws are about (`IsLinked`). A linker
+/// that makes its GOT by what was rewritten calls both itself.
 ///
 /// # Errors
 ///
-/// `Rewriting`: the section and its relocations are as before. `Writing`: its instructions are rewritten
-/// and no value is written.
+/// `Rewriting`: the section and its relocations are as before. `Writing`: its instructions are
+/// rewritten and no value is written.
 pub fn link_section(
     architecture: Architecture,
     output: &OutputFacts,

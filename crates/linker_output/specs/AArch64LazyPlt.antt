@@ -1,12 +1,14 @@
 -- AArch64: entries go to the address that their word has, and by the header to the dynamic linker's
 -- resolver (Arm Architecture Reference Manual for A-profile, DDI 0487, C6.2).
-use Rattle.std.specs.Prelude.{◌≡◌, ◌==◌, ◌||◌, ◌≤◌, ◌/◌, ◌^◌, ◌<◌, ℕ, List, Bool, false, Option, Some, ◌+ℤ◌, ◌*ℤ◌, pos}
+use Rattle.std.specs.Prelude.{◌≡◌, ◌==◌, ◌||◌, ◌≤◌, ◌/◌, ◌^◌, ◌<◌, ℕ, List, Bool, false, Option}
+use Rattle.std.specs.Prelude.{Some, ◌+ℤ◌, ◌*ℤ◌, pos}
 use Rattle.std.specs.Prelude.{IsSomeAnd, if◌then◌else◌}
 use Rattle.linker_base.specs.Bits.{field, signed}
 use Rattle.linker_aarch64.specs.AArch64Rewrites.{rd_of, rn_of}
 use Rattle.linker_elf.specs.Value.{sum_64, difference_64}
 use Rattle.linker_laws.specs.AArch64Machine as machine
-use Rattle.linker_laws.specs.AArch64Machine.{State, read_x, write_x_or_sp, go_on, load_64, in_64_bits}
+use Rattle.linker_laws.specs.AArch64Machine.{State, read_x, write_x_or_sp, go_on, load_64}
+use Rattle.linker_laws.specs.AArch64Machine.{in_64_bits}
 use Rattle.linker_laws.specs.Machine.{stored}
 use Rattle.linker_output.specs.AArch64Stubs.{jumped}
 use Rattle.linker_output.specs.LazyPlt.{IsCode, header_places}
@@ -43,8 +45,8 @@ run code s = run_by (λ s. s.pc) step code s
 
 -- ---- the laws
 
--- It goes to the target, and changes only x16, which has the address of the word, and x17, which has
--- the target.
+-- It goes to the target, and changes only x16, which has the address of the word, and x17, which
+-- has the target.
 pub record GoesTo (entry : LazyEntry) (target : ℕ) (s t : State) : Type 0 where
   pub pc : t.pc ≡ target
   pub x16 : t.registers 16 ≡ entry.word
@@ -61,8 +63,9 @@ Enters =
     → (s : State) → s.pc ≡ entry.address
     → IsSomeAnd (run (words 4 code) s) (GoesTo entry (load_64 s.memory entry.word) s)
 
--- It goes to the resolver, with the addresses of the entry's word and of the third word, which has the
--- resolver's address, on the stack and in x16, and the return address on the stack. x17 changes too.
+-- It goes to the resolver, with the addresses of the entry's word and of the third word, which has
+-- the resolver's address, on the stack and in x16, and the return address on the stack. x17 changes
+-- too.
 pub record Asks (entry : LazyEntry) (third : ℕ) (s t : State) : Type 0 where
   pub pc : t.pc ≡ load_64 s.memory third
   pub x16 : t.registers 16 ≡ third

@@ -4,7 +4,8 @@
 use Rattle.std.specs.Prelude.{codes, [], None, Some, ◌∷◌, pos}
 use Rattle.linker_elf.specs.AArch64Relocations.{aarch64_name}
 use Rattle.linker_elf.specs.declared.aarch64.relocations.AArch64Relocation.TheVariants as r
-use Rattle.linker_output.specs.Tables.{field_of, code_of_words, kind, units_of, no_flags, only, four}
+use Rattle.linker_output.specs.Tables.{field_of, code_of_words, kind, units_of, no_flags, only}
+use Rattle.linker_output.specs.Tables.{four}
 use Rattle.linker_output.specs.View.{Description}
 use Rattle.linker_output.specs.declared.got.ThreadPointer.TheVariants.{BelowImage}
 use Rattle.linker_utils.specs.declared.elf.Architecture.TheVariants.{AArch64}

@@ -1,4 +1,5 @@
--- AArch64: stubs go to their targets (Arm Architecture Reference Manual for A-profile, DDI 0487, C6.2).
+-- AArch64: stubs go to their targets (Arm Architecture Reference Manual for A-profile, DDI 0487,
+-- C6.2).
 use Rattle.std.specs.Prelude.{◌≡◌, ◌==◌, ◌&&◌, ◌||◌, ◌/◌, ◌^◌, ◌<◌, ◌∷◌, [], ℕ, List, Bool, false}
 use Rattle.std.specs.Prelude.{Option, Some, None, IsSomeAnd, if◌then◌else◌, drop}
 use Rattle.linker_aarch64.specs.AArch64Rewrites.{rd_of, rn_of}

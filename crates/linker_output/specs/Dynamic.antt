@@ -62,9 +62,10 @@ words first second = first ∷ second ∷ []
 abbrev pub unless : Bool → DynamicKind → Option ℕ
 unless is_known type = if is_known then None else Some type.code
 
--- A bound symbol is defined in this output, and no other definition can take its place. An executable
--- knows its offsets from the thread pointer and its module's number, which is 1; a shared library knows
--- only the offsets in its block. A descriptor's relocation writes both of its words.
+-- A bound symbol is defined in this output, and no other definition can take its place. An
+-- executable knows its offsets from the thread pointer and its module's number, which is 1; a
+-- shared library knows only the offsets in its block. A descriptor's relocation writes both of its
+-- words.
 abbrev pub dynamic_words : DynamicKinds → EntryClass → Bool → Bool → List (Option ℕ)
 dynamic_words types Address is_bound is_executable =
     words (Some (if is_bound then types.relative.code else types.glob_dat.code)) None

@@ -1,6 +1,7 @@
 -- Words of the GOT, and what offsets of thread-local storage count from (ELF Handling For
 -- Thread-Local Storage).
-use Rattle.std.specs.Prelude.{◌≡◌, ℕ, ◌-◌, ◌%◌, ◌==◌, slice_index, if◌then◌else◌, List, [], ◌∷◌, Option, Some, None}
+use Rattle.std.specs.Prelude.{◌≡◌, ℕ, ◌-◌, ◌%◌, ◌==◌, slice_index, if◌then◌else◌, List, [], ◌∷◌}
+use Rattle.std.specs.Prelude.{Option, Some, None}
 use Rattle.linker_elf.specs.Value.{sum_64, difference_64}
 use Rattle.linker_output.specs.declared.got.GotHeader.{GotHeader}
 use Rattle.linker_output.specs.declared.got.GotHeader.TheVariants.{Dynamic, Base}

@@ -1,13 +1,14 @@
 -- Code's shortest instruction, and the path of the dynamic linker.
-use Rattle.std.specs.Prelude.{ℕ, ◌+◌, ◌-◌, ◌*◌, ◌/◌, ◌%◌, ◌^◌, nat_lt, length, slice_get, ◌==◌, bit_and, if◌then◌else◌, List, [], ◌∷◌, Option, Some, None}
+use Rattle.std.specs.Prelude.{ℕ, ◌+◌, ◌-◌, ◌*◌, ◌/◌, ◌%◌, ◌^◌, nat_lt, length, slice_get, ◌==◌}
+use Rattle.std.specs.Prelude.{bit_and, if◌then◌else◌, List, [], ◌∷◌, Option, Some, None}
 use Rattle.linker_output.specs.declared.layout.CodeUnit.{CodeUnit}
 use Rattle.linker_output.specs.declared.layout.RunWord.{RunWord}
 
 abbrev pub unit_by : CodeUnit → ℕ → ℕ
 unit_by unit flags = if bit_and flags unit.flag == 0 then unit.len else unit.flagged_len
 
--- Functions that linkers provide, one behind the other: one or two words of each, and then the words that
--- all of them end with.
+-- Functions that linkers provide, one behind the other: one or two words of each, and then the
+-- words that all of them end with.
 pub record Run : Type 0 where
   pub prefix : List ℕ
   pub first : ℕ

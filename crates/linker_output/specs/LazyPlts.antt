@@ -1,6 +1,7 @@
--- The lazy PLTs of the architectures (x86-64 psABI, "Procedure Linkage Table"; the other psABIs leave
--- the code to linkers, and this is ld.lld's).
-use Rattle.std.specs.Prelude.{ℕ, ℤ, pos, negsuc, List, [], ◌∷◌, ◌++◌, ◌-◌, length, replicate, Some, None}
+-- The lazy PLTs of the architectures (x86-64 psABI, "Procedure Linkage Table"; the other psABIs
+-- leave the code to linkers, and this is ld.lld's).
+use Rattle.std.specs.Prelude.{ℕ, ℤ, pos, negsuc, List, [], ◌∷◌, ◌++◌, ◌-◌, length, replicate, Some}
+use Rattle.std.specs.Prelude.{None}
 use Rattle.linker_elf.specs.AArch64Relocations.{aarch64_name}
 use Rattle.linker_elf.specs.LoongArchRelocations.{loongarch_name}
 use Rattle.linker_elf.specs.Ppc64Relocations.{ppc64_name}
@@ -19,7 +20,8 @@ use Rattle.linker_output.specs.declared.lazy_plt.LazyTarget.TheVariants.{Word, H
 use Rattle.linker_output.specs.declared.lazy_plt.LazyWord.TheVariants as word
 use Rattle.linker_output.specs.declared.stubs.StubField.{StubField}
 use Rattle.linker_utils.specs.declared.elf.Architecture.{Architecture}
-use Rattle.linker_utils.specs.declared.elf.Architecture.TheVariants.{AArch64, RiscV, LoongArch64, Ppc64, X86_64}
+use Rattle.linker_utils.specs.declared.elf.Architecture.TheVariants.{AArch64, RiscV, LoongArch64}
+use Rattle.linker_utils.specs.declared.elf.Architecture.TheVariants.{Ppc64, X86_64}
 
 -- at most 8 bytes, and zeros behind them
 abbrev pub padded : List ℕ → List ℕ

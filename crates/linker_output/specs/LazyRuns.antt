@@ -1,5 +1,6 @@
 -- Runs of words, and of the code of lazy PLTs.
-use Rattle.std.specs.Prelude.{◌==◌, ℕ, zero, suc, List, [], ◌∷◌, drop, Option, Some, None, if◌then◌else◌}
+use Rattle.std.specs.Prelude.{◌==◌, ℕ, zero, suc, List, [], ◌∷◌, drop, Option, Some, None}
+use Rattle.std.specs.Prelude.{if◌then◌else◌}
 use Rattle.std.specs.Int.{w32, from_le_bytes}
 use Rattle.linker_elf.specs.Value.{sum_64}
 

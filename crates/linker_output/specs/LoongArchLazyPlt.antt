@@ -1,6 +1,7 @@
--- LoongArch: entries go to the address that their word has, and by the header to the dynamic linker's
--- resolver (LoongArch Reference Manual, volume 1).
-use Rattle.std.specs.Prelude.{◌≡◌, ◌==◌, ◌||◌, ◌+◌, ◌*◌, ◌/◌, ◌^◌, ◌<◌, ℕ, List, false, Option, Some, None}
+-- LoongArch: entries go to the address that their word has, and by the header to the dynamic
+-- linker's resolver (LoongArch Reference Manual, volume 1).
+use Rattle.std.specs.Prelude.{◌≡◌, ◌==◌, ◌||◌, ◌+◌, ◌*◌, ◌/◌, ◌^◌, ◌<◌, ℕ, List, false, Option}
+use Rattle.std.specs.Prelude.{Some, None}
 use Rattle.std.specs.Prelude.{IsSomeAnd, if◌then◌else◌, pos, ◌+ℤ◌, ◌*ℤ◌}
 use Rattle.linker_base.specs.Bits.{field, signed}
 use Rattle.linker_elf.specs.Value.{sum_64, difference_64}
@@ -41,8 +42,8 @@ run code s = run_by (λ s. s.pc) step code s
 
 -- ---- the laws
 
--- It goes to the target, and changes only $t1, which has the address behind the jump, and $t3, which
--- has the target.
+-- It goes to the target, and changes only $t1, which has the address behind the jump, and $t3,
+-- which has the target.
 pub record GoesTo (entry : LazyEntry) (target : ℕ) (s t : State) : Type 0 where
   pub pc : t.pc ≡ target
   pub t1 : read 13 t ≡ sum_64 entry.address 12
@@ -60,8 +61,8 @@ Enters =
     → (s : State) → s.pc ≡ entry.address → loaded 8 s.memory entry.word ≡ target
     → IsSomeAnd (run (words 3 code) s) (GoesTo entry target s)
 
--- It goes to the resolver, with the second word, which names the object, in $t0 and the offset of the
--- entry's word behind the first one in $t1, and changes no other registers than $t2 and $t3.
+-- It goes to the resolver, with the second word, which names the object, in $t0 and the offset of
+-- the entry's word behind the first one in $t1, and changes no other registers than $t2 and $t3.
 pub record Asks (index resolver object : ℕ) (s t : State) : Type 0 where
   pub pc : t.pc ≡ resolver
   pub t0 : read 12 t ≡ object
@@ -71,8 +72,8 @@ pub record Asks (index resolver object : ℕ) (s t : State) : Type 0 where
   pub floats : t.floats ≡ s.floats
   pub memory : t.memory ≡ s.memory
 
--- The first words have the resolver and the object, and the word of the entry, which is that with an
--- index behind the header, has the header's address.
+-- The first words have the resolver and the object, and the word of the entry, which is that with
+-- an index behind the header, has the header's address.
 abbrev pub Resolves : Type 0
 Resolves =
     (entry : LazyEntry) (first : ℕ) → entry.address < 2 ^ 64 → entry.word < 2 ^ 64 → first < 2 ^ 64

@@ -1,9 +1,10 @@
--- LoongArch, 64 bits: what a linker adds to an output (LoongArch ELF psABI, "Relocation Types"; paths
--- as glibc has them).
+-- LoongArch, 64 bits: what a linker adds to an output (LoongArch ELF psABI, "Relocation Types";
+-- paths as glibc has them).
 use Rattle.std.specs.Prelude.{codes, [], ◌∷◌, None, Some, ℕ, ◌+◌, pos}
 use Rattle.linker_elf.specs.LoongArchRelocations.{loongarch_name}
 use Rattle.linker_elf.specs.declared.loongarch64.relocations.LoongArch64Relocation.TheVariants as r
-use Rattle.linker_output.specs.Tables.{field_of, field_of_32, code_of_words, kind, units_of, path, four}
+use Rattle.linker_output.specs.Tables.{field_of, field_of_32, code_of_words, kind, units_of, path}
+use Rattle.linker_output.specs.Tables.{four}
 use Rattle.linker_output.specs.View.{Description}
 use Rattle.linker_output.specs.declared.got.ThreadPointer.TheVariants.{BelowImage}
 use Rattle.linker_utils.specs.declared.elf.Architecture.TheVariants.{LoongArch64}

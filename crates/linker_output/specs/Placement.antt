@@ -1,5 +1,6 @@
 -- Places of stubs between sections.
-use Rattle.std.specs.Prelude.{◌≡◌, ◌≢◌, ◌≤◌, ◌<◌, ◌+◌, ◌-◌, ◌*◌, ◌%◌, ◌^◌, ◌⊎◌, ℕ, ⊤, List, length, nat_le}
+use Rattle.std.specs.Prelude.{◌≡◌, ◌≢◌, ◌≤◌, ◌<◌, ◌+◌, ◌-◌, ◌*◌, ◌%◌, ◌^◌, ◌⊎◌, ℕ, ⊤, List, length}
+use Rattle.std.specs.Prelude.{nat_le}
 use Rattle.std.specs.Prelude.{Option, Some, None, slice_index_or}
 use Rattle.std.specs.List.{prefix_len, sum_by}
 use Rattle.linker_output.specs.declared.placement.Branch.{Branch}
@@ -163,8 +164,8 @@ pub record IsPlaced (code : Code) (placement : Placement) : Type 0 where
 
 -- ---- errors
 
--- In the layout a branch reaches neither its target nor a stub of it. Nor is a boundary in reach: of
--- those ahead the place behind the first stubs, of those behind the place before the last ones.
+-- In the layout a branch reaches neither its target nor a stub of it. Nor is a boundary in reach:
+-- of those ahead the place behind the first stubs, of those behind the place before the last ones.
 pub record IsStuck (code : Code) (layout : Layout) (branch : Branch) : Type 0 where
   pub target : ¬ ReachesAt code layout.before.items branch
       (target_place code layout.before.items branch.target)

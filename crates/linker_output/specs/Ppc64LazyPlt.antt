@@ -1,6 +1,8 @@
--- PowerPC64: an entry goes by the header to the dynamic linker's resolver (Power ISA, version 3.1, book
--- I, "Branch Facility", "Fixed-Point Facility"; 64-bit ELF V2 ABI for Power, "Procedure Linkage Table").
-use Rattle.std.specs.Prelude.{◌≡◌, ◌==◌, ◌&&◌, ◌||◌, ◌+◌, ◌*◌, ◌/◌, ◌%◌, ◌-◌, ◌^◌, ◌<◌, ℕ, List, Bool, false, Option, Some, None}
+-- PowerPC64: an entry goes by the header to the dynamic linker's resolver (Power ISA, version 3.1,
+-- book I, "Branch Facility", "Fixed-Point Facility"; 64-bit ELF V2 ABI for Power, "Procedure
+-- Linkage Table").
+use Rattle.std.specs.Prelude.{◌≡◌, ◌==◌, ◌&&◌, ◌||◌, ◌+◌, ◌*◌, ◌/◌, ◌%◌, ◌-◌, ◌^◌, ◌<◌, ℕ, List}
+use Rattle.std.specs.Prelude.{Bool, false, Option, Some, None}
 use Rattle.std.specs.Prelude.{IsSomeAnd, if◌then◌else◌, drop}
 use Rattle.linker_base.specs.Bits.{field}
 use Rattle.linker_elf.specs.Ppc64.{ppc64_form}
@@ -67,8 +69,8 @@ run f code c = run_by (λ c. c.state.pc) (step f) code c
 
 -- ---- the law
 
--- It goes to the resolver, with the index in r0 and the second word, which names the object, in r11,
--- and changes no other registers than r12, which has the resolver, and the count register.
+-- It goes to the resolver, with the index in r0 and the second word, which names the object, in
+-- r11, and changes no other registers than r12, which has the resolver, and the count register.
 pub record Asks (index resolver object : ℕ) (c d : Counted) : Type 0 where
   pub pc : d.state.pc ≡ resolver
   pub r0 : d.state.registers 0 ≡ index
@@ -80,9 +82,10 @@ pub record Asks (index resolver object : ℕ) (c d : Counted) : Type 0 where
   pub link : d.state.link ≡ c.state.link
   pub memory : d.state.memory ≡ c.state.memory
 
--- A call comes with the entry's address in r12, as the stub leaves it that loads the entry's word. The
--- entry is that with an index behind the header. The first words have the resolver, whose address is a
--- multiple of 4, and the object. The header's code is memory too: it loads how far the words are.
+-- A call comes with the entry's address in r12, as the stub leaves it that loads the entry's word.
+-- The entry is that with an index behind the header. The first words have the resolver, whose
+-- address is a multiple of 4, and the object. The header's code is memory too: it loads how far the
+-- words are.
 abbrev pub Resolves : Type 0
 Resolves =
     (entry : LazyEntry) (first : ℕ) → entry.address < 2 ^ 64 → first < 2 ^ 64

@@ -1,5 +1,5 @@
--- PowerPC64: what a linker adds to an output (64-bit ELF V2 ABI for Power, "Relocation Types"; paths
--- as glibc has them).
+-- PowerPC64: what a linker adds to an output (64-bit ELF V2 ABI for Power, "Relocation Types";
+-- paths as glibc has them).
 use Rattle.std.specs.Prelude.{◌+◌, ◌^◌, codes, [], ◌∷◌, None, Some, ℕ, pos, List}
 use Rattle.linker_elf.specs.Ppc64Relocations.{ppc64_name}
 use Rattle.linker_elf.specs.declared.ppc64.relocations.Ppc64Relocation.TheVariants as r
@@ -38,8 +38,8 @@ mtlr_0 = 0x7c0803a6
 abbrev pub blr : ℕ
 blr = 0x4e800020
 
--- functions that save or restore registers 14 to 31, each 8 bytes above the one before it (64-bit ELF V2 ABI
--- for Power): an instruction of each register, and those that all end with
+-- functions that save or restore registers 14 to 31, each 8 bytes above the one before it (64-bit
+-- ELF V2 ABI for Power): an instruction of each register, and those that all end with
 abbrev pub of_registers : List ℕ → ℕ → List ℕ → Run
 of_registers prefix word tail =
     record {
@@ -52,8 +52,8 @@ of_registers prefix word tail =
       tail = tail;
     }
 
--- functions that save or restore vector registers 20 to 31, each 16 bytes above the one before it: `addi 12,0`
--- with the place, an instruction of each register, and `blr`
+-- functions that save or restore vector registers 20 to 31, each 16 bytes above the one before it:
+-- `addi 12,0` with the place, an instruction of each register, and `blr`
 abbrev pub of_vectors : List ℕ → ℕ → Run
 of_vectors prefix access =
     record {

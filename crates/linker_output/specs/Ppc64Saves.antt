@@ -1,7 +1,9 @@
 -- PowerPC64: what the functions do that save and restore registers (64-bit ELF V2 ABI for Power,
 -- "Register Save and Restore Functions"; Power ISA, version 3.1, book I, "Branch Facility").
-use Rattle.std.specs.Prelude.{◌≡◌, ◌==◌, ◌&&◌, Bool, ◌+◌, ◌-◌, ◌*◌, ◌/◌, ◌%◌, ◌<◌, ◌≤◌, ℕ, zero, suc, List, [], ◌∷◌, false}
-use Rattle.std.specs.Prelude.{Option, Some, None, IsSomeAnd, nat_lt, nat_le, if◌then◌else◌, length, slice_get, pos, negsuc}
+use Rattle.std.specs.Prelude.{◌≡◌, ◌==◌, ◌&&◌, Bool, ◌+◌, ◌-◌, ◌*◌, ◌/◌, ◌%◌, ◌<◌, ◌≤◌, ℕ, zero}
+use Rattle.std.specs.Prelude.{suc, List, [], ◌∷◌, false}
+use Rattle.std.specs.Prelude.{Option, Some, None, IsSomeAnd, nat_lt, nat_le, if◌then◌else◌, length}
+use Rattle.std.specs.Prelude.{slice_get, pos, negsuc}
 use Rattle.linker_base.specs.Bits.{field}
 use Rattle.linker_elf.specs.Value.{difference_64}
 use Rattle.linker_laws.specs.Machine.{Memory, moved, loaded, stored}
@@ -116,8 +118,8 @@ pub record Restores (n : ℕ) (c d : Counted) : Type 0 where
 abbrev pub kept_address : State → ℕ
 kept_address s = loaded 8 s.memory (moved (s.registers 1) (pos 16))
 
--- `_restgpr0_N` and `_restfpr_N`: those registers are what the places below r1 have, and r0 and the link
--- register the return address, to which the functions go.
+-- `_restgpr0_N` and `_restfpr_N`: those registers are what the places below r1 have, and r0 and the
+-- link register the return address, to which the functions go.
 pub record Returned (n : ℕ) (c d : Counted) : Type 0 where
   pub pc : d.state.pc ≡ kept_address c.state - kept_address c.state % 4
   pub link : d.state.link ≡ kept_address c.state

@@ -1,10 +1,11 @@
--- PowerPC64: stubs go to their targets (Power ISA, version 3.1, book I, "Branch Facility" and "Move To/From
--- System Register Instructions").
+-- PowerPC64: stubs go to their targets (Power ISA, version 3.1, book I, "Branch Facility" and "Move
+-- To/From System Register Instructions").
 use Rattle.std.specs.Prelude.{◌≡◌, ◌==◌, ◌&&◌, ◌||◌, ◌+◌, ◌-◌, ◌*◌, ◌%◌, ◌^◌, ◌<◌, ◌∷◌, [], ℕ, List}
 use Rattle.std.specs.Prelude.{false, Bool, Option, Some, None, IsSomeAnd, if◌then◌else◌, drop, pos}
 use Rattle.linker_elf.specs.Value.{sum_64}
 use Rattle.linker_laws.specs.Machine.{loaded, moved}
-use Rattle.linker_laws.specs.Ppc64Machine.{State, Formats, step, write, go_on, go_to, next_pc, store, base}
+use Rattle.linker_laws.specs.Ppc64Machine.{State, Formats, step, write, go_on, go_to, next_pc}
+use Rattle.linker_laws.specs.Ppc64Machine.{store, base}
 use Rattle.linker_laws.specs.Ppc64RewriteLaws.{word_of}
 use Rattle.linker_output.specs.Ppc64Output.{ppc64_output}
 use Rattle.linker_output.specs.Stubs.{IsStub}
@@ -21,7 +22,8 @@ pub record Counted : Type 0 where
 abbrev pub with_state : State → Counted → Counted
 with_state s c = record c { state = s }
 
--- "Move From Special Purpose Register" and "Move To Special Purpose Register": `mflr`, `mtlr`, `mtctr`
+-- "Move From Special Purpose Register" and "Move To Special Purpose Register": `mflr`, `mtlr`,
+-- `mtctr`
 abbrev pub is_mflr : ℕ → Bool
 is_mflr word = word == 0x7c0802a6 + rt_of word * 2 ^ 21
 
@@ -67,7 +69,8 @@ abbrev pub continue : ℕ → (Counted → Option Counted) → Option Counted �
 continue next rest None = None
 continue next rest (Some c) = if c.state.pc == next then rest c else None
 
--- Words that stand one after the other are executed, each after the one before it, and then the last.
+-- Words that stand one after the other are executed, each after the one before it, and then the
+-- last.
 abbrev pub run : Formats → List ℕ → Counted → Option Counted
 run f [] c = Some c
 run f (word ∷ []) c = step_counted f word c

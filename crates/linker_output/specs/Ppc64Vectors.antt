@@ -1,11 +1,14 @@
--- PowerPC64: what the functions do that save and restore vector registers (64-bit ELF V2 ABI for Power,
--- "Vector Save and Restore Functions"; Power ISA, version 3.1, book I, "Vector Facility").
-use Rattle.std.specs.Prelude.{◌≡◌, ◌==◌, ◌&&◌, Bool, ◌+◌, ◌-◌, ◌*◌, ◌/◌, ◌%◌, ◌<◌, ◌≤◌, ℕ, List, false}
-use Rattle.std.specs.Prelude.{Option, Some, None, IsSomeAnd, nat_lt, if◌then◌else◌, length, slice_get, negsuc}
+-- PowerPC64: what the functions do that save and restore vector registers (64-bit ELF V2 ABI for
+-- Power, "Vector Save and Restore Functions"; Power ISA, version 3.1, book I, "Vector Facility").
+use Rattle.std.specs.Prelude.{◌≡◌, ◌==◌, ◌&&◌, Bool, ◌+◌, ◌-◌, ◌*◌, ◌/◌, ◌%◌, ◌<◌, ◌≤◌, ℕ, List}
+use Rattle.std.specs.Prelude.{false}
+use Rattle.std.specs.Prelude.{Option, Some, None, IsSomeAnd, nat_lt, if◌then◌else◌, length}
+use Rattle.std.specs.Prelude.{slice_get, negsuc}
 use Rattle.linker_base.specs.Bits.{field}
 use Rattle.linker_elf.specs.Value.{difference_64}
 use Rattle.linker_laws.specs.Machine.{Memory, moved, loaded}
-use Rattle.linker_laws.specs.Ppc64Machine.{State, Formats, go_on, store, indexed_address, with_number}
+use Rattle.linker_laws.specs.Ppc64Machine.{State, Formats, go_on, store, indexed_address}
+use Rattle.linker_laws.specs.Ppc64Machine.{with_number}
 use Rattle.linker_output.specs.LazyRuns.{run_by}
 use Rattle.linker_output.specs.Layout.{Run}
 use Rattle.linker_output.specs.Ppc64Output.{ppc64_output}
@@ -70,7 +73,8 @@ vector_code run n = words_from run (2 * (n - 20)) (2 * (32 - n) + length run.tai
 abbrev pub vector_slot : ℕ → ℕ → ℕ
 vector_slot base n = moved (quadword base) (negsuc (16 * (32 - n) - 1))
 
--- the memory with the registers from n to 31 in their places: what byte of which register is at an address
+-- the memory with the registers from n to 31 in their places: what byte of which register is at an
+-- address
 abbrev pub vectors_saved : ℕ → (ℕ → ℕ) → ℕ → Memory → Memory
 vectors_saved n vectors base memory at =
     let d = difference_64 at (vector_slot base n) in
@@ -91,7 +95,8 @@ EachVector index Leaves =
     (n : ℕ) → 20 ≤ n → n < 32 → (f : Formats) (v : Vectored)
     → IsSomeAnd (run_vectored f (vector_code r n) v) (Leaves n v))
 
--- back to where the link register leads, with all registers but r12 and the vector registers as they were
+-- back to where the link register leads, with all registers but r12 and the vector registers as
+-- they were
 pub record ReturnsVectored (v w : Vectored) : Type 0 where
   pub returns : Returns v.counted w.counted
   pub registers : (m : ℕ) → (m == 12) ≡ false → w.counted.state.registers m ≡ v.counted.state.registers m

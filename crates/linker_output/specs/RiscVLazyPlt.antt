@@ -1,11 +1,13 @@
 -- RISC-V: entries go to the address that their word has, and by the header to the dynamic linker's
 -- resolver (RISC-V unprivileged ISA; RISC-V psABI, "Procedure Linkage Table").
-use Rattle.std.specs.Prelude.{◌≡◌, ◌==◌, ◌&&◌, ◌||◌, ◌+◌, ◌*◌, ◌/◌, ◌%◌, ◌^◌, ◌<◌, ℕ, List, Bool, false, Option, Some, None}
+use Rattle.std.specs.Prelude.{◌≡◌, ◌==◌, ◌&&◌, ◌||◌, ◌+◌, ◌*◌, ◌/◌, ◌%◌, ◌^◌, ◌<◌, ℕ, List, Bool}
+use Rattle.std.specs.Prelude.{false, Option, Some, None}
 use Rattle.std.specs.Prelude.{IsSomeAnd, if◌then◌else◌}
 use Rattle.linker_base.specs.Bits.{field}
 use Rattle.linker_elf.specs.Value.{sum_64, difference_64}
 use Rattle.linker_laws.specs.Machine.{loaded}
-use Rattle.linker_laws.specs.RiscVMachine.{Hart, Instruction, register, with_integer, goes_on, of_word, executed, rs1_of, rs2_of}
+use Rattle.linker_laws.specs.RiscVMachine.{Hart, Instruction, register, with_integer, goes_on}
+use Rattle.linker_laws.specs.RiscVMachine.{of_word, executed, rs1_of, rs2_of}
 use Rattle.linker_output.specs.LazyPlt.{IsCode, header_places}
 use Rattle.linker_output.specs.LazyPlts.{riscv_entry, riscv_header}
 use Rattle.linker_output.specs.LazyRuns.{words, or_else, run_by}
@@ -45,8 +47,8 @@ run code h = run_by (λ h. h.pc) step code h
 
 -- ---- the laws
 
--- It goes to the target, and changes only t1, which has the address behind the jump, and t3, which has
--- the target.
+-- It goes to the target, and changes only t1, which has the address behind the jump, and t3, which
+-- has the target.
 pub record GoesTo (entry : LazyEntry) (target : ℕ) (h t : Hart) : Type 0 where
   pub pc : t.pc ≡ target
   pub t1 : register t 6 ≡ sum_64 entry.address 12
@@ -64,8 +66,8 @@ Enters =
     → (h : Hart) → h.pc ≡ entry.address → loaded 8 h.memory entry.word ≡ target
     → IsSomeAnd (run (words 3 code) h) (GoesTo entry target h)
 
--- It goes to the resolver, with the second word, which names the object, in t0 and the offset of the
--- entry's word behind the first one in t1, and changes no other registers than t2 and t3.
+-- It goes to the resolver, with the second word, which names the object, in t0 and the offset of
+-- the entry's word behind the first one in t1, and changes no other registers than t2 and t3.
 pub record Asks (index resolver object : ℕ) (h t : Hart) : Type 0 where
   pub pc : t.pc ≡ resolver
   pub t0 : register t 5 ≡ object
@@ -75,8 +77,8 @@ pub record Asks (index resolver object : ℕ) (h t : Hart) : Type 0 where
   pub floats : t.floats ≡ h.floats
   pub memory : t.memory ≡ h.memory
 
--- The first words have the resolver and the object, and the word of the entry, which is that with an
--- index behind the header, has the header's address.
+-- The first words have the resolver and the object, and the word of the entry, which is that with
+-- an index behind the header, has the header's address.
 abbrev pub Resolves : Type 0
 Resolves =
     (entry : LazyEntry) (first : ℕ) → entry.address < 2 ^ 64 → entry.word < 2 ^ 64 → first < 2 ^ 64

@@ -1,5 +1,6 @@
 -- How branches go to their targets: directly, or by a stub.
-use Rattle.std.specs.Prelude.{◌≡◌, ◌≢◌, ◌↔◌, ◌==◌, ◌&&◌, ◌||◌, ◌/◌, ◌%◌, ◌^◌, ◌≤◌, ℕ, ℤ, List, [], ◌∷◌, Bool}
+use Rattle.std.specs.Prelude.{◌≡◌, ◌≢◌, ◌↔◌, ◌==◌, ◌&&◌, ◌||◌, ◌/◌, ◌%◌, ◌^◌, ◌≤◌, ℕ, ℤ, List, []}
+use Rattle.std.specs.Prelude.{◌∷◌, Bool}
 use Rattle.std.specs.Prelude.{true, false, not, nat_lt, length, drop, if◌then◌else◌, IsTrue}
 use Rattle.std.specs.Prelude.{Option, Some, None, Result, Ok, Err}
 use Rattle.std.specs.Int.{w64, cast_unsigned}
@@ -30,9 +31,9 @@ use Rattle.linker_utils.specs.declared.elf.Architecture.TheVariants as architect
 
 -- ---- branches
 
--- Branches that may go by a stub to a target that they don't reach: `R_AARCH64_JUMP26` and `CALL26`,
--- `R_LARCH_B26`, and PowerPC64's `R_PPC64_REL24` and `R_PPC64_REL24_NOTOC`. At others a register that a
--- stub changes may be in use, or they reach as far as a stub.
+-- Branches that may go by a stub to a target that they don't reach: `R_AARCH64_JUMP26` and
+-- `CALL26`, `R_LARCH_B26`, and PowerPC64's `R_PPC64_REL24` and `R_PPC64_REL24_NOTOC`. At others a
+-- register that a stub changes may be in use, or they reach as far as a stub.
 abbrev pub may_go_by_stub : Architecture → ℕ → Bool
 may_go_by_stub architectures.AArch64 code = code == 282 || code == 283
 may_go_by_stub architectures.LoongArch64 code = code == 66
@@ -51,7 +52,8 @@ has_no_toc architecture code = false
 
 -- ---- the function that a branch goes to (64-Bit ELF V2 ABI, "Symbol Values")
 
--- the branch enters a function of the output itself: not a stub of it, and not one that nothing defines
+-- the branch enters a function of the output itself: not a stub of it, and not one that nothing
+-- defines
 abbrev pub is_entered : Symbol → Bool
 is_entered symbol = symbol.stub == 0 && not symbol.is_undefined_weak
 
@@ -60,8 +62,8 @@ abbrev pub loses_toc : Architecture → ℕ → Symbol → Bool
 loses_toc architecture code symbol =
     has_toc architecture code && (is_entered symbol && symbol.other / 32 == 1)
 
--- The function has a local entry point, where it takes the TOC pointer of its caller, which has none: it
--- has to be entered at the global one, with its address in r12.
+-- The function has a local entry point, where it takes the TOC pointer of its caller, which has
+-- none: it has to be entered at the global one, with its address in r12.
 abbrev pub lacks_toc : Architecture → ℕ → Symbol → Bool
 lacks_toc architecture code symbol =
     has_no_toc architecture code && (is_entered symbol && nat_lt 1 (symbol.other / 32))
@@ -93,8 +95,8 @@ HasRoom section offset = HasTwo can_restore section offset
 
 -- ---- routes
 
--- By a stub: at its entry, and where the caller's TOC pointer is to be kept, at its first instruction,
--- if the caller can restore it.
+-- By a stub: at its entry, and where the caller's TOC pointer is to be kept, at its first
+-- instruction, if the caller can restore it.
 abbrev pub by_stub : StubKind → ℕ → Bool → Bool → ℕ → Result Route RouteError
 by_stub kind entry false has_room target = Ok (ByStub kind entry target)
 by_stub kind entry true true target = Ok (ByStub kind 0 target)
@@ -110,8 +112,8 @@ IsObstacle row v offset section None =
     (offset ≤ length section) × IsAccepted row v (drop offset section)
 IsObstacle row v offset section (Some error) = IsRejected row v offset section error
 
--- Directly where the branch can be written. By a stub where it doesn't reach its target, and may go by
--- one. Nothing leads to what nothing defines.
+-- Directly where the branch can be written. By a stub where it doesn't reach its target, and may go
+-- by one. Nothing leads to what nothing defines.
 abbrev pub is_served : Architecture → ℕ → Symbol → Bool
 is_served architecture code symbol =
     may_go_by_stub architecture code
@@ -195,8 +197,8 @@ IsWordRoute target r word section result =
 
 -- ---- the law of stubs
 
--- A branch to the entry of a stub is direct exactly where it can be written, whatever function the stub
--- leads to.
+-- A branch to the entry of a stub is direct exactly where it can be written, whatever function the
+-- stub leads to.
 abbrev pub StubsServe : Type 0
 StubsServe =
     (target : Description) (symbol : Symbol) (r : Rela) (stub : ℕ) → stub ≢ 0

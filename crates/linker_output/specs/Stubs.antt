@@ -1,5 +1,6 @@
 -- Stubs: the fields of their code have the values of relocations.
-use Rattle.std.specs.Prelude.{◌≡◌, ◌≤◌, ◌<◌, ◌+◌, ◌++◌, ◌⊎◌, ℕ, ℤ, List, length, take, drop, min, ◌^◌, ◌-◌}
+use Rattle.std.specs.Prelude.{◌≡◌, ◌≤◌, ◌<◌, ◌+◌, ◌++◌, ◌⊎◌, ℕ, ℤ, List, length, take, drop, min}
+use Rattle.std.specs.Prelude.{◌^◌, ◌-◌}
 use Rattle.std.specs.Prelude.{Option, Some, None}
 use Rattle.linker_elf.specs.Applied.{IsApplied}
 use Rattle.linker_elf.specs.Relocate.{IsCause}
@@ -68,8 +69,8 @@ WritesField architecture field o before after =
     (row : RelocationKindInfo) × IsRow architecture field.relocation (Some row)
     × AppliesAt field o before after row
 
--- why a relocation with a row isn't applied: it has no value, or one that doesn't lead to the target
--- or is rejected
+-- why a relocation with a row isn't applied: it has no value, or one that doesn't lead to the
+-- target or is rejected
 abbrev pub IsValueCause : AllowedRange → RelocationKindInfo → Option ℤ → List ℕ → RelocateError
     → Type 0
 IsValueCause range row None bytes error = error ≡ Unsupported

@@ -1,12 +1,14 @@
 -- x86-64: entries go to the address that their word has, and by the header to the dynamic linker's
 -- resolver (Intel 64 and IA-32 Architectures Software Developer's Manual, volume 2, "JMP", "PUSH";
 -- x86-64 psABI, "Procedure Linkage Table").
-use Rattle.std.specs.Prelude.{◌≡◌, ◌==◌, ◌&&◌, ◌≤◌, ◌^◌, ◌<◌, ℕ, zero, suc, List, ◌∷◌, false, drop, Option, Some, None}
+use Rattle.std.specs.Prelude.{◌≡◌, ◌==◌, ◌&&◌, ◌≤◌, ◌^◌, ◌<◌, ℕ, zero, suc, List, ◌∷◌, false, drop}
+use Rattle.std.specs.Prelude.{Option, Some, None}
 use Rattle.std.specs.Prelude.{IsSomeAnd, if◌then◌else◌}
 use Rattle.linker_elf.specs.Relocate.{number_of_bytes}
 use Rattle.linker_elf.specs.Value.{sum_64, difference_64}
 use Rattle.linker_laws.specs.X86Machine as machine
-use Rattle.linker_laws.specs.X86Machine.{State, load, store_8, with_register, extended, is_relative, reg_of}
+use Rattle.linker_laws.specs.X86Machine.{State, load, store_8, with_register, extended, is_relative}
+use Rattle.linker_laws.specs.X86Machine.{reg_of}
 use Rattle.linker_output.specs.LazyPlt.{IsCode, header_places}
 use Rattle.linker_output.specs.LazyPlts.{x86_64_entry, x86_64_header}
 use Rattle.linker_output.specs.LazyRuns.{or_else}
@@ -42,7 +44,8 @@ abbrev pub and_then : (State → Option State) → Option State → Option State
 and_then rest None = None
 and_then rest (Some s) = rest s
 
--- so many instructions of code, from the one at the state's address on, whose first byte has an address
+-- so many instructions of code, from the one at the state's address on, whose first byte has an
+-- address
 abbrev pub run : ℕ → List ℕ → ℕ → State → Option State
 run zero code start s = Some s
 run (suc n) code start s =
@@ -58,8 +61,8 @@ Enters =
     → (s : State) → s.ip ≡ entry.address
     → step code s ≡ Some (record s { ip = load 8 s entry.word })
 
--- It goes to the resolver, whose address the third word has, with the second word and above it the index
--- on the stack, and changes nothing else.
+-- It goes to the resolver, whose address the third word has, with the second word and above it the
+-- index on the stack, and changes nothing else.
 pub record Asks (number first : ℕ) (s t : State) : Type 0 where
   pub ip : t.ip ≡ load 8 s (sum_64 first 16)
   pub stack : t.register 4 ≡ difference_64 (s.register 4) 16
@@ -75,8 +78,8 @@ abbrev pub IsOffStack : ℕ → State → Type 0
 IsOffStack word s =
     (i : ℕ) → i < 8 → 16 ≤ difference_64 (sum_64 word i) (difference_64 (s.register 4) 16)
 
--- The word of the entry has the address behind the entry's first instruction, and the second and the
--- third word aren't on the stack.
+-- The word of the entry has the address behind the entry's first instruction, and the second and
+-- the third word aren't on the stack.
 abbrev pub Resolves : Type 0
 Resolves =
     (entry : LazyEntry) (first : ℕ) → entry.address < 2 ^ 64 → entry.word < 2 ^ 64 → first < 2 ^ 64

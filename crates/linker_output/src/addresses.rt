@@ -38,9 +38,9 @@ fn entry_in(loads: &[WordLoad], code: u32) -> Option<u32>
 }
 
 impl Target {
-    /// The code of the relocation that an instruction would have if the address were in an entry of the
-    /// GOT, by its code where that is in a word of `address_section`. With it `choose` says whether
-    /// the instruction can compute the address. None of other codes.
+    /// The code of the relocation that an instruction would have if the address were in an entry of
+    /// the GOT, by its code where that is in a word of `address_section`. With it `choose` says
+    /// whether the instruction can compute the address. None of other codes.
     ///
     /// ```
     /// use linker_output::description::Target;

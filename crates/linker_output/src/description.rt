@@ -15,7 +15,8 @@ use linker_utils::elf::Architecture;
 
 /// What a linker adds to an output of an architecture, in numbers and texts.
 ///
-/// The fields are public, so that a linker can describe a further architecture by a value of its own.
+/// The fields are public, so that a linker can describe a further architecture by a value of its
+/// own.
 #[derive(Clone, Copy)]
 pub struct Target {
     /// The dynamic relocations.

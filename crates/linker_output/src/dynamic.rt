@@ -107,10 +107,11 @@ impl Target {
     /// The types of the dynamic relocations of a GOT entry's words, by their codes: None for a word
     /// that has none, whose value is known when the output is linked.
     ///
-    /// `is_bound` says that the symbol's definition is in this output and no other can take its place.
-    /// `is_executable` says that the output is a position-independent executable, and not a shared
-    /// library. A descriptor's relocation is at its first word and writes both. In a shared library
-    /// the second word of a bound symbol's `ModuleOffset` has its offset from `Origins::module_block`.
+    /// `is_bound` says that the symbol's definition is in this output and no other can take its
+    /// place. `is_executable` says that the output is a position-independent executable, and not a
+    /// shared library. A descriptor's relocation is at its first word and writes both. In a shared
+    /// library the second word of a bound symbol's `ModuleOffset` has its offset from
+    /// `Origins::module_block`.
     ///
     /// ```
     /// use linker_output::description::Target;

@@ -2,7 +2,8 @@
 
 ghost use Rattle.std.specs.Prelude.{◌≡◌, IfSome};
 ghost use Rattle.linker_elf.specs.Value.{sum_64};
-ghost use Rattle.linker_output.specs.Got.{origins_of, entry_words, static_words, got_header_of, LeadsTo};
+ghost use Rattle.linker_output.specs.Got.{origins_of, entry_words, static_words, got_header_of};
+ghost use Rattle.linker_output.specs.Got.{LeadsTo};
 ghost use Rattle.linker_output.specs.Got.{unit_of, at_or_below, at_or_above};
 
 use crate::description::Target;
@@ -163,8 +164,8 @@ impl Target {
         got.wrapping_add(self.got.bias)
     }
 
-    /// The first word of the GOT, if it isn't an entry, by the GOT's address and that of `_DYNAMIC`,
-    /// 0 where there is none.
+    /// The first word of the GOT, if it isn't an entry, by the GOT's address and that of
+    /// `_DYNAMIC`, 0 where there is none.
     ///
     /// ```
     /// use linker_output::description::Target;

@@ -1,9 +1,9 @@
 //! Laws of stubs: they go to their targets, and branches to them go directly.
 //!
 //! The functions do nothing, and the contract of each has the laws of one architecture, over the
-//! machine that `linker_laws` has of it. From the address at which a stub of `Target::of` stands, with
-//! any registers, its code ends at the address that the word at its target has (`Load`), or at its
-//! target (`Jump`), and has changed only the registers that a call may change on its way.
+//! machine that `linker_laws` has of it. From the address at which a stub of `Target::of` stands,
+//! with any registers, its code ends at the address that the word at its target has (`Load`), or at
+//! its target (`Jump`), and has changed only the registers that a call may change on its way.
 
 ghost use Rattle.linker_output.specs.AArch64Stubs as aarch64_stubs;
 ghost use Rattle.linker_output.specs.LoongArchStubs as loongarch_stubs;
@@ -14,7 +14,8 @@ ghost use Rattle.linker_output.specs.RiscVStubs as riscv_stubs;
 ghost use Rattle.linker_output.specs.Routes.{StubsServe};
 ghost use Rattle.linker_output.specs.X86Stubs as x86_stubs;
 
-/// AArch64: x16 and x17 change. BR, which the machine of `linker_laws` has not, is defined with the laws.
+/// AArch64: x16 and x17 change. BR, which the machine of `linker_laws` has not, is defined with the
+/// laws.
 pub fn aarch64()
     ensures loads { aarch64_stubs.Loads }
     ensures jumps { aarch64_stubs.Jumps }
@@ -31,7 +32,8 @@ pub fn loongarch64()
 }
 
 /// PowerPC64: r0, r12, which has the target, and the count register change. The instructions of the
-/// link and the count register, which the machine of `linker_laws` has not, are defined with the laws.
+/// link and the count register, which the machine of `linker_laws` has not, are defined with the
+/// laws.
 pub fn ppc64()
     ensures loads { ppc64_stubs.Loads }
     ensures jumps { ppc64_stubs.Jumps }
@@ -48,9 +50,9 @@ pub fn ppc64_saves()
     ensures restores { ppc64_saves.RestoreRegisters }
 {}
 
-/// PowerPC64's functions that save and restore vector registers 20 to 31, from any of them on, in their
-/// places below the address in r0. Else r12 alone changes. The vector registers and their loads and stores
-/// are defined with the laws.
+/// PowerPC64's functions that save and restore vector registers 20 to 31, from any of them on, in
+/// their places below the address in r0. Else r12 alone changes. The vector registers and their
+/// loads and stores are defined with the laws.
 pub fn ppc64_vectors()
     ensures saves { ppc64_vectors.SaveVectors }
     ensures restores { ppc64_vectors.RestoreVectors }

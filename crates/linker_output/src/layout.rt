@@ -2,7 +2,8 @@
 //! dynamic linker.
 
 ghost use Rattle.std.specs.Prelude.{◌≡◌, ◌≤◌, ◌<◌, ◌^◌, IfSome, IfNone, ◌%◌, slice_index};
-ghost use Rattle.linker_output.specs.Layout.{unit_by, path_of, stepped, run_spacing, run_word, run_len};
+ghost use Rattle.linker_output.specs.Layout.{unit_by, path_of, stepped, run_spacing, run_word};
+ghost use Rattle.linker_output.specs.Layout.{run_len};
 ghost use Rattle.linker_output.specs.View.{view_paths, view_run};
 
 use crate::description::Target;
@@ -50,8 +51,9 @@ pub struct RunWord {
     pub step: u32,
 }
 
-/// Functions that compilers call and linkers provide, which save or restore registers: one run of code,
-/// whose function with a number n begins 4 * `spacing` * (n - `first`) bytes behind the run's start.
+/// Functions that compilers call and linkers provide, which save or restore registers: one run of
+/// code, whose function with a number n begins 4 * `spacing` * (n - `first`) bytes behind the run's
+/// start.
 #[derive(Debug, Clone, Copy, PartialEq, Eq)]
 pub struct ProvidedRun {
     /// The functions' names without the number, which stands behind it in decimal.
@@ -79,7 +81,8 @@ fn stepped(word: u32, step: u32, function: u64) -> u32
 }
 
 impl ProvidedRun {
-    /// How many instructions of 4 bytes there are from the beginning of a function to that of the next.
+    /// How many instructions of 4 bytes there are from the beginning of a function to that of the
+    /// next.
     pub fn spacing(&self) -> u64
         ensures spacing { result ≡ run_spacing (view_run self.now) }
         ensures few { result ≤ 2 }

@@ -2,10 +2,10 @@
 //!
 //! The functions do nothing, and the contract of each has the laws of one architecture, over the
 //! machine that `linker_laws` has of it and a few further instructions, which are defined with the
-//! laws. From the address at which an entry of `LazyPlt::of` stands, with any registers, its code ends
-//! at the address that its word has. With what the word holds at first it goes on to the header, and
-//! the header to the resolver, which gets what glibc's dynamic linker expects. Only registers that a
-//! call may change on its way have changed.
+//! laws. From the address at which an entry of `LazyPlt::of` stands, with any registers, its code
+//! ends at the address that its word has. With what the word holds at first it goes on to the
+//! header, and the header to the resolver, which gets what glibc's dynamic linker expects. Only
+//! registers that a call may change on its way have changed.
 
 ghost use Rattle.linker_output.specs.AArch64LazyPlt as aarch64_plt;
 ghost use Rattle.linker_output.specs.LoongArchLazyPlt as loongarch_plt;
@@ -29,8 +29,8 @@ pub fn loongarch64()
     linker_laws::relocations::loongarch64();
 }
 
-/// PowerPC64, whose entries are entered only until the function has been looked up: r0, r11, r12 and
-/// the count register change.
+/// PowerPC64, whose entries are entered only until the function has been looked up: r0, r11, r12
+/// and the count register change.
 pub fn ppc64()
     ensures { ppc64_plt.Resolves }
 {

@@ -1,14 +1,17 @@
-//! A lazy PLT: entries through which calls go to functions of other outputs, and a header through which
-//! the first call of each goes to the dynamic linker.
+//! A lazy PLT: entries through which calls go to functions of other outputs, and a header through
+//! which the first call of each goes to the dynamic linker.
 //!
-//! An entry jumps to the address that its word of `.got.plt` has. Before the dynamic linker has looked up
-//! the function, that word leads on to the header, which jumps to the dynamic linker's resolver. Its
-//! address is in a word at the begin of `.got.plt`, where the dynamic linker puts it.
+//! An entry jumps to the address that its word of `.got.plt` has. Before the dynamic linker has
+//! looked up the function, that word leads on to the header, which jumps to the dynamic linker's
+//! resolver. Its address is in a word at the begin of `.got.plt`, where the dynamic linker puts it.
 
 ghost use Rattle.std.specs.Prelude.{◌≡◌, ◌+◌, ◌≤◌, length, min, IfOk, OnOk, IfErr};
-ghost use Rattle.linker_output.specs.LazyPlt.{view_plt, word_by, word_in, operands_at, WritesPieces};
-ghost use Rattle.linker_output.specs.LazyPlt.{piece_len, pieces_len, told_len, IsPiece, RejectsPiece};
-ghost use Rattle.linker_output.specs.LazyPlt.{RejectsPieces, WritesCode, RejectsCode, header_places};
+ghost use Rattle.linker_output.specs.LazyPlt.{view_plt, word_by, word_in, operands_at};
+ghost use Rattle.linker_output.specs.LazyPlt.{WritesPieces};
+ghost use Rattle.linker_output.specs.LazyPlt.{piece_len, pieces_len, told_len, IsPiece};
+ghost use Rattle.linker_output.specs.LazyPlt.{RejectsPiece};
+ghost use Rattle.linker_output.specs.LazyPlt.{RejectsPieces, WritesCode, RejectsCode};
+ghost use Rattle.linker_output.specs.LazyPlt.{header_places};
 ghost use Rattle.linker_output.specs.LazyPlts.{lazy_plt_of};
 
 use crate::lazy_plts;
@@ -79,8 +82,9 @@ pub struct LazyPlt {
     pub entry: &'static [LazyPiece],
     /// The first words of `.got.plt`, before those of the entries.
     pub header_words: &'static [LazyWord],
-    /// The word of an entry. PowerPC64's the dynamic linker puts there itself, from `DT_PPC64_GLINK`,
-    /// which is 32 below the first entry: in an output its section has no contents.
+    /// The word of an entry. PowerPC64's the dynamic linker puts there itself, from
+    /// `DT_PPC64_GLINK`, which is 32 below the first entry: in an output its section has no
+    /// contents.
     pub word: LazyWord,
 }
 

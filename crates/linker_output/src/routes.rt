@@ -26,16 +26,16 @@ use linker_utils::elf::{Architecture, RelocateError, Row};
 /// How a branch goes.
 #[derive(Debug, Clone, Copy, PartialEq, Eq)]
 pub enum Route {
-    /// To its target: the value of its relocation can be written, and on PowerPC64 the function gets, and
-    /// the caller keeps, the TOC pointer.
+    /// To its target: the value of its relocation can be written, and on PowerPC64 the function
+    /// gets, and the caller keeps, the TOC pointer.
     Direct,
     /// By a stub, which a linker has to place, or shares with other branches.
     Stub {
         /// The kind of the stub.
         kind: StubKind,
-        /// At which offset the branch enters the stub. Where that is 0 and `Stub::entry` isn't, the stub
-        /// stores PowerPC64's TOC pointer, and `ld 2,24(1)` has to be in place of a `nop` behind the
-        /// branch.
+        /// At which offset the branch enters the stub. Where that is 0 and `Stub::entry` isn't, the
+        /// stub stores PowerPC64's TOC pointer, and `ld 2,24(1)` has to be in place of a `nop`
+        /// behind the branch.
         entry: u64,
         /// What `Target::write_stub` takes as the target.
         target: u64,
@@ -45,8 +45,8 @@ pub enum Route {
 /// Why a branch goes no way.
 #[derive(Debug, Clone, Copy, PartialEq, Eq)]
 pub enum RouteError {
-    /// No stub may serve the relocation: it isn't that of a branch, and its formula has no L. Or its
-    /// code has no row.
+    /// No stub may serve the relocation: it isn't that of a branch, and its formula has no L. Or
+    /// its code has no row.
     NotABranch,
     /// The relocation has no value.
     Value(ValueError),
@@ -382,8 +382,9 @@ fn served_row(architecture: Architecture, code: u32) -> Option<Row>
 }
 
 impl Target {
-    /// How the branch of a relocation to a symbol goes, by what `relocate_section` takes: `relocation`
-    /// is one of a section that is at `addresses.section`, and `symbol` is what is known of its symbol.
+    /// How the branch of a relocation to a symbol goes, by what `relocate_section` takes:
+    /// `relocation` is one of a section that is at `addresses.section`, and `symbol` is what is
+    /// known of its symbol.
     ///
     /// - `Direct` where its value can be written, and on PowerPC64 the TOC pointer is as the function
     ///   and the caller expect. It goes to `Symbol::stub`, if that isn't 0, else to the symbol, on
@@ -395,12 +396,12 @@ impl Target {
     ///   pointer (the high three bits of `st_other` are 1), and for `R_PPC64_REL24_NOTOC` to one that has
     ///   a local entry point (they are above 1). `R_PPC64_REL14` to the former is `NoRoom`.
     ///
-    /// With the address of its entry in the stub as `Symbol::stub`, and an addend of 0, the branch is
-    /// `Direct` if it reaches that. A branch to an undefined weak symbol goes as `linker_section::values`
-    /// says, and by no stub.
+    /// With the address of its entry in the stub as `Symbol::stub`, and an addend of 0, the branch
+    /// is `Direct` if it reaches that. A branch to an undefined weak symbol goes as
+    /// `linker_section::values` says, and by no stub.
     ///
-    /// A function of another output and an indirect function are entered by the address in a word, as
-    /// `route_by_word` says.
+    /// A function of another output and an indirect function are entered by the address in a word,
+    /// as `route_by_word` says.
     ///
     /// # Errors
     ///
@@ -439,9 +440,9 @@ impl Target {
         self.route_of(symbol, relocation, section, &row, value)
     }
 
-    /// How the branch of a relocation goes to the function whose address the word at an address has: a
-    /// function of another output, or an indirect one. It goes by a stub of the kind `Load`. Of
-    /// PowerPC64's `R_PPC64_REL24` that stores the TOC pointer.
+    /// How the branch of a relocation goes to the function whose address the word at an address
+    /// has: a function of another output, or an indirect one. It goes by a stub of the kind `Load`.
+    /// Of PowerPC64's `R_PPC64_REL24` that stores the TOC pointer.
     ///
     /// # Errors
     ///

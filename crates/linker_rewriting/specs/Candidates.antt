@@ -27,7 +27,8 @@ IsCallIn architecture symbols offset distance (Some next) found =
     × (found ≡ ((next.offset == offset + distance) && (is_of_call
     && calls_tls_get_addr (slice_get symbols next.symbol))))
 
--- what a rewrite takes along, so many bytes behind its offset, is the relocation with the next index
+-- what a rewrite takes along, so many bytes behind its offset, is the relocation with the next
+-- index
 abbrev pub IsTaken : Architecture → List SymbolFacts → List ℕ → ℕ → ℕ → Option ℕ → Bool → Type 0
 IsTaken architecture symbols bytes n offset None found = found ≡ true
 IsTaken architecture symbols bytes n offset (Some distance) found =

@@ -1,6 +1,8 @@
 -- What becomes of a section's relocations and of their instructions.
-use Rattle.std.specs.Prelude.{◌≡◌, ℕ, zero, suc, ◌+◌, ◌-◌, ◌<◌, ◌≤◌, ◌/◌, ◌⊎◌, ◌++◌, max, Bool, true}
-use Rattle.std.specs.Prelude.{false, IsTrue, ◌↔◌, List, [], ◌∷◌, length, get_or, Option, Some, None, is_some}
+use Rattle.std.specs.Prelude.{◌≡◌, ℕ, zero, suc, ◌+◌, ◌-◌, ◌<◌, ◌≤◌, ◌/◌, ◌⊎◌, ◌++◌, max, Bool}
+use Rattle.std.specs.Prelude.{true}
+use Rattle.std.specs.Prelude.{false, IsTrue, ◌↔◌, List, [], ◌∷◌, length, get_or, Option, Some, None}
+use Rattle.std.specs.Prelude.{is_some}
 use Rattle.linker_base.specs.Rewrite.{CanRewrite}
 use Rattle.linker_base.specs.RewriteWindow.{window_of_rewrite}
 use Rattle.linker_base.specs.declared.rewrite.DeletedBytes.{DeletedBytes}
@@ -11,10 +13,13 @@ use Rattle.linker_rewriting.specs.Facts.{Setting, early}
 use Rattle.linker_rewriting.specs.Groups.{IsScopeIn, group_stays, stays_at}
 use Rattle.linker_rewriting.specs.Labels.{IsHighIn, IsLabelCandidate, LabelStays, LabelFits}
 use Rattle.linker_rewriting.specs.declared.decisions.Decision.{Decision}
-use Rattle.linker_rewriting.specs.declared.decisions.Decision.TheVariants.{Kept, Rewritten, TakenAlong}
+use Rattle.linker_rewriting.specs.declared.decisions.Decision.TheVariants.{Kept, Rewritten}
+use Rattle.linker_rewriting.specs.declared.decisions.Decision.TheVariants.{TakenAlong}
 use Rattle.linker_rewriting.specs.declared.decisions.Decision.TheVariants.{Redirected}
 use Rattle.linker_rewriting.specs.declared.decisions.RewritingError.{RewritingError}
-use Rattle.linker_rewriting.specs.declared.decisions.RewritingError.TheVariants.{TooShort, NotSurveyed, Overlaps}
+use Rattle.linker_rewriting.specs.declared.decisions.RewritingError.TheVariants.{TooShort}
+use Rattle.linker_rewriting.specs.declared.decisions.RewritingError.TheVariants.{NotSurveyed}
+use Rattle.linker_rewriting.specs.declared.decisions.RewritingError.TheVariants.{Overlaps}
 use Rattle.linker_rewriting.specs.declared.facts.OutputFacts.{OutputFacts}
 use Rattle.linker_rewriting.specs.declared.facts.SymbolFacts.{SymbolFacts}
 use Rattle.linker_rewriting.specs.declared.groups.Group.{Group}

@@ -68,15 +68,15 @@ address_in addresses value =
     if value.is_undefined_weak then (if value.is_thread_local then addresses.thread_origin else 0)
     else value.address
 
--- An executable whose definition of the symbol is used: what a rewrite to local-exec requires. In the
--- phase of offsets from the thread pointer no other one is made.
+-- An executable whose definition of the symbol is used: what a rewrite to local-exec requires. In
+-- the phase of offsets from the thread pointer no other one is made.
 abbrev pub is_executable_in : Phase → OutputFacts → SymbolFacts → Bool
 is_executable_in ThreadOffsets output symbol =
     output.is_executable && (symbol.is_local && not symbol.is_ifunc)
 is_executable_in phase output symbol = output.is_executable
 
--- The facts of a relocation at an offset, of a symbol and an addend, where each other one of its group
--- can be rewritten. The distance to a symbol that nothing defines isn't that of its value.
+-- The facts of a relocation at an offset, of a symbol and an addend, where each other one of its
+-- group can be rewritten. The distance to a symbol that nothing defines isn't that of its value.
 abbrev pub placed_facts : Phase → OutputFacts → Addresses → SymbolFacts → Symbol → ℕ → ℤ → Bool
     → LinkFacts
 placed_facts phase output addresses symbol value offset addend marked =
@@ -111,8 +111,8 @@ placed_facts phase output addresses symbol value offset addend marked =
 
 -- ---- in any phase
 
--- What rewrites are chosen by: the architecture, the phase, the output, and an object's symbols, with
--- addresses once they are known.
+-- What rewrites are chosen by: the architecture, the phase, the output, and an object's symbols,
+-- with addresses once they are known.
 pub record Setting : Type 0 where
   pub architecture : Architecture
   pub phase : Phase
@@ -140,8 +140,8 @@ no_addresses =
 abbrev pub early : Architecture → OutputFacts → List SymbolFacts → Setting
 early architecture output symbols = setting architecture Early output symbols no_addresses []
 
--- The facts of a relocation whose subject is another one or itself: that whose symbol and addend count.
--- None where a table has no entry for the symbol.
+-- The facts of a relocation whose subject is another one or itself: that whose symbol and addend
+-- count. None where a table has no entry for the symbol.
 abbrev pub facts_with : Phase → OutputFacts → Addresses → Rela → Rela → Bool → SymbolFacts
     → Option Symbol → Option LinkFacts
 facts_with phase output addresses r subject marked symbol None = None

@@ -22,8 +22,8 @@ abbrev pub bit_if : ℕ → Bool → ℕ
 bit_if worth true = worth
 bit_if worth false = 0
 
--- Each fact has a bit: from bit 0 up those of the symbol, with bits 5 to 7 of `st_other` in bits 5 to 7,
--- and then those of the output. Bit 15 is 1, so that none of what is kept is 0.
+-- Each fact has a bit: from bit 0 up those of the symbol, with bits 5 to 7 of `st_other` in bits 5
+-- to 7, and then those of the output. Bit 15 is 1, so that none of what is kept is 0.
 abbrev pub kept_bits : OutputFacts → SymbolFacts → ℕ
 kept_bits output symbol =
     2 ^ 15 + bit_if (2 ^ 9) output.is_fixed + bit_if (2 ^ 8) output.is_executable

@@ -1,5 +1,5 @@
--- Groups of one label of RISC-V: a high part, and the low parts whose symbol is the label at it (RISC-V
--- ELF psABI, "PC-Relative Symbol Addresses" and "TLS Descriptors").
+-- Groups of one label of RISC-V: a high part, and the low parts whose symbol is the label at it
+-- (RISC-V ELF psABI, "PC-Relative Symbol Addresses" and "TLS Descriptors").
 use Rattle.std.specs.Prelude.{◌≡◌, ℕ, ◌<◌, ◌/◌, ◌^◌, ◌⊎◌, ◌&&◌, ◌==◌, Bool, true, false, List}
 use Rattle.std.specs.Prelude.{length, Option, Some, None, if◌then◌else◌, slice_get}
 use Rattle.linker_elf.specs.ElfNames.{code_of}
@@ -130,13 +130,14 @@ abbrev pub HasLacking : Setting → List ℕ → List ℕ → ℕ → ℕ → Ty
 HasLacking s bytes section limit high =
     (n : ℕ) × (n < limit) × Lacks s bytes section n (relocation_in bytes n) high
 
--- All of the group of a high part can be rewritten, in a section whose relocations ascend by offset.
+-- All of the group of a high part can be rewritten, in a section whose relocations ascend by
+-- offset.
 abbrev pub LabelFits : Setting → List ℕ → List ℕ → ℕ → Type 0
 LabelFits s bytes section high =
     IsAscending bytes × (HasLacking s bytes section (length bytes / 24) high → ⊥)
 
--- A relocation's group stays: the section's relocations don't ascend, no high part is at its label, or
--- one of the group has no rewrite.
+-- A relocation's group stays: the section's relocations don't ascend, no high part is at its label,
+-- or one of the group has no rewrite.
 abbrev pub LabelStays : Setting → List ℕ → List ℕ → Rela → Type 0
 LabelStays s bytes section r =
     (¬ IsAscending bytes)

@@ -10,7 +10,8 @@ use Rattle.linker_rewriting.specs.Groups.{IsInGroupIn, symbol_of_group}
 use Rattle.linker_rewriting.specs.Labels.{IsInLabel, IsHighIn}
 use Rattle.linker_rewriting.specs.Sequences.{is_marked_load}
 use Rattle.linker_rewriting.specs.declared.decisions.Decision.{Decision}
-use Rattle.linker_rewriting.specs.declared.decisions.Decision.TheVariants.{Kept, Rewritten, TakenAlong}
+use Rattle.linker_rewriting.specs.declared.decisions.Decision.TheVariants.{Kept, Rewritten}
+use Rattle.linker_rewriting.specs.declared.decisions.Decision.TheVariants.{TakenAlong}
 use Rattle.linker_rewriting.specs.declared.decisions.Decision.TheVariants.{Redirected}
 use Rattle.linker_rewriting.specs.declared.facts.OutputFacts.{OutputFacts}
 use Rattle.linker_rewriting.specs.declared.facts.SymbolFacts.{SymbolFacts}
@@ -108,8 +109,8 @@ GroupsAreWholeIn architecture phase bytes decisions limit =
 abbrev pub GroupsAreWhole : Architecture → List ℕ → List Decision → ℕ → Type 0
 GroupsAreWhole architecture = GroupsAreWholeIn architecture Early
 
--- In two sections of an object that are decided by one table, each at its address, all of a group are
--- rewritten too, or none is.
+-- In two sections of an object that are decided by one table, each at its address, all of a group
+-- are rewritten too, or none is.
 abbrev pub GroupsAreWholeAcross : Type 0
 GroupsAreWholeAcross =
     (s other : Setting) (kept : List KeptGroups) (bytes section others_bytes others_section : List ℕ)

@@ -1,7 +1,8 @@
--- Sequences whose relocations are next to each other: of AArch64 those of a TLS descriptor (System V
--- ABI for the Arm 64-bit Architecture, "Thread-local storage"), of a load from the GOT and of an
--- address by its page (ELF for the Arm 64-bit Architecture, "Relocation optimization"); of LoongArch
--- those of a load from the GOT (LoongArch ELF psABI, relaxation). And marks of what may be relaxed.
+-- Sequences whose relocations are next to each other: of AArch64 those of a TLS descriptor (System
+-- V ABI for the Arm 64-bit Architecture, "Thread-local storage"), of a load from the GOT and of an
+-- address by its page (ELF for the Arm 64-bit Architecture, "Relocation optimization"); of
+-- LoongArch those of a load from the GOT (LoongArch ELF psABI, relaxation). And marks of what may
+-- be relaxed.
 use Rattle.std.specs.Prelude.{◌≡◌, ℕ, ◌+◌, ◌-◌, ◌*◌, ◌==◌, ◌&&◌, nat_le, Bool, true, false, pos}
 use Rattle.std.specs.Prelude.{List, Option, Some, None}
 use Rattle.std.specs.Ordering.{int_eq}
@@ -57,8 +58,8 @@ place_in aarch64.R_AARCH64_ADR_PREL_PG_HI21 = Some (PageAndOffset, 0)
 place_in aarch64.R_AARCH64_ADD_ABS_LO12_NC = Some (PageAndOffset, 1)
 place_in name = None
 
--- a relocation is so many bytes behind an offset, has a code, and is of the symbol and the addend of
--- another one
+-- a relocation is so many bytes behind an offset, has a code, and is of the symbol and the addend
+-- of another one
 abbrev pub is_part : ℕ → ℕ → ℕ → Rela → Option Rela → Bool
 is_part code offset distance r None = false
 is_part code offset distance r (Some part) =

@@ -1,6 +1,6 @@
 -- Instructions that load addresses from the words of a section, as from those of PowerPC64's `.toc`
--- (64-bit ELF V2 ABI for Power, "TOC"). Nothing changes such a word, so that the instructions may compute
--- its address: all that load it, or none.
+-- (64-bit ELF V2 ABI for Power, "TOC"). Nothing changes such a word, so that the instructions may
+-- compute its address: all that load it, or none.
 use Rattle.std.specs.Prelude.{◌≡◌, ℕ, ℤ, ◌<◌, ◌/◌, ◌⊎◌, ◌==◌, if◌then◌else◌, Bool, true}
 use Rattle.std.specs.Prelude.{false, List, length, Option, None, Some, slice_get}
 use Rattle.std.specs.Int.{w64, cast_unsigned}
@@ -17,7 +17,9 @@ use Rattle.linker_rewriting.specs.Rewritten.{IsRewritten}
 use Rattle.linker_rewriting.specs.declared.decisions.Decision.{Decision}
 use Rattle.linker_rewriting.specs.declared.decisions.Decision.TheVariants.{Kept, Redirected}
 use Rattle.linker_rewriting.specs.declared.decisions.RewritingError.{RewritingError}
-use Rattle.linker_rewriting.specs.declared.decisions.RewritingError.TheVariants.{TooShort, NotSurveyed, Overlaps}
+use Rattle.linker_rewriting.specs.declared.decisions.RewritingError.TheVariants.{TooShort}
+use Rattle.linker_rewriting.specs.declared.decisions.RewritingError.TheVariants.{NotSurveyed}
+use Rattle.linker_rewriting.specs.declared.decisions.RewritingError.TheVariants.{Overlaps}
 use Rattle.linker_rewriting.specs.declared.decisions.Subject.{Subject}
 use Rattle.linker_section.specs.Relocations.{relocation_in}
 use Rattle.linker_section.specs.Values.{IsAscending}
@@ -70,8 +72,8 @@ IsLoad s start words r None =
 IsLoad s start words r (Some load) =
     (entry_code s.architecture r.code ≡ Some (load.0)) × IsWordOf s start words r (Some (load.1))
 
--- The rewrite of such a load, if each other one of the word is rewritten: that of an entry of the GOT
--- with the word's address.
+-- The rewrite of such a load, if each other one of the word is rewritten: that of an entry of the
+-- GOT with the word's address.
 abbrev pub IsLoadCandidate : Setting → List ℕ → List ℕ → List ℕ → ℕ → Rela → ℕ × ℕ
     → Option (Choice Relaxation ℕ) → Type 0
 IsLoadCandidate s words bytes section n r load candidate =

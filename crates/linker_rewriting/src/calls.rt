@@ -34,8 +34,8 @@ fn changes_toc(symbols: &[SymbolFacts], symbol: u32) -> bool
     }
 }
 
-/// Whether a relocation of AArch64 is of a branch that is no `nop`: only one to what is undefined and
-/// weak becomes one.
+/// Whether a relocation of AArch64 is of a branch that is no `nop`: only one to what is undefined
+/// and weak becomes one.
 #[inline(always)]
 fn aarch64_keeps(symbols: &[SymbolFacts], relocation: &Rela) -> bool
     ensures { result ≡ aarch64_keeps (slice_get symbols.now relocation.now.symbol)

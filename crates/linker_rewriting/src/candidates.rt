@@ -131,8 +131,8 @@ pub(crate) fn candidate_by(
     Some(chosen)
 }
 
-/// The rewrite of the instruction of the relocation with an index, if each other one of its group is
-/// rewritten, and the code of the relocation after it. None where there is none: `choose` has no
+/// The rewrite of the instruction of the relocation with an index, if each other one of its group
+/// is rewritten, and the code of the relocation after it. None where there is none: `choose` has no
 /// rewrite for it, the one that it has takes a relocation along that isn't the next one or deletes
 /// bytes behind the section, or it is of a sequence whose relocations aren't all next to it.
 #[inline(always)]

@@ -1,8 +1,9 @@
 //! In which phases a relocation may be rewritten, by its code.
 //!
-//! Of each number the bits from 0 up are those of the phases in their order, and the bits from 4 up those
-//! of the phases in which a survey asks for its rewrite, since it is of a group. A code past the end of a
-//! table has none. Each number is proved to have exactly the bits of its name's scopes.
+//! Of each number the bits from 0 up are those of the phases in their order, and the bits from 4 up
+//! those of the phases in which a survey asks for its rewrite, since it is of a group. A code past
+//! the end of a table has none. Each number is proved to have exactly the bits of its name's
+//! scopes.
 
 ghost use Rattle.std.specs.Prelude.{◌≡◌, ◌/◌, length, false};
 ghost use Rattle.linker_rewriting.specs.Inner.Codes.{bit_of, group_bit_of, phases_in};
@@ -147,8 +148,8 @@ fn phases_in(table: &'static [u8], code: u32) -> u8
     if index < table.len() { table[index] } else { 0 }
 }
 
-/// Whether a relocation with a code may be rewritten in a phase, by the table of the architecture and
-/// the bit of the phase. The scope is for the proof alone: the compiler leaves it out.
+/// Whether a relocation with a code may be rewritten in a phase, by the table of the architecture
+/// and the bit of the phase. The scope is for the proof alone: the compiler leaves it out.
 #[inline(always)]
 pub(crate) fn is_listed(
     architecture: Architecture,
@@ -165,8 +166,8 @@ pub(crate) fn is_listed(
     phases_in(table, code) & bit != 0
 }
 
-/// Whether a survey of a phase asks for the rewrite of a relocation with a code, by the table of the
-/// architecture and the bit of the phase. The scope is for the proof alone.
+/// Whether a survey of a phase asks for the rewrite of a relocation with a code, by the table of
+/// the architecture and the bit of the phase. The scope is for the proof alone.
 #[inline(always)]
 pub(crate) fn is_asked(
     architecture: Architecture,

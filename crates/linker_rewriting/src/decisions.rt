@@ -46,8 +46,9 @@ pub enum Decision {
     Kept,
     /// The instruction is rewritten by this, and the relocation becomes the one after it.
     Rewritten(Choice<Relaxation, u32>),
-    /// The same, but the relocation after it is of another symbol and addend: those of the high part of
-    /// a TLS descriptor of RISC-V, whose label was its symbol, or those of the word that was loaded.
+    /// The same, but the relocation after it is of another symbol and addend: those of the high
+    /// part of a TLS descriptor of RISC-V, whose label was its symbol, or those of the word that
+    /// was loaded.
     Redirected(Choice<Relaxation, u32>, Subject),
     /// The relocation goes, since the rewrite at the one before or at the next one takes it along.
     TakenAlong,
@@ -90,7 +91,8 @@ impl AsDecision for Decision {
     }
 }
 
-/// What deletions are listed in: pairs of an offset and how many bytes, or the caller's own structs.
+/// What deletions are listed in: pairs of an offset and how many bytes, or the caller's own
+/// structs.
 pub trait FromDeletion: AsDeletion {
     /// The element that records a deletion by the offset of its first byte and how many it has.
     fn from_deletion(offset: u64, bytes: u32) -> Self
@@ -109,11 +111,11 @@ impl FromDeletion for (u64, u32) {
 pub enum RewritingError {
     /// There are fewer decisions than relocations, or less room for deletions than there are.
     TooShort,
-    /// The relocation with this index can't be rewritten, though its group doesn't stay: the section
-    /// was surveyed with other facts, or not at all.
+    /// The relocation with this index can't be rewritten, though its group doesn't stay: the
+    /// section was surveyed with other facts, or not at all.
     NotSurveyed(usize),
-    /// Bytes that would be rewritten or deleted at the relocation with this index are also rewritten
-    /// or deleted at one before it, or lie below such bytes.
+    /// Bytes that would be rewritten or deleted at the relocation with this index are also
+    /// rewritten or deleted at one before it, or lie below such bytes.
     Overlaps(usize),
 }
 
@@ -258,8 +260,8 @@ fn decide_label(
     }
 }
 
-/// What becomes of a relocation that no other takes along. `stays` is what was noted of its label. None
-/// if its group doesn't stay, but it can't be rewritten.
+/// What becomes of a relocation that no other takes along. `stays` is what was noted of its label.
+/// None if its group doesn't stay, but it can't be rewritten.
 #[inline(always)]
 fn decide(
     stays: bool,
@@ -350,8 +352,8 @@ fn decide(
     }
 }
 
-/// Whether no other relocation takes along the one with an index, and it stays as it is by its code, or
-/// as a call by its symbol. The scope is for the proof alone: the compiler leaves it out.
+/// Whether no other relocation takes along the one with an index, and it stays as it is by its
+/// code, or as a call by its symbol. The scope is for the proof alone: the compiler leaves it out.
 #[inline(always)]
 fn is_left(
     is_taken: bool,
@@ -448,8 +450,8 @@ pub(crate) fn span_of(decision: &Decision, offset: u64) -> (u64, u64)
     (start, if end < deleted { deleted } else { end })
 }
 
-/// Where the bytes end that are rewritten or deleted up to some from a start to an end, by where those
-/// before them do. None if they aren't behind those.
+/// Where the bytes end that are rewritten or deleted up to some from a start to an end, by where
+/// those before them do. None if they aren't behind those.
 #[inline(always)]
 pub(crate) fn end_behind(start: u64, own: u64, end: u64) -> Option<u64>
     ensures { IsEndBehind start own end result }

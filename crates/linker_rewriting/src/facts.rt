@@ -2,7 +2,8 @@
 
 ghost use Rattle.std.specs.Prelude.{◌≡◌, ◌||◌};
 ghost use Rattle.linker_rewriting.specs.Facts.{facts_of, placed_facts, address_in};
-ghost use Rattle.linker_rewriting.specs.Facts.{has_own_address, is_executable_in, facts_at, link_facts};
+ghost use Rattle.linker_rewriting.specs.Facts.{has_own_address, is_executable_in, facts_at};
+ghost use Rattle.linker_rewriting.specs.Facts.{link_facts};
 ghost use Rattle.linker_rewriting.specs.Facts.{may_change_toc};
 
 use crate::phases::Phase;

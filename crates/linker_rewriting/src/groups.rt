@@ -55,10 +55,10 @@ pub enum Scope {
     Labelled,
 }
 
-/// The groups of a symbol that stay as they are, since one of their instructions can't be rewritten.
-/// A table of these has those of an object at the indexes that its relocations name (`r_sym`). That
-/// of index 0 is of all of the object: it has local-dynamic TLS, and what stays whichever symbol it
-/// is of. By default none stays.
+/// The groups of a symbol that stay as they are, since one of their instructions can't be
+/// rewritten. A table of these has those of an object at the indexes that its relocations name
+/// (`r_sym`). That of index 0 is of all of the object: it has local-dynamic TLS, and what stays
+/// whichever symbol it is of. By default none stays.
 #[repr(C)]
 #[derive(Debug, Default, Clone, Copy, PartialEq, Eq)]
 pub struct KeptGroups {
@@ -364,8 +364,8 @@ fn is_listed(architecture: Architecture, phase: Phase) -> bool
     }
 }
 
-/// Whether an architecture has rewrites in a phase. In one without them a linker surveys and rewrites
-/// nothing: each relocation is `Scope::Unlisted`.
+/// Whether an architecture has rewrites in a phase. In one without them a linker surveys and
+/// rewrites nothing: each relocation is `Scope::Unlisted`.
 ///
 /// ```
 /// use linker_rewriting::groups::has_rewrites;
@@ -382,8 +382,8 @@ pub fn has_rewrites(architecture: Architecture, phase: Phase) -> bool
     is_listed(architecture, phase)
 }
 
-/// What is rewritten together with the instruction of a relocation with a code, before addresses are
-/// known. RISC-V's rewrites all wait for them.
+/// What is rewritten together with the instruction of a relocation with a code, before addresses
+/// are known. RISC-V's rewrites all wait for them.
 ///
 /// ```
 /// use linker_rewriting::groups::{Group, Scope, scope_of};

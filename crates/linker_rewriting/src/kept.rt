@@ -1,8 +1,11 @@
-//! What choices of rewrites read of symbols, kept until values are written: then the same has to hold.
+//! What choices of rewrites read of symbols, kept until values are written: then the same has to
+//! hold.
 
-ghost use Rattle.std.specs.Prelude.{◌≡◌, ◌≤◌, ◌<◌, ◌*◌, ◌/◌, ◌^◌, ◌↔◌, length, IsTrue, IfErr, IfSome, IfNone, OnOk};
+ghost use Rattle.std.specs.Prelude.{◌≡◌, ◌≤◌, ◌<◌, ◌*◌, ◌/◌, ◌^◌, ◌↔◌, length, IsTrue, IfErr};
+ghost use Rattle.std.specs.Prelude.{IfSome, IfNone, OnOk};
 ghost use Rattle.linker_rewriting.specs.Kept.{AreAsKept, AreKept, IsAsKept, IsFirstChanged};
-ghost use Rattle.linker_rewriting.specs.Kept.{IsWritingCause, IsRejectedOrChanged, bit_if, kept_facts};
+ghost use Rattle.linker_rewriting.specs.Kept.{IsWritingCause, IsRejectedOrChanged, bit_if};
+ghost use Rattle.linker_rewriting.specs.Kept.{kept_facts};
 ghost use Rattle.linker_section.specs.Sections.{AreAllRelocated};
 ghost use Rattle.linker_section.specs.Relocations.{relocation_in};
 ghost use Rattle.linker_section.specs.WrittenFields.{AreWritten};
@@ -68,8 +71,8 @@ fn kept_facts(output: &OutputFacts, symbol: &SymbolFacts) -> KeptFacts
 }
 
 /// Keeps what choices read of an object's symbols and of the output. A linker calls this when it
-/// chooses rewrites, with the facts that it passes to `survey` and `rewrite_section`, and passes what
-/// is kept to `relocate_rewritten_section`.
+/// chooses rewrites, with the facts that it passes to `survey` and `rewrite_section`, and passes
+/// what is kept to `relocate_rewritten_section`.
 pub fn keep_facts(output: &OutputFacts, symbols: &[SymbolFacts], kept: &mut [KeptFacts])
     requires room { length symbols.now ≡ length kept.old }
     ensures { AreKept output.now symbols.now kept.new }
@@ -97,9 +100,9 @@ fn is_as_kept(
     }
 }
 
-/// The index of the first relocation of whose symbol other facts hold than those that are kept; none
-/// where all are the same. A relocation that a rewrite took along counts too: the facts of its symbol
-/// were read.
+/// The index of the first relocation of whose symbol other facts hold than those that are kept;
+/// none where all are the same. A relocation that a rewrite took along counts too: the facts of its
+/// symbol were read.
 pub fn first_changed(
     output: &OutputFacts,
     symbols: &[SymbolFacts],
@@ -118,17 +121,17 @@ pub fn first_changed(
     None
 }
 
-/// Writes the values of a section whose instructions were rewritten, as `relocate_section` does, where
-/// choices would still read the same facts: `facts` and `output` are those that hold now, and `kept`
-/// those of `keep_facts` when rewrites were chosen. So a symbol that was bound then and isn't any more
-/// doesn't get code that bypasses its GOT entry. A relocation that needs an entry which the linker
-/// hasn't made is an error of `relocate_section` (`NoEntry`).
+/// Writes the values of a section whose instructions were rewritten, as `relocate_section` does,
+/// where choices would still read the same facts: `facts` and `output` are those that hold now, and
+/// `kept` those of `keep_facts` when rewrites were chosen. So a symbol that was bound then and
+/// isn't any more doesn't get code that bypasses its GOT entry. A relocation that needs an entry
+/// which the linker hasn't made is an error of `relocate_section` (`NoEntry`).
 ///
 /// # Errors
 ///
-/// The section is as before. `Changed`: of a symbol other facts hold than are kept, or none are kept;
-/// with the index of the first such relocation. `Section`: all facts are as kept, and a value isn't
-/// written.
+/// The section is as before. `Changed`: of a symbol other facts hold than are kept, or none are
+/// kept; with the index of the first such relocation. `Section`: all facts are as kept, and a value
+/// isn't written.
 ///
 /// ```
 /// use linker_rewriting::facts::{OutputFacts, SymbolFacts};

@@ -6,8 +6,8 @@ ghost use Rattle.linker_rewriting.specs.Rewritten.{GroupsAreWholeAcross, LoadsAr
 ghost use Rattle.linker_rewriting.specs.Surveys.{NotesStay, SurveysCommute};
 ghost use Rattle.linker_rewriting.specs.Words.{WordsAreWholeAcross};
 
-/// What is noted of one section of an object is still noted when the others have been surveyed, so that
-/// the clause `surveyed` of `rewrite_section` holds of each.
+/// What is noted of one section of an object is still noted when the others have been surveyed, so
+/// that the clause `surveyed` of `rewrite_section` holds of each.
 pub fn notes_stay()
     ensures { NotesStay }
 {}
@@ -17,7 +17,8 @@ pub fn surveys_commute()
     ensures { SurveysCommute }
 {}
 
-/// All that is decided of a section follows from which groups stay, and from nothing else of the table.
+/// All that is decided of a section follows from which groups stay, and from nothing else of the
+/// table.
 pub fn decisions_follow()
     ensures { DecisionsFollow }
 {}
@@ -28,8 +29,8 @@ pub fn groups_are_whole_across()
     ensures { GroupsAreWholeAcross }
 {}
 
-/// Of a marked load from LoongArch's GOT both instructions are rewritten, or neither is, whatever other
-/// loads of its symbol are.
+/// Of a marked load from LoongArch's GOT both instructions are rewritten, or neither is, whatever
+/// other loads of its symbol are.
 pub fn loads_are_whole()
     ensures { LoadsAreWhole }
 {}
@@ -39,8 +40,8 @@ pub fn kept_facts_tell()
     ensures { KeptFactsTell }
 {}
 
-/// Of two sections of an object whose loads are decided by one table all loads of a word are rewritten
-/// too, or none is.
+/// Of two sections of an object whose loads are decided by one table all loads of a word are
+/// rewritten too, or none is.
 pub fn words_are_whole_across()
     ensures { WordsAreWholeAcross }
 {}

@@ -6,8 +6,8 @@ ghost use Rattle.linker_section.specs.Relocations.{relocation_of, relocation_in}
 use linker_base::rewrite::overwrite;
 use linker_section::relocations::{RELA_LEN, Rela, relocation_at};
 
-/// The relocation with an index below `relocations_len`. Its bounds are tested once: the compiler sees
-/// that its bytes are in the slice.
+/// The relocation with an index below `relocations_len`. Its bounds are tested once: the compiler
+/// sees that its bytes are in the slice.
 #[inline(always)]
 pub(crate) fn relocation_in(relocations: &[u8], index: usize) -> Rela
     requires { index < length relocations.now / 24 }

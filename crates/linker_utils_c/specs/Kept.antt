@@ -1,5 +1,5 @@
--- Values that are written where choices of rewrites would read what they read, in the numbers that C
--- sees.
+-- Values that are written where choices of rewrites would read what they read, in the numbers that
+-- C sees.
 use Rattle.std.specs.Prelude.{◌≡◌, ℕ, ◌<◌, ◌≤◌, List, length, Result, Ok, Err}
 use Rattle.linker_rewriting.specs.Kept.{AreAsKept, IsFirstChanged}
 use Rattle.linker_rewriting.specs.declared.facts.OutputFacts.{OutputFacts}

@@ -1,5 +1,6 @@
 -- Places of stubs, in arrays of the caller's.
-use Rattle.std.specs.Prelude.{◌≡◌, ◌≤◌, ◌<◌, ◌+◌, ◌-◌, ◌*◌, ◌^◌, ◌⊎◌, ℕ, List, length, slice_index_or}
+use Rattle.std.specs.Prelude.{◌≡◌, ◌≤◌, ◌<◌, ◌+◌, ◌-◌, ◌*◌, ◌^◌, ◌⊎◌, ℕ, List, length}
+use Rattle.std.specs.Prelude.{slice_index_or}
 use Rattle.std.specs.Prelude.{Option, Some, None, ⊤}
 use Rattle.linker_output.specs.Placement.{at, stub_at, IsPlaced, IsPlaceCause}
 use Rattle.linker_output.specs.declared.placement.Branch.{Branch}
@@ -15,7 +16,8 @@ use Rattle.linker_utils_c.specs.declared.status.Status.{Status}
 use Rattle.linker_utils_c.specs.declared.status.Status.TheVariants.{Success, OutOfMemory}
 use Rattle.linker_utils_c.specs.declared.status.Status.TheVariants.{ShortMemory}
 use Rattle.linker_utils_c.specs.declared.status.Status.TheVariants.{StubWithoutLength, NotAscending}
-use Rattle.linker_utils_c.specs.declared.status.Status.TheVariants.{NoTarget, CodeTooLong, DifferentLengths}
+use Rattle.linker_utils_c.specs.declared.status.Status.TheVariants.{NoTarget, CodeTooLong}
+use Rattle.linker_utils_c.specs.declared.status.Status.TheVariants.{DifferentLengths}
 use Rattle.linker_utils_c.specs.declared.status.Status.TheVariants.{NoBoundary, StubTooFar}
 
 -- arrays are those of code
@@ -110,8 +112,8 @@ pub record AreSame (old new : Arrays) (old_faulty faulty : ℕ) : Type 0 where
   pub same_arrays : new ≡ old
   pub same_index : faulty ≡ old_faulty
 
--- The arrays have other lengths than the call takes, or `stubs` has fewer elements than two for each
--- branch; else stubs are placed in code of these arrays.
+-- The arrays have other lengths than the call takes, or `stubs` has fewer elements than two for
+-- each branch; else stubs are placed in code of these arrays.
 pub record IsPlacingOf (branches : List Branch) (targets boundaries : List ℕ) (shape : StubShape)
     (old new : Arrays) (old_faulty faulty status : ℕ) : Type 0 where
   pub different : ¬ HaveLengths branches boundaries old

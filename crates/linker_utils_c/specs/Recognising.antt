@@ -24,7 +24,8 @@ use Rattle.linker_utils_c.specs.declared.recognising.DestinationNumbers.{Destina
 use Rattle.linker_utils_c.specs.declared.recognising.RecognisedNumbers.{RecognisedNumbers}
 use Rattle.linker_utils_c.specs.declared.status.Status.TheVariants.{Success, UnknownRelocation}
 use Rattle.linker_utils_c.specs.declared.status.Status.TheVariants.{TooShort, DifferentLengths}
-use Rattle.linker_utils_c.specs.declared.status.Status.TheVariants.{WindowTooLong, NoAddress, UnknownRewrite}
+use Rattle.linker_utils_c.specs.declared.status.Status.TheVariants.{WindowTooLong, NoAddress}
+use Rattle.linker_utils_c.specs.declared.status.Status.TheVariants.{UnknownRewrite}
 use Rattle.linker_utils_c.specs.declared.status.Status.TheVariants.{LeavesOtherBytes}
 
 -- ---- the bits of a field

@@ -13,9 +13,12 @@ use Rattle.linker_utils_c.specs.declared.relaxing.ItemNumbers.{ItemNumbers}
 use Rattle.linker_utils_c.specs.declared.status.Status.{Status}
 use Rattle.linker_utils_c.specs.declared.status.Status.TheVariants.{ItemsOverlap, EndsTooHigh}
 use Rattle.linker_utils_c.specs.declared.status.Status.TheVariants.{TooManyShapes, ShapeTooLong}
-use Rattle.linker_utils_c.specs.declared.status.Status.TheVariants.{ShapesNotAscending, BadGranularity}
-use Rattle.linker_utils_c.specs.declared.status.Status.TheVariants.{BadReach, BadAlignment, UnevenShape}
-use Rattle.linker_utils_c.specs.declared.status.Status.TheVariants.{AlignmentBelowGranularity, UnevenEnd}
+use Rattle.linker_utils_c.specs.declared.status.Status.TheVariants.{ShapesNotAscending}
+use Rattle.linker_utils_c.specs.declared.status.Status.TheVariants.{BadGranularity}
+use Rattle.linker_utils_c.specs.declared.status.Status.TheVariants.{BadReach, BadAlignment}
+use Rattle.linker_utils_c.specs.declared.status.Status.TheVariants.{UnevenShape}
+use Rattle.linker_utils_c.specs.declared.status.Status.TheVariants.{AlignmentBelowGranularity}
+use Rattle.linker_utils_c.specs.declared.status.Status.TheVariants.{UnevenEnd}
 use Rattle.linker_utils_c.specs.declared.status.Status.TheVariants.{TooFewNops, UnevenNops}
 use Rattle.linker_utils_c.specs.declared.status.Status.TheVariants.{TargetInside}
 use Rattle.linker_utils_c.specs.declared.status.Status.TheVariants.{MayBeMisaligned}

@@ -21,9 +21,12 @@ use Rattle.linker_utils_c.specs.declared.status.Status.TheVariants.{UnknownShape
 use Rattle.linker_utils_c.specs.declared.status.Status.TheVariants.{MalformedRelocation}
 use Rattle.linker_utils_c.specs.declared.status.Status.TheVariants.{ItemsOverlap, EndsTooHigh}
 use Rattle.linker_utils_c.specs.declared.status.Status.TheVariants.{TooManyShapes, ShapeTooLong}
-use Rattle.linker_utils_c.specs.declared.status.Status.TheVariants.{ShapesNotAscending, BadGranularity}
-use Rattle.linker_utils_c.specs.declared.status.Status.TheVariants.{BadReach, BadAlignment, UnevenShape}
-use Rattle.linker_utils_c.specs.declared.status.Status.TheVariants.{AlignmentBelowGranularity, UnevenEnd}
+use Rattle.linker_utils_c.specs.declared.status.Status.TheVariants.{ShapesNotAscending}
+use Rattle.linker_utils_c.specs.declared.status.Status.TheVariants.{BadGranularity}
+use Rattle.linker_utils_c.specs.declared.status.Status.TheVariants.{BadReach, BadAlignment}
+use Rattle.linker_utils_c.specs.declared.status.Status.TheVariants.{UnevenShape}
+use Rattle.linker_utils_c.specs.declared.status.Status.TheVariants.{AlignmentBelowGranularity}
+use Rattle.linker_utils_c.specs.declared.status.Status.TheVariants.{UnevenEnd}
 use Rattle.linker_utils_c.specs.declared.status.Status.TheVariants.{TooFewNops, UnevenNops}
 use Rattle.linker_utils_c.specs.declared.status.Status.TheVariants.{TargetInside}
 use Rattle.linker_utils_c.specs.declared.status.Status.TheVariants.{HoldsNoValue, BadFieldValue}
@@ -40,7 +43,8 @@ use Rattle.linker_utils_c.specs.declared.status.Status.TheVariants.{NoSymbol, No
 use Rattle.linker_utils_c.specs.declared.status.Status.TheVariants.{Overlaps, ShortMemory}
 use Rattle.linker_utils_c.specs.declared.status.Status.TheVariants.{NotSurveyed, UnknownEntryClass}
 use Rattle.linker_utils_c.specs.declared.status.Status.TheVariants.{DifferentFlags, NotProvided}
-use Rattle.linker_utils_c.specs.declared.status.Status.TheVariants.{UnknownStub, UnknownPhase, NotABranch, NoRoom}
+use Rattle.linker_utils_c.specs.declared.status.Status.TheVariants.{UnknownStub, UnknownPhase}
+use Rattle.linker_utils_c.specs.declared.status.Status.TheVariants.{NotABranch, NoRoom}
 use Rattle.linker_utils_c.specs.declared.status.Status.TheVariants.{StubWithoutLength, NoTarget}
 use Rattle.linker_utils_c.specs.declared.status.Status.TheVariants.{CodeTooLong, NoBoundary}
 use Rattle.linker_utils_c.specs.declared.status.Status.TheVariants.{StubTooFar, FactsChanged}

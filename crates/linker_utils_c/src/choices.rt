@@ -197,8 +197,8 @@ pub extern "C" fn linker_utils_choose_nonnull(
     Status::Success.number()
 }
 
-/// Whether the relocation with `r_type` can be rewritten if each other one of its sequence can: with
-/// these facts and `group_fits`. False of a machine that isn't known.
+/// Whether the relocation with `r_type` can be rewritten if each other one of its sequence can:
+/// with these facts and `group_fits`. False of a machine that isn't known.
 #[unsafe(no_mangle)]
 pub extern "C" fn linker_utils_relocation_fits_nonnull(
     machine: u16,

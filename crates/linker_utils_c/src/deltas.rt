@@ -2,7 +2,7 @@
 //!
 //! Deltas that `linker_utils_deltas_create` or `linker_utils_deltas_merge` wrote are valid: they
 //! list deletions. Each call is safe for any deltas, and returns one of the statuses that it names.
-//! What else it returns is promised of valid ones.
+//! The contract of what else it returns requires valid ones.
 
 ghost use Rattle.std.specs.Prelude.{◌≡◌, ◌≢◌, ◌↔◌, ◌⊎◌, length, map, IsTrue};
 ghost use Rattle.std.specs.List.Sorted.{IsNonDecreasing};

@@ -34,11 +34,11 @@ pub extern "C" fn linker_utils_keep_facts_nonnull(
     Status::Success.number()
 }
 
-/// Writes the values of a section whose instructions were rewritten, as `relocate_rewritten_section`
-/// of `linker_rewriting`, or none of them. The first that applies of `UnknownArchitecture`;
-/// `ShortMemory`, where `memory` has fewer elements than `linker_utils_relocate_memory`;
-/// `FactsChanged`, with the first such relocation at `faulty`; and why the relocation at `faulty`
-/// can't be written.
+/// Writes the values of a section whose instructions were rewritten, as
+/// `relocate_rewritten_section` of `linker_rewriting`, or none of them. The first that applies of
+/// `UnknownArchitecture`; `ShortMemory`, where `memory` has fewer elements than
+/// `linker_utils_relocate_memory`; `FactsChanged`, with the first such relocation at `faulty`; and
+/// why the relocation at `faulty` can't be written.
 #[unsafe(no_mangle)]
 pub extern "C" fn linker_utils_relocate_rewritten_section_nonnull(
     machine: u16,

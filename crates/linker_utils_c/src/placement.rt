@@ -2,7 +2,8 @@
 
 ghost use Rattle.std.specs.Prelude.{◌≡◌, ◌↔◌, ◌≤◌, ◌<◌, ◌+◌, ◌-◌, ◌*◌, ◌^◌, IsTrue, length, min};
 ghost use Rattle.std.specs.Prelude.{true, false};
-ghost use Rattle.linker_utils_c.specs.Placement.{AreStubs, AreWays, way_number, place_status, faulty_by};
+ghost use Rattle.linker_utils_c.specs.Placement.{AreStubs, AreWays, way_number, place_status};
+ghost use Rattle.linker_utils_c.specs.Placement.{faulty_by};
 ghost use Rattle.linker_utils_c.specs.Placement.{NamesStub, IsPlacing, IsPlacingOf};
 
 use crate::status::Status;
@@ -146,14 +147,16 @@ fn is_short(stubs: usize, branches: usize) -> bool
     stubs / 2 < branches
 }
 
-/// Places stubs at boundaries, as `place_stubs`: writes them to the beginning of `stubs` and how many
-/// there are to `stubs_used`; for each branch the index of the stub that it goes by, or the largest
-/// number; and for each boundary, and the end, how many bytes of stubs there are before those at it.
+/// Places stubs at boundaries, as `place_stubs`: writes them to the beginning of `stubs` and how
+/// many there are to `stubs_used`; for each branch the index of the stub that it goes by, or the
+/// largest number; and for each boundary, and the end, how many bytes of stubs there are before
+/// those at it.
 ///
-/// The first that applies of `DifferentLengths`, where `ways` has not an element for each branch, or
-/// `before` not one more than there are boundaries; `ShortMemory`, where `stubs` has fewer elements than
-/// `linker_utils_most_stubs` says; and the errors of `place_stubs`, with the index at fault in `faulty`:
-/// of a boundary, a branch or, where a stub doesn't reach it, a target. Nothing else is written then.
+/// The first that applies of `DifferentLengths`, where `ways` has not an element for each branch,
+/// or `before` not one more than there are boundaries; `ShortMemory`, where `stubs` has fewer
+/// elements than `linker_utils_most_stubs` says; and the errors of `place_stubs`, with the index at
+/// fault in `faulty`: of a boundary, a branch or, where a stub doesn't reach it, a target. Nothing
+/// else is written then.
 #[unsafe(no_mangle)]
 pub extern "C" fn linker_utils_place_stubs_nonnull(
     alloc: Global,

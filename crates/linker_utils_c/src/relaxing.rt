@@ -145,8 +145,8 @@ fn shapes_named(number: u32) -> Option<Shapes>
 }
 
 /// Writes the shapes that a number names: 0 a call of RISC-V, 1 a tail call where the C extension
-/// may be used, 2 a call or tail call where it isn't; 3 `R_LARCH_CALL36`, 4 `R_LARCH_PCALA_HI20` and
-/// `_LO12`. The error is `UnknownShapes`, and `shapes` is unchanged then.
+/// may be used, 2 a call or tail call where it isn't; 3 `R_LARCH_CALL36`, 4 `R_LARCH_PCALA_HI20`
+/// and `_LO12`. The error is `UnknownShapes`, and `shapes` is unchanged then.
 #[unsafe(no_mangle)]
 pub extern "C" fn linker_utils_standard_shapes(number: u32, shapes: &mut Shapes) -> u32
     ensures known { IfSome (standard_shapes number)
@@ -251,8 +251,8 @@ fn have_lengths(len: usize, shapes: usize, kept: usize, places: usize, freed: us
 /// unchanged.
 ///
 /// The error is `DifferentLengths`, where `kept` or `deltas` has not as many elements as there are
-/// items. Nothing is written then. What is written is promised of items in order, as those of a run
-/// that `linker_utils_items_relaxable` accepts are.
+/// items. Nothing is written then. The contract of what is written requires items in order, as those of a
+/// run that `linker_utils_items_relaxable` accepts are.
 #[unsafe(no_mangle)]
 pub extern "C" fn linker_utils_run_deltas_nonnull(
     items: &[ItemNumbers],

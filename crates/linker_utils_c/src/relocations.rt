@@ -48,8 +48,8 @@ pub extern "C" fn linker_utils_clui_rel_info(info: &mut RelocationNumbers)
     *info = *riscv64::clui_row().numbers();
 }
 
-/// Whether the relocation with `r_type` requires a GOT entry in files with `e_machine` `machine`. False
-/// where either is unknown.
+/// Whether the relocation with `r_type` requires a GOT entry in files with `e_machine` `machine`.
+/// False where either is unknown.
 #[unsafe(no_mangle)]
 pub extern "C" fn linker_utils_asks_for_got(machine: u16, r_type: u32) -> bool
     ensures known { IfSome (architecture_of machine)
@@ -63,8 +63,8 @@ pub extern "C" fn linker_utils_asks_for_got(machine: u16, r_type: u32) -> bool
     }
 }
 
-/// Whether an entry of the PLT may serve as the target of the relocation with `r_type` in files with
-/// `e_machine` `machine`. False where either is unknown.
+/// Whether an entry of the PLT may serve as the target of the relocation with `r_type` in files
+/// with `e_machine` `machine`. False where either is unknown.
 #[unsafe(no_mangle)]
 pub extern "C" fn linker_utils_may_use_plt(machine: u16, r_type: u32) -> bool
     ensures known { IfSome (architecture_of machine)
@@ -78,8 +78,8 @@ pub extern "C" fn linker_utils_may_use_plt(machine: u16, r_type: u32) -> bool
     }
 }
 
-/// Whether the relocation with `r_type` has a type that one skipped after a rewrite has in files with
-/// `e_machine` `machine`. False where either is unknown.
+/// Whether the relocation with `r_type` has a type that one skipped after a rewrite has in files
+/// with `e_machine` `machine`. False where either is unknown.
 #[unsafe(no_mangle)]
 pub extern "C" fn linker_utils_may_be_skipped(machine: u16, r_type: u32) -> bool
     ensures known { IfSome (architecture_of machine)

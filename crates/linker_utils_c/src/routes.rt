@@ -96,8 +96,8 @@ fn put_route(found: Result<Route, RouteError>, route: &mut RouteNumbers) -> u32
     }
 }
 
-/// How the branch of the relocation at an index goes to its symbol, as `Target::route`. The first that
-/// applies of `UnknownArchitecture`; `TooShort`, where there is no relocation at the index;
+/// How the branch of the relocation at an index goes to its symbol, as `Target::route`. The first
+/// that applies of `UnknownArchitecture`; `TooShort`, where there is no relocation at the index;
 /// `NoSymbol`; `NotABranch`; `NoEntry`; `NoRoom`; and the errors of `linker_utils_relocate`.
 #[unsafe(no_mangle)]
 pub extern "C" fn linker_utils_route_at_nonnull(
@@ -152,8 +152,8 @@ fn route_at(
 }
 
 /// How the branch of the relocation at an index goes to the function whose address a word has, as
-/// `Target::route_by_word`. The first that applies of `UnknownArchitecture`; `TooShort`, where there is
-/// no relocation at the index; `NotABranch`; `NoRoom`.
+/// `Target::route_by_word`. The first that applies of `UnknownArchitecture`; `TooShort`, where
+/// there is no relocation at the index; `NotABranch`; `NoRoom`.
 #[unsafe(no_mangle)]
 pub extern "C" fn linker_utils_route_by_word_nonnull(
     machine: u16,

@@ -173,8 +173,8 @@ pub fn linker_utils_choose_nonnull(
     Status::Success.number()
 }
 
-/// Whether the relocation with `r_type` can be rewritten if each other one of its sequence can: with
-/// these facts and `group_fits`. False of a machine that isn't known.
+/// Whether the relocation with `r_type` can be rewritten if each other one of its sequence can:
+/// with these facts and `group_fits`. False of a machine that isn't known.
 pub fn linker_utils_relocation_fits_nonnull(
     machine: u16,
     r_type: u32,

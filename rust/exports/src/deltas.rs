@@ -3,7 +3,7 @@
 //!
 //! Deltas that `linker_utils_deltas_create` or `linker_utils_deltas_merge` wrote are valid: they
 //! list deletions. Each call is safe for any deltas, and returns one of the statuses that it names.
-//! What else it returns is promised of valid ones.
+//! The contract of what else it returns requires valid ones.
 
 use crate::status::Status;
 use linker_utils::relaxation::{AsDeletion, DeltaSlice, RelaxDelta, first_invalid};

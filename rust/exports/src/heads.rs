@@ -2,8 +2,9 @@
 //! Heads of the blocks of deltas, in arrays of the caller's. Searches in many deltas are faster
 //! with them.
 //!
-//! Each call is safe for any heads, and what it returns is promised of those that
-//! `linker_utils_deltas_heads` wrote of the same deltas, and of any that aren't as many as blocks.
+//! Each call is safe for any heads. The contract of what it returns requires those that
+//! `linker_utils_deltas_heads` wrote of the same deltas, or a number of them that isn't that of the
+//! blocks.
 
 use crate::status::Status;
 use linker_utils::relaxation::{BlockHead, DeltaSlice, RelaxDelta};

@@ -51,9 +51,9 @@ fn status_in(written: Result<(), StubError>) -> u32 {
 }
 
 /// Writes the header of a lazy PLT that stands at an address, of the `.got.plt` at `words`, to the
-/// beginning of `bytes`, as `LazyPlt::write_header`. The first that applies of `UnknownArchitecture`;
-/// `TooShort`; and where a field doesn't reach the error of the first such field, as
-/// `linker_utils_relocate`. Then `bytes` are unchanged.
+/// beginning of `bytes`, as `LazyPlt::write_header`. The first that applies of
+/// `UnknownArchitecture`; `TooShort`; and where a field doesn't reach the error of the first such
+/// field, as `linker_utils_relocate`. Then `bytes` are unchanged.
 pub fn linker_utils_write_lazy_header_nonnull(
     machine: u16,
     header: u64,
@@ -70,9 +70,9 @@ fn put_header(plt: &LazyPlt, header: u64, words: u64, bytes: &mut [u8]) -> u32 {
     status_in(plt.write_header(header, words, bytes))
 }
 
-/// Writes an entry of a lazy PLT to the beginning of `bytes`, as `LazyPlt::write_entry`. The first that
-/// applies of `UnknownArchitecture`; `TooShort`; and where a field doesn't reach the error of the first
-/// such field, as `linker_utils_relocate`. Then `bytes` are unchanged.
+/// Writes an entry of a lazy PLT to the beginning of `bytes`, as `LazyPlt::write_entry`. The first
+/// that applies of `UnknownArchitecture`; `TooShort`; and where a field doesn't reach the error of
+/// the first such field, as `linker_utils_relocate`. Then `bytes` are unchanged.
 pub fn linker_utils_write_lazy_entry_nonnull(
     machine: u16,
     entry: &LazyEntry,

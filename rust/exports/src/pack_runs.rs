@@ -69,12 +69,12 @@ pub fn linker_utils_has_its_instructions_nonnull(
 /// list. `items` are the run's items that lie in the section.
 ///
 /// The first that applies of `UnknownArchitecture`, where no section of the machine is packed;
-/// `EndsTooHigh`, where `base` and the section's length add up to 2^64 or more;
-/// `DifferentLengths`, where `packed` has not `linker_utils_packed_run_len` bytes; and of the first
-/// item that can't be written, whose index is `faulty`, the first that applies of `ItemsOverlap`, `ItemOutOfSection`, `DeletedOutside`,
-/// `NotItsFirstBytes`, `NotItsInstructions`, `NoShape` and `TargetOutOfReach`. `DeletedOutside` may
-/// also be of what is behind the last item, and `faulty` is how many there are then. `packed` is
-/// unchanged then. `faulty` changes only with a status that is about an item.
+/// `EndsTooHigh`, where `base` and the section's length add up to 2^64 or more; `DifferentLengths`,
+/// where `packed` has not `linker_utils_packed_run_len` bytes; and of the first item that can't be
+/// written, whose index is `faulty`, the first that applies of `ItemsOverlap`, `ItemOutOfSection`,
+/// `DeletedOutside`, `NotItsFirstBytes`, `NotItsInstructions`, `NoShape` and `TargetOutOfReach`.
+/// `DeletedOutside` may also be of what is behind the last item, and `faulty` is how many there are
+/// then. `packed` is unchanged then. `faulty` changes only with a status that is about an item.
 pub fn linker_utils_pack_run_nonnull(
     machine: u16,
     section: &[u8],

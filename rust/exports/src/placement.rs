@@ -110,14 +110,16 @@ fn is_short(stubs: usize, branches: usize) -> bool {
     stubs / 2 < branches
 }
 
-/// Places stubs at boundaries, as `place_stubs`: writes them to the beginning of `stubs` and how many
-/// there are to `stubs_used`; for each branch the index of the stub that it goes by, or the largest
-/// number; and for each boundary, and the end, how many bytes of stubs there are before those at it.
+/// Places stubs at boundaries, as `place_stubs`: writes them to the beginning of `stubs` and how
+/// many there are to `stubs_used`; for each branch the index of the stub that it goes by, or the
+/// largest number; and for each boundary, and the end, how many bytes of stubs there are before
+/// those at it.
 ///
-/// The first that applies of `DifferentLengths`, where `ways` has not an element for each branch, or
-/// `before` not one more than there are boundaries; `ShortMemory`, where `stubs` has fewer elements than
-/// `linker_utils_most_stubs` says; and the errors of `place_stubs`, with the index at fault in `faulty`:
-/// of a boundary, a branch or, where a stub doesn't reach it, a target. Nothing else is written then.
+/// The first that applies of `DifferentLengths`, where `ways` has not an element for each branch,
+/// or `before` not one more than there are boundaries; `ShortMemory`, where `stubs` has fewer
+/// elements than `linker_utils_most_stubs` says; and the errors of `place_stubs`, with the index at
+/// fault in `faulty`: of a boundary, a branch or, where a stub doesn't reach it, a target. Nothing
+/// else is written then.
 pub fn linker_utils_place_stubs_nonnull(
     branches: &[Branch],
     targets: &[u64],

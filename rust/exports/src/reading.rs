@@ -76,8 +76,9 @@ impl FieldValueNumbers {
 }
 
 /// What is known of the value of the relocation with `r_type` from the bytes that begin with its
-/// field, as `read` of `linker_reading` returns it. The first that applies of `UnknownArchitecture`;
-/// `UnknownRelocation`; `TooShort`, where there are fewer bytes than the field's; `HoldsNoValue`.
+/// field, as `read` of `linker_reading` returns it. The first that applies of
+/// `UnknownArchitecture`; `UnknownRelocation`; `TooShort`, where there are fewer bytes than the
+/// field's; `HoldsNoValue`.
 pub fn linker_utils_read_value_nonnull(
     machine: u16,
     r_type: u32,
@@ -189,8 +190,8 @@ fn put_whole(joined: Option<FieldValue>, whole: &mut FieldValueNumbers) -> u32 {
     }
 }
 
-/// What is known of an address from both halves of a pair, as `join` of `linker_reading` returns it.
-/// The first that applies of `BadFieldValue`, of either half, and `NotHalves`.
+/// What is known of an address from both halves of a pair, as `join` of `linker_reading` returns
+/// it. The first that applies of `BadFieldValue`, of either half, and `NotHalves`.
 pub fn linker_utils_join(
     high: &FieldValueNumbers,
     low: &FieldValueNumbers,

@@ -108,8 +108,8 @@ fn write_found(
 }
 
 /// Writes the window that `linker_utils_recognise` wants around the relocation with `r_type`, whose
-/// offset in the original bytes is given, as `window_of` of `linker_reading`. The first that applies of
-/// `UnknownArchitecture`; `WindowTooLong`.
+/// offset in the original bytes is given, as `window_of` of `linker_reading`. The first that
+/// applies of `UnknownArchitecture`; `WindowTooLong`.
 pub fn linker_utils_recognise_window_nonnull(
     machine: u16,
     r_type: u32,

@@ -198,10 +198,10 @@ pub fn linker_utils_write_uleb128_nonnull(dest: &mut [u8], value: u64) -> u32 {
     uleb_status_of(utils::write_uleb128(dest, value))
 }
 
-/// Writes what two relocations make of the ULEB128 number that `dest` begins with, in as many bytes,
-/// by the type of the first and the values of both. The first that applies of `UnknownArchitecture`;
-/// `UnknownRelocation`, where the type isn't that of a first one; `Uleb128Ended`;
-/// `Uleb128TooLarge`; `DoesNotFit`.
+/// Writes what two relocations make of the ULEB128 number that `dest` begins with, in as many
+/// bytes, by the type of the first and the values of both. The first that applies of
+/// `UnknownArchitecture`; `UnknownRelocation`, where the type isn't that of a first one;
+/// `Uleb128Ended`; `Uleb128TooLarge`; `DoesNotFit`.
 pub fn linker_utils_write_uleb128_pair_nonnull(
     machine: u16,
     r_type: u32,

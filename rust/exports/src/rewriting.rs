@@ -30,8 +30,8 @@ pub struct DecisionNumbers {
     /// `e_machine` of the rewrite's architecture.
     pub machine: u16,
     /// 0 where both stay as they are, 1 where the instruction is rewritten, 2 where the relocation
-    /// goes, since the rewrite at another one takes it along, 3 where the instruction is rewritten and
-    /// the relocation gets another symbol and addend.
+    /// goes, since the rewrite at another one takes it along, 3 where the instruction is rewritten
+    /// and the relocation gets another symbol and addend.
     pub fate: u8,
     /// The rewrite's count of bytes before the field; 0 if it has none.
     pub opcode_len: u8,
@@ -153,8 +153,8 @@ fn phase_of(number: u32) -> Option<Phase> {
     }
 }
 
-/// Whether an architecture has rewrites in a phase, as `has_rewrites` of `linker_rewriting`. False of
-/// a machine or a phase that isn't known.
+/// Whether an architecture has rewrites in a phase, as `has_rewrites` of `linker_rewriting`. False
+/// of a machine or a phase that isn't known.
 pub fn linker_utils_has_rewrites(machine: u16, phase: u32) -> bool {
     match (Architecture::from_machine(machine), phase_of(phase)) {
         (Some(architecture), Some(phase)) => has_rewrites(architecture, phase),
@@ -179,9 +179,9 @@ pub fn linker_utils_survey_nonnull(
     Status::Success.number()
 }
 
-/// Notes which groups of an object stay in a phase once addresses are known, by one of its sections,
-/// as `survey_placed_section` of `linker_rewriting`. The first that applies of `UnknownArchitecture`;
-/// `UnknownPhase`.
+/// Notes which groups of an object stay in a phase once addresses are known, by one of its
+/// sections, as `survey_placed_section` of `linker_rewriting`. The first that applies of
+/// `UnknownArchitecture`; `UnknownPhase`.
 pub fn linker_utils_survey_placed_section_nonnull(
     machine: u16,
     phase: u32,
@@ -233,9 +233,10 @@ fn put_error(error: RewritingError, faulty: &mut usize) -> u32 {
 /// relocations into those after it, as `rewrite_section` of `linker_rewriting`. What became of each
 /// relocation is in `decisions`, whose elements behind those of the relocations are unchanged.
 ///
-/// The first that applies of `UnknownArchitecture`; `ShortMemory`, where there are fewer decisions than
-/// relocations; and why it can't rewrite the relocation at `faulty`: `NotSurveyed` or `Overlaps`.
-/// Then the section and its relocations are unchanged, and the decisions below `faulty` are made.
+/// The first that applies of `UnknownArchitecture`; `ShortMemory`, where there are fewer decisions
+/// than relocations; and why it can't rewrite the relocation at `faulty`: `NotSurveyed` or
+/// `Overlaps`. Then the section and its relocations are unchanged, and the decisions below `faulty`
+/// are made.
 pub fn linker_utils_rewrite_section_nonnull(
     machine: u16,
     output: &OutputFacts,
@@ -263,15 +264,15 @@ pub fn linker_utils_rewrite_section_nonnull(
     }
 }
 
-/// Rewrites the instructions of a section of code in a phase, once addresses are known, and turns its
-/// relocations into those after it, as `rewrite_placed_section` of `linker_rewriting`. What became of
-/// each relocation is in `decisions`, and what is to be deleted in the first `deleted_used` elements of
-/// `deleted`; the elements behind these are unchanged.
+/// Rewrites the instructions of a section of code in a phase, once addresses are known, and turns
+/// its relocations into those after it, as `rewrite_placed_section` of `linker_rewriting`. What
+/// became of each relocation is in `decisions`, and what is to be deleted in the first
+/// `deleted_used` elements of `deleted`; the elements behind these are unchanged.
 ///
 /// The first that applies of `UnknownArchitecture`; `UnknownPhase`; `ShortMemory`, where there are
-/// fewer decisions than relocations; why it can't rewrite the relocation at `faulty`, `NotSurveyed` or
-/// `Overlaps`; and `ShortMemory`, where there are fewer elements of `deleted` than deletions. Then the
-/// section, its relocations and `deleted_used` are unchanged.
+/// fewer decisions than relocations; why it can't rewrite the relocation at `faulty`, `NotSurveyed`
+/// or `Overlaps`; and `ShortMemory`, where there are fewer elements of `deleted` than deletions.
+/// Then the section, its relocations and `deleted_used` are unchanged.
 pub fn linker_utils_rewrite_placed_section_nonnull(
     machine: u16,
     phase: u32,
@@ -348,13 +349,14 @@ pub fn linker_utils_survey_address_loads_nonnull(
 
 /// Has the instructions of a section of code compute the addresses that they load from words of an
 /// object's section of addresses, and turns their relocations into those after it, as
-/// `rewrite_address_loads` of `linker_rewriting`. What became of each relocation is in `decisions`, whose
-/// elements behind those of the relocations are unchanged. The types of loads are those of which
-/// `linker_utils_entry_relocation` says another one.
+/// `rewrite_address_loads` of `linker_rewriting`. What became of each relocation is in `decisions`,
+/// whose elements behind those of the relocations are unchanged. The types of loads are those of
+/// which `linker_utils_entry_relocation` says another one.
 ///
-/// The first that applies of `UnknownArchitecture`; `ShortMemory`, where there are fewer decisions than
-/// relocations; and why it can't rewrite the relocation at `faulty`: `NotSurveyed` or `Overlaps`.
-/// Then the section and its relocations are unchanged, and the decisions below `faulty` are made.
+/// The first that applies of `UnknownArchitecture`; `ShortMemory`, where there are fewer decisions
+/// than relocations; and why it can't rewrite the relocation at `faulty`: `NotSurveyed` or
+/// `Overlaps`. Then the section and its relocations are unchanged, and the decisions below `faulty`
+/// are made.
 pub fn linker_utils_rewrite_address_loads_nonnull(
     machine: u16,
     output: &OutputFacts,

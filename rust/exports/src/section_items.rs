@@ -23,8 +23,8 @@ pub struct Rela {
     pub r_type: u32,
     /// Whether it has a symbol: `r_sym` isn't 0.
     pub has_symbol: u8,
-    /// Whether `target` counts. 0 where what it refers to isn't in the run, where bytes between S and
-    /// S + A may be deleted, or where the instructions are to stay as they are.
+    /// Whether `target` counts. 0 where what it refers to isn't in the run, where bytes between S
+    /// and S + A may be deleted, or where the instructions are to stay as they are.
     pub has_target: u8,
     /// Whether the code there may use instructions of RISC-V's C extension: its object's `e_flags`
     /// have `EF_RISCV_RVC`.
@@ -50,14 +50,14 @@ impl AsRelocation for Rela {
 }
 
 /// Writes the items that the relocations of a section of a machine make, as `section_items`, and to
-/// `makers` the index of the relocation that makes each. The section begins at the input offset `base`
-/// of the run.
+/// `makers` the index of the relocation that makes each. The section begins at the input offset
+/// `base` of the run.
 ///
-/// `items` and `makers` have as many elements as there are relocations, since each makes one item at
-/// most. `len` is how many items there are, and the elements from there on are unchanged. The first that
-/// applies of `UnknownArchitecture`, where no code of the machine becomes shorter; `DifferentLengths`;
-/// `EndsTooHigh`, where `base` and the section's length add up to 2^64 or more; and
-/// `MalformedRelocation`, of the relocation at `faulty`. Nothing is written then.
+/// `items` and `makers` have as many elements as there are relocations, since each makes one item
+/// at most. `len` is how many items there are, and the elements from there on are unchanged. The
+/// first that applies of `UnknownArchitecture`, where no code of the machine becomes shorter;
+/// `DifferentLengths`; `EndsTooHigh`, where `base` and the section's length add up to 2^64 or more;
+/// and `MalformedRelocation`, of the relocation at `faulty`. Nothing is written then.
 pub fn linker_utils_section_items_nonnull(
     machine: u16,
     section: &[u8],
@@ -98,12 +98,13 @@ fn has_both(len: usize, first: usize, second: usize) -> bool {
 /// Writes the items of a section of a machine that was rewritten, as `rewritten_items_into`, and to
 /// `makers` what makes each. The section begins at the input offset `base` of the run.
 ///
-/// `items` and `makers` have as many elements as there are relocations and deletions. `len` is how many
-/// items there are, and the elements from there on are unchanged. The first that applies of
+/// `items` and `makers` have as many elements as there are relocations and deletions. `len` is how
+/// many items there are, and the elements from there on are unchanged. The first that applies of
 /// `UnknownArchitecture`, where no code of the machine becomes shorter; `DifferentLengths`;
-/// `EndsTooHigh`, where `base` and the section's length add up to 2^64 or more; `MalformedRelocation`,
-/// of the relocation at `faulty`; and `InvalidDeletions`, of the deletion at `faulty`. Nothing is written
-/// then. Last `ItemsOverlap`, of the relocation at `faulty`: `items` and `makers` may then be written.
+/// `EndsTooHigh`, where `base` and the section's length add up to 2^64 or more;
+/// `MalformedRelocation`, of the relocation at `faulty`; and `InvalidDeletions`, of the deletion at
+/// `faulty`. Nothing is written then. Last `ItemsOverlap`, of the relocation at `faulty`: `items`
+/// and `makers` may then be written.
 pub fn linker_utils_rewritten_items_nonnull(
     machine: u16,
     section: &[u8],

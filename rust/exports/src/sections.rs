@@ -135,8 +135,8 @@ pub(crate) fn status_of_error(error: RelocationError) -> u32 {
     }
 }
 
-/// Writes the values of a section's relocations, as `relocate_section`, or none of them. The first that
-/// applies of `UnknownArchitecture`; `ShortMemory`, where `memory` has fewer elements than
+/// Writes the values of a section's relocations, as `relocate_section`, or none of them. The first
+/// that applies of `UnknownArchitecture`; `ShortMemory`, where `memory` has fewer elements than
 /// `linker_utils_relocate_memory`; and why the relocation at `faulty` can't be written.
 pub fn linker_utils_relocate_section_nonnull(
     machine: u16,

@@ -31,8 +31,8 @@ pub enum Status {
     OddDistance = 12,
     /// The distance is out of the range of `jal`.
     TooFar,
-    /// The deletions do not strictly ascend, one reaches past the next, or one ends past 2^64 - 1 or
-    /// past the section.
+    /// The deletions do not strictly ascend, one reaches past the next, or one ends past 2^64 - 1
+    /// or past the section.
     InvalidDeletions,
     /// Two deletions overlap or begin at one offset, or one ends past 2^64 - 1.
     NotMergeable,
@@ -94,8 +94,8 @@ pub enum Status {
     /// The address behind the nops is not a multiple of the run's granularity, and the alignment
     /// may keep other nops in other layouts.
     UnevenEnd,
-    /// The alignment has a limit, and there are fewer nops than it less the granularity, and fewer than may
-    /// stay.
+    /// The alignment has a limit, and there are fewer nops than it less the granularity, and fewer
+    /// than may stay.
     TooFewNops,
     /// The alignment has a limit, and its nops are not a multiple of the run's granularity.
     UnevenNops,
@@ -160,8 +160,8 @@ pub enum Status {
     StubWithoutLength,
     /// The index of the branch's target is not in the table.
     NoTarget,
-    /// An offset is not below 2^62, or the bytes of two stubs for each branch and one more, with a unit
-    /// for each boundary, are not.
+    /// An offset is not below 2^62, or the bytes of two stubs for each branch and one more, with a
+    /// unit for each boundary, are not.
     CodeTooLong,
     /// The branch reaches neither its target nor a boundary for a stub.
     NoBoundary,

@@ -16,8 +16,8 @@ pub struct FlagRules {
 
 impl Target {
     /// `e_flags` of two objects that are linked, from those of each. None where the psABI keeps the
-    /// two apart, or where one of them has a bit that the psABI doesn't define. The order of objects
-    /// doesn't matter.
+    /// two apart, or where one of them has a bit that the psABI doesn't define. The order of
+    /// objects doesn't matter.
     ///
     /// ```
     /// use linker_utils::output::Target;

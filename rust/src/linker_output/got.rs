@@ -147,8 +147,8 @@ impl Target {
         got.wrapping_add(self.got.bias)
     }
 
-    /// The first word of the GOT, if it isn't an entry, by the GOT's address and that of `_DYNAMIC`,
-    /// 0 where there is none.
+    /// The first word of the GOT, if it isn't an entry, by the GOT's address and that of
+    /// `_DYNAMIC`, 0 where there is none.
     ///
     /// ```
     /// use linker_utils::output::Target;

@@ -47,8 +47,9 @@ pub struct RunWord {
     pub step: u32,
 }
 
-/// Functions that compilers call and linkers provide, which save or restore registers: one run of code,
-/// whose function with a number n begins 4 * `spacing` * (n - `first`) bytes behind the run's start.
+/// Functions that compilers call and linkers provide, which save or restore registers: one run of
+/// code, whose function with a number n begins 4 * `spacing` * (n - `first`) bytes behind the run's
+/// start.
 #[derive(Debug, Clone, Copy, PartialEq, Eq)]
 pub struct ProvidedRun {
     /// The functions' names without the number, which stands behind it in decimal.
@@ -73,7 +74,8 @@ fn stepped(word: u32, step: u32, function: u64) -> u32 {
 }
 
 impl ProvidedRun {
-    /// How many instructions of 4 bytes there are from the beginning of a function to that of the next.
+    /// How many instructions of 4 bytes there are from the beginning of a function to that of the
+    /// next.
     #[must_use]
     pub fn spacing(&self) -> u64 {
         match self.second {

@@ -1,10 +1,10 @@
 // Made by tools/erase of crates/linker_output/src/lazy_plt.rt.
-//! A lazy PLT: entries through which calls go to functions of other outputs, and a header through which
-//! the first call of each goes to the dynamic linker.
+//! A lazy PLT: entries through which calls go to functions of other outputs, and a header through
+//! which the first call of each goes to the dynamic linker.
 //!
-//! An entry jumps to the address that its word of `.got.plt` has. Before the dynamic linker has looked up
-//! the function, that word leads on to the header, which jumps to the dynamic linker's resolver. Its
-//! address is in a word at the begin of `.got.plt`, where the dynamic linker puts it.
+//! An entry jumps to the address that its word of `.got.plt` has. Before the dynamic linker has
+//! looked up the function, that word leads on to the header, which jumps to the dynamic linker's
+//! resolver. Its address is in a word at the begin of `.got.plt`, where the dynamic linker puts it.
 
 use crate::linker_output::lazy_plts;
 use crate::linker_output::stubs::{StubError, StubField, write_field};
@@ -74,8 +74,9 @@ pub struct LazyPlt {
     pub entry: &'static [LazyPiece],
     /// The first words of `.got.plt`, before those of the entries.
     pub header_words: &'static [LazyWord],
-    /// The word of an entry. PowerPC64's the dynamic linker puts there itself, from `DT_PPC64_GLINK`,
-    /// which is 32 below the first entry: in an output its section has no contents.
+    /// The word of an entry. PowerPC64's the dynamic linker puts there itself, from
+    /// `DT_PPC64_GLINK`, which is 32 below the first entry: in an output its section has no
+    /// contents.
     pub word: LazyWord,
 }
 

@@ -1,8 +1,8 @@
 // Made by tools/erase of crates/linker_output/src/placement.rt.
 //! Places of stubs between sections, so that each branch reaches its target or a stub of it.
 //!
-//! Offsets are input offsets of a run of sections, or their addresses before there are stubs.
-//! Stubs stand at boundaries between sections, and move all that stands behind them. Of the stubs at a
+//! Offsets are input offsets of a run of sections, or their addresses before there are stubs. Stubs
+//! stand at boundaries between sections, and move all that stands behind them. Of the stubs at a
 //! boundary the first are those of branches before it that no other boundary is nearer to, the last
 //! those of such branches behind it, and those in between serve branches farther away. So a stub of
 //! the nearest boundary stays where it is as seen from its branch, however many stubs are added.
@@ -54,7 +54,8 @@ pub struct Code<'a> {
     pub branches: &'a [Branch],
     /// The offsets of the targets.
     pub targets: &'a [u64],
-    /// The offsets at which stubs may stand, which ascend. What has such an offset is behind the stubs.
+    /// The offsets at which stubs may stand, which ascend. What has such an offset is behind the
+    /// stubs.
     pub boundaries: &'a [u64],
     /// What each stub is like.
     pub shape: StubShape,
@@ -115,7 +116,8 @@ pub struct Layout {
     pub places: Vec<u64>,
     /// How many stubs there are at each boundary.
     pub groups: Vec<Group>,
-    /// How many bytes of stubs there are before those at each boundary, and at the end how many in all.
+    /// How many bytes of stubs there are before those at each boundary, and at the end how many in
+    /// all.
     pub before: Vec<u64>,
 }
 
@@ -142,8 +144,8 @@ pub enum PlaceError {
     /// An offset isn't below 2^62, or the bytes of two stubs for each branch and one more, with a
     /// unit for each boundary.
     TooLong,
-    /// The branch at an index reaches neither its target nor a boundary, in the layout with the stubs
-    /// that were added before.
+    /// The branch at an index reaches neither its target nor a boundary, in the layout with the
+    /// stubs that were added before.
     NoBoundary(usize, Layout),
     /// The stub at an index of the layout doesn't reach its target.
     StubTooFar(usize, Layout),
@@ -170,8 +172,8 @@ struct State {
 /// What offsets and the bytes of stubs are below.
 const LIMIT: u64 = 1 << 62;
 
-/// How many passes there are at most before branches go by stubs that they may not need. Code has a few:
-/// each adds the stubs that are needed for those of the pass before.
+/// How many passes there are at most before branches go by stubs that they may not need. Code has a
+/// few: each adds the stubs that are needed for those of the pass before.
 const MOST_PASSES: u32 = 32;
 
 /// What became of a branch in a sweep.
@@ -239,14 +241,14 @@ fn zeros(len: usize) -> Result<Vec<u64>, OutOfMemory> {
     Ok(try_vec![0; len + 1]?)
 }
 
-/// Places stubs at boundaries, so that each branch reaches its target or a stub of it, and returns the
-/// layout and by which stub each branch goes. An error that is about a layout has it.
+/// Places stubs at boundaries, so that each branch reaches its target or a stub of it, and returns
+/// the layout and by which stub each branch goes. An error that is about a layout has it.
 ///
-/// A branch that doesn't reach its target shares the stub of it that was placed last, if that is in reach.
-/// Else a stub is placed for it within half of its reach ahead, or at the boundary next to it. Offsets
-/// move by the stubs before them, so that this is done again until each branch is in reach. A pass takes
-/// O((n + s) log b) for n branches, s stubs and b boundaries, and there are a few. Only where no new
-/// stub next to a branch is in its reach are all stubs searched.
+/// A branch that doesn't reach its target shares the stub of it that was placed last, if that is in
+/// reach. Else a stub is placed for it within half of its reach ahead, or at the boundary next to
+/// it. Offsets move by the stubs before them, so that this is done again until each branch is in
+/// reach. A pass takes O((n + s) log b) for n branches, s stubs and b boundaries, and there are a
+/// few. Only where no new stub next to a branch is in its reach are all stubs searched.
 ///
 /// It allocates arrays of as many elements as there are branches, targets, boundaries and stubs.
 ///

@@ -50,8 +50,8 @@ pub struct Stub {
     pub second: Option<StubField>,
     /// The code behind the pair.
     pub tail: &'static [u8],
-    /// The offset at which a call enters. PowerPC64's calls whose `nop` becomes `ld 2,24(1)` enter at
-    /// 0, where the stub stores the TOC pointer.
+    /// The offset at which a call enters. PowerPC64's calls whose `nop` becomes `ld 2,24(1)` enter
+    /// at 0, where the stub stores the TOC pointer.
     pub entry: u64,
     /// The offset of the address that the fields' values are relative to.
     pub origin: u64,
@@ -59,7 +59,8 @@ pub struct Stub {
     pub addend: i64,
 }
 
-/// A field at an offset, with the value of a relocation, from the first bound up and below the second.
+/// A field at an offset, with the value of a relocation, from the first bound up and below the
+/// second.
 macro_rules! field {
     ($offset:literal, $relocation:literal) => {
         StubField {
@@ -156,12 +157,12 @@ impl Target {
         }
     }
 
-    /// Writes the stub of a kind that stands at an address: to the word at `target` (`Load`) or to the
-    /// address `target` (`Jump`). Bytes behind the stub are left, and with an error all are.
+    /// Writes the stub of a kind that stands at an address: to the word at `target` (`Load`) or to
+    /// the address `target` (`Jump`). Bytes behind the stub are left, and with an error all are.
     ///
     /// What a call changes on its way through a stub are registers that a function may change, in
-    /// which no argument is: x16 and x17 of AArch64, t3 of RISC-V and LoongArch, and r0, r12 and ctr
-    /// of PowerPC64, whose r12 has the target's address.
+    /// which no argument is: x16 and x17 of AArch64, t3 of RISC-V and LoongArch, and r0, r12 and
+    /// ctr of PowerPC64, whose r12 has the target's address.
     ///
     /// ```
     /// use linker_utils::output::StubKind;

@@ -27,8 +27,8 @@ fn changes_toc(symbols: &[SymbolFacts], symbol: u32) -> bool {
     }
 }
 
-/// Whether a relocation of AArch64 is of a branch that is no `nop`: only one to what is undefined and
-/// weak becomes one.
+/// Whether a relocation of AArch64 is of a branch that is no `nop`: only one to what is undefined
+/// and weak becomes one.
 #[inline(always)]
 fn aarch64_keeps(symbols: &[SymbolFacts], relocation: &Rela) -> bool {
     let is_call = relocation.code == AArch64Relocation::R_AARCH64_CALL26.elf_code();

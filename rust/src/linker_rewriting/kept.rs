@@ -1,5 +1,6 @@
 // Made by tools/erase of crates/linker_rewriting/src/kept.rt.
-//! What choices of rewrites read of symbols, kept until values are written: then the same has to hold.
+//! What choices of rewrites read of symbols, kept until values are written: then the same has to
+//! hold.
 
 use crate::linker_rewriting::facts::{OutputFacts, SymbolFacts};
 use crate::linker_rewriting::relocations::relocation_in;
@@ -54,8 +55,8 @@ fn kept_facts(output: &OutputFacts, symbol: &SymbolFacts) -> KeptFacts {
 }
 
 /// Keeps what choices read of an object's symbols and of the output. A linker calls this when it
-/// chooses rewrites, with the facts that it passes to `survey` and `rewrite_section`, and passes what
-/// is kept to `relocate_rewritten_section`.
+/// chooses rewrites, with the facts that it passes to `survey` and `rewrite_section`, and passes
+/// what is kept to `relocate_rewritten_section`.
 ///
 /// # Requires
 ///
@@ -84,9 +85,9 @@ fn is_as_kept(
     }
 }
 
-/// The index of the first relocation of whose symbol other facts hold than those that are kept; none
-/// where all are the same. A relocation that a rewrite took along counts too: the facts of its symbol
-/// were read.
+/// The index of the first relocation of whose symbol other facts hold than those that are kept;
+/// none where all are the same. A relocation that a rewrite took along counts too: the facts of its
+/// symbol were read.
 #[must_use]
 pub fn first_changed(
     output: &OutputFacts,
@@ -102,17 +103,17 @@ pub fn first_changed(
     None
 }
 
-/// Writes the values of a section whose instructions were rewritten, as `relocate_section` does, where
-/// choices would still read the same facts: `facts` and `output` are those that hold now, and `kept`
-/// those of `keep_facts` when rewrites were chosen. So a symbol that was bound then and isn't any more
-/// doesn't get code that bypasses its GOT entry. A relocation that needs an entry which the linker
-/// hasn't made is an error of `relocate_section` (`NoEntry`).
+/// Writes the values of a section whose instructions were rewritten, as `relocate_section` does,
+/// where choices would still read the same facts: `facts` and `output` are those that hold now, and
+/// `kept` those of `keep_facts` when rewrites were chosen. So a symbol that was bound then and
+/// isn't any more doesn't get code that bypasses its GOT entry. A relocation that needs an entry
+/// which the linker hasn't made is an error of `relocate_section` (`NoEntry`).
 ///
 /// # Errors
 ///
-/// The section is as before. `Changed`: of a symbol other facts hold than are kept, or none are kept;
-/// with the index of the first such relocation. `Section`: all facts are as kept, and a value isn't
-/// written.
+/// The section is as before. `Changed`: of a symbol other facts hold than are kept, or none are
+/// kept; with the index of the first such relocation. `Section`: all facts are as kept, and a value
+/// isn't written.
 ///
 /// ```
 /// use linker_utils::rewriting::{OutputFacts, SymbolFacts};

@@ -4,8 +4,8 @@
 use crate::linker_base::rewrite::overwrite;
 use crate::linker_section::relocations::{RELA_LEN, Rela, relocation_at};
 
-/// The relocation with an index below `relocations_len`. Its bounds are tested once: the compiler sees
-/// that its bytes are in the slice.
+/// The relocation with an index below `relocations_len`. Its bounds are tested once: the compiler
+/// sees that its bytes are in the slice.
 #[inline(always)]
 pub(crate) fn relocation_in(relocations: &[u8], index: usize) -> Rela {
     let start = index * RELA_LEN;

@@ -61,22 +61,23 @@ fn make_changes<D: AsDecision>(
 /// turns its relocations into those after it. It decides by all of the section's bytes before it
 /// rewrites one.
 ///
-/// An instruction whose relocation is `Scope::Alone` is rewritten where it can be. Those of a group are
-/// all rewritten, or none is where the group stays by `kept`, which `survey` made of all sections of
-/// code of the object with the same facts. A relocation that a rewrite takes along gets the type 0, so
-/// that indexes stay. A relocation of a symbol that isn't in the table isn't rewritten.
+/// An instruction whose relocation is `Scope::Alone` is rewritten where it can be. Those of a group
+/// are all rewritten, or none is where the group stays by `kept`, which `survey` made of all
+/// sections of code of the object with the same facts. A relocation that a rewrite takes along gets
+/// the type 0, so that indexes stay. A relocation of a symbol that isn't in the table isn't
+/// rewritten.
 ///
 /// What became of each relocation is in `decisions`, which needs room for each of them. Nothing is
-/// deleted. Since no address is known, a value after a rewrite may turn out to be out of reach. What
-/// this call doesn't rewrite, a linker may rewrite by `choose`.
+/// deleted. Since no address is known, a value after a rewrite may turn out to be out of reach.
+/// What this call doesn't rewrite, a linker may rewrite by `choose`.
 ///
 /// # Errors
 ///
 /// The section and its relocations are as before. `TooShort`: there are more relocations than
-/// `decisions`. `NotSurveyed`: a relocation of a group that doesn't stay has no rewrite; it never comes
-/// where the section was surveyed into the table with the same facts. `Overlaps`:
-/// the bytes of two rewrites overlap, or those of the second lie below those of the first, so the
-/// relocations of instructions that can be rewritten have to ascend by offset.
+/// `decisions`. `NotSurveyed`: a relocation of a group that doesn't stay has no rewrite; it never
+/// comes where the section was surveyed into the table with the same facts. `Overlaps`: the bytes
+/// of two rewrites overlap, or those of the second lie below those of the first, so the relocations
+/// of instructions that can be rewritten have to ascend by offset.
 ///
 /// ```
 /// use linker_utils::rewriting::Decision;
@@ -136,8 +137,8 @@ pub fn rewrite_section<D: AsDecision>(
     }
 }
 
-/// Lists what decisions delete, in the caller's memory. Returns how many there are; none where there
-/// is less room.
+/// Lists what decisions delete, in the caller's memory. Returns how many there are; none where
+/// there is less room.
 fn list_deletions<D: AsDecision, L: FromDeletion>(
     relocations: &[u8],
     decisions: &[D],
@@ -172,21 +173,22 @@ fn list_changes<D: AsDecision, L: FromDeletion>(
     }
 }
 
-/// Rewrites the instructions of a section of code in a phase, once addresses are known, and turns its
-/// relocations into those after it, as `rewrite_section` does before. What is in the way of a group, as
-/// a distance out of reach or a missing mark, keeps all of it, by the table that
-/// `survey_placed_section` made of all sections of code of the object for the phase with the same facts
-/// and addresses.
+/// Rewrites the instructions of a section of code in a phase, once addresses are known, and turns
+/// its relocations into those after it, as `rewrite_section` does before. What is in the way of a
+/// group, as a distance out of reach or a missing mark, keeps all of it, by the table that
+/// `survey_placed_section` made of all sections of code of the object for the phase with the same
+/// facts and addresses.
 ///
-/// `symbols` and `values` both have an object's symbols at the indexes that its relocations name. Each
-/// address has to be that by which values are written later, or differ from it by less than the reach
-/// that is left: a linker that deletes bytes afterwards makes distances shorter, never longer.
+/// `symbols` and `values` both have an object's symbols at the indexes that its relocations name.
+/// Each address has to be that by which values are written later, or differ from it by less than
+/// the reach that is left: a linker that deletes bytes afterwards makes distances shorter, never
+/// longer.
 ///
 /// Bytes that are to be deleted are listed in `deleted` by their offset in the section and how many
-/// they are, ascending, as `SectionRelaxDeltas::new` of `linker_base::relaxation` takes them. They are
-/// in the section, apart from each other and from all that is rewritten, and still there.
-/// `Phase::ThreadOffsets` alone has any. Returns how many there are. A relocation that goes, with its
-/// instruction or without, gets the type 0.
+/// they are, ascending, as `SectionRelaxDeltas::new` of `linker_base::relaxation` takes them. They
+/// are in the section, apart from each other and from all that is rewritten, and still there.
+/// `Phase::ThreadOffsets` alone has any. Returns how many there are. A relocation that goes, with
+/// its instruction or without, gets the type 0.
 ///
 /// - `ThreadOffsets`: where an offset from the thread pointer has 12 bits, RISC-V's and LoongArch's
 ///   `lui` and `add` of it are deleted, and loads and stores are over the thread pointer; where it has

@@ -93,8 +93,8 @@ fn is_aarch64_part(
     is_part(name.elf_code(), offset, distance, relocation, part)
 }
 
-/// Whether the relocations from an index on are those of a TLS descriptor that begins at an offset, of
-/// the symbol and the addend of a relocation.
+/// Whether the relocations from an index on are those of a TLS descriptor that begins at an offset,
+/// of the symbol and the addend of a relocation.
 fn is_descriptor(relocations: &[u8], first: usize, offset: u64, relocation: &Rela) -> bool {
     is_aarch64_part(
         AArch64Relocation::R_AARCH64_TLSDESC_ADR_PAGE21,
@@ -123,8 +123,8 @@ fn is_descriptor(relocations: &[u8], first: usize, offset: u64, relocation: &Rel
     )
 }
 
-/// Whether the relocations from an index on are a pair with these names at an offset, of the symbol of a
-/// relocation and without an addend.
+/// Whether the relocations from an index on are a pair with these names at an offset, of the symbol
+/// of a relocation and without an addend.
 fn is_pair(
     high: AArch64Relocation,
     low: AArch64Relocation,
@@ -216,8 +216,8 @@ fn place_in_load(name: LoongArch64Relocation) -> Option<usize> {
     }
 }
 
-/// Whether a relocation is so many bytes behind an offset, has a name of LoongArch, and is of the symbol
-/// and the addend of another one.
+/// Whether a relocation is so many bytes behind an offset, has a name of LoongArch, and is of the
+/// symbol and the addend of another one.
 #[inline(always)]
 fn is_loongarch_part(
     name: LoongArch64Relocation,
@@ -229,8 +229,8 @@ fn is_loongarch_part(
     is_part(name.elf_code(), offset, distance, relocation, part)
 }
 
-/// Whether the relocations from an index on are those of a load from LoongArch's GOT at an offset, each
-/// with its mark behind it.
+/// Whether the relocations from an index on are those of a load from LoongArch's GOT at an offset,
+/// each with its mark behind it.
 fn is_marked_load(relocations: &[u8], first: usize, offset: u64, relocation: &Rela) -> bool {
     let mark = mark_code(Architecture::LoongArch64);
     is_loongarch_part(
@@ -250,7 +250,8 @@ fn is_marked_load(relocations: &[u8], first: usize, offset: u64, relocation: &Re
         && is_mark_of(mark, offset, 4, relocation_at(relocations, first + 3))
 }
 
-/// Whether a relocation with an index, at a place of a load from LoongArch's GOT, is among all of it.
+/// Whether a relocation with an index, at a place of a load from LoongArch's GOT, is among all of
+/// it.
 fn is_load_at(relocations: &[u8], index: usize, relocation: &Rela, place: Option<usize>) -> bool {
     let Some(place) = place else {
         return true;
@@ -270,8 +271,8 @@ fn is_load_at(relocations: &[u8], index: usize, relocation: &Rela, place: Option
     )
 }
 
-/// Whether a relocation with an index is of no sequence whose relocations are next to each other, or
-/// all of its sequence are.
+/// Whether a relocation with an index is of no sequence whose relocations are next to each other,
+/// or all of its sequence are.
 #[inline(always)]
 pub(crate) fn is_whole(
     architecture: Architecture,

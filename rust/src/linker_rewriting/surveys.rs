@@ -165,8 +165,8 @@ fn keeps_none(
     !asked && !asks_for_mark(architecture, phase, symbols, &relocation)
 }
 
-/// The index of the first relocation from an index on that may keep a group, or how many relocations
-/// there are.
+/// The index of the first relocation from an index on that may keep a group, or how many
+/// relocations there are.
 fn next_keeping(
     architecture: Architecture,
     phase: Phase,
@@ -282,10 +282,10 @@ pub fn survey(
 }
 
 /// Notes which groups of an object stay in a phase once addresses are known, by a section, as
-/// `survey` does before. `rewrite_placed_section` rewrites all of a group or none by these notes, so
-/// survey each section of code of an object before one of them is rewritten in the phase, with one
-/// table for the object and the phase. A group stays too where a table has no entry for its symbol.
-/// Relocations of a label of RISC-V aren't surveyed: all of a label are in one section.
+/// `survey` does before. `rewrite_placed_section` rewrites all of a group or none by these notes,
+/// so survey each section of code of an object before one of them is rewritten in the phase, with
+/// one table for the object and the phase. A group stays too where a table has no entry for its
+/// symbol. Relocations of a label of RISC-V aren't surveyed: all of a label are in one section.
 ///
 /// `symbols` and `values` both have an object's symbols at the indexes that its relocations name.
 ///

@@ -1,7 +1,7 @@
 // Made by tools/erase of crates/linker_rewriting/src/words.rt.
-//! Instructions that load addresses from the words of a section, as from those of PowerPC64's `.toc`.
-//! Nothing changes such a word, so that once addresses are known the instructions may compute its
-//! address: all that load it, or none.
+//! Instructions that load addresses from the words of a section, as from those of PowerPC64's
+//! `.toc`. Nothing changes such a word, so that once addresses are known the instructions may
+//! compute its address: all that load it, or none.
 
 use crate::linker_rewriting::candidates::candidate_by;
 use crate::linker_rewriting::decisions::{AsDecision, Decision, RewritingError, Subject, end_behind, span_of};
@@ -59,7 +59,8 @@ fn word_offset(
     }
 }
 
-/// What a relocation loads: the code for an entry of the GOT, and the index of the word's relocation.
+/// What a relocation loads: the code for an entry of the GOT, and the index of the word's
+/// relocation.
 fn load_of(
     architecture: Architecture,
     phase: Phase,
@@ -195,18 +196,19 @@ fn keeping_word(
     }
 }
 
-/// Notes which words of an object's section of addresses stay, since a relocation of this section of
-/// code is of an instruction that loads one and can't compute its address: it is none that the rewrite is
-/// meant for, the address may be of another file or in another place each time, or it is out of reach.
-/// `rewrite_address_loads` rewrites all loads of a word or none by these notes, so survey each section of
-/// code of the object before one of them is rewritten, with one table for the section of addresses, all of
-/// whose elements are false at first. What stays there already stays. A word without an element stays.
+/// Notes which words of an object's section of addresses stay, since a relocation of this section
+/// of code is of an instruction that loads one and can't compute its address: it is none that the
+/// rewrite is meant for, the address may be of another file or in another place each time, or it is
+/// out of reach. `rewrite_address_loads` rewrites all loads of a word or none by these notes, so
+/// survey each section of code of the object before one of them is rewritten, with one table for
+/// the section of addresses, all of whose elements are false at first. What stays there already
+/// stays. A word without an element stays.
 ///
-/// `words` are the relocations of the section of addresses, as `linker_output`'s description names it,
-/// and have to ascend by offset; `kept` has an element for each. `words_start` is its address. A
-/// relocation is of a word where it refers to its address, whichever its symbol. `symbols` and `values`
-/// both have an object's symbols at the indexes that its relocations name. Only PowerPC64 has such a
-/// section: of other architectures nothing is noted.
+/// `words` are the relocations of the section of addresses, as `linker_output`'s description names
+/// it, and have to ascend by offset; `kept` has an element for each. `words_start` is its address.
+/// A relocation is of a word where it refers to its address, whichever its symbol. `symbols` and
+/// `values` both have an object's symbols at the indexes that its relocations name. Only PowerPC64
+/// has such a section: of other architectures nothing is noted.
 ///
 /// ```
 /// use linker_utils::rewriting::{OutputFacts, SymbolFacts};
@@ -381,21 +383,22 @@ fn decide_loads<D: AsDecision>(
     Ok(())
 }
 
-/// Has the instructions of a section of code compute the addresses that they load from the words of an
-/// object's section of addresses, and turns their relocations into those after it, once addresses are
-/// known. They are then of the symbol and the addend of the word's relocation (`Decision::Redirected`).
-/// All loads of a word are rewritten, or none is where the word stays by `kept`, which
-/// `survey_address_loads` made of all sections of code of the object with the same facts, addresses and
-/// `words`. It decides by all of the section's bytes before it rewrites one.
+/// Has the instructions of a section of code compute the addresses that they load from the words of
+/// an object's section of addresses, and turns their relocations into those after it, once
+/// addresses are known. They are then of the symbol and the addend of the word's relocation
+/// (`Decision::Redirected`). All loads of a word are rewritten, or none is where the word stays by
+/// `kept`, which `survey_address_loads` made of all sections of code of the object with the same
+/// facts, addresses and `words`. It decides by all of the section's bytes before it rewrites one.
 ///
-/// What became of each relocation is in `decisions`, which needs room for each of them. Nothing is deleted.
+/// What became of each relocation is in `decisions`, which needs room for each of them. Nothing is
+/// deleted.
 ///
 /// # Errors
 ///
 /// The section and its relocations are as before. `TooShort`: there are more relocations than
-/// `decisions`. `NotSurveyed`: a load of a word that doesn't stay can't be rewritten; it never comes where
-/// the section was surveyed into the table with the same facts. `Overlaps`: the bytes of two rewrites
-/// overlap, or those of the second lie below those of the first.
+/// `decisions`. `NotSurveyed`: a load of a word that doesn't stay can't be rewritten; it never
+/// comes where the section was surveyed into the table with the same facts. `Overlaps`: the bytes
+/// of two rewrites overlap, or those of the second lie below those of the first.
 ///
 /// ```
 /// use linker_utils::rewriting::Decision;

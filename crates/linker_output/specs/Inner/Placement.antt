@@ -1,5 +1,6 @@
 -- What holds while stubs are placed.
-use Rattle.std.specs.Prelude.{◌≡◌, ◌≤◌, ◌<◌, ◌+◌, ◌-◌, ◌*◌, ◌^◌, ◌⊎◌, ℕ, zero, suc, List, length, slice_index_or, ⊤}
+use Rattle.std.specs.Prelude.{◌≡◌, ◌≤◌, ◌<◌, ◌+◌, ◌-◌, ◌*◌, ◌^◌, ◌⊎◌, ℕ, zero, suc, List, length}
+use Rattle.std.specs.Prelude.{slice_index_or, ⊤}
 use Rattle.std.specs.Prelude.{Option, Some, None}
 use Rattle.std.specs.List.{sum_by}
 use Rattle.linker_output.specs.Placement.{Reaches, at, branch_at, stub_at, group_at, IsAscending}
@@ -58,7 +59,8 @@ new_way Front s = Near s
 new_way Middle s = Far s
 new_way Back s = Near s
 
--- The stub is at the boundary next to a branch, and in its reach, since nothing is added between them.
+-- The stub is at the boundary next to a branch, and in its reach, since nothing is added between
+-- them.
 abbrev pub IsNearIn : Part → Code → Branch → StubAt → Type 0
 IsNearIn Front code branch stub = (stub.boundary ≡ passed code.boundaries.now branch.offset)
     × Reaches branch.max_backward branch.max_forward branch.offset

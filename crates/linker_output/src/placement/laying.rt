@@ -167,7 +167,8 @@ impl Code<'_> {
         reaches(branch.max_backward, branch.max_forward, from, place)
     }
 
-    /// Whether a branch reaches neither its target nor the stub by which it goes, if that has a place.
+    /// Whether a branch reaches neither its target nor the stub by which it goes, if that has a
+    /// place.
     pub(super) fn is_lost(&self, before: &[u64], places: &[u64], branch: &Branch, way: Way) -> bool
         requires code { IsCode self.now }
         requires one_more { length before.now ≡ length self.now.boundaries.now + 1 }

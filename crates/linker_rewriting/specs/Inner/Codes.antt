@@ -1,5 +1,6 @@
 -- What the number of a relocation's code says: the phases in which it may be rewritten.
-use Rattle.std.specs.Prelude.{◌≡◌, ℕ, ◌==◌, nat_lt, not, bit_and, if◌then◌else◌, Bool, true, false, List}
+use Rattle.std.specs.Prelude.{◌≡◌, ℕ, ◌==◌, nat_lt, not, bit_and, if◌then◌else◌, Bool, true, false}
+use Rattle.std.specs.Prelude.{List}
 use Rattle.std.specs.Prelude.{length, slice_index, slice_get, Option}
 use Rattle.linker_rewriting.specs.Candidates.{calls_tls_get_addr}
 use Rattle.linker_rewriting.specs.Groups.{IsScopeIn}

@@ -109,7 +109,8 @@ impl Code<'_> {
         reaches(branch.max_backward, branch.max_forward, from, place)
     }
 
-    /// Whether a branch reaches neither its target nor the stub by which it goes, if that has a place.
+    /// Whether a branch reaches neither its target nor the stub by which it goes, if that has a
+    /// place.
     pub(super) fn is_lost(&self, before: &[u64], places: &[u64], branch: &Branch, way: Way) -> bool {
         let target = self.moved(before, self.targets[branch.target]);
         if self.reaches_at(before, branch, target) {

@@ -20,8 +20,8 @@ impl Branch {
 }
 
 impl State {
-    /// Has a branch that is lost by a layout go by another stub, and also one that would be lost if it
-    /// reached `margin` bytes less, where a boundary next to it is in reach.
+    /// Has a branch that is lost by a layout go by another stub, and also one that would be lost if
+    /// it reached `margin` bytes less, where a boundary next to it is in reach.
     fn visit(
         &mut self,
         code: &Code<'_>,
@@ -53,8 +53,8 @@ impl State {
         Ok(Visit::Served)
     }
 
-    /// Has the branches that are lost by a layout go by other stubs, and those that would be if they
-    /// reached `margin` bytes less.
+    /// Has the branches that are lost by a layout go by other stubs, and those that would be if
+    /// they reached `margin` bytes less.
     fn sweep(
         &mut self,
         code: &Code<'_>,
@@ -109,9 +109,9 @@ impl State {
         Ok(())
     }
 
-    /// Adds stubs until each branch reaches what it goes by. After `MOST_PASSES` passes all go by stubs next
-    /// to them that have such a boundary in reach, so that there are few further passes. It returns
-    /// none, or the index of a branch that reaches nothing and no boundary.
+    /// Adds stubs until each branch reaches what it goes by. After `MOST_PASSES` passes all go by
+    /// stubs next to them that have such a boundary in reach, so that there are few further passes.
+    /// It returns none, or the index of a branch that reaches nothing and no boundary.
     pub(super) fn settle(
         &mut self,
         code: &Code<'_>,
