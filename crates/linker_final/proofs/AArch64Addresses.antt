@@ -20,7 +20,7 @@ use Rattle.linker_elf.specs.declared.elf.RelocationKindInfo.{RelocationKindInfo}
 use Rattle.linker_elf.specs.declared.elf.value.Operands.{Operands}
 use Rattle.linker_final.proofs.AArch64Chosen.{IsOfEntry, of_entry}
 use Rattle.linker_final.specs.AArch64Final.{AreOfAddress, Addresses as AddressesByAdr, MakesTheSame}
-use Rattle.linker_final.specs.Final.{Linked, IsLinked, IsWrittenByNoOther, instruction_at, two_at}
+use Rattle.linker_final.specs.Final.{AreLeft, Linked, IsLinked, IsWrittenByNoOther, instruction_at, two_at}
 use Rattle.linker_laws.specs.AArch64RewriteLaws.{IsPair, IsRelocated, IsRewritten, Laws, behind, pair, word_of}
 use Rattle.linker_rewriting.specs.Rewritten.{IsDone, IsMade, relocation_after}
 use Rattle.linker_section.specs.Relocations.{relocation_in}
@@ -84,7 +84,7 @@ module _ (addresses : Addresses) (symbol : Symbol) (is_there : symbol.is_undefin
 -- ---- a pair
 
 module _ (laws : Laws) (l : Linked) (linked : IsLinked l) (aarch64 : l.setting.architecture ≡ AArch64)
-    (i j : ℕ) (of : AreOfAddress l i j) (alone : IsWrittenByNoOther l i (relocation_in l.relocations i).offset) where
+    (i j : ℕ) (of : AreOfAddress l i j) (left : AreLeft l i j) (alone : IsWrittenByNoOther l i (relocation_in l.relocations i).offset) where
   abbrev first : Rela
   first = relocation_in l.relocations i
 
@@ -142,7 +142,7 @@ module _ (laws : Laws) (l : Linked) (linked : IsLinked l) (aarch64 : l.setting.a
       subst (λ xs. IsRelocated names.R_AARCH64_ADD_ABS_LO12_NC (behind 4 w) xs add) (sym (second_same l.section o)) of_low in
       let there : IsApplied adr_after.row (operands_with AArch64 l.addresses adr_after.row symbol (rela (o + 4) code second.symbol second.addend) 0) (instruction_at l.rewritten (o + 4)) (instruction_at l.final (o + 4)) =
       subst (λ n. IsApplied adr_after.row (operands_with AArch64 l.addresses adr_after.row symbol (rela n code second.symbol second.addend) 0) (instruction_at l.rewritten n) (instruction_at l.final n)) next
-      (applied_there l linked aarch64 j of.low_chosen of.together.second_below of.low_decided e
+      (applied_there l linked aarch64 j of.low_chosen of.together.second_below of.low_decided (left.1) e
       by.kind_is by.code_is (λ o. refl) (λ a. refl) adr_after symbol 0 refl
       (ap (slice_get l.symbols) of.together.same_symbol ∙ is_symbol)) in
       let written : IsApplied adr_after.row (behind 4 w) (drop 4 (two_at l.rewritten o)) (instruction_at l.final (o + 4)) =
@@ -154,7 +154,7 @@ module _ (laws : Laws) (l : Linked) (linked : IsLinked l) (aarch64 : l.setting.a
       let gone : (relocation_in l.relocations_after i).code ≡ 0 =
       ap (λ (x : Rela). x.code) (linked.relocations i of.together.first_below ∙ ap (λ d. relocation_after d first) of.page_decided) in
       let stays : instruction_at l.final o ≡ instruction_at l.rewritten o =
-      unwritten l linked aarch64 i o gone (omega (arith, section_long)) alone in
+      unwritten l linked aarch64 i of.together.first_below o (left.0) gone (omega (arith, section_long)) alone in
       let word : word_of (two_at l.rewritten o) ≡ word_of (instruction_at l.final o) =
       first_same l.rewritten o ∙ ap word_of (sym stays) in
       subst (λ x. RunAlike (pair adrp add) (x ∷ word_of (instruction_at l.final (o + 4)) ∷ []) s) word
@@ -162,4 +162,4 @@ module _ (laws : Laws) (l : Linked) (linked : IsLinked l) (aarch64 : l.setting.a
       of_page low written)
 
 pub addresses : Laws → AddressesByAdr
-addresses laws l linked aarch64 i j of alone = makes_the_same laws l linked aarch64 i j of alone
+addresses laws l linked aarch64 i j of left alone = makes_the_same laws l linked aarch64 i j of left alone

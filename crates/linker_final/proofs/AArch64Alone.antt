@@ -17,7 +17,7 @@ use Rattle.linker_elf.specs.declared.elf.RelocationKindInfo.{RelocationKindInfo}
 use Rattle.linker_elf.specs.declared.elf.choice.Choice.{Choice}
 use Rattle.linker_final.proofs.AArch64Chosen.{of_entry}
 use Rattle.linker_final.specs.AArch64Final.{HighHalves, LowHalves, Branches, BranchDoesTheSame}
-use Rattle.linker_final.specs.Final.{Linked, IsLinked, count, instruction_at}
+use Rattle.linker_final.specs.Final.{InstructionIsLeft, Linked, IsLinked, count, instruction_at}
 use Rattle.linker_laws.specs.AArch64RewriteLaws.{IsRewritten, Laws, BranchToNop, word_of}
 use Rattle.linker_rewriting.specs.Decisions.{decision_at}
 use Rattle.linker_rewriting.specs.declared.decisions.Decision.TheVariants.{Rewritten}
@@ -70,7 +70,7 @@ low_after =
 -- ---- halves
 
 pub high_halves : Laws → HighHalves
-high_halves laws l linked aarch64 i chosen below is_name decided symbol is_symbol got s t c adrp small at agree not_31 of_entry_there =
+high_halves laws l linked aarch64 i chosen below is_name decided left symbol is_symbol got s t c adrp small at agree not_31 of_entry_there =
     let r = relocation_in l.relocations i in
     let o = r.offset in
     let e = entry kinds.MovzXnLsl16 names.R_AARCH64_TLSLE_MOVW_TPREL_G1 halves_to_local_exec in
@@ -80,7 +80,7 @@ high_halves laws l linked aarch64 i chosen below is_name decided symbol is_symbo
     with_operands high_after.row
     (operands_with AArch64 l.addresses high_after.row symbol (rela o (code_of (aarch64_name names.R_AARCH64_TLSLE_MOVW_TPREL_G1)) r.symbol r.addend) 0)
     w (instruction_at l.rewritten o) (instruction_at l.final o) refl
-    (applied_there l linked aarch64 i chosen below decided e by.kind_is by.code_is (λ o. refl) (λ a. refl) high_after symbol 0 refl is_symbol) in
+    (applied_there l linked aarch64 i chosen below decided left e by.kind_is by.code_is (λ o. refl) (λ a. refl) high_after symbol 0 refl is_symbol) in
     let made : IsRewritten kinds.MovzXnLsl16 (instruction_at l.section o) (instruction_at l.rewritten o) =
     becomes l linked i chosen below decided kinds.MovzXnLsl16 (λ _. true) (λ word. 0xd2a00000 + rd_of word) refl by.kind_is in
     let is_adrp : IsAdrp (word_of (instruction_at l.section o)) = subst IsAdrp (word_same l.section o) (by.meant.matches.1) in
@@ -88,7 +88,7 @@ high_halves laws l linked aarch64 i chosen below is_name decided symbol is_symbo
     adrp (instruction_at l.final o) of_entry_there written
 
 pub low_halves : Laws → LowHalves
-low_halves laws l linked aarch64 i chosen below is_name decided symbol is_symbol got s t c ldr small holds high agree of_entry_there =
+low_halves laws l linked aarch64 i chosen below is_name decided left symbol is_symbol got s t c ldr small holds high agree of_entry_there =
     let r = relocation_in l.relocations i in
     let o = r.offset in
     let e = entry kinds.MovkXn names.R_AARCH64_TLSLE_MOVW_TPREL_G0_NC halves_to_local_exec in
@@ -98,7 +98,7 @@ low_halves laws l linked aarch64 i chosen below is_name decided symbol is_symbol
     with_operands low_after.row
     (operands_with AArch64 l.addresses low_after.row symbol (rela o (code_of (aarch64_name names.R_AARCH64_TLSLE_MOVW_TPREL_G0_NC)) r.symbol r.addend) 0)
     w (instruction_at l.rewritten o) (instruction_at l.final o) refl
-    (applied_there l linked aarch64 i chosen below decided e by.kind_is by.code_is (λ o. refl) (λ a. refl) low_after symbol 0 refl is_symbol) in
+    (applied_there l linked aarch64 i chosen below decided left e by.kind_is by.code_is (λ o. refl) (λ a. refl) low_after symbol 0 refl is_symbol) in
     let made : IsRewritten kinds.MovkXn (instruction_at l.section o) (instruction_at l.rewritten o) =
     becomes l linked i chosen below decided kinds.MovkXn (λ word. eqb (rn_of word) (rd_of word)) (λ word. 0xf2800000 + rd_of word) refl by.kind_is in
     let is_ldr : IsLdr64 (word_of (instruction_at l.section o)) = subst IsLdr64 (word_same l.section o) (by.meant.matches.1.0) in
@@ -117,15 +117,15 @@ module _ (name : AArch64Relocation) (named : IsNamed (aarch64_name name))
   pub branch_alike : (l : Linked) → IsLinked l → l.setting.architecture ≡ AArch64
       → (i : ℕ) (chosen : Choice Relaxation ℕ) → i < count l
       → IsNameOf aarch64_name (relocation_in l.relocations i).code name
-      → decision_at l.decisions i ≡ Rewritten chosen
+      → decision_at l.decisions i ≡ Rewritten chosen → InstructionIsLeft l i
       → (row : RelocationKindInfo) → BranchDoesTheSame name differing l i row
-  branch_alike l linked aarch64 i chosen below is_name decided row alone symbol is_symbol s branch small at on of_branch =
+  branch_alike l linked aarch64 i chosen below is_name decided left row alone symbol is_symbol s branch small at on of_branch =
       let r = relocation_in l.relocations i in
       let o = r.offset in
       let by = of_entry l linked aarch64 i chosen below decided name named is_name (entry kinds.ReplaceWithNop names.R_AARCH64_NONE (weak_zero ∷ [])) entries in
       let one = is_one l o by.meant.asked in
       let final : IsRewritten kinds.ReplaceWithNop (instruction_at l.section o) (instruction_at l.final o) =
-      becomes_nop l linked aarch64 i chosen below decided by.kind_is by.code_is (one.0) alone in
+      becomes_nop l linked aarch64 i chosen below decided left by.kind_is by.code_is (one.0) alone in
       let is : is_branch (word_of (instruction_at l.section o)) ≡ true =
       subst (λ word. is_branch word ≡ true) (word_same l.section o) (one.1) in
       law (operands_with AArch64 l.addresses row symbol r 0) s (instruction_at l.section o) (instruction_at l.final o)
@@ -136,10 +136,10 @@ branch_row = thunkable_row (aligned_row 4 (signed_row 28 (insn_row PltRelative 2
 
 pub branches : Laws → Branches
 branches laws = (
-  λ l linked aarch64 i chosen below is_name decided.
+  λ l linked aarch64 i chosen below is_name decided left.
       branch_alike names.R_AARCH64_JUMP26 tt refl is_b (λ _. false) (laws.weak.0)
-      (λ l o asked. (asked.0, eq-eqb _ _ (asked.1))) l linked aarch64 i chosen below is_name decided branch_row,
-  λ l linked aarch64 i chosen below is_name decided.
+      (λ l o asked. (asked.0, eq-eqb _ _ (asked.1))) l linked aarch64 i chosen below is_name decided left branch_row,
+  λ l linked aarch64 i chosen below is_name decided left.
       branch_alike names.R_AARCH64_CALL26 tt refl is_bl (λ n. eqb n 30) (laws.weak.1)
-      (λ l o asked. (asked.0, eq-eqb _ _ (asked.1))) l linked aarch64 i chosen below is_name decided branch_row,
+      (λ l o asked. (asked.0, eq-eqb _ _ (asked.1))) l linked aarch64 i chosen below is_name decided left branch_row,
 )

@@ -88,7 +88,7 @@ call_erased section o chosen (inr (inr nothing)) = absurd nothing
 -- ---- the sequence
 
 to_local : Laws → EachDescriptor kinds.MovzX0Lsl16 kinds.MovkX0 OffsetIsTheSame
-to_local laws l linked aarch64 i j k m of add_alone call_alone symbol is_symbol call c got s adrp ldr add descriptor object =
+to_local laws l linked aarch64 i j k m of left behind_left add_alone call_alone symbol is_symbol call c got s adrp ldr add descriptor object =
     let r = relocation_in l.relocations i in
     let r2 = relocation_in l.relocations j in
     let r3 = relocation_in l.relocations k in
@@ -116,15 +116,15 @@ to_local laws l linked aarch64 i j k m of add_alone call_alone symbol is_symbol 
     (becomes l linked j of.load_chosen below2 of.load_decided kinds.MovkX0 (λ _. true) (λ _. 0xf2800000) refl of.load_kind) in
     let nop3 : IsRewritten kinds.ReplaceWithNop (instruction_at l.section (o + 8)) (instruction_at l.final (o + 8)) =
     subst (λ n. IsRewritten kinds.ReplaceWithNop (instruction_at l.section n) (instruction_at l.final n)) third
-    (becomes_nop l linked aarch64 k of.add_chosen below3 of.add_decided erased3.kind_is erased3.code_is erased3.inside add_alone) in
+    (becomes_nop l linked aarch64 k of.add_chosen below3 of.add_decided (behind_left.0) erased3.kind_is erased3.code_is erased3.inside add_alone) in
     let nop4 : IsRewritten kinds.ReplaceWithNop (instruction_at l.section (o + 12)) (instruction_at l.final (o + 12)) =
     subst (λ n. IsRewritten kinds.ReplaceWithNop (instruction_at l.section n) (instruction_at l.final n)) fourth
-    (becomes_nop l linked aarch64 m of.call_chosen below4 of.call_decided erased4.kind_is erased4.code_is erased4.inside call_alone) in
+    (becomes_nop l linked aarch64 m of.call_chosen below4 of.call_decided (behind_left.1) erased4.kind_is erased4.code_is erased4.inside call_alone) in
     let high : IsApplied high_after.row w (instruction_at l.rewritten o) (instruction_at l.final o) =
     with_operands high_after.row
     (operands_with AArch64 l.addresses high_after.row symbol (rela o (code_of (aarch64_name names.R_AARCH64_TLSLE_MOVW_TPREL_G1)) r.symbol r.addend) 0)
     w (instruction_at l.rewritten o) (instruction_at l.final o) refl
-    (applied_there l linked aarch64 i of.page_chosen of.first.first_below of.page_decided
+    (applied_there l linked aarch64 i of.page_chosen of.first.first_below of.page_decided (left.0)
     (entry kinds.MovzX0Lsl16 names.R_AARCH64_TLSLE_MOVW_TPREL_G1 to_local_exec) of.page_kind code (λ o. refl) (λ a. refl) high_after symbol 0 refl is_symbol) in
     let low_code = code_of (aarch64_name names.R_AARCH64_TLSLE_MOVW_TPREL_G0_NC) in
     let low : IsApplied low_after.row (behind 4 w) (instruction_at l.rewritten (o + 4)) (instruction_at l.final (o + 4)) =
@@ -133,7 +133,7 @@ to_local laws l linked aarch64 i j k m of add_alone call_alone symbol is_symbol 
     (operands_with AArch64 l.addresses low_after.row symbol (rela r2.offset low_code r2.symbol r2.addend) 0)
     (behind 4 w) (instruction_at l.rewritten r2.offset) (instruction_at l.final r2.offset)
     (ap (λ x. value_of low_after.row (operands_with AArch64 l.addresses low_after.row symbol (rela r2.offset low_code r2.symbol x) 0)) (sym of.first.same_addend))
-    (applied_there l linked aarch64 j of.load_chosen below2 of.load_decided
+    (applied_there l linked aarch64 j of.load_chosen below2 of.load_decided (left.1)
     (entry kinds.MovkX0 names.R_AARCH64_TLSLE_MOVW_TPREL_G0_NC to_local_exec) of.load_kind code2 (λ o. refl) (λ a. refl) low_after symbol 0 refl
     (ap (slice_get l.symbols) of.first.same_symbol ∙ is_symbol))) in
     laws.descriptor_to_local_exec call c w s
@@ -198,7 +198,7 @@ ldr_code section o chosen kind (inl this) =
 ldr_code section o chosen kind (inr (inr nothing)) = absurd nothing
 
 to_initial : Laws → EachDescriptor kinds.AdrpX0 kinds.LdrX0 LoadsOffset
-to_initial laws l linked aarch64 i j k m of add_alone call_alone symbol is_symbol small call c got s adrp ldr add holds descriptor object =
+to_initial laws l linked aarch64 i j k m of left behind_left add_alone call_alone symbol is_symbol small call c got s adrp ldr add holds descriptor object =
     let r = relocation_in l.relocations i in
     let r2 = relocation_in l.relocations j in
     let r3 = relocation_in l.relocations k in
@@ -215,7 +215,7 @@ to_initial laws l linked aarch64 i j k m of add_alone call_alone symbol is_symbo
     let code = adrp_code l.section o of.page_chosen of.page_kind
     (of_one l linked aarch64 i of.page_chosen of.first.first_below of.page_decided names.R_AARCH64_TLSDESC_ADR_PAGE21 tt of.page) in
     let there : is_there l.addresses symbol (record { class = ThreadOffset; addend = r.addend }) ≡ true =
-    entry_there l linked aarch64 i of.first.first_below names.R_AARCH64_TLSIE_ADR_GOTTPREL_PAGE21 entry_high
+    entry_there l linked aarch64 i of.first.first_below (left.0) names.R_AARCH64_TLSIE_ADR_GOTTPREL_PAGE21 entry_high
     (rela o (code_of (aarch64_name names.R_AARCH64_TLSIE_ADR_GOTTPREL_PAGE21)) r.symbol r.addend)
     (relocation_is l linked i of.page_chosen of.first.first_below of.page_decided (aarch64_rewrite kinds.AdrpX0)
     (code_of (aarch64_name names.R_AARCH64_TLSIE_ADR_GOTTPREL_PAGE21)) (ap relaxation_rewrite of.page_kind) code)
@@ -233,15 +233,15 @@ to_initial laws l linked aarch64 i j k m of add_alone call_alone symbol is_symbo
     (becomes l linked j of.load_chosen below2 of.load_decided kinds.LdrX0 (λ _. true) (λ _. 0xf9400000) refl of.load_kind) in
     let nop3 : IsRewritten kinds.ReplaceWithNop (instruction_at l.section (o + 8)) (instruction_at l.final (o + 8)) =
     subst (λ n. IsRewritten kinds.ReplaceWithNop (instruction_at l.section n) (instruction_at l.final n)) third
-    (becomes_nop l linked aarch64 k of.add_chosen below3 of.add_decided erased3.kind_is erased3.code_is erased3.inside add_alone) in
+    (becomes_nop l linked aarch64 k of.add_chosen below3 of.add_decided (behind_left.0) erased3.kind_is erased3.code_is erased3.inside add_alone) in
     let nop4 : IsRewritten kinds.ReplaceWithNop (instruction_at l.section (o + 12)) (instruction_at l.final (o + 12)) =
     subst (λ n. IsRewritten kinds.ReplaceWithNop (instruction_at l.section n) (instruction_at l.final n)) fourth
-    (becomes_nop l linked aarch64 m of.call_chosen below4 of.call_decided erased4.kind_is erased4.code_is erased4.inside call_alone) in
+    (becomes_nop l linked aarch64 m of.call_chosen below4 of.call_decided (behind_left.1) erased4.kind_is erased4.code_is erased4.inside call_alone) in
     let high : IsApplied entry_high.row (with_entry e w) (instruction_at l.rewritten o) (instruction_at l.final o) =
     with_operands entry_high.row
     (operands_with AArch64 l.addresses entry_high.row symbol (rela o (code_of (aarch64_name names.R_AARCH64_TLSIE_ADR_GOTTPREL_PAGE21)) r.symbol r.addend) e)
     (with_entry e w) (instruction_at l.rewritten o) (instruction_at l.final o) refl
-    (applied_there l linked aarch64 i of.page_chosen of.first.first_below of.page_decided
+    (applied_there l linked aarch64 i of.page_chosen of.first.first_below of.page_decided (left.0)
     (entry kinds.AdrpX0 names.R_AARCH64_TLSIE_ADR_GOTTPREL_PAGE21 (to_initial_exec 0)) of.page_kind code (λ o. refl) (λ a. refl) entry_high symbol e (ap (λ b. operands_by AArch64 l.addresses entry_high.row (rela o (code_of (aarch64_name names.R_AARCH64_TLSIE_ADR_GOTTPREL_PAGE21)) r.symbol r.addend) symbol (cond b (Some e) None)) there) is_symbol) in
     let low_code = code_of (aarch64_name names.R_AARCH64_TLSIE_LD64_GOTTPREL_LO12_NC) in
     let low : IsApplied entry_low.row (behind 4 (with_entry e w)) (instruction_at l.rewritten (o + 4)) (instruction_at l.final (o + 4)) =
@@ -250,7 +250,7 @@ to_initial laws l linked aarch64 i j k m of add_alone call_alone symbol is_symbo
     (operands_with AArch64 l.addresses entry_low.row symbol (rela r2.offset low_code r2.symbol r2.addend) e)
     (behind 4 (with_entry e w)) (instruction_at l.rewritten r2.offset) (instruction_at l.final r2.offset)
     (ap (λ x. value_of entry_low.row (operands_with AArch64 l.addresses entry_low.row symbol (rela r2.offset low_code r2.symbol x) e)) (sym of.first.same_addend))
-    (applied_there l linked aarch64 j of.load_chosen below2 of.load_decided
+    (applied_there l linked aarch64 j of.load_chosen below2 of.load_decided (left.1)
     (entry kinds.LdrX0 names.R_AARCH64_TLSIE_LD64_GOTTPREL_LO12_NC (to_initial_exec 4)) of.load_kind code2 (λ o. refl) (λ a. refl) entry_low symbol e (ap (λ b. operands_by AArch64 l.addresses entry_low.row (rela r2.offset (code_of (aarch64_name names.R_AARCH64_TLSIE_LD64_GOTTPREL_LO12_NC)) r2.symbol r2.addend) symbol (cond b (Some e) None)) (subst (λ x. is_there l.addresses symbol (record { class = ThreadOffset; addend = x }) ≡ true) (sym of.first.same_addend) there))
     (ap (slice_get l.symbols) of.first.same_symbol ∙ is_symbol))) in
     laws.descriptor_to_initial_exec call c w s

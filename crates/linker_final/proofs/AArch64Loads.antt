@@ -19,7 +19,7 @@ use Rattle.linker_elf.specs.declared.elf.RelocationKindInfo.{RelocationKindInfo}
 use Rattle.linker_elf.specs.declared.elf.value.Operands.{Operands}
 use Rattle.linker_final.proofs.AArch64Chosen.{IsOfEntry, of_entry}
 use Rattle.linker_final.specs.AArch64Final.{AreOfLoad, GotLoads, LoadsTheSame}
-use Rattle.linker_final.specs.Final.{Linked, IsLinked, IsRewrittenByNoOther, instruction_at}
+use Rattle.linker_final.specs.Final.{AreLeft, Linked, IsLinked, IsRewrittenByNoOther, instruction_at}
 use Rattle.linker_laws.specs.AArch64RewriteLaws.{IsPair, IsRewritten, Laws, behind, word_of}
 use Rattle.linker_section.specs.Relocations.{relocation_in}
 use Rattle.linker_section.specs.Values.{operands_with}
@@ -103,7 +103,7 @@ module _ (addresses : Addresses) (symbol : Symbol) (is_there : symbol.is_undefin
 -- ---- a pair
 
 module _ (laws : Laws) (l : Linked) (linked : IsLinked l) (aarch64 : l.setting.architecture ≡ AArch64)
-    (i j : ℕ) (of : AreOfLoad l i j) (alone : IsRewrittenByNoOther l i (relocation_in l.relocations i).offset) where
+    (i j : ℕ) (of : AreOfLoad l i j) (left : AreLeft l i j) (alone : IsRewrittenByNoOther l i (relocation_in l.relocations i).offset) where
   abbrev first : Rela
   first = relocation_in l.relocations i
 
@@ -150,7 +150,7 @@ module _ (laws : Laws) (l : Linked) (linked : IsLinked l) (aarch64 : l.setting.a
       w (instruction_at l.section o) (instruction_at l.final o)
       (page_value l.addresses symbol is_there first (code_of (aarch64_name names.R_AARCH64_ADR_PREL_PG_HI21)) got)
       (subst (λ xs. IsApplied page_after.row (operands_with AArch64 l.addresses page_after.row symbol (rela o (code_of (aarch64_name names.R_AARCH64_ADR_PREL_PG_HI21)) first.symbol first.addend) 0) xs (instruction_at l.final o)) stayed
-      (applied_there l linked aarch64 i of.page_chosen of.together.first_below of.page_decided
+      (applied_there l linked aarch64 i of.page_chosen of.together.first_below of.page_decided (left.0)
       (entry kinds.NoOp names.R_AARCH64_ADR_PREL_PG_HI21 (to_address 0))
       page_entry.kind_is page_entry.code_is (λ o. refl) (λ a. refl) page_after symbol 0 refl is_symbol)) in
       let low_written : IsApplied low_after.row (behind 4 w) (instruction_at l.rewritten (o + 4)) (instruction_at l.final (o + 4)) =
@@ -159,7 +159,7 @@ module _ (laws : Laws) (l : Linked) (linked : IsLinked l) (aarch64 : l.setting.a
       (behind 4 w) (instruction_at l.rewritten (o + 4)) (instruction_at l.final (o + 4))
       (low_value l.addresses symbol is_there first (code_of (aarch64_name names.R_AARCH64_ADD_ABS_LO12_NC)) got second.offset second.addend of.together.same_addend)
       (subst (λ n. IsApplied low_after.row (operands_with AArch64 l.addresses low_after.row symbol (rela second.offset (code_of (aarch64_name names.R_AARCH64_ADD_ABS_LO12_NC)) second.symbol second.addend) 0) (instruction_at l.rewritten n) (instruction_at l.final n)) next
-      (applied_there l linked aarch64 j of.low_chosen of.together.second_below of.low_decided
+      (applied_there l linked aarch64 j of.low_chosen of.together.second_below of.low_decided (left.1)
       (entry kinds.LdrToAdd names.R_AARCH64_ADD_ABS_LO12_NC (to_address 4))
       low_entry.kind_is low_entry.code_is (λ o. refl) (λ a. refl) low_after symbol 0 refl
       (ap (slice_get l.symbols) of.together.same_symbol ∙ is_symbol))) in
@@ -171,4 +171,4 @@ module _ (laws : Laws) (l : Linked) (linked : IsLinked l) (aarch64 : l.setting.a
       of_entry_page of_entry_low page_written low_written
 
 pub joined : Laws → GotLoads
-joined laws l linked aarch64 i j of alone = loads_the_same laws l linked aarch64 i j of alone
+joined laws l linked aarch64 i j of left alone = loads_the_same laws l linked aarch64 i j of left alone

@@ -15,8 +15,9 @@ use Rattle.linker_elf.specs.declared.elf.RelocationKind.TheVariants.{None as NoV
 use Rattle.linker_elf.specs.declared.elf.RelocationKindInfo.{RelocationKindInfo}
 use Rattle.linker_elf.specs.declared.elf.choice.Choice.{Choice}
 use Rattle.linker_final.proofs.InstructionFields.{IsOfInstruction}
+use Rattle.linker_final.proofs.Phases.{relocation_left}
 use Rattle.linker_final.proofs.Written.{IsRowOf, applied_after, by_name, entry_is_there, made_there, rela, relocation_is, unwritten_without}
-use Rattle.linker_final.specs.Final.{Linked, IsLinked, IsWrittenByNoOther, count, instruction_at}
+use Rattle.linker_final.specs.Final.{InstructionIsLeft, IsLeftAlone, Linked, IsLinked, IsWrittenByNoOther, count, instruction_at}
 use Rattle.linker_laws.specs.AArch64RewriteLaws.{BeginsRewritten, IsRewritten}
 use Rattle.linker_rewriting.specs.Decisions.{decision_at}
 use Rattle.linker_rewriting.specs.Rewritten.{relocation_after}
@@ -52,7 +53,7 @@ row_of l aarch64 name named row is found there =
 
 module _ (l : Linked) (linked : IsLinked l) (aarch64 : l.setting.architecture ≡ AArch64) (i : ℕ)
     (chosen : Choice Relaxation ℕ) (below : i < count l)
-    (decided : decision_at l.decisions i ≡ Rewritten chosen)
+    (decided : decision_at l.decisions i ≡ Rewritten chosen) (left : InstructionIsLeft l i)
     (e : AArch64Entry) (kind_is : chosen.kind ≡ relaxations.AArch64 e.kind)
     (code_is : chosen.relocation ≡ code_of (aarch64_name e.relocation))
     (unmoved : (o : ℕ) → offset_after (aarch64_rewrite e.kind) o ≡ o)
@@ -79,7 +80,7 @@ module _ (l : Linked) (linked : IsLinked l) (aarch64 : l.setting.architecture �
   pub applied_there : IsApplied a.row (operands_with AArch64 l.addresses a.row symbol after got) (instruction_at l.rewritten r.offset) (instruction_at l.final r.offset)
   applied_there =
       subst (λ x. IsApplied a.row (operands_with x l.addresses a.row symbol after got) (instruction_at l.rewritten r.offset) (instruction_at l.final r.offset)) aarch64
-      (applied_after l linked i below 4 (omega arith) a.row a.of after r_after
+      (applied_after l linked i below 4 (omega arith) a.row a.of after r_after left
       (row_of l aarch64 e.relocation a.named a.row a.is) symbol is_symbol got
       (subst (λ x. operands_by x l.addresses a.row after symbol
       (entry_address l.addresses symbol (entry_of a.row r.addend symbol.is_thread_local))
@@ -87,13 +88,14 @@ module _ (l : Linked) (linked : IsLinked l) (aarch64 : l.setting.architecture �
 
 -- the entry that the formula of a relocation after a rewrite has is there
 pub entry_there : (l : Linked) → IsLinked l → l.setting.architecture ≡ AArch64 → (i : ℕ) → i < count l
-    → (name : AArch64Relocation) (a : IsAfter name) (after : Rela)
+    → InstructionIsLeft l i → (name : AArch64Relocation) (a : IsAfter name) (after : Rela)
     → relocation_in l.relocations_after i ≡ after → after.code ≡ code_of (aarch64_name name)
     → (symbol : Symbol) → slice_get l.symbols after.symbol ≡ Some symbol
     → (entry : Entry) → entry_of a.row after.addend symbol.is_thread_local ≡ Some entry
     → is_there l.addresses symbol entry ≡ true
-entry_there l linked aarch64 i below name a after is_after code symbol is_symbol entry is_entry =
-    entry_is_there l linked i below 4 a.row a.of after is_after
+entry_there l linked aarch64 i below left name a after is_after code symbol is_symbol entry is_entry =
+    entry_is_there l linked i below 4 a.row a.of after
+    (relocation_left l linked i (relocation_in l.relocations i).offset 4 left below ∙ is_after)
     (subst (λ x. IsRowOf l.setting.architecture x a.row) (sym code) (row_of l aarch64 name a.named a.row a.is))
     symbol is_symbol entry is_entry
 
@@ -112,21 +114,22 @@ becomes l linked i chosen below decided kind test new is kind_is =
     (made_there l linked i chosen below decided (rewrites_where test new) (ap relaxation_rewrite kind_is ∙ is) refl)
 
 -- an instruction stays that no other relocation writes, where the own one goes
-pub unwritten : (l : Linked) → IsLinked l → l.setting.architecture ≡ AArch64 → (i p : ℕ)
-    → (relocation_in l.relocations_after i).code ≡ 0 → p + 4 ≤ length l.section
+pub unwritten : (l : Linked) → IsLinked l → l.setting.architecture ≡ AArch64 → (i : ℕ) → i < count l
+    → (p : ℕ) → IsLeftAlone l i p 4 → (relocation_in l.relocations_after i).code ≡ 0 → p + 4 ≤ length l.section
     → IsWrittenByNoOther l i p → instruction_at l.final p ≡ instruction_at l.rewritten p
-unwritten l linked aarch64 i p gone inside alone =
-    unwritten_without l linked i p (row_of l aarch64 names.R_AARCH64_NONE tt (bytes_row NoValue 0) refl) gone inside alone
+unwritten l linked aarch64 i below p left gone inside alone =
+    unwritten_without l linked i below p left (row_of l aarch64 names.R_AARCH64_NONE tt (bytes_row NoValue 0) refl) gone inside alone
 
 -- an instruction that becomes `nop`, whose relocation goes
 pub becomes_nop : (l : Linked) → IsLinked l → l.setting.architecture ≡ AArch64 → (i : ℕ)
     → (chosen : Choice Relaxation ℕ) → i < count l → decision_at l.decisions i ≡ Rewritten chosen
+    → InstructionIsLeft l i
     → chosen.kind ≡ relaxations.AArch64 kinds.ReplaceWithNop → chosen.relocation ≡ 0
     → (relocation_in l.relocations i).offset + 4 ≤ length l.section
     → IsWrittenByNoOther l i (relocation_in l.relocations i).offset
     → IsRewritten kinds.ReplaceWithNop (instruction_at l.section (relocation_in l.relocations i).offset)
     (instruction_at l.final (relocation_in l.relocations i).offset)
-becomes_nop l linked aarch64 i chosen below decided kind_is code_is inside alone =
+becomes_nop l linked aarch64 i chosen below decided left kind_is code_is inside alone =
     let r = relocation_in l.relocations i in
     let o = r.offset in
     let made : IsRewritten kinds.ReplaceWithNop (instruction_at l.section o) (instruction_at l.rewritten o) =
@@ -134,4 +137,4 @@ becomes_nop l linked aarch64 i chosen below decided kind_is code_is inside alone
     let gone : (relocation_in l.relocations_after i).code ≡ 0 =
     ap (λ (x : Rela). x.code) (linked.relocations i below ∙ ap (λ d. relocation_after d r) decided) ∙ code_is in
     subst (IsRewritten kinds.ReplaceWithNop (instruction_at l.section o))
-    (sym (unwritten l linked aarch64 i o gone inside alone)) made
+    (sym (unwritten l linked aarch64 i below o left gone inside alone)) made

@@ -6,8 +6,9 @@ use Rattle.linker_elf.specs.declared.elf.RelocationKindInfo.{RelocationKindInfo}
 use Rattle.linker_elf.specs.declared.elf.value.Operands.{Operands}
 use Rattle.linker_final.proofs.InstructionFields.{IsOfInstruction, applied}
 use Rattle.linker_final.proofs.PackedBytes.{place_behind, places_inside, same_there, stay_inside}
+use Rattle.linker_final.proofs.Phases.{later_as_many, later_bytes, later_keep, later_length}
 use Rattle.linker_final.proofs.Written.{rela}
-use Rattle.linker_final.specs.Final.{Linked, count, instruction_at}
+use Rattle.linker_final.specs.Final.{InstructionIsLeft, Linked, count, instruction_at}
 use Rattle.linker_final.specs.Joined.{IsRewrittenAndPacked, IsKeptInstruction}
 use Rattle.linker_final.specs.Packed.{Packed, StayTogether, architecture_of, place_of}
 use Rattle.linker_final.specs.Packed as packed
@@ -21,7 +22,7 @@ use Rattle.linker_utils.specs.Architectures.{IsRow}
 module _ (l : Linked) (p : Packed) (joined : IsRewrittenAndPacked l p) (i : ℕ) (below : i < count l)
     (code symbol : ℕ) (addend : ℤ)
     (after_is : relocation_in l.relocations_after i ≡ rela (relocation_in l.relocations i).offset code symbol addend)
-    (kept : IsKeptInstruction p i) where
+    (kept : IsKeptInstruction p i) (left : InstructionIsLeft l i) where
   abbrev o : ℕ
   o = (relocation_in l.relocations i).offset
 
@@ -31,10 +32,12 @@ module _ (l : Linked) (p : Packed) (joined : IsRewrittenAndPacked l p) (i : ℕ)
   pub within : i < packed.count p
   within =
       subst (λ n. i < n / 24)
-      (sym (joined.packed.as_many ∙ (ap length joined.relocations ∙ joined.as_many))) below
+      (sym (joined.packed.as_many ∙ (ap length joined.relocations ∙ (later_as_many l joined.later ∙ joined.as_many)))) below
 
   before_is : relocation_in p.relocations i ≡ rela o code symbol addend
-  before_is = ap (λ bytes. relocation_in bytes i) joined.relocations ∙ after_is
+  before_is =
+      ap (λ bytes. relocation_in bytes i) joined.relocations
+      ∙ (later_keep l joined.later i o 4 left (subst (λ n. i < n / 24) (sym joined.as_many) below) ∙ after_is)
 
   -- the relocation in the packed section
   pub code_is : after.code ≡ code
@@ -60,7 +63,8 @@ module _ (l : Linked) (p : Packed) (joined : IsRewrittenAndPacked l p) (i : ℕ)
   rewritten_inside =
       let inside = stay_inside p joined.packed o 4 (omega arith) stay in
       let len = ap length joined.bytes in
-      omega (arith, inside, len)
+      let same = later_length l joined.later in
+      omega (arith, inside, len, same)
 
   pub final_inside : place_of p o + 4 ≤ length p.final
   final_inside =
@@ -77,7 +81,8 @@ module _ (l : Linked) (p : Packed) (joined : IsRewrittenAndPacked l p) (i : ℕ)
       → IsApplied row y (instruction_at l.rewritten o) (instruction_at p.final (place_of p o))
   kept_there row y there =
       let same : instruction_at p.packed (place_of p o) ≡ instruction_at l.rewritten o =
-      same_there p joined.packed o 4 (omega arith) stay ∙ ap (λ bytes. instruction_at bytes o) joined.bytes in
+      same_there p joined.packed o 4 (omega arith) stay
+      ∙ (ap (λ bytes. instruction_at bytes o) joined.bytes ∙ later_bytes l joined.later i o 4 left) in
       subst (λ bytes. IsApplied row y bytes (instruction_at p.final (place_of p o))) same
       (subst (λ n. IsApplied row y (instruction_at p.packed n) (instruction_at p.final n)) place_is there)
 

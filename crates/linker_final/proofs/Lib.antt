@@ -26,6 +26,7 @@ pub mod Others
 pub mod PackedBytes
 pub mod PackedInstructions
 pub mod PackedSites
+pub mod Phases
 pub mod PlainRows
 pub mod Ppc64Arguments
 pub mod Ppc64Calls

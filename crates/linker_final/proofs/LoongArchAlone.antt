@@ -15,7 +15,7 @@ use Rattle.linker_final.proofs.Early.{isnt}
 use Rattle.linker_final.proofs.LoongArchChosen.{IsByTable, IsEntry, by_table, entry_by}
 use Rattle.linker_final.proofs.LoongArchWritten.{IsAfter, applied_there, becomes}
 use Rattle.linker_final.proofs.Written.{rela, with_operands, word_same}
-use Rattle.linker_final.specs.Final.{Linked, IsLinked, count, instruction_at}
+use Rattle.linker_final.specs.Final.{InstructionIsLeft, Linked, IsLinked, count, instruction_at}
 use Rattle.linker_final.specs.LoongArchFinal.{HighDoesTheSame, HighHalves, LowHalves, LowParts, MovedLowParts}
 use Rattle.linker_laws.specs.LoongArchRewriteLaws.{HighHalfToLu12i, IsRewritten, Laws, word_of}
 use Rattle.linker_loongarch64.specs.LoongArchRewrites.{IsLd, IsPcalau12i, adds_low12, by_low_part, rd_of, rj_of, to_local_exec, tp}
@@ -131,12 +131,12 @@ part_entry section o chosen by =
 pub high_does : (name : LoongArch64Relocation) → HighHalfToLu12i name
     → (l : Linked) → IsLinked l → l.setting.architecture ≡ LoongArch64
     → (i : ℕ) (chosen : Choice Relaxation ℕ) → i < count l
-    → decision_at l.decisions i ≡ Rewritten chosen
+    → decision_at l.decisions i ≡ Rewritten chosen → InstructionIsLeft l i
     → chosen.kind ≡ relaxations.LoongArch64 kinds.PcalaToLu12i
     → chosen.relocation ≡ code_of (loongarch_name names.R_LARCH_TLS_LE_HI20)
     → IsPcalau12i (word_of (instruction_at l.section (relocation_in l.relocations i).offset))
     → HighDoesTheSame name l i high_after.row
-high_does name law l linked loongarch i chosen below decided kind_is code_is is_pcala symbol is_symbol got s t c pcala small at agree fits fits_offset of_entry =
+high_does name law l linked loongarch i chosen below decided left kind_is code_is is_pcala symbol is_symbol got s t c pcala small at agree fits fits_offset of_entry =
     let r = relocation_in l.relocations i in
     let o = r.offset in
     let w = operands_with LoongArch64 l.addresses high_after.row symbol r got in
@@ -144,7 +144,7 @@ high_does name law l linked loongarch i chosen below decided kind_is code_is is_
     with_operands high_after.row
     (operands_with LoongArch64 l.addresses high_after.row symbol (rela o (code_of (loongarch_name names.R_LARCH_TLS_LE_HI20)) r.symbol r.addend) 0)
     w (instruction_at l.rewritten o) (instruction_at l.final o) refl
-    (applied_there l linked loongarch i chosen below decided kinds.PcalaToLu12i kind_is
+    (applied_there l linked loongarch i chosen below decided left kinds.PcalaToLu12i kind_is
     names.R_LARCH_TLS_LE_HI20 code_is high_after symbol 0 refl is_symbol) in
     let made : IsRewritten kinds.PcalaToLu12i (instruction_at l.section o) (instruction_at l.rewritten o) =
     becomes l linked.done i chosen below decided kinds.PcalaToLu12i kind_is (λ word. 0x14000000 + rd_of word) refl in
@@ -152,15 +152,15 @@ high_does name law l linked loongarch i chosen below decided kind_is code_is is_
     pcala (instruction_at l.final o) (record { is = is_pcala; fits = fits; applied = of_entry }) fits_offset written
 
 pub high_halves : Laws → HighHalves
-high_halves laws l linked loongarch i chosen below is_name decided any =
+high_halves laws l linked loongarch i chosen below is_name decided left any =
     let o = (relocation_in l.relocations i).offset in
     let by = high_entry l.section o chosen
     (by_table l linked.decided loongarch i chosen below decided names.R_LARCH_TLS_IE_PC_HI20 tt is_name) in
-    high_does names.R_LARCH_TLS_IE_PC_HI20 laws.high_half l linked loongarch i chosen below decided by.kind_is by.code_is
+    high_does names.R_LARCH_TLS_IE_PC_HI20 laws.high_half l linked loongarch i chosen below decided left by.kind_is by.code_is
     (subst IsPcalau12i (word_same l.section o) (by.asked.1))
 
 pub low_halves : Laws → LowHalves
-low_halves laws l linked loongarch i chosen below is_name decided any symbol is_symbol got s t c ld small holds has agree of_entry =
+low_halves laws l linked loongarch i chosen below is_name decided left any symbol is_symbol got s t c ld small holds has agree of_entry =
     let r = relocation_in l.relocations i in
     let o = r.offset in
     let by = low_entry l.section o chosen
@@ -170,7 +170,7 @@ low_halves laws l linked loongarch i chosen below is_name decided any symbol is_
     with_operands low_after.row
     (operands_with LoongArch64 l.addresses low_after.row symbol (rela o (code_of (loongarch_name names.R_LARCH_TLS_LE_LO12)) r.symbol r.addend) 0)
     w (instruction_at l.rewritten o) (instruction_at l.final o) refl
-    (applied_there l linked loongarch i chosen below decided kinds.LowToOri by.kind_is
+    (applied_there l linked loongarch i chosen below decided left kinds.LowToOri by.kind_is
     names.R_LARCH_TLS_LE_LO12 by.code_is low_after symbol 0 refl is_symbol) in
     let made : IsRewritten kinds.LowToOri (instruction_at l.section o) (instruction_at l.rewritten o) =
     becomes l linked.done i chosen below decided kinds.LowToOri by.kind_is (λ word. 0x03800000 + field word 0 10) refl in
@@ -191,12 +191,12 @@ moved_low_parts laws l all done loongarch i chosen below is_name decided x y s t
     low base of_low of_base
 
 pub low_parts : Laws → LowParts
-low_parts laws l linked loongarch i chosen below is_name decided any symbol is_symbol s t differing low alike over stores short of_low =
+low_parts laws l linked loongarch i chosen below is_name decided left any symbol is_symbol s t differing low alike over stores short of_low =
     let r = relocation_in l.relocations i in
     let by = part_entry l.section r.offset chosen
     (by_table l linked.decided loongarch i chosen below decided names.R_LARCH_TLS_LE_LO12_R tt is_name) in
     let w = operands_with LoongArch64 l.addresses part_after.row symbol r 0 in
     moved_low_parts laws l linked.decided linked.done loongarch i chosen below is_name decided w w s t differing low
     (instruction_at l.final r.offset) refl short alike over stores of_low
-    (applied_there l linked loongarch i chosen below decided kinds.BaseToTp by.kind_is
+    (applied_there l linked loongarch i chosen below decided left kinds.BaseToTp by.kind_is
     names.R_LARCH_TLS_LE_LO12_R by.code_is part_after symbol 0 refl is_symbol)

@@ -163,16 +163,16 @@ module _ (section : List ℕ) (o : ℕ) (chosen : Choice Relaxation ℕ) where
 
 high : Laws → EachRewritten (IsKind kinds.PcalaToLu12i) names.R_LARCH_TLS_DESC_PC_HI20 names.R_LARCH_TLS_LE_HI20
     (HighDoesTheSame names.R_LARCH_TLS_DESC_PC_HI20)
-high laws l linked loongarch i chosen below is_name decided kind =
+high laws l linked loongarch i chosen below is_name decided left kind =
     let o = (relocation_in l.relocations i).offset in
     let by = high_entry l.section o chosen kind
     (by_table l linked.decided loongarch i chosen below decided names.R_LARCH_TLS_DESC_PC_HI20 tt is_name) in
     let is : IsPageOfDescriptor (word_of (instruction_at l.section o)) = subst IsPageOfDescriptor (word_same l.section o) (by.asked.1) in
-    high_does names.R_LARCH_TLS_DESC_PC_HI20 laws.descriptor_high_half l linked loongarch i chosen below decided by.kind_is by.code_is
+    high_does names.R_LARCH_TLS_DESC_PC_HI20 laws.descriptor_high_half l linked loongarch i chosen below decided left by.kind_is by.code_is
     (is.0)
 
 low : Laws → EachRewritten (IsKind kinds.LowToOri) names.R_LARCH_TLS_DESC_PC_LO12 names.R_LARCH_TLS_LE_HI20 LowMakesOffset
-low laws l linked loongarch i chosen below is_name decided kind symbol is_symbol got s t c addi small has agree of_descriptor =
+low laws l linked loongarch i chosen below is_name decided left kind symbol is_symbol got s t c addi small has agree of_descriptor =
     let r = relocation_in l.relocations i in
     let o = r.offset in
     let by = low_entry l.section o chosen kind
@@ -182,7 +182,7 @@ low laws l linked loongarch i chosen below is_name decided kind symbol is_symbol
     with_operands low_after.row
     (operands_with LoongArch64 l.addresses low_after.row symbol (rela o (code_of (loongarch_name names.R_LARCH_TLS_LE_LO12)) r.symbol r.addend) 0)
     w (instruction_at l.rewritten o) (instruction_at l.final o) refl
-    (applied_there l linked loongarch i chosen below decided kinds.LowToOri by.kind_is
+    (applied_there l linked loongarch i chosen below decided left kinds.LowToOri by.kind_is
     names.R_LARCH_TLS_LE_LO12 by.code_is low_after symbol 0 refl is_symbol) in
     let made : IsRewritten kinds.LowToOri (instruction_at l.section o) (instruction_at l.rewritten o) =
     becomes l linked.done i chosen below decided kinds.LowToOri by.kind_is (λ word. 0x03800000 + field word 0 10) refl in
@@ -193,7 +193,7 @@ low laws l linked loongarch i chosen below is_name decided kind symbol is_symbol
 -- ---- for initial-exec
 
 page : Laws → EachRewritten (IsKind kinds.NoOp) names.R_LARCH_TLS_DESC_PC_HI20 names.R_LARCH_TLS_LE_HI20 PageDoesTheSame
-page laws l linked loongarch i chosen below is_name decided kind alone symbol is_symbol there within got s t c pcala small at agree fits fits_entry of_descriptor =
+page laws l linked loongarch i chosen below is_name decided left kind alone symbol is_symbol there within got s t c pcala small at agree fits fits_entry of_descriptor =
     let r = relocation_in l.relocations i in
     let o = r.offset in
     let e = symbol.thread_entry in
@@ -209,7 +209,7 @@ page laws l linked loongarch i chosen below is_name decided kind alone symbol is
     (operands_with LoongArch64 l.addresses entry_high.row symbol (rela o code r.symbol r.addend) e)
     (with_entry e w) (instruction_at l.section o) (instruction_at l.final o) refl
     (subst (λ xs. IsApplied entry_high.row (operands_with LoongArch64 l.addresses entry_high.row symbol (rela o code r.symbol r.addend) e) xs (instruction_at l.final o)) stayed
-    (applied_there l linked loongarch i chosen below decided kinds.NoOp by.kind_is
+    (applied_there l linked loongarch i chosen below decided left kinds.NoOp by.kind_is
     names.R_LARCH_TLS_IE_PC_HI20 by.code_is entry_high symbol e
     (ap (λ b. operands_by LoongArch64 l.addresses entry_high.row (rela o code r.symbol r.addend) symbol (cond b (Some e) None)) there) is_symbol)) in
     laws.descriptor_page w e s t c (instruction_at l.section o) small within at agree (is.1) pcala (instruction_at l.final o)
@@ -217,7 +217,7 @@ page laws l linked loongarch i chosen below is_name decided kind alone symbol is
     (record { is = is.0; fits = fits_entry; applied = written })
 
 load : Laws → EachRewritten (IsKind kinds.AddiToLd) names.R_LARCH_TLS_DESC_PC_LO12 names.R_LARCH_TLS_LE_HI20 LowLoadsOffset
-load laws l linked loongarch i chosen below is_name decided kind symbol is_symbol there within got s t c addi small holds has agree of_descriptor =
+load laws l linked loongarch i chosen below is_name decided left kind symbol is_symbol there within got s t c addi small holds has agree of_descriptor =
     let r = relocation_in l.relocations i in
     let o = r.offset in
     let e = symbol.thread_entry in
@@ -229,7 +229,7 @@ load laws l linked loongarch i chosen below is_name decided kind symbol is_symbo
     with_operands entry_low.row
     (operands_with LoongArch64 l.addresses entry_low.row symbol (rela o code r.symbol r.addend) e)
     (with_entry e w) (instruction_at l.rewritten o) (instruction_at l.final o) refl
-    (applied_there l linked loongarch i chosen below decided kinds.AddiToLd by.kind_is
+    (applied_there l linked loongarch i chosen below decided left kinds.AddiToLd by.kind_is
     names.R_LARCH_TLS_IE_PC_LO12 by.code_is entry_low symbol e
     (ap (λ b. operands_by LoongArch64 l.addresses entry_low.row (rela o code r.symbol r.addend) symbol (cond b (Some e) None)) there) is_symbol) in
     let made : IsRewritten kinds.AddiToLd (instruction_at l.section o) (instruction_at l.rewritten o) =
@@ -241,7 +241,7 @@ load laws l linked loongarch i chosen below is_name decided kind symbol is_symbo
 -- ---- for both
 
 goes : Laws → EachRewritten IsAny names.R_LARCH_TLS_DESC_LD names.R_LARCH_TLS_LE_HI20 LoadDoesNothing
-goes laws l linked loongarch i chosen below is_name decided any alone symbol is_symbol got s t c small has agree =
+goes laws l linked loongarch i chosen below is_name decided left any alone symbol is_symbol got s t c small has agree =
     let r = relocation_in l.relocations i in
     let o = r.offset in
     let by = load_goes l.section o chosen
@@ -249,10 +249,10 @@ goes laws l linked loongarch i chosen below is_name decided any alone symbol is_
     let w = operands_with LoongArch64 l.addresses high_after.row symbol r got in
     laws.descriptor_load w s t c (instruction_at l.section o) (instruction_at l.final o) small
     (subst IsLoadOfDescriptor (word_same l.section o) (by.asked.1)) has agree
-    (becomes_nop l linked loongarch i chosen below decided by.kind_is by.code_is (by.asked.0) alone)
+    (becomes_nop l linked loongarch i chosen below decided left by.kind_is by.code_is (by.asked.0) alone)
 
 called : Laws → EachRewritten IsAny names.R_LARCH_TLS_DESC_CALL names.R_LARCH_TLS_LE_HI20 CallDoesNothing
-called laws l linked loongarch i chosen below is_name decided any alone symbol is_symbol call c d got s t descriptor has function agree =
+called laws l linked loongarch i chosen below is_name decided left any alone symbol is_symbol call c d got s t descriptor has function agree =
     let r = relocation_in l.relocations i in
     let o = r.offset in
     let by = call_goes l.section o chosen
@@ -260,7 +260,7 @@ called laws l linked loongarch i chosen below is_name decided any alone symbol i
     let w = operands_with LoongArch64 l.addresses high_after.row symbol r got in
     laws.descriptor_call call c w s t d (instruction_at l.section o) (instruction_at l.final o) descriptor
     (subst IsCallOfDescriptor (word_same l.section o) (by.asked.1)) has function agree
-    (becomes_nop l linked loongarch i chosen below decided by.kind_is by.code_is (by.asked.0) alone)
+    (becomes_nop l linked loongarch i chosen below decided left by.kind_is by.code_is (by.asked.0) alone)
 
 pub descriptors : Laws → Descriptors
 descriptors laws =

@@ -10,7 +10,7 @@ use Rattle.linker_final.proofs.Joined.{code_is, own_there}
 use Rattle.linker_final.proofs.LoongArchAlone.{moved_low_parts, part_after, part_entry}
 use Rattle.linker_final.proofs.LoongArchChosen.{by_table}
 use Rattle.linker_final.proofs.Written.{rela}
-use Rattle.linker_final.specs.Final.{Linked, count, instruction_at}
+use Rattle.linker_final.specs.Final.{InstructionIsLeft, Linked, count, instruction_at}
 use Rattle.linker_final.specs.Joined.{IsRewrittenAndPacked, IsKeptInstruction}
 use Rattle.linker_final.specs.LoongArchJoined.{PackedLowParts}
 use Rattle.linker_final.specs.Packed.{Packed, architecture_of, place_of}
@@ -32,7 +32,7 @@ use Rattle.linker_utils.specs.declared.elf.Architecture.TheVariants.{LoongArch64
 module _ (l : Linked) (p : Packed) (joined : IsRewrittenAndPacked l p) (loongarch : p.machine ≡ loongarch64)
     (i : ℕ) (chosen : Choice Relaxation ℕ) (below : i < count l)
     (is_name : IsNameOf loongarch_name (relocation_in l.relocations i).code names.R_LARCH_TLS_LE_LO12_R)
-    (decided : decision_at l.decisions i ≡ Rewritten chosen) (kept : IsKeptInstruction p i) where
+    (decided : decision_at l.decisions i ≡ Rewritten chosen) (kept : IsKeptInstruction p i) (left : InstructionIsLeft l i) where
   abbrev r : Rela
   r = relocation_in l.relocations i
 
@@ -62,7 +62,7 @@ module _ (l : Linked) (p : Packed) (joined : IsRewrittenAndPacked l p) (loongarc
         name = names.R_LARCH_TLS_LE_LO12_R;
         is_name =
             subst (λ c. IsNameOf loongarch_name c names.R_LARCH_TLS_LE_LO12_R)
-            (sym is_name.code_is ∙ sym (code_is l p joined i below code r.symbol r.addend after_is kept)) is_name;
+            (sym is_name.code_is ∙ sym (code_is l p joined i below code r.symbol r.addend after_is kept left)) is_name;
         value_is = refl;
       })
 
@@ -72,16 +72,16 @@ module _ (l : Linked) (p : Packed) (joined : IsRewrittenAndPacked l p) (loongarc
   relocated symbol is_symbol =
       let row = part_after.row in
       subst (λ x. IsApplied row (operands_with x p.addresses row symbol after 0) (instruction_at l.rewritten r.offset) (instruction_at p.final (place_of p r.offset))) is
-      (own_there l p joined i below code r.symbol r.addend after_is kept row part_after.of row_is symbol
+      (own_there l p joined i below code r.symbol r.addend after_is kept left row part_after.of row_is symbol
       (subst (λ x. operands_by x p.addresses row after symbol
       (entry_address p.addresses symbol (entry_of row after.addend symbol.is_thread_local))
       ≡ Ok (operands_with x p.addresses row symbol after 0)) (sym is) refl)
       is_symbol)
 
 pub packed_low_parts : Laws → PackedLowParts
-packed_low_parts laws l p joined loongarch i chosen below is_name decided kept symbol is_symbol x s t differing low same short alike over stores of_low =
+packed_low_parts laws l p joined loongarch i chosen below is_name decided kept left symbol is_symbol x s t differing low same short alike over stores of_low =
     let r = relocation_in l.relocations i in
     let y = operands_with LoongArch64 p.addresses part_after.row symbol (relocation_in p.relocations_after i) 0 in
     moved_low_parts laws l joined.rewritten.decided joined.rewritten.done (joined.architecture ∙ ap architecture_of loongarch) i chosen below is_name decided
     x y s t differing low (instruction_at p.final (place_of p r.offset)) same short alike over stores of_low
-    (relocated l p joined loongarch i chosen below is_name decided kept symbol is_symbol)
+    (relocated l p joined loongarch i chosen below is_name decided kept left symbol is_symbol)

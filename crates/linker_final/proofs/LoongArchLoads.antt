@@ -19,7 +19,7 @@ use Rattle.linker_final.proofs.LoongArchChosen.{IsByTable, IsEntry, by_table, en
 use Rattle.linker_final.proofs.LoongArchPairs.{AreOfLoad, load_of}
 use Rattle.linker_final.proofs.LoongArchWritten.{IsAfter, applied_there, becomes}
 use Rattle.linker_final.proofs.Written.{rela, stays, with_operands, word_same}
-use Rattle.linker_final.specs.Final.{Linked, IsLinked, IsRewrittenByNoOther, instruction_at}
+use Rattle.linker_final.specs.Final.{AreLeft, Linked, IsLinked, IsRewrittenByNoOther, instruction_at}
 use Rattle.linker_final.specs.LoongArchFinal.{GotLoads, LoadsTheSame}
 use Rattle.linker_laws.specs.LoongArchRewriteLaws.{IsPair, IsRewritten, Laws, behind, word_of}
 use Rattle.linker_loongarch64.specs.LoongArchRewrites.{AreOfOneRegister, IsLd, bound_by_pages}
@@ -121,7 +121,7 @@ low_entry section o chosen by =
 -- ---- a pair
 
 module _ (laws : Laws) (l : Linked) (linked : IsLinked l) (loongarch : l.setting.architecture ≡ LoongArch64)
-    (i j : ℕ) (of : AreOfLoad l i j) (alone : IsRewrittenByNoOther l i (relocation_in l.relocations i).offset) where
+    (i j : ℕ) (of : AreOfLoad l i j) (left : AreLeft l i j) (alone : IsRewrittenByNoOther l i (relocation_in l.relocations i).offset) where
   abbrev first : Rela
   first = relocation_in l.relocations i
 
@@ -163,7 +163,7 @@ module _ (laws : Laws) (l : Linked) (linked : IsLinked l) (loongarch : l.setting
       (operands_with LoongArch64 l.addresses page_after.row symbol (rela o page_code first.symbol first.addend) 0)
       w (instruction_at l.section o) (instruction_at l.final o) refl
       (subst (λ xs. IsApplied page_after.row (operands_with LoongArch64 l.addresses page_after.row symbol (rela o page_code first.symbol first.addend) 0) xs (instruction_at l.final o)) stayed
-      (applied_there l linked loongarch i of.page_chosen of.page_below of.page_decided kinds.NoOp page.kind_is
+      (applied_there l linked loongarch i of.page_chosen of.page_below of.page_decided (left.0) kinds.NoOp page.kind_is
       names.R_LARCH_PCALA_HI20 page.code_is page_after symbol 0 refl is_symbol)) in
       let low_written : IsApplied low_after.row (behind 4 w) (instruction_at l.rewritten (o + 4)) (instruction_at l.final (o + 4)) =
       subst (λ n. IsApplied low_after.row (behind 4 w) (instruction_at l.rewritten n) (instruction_at l.final n)) next
@@ -171,7 +171,7 @@ module _ (laws : Laws) (l : Linked) (linked : IsLinked l) (loongarch : l.setting
       (operands_with LoongArch64 l.addresses low_after.row symbol (rela second.offset low_code second.symbol second.addend) 0)
       (behind 4 w) (instruction_at l.rewritten second.offset) (instruction_at l.final second.offset)
       (low_value l.addresses symbol first got second.offset low_code second.symbol second.addend of.same_addend)
-      (applied_there l linked loongarch j of.low_chosen of.low_below of.low_decided kinds.LdToAddi low.kind_is
+      (applied_there l linked loongarch j of.low_chosen of.low_below of.low_decided (left.1) kinds.LdToAddi low.kind_is
       names.R_LARCH_PCALA_LO12 low.code_is low_after symbol 0 refl
       (ap (slice_get l.symbols) of.same_symbol ∙ is_symbol))) in
       let added : IsRewritten kinds.LdToAddi (instruction_at l.section (o + 4)) (instruction_at l.rewritten (o + 4)) =
@@ -182,6 +182,6 @@ module _ (laws : Laws) (l : Linked) (linked : IsLinked l) (loongarch : l.setting
       together holds added pcala ld (instruction_at l.final o) (instruction_at l.final (o + 4)) loads fits page_written low_written
 
 pub got_loads : Laws → GotLoads
-got_loads laws l linked setting i chosen below is_name decided alone =
+got_loads laws l linked setting i chosen below is_name decided left alone =
     loads_the_same laws l linked (ap (λ (x : Setting). x.architecture) setting) i (i + 2)
-    (load_of l linked.decided setting i chosen below is_name decided) alone
+    (load_of l linked.decided setting i chosen below is_name decided) left alone

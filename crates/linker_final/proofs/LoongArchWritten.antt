@@ -14,7 +14,7 @@ use Rattle.linker_elf.specs.declared.loongarch64.relocations.LoongArch64Relocati
 use Rattle.linker_elf.specs.declared.loongarch64.relocations.LoongArch64Relocation.TheVariants as names
 use Rattle.linker_final.proofs.InstructionFields.{IsOfInstruction}
 use Rattle.linker_final.proofs.Written.{IsRowOf, applied_after, by_name, rela, relocation_is, unwritten_without}
-use Rattle.linker_final.specs.Final.{Linked, IsLinked, IsWrittenByNoOther, count, instruction_at}
+use Rattle.linker_final.specs.Final.{InstructionIsLeft, Linked, IsLinked, IsWrittenByNoOther, count, instruction_at}
 use Rattle.linker_laws.specs.LoongArchRewriteLaws.{BeginsRewritten, IsRewritten}
 use Rattle.linker_loongarch64.specs.LoongArchRewrites.{loongarch_rewrite, rewrites_word}
 use Rattle.linker_loongarch64.specs.declared.rewrites.RelaxationKind.{RelaxationKind}
@@ -80,7 +80,7 @@ same_addend kinds.DeleteAddi a = refl
 
 module _ (l : Linked) (linked : IsLinked l) (loongarch : l.setting.architecture ≡ LoongArch64) (i : ℕ)
     (chosen : Choice Relaxation ℕ) (below : i < count l)
-    (decided : decision_at l.decisions i ≡ Rewritten chosen)
+    (decided : decision_at l.decisions i ≡ Rewritten chosen) (left : InstructionIsLeft l i)
     (kind : RelaxationKind) (kind_is : chosen.kind ≡ relaxations.LoongArch64 kind) where
   -- the relocation of a name is applied to what the rewrite leaves
   pub applied_there : (name : LoongArch64Relocation) → chosen.relocation ≡ code_of (loongarch_name name)
@@ -100,7 +100,7 @@ module _ (l : Linked) (linked : IsLinked l) (loongarch : l.setting.architecture 
       ∙ (ap (λ x. rela x code r.symbol (addend_after (loongarch_rewrite kind) r.addend)) (unmoved kind r.offset)
       ∙ ap (λ x. rela r.offset code r.symbol x) (same_addend kind r.addend)) in
       subst (λ x. IsApplied a.row (operands_with x l.addresses a.row symbol after got) (instruction_at l.rewritten r.offset) (instruction_at l.final r.offset)) loongarch
-      (applied_after l linked i below 4 (omega arith) a.row a.of after r_after (row_of l loongarch name a.named a.row a.is)
+      (applied_after l linked i below 4 (omega arith) a.row a.of after r_after left (row_of l loongarch name a.named a.row a.is)
       symbol is_symbol got
       (subst (λ x. operands_in x l.addresses a.row after (Some symbol) ≡ Ok (operands_with x l.addresses a.row symbol after got)) (sym loongarch) taken))
 
@@ -128,16 +128,17 @@ becomes l done i chosen below decided kind kind_is new is =
 -- an instruction that becomes `nop`, whose relocation goes
 pub becomes_nop : (l : Linked) → IsLinked l → l.setting.architecture ≡ LoongArch64 → (i : ℕ)
     → (chosen : Choice Relaxation ℕ) → i < count l → decision_at l.decisions i ≡ Rewritten chosen
+    → InstructionIsLeft l i
     → chosen.kind ≡ relaxations.LoongArch64 kinds.ReplaceWithNop → chosen.relocation ≡ 0
     → (relocation_in l.relocations i).offset + 4 ≤ length l.section
     → IsWrittenByNoOther l i (relocation_in l.relocations i).offset
     → IsRewritten kinds.ReplaceWithNop (instruction_at l.section (relocation_in l.relocations i).offset)
     (instruction_at l.final (relocation_in l.relocations i).offset)
-becomes_nop l linked loongarch i chosen below decided kind_is code_is inside alone =
+becomes_nop l linked loongarch i chosen below decided left kind_is code_is inside alone =
     let o = (relocation_in l.relocations i).offset in
     let made : IsRewritten kinds.ReplaceWithNop (instruction_at l.section o) (instruction_at l.rewritten o) =
     becomes l linked.done i chosen below decided kinds.ReplaceWithNop kind_is (λ _. 0x03400000) refl in
     let gone : (relocation_in l.relocations_after i).code ≡ 0 =
     ap (λ (x : Rela). x.code) (linked.relocations i below ∙ ap (λ d. relocation_after d (relocation_in l.relocations i)) decided) ∙ code_is in
     subst (IsRewritten kinds.ReplaceWithNop (instruction_at l.section o))
-    (sym (unwritten_without l linked i o (row_of l loongarch names.R_LARCH_NONE tt (bytes_row NoValue 0) refl) gone inside alone)) made
+    (sym (unwritten_without l linked i below o left (row_of l loongarch names.R_LARCH_NONE tt (bytes_row NoValue 0) refl) gone inside alone)) made

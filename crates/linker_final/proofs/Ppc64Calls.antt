@@ -14,6 +14,7 @@ use Rattle.linker_elf.specs.declared.ppc64.relocations.Ppc64Relocation.TheVarian
 use Rattle.linker_final.proofs.Ppc64Chosen.{of_entry}
 use Rattle.linker_final.proofs.Ppc64Written.{after_is, applied_there, becomes, call_after, row_of}
 use Rattle.linker_final.proofs.PutBack.{window_length}
+use Rattle.linker_final.proofs.Phases.{left_within, relocation_left}
 use Rattle.linker_final.proofs.Written.{apart_with, first_same, second_same, unwritten_but, with_operands, word_same}
 use Rattle.linker_final.specs.Final.{AreBytes, instruction_at, two_at}
 use Rattle.linker_final.specs.Ppc64Final.{Calls, offset_of}
@@ -64,7 +65,7 @@ call_stays before after o small inside made =
 -- ---- the theorem
 
 pub calls : Laws → Calls
-calls laws l linked ppc64 i chosen below is_name decided symbol got is_symbol small =
+calls laws l linked ppc64 i chosen below is_name decided left symbol got is_symbol small =
     let w = operands_with Ppc64 l.addresses call_after.row symbol (relocation_in l.relocations i) got in
     let o = offset_of l i in
     let name = names.R_PPC64_REL24 in
@@ -88,14 +89,14 @@ calls laws l linked ppc64 i chosen below is_name decided symbol got is_symbol sm
     let word : word_of (drop o l.section) < 2 ^ 32 =
     word_below (drop o l.section) (All-drop (λ b. b < 2 ^ 8) o l.section linked.section_bytes) (omega (arith, inside, ld)) in
     let wide : word_of (two_at l.section o) < 2 ^ 32 = omega (arith, first, word) in
-    let applied = applied_there l linked ppc64 i chosen below decided kind by.kind_is name by.code_is 4 (omega arith) call_after symbol 0 refl is_symbol in (
+    let applied = applied_there l linked ppc64 i chosen below decided kind by.kind_is name by.code_is 4 (omega arith) call_after (left_within l i o 8 o 4 (omega arith) (omega arith) left) symbol 0 refl is_symbol in (
       subst (λ xs. IsApplied call_after.row w xs (instruction_at l.final o)) stays
           (with_operands call_after.row _ w _ _ refl applied),
       λ alone f s.
           let steps = laws.toc f s (two_at l.section o) (two_at l.rewritten o) wide is made in
           let same : instruction_at l.final (o + 4) ≡ instruction_at l.rewritten (o + 4) =
-          unwritten_but l linked i (o + 4) (omega (arith, behind))
-          (apart_with l i _ (after_is l linked ppc64 i chosen below decided kind by.kind_is name by.code_is) call_after.row
+          unwritten_but l linked i (o + 4) (left_within l i o 8 (o + 4) 4 (omega arith) (omega arith) left) (omega (arith, behind))
+          (apart_with l i _ (relocation_left l linked i o 8 left below ∙ after_is l linked ppc64 i chosen below decided kind by.kind_is name by.code_is) call_after.row
           (row_of l ppc64 name tt call_after.row refl) 4 call_after.of (o + 4) (inr (omega arith))) alone in (
             subst (λ xs. step f (word_of xs) s ≡ Some (go_on s)) (second_same l.section o) (steps.1),
             subst (λ xs. step f (word_of xs) s ≡ Some (go_on (write 2 (loaded 8 s.memory (sum_64 (s.registers 1) 24)) s)))

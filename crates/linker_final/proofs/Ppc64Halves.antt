@@ -15,7 +15,7 @@ use Rattle.linker_final.proofs.Ppc64Chosen.{of_entry}
 use Rattle.linker_final.proofs.Ppc64Written.{IsAfter, applied_there, becomes, unwritten}
 use Rattle.linker_final.proofs.Ppc64Written.{thread_after, thread_words_after, toc_after, toc_words_after}
 use Rattle.linker_final.proofs.Written.{with_operands, word_same}
-use Rattle.linker_final.specs.Final.{Linked, IsLinked, IsWrittenByNoOther, count, instruction_at}
+use Rattle.linker_final.specs.Final.{IsLeftAlone, Linked, IsLinked, IsWrittenByNoOther, count, instruction_at}
 use Rattle.linker_final.specs.Ppc64Final.{LowHalf, NopIsAlike, OverBaseIsAlike, ThreadHalves, TocHalves, VectorIsAlike, WordLowHalf, final, object, offset_of}
 use Rattle.linker_laws.specs.Ppc64RewriteLaws.{IsRelocated, IsRewritten, Laws, Leads, LowHalfLeads, OverBase, ToNop, Use, VectorOverBase, word_of}
 use Rattle.linker_laws.specs.Ppc64RewriteLaws.{accesses, adds, ds_access, from_thread, from_toc, is_d_over, is_ds_over_base}
@@ -48,23 +48,24 @@ module _ (l : Linked) (linked : IsLinked l) (ppc64 : l.setting.architecture ≡ 
 
   -- an instruction becomes another, whose relocation goes
   pub becomes_final : (new : ℕ → ℕ) → ppc64_rewrite kind ≡ Some (rewrites_word new)
-      → chosen.relocation ≡ 0 → offset_of l i + 4 ≤ length l.section
+      → chosen.relocation ≡ 0 → IsLeftAlone l i (offset_of l i) 4 → offset_of l i + 4 ≤ length l.section
       → IsWrittenByNoOther l i (offset_of l i)
       → IsRewritten kind (object l i) (final l i)
-  becomes_final new is gone inside alone =
-      subst (IsRewritten kind (object l i)) (sym (unwritten l linked ppc64 i chosen below decided kind kind_is gone (offset_of l i) inside alone))
+  becomes_final new is gone left inside alone =
+      subst (IsRewritten kind (object l i)) (sym (unwritten l linked ppc64 i chosen below decided kind kind_is gone (offset_of l i) left inside alone))
       (becomes l linked ppc64 i chosen below decided kind kind_is (rewrites_word new) is refl)
 
   -- a high half becomes `nop`
   pub nop_is_alike : (register : ℕ) (high : Ppc64Relocation) (address : Operands → ℕ → ℕ)
       (LowHalvesLead : Operands → ℕ → ℕ → Type 0) → ToNop register kind high address LowHalvesLead
       → ppc64_rewrite kind ≡ Some (rewrites_word (λ _. nop)) → chosen.relocation ≡ 0
+      → IsLeftAlone l i (offset_of l i) 4
       → HasTest (is_addis_over register) l.section (offset_of l i)
       → (o : Operands) → AreAddresses o
       → NopIsAlike register high address LowHalvesLead l i o
-  nop_is_alike register high address LowHalvesLead law is gone meant o small alone f s t c addis agree applied =
+  nop_is_alike register high address LowHalvesLead law is gone left meant o small alone f s t c addis agree applied =
       law f o s t c (object l i) (final l i) small agree (test_there (is_addis_over register) meant)
-      (becomes_final (λ _. nop) is gone (meant.0) alone) addis applied
+      (becomes_final (λ _. nop) is gone left (meant.0) alone) addis applied
 
   -- a low half becomes one over the base
   pub over_base_is_alike : (register : ℕ) (low whole : Ppc64Relocation) (form : Ppc64Instruction)
@@ -92,14 +93,14 @@ module _ (l : Linked) (linked : IsLinked l) (ppc64 : l.setting.architecture ≡ 
 -- ---- near the TOC pointer
 
 toc_low : Laws → LowHalf 2 names.R_PPC64_TOC16_LO from_toc
-toc_low laws l linked ppc64 i chosen below is_name decided symbol got is_symbol small =
+toc_low laws l linked ppc64 i chosen below is_name decided left symbol got is_symbol small =
     let w = operands_with Ppc64 l.addresses (low_row SymRelGotBase) symbol (relocation_in l.relocations i) got in
     let by = of_entry l linked ppc64 i chosen below decided names.R_PPC64_TOC16_LO tt is_name
     (entry kinds.BaseToToc names.R_PPC64_TOC16 without_high_part) refl in
     let applied : IsRelocated names.R_PPC64_TOC16 w (instruction_at l.rewritten (offset_of l i)) (final l i) =
     with_operands toc_after.row _ _ _ _ refl
     (applied_there l linked ppc64 i chosen below decided kinds.BaseToToc by.kind_is names.R_PPC64_TOC16 by.code_is
-    4 (omega arith) toc_after symbol 0 refl is_symbol) in (
+    4 (omega arith) toc_after left symbol 0 refl is_symbol) in (
       over_base_is_alike l linked ppc64 i chosen below decided kinds.BaseToToc by.kind_is 2 names.R_PPC64_TOC16_LO names.R_PPC64_TOC16 D from_toc (adds is_addi)
           (laws.low_half.0) refl w small applied,
       over_base_is_alike l linked ppc64 i chosen below decided kinds.BaseToToc by.kind_is 2 names.R_PPC64_TOC16_LO names.R_PPC64_TOC16 D from_toc is_d_over
@@ -107,14 +108,14 @@ toc_low laws l linked ppc64 i chosen below is_name decided symbol got is_symbol 
     )
 
 toc_low_words : Laws → WordLowHalf 2 names.R_PPC64_TOC16_LO_DS from_toc
-toc_low_words laws l linked ppc64 i chosen below is_name decided symbol got is_symbol small =
+toc_low_words laws l linked ppc64 i chosen below is_name decided left symbol got is_symbol small =
     let w = operands_with Ppc64 l.addresses (low_ds_row SymRelGotBase) symbol (relocation_in l.relocations i) got in
     let by = of_entry l linked ppc64 i chosen below decided names.R_PPC64_TOC16_LO_DS tt is_name
     (entry kinds.BaseToToc names.R_PPC64_TOC16_DS without_high_part) refl in
     let applied : IsRelocated names.R_PPC64_TOC16_DS w (instruction_at l.rewritten (offset_of l i)) (final l i) =
     with_operands toc_words_after.row _ _ _ _ refl
     (applied_there l linked ppc64 i chosen below decided kinds.BaseToToc by.kind_is names.R_PPC64_TOC16_DS by.code_is
-    4 (omega arith) toc_words_after symbol 0 refl is_symbol) in (
+    4 (omega arith) toc_words_after left symbol 0 refl is_symbol) in (
       over_base_is_alike l linked ppc64 i chosen below decided kinds.BaseToToc by.kind_is 2 names.R_PPC64_TOC16_LO_DS names.R_PPC64_TOC16_DS Ds from_toc (accesses is_ds_over_base ds_access)
           (laws.low_half.2) refl w small applied,
       vector_is_alike l linked ppc64 i chosen below decided kinds.BaseToToc by.kind_is 2 names.R_PPC64_TOC16_LO_DS names.R_PPC64_TOC16_DS from_toc
@@ -123,12 +124,12 @@ toc_low_words laws l linked ppc64 i chosen below is_name decided symbol got is_s
 
 pub toc_halves : Laws → TocHalves
 toc_halves laws = (
-  λ l linked ppc64 i chosen below is_name decided symbol got is_symbol small.
+  λ l linked ppc64 i chosen below is_name decided left symbol got is_symbol small.
       let by = of_entry l linked ppc64 i chosen below decided names.R_PPC64_TOC16_HA tt is_name
       (entry kinds.AddisToNop names.R_PPC64_NONE without_high_part) refl in
       nop_is_alike l linked ppc64 i chosen below decided kinds.AddisToNop by.kind_is 2 names.R_PPC64_TOC16_HA from_toc
       (λ o n a. Leads names.R_PPC64_TOC16_LO D o n a × Leads names.R_PPC64_TOC16_LO_DS Ds o n a)
-      (laws.high_half.0) refl by.code_is by.meant
+      (laws.high_half.0) refl by.code_is left by.meant
       (operands_with Ppc64 l.addresses (high_adjusted_row SymRelGotBase) symbol (relocation_in l.relocations i) got) small,
   toc_low laws,
   toc_low_words laws,
@@ -137,14 +138,14 @@ toc_halves laws = (
 -- ---- near the thread pointer
 
 thread_low : Laws → LowHalf 13 names.R_PPC64_TPREL16_LO from_thread
-thread_low laws l linked ppc64 i chosen below is_name decided symbol got is_symbol small =
+thread_low laws l linked ppc64 i chosen below is_name decided left symbol got is_symbol small =
     let w = operands_with Ppc64 l.addresses (low_row TpOff) symbol (relocation_in l.relocations i) got in
     let by = of_entry l linked ppc64 i chosen below decided names.R_PPC64_TPREL16_LO tt is_name
     (entry kinds.BaseToThread names.R_PPC64_TPREL16 without_high_offset) refl in
     let applied : IsRelocated names.R_PPC64_TPREL16 w (instruction_at l.rewritten (offset_of l i)) (final l i) =
     with_operands thread_after.row _ _ _ _ refl
     (applied_there l linked ppc64 i chosen below decided kinds.BaseToThread by.kind_is names.R_PPC64_TPREL16 by.code_is
-    4 (omega arith) thread_after symbol 0 refl is_symbol) in (
+    4 (omega arith) thread_after left symbol 0 refl is_symbol) in (
       over_base_is_alike l linked ppc64 i chosen below decided kinds.BaseToThread by.kind_is 13 names.R_PPC64_TPREL16_LO names.R_PPC64_TPREL16 D from_thread (adds is_addi)
           (laws.low_half.4) refl w small applied,
       over_base_is_alike l linked ppc64 i chosen below decided kinds.BaseToThread by.kind_is 13 names.R_PPC64_TPREL16_LO names.R_PPC64_TPREL16 D from_thread is_d_over
@@ -152,14 +153,14 @@ thread_low laws l linked ppc64 i chosen below is_name decided symbol got is_symb
     )
 
 thread_low_words : Laws → WordLowHalf 13 names.R_PPC64_TPREL16_LO_DS from_thread
-thread_low_words laws l linked ppc64 i chosen below is_name decided symbol got is_symbol small =
+thread_low_words laws l linked ppc64 i chosen below is_name decided left symbol got is_symbol small =
     let w = operands_with Ppc64 l.addresses (low_ds_row TpOff) symbol (relocation_in l.relocations i) got in
     let by = of_entry l linked ppc64 i chosen below decided names.R_PPC64_TPREL16_LO_DS tt is_name
     (entry kinds.BaseToThread names.R_PPC64_TPREL16_DS without_high_offset) refl in
     let applied : IsRelocated names.R_PPC64_TPREL16_DS w (instruction_at l.rewritten (offset_of l i)) (final l i) =
     with_operands thread_words_after.row _ _ _ _ refl
     (applied_there l linked ppc64 i chosen below decided kinds.BaseToThread by.kind_is names.R_PPC64_TPREL16_DS by.code_is
-    4 (omega arith) thread_words_after symbol 0 refl is_symbol) in (
+    4 (omega arith) thread_words_after left symbol 0 refl is_symbol) in (
       over_base_is_alike l linked ppc64 i chosen below decided kinds.BaseToThread by.kind_is 13 names.R_PPC64_TPREL16_LO_DS names.R_PPC64_TPREL16_DS Ds from_thread (accesses is_ds_over_base ds_access)
           (laws.low_half.6) refl w small applied,
       vector_is_alike l linked ppc64 i chosen below decided kinds.BaseToThread by.kind_is 13 names.R_PPC64_TPREL16_LO_DS names.R_PPC64_TPREL16_DS from_thread
@@ -168,12 +169,12 @@ thread_low_words laws l linked ppc64 i chosen below is_name decided symbol got i
 
 pub thread_halves : Laws → ThreadHalves
 thread_halves laws = (
-  λ l linked ppc64 i chosen below is_name decided symbol got is_symbol small.
+  λ l linked ppc64 i chosen below is_name decided left symbol got is_symbol small.
       let by = of_entry l linked ppc64 i chosen below decided names.R_PPC64_TPREL16_HA tt is_name
       (entry kinds.AddisThreadToNop names.R_PPC64_NONE without_high_offset) refl in
       nop_is_alike l linked ppc64 i chosen below decided kinds.AddisThreadToNop by.kind_is 13 names.R_PPC64_TPREL16_HA from_thread
       LowHalfLeads
-      (laws.high_half.1) refl by.code_is by.meant
+      (laws.high_half.1) refl by.code_is left by.meant
       (operands_with Ppc64 l.addresses (high_adjusted_row TpOff) symbol (relocation_in l.relocations i) got) small,
   thread_low laws,
   thread_low_words laws,

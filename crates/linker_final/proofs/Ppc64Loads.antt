@@ -21,9 +21,9 @@ use Rattle.linker_section.specs.Values.{operands_with}
 use Rattle.linker_utils.specs.Architectures.{relaxation_rewrite}
 use Rattle.linker_utils.specs.declared.elf.Architecture.TheVariants.{Ppc64}
 
-prefixed : Laws → EachRewritten names.R_PPC64_GOT_PCREL34 (λ l i chosen.
+prefixed : Laws → EachRewritten 8 names.R_PPC64_GOT_PCREL34 (λ l i chosen.
     ForOperands names.R_PPC64_PCREL34 l i (λ symbol. PrefixedIsAlike l i))
-prefixed laws l linked ppc64 i chosen below is_name decided symbol got is_symbol small f s pld at holds of_entry_there =
+prefixed laws l linked ppc64 i chosen below is_name decided left symbol got is_symbol small f s pld at holds of_entry_there =
     let o = offset_of l i in
     let kind = kinds.PldToPaddi in
     let after = names.R_PPC64_PCREL34 in
@@ -45,7 +45,7 @@ prefixed laws l linked ppc64 i chosen below is_name decided symbol got is_symbol
     word_below (drop (o + 4) l.section) (All-drop (λ b. b < 2 ^ 8) (o + 4) l.section linked.section_bytes) (omega (arith, behind, d2)) in
     let applied : IsRelocated after _ (two_at l.rewritten o) (two_at l.final o) =
     with_operands distance_after.row _ _ _ _ refl
-    (applied_there l linked ppc64 i chosen below decided kind by.kind_is after by.code_is 8 (omega arith) distance_after symbol 0 refl is_symbol) in
+    (applied_there l linked ppc64 i chosen below decided kind by.kind_is after by.code_is 8 (omega arith) distance_after left symbol 0 refl is_symbol) in
     laws.prefixed f _ s (two_at l.section o) (two_at l.rewritten o) small at
     (omega (arith, first, small1)) (omega (arith, second, small2)) is holds
     (becomes l linked ppc64 i chosen below decided kind by.kind_is (replaces 0 8 paddi) refl refl)
@@ -53,9 +53,9 @@ prefixed laws l linked ppc64 i chosen below is_name decided symbol got is_symbol
 
 -- ---- by the distance from the TOC pointer
 
-high : Laws → EachRewritten names.R_PPC64_GOT16_HA (λ l i chosen.
+high : Laws → EachRewritten 4 names.R_PPC64_GOT16_HA (λ l i chosen.
     ForOperands names.R_PPC64_TOC16_HA l i (λ symbol. SymbolIsAlike l i))
-high laws l linked ppc64 i chosen below is_name decided symbol got is_symbol small alone f s t c addis agree of_entry_there =
+high laws l linked ppc64 i chosen below is_name decided left symbol got is_symbol small alone f s t c addis agree of_entry_there =
     let kind = kinds.KeepAddis in
     let w = operands_with Ppc64 l.addresses toc_high_after.row symbol (relocation_in l.relocations i) got in
     let after = names.R_PPC64_TOC16_HA in
@@ -65,22 +65,22 @@ high laws l linked ppc64 i chosen below is_name decided symbol got is_symbol sma
     stays l linked i chosen below decided (ap relaxation_rewrite by.kind_is) alone (by.meant.0) in
     let applied : IsRelocated after w (instruction_at l.rewritten o) (final l i) =
     with_operands toc_high_after.row _ _ _ _ refl
-    (applied_there l linked ppc64 i chosen below decided kind by.kind_is after by.code_is 4 (omega arith) toc_high_after symbol 0 refl is_symbol) in
+    (applied_there l linked ppc64 i chosen below decided kind by.kind_is after by.code_is 4 (omega arith) toc_high_after left symbol 0 refl is_symbol) in
     laws.symbol_high_half f w s t c (object l i) small agree
     (test_there l linked ppc64 i chosen below decided kind by.kind_is is_addis_of_toc by.meant)
     addis (final l i) of_entry_there
     (subst (λ xs. IsRelocated after w xs (final l i)) kept applied)
 
-low : Laws → EachRewritten names.R_PPC64_GOT16_LO_DS (λ l i chosen.
+low : Laws → EachRewritten 4 names.R_PPC64_GOT16_LO_DS (λ l i chosen.
     ForOperands names.R_PPC64_TOC16_LO l i (λ symbol. LoadIsAlike l i))
-low laws l linked ppc64 i chosen below is_name decided symbol got is_symbol small f s t c ld got_entry address agree leads holds new_leads of_entry_there =
+low laws l linked ppc64 i chosen below is_name decided left symbol got is_symbol small f s t c ld got_entry address agree leads holds new_leads of_entry_there =
     let kind = kinds.LdToAddi in
     let w = operands_with Ppc64 l.addresses toc_low_after.row symbol (relocation_in l.relocations i) got in
     let after = names.R_PPC64_TOC16_LO in
     let by = of_entry l linked ppc64 i chosen below decided names.R_PPC64_GOT16_LO_DS tt is_name (entry kind after to_toc_distance) refl in
     let applied : IsRelocated after w (instruction_at l.rewritten (offset_of l i)) (final l i) =
     with_operands toc_low_after.row _ _ _ _ refl
-    (applied_there l linked ppc64 i chosen below decided kind by.kind_is after by.code_is 4 (omega arith) toc_low_after symbol 0 refl is_symbol) in
+    (applied_there l linked ppc64 i chosen below decided kind by.kind_is after by.code_is 4 (omega arith) toc_low_after left symbol 0 refl is_symbol) in
     laws.symbol_load f w s t c (object l i) (instruction_at l.rewritten (offset_of l i)) agree
     (test_there l linked ppc64 i chosen below decided kind by.kind_is is_ld by.meant)
     (becomes l linked ppc64 i chosen below decided kind by.kind_is (rewrites_word (λ word. 0x38000000 + registers_of word)) refl refl)

@@ -11,6 +11,7 @@ use Rattle.linker_elf.specs.declared.ppc64.relocations.Ppc64Relocation.TheVarian
 use Rattle.linker_final.proofs.Ppc64Chosen.{IsOfEntry, IsOfOne, of_entry, of_one}
 use Rattle.linker_final.proofs.Ppc64Halves.{becomes_final, test_there}
 use Rattle.linker_final.proofs.Ppc64Written.{after_is, applied_there, becomes, entry_there, near_entry_after, row_of, thread_high_after, thread_low_after, unwritten}
+use Rattle.linker_final.proofs.Phases.{left_within, relocation_left}
 use Rattle.linker_final.proofs.Written.{apart_with, first_same, rela, second_same, unwritten_but, with_operands}
 use Rattle.linker_final.specs.Final.{Linked, IsLinked, count, instruction_at, two_at}
 use Rattle.linker_final.specs.Ppc64Final.{EachRewritten, ForOperands, LeavesEntry, NearArguments, NearIsAlike, NearToModule, final, object, offset_of}
@@ -79,9 +80,9 @@ is_addi_there l linked ppc64 i chosen below is_name decided =
       | inr (inr nothing) ↦ absurd nothing
     ]
 
-general : Laws → EachRewritten names.R_PPC64_GOT_TLSGD16 (λ l i chosen.
+general : Laws → EachRewritten 4 names.R_PPC64_GOT_TLSGD16 (λ l i chosen.
     ForOperands names.R_PPC64_TPREL16_HA l i (NearIsAlike l i chosen))
-general laws l linked ppc64 i chosen below is_name decided symbol got is_symbol small =
+general laws l linked ppc64 i chosen below is_name decided left symbol got is_symbol small =
     let w = operands_with Ppc64 l.addresses thread_high_after.row symbol (relocation_in l.relocations i) got in (
       λ f s addi toc base of_entry_there.
           laws.arguments.0 f w s (object l i) addi
@@ -105,15 +106,15 @@ general laws l linked ppc64 i chosen below is_name decided symbol got is_symbol 
                   (of_one l linked ppc64 j call.chosen call.below call.decided names.R_PPC64_TLSGD tt call.is_name) in
                   let high : IsRelocated after w (instruction_at l.rewritten (offset_of l i)) (final l i) =
                   with_operands thread_high_after.row _ _ _ _ refl
-                  (applied_there l linked ppc64 i chosen below decided kind by.kind_is after by.code_is 4 (omega arith) thread_high_after symbol 0 refl is_symbol) in
+                  (applied_there l linked ppc64 i chosen below decided kind by.kind_is after by.code_is 4 (omega arith) thread_high_after left symbol 0 refl is_symbol) in
                   let low_there : IsRelocated low (at_place 0 w) (instruction_at l.rewritten (p + 4)) (instruction_at l.final (p + 4)) =
                   with_operands thread_low_after.row _ _ _ _
                   (ap (λ x. value_of thread_low_after.row (operands_with Ppc64 l.addresses thread_low_after.row symbol (rela (p + 4) (code_of (ppc64_name low)) r.symbol x) 0)) (sym of.same_addend))
-                  (applied_there l linked ppc64 j call.chosen call.below call.decided kinds.CallToAddi call.kind_is low second.code_is 4 (omega arith) thread_low_after symbol 0 refl
+                  (applied_there l linked ppc64 j call.chosen call.below call.decided kinds.CallToAddi call.kind_is low second.code_is 4 (omega arith) thread_low_after (left_within l j p 8 (p + 4) 4 (omega arith) (omega arith) call.left) symbol 0 refl
                   (ap (slice_get l.symbols) of.same_symbol ∙ is_symbol)) in
                   let same : instruction_at l.final p ≡ instruction_at l.rewritten p =
-                  unwritten_but l linked j p (second.meant.0)
-                  (apart_with l j _ (after_is l linked ppc64 j call.chosen call.below call.decided kinds.CallToAddi call.kind_is low second.code_is) thread_low_after.row
+                  unwritten_but l linked j p (left_within l j p 8 p 4 (omega arith) (omega arith) call.left) (second.meant.0)
+                  (apart_with l j _ (relocation_left l linked j p 8 call.left call.below ∙ after_is l linked ppc64 j call.chosen call.below call.decided kinds.CallToAddi call.kind_is low second.code_is) thread_low_after.row
                   (row_of l ppc64 low tt thread_low_after.row refl) 4 thread_low_after.of p (inl (omega arith))) call.alone in
                   subst (λ words. Leaves f (only (rt_of (word_of (object l i)))) (one (final l i)) s (rt_of (word_of (object l i))) (λ n. CallLeaves f words n (from_thread w (s.registers 13))))
                   (call_words l p (instruction_at l.final (p + 4)) same refl)
@@ -136,11 +137,11 @@ general laws l linked ppc64 i chosen below is_name decided symbol got is_symbol 
                   (of_one l linked ppc64 j call.chosen call.below call.decided names.R_PPC64_TLSGD tt call.is_name) in
                   let load : IsRelocated after (with_entry e w) (instruction_at l.rewritten (offset_of l i)) (final l i) =
                   with_operands near_entry_after.row _ _ _ _ refl
-                  (applied_there l linked ppc64 i chosen below decided kind by.kind_is after by.code_is 4 (omega arith) near_entry_after symbol e
-                  (ap (λ b. operands_by Ppc64 l.addresses near_entry_after.row (rela r.offset (code_of (ppc64_name after)) r.symbol r.addend) symbol (cond b (Some e) None)) (entry_there l linked ppc64 i chosen below decided kind by.kind_is after by.code_is 4 near_entry_after symbol is_symbol (record { class = ThreadOffset; addend = r.addend }) refl))
+                  (applied_there l linked ppc64 i chosen below decided kind by.kind_is after by.code_is 4 (omega arith) near_entry_after left symbol e
+                  (ap (λ b. operands_by Ppc64 l.addresses near_entry_after.row (rela r.offset (code_of (ppc64_name after)) r.symbol r.addend) symbol (cond b (Some e) None)) (entry_there l linked ppc64 i chosen below decided kind by.kind_is after by.code_is 4 near_entry_after left symbol is_symbol (record { class = ThreadOffset; addend = r.addend }) refl))
                   is_symbol) in
-                  let first = unwritten l linked ppc64 j call.chosen call.below call.decided kinds.CallToAdd call.kind_is second.code_is p (second.meant.0) call.alone in
-                  let next = unwritten l linked ppc64 j call.chosen call.below call.decided kinds.CallToAdd call.kind_is second.code_is (p + 4) (second.meant.1.0) behind in
+                  let first = unwritten l linked ppc64 j call.chosen call.below call.decided kinds.CallToAdd call.kind_is second.code_is p (left_within l j p 8 p 4 (omega arith) (omega arith) call.left) (second.meant.0) call.alone in
+                  let next = unwritten l linked ppc64 j call.chosen call.below call.decided kinds.CallToAdd call.kind_is second.code_is (p + 4) (left_within l j p 8 (p + 4) 4 (omega arith) (omega arith) call.left) (second.meant.1.0) behind in
                   subst (λ words. Leaves f (only (rt_of (word_of (object l i)))) (one (final l i)) s (rt_of (word_of (object l i))) (λ n. (t : State) → t.registers 3 ≡ n → t.registers 13 ≡ s.registers 13 → Leaves f (only 3) words t 3 (λ m. m ≡ from_thread w (s.registers 13))))
                   (call_words l p (drop 4 (two_at l.rewritten p)) first (second_same l.rewritten p ∙ sym next))
                   (laws.near_argument_to_initial f w s (object l i) (two_at l.section p) (instruction_at l.rewritten (offset_of l i)) (two_at l.rewritten p)
@@ -160,10 +161,10 @@ general laws l linked ppc64 i chosen below is_name decided symbol got is_symbol 
 
 -- ---- local-dynamic
 
-local : Laws → EachRewritten names.R_PPC64_GOT_TLSLD16 (λ l i chosen.
+local : Laws → EachRewritten 4 names.R_PPC64_GOT_TLSLD16 (λ l i chosen.
     ForOperands names.R_PPC64_GOT_TLSLD16 l i (λ symbol o.
     LeavesEntry names.R_PPC64_GOT_TLSLD16 l i o × NearToModule l i))
-local laws l linked ppc64 i chosen below is_name decided symbol got is_symbol small =
+local laws l linked ppc64 i chosen below is_name decided left symbol got is_symbol small =
     let kind = kinds.AddiToAddisThread in
     let by = of_entry l linked ppc64 i chosen below decided names.R_PPC64_GOT_TLSLD16 tt is_name
     (entry kind names.R_PPC64_NONE to_module) refl in (
@@ -179,12 +180,12 @@ local laws l linked ppc64 i chosen below is_name decided symbol got is_symbol sm
           let p = offset_of l j in
           let second = of_entry l linked ppc64 j call.chosen call.below call.decided names.R_PPC64_TLSLD tt call.is_name
           (entry kinds.CallToAddi4096 names.R_PPC64_NONE to_module) refl in
-          let first = unwritten l linked ppc64 j call.chosen call.below call.decided kinds.CallToAddi4096 call.kind_is second.code_is p (second.meant.0) call.alone in
-          let next = unwritten l linked ppc64 j call.chosen call.below call.decided kinds.CallToAddi4096 call.kind_is second.code_is (p + 4) (second.meant.1.0) behind in
+          let first = unwritten l linked ppc64 j call.chosen call.below call.decided kinds.CallToAddi4096 call.kind_is second.code_is p (left_within l j p 8 p 4 (omega arith) (omega arith) call.left) (second.meant.0) call.alone in
+          let next = unwritten l linked ppc64 j call.chosen call.below call.decided kinds.CallToAddi4096 call.kind_is second.code_is (p + 4) (left_within l j p 8 (p + 4) 4 (omega arith) (omega arith) call.left) (second.meant.1.0) behind in
           subst (λ words. Leaves f (only (rt_of (word_of (object l i)))) (one (final l i)) s (rt_of (word_of (object l i))) (λ n. CallLeaves f words n (sum_64 (s.registers 13) 0x1000)))
           (call_words l p (drop 4 (two_at l.rewritten p)) first (second_same l.rewritten p ∙ sym next))
           (laws.argument_to_module f s (object l i) (two_at l.section p) (final l i) (two_at l.rewritten p)
-          (becomes_final l linked ppc64 i chosen below decided kind by.kind_is (λ word. addis_of_thread (rt_of word)) refl by.code_is (by.meant.0) alone)
+          (becomes_final l linked ppc64 i chosen below decided kind by.kind_is (λ word. addis_of_thread (rt_of word)) refl by.code_is left (by.meant.0) alone)
           (becomes l linked ppc64 j call.chosen call.below call.decided kinds.CallToAddi4096 call.kind_is (rewrites_call 0x38631000) refl refl)),
     )
 

@@ -31,22 +31,22 @@ use Rattle.linker_utils.specs.declared.elf.Architecture.TheVariants.{Ppc64}
 
 -- ---- offsets in the GOT
 
-high : Laws → EachRewritten names.R_PPC64_GOT_TPREL16_HA (λ l i chosen.
+high : Laws → EachRewritten 4 names.R_PPC64_GOT_TPREL16_HA (λ l i chosen.
     ForOperands names.R_PPC64_TPREL16_HA l i (λ symbol. HighIsAlike l i))
-high laws l linked ppc64 i chosen below is_name decided symbol got is_symbol small =
+high laws l linked ppc64 i chosen below is_name decided left symbol got is_symbol small =
     let by = of_entry l linked ppc64 i chosen below decided names.R_PPC64_GOT_TPREL16_HA tt is_name
     (entry kinds.AddisToNop names.R_PPC64_NONE to_local_exec) refl in
     nop_is_alike l linked ppc64 i chosen below decided kinds.AddisToNop by.kind_is 2 names.R_PPC64_GOT_TPREL16_HA entry_from_toc
     (Leads names.R_PPC64_GOT_TPREL16_LO_DS Ds)
-    (laws.high_half.2) refl by.code_is by.meant
+    (laws.high_half.2) refl by.code_is left by.meant
     (operands_with Ppc64 l.addresses (high_adjusted_row TpOff) symbol (relocation_in l.relocations i) got) small
 
 abbrev is_load : ℕ → Bool
 is_load word = is_ld word && not (eqb (rt_of word) 0)
 
-offset : Laws → EachRewritten names.R_PPC64_GOT_TPREL16_LO_DS (λ l i chosen.
+offset : Laws → EachRewritten 4 names.R_PPC64_GOT_TPREL16_LO_DS (λ l i chosen.
     ForOperands names.R_PPC64_TPREL16_HA l i (λ symbol. OffsetIsAlike l i))
-offset laws l linked ppc64 i chosen below is_name decided symbol got is_symbol small f s t c ld got_entry agree leads holds of_ld =
+offset laws l linked ppc64 i chosen below is_name decided left symbol got is_symbol small f s t c ld got_entry agree leads holds of_ld =
     let w = operands_with Ppc64 l.addresses thread_high_after.row symbol (relocation_in l.relocations i) got in
     let kind = kinds.LdToAddisThread in
     let after = names.R_PPC64_TPREL16_HA in
@@ -56,14 +56,14 @@ offset laws l linked ppc64 i chosen below is_name decided symbol got is_symbol s
     (test_there l linked ppc64 i chosen below decided kind by.kind_is is_load by.meant) in
     let applied : IsRelocated after w (instruction_at l.rewritten (offset_of l i)) (final l i) =
     with_operands thread_high_after.row _ _ _ _ refl
-    (applied_there l linked ppc64 i chosen below decided kind by.kind_is after by.code_is 4 (omega arith) thread_high_after symbol 0 refl is_symbol) in
+    (applied_there l linked ppc64 i chosen below decided kind by.kind_is after by.code_is 4 (omega arith) thread_high_after left symbol 0 refl is_symbol) in
     laws.offset_high_half f w s t c (object l i) (instruction_at l.rewritten (offset_of l i)) small agree (is.0)
     (becomes l linked ppc64 i chosen below decided kind by.kind_is (rewrites_word (λ word. addis_of_thread (rt_of word))) refl refl)
     got_entry leads holds w.place ld (final l i) of_ld applied
 
-near_offset : Laws → EachRewritten names.R_PPC64_GOT_TPREL16_DS (λ l i chosen.
+near_offset : Laws → EachRewritten 4 names.R_PPC64_GOT_TPREL16_DS (λ l i chosen.
     ForOperands names.R_PPC64_TPREL16_HA l i (λ symbol. NearOffsetIsAlike l i))
-near_offset laws l linked ppc64 i chosen below is_name decided symbol got is_symbol small f s ld toc base holds of_ld =
+near_offset laws l linked ppc64 i chosen below is_name decided left symbol got is_symbol small f s ld toc base holds of_ld =
     let w = operands_with Ppc64 l.addresses thread_high_after.row symbol (relocation_in l.relocations i) got in
     let kind = kinds.LdToAddisThread in
     let after = names.R_PPC64_TPREL16_HA in
@@ -73,7 +73,7 @@ near_offset laws l linked ppc64 i chosen below is_name decided symbol got is_sym
     (test_there l linked ppc64 i chosen below decided kind by.kind_is is_load by.meant) in
     let applied : IsRelocated after w (instruction_at l.rewritten (offset_of l i)) (final l i) =
     with_operands thread_high_after.row _ _ _ _ refl
-    (applied_there l linked ppc64 i chosen below decided kind by.kind_is after by.code_is 4 (omega arith) thread_high_after symbol 0 refl is_symbol) in
+    (applied_there l linked ppc64 i chosen below decided kind by.kind_is after by.code_is 4 (omega arith) thread_high_after left symbol 0 refl is_symbol) in
     laws.near_initial_exec f w s (object l i) (instruction_at l.rewritten (offset_of l i))
     (record { small = small; toc = toc; insn_is = is.0; base = base }) holds
     (becomes l linked ppc64 i chosen below decided kind by.kind_is (rewrites_word (λ word. addis_of_thread (rt_of word))) refl refl)
@@ -95,9 +95,9 @@ over_offset l linked ppc64 i chosen below decided kind kind_is low does law new 
     (becomes l linked ppc64 i chosen below decided kind kind_is (rewrites_word new) is refl)
     has requires at (final l i) applied
 
-variable : Laws → EachRewritten names.R_PPC64_TLS (λ l i chosen.
+variable : Laws → EachRewritten 4 names.R_PPC64_TLS (λ l i chosen.
     ForOperands names.R_PPC64_TPREL16_HA l i (λ symbol. VariableIsAlike l i chosen))
-variable laws l linked ppc64 i chosen below is_name decided symbol got is_symbol small =
+variable laws l linked ppc64 i chosen below is_name decided left symbol got is_symbol small =
     let w = operands_with Ppc64 l.addresses thread_high_after.row symbol (relocation_in l.relocations i) got in
     elim (of_one l linked ppc64 i chosen below decided names.R_PPC64_TLS tt is_name) [
       | inl by ↦
@@ -106,7 +106,7 @@ variable laws l linked ppc64 i chosen below is_name decided symbol got is_symbol
             over_offset l linked ppc64 i chosen below decided kinds.AddToAddi by.kind_is names.R_PPC64_TPREL16_LO
                 (adds is_add_of_thread) (laws.offset_low_half.0) (λ word. 0x38000000 + registers_of word) refl (by.meant.1) w small w.place
                 (with_operands thread_low_after.row _ _ _ _ refl
-                (applied_there l linked ppc64 i chosen below decided kinds.AddToAddi by.kind_is names.R_PPC64_TPREL16_LO by.code_is 4 (omega arith) thread_low_after symbol 0 refl is_symbol)),
+                (applied_there l linked ppc64 i chosen below decided kinds.AddToAddi by.kind_is names.R_PPC64_TPREL16_LO by.code_is 4 (omega arith) thread_low_after left symbol 0 refl is_symbol)),
           )
       | inr (inl by) ↦
           inr (inl (
@@ -114,7 +114,7 @@ variable laws l linked ppc64 i chosen below is_name decided symbol got is_symbol
             over_offset l linked ppc64 i chosen below decided kinds.IndexedToD by.kind_is names.R_PPC64_TPREL16_LO
                 (accesses is_indexed (λ word. access_with (access_of word))) (laws.offset_low_half.1) by_displacement refl (by.meant.1) w small w.place
                 (with_operands thread_low_after.row _ _ _ _ refl
-                (applied_there l linked ppc64 i chosen below decided kinds.IndexedToD by.kind_is names.R_PPC64_TPREL16_LO by.code_is 4 (omega arith) thread_low_after symbol 0 refl is_symbol)),
+                (applied_there l linked ppc64 i chosen below decided kinds.IndexedToD by.kind_is names.R_PPC64_TPREL16_LO by.code_is 4 (omega arith) thread_low_after left symbol 0 refl is_symbol)),
           ))
       | inr (inr (inl by)) ↦
           inr (inr (
@@ -122,7 +122,7 @@ variable laws l linked ppc64 i chosen below is_name decided symbol got is_symbol
             over_offset l linked ppc64 i chosen below decided kinds.IndexedToDs by.kind_is names.R_PPC64_TPREL16_LO_DS
                 (accesses is_indexed_word (λ word. word_access_with (access_of word))) (laws.offset_low_half.2) by_word_displacement refl (by.meant.1) w small w.place
                 (with_operands thread_low_words_after.row _ _ _ _ refl
-                (applied_there l linked ppc64 i chosen below decided kinds.IndexedToDs by.kind_is names.R_PPC64_TPREL16_LO_DS by.code_is 4 (omega arith) thread_low_words_after symbol 0 refl is_symbol)),
+                (applied_there l linked ppc64 i chosen below decided kinds.IndexedToDs by.kind_is names.R_PPC64_TPREL16_LO_DS by.code_is 4 (omega arith) thread_low_words_after left symbol 0 refl is_symbol)),
           ))
       | inr (inr (inr nothing)) ↦ absurd nothing
     ]

@@ -14,8 +14,9 @@ use Rattle.linker_elf.specs.declared.ppc64.forms.Ppc64Instruction.TheVariants.{B
 use Rattle.linker_elf.specs.declared.ppc64.relocations.Ppc64Relocation.{Ppc64Relocation}
 use Rattle.linker_elf.specs.declared.ppc64.relocations.Ppc64Relocation.TheVariants as names
 use Rattle.linker_final.proofs.InstructionFields.{IsOfInstruction}
+use Rattle.linker_final.proofs.Phases.{relocation_left}
 use Rattle.linker_final.proofs.Written.{IsRowOf, applied_after, by_name, entry_is_there, made_there, rela, relocation_is, unwritten_without}
-use Rattle.linker_final.specs.Final.{Linked, IsLinked, IsWrittenByNoOther, count, instruction_at}
+use Rattle.linker_final.specs.Final.{IsLeftAlone, Linked, IsLinked, IsWrittenByNoOther, count, instruction_at}
 use Rattle.linker_laws.specs.Ppc64RewriteLaws.{IsRewritten}
 use Rattle.linker_ppc64.specs.Ppc64Rewrites.{ppc64_rewrite}
 use Rattle.linker_ppc64.specs.declared.rewrites.RelaxationKind.{RelaxationKind}
@@ -74,17 +75,18 @@ module _ (l : Linked) (linked : IsLinked l) (ppc64 : l.setting.architecture ≡ 
 
   -- is applied to the bytes between
   pub applied_there : (name : Ppc64Relocation) → chosen.relocation ≡ code_of (ppc64_name name)
-      → (n : ℕ) → 0 < n → (a : IsAfter n name) (symbol : Symbol) (got : ℕ)
+      → (n : ℕ) → 0 < n → (a : IsAfter n name) → IsLeftAlone l i (after name).offset n
+      → (symbol : Symbol) (got : ℕ)
       → operands_by Ppc64 l.addresses a.row (after name) symbol
       (entry_address l.addresses symbol (entry_of a.row (after name).addend symbol.is_thread_local))
       ≡ Ok (operands_with Ppc64 l.addresses a.row symbol (after name) got)
       → slice_get l.symbols r.symbol ≡ Some symbol
       → IsApplied a.row (operands_with Ppc64 l.addresses a.row symbol (after name) got)
       (take n (drop (after name).offset l.rewritten)) (take n (drop (after name).offset l.final))
-  applied_there name code_is n some a symbol got entry_is is_symbol =
+  applied_there name code_is n some a left symbol got entry_is is_symbol =
       subst (λ x. IsApplied a.row (operands_with x l.addresses a.row symbol (after name) got)
       (take n (drop (after name).offset l.rewritten)) (take n (drop (after name).offset l.final))) ppc64
-      (applied_after l linked i below n some a.row a.of (after name) (after_is name code_is)
+      (applied_after l linked i below n some a.row a.of (after name) (after_is name code_is) left
       (row_of l ppc64 name a.named a.row a.is) symbol is_symbol got
       (subst (λ x. operands_by x l.addresses a.row (after name) symbol
       (entry_address l.addresses symbol (entry_of a.row (after name).addend symbol.is_thread_local))
@@ -92,12 +94,13 @@ module _ (l : Linked) (linked : IsLinked l) (ppc64 : l.setting.architecture ≡ 
 
   -- has the entry of its formula
   pub entry_there : (name : Ppc64Relocation) → chosen.relocation ≡ code_of (ppc64_name name)
-      → (n : ℕ) → (a : IsAfter n name) (symbol : Symbol)
+      → (n : ℕ) → (a : IsAfter n name) → IsLeftAlone l i (after name).offset n → (symbol : Symbol)
       → slice_get l.symbols r.symbol ≡ Some symbol
       → (entry : Entry) → entry_of a.row (after name).addend symbol.is_thread_local ≡ Some entry
       → is_there l.addresses symbol entry ≡ true
-  entry_there name code_is n a symbol is_symbol entry is_entry =
-      entry_is_there l linked i below n a.row a.of (after name) (after_is name code_is)
+  entry_there name code_is n a left symbol is_symbol entry is_entry =
+      entry_is_there l linked i below n a.row a.of (after name)
+      (relocation_left l linked i (after name).offset n left below ∙ after_is name code_is)
       (row_of l ppc64 name a.named a.row a.is) symbol is_symbol entry is_entry
 
   -- ---- bytes
@@ -110,10 +113,11 @@ module _ (l : Linked) (linked : IsLinked l) (ppc64 : l.setting.architecture ≡ 
       (made_there l linked i chosen below decided made (ap relaxation_rewrite kind_is ∙ is) back)
 
   -- an instruction stays that no other relocation writes, where the own one goes
-  pub unwritten : chosen.relocation ≡ 0 → (p : ℕ) → p + 4 ≤ length l.section → IsWrittenByNoOther l i p
+  pub unwritten : chosen.relocation ≡ 0 → (p : ℕ) → IsLeftAlone l i p 4 → p + 4 ≤ length l.section
+      → IsWrittenByNoOther l i p
       → instruction_at l.final p ≡ instruction_at l.rewritten p
-  unwritten gone p inside alone =
-      unwritten_without l linked i p (no_row l ppc64)
+  unwritten gone p left inside alone =
+      unwritten_without l linked i below p left (no_row l ppc64)
       (ap (λ (x : Rela). x.code) (after_is names.R_PPC64_NONE gone)) inside alone
 
 -- ---- rows

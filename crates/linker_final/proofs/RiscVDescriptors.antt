@@ -17,11 +17,12 @@ use Rattle.linker_elf.specs.declared.riscv64.relocations.RiscVRelocation.{RiscVR
 use Rattle.linker_elf.specs.declared.riscv64.relocations.RiscVRelocation.TheVariants as names
 use Rattle.linker_final.proofs.Written.{rela, with_operands}
 use Rattle.linker_final.proofs.InstructionFields.{IsOfInstruction}
+use Rattle.linker_final.proofs.Phases.{last_length}
 use Rattle.linker_final.proofs.RiscVChosen.{IsOfSome, of_some, of_subject}
 use Rattle.linker_final.proofs.RiscVOffsets.{low_i, of_low_i}
 use Rattle.linker_final.proofs.RiscVWritten.{IsAfter, applied_there, are_rewritten, becomes, bytes_there, long_there, made_is, redirected_after, word_bytes}
 use Rattle.linker_final.specs.Final.{instruction_at}
-use Rattle.linker_final.specs.Final.{AreBytes, AreRewritten, Linked, IsLinked, count}
+use Rattle.linker_final.specs.Final.{AreBytes, AreRewritten, InstructionIsLeft, Linked, IsLinked, count}
 use Rattle.linker_final.specs.RiscVFinal.{Descriptors, DescriptorsAnywhere, IsOfDescriptor, OffsetIsTheSameAnywhere, ShortDescriptors, ShortDescriptorsAnywhere, ShortOffsetIsTheSameAnywhere, named_as}
 use Rattle.linker_laws.specs.Machine.{Relocated}
 use Rattle.linker_laws.specs.RiscVRewriteLaws.{Laws, after_rewrite}
@@ -147,6 +148,7 @@ module _ (l : Linked) (linked : IsLinked l) (riscv : l.setting.architecture ≡ 
     (behind : (relocation_in l.relocations n).offset ≡ (relocation_in l.relocations high).offset + distance)
     (after_name : RiscVRelocation)
     (is_after : relocation_in l.relocations_after n ≡ named_as after_name (relocation_in l.relocations n) (relocation_in l.relocations high))
+    (left : InstructionIsLeft l n)
     (inside : (relocation_in l.relocations n).offset + 4 ≤ length l.section)
     (word : ℕ)
     (made : instruction_at l.rewritten ((relocation_in l.relocations high).offset + distance) ≡ to_le_bytes w32 word)
@@ -167,10 +169,11 @@ module _ (l : Linked) (linked : IsLinked l) (riscv : l.setting.architecture ≡ 
   relocated no_entry same_value =
       let sl = linked.same_length in
       let fl = linked.written.same_length in
-      let final_inside : at + 4 ≤ length l.final = omega (arith, inside, behind, sl, fl) in
+      let ll = last_length l linked in
+      let final_inside : at + 4 ≤ length l.final = omega (arith, inside, behind, sl, ll, fl) in
       let written : IsApplied a.row x (instruction_at l.rewritten after.offset) (instruction_at l.final after.offset) =
       with_operands a.row (operands_with RiscV l.addresses a.row symbol after 0) x (instruction_at l.rewritten after.offset) (instruction_at l.final after.offset) same_value
-      (applied_there l linked riscv n below after_name a after is_after refl of_row symbol 0 no_entry is_symbol) in
+      (applied_there l linked riscv n below after_name a after is_after left refl of_row symbol 0 no_entry is_symbol) in
       let there : IsApplied a.row x (instruction_at l.rewritten at) (instruction_at l.final at) =
       subst (λ m. IsApplied a.row x (instruction_at l.rewritten m) (instruction_at l.final m)) behind written in
       record {
@@ -236,7 +239,7 @@ descriptors_anywhere laws l rewriting riscv high add call of_add of_call = (
 )
 
 pub descriptors : Laws → Descriptors
-descriptors laws l linked riscv high add call of_add of_call symbol is_symbol function c got h k auipc_of ld_of addi_of said ran small alike =
+descriptors laws l linked riscv high add call of_add of_call left symbol is_symbol function c got h k auipc_of ld_of addi_of said ran small alike =
     let rewriting = are_rewritten l linked in
     let first = relocation_in l.relocations high in
     let o = first.offset in
@@ -253,10 +256,10 @@ descriptors laws l linked riscv high add call of_add of_call symbol is_symbol fu
     ∙ made_is (λ _. 0x50513) (instruction_at l.section (o + 12)) (long_there l.section (o + 12) (omega (arith, behind_call, call_inside))) in
     let lui : Relocated (riscv_row names.R_RISCV_TPREL_HI20) x (instruction_at l.rewritten (o + 8)) (instruction_at l.final (o + 8)) =
     relocated l linked riscv high 8 add of_add.below behind names.R_RISCV_TPREL_HI20 (add_after laws l rewriting riscv high add call of_add of_call)
-    add_inside 0x537 lui_made high_tp refl of_high_tp symbol is_symbol x refl refl in
+    (left.0) add_inside 0x537 lui_made high_tp refl of_high_tp symbol is_symbol x refl refl in
     let low : Relocated (riscv_row names.R_RISCV_TPREL_LO12_I) x (instruction_at l.rewritten (o + 12)) (instruction_at l.final (o + 12)) =
     relocated l linked riscv high 12 call of_call.below behind_call names.R_RISCV_TPREL_LO12_I (call_after laws l rewriting riscv high add call of_add of_call)
-    call_inside 0x50513 low_made low_i refl of_low_i symbol is_symbol x refl refl in
+    (left.1) call_inside 0x50513 low_made low_i refl of_low_i symbol is_symbol x refl refl in
     wherever laws l rewriting riscv high add call of_add of_call x x refl (ran.0).small function c h k auipc_of ld_of addi_of
     (instruction_at l.final (o + 8)) (instruction_at l.final (o + 12)) ran small alike lui low
 
@@ -295,7 +298,7 @@ short_descriptors_anywhere laws l rewriting riscv high call of_call =
     (short_after laws l rewriting riscv high call of_call, short_wherever laws l rewriting riscv high call of_call)
 
 pub short_descriptors : Laws → ShortDescriptors
-short_descriptors laws l linked riscv high call of_call symbol is_symbol function c got h k auipc_of ld_of addi_of is_low ran small alike =
+short_descriptors laws l linked riscv high call of_call left symbol is_symbol function c got h k auipc_of ld_of addi_of is_low ran small alike =
     let rewriting = are_rewritten l linked in
     let first = relocation_in l.relocations high in
     let o = first.offset in
@@ -307,6 +310,6 @@ short_descriptors laws l linked riscv high call of_call symbol is_symbol functio
     ∙ made_is (λ _. 0x513) (instruction_at l.section (o + 12)) (long_there l.section (o + 12) (omega (arith, behind, inside))) in
     let low : Relocated (riscv_row names.R_RISCV_TPREL_LO12_I) x (instruction_at l.rewritten (o + 12)) (instruction_at l.final (o + 12)) =
     relocated l linked riscv high 12 call of_call.below behind names.R_RISCV_TPREL_LO12_I (short_after laws l rewriting riscv high call of_call)
-    inside 0x513 made low_i refl of_low_i symbol is_symbol x refl refl in
+    left inside 0x513 made low_i refl of_low_i symbol is_symbol x refl refl in
     short_wherever laws l rewriting riscv high call of_call x x refl is_low function c h k auipc_of ld_of addi_of
     (instruction_at l.final (o + 12)) ran small alike low

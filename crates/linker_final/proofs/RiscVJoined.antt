@@ -14,12 +14,13 @@ use Rattle.linker_elf.specs.declared.riscv64.relocations.RiscVRelocation.TheVari
 use Rattle.linker_final.proofs.InstructionFields.{IsOfInstruction, applied_found}
 use Rattle.linker_final.proofs.Joined.{behind, code_is, addend_is, final_inside, kept_there, own_there, rewritten_inside, symbol_is, within}
 use Rattle.linker_final.proofs.Labels.{low_found}
+use Rattle.linker_final.proofs.Phases.{later_bytes}
 use Rattle.linker_final.proofs.RiscVDescriptors.{descriptors_anywhere, high_tp, of_high_tp, short_descriptors_anywhere}
 use Rattle.linker_final.proofs.RiscVLoads.{got_loads_anywhere, high_after, low_after, of_high}
 use Rattle.linker_final.proofs.RiscVOffsets.{low_i, of_low_i, low_s, of_low_s, low_parts_anywhere, mapped}
 use Rattle.linker_final.proofs.RiscVWritten.{IsAfter, bytes_there, long_there, row_in}
 use Rattle.linker_final.proofs.Written.{rela, with_operands}
-use Rattle.linker_final.specs.Final.{AreBytes, IsRewrittenByNoOther, Linked, count, instruction_at}
+use Rattle.linker_final.specs.Final.{AreBytes, AreLeft, InstructionIsLeft, IsRewrittenByNoOther, Linked, count, instruction_at}
 use Rattle.linker_final.specs.Joined.{IsRewrittenAndPacked, IsKeptInstruction}
 use Rattle.linker_final.specs.Packed.{Packed, architecture_of, place_of}
 use Rattle.linker_final.specs.RiscVFinal.{IsOfDescriptor, LoadsTheSameAnywhere, LowPartsAnywhereOf, named_as}
@@ -43,7 +44,7 @@ use Rattle.linker_utils.specs.declared.elf.Architecture.TheVariants.{RiscV}
 module _ (l : Linked) (p : Packed) (joined : IsRewrittenAndPacked l p) (riscv : p.machine ≡ RiscV64)
     (i : ℕ) (below : i < count l) (name : RiscVRelocation) (a : IsAfter name) (subject : Rela)
     (after_is : relocation_in l.relocations_after i ≡ named_as name (relocation_in l.relocations i) subject)
-    (kept : IsKeptInstruction p i) where
+    (kept : IsKeptInstruction p i) (left : InstructionIsLeft l i) where
   abbrev o : ℕ
   o = (relocation_in l.relocations i).offset
 
@@ -57,9 +58,9 @@ module _ (l : Linked) (p : Packed) (joined : IsRewrittenAndPacked l p) (riscv : 
   row_is =
       subst (λ x. IsRow x after.code (Some a.row)) (sym (ap architecture_of riscv))
       (row_in (architecture_of p.machine) (ap architecture_of riscv) after name a
-      (code_is l p joined i below code subject.symbol subject.addend after_is kept) p.addresses p.relocations_after p.symbols
+      (code_is l p joined i below code subject.symbol subject.addend after_is kept left) p.addresses p.relocations_after p.symbols
       (joined.packed.written.can.found i)
-      (joined.packed.written.can.are_found i (within l p joined i below code subject.symbol subject.addend after_is kept)))
+      (joined.packed.written.can.are_found i (within l p joined i below code subject.symbol subject.addend after_is kept left)))
 
   pub relocated : (y : Operands) → IsApplied a.row y (instruction_at l.rewritten o) (final_instruction p o)
       → Relocated (Some a.row) y (instruction_at l.rewritten o) (final_instruction p o)
@@ -67,9 +68,11 @@ module _ (l : Linked) (p : Packed) (joined : IsRewrittenAndPacked l p) (riscv : 
       record {
         applied = there;
         len =
-            long_there p.final (place_of p o) (final_inside l p joined i below code subject.symbol subject.addend after_is kept)
-            ∙ sym (long_there l.rewritten o (rewritten_inside l p joined i below code subject.symbol subject.addend after_is kept));
-        old_bytes = bytes_there l.rewritten o (subst AreBytes joined.bytes joined.packed.section_bytes);
+            long_there p.final (place_of p o) (final_inside l p joined i below code subject.symbol subject.addend after_is kept left)
+            ∙ sym (long_there l.rewritten o (rewritten_inside l p joined i below code subject.symbol subject.addend after_is kept left));
+        old_bytes =
+            subst AreBytes (later_bytes l joined.later i o 4 left)
+            (bytes_there l.last o (subst AreBytes joined.bytes joined.packed.section_bytes));
         bytes = bytes_there p.final (place_of p o) joined.packed.final_bytes;
       }
 
@@ -84,7 +87,7 @@ module _ (l : Linked) (p : Packed) (joined : IsRewrittenAndPacked l p) (riscv : 
       relocated (final_operands p i a.row symbol)
       (subst (λ x. IsApplied a.row (operands_with x p.addresses a.row symbol after 0) (instruction_at l.rewritten o) (final_instruction p o))
       (ap architecture_of riscv)
-      (own_there l p joined i below code subject.symbol subject.addend after_is kept a.row of row_is symbol
+      (own_there l p joined i below code subject.symbol subject.addend after_is kept left a.row of row_is symbol
       (subst (λ x. operands_by x p.addresses a.row after symbol
       (entry_address p.addresses symbol (entry_of a.row after.addend symbol.is_thread_local))
       ≡ Ok (operands_with x p.addresses a.row symbol after 0)) (sym (ap architecture_of riscv)) entry_is)
@@ -99,7 +102,7 @@ packed_of : (name : RiscVRelocation) (a : IsAfter name) (of : IsOfInstruction 4 
     (entry_address addresses symbol (entry_of a.row r.addend symbol.is_thread_local))
     ≡ Ok (operands_with RiscV addresses a.row symbol r 0))
     → LowPartsAnywhereOf name → PackedLowPartsOf name
-packed_of name a of is_row no_entry anywhere l p joined riscv i chosen below is_name decided kept =
+packed_of name a of is_row no_entry anywhere l p joined riscv i chosen below is_name decided kept left =
     let r = relocation_in l.relocations i in
     let any = anywhere l joined.rewritten (joined.architecture ∙ ap architecture_of riscv) i chosen below is_name decided in
     mapped (λ action law is_of.
@@ -108,7 +111,7 @@ packed_of name a of is_row no_entry anywhere l p joined riscv i chosen below is_
     let y = final_operands p i a.row symbol in
     let new : Relocated (offset_row action) y (instruction_at l.rewritten r.offset) (final_instruction p r.offset) =
     subst (λ q. Relocated q y (instruction_at l.rewritten r.offset) (final_instruction p r.offset)) (sym (is_of ∙ is_row))
-    (relocated_own l p joined riscv i below name a r (any.0) kept of symbol
+    (relocated_own l p joined riscv i below name a r (any.0) kept left of symbol
     (no_entry p.addresses (relocation_in p.relocations_after i) symbol) is_symbol) in
     law x y one low h k differs original (final_instruction p r.offset) small new_small alike base stores of_original new))
     (action_at l.section r.offset) (any.1)
@@ -124,7 +127,7 @@ packed_low_parts laws =
 
 module _ (laws : Laws) (l : Linked) (p : Packed) (joined : IsRewrittenAndPacked l p)
     (riscv : p.machine ≡ RiscV64) (i j : ℕ) (of : AreOfFinalLoad l p i j)
-    (alone : IsRewrittenByNoOther l i (relocation_in l.relocations i).offset) where
+    (left : AreLeft l i j) (alone : IsRewrittenByNoOther l i (relocation_in l.relocations i).offset) where
   abbrev first : Rela
   first = relocation_in l.relocations i
 
@@ -145,7 +148,7 @@ module _ (laws : Laws) (l : Linked) (p : Packed) (joined : IsRewrittenAndPacked 
     -- the distance in the `auipc`
     high : Relocated (Some high_after.row) y (instruction_at l.rewritten first.offset) (final_instruction p first.offset)
     high =
-        relocated_own l p joined riscv i of.pair.first_below names.R_RISCV_PCREL_HI20 high_after first (any.0) of.high_kept
+        relocated_own l p joined riscv i of.pair.first_below names.R_RISCV_PCREL_HI20 high_after first (any.0) of.high_kept (left.0)
         of_high symbol refl is_symbol
 
     -- and in the `addi`
@@ -155,16 +158,16 @@ module _ (laws : Laws) (l : Linked) (p : Packed) (joined : IsRewrittenAndPacked 
         let bytes = p.relocations_after in
         let written = joined.packed.written in
         let is = ap architecture_of riscv in
-        let below = within l p joined i of.pair.first_below (code_of (riscv_name names.R_RISCV_PCREL_HI20)) first.symbol first.addend (any.0) of.high_kept in
-        let below' = within l p joined j of.pair.second_below (code_of (riscv_name names.R_RISCV_PCREL_LO12_I)) second.symbol second.addend (any.1) of.low_kept in
-        let row = row_is l p joined riscv i of.pair.first_below names.R_RISCV_PCREL_HI20 high_after first (any.0) of.high_kept in
-        let low_row = row_is l p joined riscv j of.pair.second_below names.R_RISCV_PCREL_LO12_I low_after second (any.1) of.low_kept in
+        let below = within l p joined i of.pair.first_below (code_of (riscv_name names.R_RISCV_PCREL_HI20)) first.symbol first.addend (any.0) of.high_kept (left.0) in
+        let below' = within l p joined j of.pair.second_below (code_of (riscv_name names.R_RISCV_PCREL_LO12_I)) second.symbol second.addend (any.1) of.low_kept (left.1) in
+        let row = row_is l p joined riscv i of.pair.first_below names.R_RISCV_PCREL_HI20 high_after first (any.0) of.high_kept (left.0) in
+        let low_row = row_is l p joined riscv j of.pair.second_below names.R_RISCV_PCREL_LO12_I low_after second (any.1) of.low_kept (left.1) in
         let taken : operands_of architecture p.addresses p.symbols high_after.row (relocation_in bytes i) ≡ Ok y =
         subst (λ x. operands_of x p.addresses p.symbols high_after.row (relocation_in bytes i) ≡ Ok y) (sym is)
         (ap (operands_in RiscV p.addresses high_after.row (relocation_in bytes i)) is_symbol) in
         let bits : BitRange = record { start = 0; end = 32 } in
-        relocated l p joined riscv j of.pair.second_below names.R_RISCV_PCREL_LO12_I low_after second (any.1) of.low_kept y
-        (kept_there l p joined j of.pair.second_below (code_of (riscv_name names.R_RISCV_PCREL_LO12_I)) second.symbol second.addend (any.1) of.low_kept low_after.row y
+        relocated l p joined riscv j of.pair.second_below names.R_RISCV_PCREL_LO12_I low_after second (any.1) of.low_kept (left.1) y
+        (kept_there l p joined j of.pair.second_below (code_of (riscv_name names.R_RISCV_PCREL_LO12_I)) second.symbol second.addend (any.1) of.low_kept (left.1) low_after.row y
         (applied_found architecture p.addresses bytes p.symbols p.packed p.final written
         j below' 4 (omega arith) low_after.row bits (insns.RiscV IType) refl refl refl refl y
         (low_found architecture p.addresses bytes p.symbols p.packed written.can.apart
@@ -174,7 +177,7 @@ module _ (laws : Laws) (l : Linked) (p : Packed) (joined : IsRewrittenAndPacked 
   loads_the_same : FinalBytesLoadTheSame l p i high_after.row
   loads_the_same over not_zero symbol is_symbol x small new_small h k auipc_of ld_of holds at new_at alike of_auipc of_ld =
       let o = first.offset in
-      let next = behind l p joined i of.pair.first_below (code_of (riscv_name names.R_RISCV_PCREL_HI20)) first.symbol first.addend (any.0) of.high_kept in
+      let next = behind l p joined i of.pair.first_below (code_of (riscv_name names.R_RISCV_PCREL_HI20)) first.symbol first.addend (any.0) of.high_kept (left.0) in
       let lower : Relocated (Some low_after.row) (y symbol is_symbol) (instruction_at l.rewritten (o + 4)) (instruction_at p.final (place_of p o + 4)) =
       subst (λ q. Relocated (Some low_after.row) (y symbol is_symbol) (instruction_at l.rewritten (o + 4)) (instruction_at p.final q)) next
       (subst (λ n. Relocated (Some low_after.row) (y symbol is_symbol) (instruction_at l.rewritten n) (final_instruction p n)) of.pair.next (low symbol is_symbol)) in
@@ -182,7 +185,7 @@ module _ (laws : Laws) (l : Linked) (p : Packed) (joined : IsRewrittenAndPacked 
       (final_instruction p o) (instruction_at p.final (place_of p o + 4)) holds at new_at alike of_auipc of_ld (high symbol is_symbol) lower
 
 pub packed_got_loads : Laws → PackedGotLoads
-packed_got_loads laws l p joined riscv i j of alone = loads_the_same laws l p joined riscv i j of alone
+packed_got_loads laws l p joined riscv i j of left alone = loads_the_same laws l p joined riscv i j of left alone
 
 -- ---- TLS descriptors
 
@@ -192,7 +195,7 @@ module _ (l : Linked) (p : Packed) (joined : IsRewrittenAndPacked l p) (riscv : 
     (of_call : IsOfDescriptor l high names.R_RISCV_TLSDESC_CALL 12 kind call)
     (call_after : relocation_in l.relocations_after call
     ≡ named_as names.R_RISCV_TPREL_LO12_I (relocation_in l.relocations call) (relocation_in l.relocations high))
-    (kept : IsKeptInstruction p call)
+    (kept : IsKeptInstruction p call) (left : InstructionIsLeft l call)
     (symbol : Symbol)
     (is_symbol : slice_get p.symbols (relocation_in p.relocations_after call).symbol ≡ Some symbol) where
   abbrev start : ℕ
@@ -204,15 +207,15 @@ module _ (l : Linked) (p : Packed) (joined : IsRewrittenAndPacked l p) (riscv : 
       let y = final_operands p call low_i.row symbol in
       subst (λ n. Relocated (Some low_i.row) y (instruction_at l.rewritten n) (final_instruction p n)) of_call.behind
       (relocated_own l p joined riscv call of_call.below names.R_RISCV_TPREL_LO12_I low_i (relocation_in l.relocations high)
-      call_after kept of_low_i symbol refl is_symbol)
+      call_after kept left of_low_i symbol refl is_symbol)
 
 pub packed_short_descriptors : Laws → PackedShortDescriptors
-packed_short_descriptors laws l p joined riscv high call of_call kept symbol is_symbol x one is_low function c h k auipc_of ld_of addi_of ran small alike =
+packed_short_descriptors laws l p joined riscv high call of_call kept left symbol is_symbol x one is_low function c h k auipc_of ld_of addi_of ran small alike =
     let any = short_descriptors_anywhere laws l joined.rewritten (joined.architecture ∙ ap architecture_of riscv) high call of_call in
     let place = (relocation_in l.relocations high).offset in
     (any.1) x (final_operands p call low_i.row symbol) one is_low function c h k auipc_of ld_of addi_of
     (final_instruction p (place + 12)) ran small alike
-    (call_relocated l p joined riscv high call kinds.CallToAddiZero of_call (any.0) kept symbol is_symbol)
+    (call_relocated l p joined riscv high call kinds.CallToAddiZero of_call (any.0) kept left symbol is_symbol)
 
 -- the `addi`, which became a `lui`
 module _ (l : Linked) (p : Packed) (joined : IsRewrittenAndPacked l p) (riscv : p.machine ≡ RiscV64)
@@ -223,7 +226,8 @@ module _ (l : Linked) (p : Packed) (joined : IsRewrittenAndPacked l p) (riscv : 
     ≡ named_as names.R_RISCV_TPREL_HI20 (relocation_in l.relocations add) (relocation_in l.relocations high))
     (call_after : relocation_in l.relocations_after call
     ≡ named_as names.R_RISCV_TPREL_LO12_I (relocation_in l.relocations call) (relocation_in l.relocations high))
-    (add_kept : IsKeptInstruction p add) (call_kept : IsKeptInstruction p call) where
+    (add_kept : IsKeptInstruction p add) (call_kept : IsKeptInstruction p call)
+    (left : AreLeft l add call) where
   abbrev sequence : ℕ
   sequence = (relocation_in l.relocations high).offset
 
@@ -238,13 +242,13 @@ module _ (l : Linked) (p : Packed) (joined : IsRewrittenAndPacked l p) (riscv : 
 
   same_symbol : add'.symbol ≡ call'.symbol
   same_symbol =
-      symbol_is l p joined add of_add.below (code_of (riscv_name names.R_RISCV_TPREL_HI20)) subject.symbol subject.addend add_after add_kept
-      ∙ sym (symbol_is l p joined call of_call.below (code_of (riscv_name names.R_RISCV_TPREL_LO12_I)) subject.symbol subject.addend call_after call_kept)
+      symbol_is l p joined add of_add.below (code_of (riscv_name names.R_RISCV_TPREL_HI20)) subject.symbol subject.addend add_after add_kept (left.0)
+      ∙ sym (symbol_is l p joined call of_call.below (code_of (riscv_name names.R_RISCV_TPREL_LO12_I)) subject.symbol subject.addend call_after call_kept (left.1))
 
   same_addend : call'.addend ≡ add'.addend
   same_addend =
-      addend_is l p joined call of_call.below (code_of (riscv_name names.R_RISCV_TPREL_LO12_I)) subject.symbol subject.addend call_after call_kept
-      ∙ sym (addend_is l p joined add of_add.below (code_of (riscv_name names.R_RISCV_TPREL_HI20)) subject.symbol subject.addend add_after add_kept)
+      addend_is l p joined call of_call.below (code_of (riscv_name names.R_RISCV_TPREL_LO12_I)) subject.symbol subject.addend call_after call_kept (left.1)
+      ∙ sym (addend_is l p joined add of_add.below (code_of (riscv_name names.R_RISCV_TPREL_HI20)) subject.symbol subject.addend add_after add_kept (left.0))
 
   -- by the operands of the `jalr`, which is for the same variable
   pub add_relocated : (symbol : Symbol) → slice_get p.symbols call'.symbol ≡ Some symbol
@@ -252,7 +256,7 @@ module _ (l : Linked) (p : Packed) (joined : IsRewrittenAndPacked l p) (riscv : 
       (instruction_at l.rewritten (sequence + 8)) (final_instruction p (sequence + 8))
   add_relocated symbol is_symbol =
       let y = final_operands p call low_i.row symbol in
-      let own = relocated_own l p joined riscv add of_add.below names.R_RISCV_TPREL_HI20 high_tp subject add_after add_kept
+      let own = relocated_own l p joined riscv add of_add.below names.R_RISCV_TPREL_HI20 high_tp subject add_after add_kept (left.0)
       of_high_tp symbol refl (ap (slice_get p.symbols) same_symbol ∙ is_symbol) in
       let there = (relocation_in l.relocations add).offset in
       let same_value : value_of high_tp.row y ≡ value_of high_tp.row (final_operands p add high_tp.row symbol) =
@@ -274,17 +278,17 @@ module _ (l : Linked) (p : Packed) (joined : IsRewrittenAndPacked l p) (riscv : 
       let e : sequence + 12 ≡ sequence + 8 + 4 = omega arith in
       ap (place_of p) e
       ∙ subst (λ n. place_of p (n + 4) ≡ place_of p n + 4) of_add.behind
-      (behind l p joined add of_add.below (code_of (riscv_name names.R_RISCV_TPREL_HI20)) subject.symbol subject.addend add_after add_kept)
+      (behind l p joined add of_add.below (code_of (riscv_name names.R_RISCV_TPREL_HI20)) subject.symbol subject.addend add_after add_kept (left.0))
 
 pub packed_descriptors : Laws → PackedDescriptors
-packed_descriptors laws l p joined riscv high add call of_add of_call add_kept call_kept symbol is_symbol x one addresses function c h k auipc_of ld_of addi_of ran small alike =
+packed_descriptors laws l p joined riscv high add call of_add of_call add_kept call_kept left symbol is_symbol x one addresses function c h k auipc_of ld_of addi_of ran small alike =
     let any = descriptors_anywhere laws l joined.rewritten (joined.architecture ∙ ap architecture_of riscv) high add call of_add of_call in
     let o = (relocation_in l.relocations high).offset in
     let y = final_operands p call low_i.row symbol in
     let low : Relocated (Some low_i.row) y (instruction_at l.rewritten (o + 12)) (instruction_at p.final (place_of p (o + 8) + 4)) =
     subst (λ q. Relocated (Some low_i.row) y (instruction_at l.rewritten (o + 12)) (instruction_at p.final q))
-    (call_behind l p joined riscv high add call of_add of_call (any.0) (any.1) add_kept call_kept)
-    (call_relocated l p joined riscv high call kinds.CallToAddi of_call (any.1) call_kept symbol is_symbol) in
+    (call_behind l p joined riscv high add call of_add of_call (any.0) (any.1) add_kept call_kept left)
+    (call_relocated l p joined riscv high call kinds.CallToAddi of_call (any.1) call_kept (left.1) symbol is_symbol) in
     (any.2) x y one addresses function c h k auipc_of ld_of addi_of
     (final_instruction p (o + 8)) (instruction_at p.final (place_of p (o + 8) + 4)) ran small alike
-    (add_relocated l p joined riscv high add call of_add of_call (any.0) (any.1) add_kept call_kept symbol is_symbol) low
+    (add_relocated l p joined riscv high add call of_add of_call (any.0) (any.1) add_kept call_kept left symbol is_symbol) low

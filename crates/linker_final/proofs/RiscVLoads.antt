@@ -19,9 +19,10 @@ use Rattle.linker_final.proofs.Written.{word_same}
 use Rattle.linker_final.proofs.InstructionFields.{IsOfInstruction, applied_found}
 use Rattle.linker_final.proofs.Labels.{low_found}
 use Rattle.linker_final.proofs.RiscVChosen.{IsOfEntry, of_entry}
-use Rattle.linker_final.proofs.RiscVWritten.{IsAfter, applied_there, are_rewritten, becomes, bytes_there, long_there, made_is, rewritten_after, row_after, stays, within_after, word_bytes}
+use Rattle.linker_final.proofs.Phases.{bytes_left, last_length}
+use Rattle.linker_final.proofs.RiscVWritten.{IsAfter, applied_there, are_rewritten, becomes, bytes_there, last_is, long_there, made_is, rewritten_after, row_after, stays, within_after, word_bytes}
 use Rattle.linker_final.specs.Final.{IsRewrittenByNoOther, instruction_at}
-use Rattle.linker_final.specs.Final.{AreBytes, AreRewritten, Linked, IsLinked}
+use Rattle.linker_final.specs.Final.{AreBytes, AreLeft, AreRewritten, Linked, IsLinked}
 use Rattle.linker_final.specs.RiscVFinal.{AreOfLoad, AreOfPair, GotLoads, GotLoadsAnywhere, LoadsTheSame, LoadsTheSameAnywhere, named_as}
 use Rattle.linker_laws.specs.Machine.{Relocated, but}
 use Rattle.linker_laws.specs.RiscVMachine.{Hart, register}
@@ -169,7 +170,7 @@ got_loads_anywhere laws l rewriting riscv i j of alone = (
 -- ---- in the final bytes
 
 module _ (laws : Laws) (l : Linked) (linked : IsLinked l) (riscv : l.setting.architecture ≡ RiscV)
-    (i j : ℕ) (of : AreOfLoad l i j)
+    (i j : ℕ) (of : AreOfLoad l i j) (left : AreLeft l i j)
     (alone : IsRewrittenByNoOther l i (relocation_in l.relocations i).offset) where
   abbrev one : Rela
   one = relocation_in l.relocations i
@@ -189,6 +190,14 @@ module _ (laws : Laws) (l : Linked) (linked : IsLinked l) (riscv : l.setting.arc
   low_there : relocation_in l.relocations_after j ≡ low_rela
   low_there = low_is laws l (are_rewritten l linked) riscv i j of.pair alone
 
+  high_last : relocation_in l.relocations_last i ≡ high_rela
+  high_last =
+      last_is l linked riscv i of.pair.first_below names.R_RISCV_PCREL_HI20 high_after high_rela high_there (left.0) refl
+
+  low_last : relocation_in l.relocations_last j ≡ low_rela
+  low_last =
+      last_is l linked riscv j of.pair.second_below names.R_RISCV_PCREL_LO12_I low_after low_rela low_there (left.1) refl
+
   module _ (symbol : Symbol) (is_symbol : slice_get l.symbols one.symbol ≡ Some symbol) where
     abbrev operands : Operands
     operands = operands_with RiscV l.addresses high_after.row symbol high_rela 0
@@ -196,34 +205,35 @@ module _ (laws : Laws) (l : Linked) (linked : IsLinked l) (riscv : l.setting.arc
     -- the distance in the `auipc`
     high_written : IsApplied high_after.row operands (instruction_at l.rewritten one.offset) (instruction_at l.final one.offset)
     high_written =
-        applied_there l linked riscv i of.pair.first_below names.R_RISCV_PCREL_HI20 high_after high_rela high_there refl of_high symbol 0 refl is_symbol
+        applied_there l linked riscv i of.pair.first_below names.R_RISCV_PCREL_HI20 high_after high_rela high_there (left.0) refl of_high symbol 0 refl is_symbol
 
     -- and in the `addi`
     low_written : IsApplied low_after.row operands (instruction_at l.rewritten other.offset) (instruction_at l.final other.offset)
     low_written =
-        let bytes = l.relocations_after in
-        let within = within_after l linked riscv i of.pair.first_below names.R_RISCV_PCREL_HI20 high_after high_rela high_there refl in
-        let within' = within_after l linked riscv j of.pair.second_below names.R_RISCV_PCREL_LO12_I low_after low_rela low_there refl in
-        let at_high : offset_at bytes i ≡ one.offset = ap (λ (x : Rela). x.offset) high_there in
+        let bytes = l.relocations_last in
+        let within = within_after l linked riscv i of.pair.first_below names.R_RISCV_PCREL_HI20 high_after high_rela high_there (left.0) refl in
+        let within' = within_after l linked riscv j of.pair.second_below names.R_RISCV_PCREL_LO12_I low_after low_rela low_there (left.1) refl in
+        let at_high : offset_at bytes i ≡ one.offset = ap (λ (x : Rela). x.offset) high_last in
         let is_row : IsRow l.setting.architecture (relocation_in bytes i).code (Some high_after.row) =
         subst (λ x. IsRow x (relocation_in bytes i).code (Some high_after.row)) (sym riscv)
-        (row_after l linked riscv i of.pair.first_below names.R_RISCV_PCREL_HI20 high_after high_rela high_there refl) in
+        (row_after l linked riscv i of.pair.first_below names.R_RISCV_PCREL_HI20 high_after high_rela high_there (left.0) refl) in
         let low_row : IsRow l.setting.architecture (relocation_in bytes j).code (Some low_after.row) =
         subst (λ x. IsRow x (relocation_in bytes j).code (Some low_after.row)) (sym riscv)
-        (row_after l linked riscv j of.pair.second_below names.R_RISCV_PCREL_LO12_I low_after low_rela low_there refl) in
+        (row_after l linked riscv j of.pair.second_below names.R_RISCV_PCREL_LO12_I low_after low_rela low_there (left.1) refl) in
         let taken : operands_of l.setting.architecture l.addresses l.symbols high_after.row (relocation_in bytes i) ≡ Ok operands =
         subst (λ x. operands_of x l.addresses l.symbols high_after.row (relocation_in bytes i) ≡ Ok operands) (sym riscv)
-        (subst (λ x. operands_of RiscV l.addresses l.symbols high_after.row x ≡ Ok operands) (sym high_there)
+        (subst (λ x. operands_of RiscV l.addresses l.symbols high_after.row x ≡ Ok operands) (sym high_last)
         (ap (operands_in RiscV l.addresses high_after.row high_rela) is_symbol)) in
         let label_is : slice_get l.symbols (relocation_in bytes j).symbol ≡ Some of.label =
-        ap (λ (x : Rela). slice_get l.symbols x.symbol) low_there ∙ of.label_is in
+        ap (λ (x : Rela). slice_get l.symbols x.symbol) low_last ∙ of.label_is in
         let bits : BitRange = record { start = 0; end = 32 } in
-        subst (λ (x : Rela). IsApplied low_after.row operands (instruction_at l.rewritten x.offset) (instruction_at l.final x.offset)) low_there
-        (applied_found l.setting.architecture l.addresses bytes l.symbols l.rewritten l.final linked.written
+        subst (λ xs. IsApplied low_after.row operands xs (instruction_at l.final other.offset)) (bytes_left l linked j other.offset 4 (left.1))
+        (subst (λ (x : Rela). IsApplied low_after.row operands (instruction_at l.last x.offset) (instruction_at l.final x.offset)) low_last
+        (applied_found l.setting.architecture l.addresses bytes l.symbols l.last l.final linked.written
         j within' 4 (omega arith) low_after.row bits (insns.RiscV IType) refl refl refl refl operands
-        (low_found l.setting.architecture l.addresses bytes l.symbols l.rewritten linked.written.can.apart
+        (low_found l.setting.architecture l.addresses bytes l.symbols l.last linked.written.can.apart
         i within high_after.row is_row refl operands taken (relocation_in bytes j) low_after.row low_row refl refl
-        of.label label_is (of.labels ∙ sym at_high) tt (linked.written.can.found j) (linked.written.can.are_found j within')))
+        of.label label_is (of.labels ∙ sym at_high) tt (linked.written.can.found j) (linked.written.can.are_found j within'))))
 
   loads_the_same : LoadsTheSame l i got_row
   loads_the_same over not_zero symbol is_symbol got h k auipc_of ld_of small holds at new_at alike of_auipc of_ld =
@@ -238,7 +248,8 @@ module _ (laws : Laws) (l : Linked) (linked : IsLinked l) (riscv : l.setting.arc
       ∙ made_is load_to_addi ld (long_there l.section (o + 4) inside) in
       let sl = linked.same_length in
       let fl = linked.written.same_length in
-      let final_inside : o + 4 + 4 ≤ length l.final = omega (arith, inside, sl, fl) in
+      let ll = last_length l linked in
+      let final_inside : o + 4 + 4 ≤ length l.final = omega (arith, inside, sl, ll, fl) in
       let high : Relocated (riscv_row names.R_RISCV_PCREL_HI20) y (instruction_at l.rewritten o) (instruction_at l.final o) =
       record {
         applied = high_written symbol is_symbol;
@@ -277,4 +288,4 @@ module _ (laws : Laws) (l : Linked) (linked : IsLinked l) (riscv : l.setting.arc
       }
 
 pub joined : Laws → GotLoads
-joined laws l linked riscv i j of alone = loads_the_same laws l linked riscv i j of alone
+joined laws l linked riscv i j of left alone = loads_the_same laws l linked riscv i j of left alone

@@ -8,6 +8,7 @@ use Rattle.linker_elf.specs.declared.elf.choice.Choice.{Choice}
 use Rattle.linker_elf.specs.declared.riscv64.relocations.RiscVRelocation.{RiscVRelocation}
 use Rattle.linker_elf.specs.declared.riscv64.relocations.RiscVRelocation.TheVariants as names
 use Rattle.linker_final.proofs.PackedBytes.{packed_there, places_inside, same_there}
+use Rattle.linker_final.proofs.Phases.{later_bytes}
 use Rattle.linker_final.proofs.Written.{IsRowOf, by_name, unwritten_without}
 use Rattle.linker_final.proofs.RiscVChosen.{IsOfSome, of_some}
 use Rattle.linker_final.proofs.RiscVDescriptors.{Becomes, same_kind}
@@ -115,7 +116,7 @@ module _ (laws : Laws) (name : RiscVRelocation) (named : IsNamed (riscv_name nam
         (laws.nops (instruction_at section o) 0 (omega (arith, long), tt) [] h k differs small alike)
 
     nops_of : NopsOf name
-    nops_of l linked riscv i chosen subject below is_name decided kind_is alone =
+    nops_of l linked riscv i chosen subject below is_name decided kind_is left alone =
         let o = (relocation_in l.relocations i).offset in
         let there = nop_there l (are_rewritten l linked) riscv i chosen subject below is_name decided kind_is in
         let inside = (there.0).inside in
@@ -123,17 +124,18 @@ module _ (laws : Laws) (name : RiscVRelocation) (named : IsNamed (riscv_name nam
         ap (λ (x : Rela). x.code)
         (redirected_after l (are_rewritten l linked) i chosen below kinds.ReplaceWithLongNop names.R_RISCV_NONE kind_is (there.0).code_is (λ o. refl) (λ a. refl) subject decided) in
         does_nothing l.section (instruction_at l.final o) o inside
-        (unwritten_without l linked i o (none_has_no_value l riscv) code inside alone ∙ there.1)
+        (unwritten_without l linked i below o left (none_has_no_value l riscv) code inside alone ∙ there.1)
 
     packed_nops_of : PackedNopsOf name
-    packed_nops_of l p joined riscv i chosen subject below is_name decided kind_is stay free =
+    packed_nops_of l p joined riscv i chosen subject below is_name decided kind_is left stay free =
         let o = (relocation_in l.relocations i).offset in
         let is = joined.packed in
         let there = nop_there l joined.rewritten (joined.architecture ∙ ap architecture_of riscv) i chosen subject below is_name decided kind_is in
         does_nothing l.section (final_instruction p o) o ((there.0).inside)
         (packed_there p is (place_of p o) 4 (places_inside p is o 4 (omega arith) stay) free
         ∙ (same_there p is o 4 (omega arith) stay
-        ∙ (ap (λ bytes. instruction_at bytes o) joined.bytes ∙ there.1)))
+        ∙ (ap (λ bytes. instruction_at bytes o) joined.bytes
+        ∙ (later_bytes l joined.later i o 4 left ∙ there.1))))
 
 pub nops : Laws → Nops
 nops laws = (

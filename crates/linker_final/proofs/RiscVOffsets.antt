@@ -15,6 +15,7 @@ use Rattle.linker_elf.specs.declared.riscv64.relocations.RiscVRelocation.{RiscVR
 use Rattle.linker_elf.specs.declared.riscv64.relocations.RiscVRelocation.TheVariants as names
 use Rattle.linker_final.proofs.Written.{rela, word_same}
 use Rattle.linker_final.proofs.InstructionFields.{IsOfInstruction}
+use Rattle.linker_final.proofs.Phases.{last_length}
 use Rattle.linker_final.proofs.RiscVChosen.{IsOfEntry, of_entry}
 use Rattle.linker_final.proofs.RiscVWritten.{IsAfter, applied_there, are_rewritten, becomes, bytes_there, long_there, made_is, rewritten_after, word_bytes}
 use Rattle.linker_final.specs.Final.{instruction_at}
@@ -114,7 +115,7 @@ module _ (laws : Laws) (name : RiscVRelocation) (a : IsAfter name) (of : IsOfIns
       )
 
   pub low_parts_of : LowPartsOf name
-  low_parts_of l linked riscv i chosen below is_name decided =
+  low_parts_of l linked riscv i chosen below is_name decided left =
       let r = relocation_in l.relocations i in
       let o = r.offset in
       let instruction = instruction_at l.section o in
@@ -130,13 +131,14 @@ module _ (laws : Laws) (name : RiscVRelocation) (a : IsAfter name) (of : IsOfIns
       let after = rela o (code_of (riscv_name name)) r.symbol r.addend in
       let sl = linked.same_length in
       let fl = linked.written.same_length in
-      let final_inside : o + 4 ≤ length l.final = omega (arith, inside, sl, fl) in
+      let ll = last_length l linked in
+      let final_inside : o + 4 ≤ length l.final = omega (arith, inside, sl, ll, fl) in
       mapped (λ action law is_of.
       subst (λ q. IsSomeAnd q (LowPartDoesTheSame l i action)) (sym is_row)
       (λ symbol is_symbol h k differs original low small new_small alike base stores of_original.
       let x = operands_with RiscV l.addresses a.row symbol r 0 in
       let written : IsApplied a.row x (instruction_at l.rewritten o) (instruction_at l.final o) =
-      applied_there l linked riscv i below name a after (any.0) refl of symbol 0 (no_entry l.addresses after symbol) is_symbol in
+      applied_there l linked riscv i below name a after (any.0) left refl of symbol 0 (no_entry l.addresses after symbol) is_symbol in
       let new : Relocated (offset_row action) x (instruction_at l.rewritten o) (instruction_at l.final o) =
       record {
         applied = subst (λ q. IsSomeAnd q (λ row. IsApplied row x (instruction_at l.rewritten o) (instruction_at l.final o))) (sym (is_of ∙ is_row)) written;

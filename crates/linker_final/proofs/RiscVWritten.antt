@@ -15,9 +15,10 @@ use Rattle.linker_elf.specs.declared.elf.choice.Choice.{Choice}
 use Rattle.linker_elf.specs.declared.riscv64.relocations.RiscVRelocation.{RiscVRelocation}
 use Rattle.linker_final.proofs.Written.{rela}
 use Rattle.linker_final.proofs.InstructionFields.{IsOfInstruction, applied}
+use Rattle.linker_final.proofs.Phases.{bytes_left, last_within, relocation_left}
 use Rattle.linker_final.proofs.PutBack.{same_windows}
 use Rattle.linker_final.specs.Final.{IsRewrittenByNoOther, instruction_at}
-use Rattle.linker_final.specs.Final.{AreBytes, AreRewritten, Linked, IsLinked, count}
+use Rattle.linker_final.specs.Final.{AreBytes, AreRewritten, IsLeftAlone, Linked, IsLinked, count}
 use Rattle.linker_rewriting.specs.Decisions.{decision_at, window_of, written_end_at, written_end_by}
 use Rattle.linker_rewriting.specs.Rewritten.{IsDone, IsMade, relocation_after}
 use Rattle.linker_rewriting.specs.declared.decisions.Decision.{Decision}
@@ -138,14 +139,18 @@ module _ (architecture : Architecture) (riscv : architecture ≡ RiscV) (r : Rel
 module _ (l : Linked) (linked : IsLinked l) (riscv : l.setting.architecture ≡ RiscV) (i : ℕ)
     (below : i < count l) (name : RiscVRelocation) (a : IsAfter name) (after : Rela)
     (after_is : relocation_in l.relocations_after i ≡ after)
+    (left : IsLeftAlone l i after.offset 4)
     (code_is : after.code ≡ code_of (riscv_name name)) where
-  pub within_after : i < length l.relocations_after / 24
-  within_after = subst (λ n. i < n / 24) (sym linked.as_many) below
+  pub within_after : i < length l.relocations_last / 24
+  within_after = last_within l linked i below
 
-  pub row_after : IsRow RiscV (relocation_in l.relocations_after i).code (Some a.row)
+  pub last_is : relocation_in l.relocations_last i ≡ after
+  last_is = relocation_left l linked i after.offset 4 left below ∙ after_is
+
+  pub row_after : IsRow RiscV (relocation_in l.relocations_last i).code (Some a.row)
   row_after =
-      row_in l.setting.architecture riscv (relocation_in l.relocations_after i) name a
-      (ap (λ (x : Rela). x.code) after_is ∙ code_is) l.addresses l.relocations_after l.symbols
+      row_in l.setting.architecture riscv (relocation_in l.relocations_last i) name a
+      (ap (λ (x : Rela). x.code) last_is ∙ code_is) l.addresses l.relocations_last l.symbols
       (linked.written.can.found i) (linked.written.can.are_found i within_after)
 
   -- is applied to the bytes between
@@ -160,12 +165,13 @@ module _ (l : Linked) (linked : IsLinked l) (riscv : l.setting.architecture ≡ 
       let operands = operands_with RiscV l.addresses a.row symbol after got in
       let taken : operands_of RiscV l.addresses l.symbols a.row after ≡ Ok operands =
       ap (operands_in RiscV l.addresses a.row after) is_symbol ∙ entry_is in
-      subst (λ (x : Rela). IsApplied a.row operands (instruction_at l.rewritten x.offset) (instruction_at l.final x.offset)) after_is
-      (applied l.setting.architecture l.addresses l.relocations_after l.symbols l.rewritten l.final linked.written
-      i within_after 4 (omega arith) a.row of (subst (λ x. IsRow x (relocation_in l.relocations_after i).code (Some a.row)) (sym riscv) row_after)
+      subst (λ xs. IsApplied a.row operands xs (instruction_at l.final after.offset)) (bytes_left l linked i after.offset 4 left)
+      (subst (λ (x : Rela). IsApplied a.row operands (instruction_at l.last x.offset) (instruction_at l.final x.offset)) last_is
+      (applied l.setting.architecture l.addresses l.relocations_last l.symbols l.last l.final linked.written
+      i within_after 4 (omega arith) a.row of (subst (λ x. IsRow x (relocation_in l.relocations_last i).code (Some a.row)) (sym riscv) row_after)
       operands
-      (subst (λ x. operands_of x l.addresses l.symbols a.row (relocation_in l.relocations_after i) ≡ Ok operands) (sym riscv)
-      (subst (λ x. operands_of RiscV l.addresses l.symbols a.row x ≡ Ok operands) (sym after_is) taken)))
+      (subst (λ x. operands_of x l.addresses l.symbols a.row (relocation_in l.relocations_last i) ≡ Ok operands) (sym riscv)
+      (subst (λ x. operands_of RiscV l.addresses l.symbols a.row x ≡ Ok operands) (sym last_is) taken))))
 
 -- ---- instructions
 

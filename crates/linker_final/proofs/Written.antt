@@ -15,8 +15,9 @@ use Rattle.linker_elf.specs.declared.elf.RelocationKindInfo.{RelocationKindInfo}
 use Rattle.linker_elf.specs.declared.elf.choice.Choice.{Choice}
 use Rattle.linker_elf.specs.declared.elf.value.Operands.{Operands}
 use Rattle.linker_final.proofs.InstructionFields.{IsOfInstruction, applied, instruction_len}
+use Rattle.linker_final.proofs.Phases.{bytes_left, last_as_many, last_length, last_within, relocation_left}
 use Rattle.linker_final.proofs.PutBack.{same_windows}
-use Rattle.linker_final.specs.Final.{Linked, IsLinked, IsRewrittenByNoOther, IsWrittenByNoOther, count, instruction_at, two_at}
+use Rattle.linker_final.specs.Final.{Linked, IsLeftAlone, IsLinked, IsRewrittenByNoOther, IsWrittenByNoOther, count, instruction_at, two_at}
 use Rattle.linker_rewriting.specs.Decisions.{decision_at, written_end_at, written_end_by}
 use Rattle.linker_rewriting.specs.Rewritten.{IsDone, IsMade, relocation_after}
 use Rattle.linker_rewriting.specs.declared.decisions.Decision.TheVariants.{Rewritten}
@@ -73,7 +74,7 @@ IsRowOf architecture code row =
     (found : Option RelocationKindInfo) → IsRow architecture code found → found ≡ Some row
 
 row_in : (l : Linked) (r : Rela) (row : RelocationKindInfo) → IsRowOf l.setting.architecture r.code row
-    → (found : _) → IsRowValue l.setting.architecture l.addresses l.relocations_after l.symbols r (Ok found)
+    → (found : _) → IsRowValue l.setting.architecture l.addresses l.relocations_last l.symbols r (Ok found)
     → IsRow l.setting.architecture r.code (Some row)
 row_in l r row only (Some one) has =
     subst (λ x. IsRow l.setting.architecture r.code x) (only (Some (one.0)) has.is_row) has.is_row
@@ -93,7 +94,7 @@ with_operands row o p old new same is =
 module _ (l : Linked) (linked : IsLinked l) (i : ℕ) (below : i < count l) (n : ℕ) (some : 0 < n)
     (row : RelocationKindInfo) (of : IsOfInstruction n row)
     (after : Rela) (is_after : relocation_in l.relocations_after i ≡ after)
-    (only : IsRowOf l.setting.architecture after.code row)
+    (left : IsLeftAlone l i after.offset n) (only : IsRowOf l.setting.architecture after.code row)
     (symbol : Symbol) (is_symbol : slice_get l.symbols after.symbol ≡ Some symbol) (got : ℕ)
     (entry_is : operands_by l.setting.architecture l.addresses row after symbol
     (entry_address l.addresses symbol (entry_of row after.addend symbol.is_thread_local))
@@ -101,23 +102,27 @@ module _ (l : Linked) (linked : IsLinked l) (i : ℕ) (below : i < count l) (n :
   abbrev operands : Operands
   operands = operands_with l.setting.architecture l.addresses row symbol after got
 
-  within : i < length l.relocations_after / 24
-  within = subst (λ n. i < n / 24) (sym linked.as_many) below
+  within : i < length l.relocations_last / 24
+  within = last_within l linked i below
 
-  there : IsRow l.setting.architecture (relocation_in l.relocations_after i).code (Some row)
+  is_last : relocation_in l.relocations_last i ≡ after
+  is_last = relocation_left l linked i after.offset n left below ∙ is_after
+
+  there : IsRow l.setting.architecture (relocation_in l.relocations_last i).code (Some row)
   there =
-      row_in l (relocation_in l.relocations_after i) row
-      (subst (λ (x : Rela). IsRowOf l.setting.architecture x.code row) (sym is_after) only)
+      row_in l (relocation_in l.relocations_last i) row
+      (subst (λ (x : Rela). IsRowOf l.setting.architecture x.code row) (sym is_last) only)
       (linked.written.can.found i) (linked.written.can.are_found i within)
 
   -- is applied to the bytes between
   pub applied_after : IsApplied row operands (take n (drop after.offset l.rewritten)) (take n (drop after.offset l.final))
   applied_after =
-      subst (λ (x : Rela). IsApplied row operands (take n (drop x.offset l.rewritten)) (take n (drop x.offset l.final))) is_after
-      (applied l.setting.architecture l.addresses l.relocations_after l.symbols l.rewritten l.final linked.written
+      subst (λ xs. IsApplied row operands xs (take n (drop after.offset l.final))) (bytes_left l linked i after.offset n left)
+      (subst (λ (x : Rela). IsApplied row operands (take n (drop x.offset l.last)) (take n (drop x.offset l.final))) is_last
+      (applied l.setting.architecture l.addresses l.relocations_last l.symbols l.last l.final linked.written
       i within n some row of there operands
-      (subst (λ x. operands_of l.setting.architecture l.addresses l.symbols row x ≡ Ok operands) (sym is_after)
-      (ap (operands_in l.setting.architecture l.addresses row after) is_symbol ∙ entry_is)))
+      (subst (λ x. operands_of l.setting.architecture l.addresses l.symbols row x ≡ Ok operands) (sym is_last)
+      (ap (operands_in l.setting.architecture l.addresses row after) is_symbol ∙ entry_is))))
 
 -- ---- entries of the GOT
 
@@ -125,30 +130,30 @@ module _ (l : Linked) (linked : IsLinked l) (i : ℕ) (below : i < count l) (n :
 module _ (l : Linked) (r : Rela) (row : RelocationKindInfo) (n : ℕ) (of : IsOfInstruction n row)
     (only : IsRowOf l.setting.architecture r.code row) where
   by_row : (result : Result (Option ℤ) ValueError)
-      → IsValueIn l.setting.architecture l.addresses l.relocations_after l.symbols r (Some row) result
+      → IsValueIn l.setting.architecture l.addresses l.relocations_last l.symbols r (Some row) result
       → result ≡ value_by row (operands_of l.setting.architecture l.addresses l.symbols row r)
   by_row result is =
-      subst (λ labels. IsValueBy labels l.setting.architecture l.addresses l.relocations_after l.symbols row r result) of.unlabelled is
+      subst (λ labels. IsValueBy labels l.setting.architecture l.addresses l.relocations_last l.symbols row r result) of.unlabelled is
       ∙ cond-true (has_value row.kind) (value_by row (operands_of l.setting.architecture l.addresses l.symbols row r)) (Ok None) of.valued
 
   has_operands : (found : Option (RelocationKindInfo × ℤ))
-      → IsRowValue l.setting.architecture l.addresses l.relocations_after l.symbols r (Ok found)
+      → IsRowValue l.setting.architecture l.addresses l.relocations_last l.symbols r (Ok found)
       → (error : ValueError) → operands_of l.setting.architecture l.addresses l.symbols row r ≡ Err error → ⊥
   has_operands (Some one) has error fails =
       let value : Ok (Some (one.1)) ≡ value_by row (operands_of l.setting.architecture l.addresses l.symbols row r) =
       by_row (Ok (Some (one.1)))
-      (subst (λ x. IsValueIn l.setting.architecture l.addresses l.relocations_after l.symbols r x (Ok (Some (one.1)))) (only (Some (one.0)) has.is_row) has.is_value) in
+      (subst (λ x. IsValueIn l.setting.architecture l.addresses l.relocations_last l.symbols r x (Ok (Some (one.1)))) (only (Some (one.0)) has.is_row) has.is_value) in
       absurd (let e : Ok (Some (one.1)) ≡ Err error = value ∙ ap (value_by row) fails in cc)
   has_operands None marked error fails =
       let value : Ok None ≡ value_by row (operands_of l.setting.architecture l.addresses l.symbols row r) =
       by_row (Ok None)
-      (subst (λ x. IsValueIn l.setting.architecture l.addresses l.relocations_after l.symbols r x (Ok None)) (only (marked.0) (marked.1)) (marked.2)) in
+      (subst (λ x. IsValueIn l.setting.architecture l.addresses l.relocations_last l.symbols r x (Ok None)) (only (marked.0) (marked.1)) (marked.2)) in
       absurd (let e : Ok None ≡ Err error = value ∙ ap (value_by row) fails in cc)
 
 -- the entry that its formula has is there
 pub entry_is_there : (l : Linked) → IsLinked l → (i : ℕ) → i < count l → (n : ℕ)
     (row : RelocationKindInfo) → IsOfInstruction n row
-    → (after : Rela) → relocation_in l.relocations_after i ≡ after
+    → (after : Rela) → relocation_in l.relocations_last i ≡ after
     → IsRowOf l.setting.architecture after.code row
     → (symbol : Symbol) → slice_get l.symbols after.symbol ≡ Some symbol
     → (entry : Entry) → entry_of row after.addend symbol.is_thread_local ≡ Some entry
@@ -161,8 +166,8 @@ entry_is_there l linked i below n row of after is_after only symbol is_symbol en
           ap (entry_address l.addresses symbol) is_entry
           ∙ cond-false (is_there l.addresses symbol entry) (Some (entry_in l.addresses symbol entry.class)) None missing in
           absurd (has_operands l after row n of only (linked.written.can.found i)
-          (subst (λ (x : Rela). IsRowValue l.setting.architecture l.addresses l.relocations_after l.symbols x (Ok (linked.written.can.found i))) is_after
-          (linked.written.can.are_found i (subst (λ n. i < n / 24) (sym linked.as_many) below)))
+          (subst (λ (x : Rela). IsRowValue l.setting.architecture l.addresses l.relocations_last l.symbols x (Ok (linked.written.can.found i))) is_after
+          (linked.written.can.are_found i (last_within l linked i below)))
           NoEntry
           (ap (operands_in l.setting.architecture l.addresses row after) is_symbol
           ∙ ap (operands_by l.setting.architecture l.addresses row after symbol) none))
@@ -225,43 +230,46 @@ module _ (l : Linked) (linked : IsLinked l) (i : ℕ) (chosen : Choice Relaxatio
 -- those of an instruction stay
 unwritten : (l : Linked) → IsLinked l → (p : ℕ) → p + 4 ≤ length l.section
     → ((at : ℕ) → p ≤ at → at < p + 4
-    → IsInNoField l.setting.architecture l.relocations_after l.rewritten (length l.relocations_after / 24) at)
-    → instruction_at l.final p ≡ instruction_at l.rewritten p
+    → IsInNoField l.setting.architecture l.relocations_last l.last (length l.relocations_last / 24) at)
+    → instruction_at l.final p ≡ instruction_at l.last p
 unwritten l linked p inside free =
     let fl = linked.written.same_length in
+    let ll = last_length l linked in
     let rl = linked.same_length in
-    same_windows p 4 l.final l.rewritten (omega (arith, inside, fl, rl)) (sym fl)
+    same_windows p 4 l.final l.last (omega (arith, inside, fl, ll, rl)) (sym fl)
     (λ at from less. linked.written.others at (free at from less))
 
 -- The field of a relocation is apart from an instruction.
 abbrev pub IsApart : Linked → ℕ → ℕ → Type 0
 IsApart l i p =
-    (row : RelocationKindInfo) → IsField l.setting.architecture l.relocations_after l.rewritten i row
-    → (p + 4 ≤ offset_at l.relocations_after i) ⊎ (field_end l.relocations_after l.rewritten i row ≤ p)
+    (row : RelocationKindInfo) → IsField l.setting.architecture l.relocations_last l.last i row
+    → (p + 4 ≤ offset_at l.relocations_last i) ⊎ (field_end l.relocations_last l.last i row ≤ p)
 
 -- no other relocation has one in it
-pub unwritten_but : (l : Linked) → IsLinked l → (i p : ℕ) → p + 4 ≤ length l.section → IsApart l i p
+pub unwritten_but : (l : Linked) → IsLinked l → (i p : ℕ) → IsLeftAlone l i p 4
+    → p + 4 ≤ length l.section → IsApart l i p
     → IsWrittenByNoOther l i p → instruction_at l.final p ≡ instruction_at l.rewritten p
-unwritten_but l linked i p inside apart alone =
+unwritten_but l linked i p left inside apart alone =
     unwritten l linked p inside
     (λ at from less j row lj field. elim (cases_eq j i) [
       | inl same ↦
-          subst (λ k. (at < offset_at l.relocations_after k) ⊎ (field_end l.relocations_after l.rewritten k row ≤ at)) (sym same)
-          (elim (apart row (subst (λ k. IsField l.setting.architecture l.relocations_after l.rewritten k row) same field)) [
+          subst (λ k. (at < offset_at l.relocations_last k) ⊎ (field_end l.relocations_last l.last k row ≤ at)) (sym same)
+          (elim (apart row (subst (λ k. IsField l.setting.architecture l.relocations_last l.last k row) same field)) [
             | inl ahead ↦ inl (omega (arith, ahead, less))
             | inr behind ↦ inr (omega (arith, behind, from))
           ])
-      | inr isnt ↦ alone j at (subst (λ n. j < n / 24) linked.as_many lj) isnt from less row field
+      | inr isnt ↦ alone j at (subst (λ n. j < n / 24) (last_as_many l linked) lj) isnt from less row field
     ])
+    ∙ bytes_left l linked i p 4 left
 
 abbrev of_row : RelocationKindInfo → Option RelocationKindInfo → RelocationKindInfo
 of_row other None = other
 of_row other (Some row) = row
 
-module _ (l : Linked) (i : ℕ) (after : Rela) (is_after : relocation_in l.relocations_after i ≡ after)
+module _ (l : Linked) (i : ℕ) (after : Rela) (is_after : relocation_in l.relocations_last i ≡ after)
     (row : RelocationKindInfo) (only : IsRowOf l.setting.architecture after.code row) where
   same_row : (other : RelocationKindInfo)
-      → IsField l.setting.architecture l.relocations_after l.rewritten i other → other ≡ row
+      → IsField l.setting.architecture l.relocations_last l.last i other → other ≡ row
   same_row other field =
       ap (of_row other)
       (only (Some other) (subst (λ (x : Rela). IsRow l.setting.architecture x.code (Some other)) is_after field.is_row))
@@ -269,30 +277,31 @@ module _ (l : Linked) (i : ℕ) (after : Rela) (is_after : relocation_in l.reloc
   -- one without a value has no field
   pub apart_without : row ≡ bytes_row NoValue 0 → (p : ℕ) → IsApart l i p
   apart_without is p other field =
-      let some : 0 < field_len (bytes_row NoValue 0) (drop (offset_at l.relocations_after i) l.rewritten) =
-      subst (λ x. 0 < field_len x (drop (offset_at l.relocations_after i) l.rewritten)) (same_row other field ∙ is) field.some in
+      let some : 0 < field_len (bytes_row NoValue 0) (drop (offset_at l.relocations_last i) l.last) =
+      subst (λ x. 0 < field_len x (drop (offset_at l.relocations_last i) l.last)) (same_row other field ∙ is) field.some in
       absurd (omega (arith, some))
 
   -- one of an instruction has that
   pub apart_with : (n : ℕ) → IsOfInstruction n row → (p : ℕ)
       → (p + 4 ≤ after.offset) ⊎ (after.offset + n ≤ p) → IsApart l i p
   apart_with n of p beside other field =
-      let offset : offset_at l.relocations_after i ≡ after.offset = ap (λ (x : Rela). x.offset) is_after in
-      let len : field_len other (drop (offset_at l.relocations_after i) l.rewritten) ≡ n =
-      ap (λ x. field_len x (drop (offset_at l.relocations_after i) l.rewritten)) (same_row other field)
-      ∙ instruction_len n row of (drop (offset_at l.relocations_after i) l.rewritten) in
+      let offset : offset_at l.relocations_last i ≡ after.offset = ap (λ (x : Rela). x.offset) is_after in
+      let len : field_len other (drop (offset_at l.relocations_last i) l.last) ≡ n =
+      ap (λ x. field_len x (drop (offset_at l.relocations_last i) l.last)) (same_row other field)
+      ∙ instruction_len n row of (drop (offset_at l.relocations_last i) l.last) in
       elim beside [
         | inl ahead ↦ inl (omega (arith, ahead, offset))
         | inr behind ↦ inr (omega (arith, behind, offset, len))
       ]
 
 -- an instruction stays that no other relocation writes, where the own one is of no type
-pub unwritten_without : (l : Linked) → IsLinked l → (i p : ℕ)
-    → IsRowOf l.setting.architecture 0 (bytes_row NoValue 0)
+pub unwritten_without : (l : Linked) → IsLinked l → (i : ℕ) → i < count l → (p : ℕ)
+    → IsLeftAlone l i p 4 → IsRowOf l.setting.architecture 0 (bytes_row NoValue 0)
     → (relocation_in l.relocations_after i).code ≡ 0 → p + 4 ≤ length l.section
     → IsWrittenByNoOther l i p → instruction_at l.final p ≡ instruction_at l.rewritten p
-unwritten_without l linked i p none gone inside alone =
-    unwritten_but l linked i p inside
-    (apart_without l i (relocation_in l.relocations_after i) refl (bytes_row NoValue 0)
+unwritten_without l linked i below p left none gone inside alone =
+    let is_last = relocation_left l linked i p 4 left below in
+    unwritten_but l linked i p left inside
+    (apart_without l i (relocation_in l.relocations_after i) is_last (bytes_row NoValue 0)
     (subst (λ x. IsRowOf l.setting.architecture x (bytes_row NoValue 0)) (sym gone) none) refl p)
     alone

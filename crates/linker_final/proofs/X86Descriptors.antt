@@ -48,7 +48,7 @@ module _ (n : ℕ) (three : 3 ≤ n) (name : X86_64Relocation) (named : IsNamed 
     (chosen : Choice Relaxation ℕ) (below : i < count l)
     (is_name : IsNameOf x86_64_name (relocation_in l.relocations i).code name)
     (decided : decision_at l.decisions i ≡ Rewritten chosen)
-    (alone : AreAlone l i ((relocation_in l.relocations i).offset - n) ((relocation_in l.relocations i).offset + 4))
+    (alone : AreAlone l i ((relocation_in l.relocations i).offset - n) (n + 4))
   where
     abbrev r : Rela
     r = relocation_in l.relocations i
@@ -146,7 +146,7 @@ addresses law = (
 module _ (law : laws.CallOfDescriptor) (l : Linked) (linked : IsLinked l)
     (x86 : l.setting.architecture ≡ X86_64) (i : ℕ) (chosen : Choice Relaxation ℕ) (below : i < count l)
     (decided : decision_at l.decisions i ≡ Rewritten chosen)
-    (alone : AreAlone l i (relocation_in l.relocations i).offset ((relocation_in l.relocations i).offset + 2))
+    (alone : AreAlone l i (relocation_in l.relocations i).offset 2)
   where
     abbrev at : ℕ
     at = (relocation_in l.relocations i).offset
@@ -168,7 +168,7 @@ module _ (law : laws.CallOfDescriptor) (l : Linked) (linked : IsLinked l)
           window = own_window 0 2 (x86_64_rewrite skip) (replaces 0 2 _) refl (λ window. refl) (omega arith) (omega arith);
           matches = this.asked_for.1;
           room = there_inside 0 2 (omega arith) (x86_64_originals skip) l.section at ((refl, refl), tt) (this.asked_for.1.1);
-          alone = subst (λ start. AreAlone l i start (at + 2)) (let e : at ≡ at - 0 = omega arith in e) alone;
+          alone = subst (λ start. AreAlone l i start 2) (let e : at ≡ at - 0 = omega arith in e) alone;
         } in
         subst (λ xs. IsSomeAnd (step (drop at xs) t) (λ v. WritesNothing t v
         × ((u : State) → IsDescriptorCall 2 changed returned s u → u.fs ≡ s.fs → AgreeBut (behind_call changed s c) u v)))

@@ -128,7 +128,7 @@ module _ (laws : Laws) (name : X86_64Relocation) (operand : GotOperand)
     (x86 : l.setting.architecture ≡ X86_64) (i : ℕ) (chosen : Choice Relaxation ℕ)
     (below : i < count l) (decided : decision_at l.decisions i ≡ Rewritten chosen)
     (is_name : IsNameOf x86_64_name (relocation_in l.relocations i).code name)
-    (alone : AreAlone l i ((relocation_in l.relocations i).offset - operand.back) ((relocation_in l.relocations i).offset + 4))
+    (alone : AreAlone l i ((relocation_in l.relocations i).offset - operand.back) (operand.back + 4))
   where
     abbrev r : Rela
     r = relocation_in l.relocations i

@@ -9,6 +9,7 @@ use Rattle.linker_elf.specs.declared.elf.RelocationKindInfo.{RelocationKindInfo}
 use Rattle.linker_elf.specs.declared.elf.choice.Choice.{Choice}
 use Rattle.linker_elf.specs.declared.x86_64.relocations.X86_64Relocation.TheVariants as names
 use Rattle.linker_final.proofs.Inner.{HasWindow, own_window}
+use Rattle.linker_final.proofs.Phases.{relocation_left}
 use Rattle.linker_final.proofs.X86Chosen.{IsOfTable, of_table}
 use Rattle.linker_final.proofs.X86Finals.{final_is}
 use Rattle.linker_final.proofs.X86Lawful.{AreOf, shaped_of}
@@ -16,7 +17,7 @@ use Rattle.linker_final.proofs.X86Patterns.{there_inside}
 use Rattle.linker_final.proofs.X86Rows.{tpoff32}
 use Rattle.linker_final.proofs.X86ThreadEntries.{entry_final}
 use Rattle.linker_final.proofs.X86Windows.{HasRewrite, no_field, object_bytes, object_has, object_matches, offset_small, unrelocated}
-use Rattle.linker_final.specs.Final.{AreAlone, HasNoByte, IsLinked, Linked, count}
+use Rattle.linker_final.specs.Final.{AreAlone, HasNoByte, IsLeftAlone, IsLinked, Linked, count}
 use Rattle.linker_final.specs.X86ThreadFinal.{AddressIsTheSame, AreAloneWithNext, BlockIsReplaced, EntryHolds, GeneralDynamic, LocalDynamic, general_dynamic, local_dynamic, object_in, reads_entry}
 use Rattle.linker_laws.proofs.X86Fields.{thread_row, tls_module_row}
 use Rattle.linker_laws.specs.Schemes.{AreAddresses}
@@ -50,13 +51,15 @@ module _ (l : Linked) (linked : IsLinked l) (x86 : l.setting.architecture ≡ X8
       subst (λ b. IsDecidedAfter l.setting l.kept l.relocations l.section (suc i) b (decision_at l.decisions (suc i)))
       (ap takes_next decided ∙ takes) (linked.decided (suc i) below)
 
-  next_has_none : (at : ℕ) → suc i < count l → HasNoByte l (suc i) at
-  next_has_none at below =
+  next_has_none : (start len : ℕ) → IsLeftAlone l (suc i) start len → (at : ℕ) → suc i < count l
+      → HasNoByte l (suc i) at
+  next_has_none start len left at below =
       let o = (relocation_in l.relocations (suc i)).offset in
       let is = taken below in
-      let code : (relocation_in l.relocations_after (suc i)).code ≡ 0 =
+      let code : (relocation_in l.relocations_last (suc i)).code ≡ 0 =
       ap (λ (x : Rela). x.code)
-      (linked.relocations (suc i) below ∙ ap (λ d. relocation_after d (relocation_in l.relocations (suc i))) is) in (
+      (relocation_left l linked (suc i) start len left below
+      ∙ (linked.relocations (suc i) below ∙ ap (λ d. relocation_after d (relocation_in l.relocations (suc i))) is)) in (
         subst (λ d. (at < start_by d o) ⊎ (written_end_by d o ≤ at)) (sym is)
             (elim (cases_lt at o) [
               | inl ahead ↦ inl (let e : at < o - 0 = omega (arith, ahead) in e)
@@ -65,14 +68,20 @@ module _ (l : Linked) (linked : IsLinked l) (x86 : l.setting.architecture ≡ X8
         λ row field. absurd (no_field l x86 (suc i) code row field),
       )
 
-  pub alone_with_next : (start end : ℕ) → AreAloneWithNext l i start end → AreAlone l i start end
-  alone_with_next start end alone j at below isnt from less =
-      elim (cases_eq j (suc i)) [
-        | inl same ↦
-            subst (λ k. HasNoByte l k at) (sym same)
-            (next_has_none at (subst (λ k. k < count l) same below))
-        | inr other ↦ alone j at below isnt (λ e. other (e ∙ (let x : i + 1 ≡ suc i = omega arith in x))) from less
-      ]
+  pub alone_with_next : (start len : ℕ) → AreAloneWithNext l i start len → AreAlone l i start len
+  alone_with_next start len alone =
+      let next : i + 1 ≡ suc i = omega arith in
+      let left : IsLeftAlone l (suc i) start len = subst (λ k. IsLeftAlone l k start len) next alone.next_left in
+      record {
+        others = λ j at below isnt from less.
+            elim (cases_eq j (suc i)) [
+              | inl same ↦
+                  subst (λ k. HasNoByte l k at) (sym same)
+                  (next_has_none start len left at (subst (λ k. k < count l) same below))
+              | inr other ↦ alone.others j at below isnt (λ e. other (e ∙ next)) from less
+            ];
+        left = alone.left;
+      }
 
 -- ---- a sequence
 
@@ -87,8 +96,8 @@ module _ (l : Linked) (linked : IsLinked l) (x86 : l.setting.architecture ≡ X8
     (shape : AreOf back (4 + call) (x86_64_originals kind))
     (skips : is_some (x86_64_skipped kind) ≡ true)
     (asked : IsAskedFor any kind l.section (relocation_in l.relocations i).offset)
-    (alone : AreAloneWithNext l i ((relocation_in l.relocations i).offset - back)
-    ((relocation_in l.relocations i).offset + (4 + call))) where
+    (alone : AreAloneWithNext l i ((relocation_in l.relocations i).offset - back) (back + (4 + call)))
+  where
   abbrev r : Rela
   r = relocation_in l.relocations i
 
@@ -108,7 +117,7 @@ module _ (l : Linked) (linked : IsLinked l) (x86 : l.setting.architecture ≡ X8
         matches = asked.1;
         room = there_inside back (4 + call) (omega arith) (x86_64_originals kind) l.section o shape (asked.1.1);
         alone = alone_with_next l linked x86 i chosen decided (ap (λ k. is_some (relaxation_skipped k)) kind_is ∙ skips)
-            (o - back) (o + (4 + call)) alone;
+            (o - back) (back + (4 + call)) alone;
       }
 
   abbrev object : List ℕ
@@ -179,7 +188,7 @@ module _ (l : Linked) (linked : IsLinked l) (x86 : l.setting.architecture ≡ X8
 abbrev Variable : Linked → ℕ → Choice Relaxation ℕ → Relaxation → Type 0
 Variable l i chosen kind =
     IsSomeAnd (general_dynamic kind) (λ q.
-    AreAloneWithNext l i ((relocation_in l.relocations i).offset - q.back) ((relocation_in l.relocations i).offset + (4 + q.call))
+    AreAloneWithNext l i ((relocation_in l.relocations i).offset - q.back) (q.back + (4 + q.call))
     → AddressIsTheSame l i chosen q thread_row)
 
 pub general_dynamic_too : laws.GeneralDynamic → GeneralDynamic
@@ -213,7 +222,7 @@ general_dynamic_too law l linked x86 i chosen below is_name decided =
 abbrev Module : Linked → ℕ → Relaxation → Type 0
 Module l i kind =
     IsSomeAnd (local_dynamic kind) (λ q.
-    AreAloneWithNext l i ((relocation_in l.relocations i).offset - q.back) ((relocation_in l.relocations i).offset + (4 + q.call))
+    AreAloneWithNext l i ((relocation_in l.relocations i).offset - q.back) (q.back + (4 + q.call))
     → BlockIsReplaced l i q tls_module_row)
 
 pub local_dynamic_too : laws.LocalDynamic → LocalDynamic

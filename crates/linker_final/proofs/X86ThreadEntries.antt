@@ -61,12 +61,12 @@ module _ (l : Linked) (i back end : ℕ) (kind : RelaxationKind) (is : HasRewrit
               let after = r_after l i back end kind is in
               let written = is.linked.written.can in
               absurd
-              (are_there l.setting.architecture l.addresses l.relocations_after l.symbols
-              (relocation_in l.relocations_after i) tls_got_row
+              (are_there l.setting.architecture l.addresses l.relocations_last l.symbols
+              (relocation_in l.relocations_last i) tls_got_row
               (row_after l is.linked is.x86 i is.below names.R_X86_64_GOTTPOFF tt tls_got_row refl
               (ap (λ (x : Rela). x.code) after ∙ code_is)) refl refl (written.found i)
               (written.are_found i (within_after l i back end kind is)) NoEntry
-              (subst (λ x. operands_of x l.addresses l.symbols tls_got_row (relocation_in l.relocations_after i) ≡ Err NoEntry) (sym is.x86)
+              (subst (λ x. operands_of x l.addresses l.symbols tls_got_row (relocation_in l.relocations_last i) ≡ Err NoEntry) (sym is.x86)
               (subst (λ x. operands_of X86_64 l.addresses l.symbols tls_got_row x ≡ Err NoEntry) (sym after) error)))
         ]
 

@@ -16,6 +16,7 @@ use Rattle.linker_elf.specs.declared.elf.value.Operands.{Operands}
 use Rattle.linker_elf.specs.declared.x86_64.relocations.X86_64Relocation.{X86_64Relocation}
 use Rattle.linker_elf.specs.declared.x86_64.relocations.X86_64Relocation.TheVariants as names
 use Rattle.linker_final.proofs.Fields.{AreLowest, IsLeft, eight_bytes, four_bytes, left, len_is}
+use Rattle.linker_final.proofs.Phases.{last_length, last_within, relocation_left}
 use Rattle.linker_final.proofs.PlainRows.{IsPlain}
 use Rattle.linker_final.proofs.PutBack.{back_outside, put_back_is}
 use Rattle.linker_final.proofs.X86Chosen.{of_table}
@@ -23,7 +24,7 @@ use Rattle.linker_final.proofs.X86Finals.{some_and}
 use Rattle.linker_final.proofs.X86Rows.{tpoff32}
 use Rattle.linker_final.proofs.X86ThreadRows.{plain_long_thread}
 use Rattle.linker_final.proofs.X86Windows.{rela, relocated, row_after, small_byte}
-use Rattle.linker_final.specs.Final.{IsLinked, Linked, count}
+use Rattle.linker_final.specs.Final.{IsLeftAlone, IsLinked, Linked, count}
 use Rattle.linker_final.specs.X86ThreadFinal.{LeadsToTheSame, Offsets, object_in}
 use Rattle.linker_laws.proofs.X86Fields.{block_field, block_row, long_block_field, long_block_row, long_thread_field, long_thread_row, thread_field, thread_row}
 use Rattle.linker_laws.specs.Schemes.{AreAddresses, symbol_address}
@@ -182,6 +183,7 @@ module _ (n : ℕ) (read : ℕ → ℕ) (block_row thread_row : RelocationKindIn
     (chosen : Choice Relaxation ℕ) (below : i < count l)
     (is_name : IsNameOf x86_64_name (relocation_in l.relocations i).code name)
     (decided : decision_at l.decisions i ≡ Rewritten chosen)
+    (stays : IsLeftAlone l i (relocation_in l.relocations i).offset n)
     (kind_is : chosen.kind ≡ relaxations.X86_64 kinds.NoOp)
     (code_is : chosen.relocation ≡ code_of (x86_64_name after)) where
   abbrev r : Rela
@@ -193,51 +195,52 @@ module _ (n : ℕ) (read : ℕ → ℕ) (block_row thread_row : RelocationKindIn
   abbrev relocation : Rela
   relocation = rela o chosen.relocation r.symbol r.addend
 
-  r_after : relocation_in l.relocations_after i ≡ relocation
+  r_after : relocation_in l.relocations_last i ≡ relocation
   r_after =
-      linked.relocations i below
+      relocation_left l linked i o n stays below
+      ∙ (linked.relocations i below
       ∙ (ap (λ d. relocation_after d r) decided
-      ∙ ap (λ k. rela (offset_after (relaxation_rewrite k) o) chosen.relocation r.symbol (addend_after (relaxation_rewrite k) r.addend)) kind_is)
+      ∙ ap (λ k. rela (offset_after (relaxation_rewrite k) o) chosen.relocation r.symbol (addend_after (relaxation_rewrite k) r.addend)) kind_is))
 
-  row_there : IsRow l.setting.architecture (relocation_in l.relocations_after i).code (Some thread_row)
+  row_there : IsRow l.setting.architecture (relocation_in l.relocations_last i).code (Some thread_row)
   row_there =
       row_after l linked x86 i below after named thread_row is_thread (ap (λ (x : Rela). x.code) r_after ∙ code_is)
 
-  within : i < length l.relocations_after / 24
-  within = subst (λ m. i < m / 24) (sym linked.as_many) below
+  within : i < length l.relocations_last / 24
+  within = last_within l linked i below
 
-  mine : IsField l.setting.architecture l.relocations_after l.rewritten i thread_row
+  mine : IsField l.setting.architecture l.relocations_last l.last i thread_row
   mine =
       let some = rows.some in
-      let len = len_is n thread_row (drop (offset_at l.relocations_after i) l.rewritten) rows.plain in
+      let len = len_is n thread_row (drop (offset_at l.relocations_last i) l.last) rows.plain in
       record { is_row = row_there; some = omega (arith, some, len) }
 
-  others_apart : (j : ℕ) (other : RelocationKindInfo) → j < length l.relocations_after / 24
-      → (j ≡ i → ⊥) → IsField l.setting.architecture l.relocations_after l.rewritten j other
-      → (offset_at l.relocations_after i < offset_at l.relocations_after j)
-      ⊎ (field_end l.relocations_after l.rewritten j other ≤ offset_at l.relocations_after i)
+  others_apart : (j : ℕ) (other : RelocationKindInfo) → j < length l.relocations_last / 24
+      → (j ≡ i → ⊥) → IsField l.setting.architecture l.relocations_last l.last j other
+      → (offset_at l.relocations_last i < offset_at l.relocations_last j)
+      ⊎ (field_end l.relocations_last l.last j other ≤ offset_at l.relocations_last i)
   others_apart j other lj isnt is_field =
-      elim (cases_lt (offset_at l.relocations_after i) (offset_at l.relocations_after j)) [
+      elim (cases_lt (offset_at l.relocations_last i) (offset_at l.relocations_last j)) [
         | inl ahead ↦ inl ahead
-        | inr from ↦ elim (cases_lt (offset_at l.relocations_after i) (field_end l.relocations_after l.rewritten j other)) [
+        | inr from ↦ elim (cases_lt (offset_at l.relocations_last i) (field_end l.relocations_last l.last j other)) [
           | inl inside ↦ absurd (overlaps from inside)
           | inr past ↦ inr past
         ]
       ]
     where
-      overlaps : offset_at l.relocations_after j ≤ offset_at l.relocations_after i
-          → offset_at l.relocations_after i < field_end l.relocations_after l.rewritten j other → ⊥
+      overlaps : offset_at l.relocations_last j ≤ offset_at l.relocations_last i
+          → offset_at l.relocations_last i < field_end l.relocations_last l.last j other → ⊥
       overlaps from inside =
           let some = mine.some in
-          let behind : offset_at l.relocations_after j < field_end l.relocations_after l.rewritten i thread_row =
+          let behind : offset_at l.relocations_last j < field_end l.relocations_last l.last i thread_row =
           omega (arith, from, some) in
           let apart = linked.written.can.apart in
           elim (cases_lt i j) [
             | inl less ↦
-                not_first l.relocations_after thread_row rows.of other i j
+                not_first l.relocations_last thread_row rows.of other i j
                 (apart i j thread_row other less lj mine is_field (inside, behind))
             | inr most ↦
-                not_second l.relocations_after thread_row rows.of other i j
+                not_second l.relocations_last thread_row rows.of other i j
                 (apart j i other thread_row (omega (arith, most, isnt)) within is_field mine (behind, inside))
           ]
 
@@ -252,24 +255,25 @@ module _ (n : ℕ) (read : ℕ → ℕ) (block_row thread_row : RelocationKindIn
       let before_is : is_of_got X86_64 r.code ≡ false = ap (is_of_got X86_64) (sym is_name.code_is) ∙ name_is in
       let taken : operands_of X86_64 l.addresses l.symbols thread_row relocation ≡ Ok written =
       ap (operands_in X86_64 l.addresses thread_row relocation) is_symbol ∙ rows.alone l.addresses symbol relocation in
-      let field : IsLeft n thread_row written o l.rewritten l.final =
-      subst (λ (x : Rela). IsLeft n thread_row written x.offset l.rewritten l.final) r_after
-      (left n rows.some rows.lowest l.setting.architecture l.addresses l.relocations_after l.symbols l.rewritten l.final linked.written
+      let field : IsLeft n thread_row written o l.last l.final =
+      subst (λ (x : Rela). IsLeft n thread_row written x.offset l.last l.final) r_after
+      (left n rows.some rows.lowest l.setting.architecture l.addresses l.relocations_last l.symbols l.last l.final linked.written
       (small_byte l.final linked.final_bytes) i within thread_row rows.plain row_there written
-      (subst (λ x. operands_of x l.addresses l.symbols thread_row (relocation_in l.relocations_after i) ≡ Ok written) (sym x86)
+      (subst (λ x. operands_of x l.addresses l.symbols thread_row (relocation_in l.relocations_last i) ≡ Ok written) (sym x86)
       (subst (λ x. operands_of X86_64 l.addresses l.symbols thread_row x ≡ Ok written) (sym r_after) taken))
       others_apart) in
-      let final_length : length l.final ≡ length l.section = linked.written.same_length ∙ linked.same_length in
-      let rl = linked.same_length in
+      let final_length : length l.final ≡ length l.section =
+      linked.written.same_length ∙ (last_length l linked ∙ linked.same_length) in
+      let rl = linked.written.same_length in
       let inside = field.inside in
-      let inside_final : o - 0 + (0 + n) ≤ length l.final = omega (arith, inside, rl, final_length) in
+      let inside_final : o - 0 + (0 + n) ≤ length l.final = omega (arith, inside, rl) in
       let object = object_in l o 0 n in
       let object_length : length object ≡ length l.final =
       (put_back_is (o - 0) (0 + n) l.section l.final inside_final (sym final_length)).same_len in
       let base : IsRelocatedBy thread_row counted o object l.final =
-      relocated n thread_row rows.plain written counted o l.rewritten l.final object field
+      relocated n thread_row rows.plain written counted o l.last l.final object field
       (rows.same l.addresses symbol r chosen.relocation entry before_is (ap (is_of_got X86_64) code_is ∙ after_is) strong)
-      object_length (rl ∙ sym final_length)
+      object_length (sym rl)
       (λ at outside.
       back_outside (o - 0) (0 + n) l.section l.final inside_final (sym final_length) at
       (elim outside [
@@ -302,18 +306,18 @@ module _ (n : ℕ) (read : ℕ → ℕ) (block_row thread_row : RelocationKindIn
 
 pub offsets : Offsets
 offsets = (
-  λ l linked x86 i chosen below is_name decided.
+  λ l linked x86 i chosen below is_name decided stays.
       elim (of_table l linked x86 i chosen below decided names.R_X86_64_DTPOFF32 tt is_name) [
         | inl this ↦
             leads 4 extended block_row thread_row short_rows names.R_X86_64_DTPOFF32 names.R_X86_64_TPOFF32 refl refl
-            refl refl tt l linked x86 i chosen below is_name decided this.kind_is this.code_is
+            refl refl tt l linked x86 i chosen below is_name decided stays this.kind_is this.code_is
         | inr nothing ↦ absurd nothing
       ],
-  λ l linked x86 i chosen below is_name decided.
+  λ l linked x86 i chosen below is_name decided stays.
       elim (of_table l linked x86 i chosen below decided names.R_X86_64_DTPOFF64 tt is_name) [
         | inl this ↦
             leads 8 (λ offset. offset) long_block_row long_thread_row long_rows names.R_X86_64_DTPOFF64 names.R_X86_64_TPOFF64
-            refl refl refl refl tt l linked x86 i chosen below is_name decided this.kind_is this.code_is
+            refl refl refl refl tt l linked x86 i chosen below is_name decided stays this.kind_is this.code_is
         | inr nothing ↦ absurd nothing
       ],
 )

@@ -19,6 +19,7 @@ use Rattle.linker_elf.specs.declared.x86_64.relocations.X86_64Relocation.{X86_64
 use Rattle.linker_elf.specs.declared.x86_64.relocations.X86_64Relocation.TheVariants as names
 use Rattle.linker_final.proofs.Fields.{IsLeft, four_bytes, left, len_is}
 use Rattle.linker_final.proofs.Inner.{HasWindow}
+use Rattle.linker_final.proofs.Phases.{byte_left, last_as_many, last_length, last_within, relocation_left}
 use Rattle.linker_final.proofs.PlainRows.{IsPlain}
 use Rattle.linker_final.proofs.PutBack.{put_back_is, back_inside, back_outside, back_rewritten, same_windows}
 use Rattle.linker_final.proofs.X86Lawful.{HaveShape}
@@ -149,16 +150,16 @@ of_row other (Some row) = row
 
 -- a relocation of no type has none
 pub no_field : (l : Linked) → l.setting.architecture ≡ X86_64 → (j : ℕ)
-    → (relocation_in l.relocations_after j).code ≡ 0 → (row : RelocationKindInfo)
-    → IsField l.setting.architecture l.relocations_after l.rewritten j row → ⊥
+    → (relocation_in l.relocations_last j).code ≡ 0 → (row : RelocationKindInfo)
+    → IsField l.setting.architecture l.relocations_last l.last j row → ⊥
 no_field l x86 j code row field =
-    let there : IsRow X86_64 (relocation_in l.relocations_after j).code (Some row) =
-    subst (λ x. IsRow x (relocation_in l.relocations_after j).code (Some row)) x86 field.is_row in
+    let there : IsRow X86_64 (relocation_in l.relocations_last j).code (Some row) =
+    subst (λ x. IsRow x (relocation_in l.relocations_last j).code (Some row)) x86 field.is_row in
     let same : there.name ≡ names.R_X86_64_NONE = there.is_name.named names.R_X86_64_NONE tt (sym code) in
     let is : Some row ≡ Some (bytes_row NoValue 0) = there.value_is ∙ ap x86_64_row same in
     let row_is : row ≡ bytes_row NoValue 0 = ap (of_row row) is in
-    let some : 0 < field_len (bytes_row NoValue 0) (drop (offset_at l.relocations_after j) l.rewritten) =
-    subst (λ x. 0 < field_len x (drop (offset_at l.relocations_after j) l.rewritten)) row_is field.some in
+    let some : 0 < field_len (bytes_row NoValue 0) (drop (offset_at l.relocations_last j) l.last) =
+    subst (λ x. 0 < field_len x (drop (offset_at l.relocations_last j) l.last)) row_is field.some in
     absurd (omega (arith, some))
 
 -- ---- codes of a name
@@ -177,7 +178,7 @@ row_by l x86 code name named row is code_is found has =
 row_in : (l : Linked) → l.setting.architecture ≡ X86_64 → (r : Rela) (name : X86_64Relocation)
     → IsNamed (x86_64_name name) → (row : RelocationKindInfo) → x86_64_row name ≡ Some row
     → r.code ≡ code_of (x86_64_name name)
-    → (found : _) → IsRowValue l.setting.architecture l.addresses l.relocations_after l.symbols r (Ok found)
+    → (found : _) → IsRowValue l.setting.architecture l.addresses l.relocations_last l.symbols r (Ok found)
     → IsRow l.setting.architecture r.code (Some row)
 row_in l x86 r name named row is code_is (Some one) has =
     row_by l x86 r.code name named row is code_is (Some (one.0)) has.is_row
@@ -188,11 +189,11 @@ row_in l x86 r name named row is code_is None marked =
 pub row_after : (l : Linked) → IsLinked l → l.setting.architecture ≡ X86_64 → (i : ℕ) → i < count l
     → (name : X86_64Relocation) → IsNamed (x86_64_name name)
     → (row : RelocationKindInfo) → x86_64_row name ≡ Some row
-    → (relocation_in l.relocations_after i).code ≡ code_of (x86_64_name name)
-    → IsRow l.setting.architecture (relocation_in l.relocations_after i).code (Some row)
+    → (relocation_in l.relocations_last i).code ≡ code_of (x86_64_name name)
+    → IsRow l.setting.architecture (relocation_in l.relocations_last i).code (Some row)
 row_after l linked x86 i below name named row is code_is =
-    row_in l x86 (relocation_in l.relocations_after i) name named row is code_is (linked.written.can.found i)
-    (linked.written.can.are_found i (subst (λ n. i < n / 24) (sym linked.as_many) below))
+    row_in l x86 (relocation_in l.relocations_last i) name named row is code_is (linked.written.can.found i)
+    (linked.written.can.are_found i (last_within l linked i below))
 
 -- ---- one rewrite
 
@@ -208,8 +209,7 @@ pub record HasRewrite (l : Linked) (i back end : ℕ) (kind : RelaxationKind) : 
   pub matches : x86_64_matches kind l.section (relocation_in l.relocations i).offset
   pub room : (back ≤ (relocation_in l.relocations i).offset)
       × ((relocation_in l.relocations i).offset + end ≤ length l.section)
-  pub alone : AreAlone l i ((relocation_in l.relocations i).offset - back)
-      ((relocation_in l.relocations i).offset + end)
+  pub alone : AreAlone l i ((relocation_in l.relocations i).offset - back) (back + end)
 
 module _ (l : Linked) (i back end : ℕ) (kind : RelaxationKind) (is : HasRewrite l i back end kind)
   where
@@ -241,17 +241,18 @@ module _ (l : Linked) (i back end : ℕ) (kind : RelaxationKind) (is : HasRewrit
     can = subst (λ q. CanRewrite q l.section o) w.is (is.matches.0)
 
     final_length : length l.final ≡ length l.section
-    final_length = linked.written.same_length ∙ linked.same_length
+    final_length = linked.written.same_length ∙ (last_length l linked ∙ linked.same_length)
 
     -- the relocation after
-    pub r_after : relocation_in l.relocations_after i
+    pub r_after : relocation_in l.relocations_last i
         ≡ rela (w.made.offset o) chosen.relocation r.symbol (w.made.addend r.addend)
     r_after =
-        linked.relocations i is.below
-        ∙ (ap (λ d. relocation_after d r) is.decided ∙ after_by chosen w.made r made_is)
+        relocation_left l linked i start len is.alone.left is.below
+        ∙ (linked.relocations i is.below
+        ∙ (ap (λ d. relocation_after d r) is.decided ∙ after_by chosen w.made r made_is))
 
-    pub within_after : i < length l.relocations_after / 24
-    within_after = subst (λ n. i < n / 24) (sym linked.as_many) is.below
+    pub within_after : i < length l.relocations_last / 24
+    within_after = last_within l linked i is.below
 
     -- the window
     made_there : rewrite_window w.made l.rewritten o ≡ w.made.bytes (rewrite_window w.made l.section o)
@@ -272,7 +273,7 @@ module _ (l : Linked) (i back end : ℕ) (kind : RelaxationKind) (is : HasRewrit
                 | inl ahead ↦ inl (subst (λ x. at < x) (sym (start_is (decision_at l.decisions i) chosen w.made o is.decided made_is)) ahead)
                 | inr behind ↦ inr (subst (λ x. x ≤ at) (sym (end_is (decision_at l.decisions i) chosen w.made o is.decided made_is)) behind)
               ])
-          | inr isnt ↦ (is.alone j at lj isnt from (omega (arith, less, back))).0
+          | inr isnt ↦ (is.alone.others j at lj isnt from less).0
         ])
 
     abbrev object : List ℕ
@@ -340,29 +341,30 @@ module _ (l : Linked) (i back end : ℕ) (kind : RelaxationKind) (is : HasRewrit
 
     -- ---- fields in the window
 
-    apart_by : (j : ℕ) → j < length l.relocations_after / 24 → (j ≡ i → ⊥) → (at : ℕ) → start ≤ at
+    apart_by : (j : ℕ) → j < length l.relocations_last / 24 → (j ≡ i → ⊥) → (at : ℕ) → start ≤ at
         → at < o + end → (row : RelocationKindInfo)
-        → IsField l.setting.architecture l.relocations_after l.rewritten j row
-        → (at < offset_at l.relocations_after j) ⊎ (field_end l.relocations_after l.rewritten j row ≤ at)
+        → IsField l.setting.architecture l.relocations_last l.last j row
+        → (at < offset_at l.relocations_last j) ⊎ (field_end l.relocations_last l.last j row ≤ at)
     apart_by j lj isnt at from less row is_field =
-        (is.alone j at (subst (λ n. j < n / 24) linked.as_many lj) isnt from less).1 row is_field
+        let back = is.room.0 in
+        (is.alone.others j at (subst (λ n. j < n / 24) (last_as_many l linked) lj) isnt from (omega (arith, less, back))).1 row is_field
 
     -- a byte that the relocation after has not
     in_no_field : (at : ℕ) → start ≤ at → at < o + end
-        → ((row : RelocationKindInfo) → IsField l.setting.architecture l.relocations_after l.rewritten i row
-        → (at < offset_at l.relocations_after i) ⊎ (field_end l.relocations_after l.rewritten i row ≤ at))
-        → IsInNoField l.setting.architecture l.relocations_after l.rewritten (length l.relocations_after / 24) at
+        → ((row : RelocationKindInfo) → IsField l.setting.architecture l.relocations_last l.last i row
+        → (at < offset_at l.relocations_last i) ⊎ (field_end l.relocations_last l.last i row ≤ at))
+        → IsInNoField l.setting.architecture l.relocations_last l.last (length l.relocations_last / 24) at
     in_no_field at from less own j row lj is_field =
         elim (cases_eq j i) [
-          | inl same ↦ subst (λ k. (at < offset_at l.relocations_after k) ⊎ (field_end l.relocations_after l.rewritten k row ≤ at)) (sym same)
-              (own row (subst (λ k. IsField l.setting.architecture l.relocations_after l.rewritten k row) same is_field))
+          | inl same ↦ subst (λ k. (at < offset_at l.relocations_last k) ⊎ (field_end l.relocations_last l.last k row ≤ at)) (sym same)
+              (own row (subst (λ k. IsField l.setting.architecture l.relocations_last l.last k row) same is_field))
           | inr isnt ↦ apart_by j lj isnt at from less row is_field
         ]
 
     between_same : (at : ℕ)
         → (start ≤ at → at < o + end → (row : RelocationKindInfo)
-        → IsField l.setting.architecture l.relocations_after l.rewritten i row
-        → (at < offset_at l.relocations_after i) ⊎ (field_end l.relocations_after l.rewritten i row ≤ at))
+        → IsField l.setting.architecture l.relocations_last l.last i row
+        → (at < offset_at l.relocations_last i) ⊎ (field_end l.relocations_last l.last i row ≤ at))
         → get_or between at 0 ≡ get_or l.final at 0
     between_same at own =
         let fl = final_length in
@@ -374,7 +376,8 @@ module _ (l : Linked) (i back end : ℕ) (kind : RelaxationKind) (is : HasRewrit
             | inl less ↦
                 let below : at < o + end = omega (arith, less, a0) in
                 back_inside start len l.rewritten l.final inside_final mid at from less
-                ∙ sym (linked.written.others at (in_no_field at from below (own from below)))
+                ∙ (sym (byte_left l linked i start len is.alone.left at from less)
+                ∙ sym (linked.written.others at (in_no_field at from below (own from below))))
             | inr behind ↦ back_outside start len l.rewritten l.final inside_final mid at (inr behind)
           ]
         ]
@@ -387,7 +390,7 @@ module _ (l : Linked) (i back end : ℕ) (kind : RelaxationKind) (is : HasRewrit
 
     pub unrelocated : is.chosen.relocation ≡ 0 → rewritten (x86_64_rewrite kind) object o ≡ l.final
     unrelocated code =
-        let none : (relocation_in l.relocations_after i).code ≡ 0 = ap (λ (x : Rela). x.code) r_after ∙ code in
+        let none : (relocation_in l.relocations_last i).code ≡ 0 = ap (λ (x : Rela). x.code) r_after ∙ code in
         object_rewritten
         ∙ ext_get_or 0 between l.final between_length
         (λ at below. between_same at (λ from less row is_field. absurd (no_field l is.x86 i none row is_field)))
@@ -405,43 +408,43 @@ module _ (l : Linked) (i back end : ℕ) (kind : RelaxationKind) (is : HasRewrit
         (rewritten (x86_64_rewrite kind) object o) l.final
     relocated_after after row plain row_is named code_is taken taken_is low high operands same_value =
         let p = w.made.offset o in
-        let field : IsLeft 4 row taken p l.rewritten l.final =
-        subst (λ (x : Rela). IsLeft 4 row taken x.offset l.rewritten l.final) r_after
-        (left 4 (omega arith) four_bytes l.setting.architecture l.addresses l.relocations_after l.symbols l.rewritten l.final linked.written
+        let field : IsLeft 4 row taken p l.last l.final =
+        subst (λ (x : Rela). IsLeft 4 row taken x.offset l.last l.final) r_after
+        (left 4 (omega arith) four_bytes l.setting.architecture l.addresses l.relocations_last l.symbols l.last l.final linked.written
         (small_byte l.final linked.final_bytes) i within_after row plain row_there taken
-        (subst (λ x. operands_of x l.addresses l.symbols row (relocation_in l.relocations_after i) ≡ Ok taken) (sym is.x86)
+        (subst (λ x. operands_of x l.addresses l.symbols row (relocation_in l.relocations_last i) ≡ Ok taken) (sym is.x86)
         (subst (λ x. operands_of X86_64 l.addresses l.symbols row x ≡ Ok taken) (sym r_after) taken_is))
         others_apart) in
-        let base = relocated 4 row plain taken operands p l.rewritten l.final between field same_value
-        between_length (linked.same_length ∙ sym final_length)
+        let base = relocated 4 row plain taken operands p l.last l.final between field same_value
+        between_length (sym linked.written.same_length)
         (λ at outside. between_same at (λ from less other is_field. own_field at outside other is_field)) in
         subst (λ q. IsSomeAnd q (λ row. IsRelocatedBy row operands (offset_after (x86_64_rewrite kind) o) (rewritten (x86_64_rewrite kind) object o) l.final)) (sym row_is)
         (subst (λ xs. IsRelocatedBy row operands (offset_after (x86_64_rewrite kind) o) xs l.final) (sym object_rewritten)
         (subst (λ q. IsRelocatedBy row operands (offset_after q o) between l.final) (sym w.is) base))
       where
-        row_there : IsRow l.setting.architecture (relocation_in l.relocations_after i).code (Some row)
+        row_there : IsRow l.setting.architecture (relocation_in l.relocations_last i).code (Some row)
         row_there =
             row_after l linked is.x86 i is.below after named row row_is
             (ap (λ (x : Rela). x.code) r_after ∙ code_is)
 
-        others_apart : (j : ℕ) (other : RelocationKindInfo) → j < length l.relocations_after / 24
+        others_apart : (j : ℕ) (other : RelocationKindInfo) → j < length l.relocations_last / 24
             → (j ≡ i → ⊥)
-            → IsField l.setting.architecture l.relocations_after l.rewritten j other
-            → (offset_at l.relocations_after i < offset_at l.relocations_after j)
-            ⊎ (field_end l.relocations_after l.rewritten j other ≤ offset_at l.relocations_after i)
+            → IsField l.setting.architecture l.relocations_last l.last j other
+            → (offset_at l.relocations_last i < offset_at l.relocations_last j)
+            ⊎ (field_end l.relocations_last l.last j other ≤ offset_at l.relocations_last i)
         others_apart j other lj isnt is_field =
-            subst (λ (x : Rela). (x.offset < offset_at l.relocations_after j) ⊎ (field_end l.relocations_after l.rewritten j other ≤ x.offset)) (sym r_after)
+            subst (λ (x : Rela). (x.offset < offset_at l.relocations_last j) ⊎ (field_end l.relocations_last l.last j other ≤ x.offset)) (sym r_after)
             (apart_by j lj isnt (w.made.offset o) low (omega (arith, high)) other is_field)
 
         own_field : (at : ℕ) → (at < w.made.offset o) ⊎ (w.made.offset o + 4 ≤ at) → (other : RelocationKindInfo)
-            → IsField l.setting.architecture l.relocations_after l.rewritten i other
-            → (at < offset_at l.relocations_after i) ⊎ (field_end l.relocations_after l.rewritten i other ≤ at)
+            → IsField l.setting.architecture l.relocations_last l.last i other
+            → (at < offset_at l.relocations_last i) ⊎ (field_end l.relocations_last l.last i other ≤ at)
         own_field at outside other is_field =
-            let same : other ≡ row = one_info l.setting.architecture (relocation_in l.relocations_after i).code other row is_field.is_row row_there in
-            let offset : offset_at l.relocations_after i ≡ w.made.offset o = ap (λ (x : Rela). x.offset) r_after in
-            let long : field_len other (drop (offset_at l.relocations_after i) l.rewritten) ≡ 4 =
-            ap (λ x. field_len x (drop (offset_at l.relocations_after i) l.rewritten)) same
-            ∙ len_is 4 row (drop (offset_at l.relocations_after i) l.rewritten) plain in
+            let same : other ≡ row = one_info l.setting.architecture (relocation_in l.relocations_last i).code other row is_field.is_row row_there in
+            let offset : offset_at l.relocations_last i ≡ w.made.offset o = ap (λ (x : Rela). x.offset) r_after in
+            let long : field_len other (drop (offset_at l.relocations_last i) l.last) ≡ 4 =
+            ap (λ x. field_len x (drop (offset_at l.relocations_last i) l.last)) same
+            ∙ len_is 4 row (drop (offset_at l.relocations_last i) l.last) plain in
             elim outside [
               | inl ahead ↦ inl (omega (arith, ahead, offset))
               | inr behind ↦ inr (omega (arith, behind, offset, long))

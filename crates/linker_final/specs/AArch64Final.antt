@@ -14,7 +14,8 @@ use Rattle.linker_elf.specs.declared.aarch64.relocations.AArch64Relocation.TheVa
 use Rattle.linker_elf.specs.declared.elf.RelocationKindInfo.{RelocationKindInfo}
 use Rattle.linker_elf.specs.declared.elf.choice.Choice.{Choice}
 use Rattle.linker_final.specs.Final.{Linked, IsLinked, count, instruction_at, two_at}
-use Rattle.linker_final.specs.Final.{IsRewrittenByNoOther, IsWrittenByNoOther}
+use Rattle.linker_final.specs.Final.{AreLeft, InstructionIsLeft, IsRewrittenByNoOther}
+use Rattle.linker_final.specs.Final.{IsWrittenByNoOther}
 use Rattle.linker_laws.specs.AArch64Machine.{State, load_64, RunAlike, RunAlikeBut, next_pc}
 use Rattle.linker_laws.specs.AArch64RewriteLaws.{Descriptor, DescriptorOf, RunAlikeBehindCall, four}
 use Rattle.linker_laws.specs.AArch64RewriteLaws.{scratch}
@@ -211,23 +212,24 @@ BranchDoesTheSame name differing l i row =
 
 -- ---- the laws
 
--- of every load of an address from the GOT that a linker rewrites, where no other rewrite has a
--- byte of the `adrp`
+-- of every load of an address from the GOT that a linker rewrites, and later phases leave alone,
+-- where no other rewrite has a byte of the `adrp`
 abbrev pub GotLoads : Type 0
 GotLoads =
     (l : Linked) → IsLinked l → l.setting.architecture ≡ AArch64
-    → (i j : ℕ) → AreOfLoad l i j
+    → (i j : ℕ) → AreOfLoad l i j → AreLeft l i j
     → IsRewrittenByNoOther l i (relocation_in l.relocations i).offset
     → IsSomeAnd (aarch64_row names.R_AARCH64_ADR_GOT_PAGE) (LoadsTheSame l i)
 
--- of each relocation of a name whose instruction is rewritten, with a row
+-- of each relocation of a name whose instruction is rewritten, and later phases leave alone, with
+-- a row
 abbrev pub EachRewritten : AArch64Relocation → AArch64Relocation
     → (Linked → ℕ → RelocationKindInfo → Type 0) → Type 0
 EachRewritten name of_row Holds =
     (l : Linked) → IsLinked l → l.setting.architecture ≡ AArch64
     → (i : ℕ) (chosen : Choice Relaxation ℕ) → i < count l
     → IsNameOf aarch64_name (relocation_in l.relocations i).code name
-    → decision_at l.decisions i ≡ Rewritten chosen
+    → decision_at l.decisions i ≡ Rewritten chosen → InstructionIsLeft l i
     → IsSomeAnd (aarch64_row of_row) (Holds l i)
 
 -- of every half of initial-exec: S is an offset of the thread's, as in the relocation after
@@ -249,22 +251,22 @@ Branches =
     × EachRewritten names.R_AARCH64_CALL26 names.R_AARCH64_CALL26
     (BranchDoesTheSame names.R_AARCH64_CALL26 (λ n. n == 30))
 
--- of every address by two instructions that a linker makes by one, where no other relocation has a
--- field in the first
+-- of every address by two instructions that a linker makes by one, and later phases leave alone,
+-- where no other relocation has a field in the first
 abbrev pub Addresses : Type 0
 Addresses =
     (l : Linked) → IsLinked l → l.setting.architecture ≡ AArch64
-    → (i j : ℕ) → AreOfAddress l i j
+    → (i j : ℕ) → AreOfAddress l i j → AreLeft l i j
     → IsWrittenByNoOther l i (relocation_in l.relocations i).offset
     → IsSomeAnd (aarch64_row names.R_AARCH64_ADR_PREL_PG_HI21) (MakesTheSame l i)
 
--- of every sequence of a TLS descriptor that is rewritten by two kinds, where no other relocation
--- has a field in the two instructions that become `nop`
+-- of every sequence of a TLS descriptor that is rewritten by two kinds, and later phases leave
+-- alone, where no other relocation has a field in the two instructions that become `nop`
 abbrev pub EachDescriptor : RelaxationKind → RelaxationKind
     → (Linked → ℕ → RelocationKindInfo → Type 0) → Type 0
 EachDescriptor high low Holds =
     (l : Linked) → IsLinked l → l.setting.architecture ≡ AArch64
-    → (i j k m : ℕ) → AreOfDescriptor l high low i j k m
+    → (i j k m : ℕ) → AreOfDescriptor l high low i j k m → AreLeft l i j → AreLeft l k m
     → IsWrittenByNoOther l k (relocation_in l.relocations k).offset
     → IsWrittenByNoOther l m (relocation_in l.relocations m).offset
     → IsSomeAnd (aarch64_row names.R_AARCH64_TLSLE_MOVW_TPREL_G1) (Holds l i)

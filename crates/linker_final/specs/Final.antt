@@ -1,12 +1,15 @@
--- A section of code of an object as a linker rewrites it in a phase and then writes its values.
-use Rattle.std.specs.Prelude.{◌≡◌, ◌≢◌, ◌⊎◌, ℕ, ◌+◌, ◌/◌, ◌^◌, ◌<◌, ◌≤◌, List, ◌++◌, length, take}
-use Rattle.std.specs.Prelude.{drop, get_or, ℤ, Some}
+-- A section of code of an object as a linker rewrites it, in one phase or in several, and then
+-- writes its values.
+use Rattle.std.specs.Prelude.{◌≡◌, ◌≢◌, ◌⊎◌, ℕ, ◌+◌, ◌/◌, ◌^◌, ◌<◌, ◌≤◌, List, [], ◌∷◌, ◌++◌}
+use Rattle.std.specs.Prelude.{length, take, drop, get_or, ℤ, Some}
 use Rattle.std.specs.List.{All}
 use Rattle.linker_elf.specs.declared.elf.RelocationKindInfo.{RelocationKindInfo}
 use Rattle.linker_final.specs.declared.sections.LinkError.{LinkError}
 use Rattle.linker_final.specs.declared.sections.LinkError.TheVariants.{Rewriting, Writing}
-use Rattle.linker_rewriting.specs.Decisions.{IsRejected, AreDecidedIn, decision_at, start_at}
-use Rattle.linker_rewriting.specs.Decisions.{written_end_at}
+use Rattle.linker_final.specs.declared.sections.PhaseError.{PhaseError}
+use Rattle.linker_final.specs.declared.sections.PhaseError.TheVariants as phase_errors
+use Rattle.linker_rewriting.specs.Decisions.{IsRejected, IsRejectedIn, IsRejectedPlaced}
+use Rattle.linker_rewriting.specs.Decisions.{AreDecidedIn, decision_at, start_at, written_end_at}
 use Rattle.linker_rewriting.specs.Facts.{Setting}
 use Rattle.linker_rewriting.specs.Kept.{IsWritingCause}
 use Rattle.linker_rewriting.specs.Rewritten.{AreRelocationsAfter, AreDone, OthersStay}
@@ -24,19 +27,103 @@ use Rattle.linker_section.specs.declared.facts.Addresses.{Addresses}
 use Rattle.linker_section.specs.declared.facts.Symbol.{Symbol}
 use Rattle.linker_utils.specs.declared.elf.Architecture.{Architecture}
 
--- What is passed to `rewrite_section` or `rewrite_placed_section` and then to `relocate_section`,
--- and what they leave.
+-- ---- phases
+
+-- One call of `rewrite_section` or `rewrite_placed_section`: what is passed, and what it leaves.
+pub record RewritingPhase : Type 0 where
+  pub setting : Setting
+  pub kept : List KeptGroups
+  pub relocations : List ℕ
+  pub section : List ℕ
+  pub decisions : List Decision
+  pub relocations_after : List ℕ
+  pub rewritten : List ℕ
+
+abbrev pub rewriting_phase : Setting → List KeptGroups → List ℕ → List ℕ → List Decision → List ℕ
+    → List ℕ → RewritingPhase
+rewriting_phase setting kept relocations section decisions relocations_after rewritten =
+    record {
+      setting = setting;
+      kept = kept;
+      relocations = relocations;
+      section = section;
+      decisions = decisions;
+      relocations_after = relocations_after;
+      rewritten = rewritten;
+    }
+
+abbrev pub count_of : RewritingPhase → ℕ
+count_of p = length p.relocations / 24
+
+-- The call succeeded.
+pub record HasRewritten (p : RewritingPhase) : Type 0 where
+  pub decided : AreDecidedIn p.setting p.kept p.relocations p.section p.decisions (count_of p)
+  pub relocations : AreRelocationsAfter p.decisions p.relocations p.relocations_after (count_of p)
+  pub done : AreDone p.relocations p.decisions p.section p.rewritten (count_of p)
+  pub others : OthersStay p.relocations p.decisions p.section p.rewritten (count_of p)
+  -- what slices have
+  pub as_many : length p.relocations_after ≡ length p.relocations
+  pub same_length : length p.rewritten ≡ length p.section
+
+-- It takes the relocations and the bytes that are there.
+pub record Takes (p : RewritingPhase) (relocations section : List ℕ) : Type 0 where
+  pub same_relocations : p.relocations ≡ relocations
+  pub same_section : p.section ≡ section
+
+-- Phases succeed one after the other, and each takes what the one before left. They lead from some
+-- relocations and bytes to others, none to the same.
+abbrev pub ArePhases : List RewritingPhase → List ℕ → List ℕ → List ℕ → List ℕ → Type 0
+ArePhases [] relocations section relocations_last last =
+    (relocations_last ≡ relocations) × (last ≡ section)
+ArePhases (p ∷ phases) relocations section relocations_last last =
+    Takes p relocations section × HasRewritten p
+    × ArePhases phases p.relocations_after p.rewritten relocations_last last
+
+-- the rewrite of the relocation at an index has no byte at an offset
+abbrev pub IsOutside : List ℕ → List Decision → ℕ → ℕ → Type 0
+IsOutside relocations decisions j at =
+    (at < start_at relocations decisions j) ⊎ (written_end_at relocations decisions j ≤ at)
+
+-- no rewrite of a phase has one there
+abbrev pub RewritesNone : ℕ → RewritingPhase → Type 0
+RewritesNone at p = (j : ℕ) → j < count_of p → IsOutside p.relocations p.decisions j at
+
+abbrev pub Keeps : ℕ → RewritingPhase → Type 0
+Keeps i p = decision_at p.decisions i ≡ Kept
+
+-- A phase leaves alone the relocation at an index and so many bytes from a start on.
+pub record LeavesAlone (i start len : ℕ) (p : RewritingPhase) : Type 0 where
+  pub kept : Keeps i p
+  pub apart : (at : ℕ) → start ≤ at → at < start + len → RewritesNone at p
+
+-- What phases leave alone is the same behind them.
+abbrev pub LeftAloneIsTheSame : Type 0
+LeftAloneIsTheSame =
+    (phases : List RewritingPhase) (relocations section relocations_last last : List ℕ)
+    → ArePhases phases relocations section relocations_last last
+    → (i start len : ℕ) → i < length relocations / 24 → All (LeavesAlone i start len) phases
+    → (relocation_in relocations_last i ≡ relocation_in relocations i)
+    × (take len (drop start last) ≡ take len (drop start section))
+
+-- ---- a section
+
+-- What is passed to `rewrite_section` or `rewrite_placed_section`, then maybe to later phases, and
+-- then to `relocate_section`, and what they leave.
 pub record Linked : Type 0 where
   -- what rewrites are chosen by
   pub setting : Setting
   pub kept : List KeptGroups
-  -- the object's relocations and bytes
+  -- the object's relocations and bytes, or those that earlier phases left
   pub relocations : List ℕ
   pub section : List ℕ
   -- those once the section is rewritten, and what became of each relocation
   pub decisions : List Decision
   pub relocations_after : List ℕ
   pub rewritten : List ℕ
+  -- the phases behind that one, and what the last of all left
+  pub later : List RewritingPhase
+  pub relocations_last : List ℕ
+  pub last : List ℕ
   -- what values are made of
   pub addresses : Addresses
   pub symbols : List Symbol
@@ -49,14 +136,15 @@ count l = length l.relocations / 24
 abbrev pub AreBytes : List ℕ → Type 0
 AreBytes bytes = All (λ b. b < 2 ^ 8) bytes
 
--- Both calls succeeded: what their contracts ensure.
+-- All calls succeeded: what their contracts ensure.
 pub record IsLinked (l : Linked) : Type 0 where
   pub decided : AreDecidedIn l.setting l.kept l.relocations l.section l.decisions (count l)
   pub relocations : AreRelocationsAfter l.decisions l.relocations l.relocations_after (count l)
   pub done : AreDone l.relocations l.decisions l.section l.rewritten (count l)
   pub others : OthersStay l.relocations l.decisions l.section l.rewritten (count l)
-  pub written : AreWritten l.setting.architecture l.addresses l.relocations_after l.symbols
-      l.rewritten l.final
+  pub later : ArePhases l.later l.relocations_after l.rewritten l.relocations_last l.last
+  pub written : AreWritten l.setting.architecture l.addresses l.relocations_last l.symbols
+      l.last l.final
   -- what slices have
   pub as_many : length l.relocations_after ≡ length l.relocations
   pub same_length : length l.rewritten ≡ length l.section
@@ -72,22 +160,43 @@ pub record AreRewritten (l : Linked) : Type 0 where
   pub others : OthersStay l.relocations l.decisions l.section l.rewritten (count l)
   pub same_length : length l.rewritten ≡ length l.section
 
--- of what calls were passed and left
-abbrev pub linked : Setting → List KeptGroups → List ℕ → List ℕ → List Decision → List ℕ → List ℕ
-    → Addresses → List Symbol → List ℕ → Linked
-linked setting kept relocations section decisions relocations_after rewritten addresses symbols final =
+-- of what phases were passed and left, and the call that writes values behind them
+abbrev pub linked_by : RewritingPhase → List RewritingPhase → List ℕ → List ℕ → Addresses
+    → List Symbol → List ℕ → Linked
+linked_by first later relocations_last last addresses symbols final =
     record {
-      setting = setting;
-      kept = kept;
-      relocations = relocations;
-      section = section;
-      decisions = decisions;
-      relocations_after = relocations_after;
-      rewritten = rewritten;
+      setting = first.setting;
+      kept = first.kept;
+      relocations = first.relocations;
+      section = first.section;
+      decisions = first.decisions;
+      relocations_after = first.relocations_after;
+      rewritten = first.rewritten;
+      later = later;
+      relocations_last = relocations_last;
+      last = last;
       addresses = addresses;
       symbols = symbols;
       final = final;
     }
+
+-- of one phase
+abbrev pub linked : Setting → List KeptGroups → List ℕ → List ℕ → List Decision → List ℕ → List ℕ
+    → Addresses → List Symbol → List ℕ → Linked
+linked setting kept relocations section decisions relocations_after rewritten addresses symbols final =
+    linked_by
+    (rewriting_phase setting kept relocations section decisions relocations_after rewritten) []
+    relocations_after rewritten addresses symbols final
+
+-- Phases succeed one after the other, and then values are written. Each phase is one that the laws
+-- are about, with those behind it as later ones, and takes what the one before left.
+abbrev pub AreLinked : List RewritingPhase → List ℕ → List ℕ → List ℕ → List ℕ → Addresses
+    → List Symbol → List ℕ → Type 0
+AreLinked [] relocations section relocations_last last addresses symbols final = Unit {0}
+AreLinked (p ∷ phases) relocations section relocations_last last addresses symbols final =
+    Takes p relocations section
+    × IsLinked (linked_by p phases relocations_last last addresses symbols final)
+    × AreLinked phases p.relocations_after p.rewritten relocations_last last addresses symbols final
 
 -- why a section isn't linked: the bytes are then as before, or rewritten
 abbrev pub IsLinkCause : Architecture → OutputFacts → List SymbolFacts → List KeptGroups
@@ -101,19 +210,43 @@ IsLinkCause architecture output facts groups kept addresses symbols relocations 
     relocations_after bytes (Writing error) =
     IsWritingCause architecture output facts kept addresses relocations_after symbols bytes error
 
+-- why it isn't in two phases, of which the second has room for so many deletions
+abbrev pub IsPhaseCause : Setting → List KeptGroups → Setting → List KeptGroups → ℕ
+    → List KeptFacts → Addresses → List Symbol → List ℕ → List ℕ → List Decision → List Decision
+    → List ℕ → List ℕ → PhaseError → Type 0
+IsPhaseCause first groups second placed_groups room kept addresses symbols relocations section
+    decisions placed_decisions relocations_after bytes (phase_errors.First error) =
+    IsRejectedIn first groups relocations section decisions error
+    × (relocations_after ≡ relocations) × (bytes ≡ section)
+IsPhaseCause first groups second placed_groups room kept addresses symbols relocations section
+    decisions placed_decisions relocations_after bytes (phase_errors.Second error) =
+    HasRewritten
+    (rewriting_phase first groups relocations section decisions relocations_after bytes)
+    × IsRejectedPlaced second placed_groups relocations_after bytes placed_decisions room error
+IsPhaseCause first groups second placed_groups room kept addresses symbols relocations section
+    decisions placed_decisions relocations_after bytes (phase_errors.Writing error) =
+    IsWritingCause second.architecture second.output second.symbols kept addresses
+    relocations_after symbols bytes error
+
+-- Later phases leave alone the relocation at an index and so many bytes from a start on. Where
+-- there are none, they do.
+abbrev pub IsLeftAlone : Linked → ℕ → ℕ → ℕ → Type 0
+IsLeftAlone l i start len = All (LeavesAlone i start len) l.later
+
 -- neither the rewrite nor the field of the relocation at an index has a byte
 abbrev pub HasNoByte : Linked → ℕ → ℕ → Type 0
 HasNoByte l j at =
-    ((at < start_at l.relocations l.decisions j) ⊎ (written_end_at l.relocations l.decisions j ≤ at))
+    IsOutside l.relocations l.decisions j at
     × ((row : RelocationKindInfo)
-    → IsField l.setting.architecture l.relocations_after l.rewritten j row
-    → (at < offset_at l.relocations_after j)
-    ⊎ (field_end l.relocations_after l.rewritten j row ≤ at))
+    → IsField l.setting.architecture l.relocations_last l.last j row
+    → (at < offset_at l.relocations_last j) ⊎ (field_end l.relocations_last l.last j row ≤ at))
 
--- no rewrite and no field of another relocation has a byte from a start up, below an end
-abbrev pub AreAlone : Linked → ℕ → ℕ → ℕ → Type 0
-AreAlone l i start end =
-    (j at : ℕ) → j < count l → j ≢ i → start ≤ at → at < end → HasNoByte l j at
+-- No rewrite and no field of another relocation has one of so many bytes from a start on, and later
+-- phases leave them alone.
+pub record AreAlone (l : Linked) (i start len : ℕ) : Type 0 where
+  pub others :
+      (j at : ℕ) → j < count l → j ≢ i → start ≤ at → at < start + len → HasNoByte l j at
+  pub left : IsLeftAlone l i start len
 
 -- ---- instructions of 4 bytes
 
@@ -125,21 +258,28 @@ instruction_at bytes o = take 4 (drop o bytes)
 abbrev pub two_at : List ℕ → ℕ → List ℕ
 two_at bytes o = take 8 (drop o bytes)
 
+-- later phases leave alone the relocation at an index and the instruction at its offset
+abbrev pub InstructionIsLeft : Linked → ℕ → Type 0
+InstructionIsLeft l i = IsLeftAlone l i (relocation_in l.relocations i).offset 4
+
+-- those at two
+abbrev pub AreLeft : Linked → ℕ → ℕ → Type 0
+AreLeft l i j = InstructionIsLeft l i × InstructionIsLeft l j
+
 -- no rewrite of another relocation than the one at an index has a byte of the instruction at an
 -- offset
 abbrev pub IsRewrittenByNoOther : Linked → ℕ → ℕ → Type 0
 IsRewrittenByNoOther l i o =
     (j at : ℕ) → j < count l → j ≢ i → o ≤ at → at < o + 4
-    → (at < start_at l.relocations l.decisions j) ⊎ (written_end_at l.relocations l.decisions j ≤ at)
+    → IsOutside l.relocations l.decisions j at
 
 -- nor has a field of another
 abbrev pub IsWrittenByNoOther : Linked → ℕ → ℕ → Type 0
 IsWrittenByNoOther l i o =
     (j at : ℕ) → j < count l → j ≢ i → o ≤ at → at < o + 4
     → (row : RelocationKindInfo)
-    → IsField l.setting.architecture l.relocations_after l.rewritten j row
-    → (at < offset_at l.relocations_after j)
-    ⊎ (field_end l.relocations_after l.rewritten j row ≤ at)
+    → IsField l.setting.architecture l.relocations_last l.last j row
+    → (at < offset_at l.relocations_last j) ⊎ (field_end l.relocations_last l.last j row ≤ at)
 
 -- bytes with so many of others, from a start on
 abbrev pub put_back : ℕ → ℕ → List ℕ → List ℕ → List ℕ
@@ -148,19 +288,20 @@ put_back start len others bytes =
 
 -- ---- what no rewrite took
 
--- Each byte that neither a rewrite nor a field has is the object's.
+-- Each byte that neither a rewrite of any phase nor a field has is the object's.
 abbrev pub OtherBytes : Type 0
 OtherBytes =
     (l : Linked) → IsLinked l → (at : ℕ)
-    → ((i : ℕ) → i < count l → HasNoByte l i at)
+    → ((i : ℕ) → i < count l → HasNoByte l i at) → All (RewritesNone at) l.later
     → get_or l.final at 0 ≡ get_or l.section at 0
 
--- Each relocation that stays is the object's, and its field holds its part of what its relocations
--- compose over the bytes before.
+-- Each relocation that stays in every phase is the object's, and its field holds its part of what
+-- its relocations compose over the bytes before.
 abbrev pub OtherFields : Type 0
 OtherFields =
     (l : Linked) (linked : IsLinked l) (i : ℕ) → i < count l → decision_at l.decisions i ≡ Kept
-    → (relocation_in l.relocations_after i ≡ relocation_in l.relocations i)
+    → All (Keeps i) l.later
+    → (relocation_in l.relocations_last i ≡ relocation_in l.relocations i)
     × ((row : RelocationKindInfo) (v : ℤ) → linked.written.can.found i ≡ Some (row, v)
-    → 0 < field_len row (drop (offset_at l.relocations_after i) l.rewritten)
-    → IsHeld linked.written.can.found l.relocations_after l.rewritten l.final (count l) i row v)
+    → 0 < field_len row (drop (offset_at l.relocations_last i) l.last)
+    → IsHeld linked.written.can.found l.relocations_last l.last l.final (count l) i row v)

@@ -1,17 +1,19 @@
--- A section of code that is rewritten, then packed, and whose values are written last.
+-- A section of code that is rewritten, in one phase or in several, then packed, and whose values
+-- are written last.
 use Rattle.std.specs.Prelude.{◌≡◌, ℕ, length}
-use Rattle.linker_final.specs.Final.{AreRewritten, Linked}
+use Rattle.linker_final.specs.Final.{ArePhases, AreRewritten, Linked}
 use Rattle.linker_final.specs.Packed.{Packed, IsPacked, StayTogether, architecture_of}
 use Rattle.linker_section.specs.Relocations.{relocation_in}
 use Rattle.linker_section.specs.Values.{offset_at}
 
--- All calls succeeded, and the second took what the first left.
+-- All calls succeeded, and the one that packs took what the last phase left.
 pub record IsRewrittenAndPacked (l : Linked) (p : Packed) : Type 0 where
   pub rewritten : AreRewritten l
+  pub later : ArePhases l.later l.relocations_after l.rewritten l.relocations_last l.last
   pub packed : IsPacked p
   pub architecture : l.setting.architecture ≡ architecture_of p.machine
-  pub bytes : p.section.bytes ≡ l.rewritten
-  pub relocations : p.relocations ≡ l.relocations_after
+  pub bytes : p.section.bytes ≡ l.last
+  pub relocations : p.relocations ≡ l.relocations_last
   -- what slices have
   pub as_many : length l.relocations_after ≡ length l.relocations
 

@@ -12,7 +12,8 @@ use Rattle.linker_elf.specs.declared.elf.choice.Choice.{Choice}
 use Rattle.linker_elf.specs.declared.elf.value.Operands.{Operands}
 use Rattle.linker_elf.specs.declared.loongarch64.relocations.LoongArch64Relocation.{LoongArch64Relocation}
 use Rattle.linker_elf.specs.declared.loongarch64.relocations.LoongArch64Relocation.TheVariants as names
-use Rattle.linker_final.specs.Final.{Linked, IsLinked, count, instruction_at}
+use Rattle.linker_final.specs.Final.{AreLeft, InstructionIsLeft, Linked, IsLinked, count}
+use Rattle.linker_final.specs.Final.{instruction_at}
 use Rattle.linker_final.specs.Final.{IsRewrittenByNoOther, IsWrittenByNoOther}
 use Rattle.linker_laws.specs.LoongArchMachine.{State, AreAlikeBut, action_of, but_written, read}
 use Rattle.linker_laws.specs.LoongArchMachine.{step}
@@ -215,26 +216,27 @@ MovedDoesTheSame l i =
 
 -- ---- the laws
 
--- Of every load of an address from the GOT that a linker rewrites, before addresses are known: the
--- relocation of its `pcalau12i` is rewritten, and no other rewrite has a byte of that.
+-- Of every load of an address from the GOT that a linker rewrites, before addresses are known, and
+-- later phases leave alone. The relocation of its `pcalau12i` is rewritten, and no other rewrite
+-- has a byte of that. That of its `ld.d` is the next but one.
 abbrev pub GotLoads : Type 0
 GotLoads =
     (l : Linked) → IsLinked l
     → l.setting ≡ early LoongArch64 l.setting.output l.setting.symbols
     → (i : ℕ) (chosen : Choice Relaxation ℕ) → i < count l
     → IsNameOf loongarch_name (relocation_in l.relocations i).code names.R_LARCH_GOT_PC_HI20
-    → decision_at l.decisions i ≡ Rewritten chosen
+    → decision_at l.decisions i ≡ Rewritten chosen → AreLeft l i (i + 2)
     → IsRewrittenByNoOther l i (relocation_in l.relocations i).offset
     → IsSomeAnd (loongarch_row names.R_LARCH_GOT_PC_HI20) (LoadsTheSame l i)
 
--- of each relocation of a name whose rewrite has P, with a row
+-- of each relocation of a name whose rewrite has P, and later phases leave alone, with a row
 abbrev pub EachRewritten : (Relaxation → Type 0) → LoongArch64Relocation → LoongArch64Relocation
     → (Linked → ℕ → RelocationKindInfo → Type 0) → Type 0
 EachRewritten P name of_row Holds =
     (l : Linked) → IsLinked l → l.setting.architecture ≡ LoongArch64
     → (i : ℕ) (chosen : Choice Relaxation ℕ) → i < count l
     → IsNameOf loongarch_name (relocation_in l.relocations i).code name
-    → decision_at l.decisions i ≡ Rewritten chosen → P chosen.kind
+    → decision_at l.decisions i ≡ Rewritten chosen → InstructionIsLeft l i → P chosen.kind
     → IsSomeAnd (loongarch_row of_row) (Holds l i)
 
 abbrev pub IsAny : Relaxation → Type 0

@@ -9,7 +9,7 @@ use Rattle.linker_elf.specs.declared.elf.RelocationKindInfo.{RelocationKindInfo}
 use Rattle.linker_elf.specs.declared.elf.choice.Choice.{Choice}
 use Rattle.linker_elf.specs.declared.elf.value.Operands.{Operands}
 use Rattle.linker_elf.specs.declared.loongarch64.relocations.LoongArch64Relocation.TheVariants as names
-use Rattle.linker_final.specs.Final.{Linked, count, instruction_at}
+use Rattle.linker_final.specs.Final.{InstructionIsLeft, Linked, count, instruction_at}
 use Rattle.linker_final.specs.Joined.{IsRewrittenAndPacked, IsKeptInstruction}
 use Rattle.linker_final.specs.Packed.{Packed, place_of}
 use Rattle.linker_laws.specs.LoongArchMachine.{State, AreAlikeBut, action_of, but_written, read}
@@ -44,11 +44,12 @@ FinalLowPartDoesTheSame l p i row =
     → StepSo (word_of low) s (word_of (instruction_at p.final (place_of p o))) t
     (HaveShortened (but_written differing action (rd_of word)) (sum_64 s.pc 4) (sum_64 t.pc 4))
 
--- of every low part of local-exec that is rewritten, whose instruction then stays
+-- of every low part of local-exec that is rewritten, which later phases leave alone, and whose
+-- instruction then stays
 abbrev pub PackedLowParts : Type 0
 PackedLowParts =
     (l : Linked) (p : Packed) → IsRewrittenAndPacked l p → p.machine ≡ loongarch64
     → (i : ℕ) (chosen : Choice Relaxation ℕ) → i < count l
     → IsNameOf loongarch_name (relocation_in l.relocations i).code names.R_LARCH_TLS_LE_LO12_R
-    → decision_at l.decisions i ≡ Rewritten chosen → IsKeptInstruction p i
+    → decision_at l.decisions i ≡ Rewritten chosen → IsKeptInstruction p i → InstructionIsLeft l i
     → IsSomeAnd (loongarch_row names.R_LARCH_TLS_LE_LO12_R) (FinalLowPartDoesTheSame l p i)

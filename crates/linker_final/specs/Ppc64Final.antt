@@ -14,7 +14,7 @@ use Rattle.linker_elf.specs.declared.ppc64.forms.Ppc64Instruction.TheVariants.{D
 use Rattle.linker_elf.specs.declared.ppc64.relocations.Ppc64Relocation.{Ppc64Relocation}
 use Rattle.linker_elf.specs.declared.ppc64.relocations.Ppc64Relocation.TheVariants as names
 use Rattle.linker_final.specs.Final.{Linked, IsLinked, count, instruction_at, two_at}
-use Rattle.linker_final.specs.Final.{IsRewrittenByNoOther, IsWrittenByNoOther}
+use Rattle.linker_final.specs.Final.{IsLeftAlone, IsRewrittenByNoOther, IsWrittenByNoOther}
 use Rattle.linker_laws.specs.Machine.{loaded}
 use Rattle.linker_laws.specs.Ppc64Machine.{State, Formats, AreAlikeBut, step, step_prefixed, write}
 use Rattle.linker_laws.specs.Ppc64Machine.{access_with, go_on, word_access_with}
@@ -65,13 +65,16 @@ ForOperands name l i Holds =
 abbrev pub By : RelaxationKind → Choice Relaxation ℕ → Type 0 → Type 0
 By kind chosen P = (chosen.kind ≡ relaxations.Ppc64 kind) × P
 
--- each relocation of a name whose instruction is rewritten
-abbrev pub EachRewritten : Ppc64Relocation → (Linked → ℕ → Choice Relaxation ℕ → Type 0) → Type 0
-EachRewritten name Holds =
+-- each relocation of a name whose instruction is rewritten, where later phases leave it and so many
+-- bytes from its offset on alone
+abbrev pub EachRewritten : ℕ → Ppc64Relocation → (Linked → ℕ → Choice Relaxation ℕ → Type 0)
+    → Type 0
+EachRewritten len name Holds =
     (l : Linked) → IsLinked l → l.setting.architecture ≡ Ppc64
     → (i : ℕ) (chosen : Choice Relaxation ℕ) → i < count l
     → IsNameOf ppc64_name (relocation_in l.relocations i).code name
-    → decision_at l.decisions i ≡ Rewritten chosen → Holds l i chosen
+    → decision_at l.decisions i ≡ Rewritten chosen → IsLeftAlone l i (offset_of l i) len
+    → Holds l i chosen
 
 -- ---- calls
 
@@ -89,7 +92,7 @@ RestoresToc l i o =
 -- of every call that is rewritten
 abbrev pub Calls : Type 0
 Calls =
-    EachRewritten names.R_PPC64_REL24
+    EachRewritten 8 names.R_PPC64_REL24
     (λ l i chosen. ForOperands names.R_PPC64_REL24 l i (λ symbol. RestoresToc l i))
 
 -- ---- halves
@@ -132,21 +135,21 @@ VectorIsAlike register low address l i o =
 -- the low halves of D-form: an address in a register, and accesses
 abbrev pub LowHalf : ℕ → Ppc64Relocation → (Operands → ℕ → ℕ) → Type 0
 LowHalf register low address =
-    EachRewritten low (λ l i chosen. ForOperands low l i (λ symbol o.
+    EachRewritten 4 low (λ l i chosen. ForOperands low l i (λ symbol o.
     OverBaseIsAlike register low D address (adds is_addi) l i o
     × OverBaseIsAlike register low D address is_d_over l i o))
 
 -- and those of DS-form
 abbrev pub WordLowHalf : ℕ → Ppc64Relocation → (Operands → ℕ → ℕ) → Type 0
 WordLowHalf register low address =
-    EachRewritten low (λ l i chosen. ForOperands low l i (λ symbol o.
+    EachRewritten 4 low (λ l i chosen. ForOperands low l i (λ symbol o.
     OverBaseIsAlike register low Ds address (accesses is_ds_over_base ds_access) l i o
     × VectorIsAlike register low address l i o))
 
 -- of every half of an address near the TOC pointer
 abbrev pub TocHalves : Type 0
 TocHalves =
-    EachRewritten names.R_PPC64_TOC16_HA (λ l i chosen. ForOperands names.R_PPC64_TOC16_HA l i
+    EachRewritten 4 names.R_PPC64_TOC16_HA (λ l i chosen. ForOperands names.R_PPC64_TOC16_HA l i
     (λ symbol. NopIsAlike 2 names.R_PPC64_TOC16_HA from_toc
     (λ o n a. Leads names.R_PPC64_TOC16_LO D o n a × Leads names.R_PPC64_TOC16_LO_DS Ds o n a) l i))
     × LowHalf 2 names.R_PPC64_TOC16_LO from_toc × WordLowHalf 2 names.R_PPC64_TOC16_LO_DS from_toc
@@ -154,7 +157,7 @@ TocHalves =
 -- of every half of an address near the thread pointer
 abbrev pub ThreadHalves : Type 0
 ThreadHalves =
-    EachRewritten names.R_PPC64_TPREL16_HA (λ l i chosen. ForOperands names.R_PPC64_TPREL16_HA l i
+    EachRewritten 4 names.R_PPC64_TPREL16_HA (λ l i chosen. ForOperands names.R_PPC64_TPREL16_HA l i
     (λ symbol. NopIsAlike 13 names.R_PPC64_TPREL16_HA from_thread LowHalfLeads l i))
     × LowHalf 13 names.R_PPC64_TPREL16_LO from_thread
     × WordLowHalf 13 names.R_PPC64_TPREL16_LO_DS from_thread
@@ -211,13 +214,13 @@ VariableIsAlike l i chosen o =
 -- of every instruction of initial-exec: S is an offset of the thread's, as in the relocations after
 abbrev pub InitialExec : Type 0
 InitialExec =
-    EachRewritten names.R_PPC64_GOT_TPREL16_HA (λ l i chosen.
+    EachRewritten 4 names.R_PPC64_GOT_TPREL16_HA (λ l i chosen.
     ForOperands names.R_PPC64_TPREL16_HA l i (λ symbol. HighIsAlike l i))
-    × EachRewritten names.R_PPC64_GOT_TPREL16_LO_DS (λ l i chosen.
+    × EachRewritten 4 names.R_PPC64_GOT_TPREL16_LO_DS (λ l i chosen.
     ForOperands names.R_PPC64_TPREL16_HA l i (λ symbol. OffsetIsAlike l i))
-    × EachRewritten names.R_PPC64_GOT_TPREL16_DS (λ l i chosen.
+    × EachRewritten 4 names.R_PPC64_GOT_TPREL16_DS (λ l i chosen.
     ForOperands names.R_PPC64_TPREL16_HA l i (λ symbol. NearOffsetIsAlike l i))
-    × EachRewritten names.R_PPC64_TLS (λ l i chosen.
+    × EachRewritten 4 names.R_PPC64_TLS (λ l i chosen.
     ForOperands names.R_PPC64_TPREL16_HA l i (λ symbol. VariableIsAlike l i chosen))
 
 -- ---- arguments of `__tls_get_addr`
@@ -326,23 +329,23 @@ GeneralCallIsAlike l i chosen o =
 -- of every instruction of general-dynamic whose argument has two halves
 abbrev pub GeneralDynamic : Type 0
 GeneralDynamic =
-    EachRewritten names.R_PPC64_GOT_TLSGD16_HA (λ l i chosen.
+    EachRewritten 4 names.R_PPC64_GOT_TLSGD16_HA (λ l i chosen.
     ForOperands names.R_PPC64_TPREL16_HA l i (GeneralHighIsAlike l i chosen))
-    × EachRewritten names.R_PPC64_GOT_TLSGD16_LO (λ l i chosen.
+    × EachRewritten 4 names.R_PPC64_GOT_TLSGD16_LO (λ l i chosen.
     ForOperands names.R_PPC64_TPREL16_HA l i (GeneralArgumentIsAlike l i chosen))
-    × EachRewritten names.R_PPC64_TLSGD (λ l i chosen.
+    × EachRewritten 8 names.R_PPC64_TLSGD (λ l i chosen.
     ForOperands names.R_PPC64_TPREL16_HA l i (λ symbol. GeneralCallIsAlike l i chosen))
 
 -- of every such instruction of local-dynamic
 abbrev pub LocalDynamic : Type 0
 LocalDynamic =
-    EachRewritten names.R_PPC64_GOT_TLSLD16_HA (λ l i chosen.
+    EachRewritten 4 names.R_PPC64_GOT_TLSLD16_HA (λ l i chosen.
     ForOperands names.R_PPC64_GOT_TLSLD16_HA l i (λ symbol.
     NopIsAlike 2 names.R_PPC64_GOT_TLSLD16_HA entry_from_toc (Leads names.R_PPC64_GOT_TLSLD16_LO D)
     l i))
-    × EachRewritten names.R_PPC64_GOT_TLSLD16_LO (λ l i chosen.
+    × EachRewritten 4 names.R_PPC64_GOT_TLSLD16_LO (λ l i chosen.
     ForOperands names.R_PPC64_GOT_TLSLD16_HA l i (λ symbol. ThreadArgumentIsAlike l i))
-    × EachRewritten names.R_PPC64_TLSLD (λ l i chosen. CallToBlockIsAlike l i)
+    × EachRewritten 8 names.R_PPC64_TLSLD (λ l i chosen. CallToBlockIsAlike l i)
 
 -- ---- arguments near the TOC pointer
 
@@ -355,7 +358,7 @@ LeavesEntry name l i o =
     → Leaves f (only rt) (one addi) s rt (λ n. n ≡ o.got_entry)
 
 -- The relocation at an index is the mark of a call, which is rewritten so, and no other relocation
--- has a field in the call.
+-- has a field in the call. Later phases leave it and the instruction behind it alone.
 pub record IsCallBy (l : Linked) (mark : Ppc64Relocation) (kind : RelaxationKind) (j : ℕ) : Type 0
   where
     pub below : j < count l
@@ -364,6 +367,7 @@ pub record IsCallBy (l : Linked) (mark : Ppc64Relocation) (kind : RelaxationKind
     pub decided : decision_at l.decisions j ≡ Rewritten chosen
     pub kind_is : chosen.kind ≡ relaxations.Ppc64 kind
     pub alone : IsWrittenByNoOther l j (offset_of l j)
+    pub left : IsLeftAlone l j (offset_of l j) 8
 
 -- The relocations at two indexes are of one S + A.
 pub record AreOfOne (l : Linked) (i j : ℕ) : Type 0 where
@@ -413,9 +417,9 @@ NearIsAlike l i chosen symbol o =
 -- of every argument of `__tls_get_addr` near the TOC pointer
 abbrev pub NearArguments : Type 0
 NearArguments =
-    EachRewritten names.R_PPC64_GOT_TLSGD16 (λ l i chosen.
+    EachRewritten 4 names.R_PPC64_GOT_TLSGD16 (λ l i chosen.
     ForOperands names.R_PPC64_TPREL16_HA l i (NearIsAlike l i chosen))
-    × EachRewritten names.R_PPC64_GOT_TLSLD16 (λ l i chosen.
+    × EachRewritten 4 names.R_PPC64_GOT_TLSLD16 (λ l i chosen.
     ForOperands names.R_PPC64_GOT_TLSLD16 l i (λ symbol o.
     LeavesEntry names.R_PPC64_GOT_TLSLD16 l i o × NearToModule l i))
 
@@ -457,9 +461,9 @@ LoadIsAlike l i o =
 -- of every load of an address from the GOT
 abbrev pub Loads : Type 0
 Loads =
-    EachRewritten names.R_PPC64_GOT_PCREL34 (λ l i chosen.
+    EachRewritten 8 names.R_PPC64_GOT_PCREL34 (λ l i chosen.
     ForOperands names.R_PPC64_PCREL34 l i (λ symbol. PrefixedIsAlike l i))
-    × EachRewritten names.R_PPC64_GOT16_HA (λ l i chosen.
+    × EachRewritten 4 names.R_PPC64_GOT16_HA (λ l i chosen.
     ForOperands names.R_PPC64_TOC16_HA l i (λ symbol. SymbolIsAlike l i))
-    × EachRewritten names.R_PPC64_GOT16_LO_DS (λ l i chosen.
+    × EachRewritten 4 names.R_PPC64_GOT16_LO_DS (λ l i chosen.
     ForOperands names.R_PPC64_TOC16_LO l i (λ symbol. LoadIsAlike l i))

@@ -13,7 +13,8 @@ use Rattle.linker_elf.specs.declared.riscv64.relocations.RiscVRelocation.{RiscVR
 use Rattle.linker_elf.specs.declared.riscv64.relocations.RiscVRelocation.TheVariants as names
 use Rattle.linker_final.specs.Final.{IsRewrittenByNoOther, IsWrittenByNoOther}
 use Rattle.linker_final.specs.Final.{instruction_at}
-use Rattle.linker_final.specs.Final.{AreRewritten, Linked, IsLinked, count}
+use Rattle.linker_final.specs.Final.{AreLeft, AreRewritten, InstructionIsLeft, Linked, IsLinked}
+use Rattle.linker_final.specs.Final.{count}
 use Rattle.linker_laws.specs.Machine.{Relocated, but, loaded}
 use Rattle.linker_laws.specs.RiscVMachine.{Action, Hart, register, rs1_of, rs2_of}
 use Rattle.linker_laws.specs.RiscVRewriteLaws.{AreAlike, Changes, Descriptor, DescriptorOf}
@@ -283,23 +284,23 @@ ShortOffsetIsTheSameAnywhere l high =
 
 -- ---- the laws
 
--- of every load of an address from the GOT that a linker rewrites, where no other rewrite has a
--- byte of the `auipc`
+-- of every load of an address from the GOT that a linker rewrites, and later phases leave alone,
+-- where no other rewrite has a byte of the `auipc`
 abbrev pub GotLoads : Type 0
 GotLoads =
     (l : Linked) → IsLinked l → l.setting.architecture ≡ RiscV
-    → (i j : ℕ) → AreOfLoad l i j
+    → (i j : ℕ) → AreOfLoad l i j → AreLeft l i j
     → IsRewrittenByNoOther l i (relocation_in l.relocations i).offset
     → IsSomeAnd (riscv_row names.R_RISCV_GOT_HI20) (LoadsTheSame l i)
 
 -- of every low part with a relocation of a name whose instruction is rewritten, and is one that the
--- relocation is of: a store with that of stores
+-- relocation is of: a store with that of stores. Later phases leave it alone.
 abbrev pub LowPartsOf : RiscVRelocation → Type 0
 LowPartsOf name =
     (l : Linked) → IsLinked l → l.setting.architecture ≡ RiscV
     → (i : ℕ) (chosen : Choice Relaxation ℕ) → i < count l
     → IsNameOf riscv_name (relocation_in l.relocations i).code name
-    → decision_at l.decisions i ≡ Rewritten chosen
+    → decision_at l.decisions i ≡ Rewritten chosen → InstructionIsLeft l i
     → IsSomeAnd (action_at l.section (relocation_in l.relocations i).offset) (λ action.
     offset_row action ≡ riscv_row name
     → IsSomeAnd (riscv_row name) (LowPartDoesTheSame l i action))
@@ -324,12 +325,13 @@ Sums =
     → decision_at l.decisions i ≡ Rewritten chosen → SumGoes l i
 
 -- of every sequence of a TLS descriptor whose last two instructions became those of local-exec, and
--- of every one whose last alone did, where the offset is a number of 12 bits
+-- of every one whose last alone did, where the offset is a number of 12 bits. Later phases leave
+-- them alone.
 abbrev pub Descriptors : Type 0
 Descriptors =
     (l : Linked) → IsLinked l → l.setting.architecture ≡ RiscV → (high add call : ℕ)
     → IsOfDescriptor l high names.R_RISCV_TLSDESC_ADD_LO12 8 kinds.AddiToLui add
-    → IsOfDescriptor l high names.R_RISCV_TLSDESC_CALL 12 kinds.CallToAddi call
+    → IsOfDescriptor l high names.R_RISCV_TLSDESC_CALL 12 kinds.CallToAddi call → AreLeft l add call
     → IsSomeAnd (riscv_row names.R_RISCV_TPREL_LO12_I) (OffsetIsTheSame 2
     (λ o. instruction_at l.final (o + 8) ++ instruction_at l.final (o + 12)) (λ _. ⊤) l high)
 
@@ -337,18 +339,18 @@ abbrev pub ShortDescriptors : Type 0
 ShortDescriptors =
     (l : Linked) → IsLinked l → l.setting.architecture ≡ RiscV → (high call : ℕ)
     → IsOfDescriptor l high names.R_RISCV_TLSDESC_CALL 12 kinds.CallToAddiZero call
-    → IsSomeAnd (riscv_row names.R_RISCV_TPREL_LO12_I) (OffsetIsTheSame 1
+    → InstructionIsLeft l call → IsSomeAnd (riscv_row names.R_RISCV_TPREL_LO12_I) (OffsetIsTheSame 1
     (λ o. instruction_at l.final (o + 12)) IsLowOffset l high)
 
--- of every instruction of a descriptor that became a nop, where no other relocation has a field in
--- it
+-- of every instruction of a descriptor that became a nop, which later phases leave alone, where no
+-- other relocation has a field in it
 abbrev pub NopsOf : RiscVRelocation → Type 0
 NopsOf name =
     (l : Linked) → IsLinked l → l.setting.architecture ≡ RiscV
     → (i : ℕ) (chosen : Choice Relaxation ℕ) (subject : Subject) → i < count l
     → IsNameOf riscv_name (relocation_in l.relocations i).code name
     → decision_at l.decisions i ≡ Redirected chosen subject
-    → chosen.kind ≡ relaxations.RiscV kinds.ReplaceWithLongNop
+    → chosen.kind ≡ relaxations.RiscV kinds.ReplaceWithLongNop → InstructionIsLeft l i
     → IsWrittenByNoOther l i (relocation_in l.relocations i).offset
     → DoesNothing l i
 

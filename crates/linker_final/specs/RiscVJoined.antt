@@ -10,7 +10,8 @@ use Rattle.linker_elf.specs.declared.elf.choice.Choice.{Choice}
 use Rattle.linker_elf.specs.declared.elf.value.Operands.{Operands}
 use Rattle.linker_elf.specs.declared.riscv64.relocations.RiscVRelocation.{RiscVRelocation}
 use Rattle.linker_elf.specs.declared.riscv64.relocations.RiscVRelocation.TheVariants as names
-use Rattle.linker_final.specs.Final.{IsRewrittenByNoOther, Linked, count, instruction_at}
+use Rattle.linker_final.specs.Final.{AreLeft, InstructionIsLeft, IsRewrittenByNoOther, Linked}
+use Rattle.linker_final.specs.Final.{count, instruction_at}
 use Rattle.linker_final.specs.Joined.{IsRewrittenAndPacked, IsKeptInstruction}
 use Rattle.linker_final.specs.Packed.{Packed, IsUnwritten, StayTogether, place_of}
 use Rattle.linker_final.specs.RiscVFinal.{AreOfPair, EndsAsReturned, IsOfDescriptor, RunsToCall}
@@ -141,22 +142,23 @@ FinalBytesDoNothing p o =
 
 -- ---- the laws
 
--- of every load of an address from the GOT that is rewritten, where no other rewrite has a byte of
--- the `auipc`
+-- of every load of an address from the GOT that is rewritten, and later phases leave alone, where
+-- no other rewrite has a byte of the `auipc`
 abbrev pub PackedGotLoads : Type 0
 PackedGotLoads =
     (l : Linked) (p : Packed) → IsRewrittenAndPacked l p → p.machine ≡ RiscV64
-    → (i j : ℕ) → AreOfFinalLoad l p i j
+    → (i j : ℕ) → AreOfFinalLoad l p i j → AreLeft l i j
     → IsRewrittenByNoOther l i (relocation_in l.relocations i).offset
     → IsSomeAnd (riscv_row names.R_RISCV_PCREL_HI20) (FinalBytesLoadTheSame l p i)
 
--- of every low part that is rewritten, whose instruction then stays
+-- of every low part that is rewritten, which later phases leave alone, and whose instruction then
+-- stays
 abbrev pub PackedLowPartsOf : RiscVRelocation → Type 0
 PackedLowPartsOf name =
     (l : Linked) (p : Packed) → IsRewrittenAndPacked l p → p.machine ≡ RiscV64
     → (i : ℕ) (chosen : Choice Relaxation ℕ) → i < count l
     → IsNameOf riscv_name (relocation_in l.relocations i).code name
-    → decision_at l.decisions i ≡ Rewritten chosen → IsKeptInstruction p i
+    → decision_at l.decisions i ≡ Rewritten chosen → IsKeptInstruction p i → InstructionIsLeft l i
     → IsSomeAnd (action_at l.section (relocation_in l.relocations i).offset) (λ action.
     offset_row action ≡ riscv_row name
     → IsSomeAnd (riscv_row name) (FinalLowPartDoesTheSame l p i action))
@@ -166,14 +168,14 @@ PackedLowParts =
     PackedLowPartsOf names.R_RISCV_TPREL_LO12_I × PackedLowPartsOf names.R_RISCV_TPREL_LO12_S
 
 -- of every sequence of a TLS descriptor whose last two instructions, or last one, became those of
--- local-exec, and stay then
+-- local-exec, are left alone by later phases, and stay then
 abbrev pub PackedDescriptors : Type 0
 PackedDescriptors =
     (l : Linked) (p : Packed) → IsRewrittenAndPacked l p → p.machine ≡ RiscV64
     → (high add call : ℕ)
     → IsOfDescriptor l high names.R_RISCV_TLSDESC_ADD_LO12 8 kinds.AddiToLui add
     → IsOfDescriptor l high names.R_RISCV_TLSDESC_CALL 12 kinds.CallToAddi call
-    → IsKeptInstruction p add → IsKeptInstruction p call
+    → IsKeptInstruction p add → IsKeptInstruction p call → AreLeft l add call
     → IsSomeAnd (riscv_row names.R_RISCV_TPREL_LO12_I) (FinalOffsetIsTheSame l p high call)
 
 abbrev pub PackedShortDescriptors : Type 0
@@ -181,18 +183,18 @@ PackedShortDescriptors =
     (l : Linked) (p : Packed) → IsRewrittenAndPacked l p → p.machine ≡ RiscV64
     → (high call : ℕ)
     → IsOfDescriptor l high names.R_RISCV_TLSDESC_CALL 12 kinds.CallToAddiZero call
-    → IsKeptInstruction p call
+    → IsKeptInstruction p call → InstructionIsLeft l call
     → IsSomeAnd (riscv_row names.R_RISCV_TPREL_LO12_I) (FinalShortOffsetIsTheSame l p high call)
 
--- of every instruction of a descriptor that became a nop, and stays then, where no relocation has a
--- field in it
+-- of every instruction of a descriptor that became a nop, which later phases leave alone, and which
+-- stays then, where no relocation has a field in it
 abbrev pub PackedNopsOf : RiscVRelocation → Type 0
 PackedNopsOf name =
     (l : Linked) (p : Packed) → IsRewrittenAndPacked l p → p.machine ≡ RiscV64
     → (i : ℕ) (chosen : Choice Relaxation ℕ) (subject : Subject) → i < count l
     → IsNameOf riscv_name (relocation_in l.relocations i).code name
     → decision_at l.decisions i ≡ Redirected chosen subject
-    → chosen.kind ≡ relaxations.RiscV kinds.ReplaceWithLongNop
+    → chosen.kind ≡ relaxations.RiscV kinds.ReplaceWithLongNop → InstructionIsLeft l i
     → let o = (relocation_in l.relocations i).offset in
     StayTogether p o 4 → IsUnwritten p (place_of p o) 4 → FinalBytesDoNothing p o
 

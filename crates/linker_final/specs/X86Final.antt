@@ -62,7 +62,7 @@ DoesTheSame l i name operand row =
     step (drop (r.offset - operand.back) l.final) s ≡ Some t)
 
 -- So it is of each such relocation whose instruction is rewritten, where no other rewrite or
--- relocation has a byte of the instruction.
+-- relocation has a byte of the instruction, and later phases leave it alone.
 abbrev pub RewrittenDoTheSame : X86_64Relocation → GotOperand → Type 0
 RewrittenDoTheSame name operand =
     (l : Linked) → IsLinked l → l.setting.architecture ≡ X86_64
@@ -70,7 +70,7 @@ RewrittenDoTheSame name operand =
     → decision_at l.decisions i ≡ Rewritten chosen
     → let r = relocation_in l.relocations i in
     IsNameOf x86_64_name r.code name
-    → AreAlone l i (r.offset - operand.back) (r.offset + 4)
+    → AreAlone l i (r.offset - operand.back) (operand.back + 4)
     → (row : RelocationKindInfo) → IsRow X86_64 chosen.relocation (Some row)
     → DoesTheSame l i name operand row
 

@@ -13,7 +13,8 @@ use Rattle.linker_elf.specs.declared.elf.choice.Choice.{Choice}
 use Rattle.linker_elf.specs.declared.elf.value.Operands.{Operands}
 use Rattle.linker_elf.specs.declared.x86_64.relocations.X86_64Relocation.{X86_64Relocation}
 use Rattle.linker_elf.specs.declared.x86_64.relocations.X86_64Relocation.TheVariants as names
-use Rattle.linker_final.specs.Final.{AreAlone, HasNoByte, IsLinked, Linked, count, put_back}
+use Rattle.linker_final.specs.Final.{AreAlone, HasNoByte, IsLeftAlone, IsLinked, Linked, count}
+use Rattle.linker_final.specs.Final.{put_back}
 use Rattle.linker_laws.specs.Schemes.{AreAddresses}
 use Rattle.linker_laws.specs.X86Machine.{State, extended, load, step}
 use Rattle.linker_laws.specs.X86RewriteLaws.{IsRelocated, thread_offset}
@@ -38,11 +39,13 @@ use Rattle.linker_x86_64.specs.declared.rewrites.RelaxationKind.TheVariants as k
 abbrev pub object_in : Linked → ℕ → ℕ → ℕ → List ℕ
 object_in l o back end = put_back (o - back) (back + end) l.section l.final
 
--- no rewrite and no field of a relocation has a byte from a start up, below an end, but those at an
--- index and at the next one
-abbrev pub AreAloneWithNext : Linked → ℕ → ℕ → ℕ → Type 0
-AreAloneWithNext l i start end =
-    (j at : ℕ) → j < count l → j ≢ i → j ≢ i + 1 → start ≤ at → at < end → HasNoByte l j at
+-- No rewrite and no field of a relocation has one of so many bytes from a start on, but those at an
+-- index and at the next one. Later phases leave them and both relocations alone.
+pub record AreAloneWithNext (l : Linked) (i start len : ℕ) : Type 0 where
+  pub others : (j at : ℕ) → j < count l → j ≢ i → j ≢ i + 1 → start ≤ at → at < start + len
+      → HasNoByte l j at
+  pub left : IsLeftAlone l i start len
+  pub next_left : IsLeftAlone l (i + 1) start len
 
 -- a rewrite leaves an instruction that reads the variable's offset from a GOT entry
 abbrev pub reads_entry : Relaxation → Bool
@@ -185,14 +188,15 @@ CallDoesTheSame l i =
 
 -- ---- the laws
 
--- Of every call of `__tls_get_addr` for a variable that a linker rewrites. S is an offset of the
--- thread's. No other rewrite or relocation than the call's has a byte of the sequence.
+-- Of every call of `__tls_get_addr` for a variable that a linker rewrites, and later phases leave
+-- alone. S is an offset of the thread's. No other rewrite or relocation than the call's has a byte
+-- of the sequence.
 abbrev pub GeneralDynamic : Type 0
 GeneralDynamic =
     EachRewritten names.R_X86_64_TLSGD (λ l i chosen.
     let o = (relocation_in l.relocations i).offset in
     IsSomeAnd (general_dynamic chosen.kind) (λ q.
-    AreAloneWithNext l i (o - q.back) (o + (4 + q.call))
+    AreAloneWithNext l i (o - q.back) (q.back + (4 + q.call))
     → IsSomeAnd (x86_64_row names.R_X86_64_TPOFF32) (AddressIsTheSame l i chosen q)))
 
 -- Of every call of `__tls_get_addr` for a module's block that a linker rewrites, by the same
@@ -202,14 +206,15 @@ LocalDynamic =
     EachRewritten names.R_X86_64_TLSLD (λ l i chosen.
     let o = (relocation_in l.relocations i).offset in
     IsSomeAnd (local_dynamic chosen.kind) (λ q.
-    AreAloneWithNext l i (o - q.back) (o + (4 + q.call))
+    AreAloneWithNext l i (o - q.back) (q.back + (4 + q.call))
     → IsSomeAnd (x86_64_row names.R_X86_64_TLSLD) (BlockIsReplaced l i q)))
 
--- of n bytes, which are read so
+-- of n bytes, which are read so, and which later phases leave alone
 abbrev pub EachOffset : ℕ → (ℕ → ℕ) → X86_64Relocation → Type 0
 EachOffset n read name =
     EachRewritten name (λ l i chosen.
-    IsSomeAnd (x86_64_row name) (LeadsToTheSame n read name l i))
+    IsLeftAlone l i (relocation_in l.relocations i).offset n
+    → IsSomeAnd (x86_64_row name) (LeadsToTheSame n read name l i))
 
 -- Of every offset in a module's block that became one from the thread pointer. One of 32 bits is
 -- sign-extended.
@@ -223,11 +228,11 @@ abbrev pub EachLea : ℕ → X86_64Relocation → (List ℕ → ℕ) → Type 0
 EachLea n name register_of =
     EachRewritten name (λ l i chosen.
     let o = (relocation_in l.relocations i).offset in
-    AreAlone l i (o - n) (o + 4)
+    AreAlone l i (o - n) (n + 4)
     → IsSomeAnd (x86_64_row names.R_X86_64_TPOFF32) (LeaDoesTheSame n name register_of l i chosen))
 
 -- Of every `lea` of a descriptor's address that a linker rewrites, with REX and with REX2. No other
--- rewrite or relocation has a byte of it.
+-- rewrite or relocation has a byte of it, and later phases leave it alone.
 abbrev pub DescriptorAddresses : Type 0
 DescriptorAddresses =
     EachLea 3 names.R_X86_64_GOTPC32_TLSDESC reg_after_rex
@@ -238,4 +243,4 @@ abbrev pub DescriptorCalls : Type 0
 DescriptorCalls =
     EachRewritten names.R_X86_64_TLSDESC_CALL (λ l i chosen.
     let o = (relocation_in l.relocations i).offset in
-    AreAlone l i o (o + 2) → CallDoesTheSame l i)
+    AreAlone l i o 2 → CallDoesTheSame l i)

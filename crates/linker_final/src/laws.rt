@@ -19,6 +19,12 @@ pub fn others()
     ensures fields { final_bytes.OtherFields }
 {}
 
+/// All architectures: what phases leave alone is the same behind them, a relocation and bytes. So
+/// where earlier phases do, what a law says of what its phase takes, it says of the object's.
+pub fn phases()
+    ensures { final_bytes.LeftAloneIsTheSame }
+{}
+
 /// x86-64: each instruction whose operand in the GOT became an address, a distance or an offset
 /// from the thread pointer takes every state in which the GOT's entry holds that to the same state
 /// as the object's instruction does.

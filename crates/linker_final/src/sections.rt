@@ -1,14 +1,16 @@
 //! The calls that the laws are about, one after the other.
 
-ghost use Rattle.std.specs.Prelude.{◌≤◌, ◌/◌, ℕ, List, length, IfErr, OnOk};
+ghost use Rattle.std.specs.Prelude.{◌≤◌, ◌/◌, ℕ, List, [], ◌∷◌, length, IfErr, OnOk};
 ghost use Rattle.linker_final.specs.Final.{IsLinked, IsLinkCause, linked};
-ghost use Rattle.linker_rewriting.specs.Facts.{early};
+ghost use Rattle.linker_final.specs.Final.{AreLinked, IsPhaseCause, rewriting_phase};
+ghost use Rattle.linker_rewriting.specs.Facts.{early, setting};
 
 use linker_rewriting::decisions::{Decision, RewritingError};
 use linker_rewriting::facts::{OutputFacts, SymbolFacts};
 use linker_rewriting::groups::KeptGroups;
 use linker_rewriting::kept::{KeptFacts, WritingError, relocate_rewritten_section};
-use linker_rewriting::sections::rewrite_section;
+use linker_rewriting::phases::Phase;
+use linker_rewriting::sections::{rewrite_placed_section, rewrite_section};
 use linker_section::facts::{Addresses, Symbol};
 use linker_utils::elf::Architecture;
 
@@ -74,5 +76,98 @@ pub fn link_section(
     ) {
         Ok(()) => Ok(()),
         Err(error) => Err(LinkError::Writing(error)),
+    }
+}
+
+/// Why a section isn't linked in two phases.
+#[derive(Debug, Clone, Copy, PartialEq, Eq)]
+pub enum PhaseError {
+    /// Its instructions aren't rewritten before addresses are known.
+    First(RewritingError),
+    /// They are, but aren't in the phase behind that.
+    Second(RewritingError),
+    /// They are in both, but its values aren't written.
+    Writing(WritingError),
+}
+
+/// Rewrites the instructions of a section by `rewrite_section`, then in another phase by
+/// `rewrite_placed_section`, and writes its values last. Each phase is one that the laws are about,
+/// and the second takes what the first left (`AreLinked`). Bytes that it deletes are in `deleted`:
+/// they are still in the section. A linker makes its GOT in between, and calls all three itself.
+///
+/// # Errors
+///
+/// `First`: the section and its relocations are as before. `Second`: they are as the first phase
+/// left them. `Writing`: they are as the second left them, and no value is written.
+pub fn link_section_in_two_phases(
+    architecture: Architecture,
+    phase: Phase,
+    output: &OutputFacts,
+    facts: &[SymbolFacts],
+    groups: &[KeptGroups],
+    placed_groups: &[KeptGroups],
+    kept: &[KeptFacts],
+    addresses: &Addresses,
+    symbols: &[Symbol],
+    relocations: &mut [u8],
+    section: &mut [u8],
+    decisions: &mut [Decision],
+    placed_decisions: &mut [Decision],
+    deleted: &mut [(u64, u32)],
+    memory: &mut [u64],
+) -> Result<(), PhaseError>
+    requires memory { length relocations.old / 24 ≤ length memory.old }
+    ensures linked { OnOk result ((relocations_between : List ℕ) × (between : List ℕ)
+        × (rewritten : List ℕ) × AreLinked
+        (rewriting_phase (early architecture output.now facts.now) groups.now relocations.old
+        section.old decisions.new relocations_between between
+        ∷ rewriting_phase (setting architecture phase output.now facts.now addresses.now
+        symbols.now) placed_groups.now relocations_between between placed_decisions.new
+        relocations.new rewritten ∷ []) relocations.old section.old relocations.new rewritten
+        addresses.now symbols.now section.new) }
+    ensures cause { IfErr result (IsPhaseCause (early architecture output.now facts.now) groups.now
+        (setting architecture phase output.now facts.now addresses.now symbols.now)
+        placed_groups.now (length deleted.old) kept.now addresses.now symbols.now relocations.old
+        section.old decisions.new placed_decisions.new relocations.new section.new) }
+{
+    if let Err(error) = rewrite_section(
+        architecture,
+        output,
+        facts,
+        groups,
+        relocations,
+        section,
+        decisions,
+    ) {
+        return Err(PhaseError::First(error));
+    }
+    if let Err(error) = rewrite_placed_section(
+        architecture,
+        phase,
+        output,
+        facts,
+        addresses,
+        symbols,
+        placed_groups,
+        relocations,
+        section,
+        placed_decisions,
+        deleted,
+    ) {
+        return Err(PhaseError::Second(error));
+    }
+    match relocate_rewritten_section(
+        architecture,
+        output,
+        facts,
+        kept,
+        addresses,
+        relocations,
+        symbols,
+        section,
+        memory,
+    ) {
+        Ok(()) => Ok(()),
+        Err(error) => Err(PhaseError::Writing(error)),
     }
 }

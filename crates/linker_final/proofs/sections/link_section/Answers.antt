@@ -33,6 +33,7 @@ returns-in-Ok-clause-linked c =
         relocations = subst (λ ds. AreRelocationsAfter ds before c.rewrite_section.new.relocations count) same c.in_default.ensures.relocations;
         done = subst (λ ds. AreDone before ds section c.rewrite_section.new.section count) same c.in_default.ensures.done;
         others = subst (λ ds. OthersStay before ds section c.rewrite_section.new.section count) same c.in_default.ensures.others;
+        later = (refl, refl);
         written = c.in-Ok.ensures.fields;
         as_many = search rules;
         same_length = search rules;
