@@ -48,6 +48,7 @@ pub mod RiscVPackedCalls
 pub mod RiscVPackedDeletions
 pub mod RiscVTested
 pub mod RiscVWritten
+pub mod SameDecisions
 pub mod Written
 pub mod X86Chosen
 pub mod X86Descriptors

@@ -15,15 +15,15 @@ pub phases_as_many : (phases : List RewritingPhase) (relocations section relocat
     → length relocations_last ≡ length relocations
 phases_as_many [] relocations section relocations_last last is = ap length (is.0)
 phases_as_many (p ∷ phases) relocations section relocations_last last is =
-    phases_as_many phases p.relocations_after p.rewritten relocations_last last (is.1.1)
-    ∙ ((is.1.0).as_many ∙ ap length (is.0).same_relocations)
+    phases_as_many phases p.relocations_after p.rewritten relocations_last last (is.2)
+    ∙ ((is.1).as_many ∙ ap length (is.0).same_relocations)
 
 pub phases_same_length : (phases : List RewritingPhase) (relocations section relocations_last last : List ℕ)
     → ArePhases phases relocations section relocations_last last → length last ≡ length section
 phases_same_length [] relocations section relocations_last last is = ap length (is.1)
 phases_same_length (p ∷ phases) relocations section relocations_last last is =
-    phases_same_length phases p.relocations_after p.rewritten relocations_last last (is.1.1)
-    ∙ ((is.1.0).same_length ∙ ap length (is.0).same_section)
+    phases_same_length phases p.relocations_after p.rewritten relocations_last last (is.2)
+    ∙ ((is.1).same_length ∙ ap length (is.0).same_section)
 
 -- a relocation that is kept in each
 pub phases_keep : (phases : List RewritingPhase) (relocations section relocations_last last : List ℕ)
@@ -33,14 +33,14 @@ pub phases_keep : (phases : List RewritingPhase) (relocations section relocation
 phases_keep [] relocations section relocations_last last is i below kept =
     ap (λ bytes. relocation_in bytes i) (is.0)
 phases_keep (p ∷ phases) relocations section relocations_last last is i below kept =
-    let rewritten = is.1.0 in
+    let rewritten = is.1 in
     let taken = (is.0).same_relocations in
     let within : i < count_of p = subst (λ bytes. i < length bytes / 24) (sym taken) below in
     let behind : i < length p.relocations_after / 24 = subst (λ n. i < n / 24) (sym rewritten.as_many) within in
     let here : relocation_in p.relocations_after i ≡ relocation_in p.relocations i =
     rewritten.relocations i within
     ∙ ap (λ d. relocation_after d (relocation_in p.relocations i)) (All-head (Keeps i) p phases kept) in
-    phases_keep phases p.relocations_after p.rewritten relocations_last last (is.1.1) i behind (All-tail (Keeps i) p phases kept)
+    phases_keep phases p.relocations_after p.rewritten relocations_last last (is.2) i behind (All-tail (Keeps i) p phases kept)
     ∙ (here ∙ ap (λ bytes. relocation_in bytes i) taken)
 
 -- a byte that no rewrite of any has
@@ -49,8 +49,8 @@ pub phases_spare : (phases : List RewritingPhase) (relocations section relocatio
     → (at : ℕ) → All (RewritesNone at) phases → get_or last at 0 ≡ get_or section at 0
 phases_spare [] relocations section relocations_last last is at none = ap (λ bytes. get_or bytes at 0) (is.1)
 phases_spare (p ∷ phases) relocations section relocations_last last is at none =
-    phases_spare phases p.relocations_after p.rewritten relocations_last last (is.1.1) at (All-tail (RewritesNone at) p phases none)
-    ∙ ((is.1.0).others at (All-head (RewritesNone at) p phases none)
+    phases_spare phases p.relocations_after p.rewritten relocations_last last (is.2) at (All-tail (RewritesNone at) p phases none)
+    ∙ ((is.1).others at (All-head (RewritesNone at) p phases none)
     ∙ ap (λ bytes. get_or bytes at 0) (is.0).same_section)
 
 -- so many bytes

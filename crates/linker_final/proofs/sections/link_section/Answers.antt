@@ -1,14 +1,10 @@
-use Rattle.std.proofs.Common.{◌≡◌, ℕ, ◌/◌, ◌^◌, ◌<◌, List, [], ◌∷◌, length, map, get_or, refl, ap, subst, rules}
+use Rattle.std.proofs.Common.{ℕ, ◌/◌, ◌^◌, ◌<◌, length, get_or, refl, subst, rules}
 use Rattle.linker_final.proofs.PackedBytes.{are_bytes}
+use Rattle.linker_final.proofs.SameDecisions.{same_decisions}
 use Rattle.linker_rewriting.specs.Decisions.{AreDecidedIn, IsRejected}
 use Rattle.linker_rewriting.specs.Facts.{early}
 use Rattle.linker_rewriting.specs.Rewritten.{AreRelocationsAfter, AreDone, OthersStay}
-use Rattle.linker_rewriting.specs.declared.decisions.Decision.{Decision}
 use Rattle.linker_final.proofs.sections.link_section.Goals as goal
-
-same_decisions : (ds : List Decision) → map (λ d. d) ds ≡ ds
-same_decisions [] = refl
-same_decisions (d ∷ ds) = ap (λ xs. d ∷ xs) (same_decisions ds)
 
 pub returns-in-Err-clause-cause : goal.returns-in-Err-clause-cause
 returns-in-Err-clause-cause c = (

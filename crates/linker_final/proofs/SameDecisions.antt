@@ -1,0 +1,7 @@
+-- The decisions of a call that takes them as they are.
+use Rattle.std.proofs.Common.{◌≡◌, List, [], ◌∷◌, map, refl, ap}
+use Rattle.linker_rewriting.specs.declared.decisions.Decision.{Decision}
+
+pub same_decisions : (ds : List Decision) → map (λ d. d) ds ≡ ds
+same_decisions [] = refl
+same_decisions (d ∷ ds) = ap (λ xs. d ∷ xs) (same_decisions ds)

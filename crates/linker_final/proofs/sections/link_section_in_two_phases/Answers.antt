@@ -1,0 +1,81 @@
+use Rattle.std.proofs.Common.{ℕ, ◌/◌, ◌^◌, ◌<◌, length, get_or, refl, subst, rules}
+use Rattle.linker_final.proofs.PackedBytes.{are_bytes}
+use Rattle.linker_final.proofs.SameDecisions.{same_decisions}
+use Rattle.linker_rewriting.specs.Decisions.{AreDecidedIn, IsRejected, IsRejectedPlaced}
+use Rattle.linker_rewriting.specs.Facts.{early, setting}
+use Rattle.linker_rewriting.specs.Rewritten.{AreRelocationsAfter, AreDone, OthersStay}
+use Rattle.linker_final.proofs.sections.link_section_in_two_phases.Goals as goal
+
+pub returns-in-Err-rewrite_section-clause-cause : goal.returns-in-Err-rewrite_section-clause-cause
+returns-in-Err-rewrite_section-clause-cause c = (
+  subst (λ ds. IsRejected c.args.architecture c.args.output.now c.args.facts.now c.args.groups.now c.args.relocations.now c.args.section.now ds c.in-Err-rewrite_section.error)
+      (same_decisions c.rewrite_section.new.decisions) c.in-Err-rewrite_section.ensures.rejected,
+  c.in-Err-rewrite_section.ensures.entries,
+  c.in-Err-rewrite_section.ensures.section,
+)
+
+pub returns-in-Ok-clause-linked : goal.returns-in-Ok-clause-linked
+returns-in-Ok-clause-linked c =
+    let same = same_decisions c.rewrite_section.new.decisions in
+    let same_too = same_decisions c.rewrite_placed_section.new.placed_decisions in
+    let first = early c.args.architecture c.args.output.now c.args.facts.now in
+    let second = setting c.args.architecture c.args.phase c.args.output.now c.args.facts.now c.args.addresses.now c.args.symbols.now in
+    let before = c.args.relocations.now in
+    let section = c.args.section.now in
+    let between = c.rewrite_section.new.relocations in
+    let bytes = c.rewrite_section.new.section in
+    let count = length before / 24 in
+    let count_too = length between / 24 in
+    let made = c.in_default-rewrite_section.ensures in
+    let placed = c.in_default.ensures in
+    let before_bytes : (i : ℕ) → get_or before i 0 < 2 ^ 8 = λ i. search rules in
+    let object : (i : ℕ) → get_or section i 0 < 2 ^ 8 = λ i. search rules in
+    let between_bytes : (i : ℕ) → get_or between i 0 < 2 ^ 8 = λ i. search rules in
+    let rewritten_bytes : (i : ℕ) → get_or bytes i 0 < 2 ^ 8 = λ i. search rules in
+    let final : (i : ℕ) → get_or c.relocate_rewritten_section.new.section i 0 < 2 ^ 8 = λ i. search rules in
+    let after : HasRewritten (rewriting_phase second c.args.placed_groups.now between bytes c.rewrite_placed_section.new.placed_decisions c.rewrite_placed_section.new.relocations c.rewrite_placed_section.new.section) =
+    record {
+      decided = subst (λ ds. AreDecidedIn second c.args.placed_groups.now between bytes ds count_too) same_too placed.decided;
+      relocations = subst (λ ds. AreRelocationsAfter ds between c.rewrite_placed_section.new.relocations count_too) same_too placed.relocations;
+      done = subst (λ ds. AreDone between ds bytes c.rewrite_placed_section.new.section count_too) same_too placed.done;
+      others = subst (λ ds. OthersStay between ds bytes c.rewrite_placed_section.new.section count_too) same_too placed.others;
+      as_many = search rules;
+      same_length = search rules;
+    } in (
+      between,
+      bytes,
+      c.rewrite_placed_section.new.section,
+      (
+        record { same_relocations = refl; same_section = refl },
+        record {
+          decided = subst (λ ds. AreDecidedIn first c.args.groups.now before section ds count) same made.decided;
+          relocations = subst (λ ds. AreRelocationsAfter ds before between count) same made.relocations;
+          done = subst (λ ds. AreDone before ds section bytes count) same made.done;
+          others = subst (λ ds. OthersStay before ds section bytes count) same made.others;
+          later = (record { same_relocations = refl; same_section = refl }, after, (refl, refl));
+          written = c.in-Ok.ensures.fields;
+          as_many = search rules;
+          same_length = search rules;
+          relocation_bytes = are_bytes before before_bytes;
+          section_bytes = are_bytes section object;
+          final_bytes = are_bytes c.relocate_rewritten_section.new.section final;
+        },
+        (
+          record { same_relocations = refl; same_section = refl },
+          record {
+            decided = after.decided;
+            relocations = after.relocations;
+            done = after.done;
+            others = after.others;
+            later = (refl, refl);
+            written = c.in-Ok.ensures.fields;
+            as_many = after.as_many;
+            same_length = after.same_length;
+            relocation_bytes = are_bytes between between_bytes;
+            section_bytes = are_bytes bytes rewritten_bytes;
+            final_bytes = are_bytes c.relocate_rewritten_section.new.section final;
+          },
+          tt,
+        ),
+      ),
+    )
