@@ -96,8 +96,8 @@ module _ (l : Linked) (linked : IsLinked l) (x86 : l.setting.architecture ≡ X8
     (shape : AreOf back (4 + call) (x86_64_originals kind))
     (skips : is_some (x86_64_skipped kind) ≡ true)
     (asked : IsAskedFor any kind l.section (relocation_in l.relocations i).offset)
-    (alone : AreAloneWithNext l i ((relocation_in l.relocations i).offset - back) (back + (4 + call)))
-  where
+    (alone : AreAloneWithNext l i ((relocation_in l.relocations i).offset - back)
+    (back + (4 + call))) where
   abbrev r : Rela
   r = relocation_in l.relocations i
 

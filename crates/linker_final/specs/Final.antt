@@ -39,6 +39,7 @@ pub record RewritingPhase : Type 0 where
   pub relocations_after : List ℕ
   pub rewritten : List ℕ
 
+-- of what a call was passed and left
 abbrev pub rewriting_phase : Setting → List KeptGroups → List ℕ → List ℕ → List Decision → List ℕ
     → List ℕ → RewritingPhase
 rewriting_phase setting kept relocations section decisions relocations_after rewritten =
@@ -180,7 +181,7 @@ linked_by first later relocations_last last addresses symbols final =
       final = final;
     }
 
--- of one phase
+-- of one phase and that call
 abbrev pub linked : Setting → List KeptGroups → List ℕ → List ℕ → List Decision → List ℕ → List ℕ
     → Addresses → List Symbol → List ℕ → Linked
 linked setting kept relocations section decisions relocations_after rewritten addresses symbols final =
@@ -210,7 +211,7 @@ IsLinkCause architecture output facts groups kept addresses symbols relocations 
     relocations_after bytes (Writing error) =
     IsWritingCause architecture output facts kept addresses relocations_after symbols bytes error
 
--- why it isn't in two phases, of which the second has room for so many deletions
+-- why a section isn't linked in two phases, of which the second has room for so many deletions
 abbrev pub IsPhaseCause : Setting → List KeptGroups → Setting → List KeptGroups → ℕ
     → List KeptFacts → Addresses → List Symbol → List ℕ → List ℕ → List Decision → List Decision
     → List ℕ → List ℕ → PhaseError → Type 0

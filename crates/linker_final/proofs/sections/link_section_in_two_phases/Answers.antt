@@ -1,23 +1,24 @@
-use Rattle.std.proofs.Common.{ℕ, ◌/◌, ◌^◌, ◌<◌, length, get_or, refl, subst, rules}
+use Rattle.std.proofs.Common.{◌≡◌, ℕ, ◌/◌, ◌^◌, ◌<◌, length, get_or, refl, sym, subst, rules}
 use Rattle.linker_final.proofs.PackedBytes.{are_bytes}
 use Rattle.linker_final.proofs.SameDecisions.{same_decisions}
+use Rattle.linker_final.specs.Final.{HasRewritten, rewriting_phase}
 use Rattle.linker_rewriting.specs.Decisions.{AreDecidedIn, IsRejected, IsRejectedPlaced}
 use Rattle.linker_rewriting.specs.Facts.{early, setting}
 use Rattle.linker_rewriting.specs.Rewritten.{AreRelocationsAfter, AreDone, OthersStay}
 use Rattle.linker_final.proofs.sections.link_section_in_two_phases.Goals as goal
 
-pub returns-in-Err-rewrite_section-clause-cause : goal.returns-in-Err-rewrite_section-clause-cause
-returns-in-Err-rewrite_section-clause-cause c = (
-  subst (λ ds. IsRejected c.args.architecture c.args.output.now c.args.facts.now c.args.groups.now c.args.relocations.now c.args.section.now ds c.in-Err-rewrite_section.error)
-      (same_decisions c.rewrite_section.new.decisions) c.in-Err-rewrite_section.ensures.rejected,
-  c.in-Err-rewrite_section.ensures.entries,
-  c.in-Err-rewrite_section.ensures.section,
+pub returns-in-Err-clause-cause : goal.returns-in-Err-clause-cause
+returns-in-Err-clause-cause c = (
+  subst (λ ds. IsRejected c.args.architecture c.args.output.now c.args.facts.now c.args.groups.now c.args.relocations.now c.args.section.now ds c.in-Err.error)
+      (same_decisions c.rewrite_section.new.decisions) c.in-Err.ensures.rejected,
+  c.in-Err.ensures.entries,
+  c.in-Err.ensures.section,
 )
 
-pub returns-in-Ok-clause-linked : goal.returns-in-Ok-clause-linked
-returns-in-Ok-clause-linked c =
+pub returns-in-Err-rewrite_placed_section-clause-cause :
+    goal.returns-in-Err-rewrite_placed_section-clause-cause
+returns-in-Err-rewrite_placed_section-clause-cause c =
     let same = same_decisions c.rewrite_section.new.decisions in
-    let same_too = same_decisions c.rewrite_placed_section.new.placed_decisions in
     let first = early c.args.architecture c.args.output.now c.args.facts.now in
     let second = setting c.args.architecture c.args.phase c.args.output.now c.args.facts.now c.args.addresses.now c.args.symbols.now in
     let before = c.args.relocations.now in
@@ -25,34 +26,69 @@ returns-in-Ok-clause-linked c =
     let between = c.rewrite_section.new.relocations in
     let bytes = c.rewrite_section.new.section in
     let count = length before / 24 in
+    let made = c.in_default.ensures in
+    let stopped = c.in-Err-rewrite_placed_section in
+    let first_made : HasRewritten (rewriting_phase first c.args.groups.now before section c.rewrite_section.new.decisions between bytes) =
+    record {
+      decided = subst (λ ds. AreDecidedIn first c.args.groups.now before section ds count) same made.decided;
+      relocations = subst (λ ds. AreRelocationsAfter ds before between count) same made.relocations;
+      done = subst (λ ds. AreDone before ds section bytes count) same made.done;
+      others = subst (λ ds. OthersStay before ds section bytes count) same made.others;
+      as_many = search rules;
+      same_length = search rules;
+    } in
+    let rejected : IsRejectedPlaced second c.args.placed_groups.now between bytes c.rewrite_placed_section.new.decisions (length c.args.deleted.now) stopped.error =
+    subst (λ ds. IsRejectedPlaced second c.args.placed_groups.now between bytes ds (length c.args.deleted.now) stopped.error)
+    (same_decisions c.rewrite_placed_section.new.decisions) stopped.ensures.rejected in (
+      subst (λ xs. HasRewritten (rewriting_phase first c.args.groups.now before section c.rewrite_section.new.decisions c.rewrite_placed_section.new.relocations xs)) (sym stopped.ensures.section)
+          (subst (λ xs. HasRewritten (rewriting_phase first c.args.groups.now before section c.rewrite_section.new.decisions xs bytes)) (sym stopped.ensures.entries) first_made),
+      subst (λ xs. IsRejectedPlaced second c.args.placed_groups.now c.rewrite_placed_section.new.relocations xs c.rewrite_placed_section.new.decisions (length c.args.deleted.now) stopped.error) (sym stopped.ensures.section)
+          (subst (λ xs. IsRejectedPlaced second c.args.placed_groups.now xs bytes c.rewrite_placed_section.new.decisions (length c.args.deleted.now) stopped.error) (sym stopped.ensures.entries) rejected),
+    )
+
+pub returns-in-Ok-clause-linked : goal.returns-in-Ok-clause-linked
+returns-in-Ok-clause-linked c =
+    let same = same_decisions c.rewrite_section.new.decisions in
+    let same_too = same_decisions c.rewrite_placed_section.new.decisions in
+    let first = early c.args.architecture c.args.output.now c.args.facts.now in
+    let second = setting c.args.architecture c.args.phase c.args.output.now c.args.facts.now c.args.addresses.now c.args.symbols.now in
+    let before = c.args.relocations.now in
+    let section = c.args.section.now in
+    let between = c.rewrite_section.new.relocations in
+    let bytes = c.rewrite_section.new.section in
+    let last = c.rewrite_placed_section.new.relocations in
+    let rewritten = c.rewrite_placed_section.new.section in
+    let count = length before / 24 in
     let count_too = length between / 24 in
-    let made = c.in_default-rewrite_section.ensures in
-    let placed = c.in_default.ensures in
+    let made = c.in_default.ensures in
+    let placed = c.in_default-rewrite_placed_section.ensures in
     let before_bytes : (i : ℕ) → get_or before i 0 < 2 ^ 8 = λ i. search rules in
     let object : (i : ℕ) → get_or section i 0 < 2 ^ 8 = λ i. search rules in
     let between_bytes : (i : ℕ) → get_or between i 0 < 2 ^ 8 = λ i. search rules in
     let rewritten_bytes : (i : ℕ) → get_or bytes i 0 < 2 ^ 8 = λ i. search rules in
     let final : (i : ℕ) → get_or c.relocate_rewritten_section.new.section i 0 < 2 ^ 8 = λ i. search rules in
-    let after : HasRewritten (rewriting_phase second c.args.placed_groups.now between bytes c.rewrite_placed_section.new.placed_decisions c.rewrite_placed_section.new.relocations c.rewrite_placed_section.new.section) =
+    let as_many : length last ≡ length between = search rules in
+    let same_length : length rewritten ≡ length bytes = search rules in
+    let after : HasRewritten (rewriting_phase second c.args.placed_groups.now between bytes c.rewrite_placed_section.new.decisions last rewritten) =
     record {
       decided = subst (λ ds. AreDecidedIn second c.args.placed_groups.now between bytes ds count_too) same_too placed.decided;
-      relocations = subst (λ ds. AreRelocationsAfter ds between c.rewrite_placed_section.new.relocations count_too) same_too placed.relocations;
-      done = subst (λ ds. AreDone between ds bytes c.rewrite_placed_section.new.section count_too) same_too placed.done;
-      others = subst (λ ds. OthersStay between ds bytes c.rewrite_placed_section.new.section count_too) same_too placed.others;
-      as_many = search rules;
-      same_length = search rules;
+      relocations = subst (λ ds. AreRelocationsAfter ds between last count_too) same_too placed.relocations;
+      done = subst (λ ds. AreDone between ds bytes rewritten count_too) same_too placed.done;
+      others = subst (λ ds. OthersStay between ds bytes rewritten count_too) same_too placed.others;
+      as_many = as_many;
+      same_length = same_length;
     } in (
       between,
       bytes,
-      c.rewrite_placed_section.new.section,
+      rewritten,
       (
-        record { same_relocations = refl; same_section = refl },
+        record { same_relocations = refl {a = before}; same_section = refl {a = section} },
         record {
           decided = subst (λ ds. AreDecidedIn first c.args.groups.now before section ds count) same made.decided;
           relocations = subst (λ ds. AreRelocationsAfter ds before between count) same made.relocations;
           done = subst (λ ds. AreDone before ds section bytes count) same made.done;
           others = subst (λ ds. OthersStay before ds section bytes count) same made.others;
-          later = (record { same_relocations = refl; same_section = refl }, after, (refl, refl));
+          later = (record { same_relocations = refl {a = between}; same_section = refl {a = bytes} }, after, (refl {a = last}, refl {a = rewritten}));
           written = c.in-Ok.ensures.fields;
           as_many = search rules;
           same_length = search rules;
@@ -61,16 +97,16 @@ returns-in-Ok-clause-linked c =
           final_bytes = are_bytes c.relocate_rewritten_section.new.section final;
         },
         (
-          record { same_relocations = refl; same_section = refl },
+          record { same_relocations = refl {a = between}; same_section = refl {a = bytes} },
           record {
             decided = after.decided;
             relocations = after.relocations;
             done = after.done;
             others = after.others;
-            later = (refl, refl);
+            later = (refl {a = last}, refl {a = rewritten});
             written = c.in-Ok.ensures.fields;
-            as_many = after.as_many;
-            same_length = after.same_length;
+            as_many = as_many;
+            same_length = same_length;
             relocation_bytes = are_bytes between between_bytes;
             section_bytes = are_bytes bytes rewritten_bytes;
             final_bytes = are_bytes c.relocate_rewritten_section.new.section final;
