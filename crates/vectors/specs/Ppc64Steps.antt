@@ -1,6 +1,7 @@
 -- What qemu-ppc64le made of instructions. `tools/emulate_steps` makes this file.
 use Rattle.std.specs.Prelude.{List, [], ◌∷◌}
-use Rattle.vectors.specs.Steps.{Group, at, group, m1, pc, row, ◌=>◌, ◌with◌}
+use Rattle.vectors.specs.Steps.{Functions, Group, at, functions, group, m0, m1, m2, m3, pc, row}
+use Rattle.vectors.specs.Steps.{◌=>◌, ◌with◌}
 
 unfoldable pub ppc64_groups : List Group
 ppc64_groups =
@@ -2292,3 +2293,324 @@ ppc64_groups =
     row 1724 0x4e800020 with (64, 0x7c1830) => (pc, 0x7c1830) ∷
     []) ∷
     []
+
+unfoldable pub ppc64_vector_groups : List Group
+ppc64_vector_groups =
+    -- stvx
+    group 0x0 (
+    row 1725 0x7cb619ce with (3, 0x4044b77ff) with (22, 0) with (133, 0) => (m1, 0x93) => (m2, 0)
+    => (m3, 0xcee992d007048a00) ∷
+    row 1726 0x7d6089ce with (0, 0x8000000000000000) with (17, 0x4fc3390) with (139, 1)
+    => (m1, 0x188db8ad32d) => (m2, 0) => (m3, 0x3433270000000000) ∷
+    row 1727 0x7f3d19ce with (3, 0xffffffff80000012) with (29, 0x7fffffff) with (at, 1)
+    with (153, 0xffffffffffffffffffffffffffffffff) => (m1, 0xffb5c2154efb91ee)
+    => (m2, 0xffffffffffffffff) => (m3, 0x55ffffffffffffff) ∷
+    row 1728 0x7f5ce1ce with (28, 0x800000000203417c) with (154, 0x80000000000000000000000000000000)
+    => (m1, 0x8baa189e1528d6) => (m2, 0) => (m3, 0x4180000000000000) ∷
+    row 1729 0x7d30d9ce with (16, 0xffffffffffffffff) with (27, 0x4b56c08)
+    with (137, 0x7fffffffffffffffffffffffffffffff) => (m0, 0xff14d2338efa6ede)
+    => (m1, 0xffffffffffffffff) => (m2, 0x557fffffffffffff) ∷
+    row 1730 0x7e6c21ce with (4, 0xffffffff849c9d20) with (12, 0x80000000)
+    with (147, 0x10000000000000000) => (m0, 0xd3d) => (m1, 0x10000) => (m2, 0x6b190bbfd7720000) ∷
+    row 1731 0x7d4051ce with (0, 0xffffffff7fffffff) with (10, 0x207fffff1) with (at, 0x207ffffe0)
+    with (138, 0xffffffffffffffff) => (m2, 0xffffffffffffffff) => (m3, 0) ∷
+    row 1732 0x7ecb29ce with (5, 0x4692cf7) with (11, 1) with (150, 1) => (m1, 0x113f5fe) => (m2, 0)
+    => (m3, 0xd140cc95b2000000) ∷
+    row 1733 0x7ff6f1ce with (22, 0x7fffffffffffffff) with (30, 0x8000000204f93648)
+    with (159, 0xffffffffffffffffffffffffffffffff) => (m1, 0xff4a95620879c5ab)
+    => (m2, 0xffffffffffffffff) => (m3, 0xadffffffffffffff) ∷
+    row 1734 0x7ee001ce with (0, 0x416dcef) with (151, 0x80000000000000000000000000000000)
+    => (m0, 0) => (m1, 0x8000000000000000) ∷
+    row 1735 0x7ea211ce with (2, 0x8000000000000008) with (at, 1)
+    with (149, 0x7fffffffffffffffffffffffffffffff) => (m1, 0xff72fa71ce3fed79)
+    => (m2, 0xffffffffffffffff) => (m3, 0xb67fffffffffffff) ∷
+    row 1736 0x7f0841ce with (8, 0x8000000102282be4) with (152, 0x10000000000000000)
+    => (m0, 0xf7b680c17eac) => (m1, 0x1000000000000) => (m2, 0xb812000000000000) ∷
+    row 1737 0x7ce161ce with (1, 0xffffffff) with (12, 0x3046c2bf8) with (135, 0xffffffffffffffff)
+    => (m1, 0xffffffffffa975e5) => (m2, 0xffffff) => (m3, 0xde247df4ea000000) ∷
+    row 1738 0x7eb621ce with (4, 0x46af2df) with (22, 0) with (149, 0) => (m0, 0xfdc807ec565b5)
+    => (m1, 0) => (m2, 0xba00000000000000) ∷
+    row 1739 0x7ec701ce with (0, 0x8000000407fffff0) with (7, 0x8000000000000000)
+    with (at, 0x407ffffe0) with (150, 0xffffffffffffffffffffffffffffffff)
+    => (m2, 0xffffffffffffffff) => (m3, 0xffffffffffffffff) ∷
+    row 1740 0x7f5d91ce with (18, 0x3841158c9) with (29, 0x7fffffff)
+    with (154, 0x80000000000000000000000000000000) => (m1, 0x17ad) => (m2, 0)
+    => (m3, 0x3e114fff1b98000) ∷
+    row 1741 0x7c5559ce with (11, 0x48463a277) with (21, 0xffffffff80000000)
+    with (130, 0x7fffffffffffffffffffffffffffffff) => (m0, 0xffffff8aeb3d956b)
+    => (m1, 0xffffffffffffffff) => (m2, 0x18a4b77fffffffff) ∷
+    row 1742 0x7d2029ce with (0, 0xffffffffffffffff) with (5, 0x404ee343f)
+    with (137, 0x10000000000000000) => (m0, 0xb755a0) => (m1, 0x1000000) => (m2, 0x20851eb8a4000000)
+    ∷
+    row 1743 0x7f0f91ce with (15, 0x80000000) with (18, 0xffffffff80000010) with (at, 1)
+    with (152, 0xffffffffffffffff) => (m1, 0xff772d9b37ba52d6) => (m2, 0xffffffffffffff)
+    => (m3, 0xf00000000000000) ∷
+    row 1744 0x7d35a9ce with (21, 0x800000020200c298) with (137, 0) => (m0, 0x5e82) => (m1, 0)
+    => (m2, 0x85fa895ec9940000) ∷
+    row 1745 0x7ee201ce with (0, 0x7874c76b8f1877ca) => (m0, 0x54ef9c6ce519a72d)
+    => (m1, 0x1b2aa45cc5b0f938) => (m2, 0xdd5538da25c11f1a) ∷
+    row 1746 0x7ef339ce with (7, 0x87b39bcd64857e72) => (m0, 0x6712edfac936c800)
+    => (m1, 0xc85c786e77b671a4) => (m2, 0xa2cdf39f995db9b) ∷
+    row 1747 0x7e5e29ce with (5, 0xeaf3f2932fd83a8f) with (at, 0x207ffffe0)
+    => (m2, 0xaf98884504118e83) => (m3, 0xb378dce005fcce0b) ∷
+    row 1748 0x7e8d49ce with (9, 0x8991afb0015ee3f2) => (m1, 0x96872d8f78699fd7)
+    => (m2, 0xbc7dc39a3b148901) ∷
+    row 1749 0x7d0e01ce with (0, 0x614f3e4c861660b7) => (m1, 0xd52ea8d9ac94954d)
+    => (m2, 0xeb8e02e28837ae7) => (m3, 0x936eebf55cfae9d3) ∷
+    row 1750 0x7e8001ce with (0, 0x4042ce429) => (m1, 0xa2cae38dcb0ebf95)
+    => (m2, 0xc31cb001bfe09f73) => (m3, 0x937820407a4e43b3) ∷
+    row 1751 0x7d8a31ce with (6, 0xf4c7fa72a1229d17) with (at, 1) => (m1, 0xe25711658b6ac205)
+    => (m2, 0x576805df2038143b) => (m3, 0x9a00a794a5b76994) ∷
+    row 1752 0x7f0109ce with (1, 0x800000020237b056) => (m1, 0x7a6c1ba372589c9b)
+    => (m2, 0x3d349c899d5a1b61) => (m3, 0xa6bb2ae4c097d601) ∷
+    row 1753 0x7d3111ce with (2, 0xf887a161b0882153) => (m0, 0xb5bc72ee0dbf6e6f)
+    => (m1, 0x3f93ad9eccf5b1e0) ∷
+    row 1754 0x7fe249ce with (9, 0xafc063f9da449e11) => (m1, 0xa703b4704f2eda3e)
+    => (m2, 0x8f1516c6d5367cc9) => (m3, 0xa47f75cb848990f7) ∷
+    row 1755 0x7ee0e9ce with (29, 0x207fffff6) with (at, 0x207ffffe0) => (m2, 0xde792848a15cf7dc)
+    => (m3, 0xa3e0e1a233b60fd0) ∷
+    row 1756 0x7e0d31ce with (6, 0x366eacb55c5ec30f) => (m0, 0xcab03eb76573517a)
+    => (m1, 0x3379cdf618195396) ∷
+    row 1757 0x7f13f1ce with (30, 0x2410def2d4f98cbb) => (m1, 0x835c2580983e8bd9)
+    => (m2, 0xbe7b89c9dd4c2059) => (m3, 0x68dc94464e0e9bb9) ∷
+    row 1758 0x7da0b1ce with (22, 0x47d9755) => (m1, 0x9536d815f7c5775b) => (m2, 0x495ad27ddf0287dc)
+    => (m3, 0x72623f864887690e) ∷
+    row 1759 0x7f1961ce with (12, 0xd1d079551389c4fb) with (at, 1) => (m1, 0x8cab4ffcc9513b04)
+    => (m2, 0x395ea32665dd1c74) => (m3, 0x46be182d56e7e3c8) ∷
+    row 1760 0x7e98c1ce with (24, 0x202224a54) => (m1, 0xd322fcdb8d85d6d5)
+    => (m2, 0x95475c6f71b06937) => (m3, 0x7cc752a08b4ec38) ∷
+    row 1761 0x7d7319ce with (3, 0x44dd2eb85711e52b) => (m0, 0x74e882ef181106c1)
+    => (m1, 0x5c3f0212dd9a4308) => (m2, 0x46d0a9c5a5ad455e) ∷
+    row 1762 0x7f5ce1ce with (28, 0x8000000202765917) => (m1, 0x4e0d4ad57796ec)
+    => (m2, 0xd42ea8638d652397) => (m3, 0xbc31e0aec7aa0b08) ∷
+    row 1763 0x7e6a61ce with (12, 0x7ae0fb13ec413540) with (at, 0x7ffffe0)
+    => (m2, 0xddc80d13208dc6d2) => (m3, 0x5805ce043c224233) ∷
+    row 1764 0x7d43b9ce with (23, 0x7d34c33b30f45961) => (m1, 0x98408b84ca7e7c99)
+    => (m2, 0xcafbbd3a6f6f5fda) ∷
+    []) ∷
+    -- lvx
+    group 0x0 (
+    row 1765 0x7c9940ce with (8, 0x40efacf) with (25, 0) with (m1, 0)
+    => (132, 0xa94f4a0000000000000000cc9f68cc50) ∷
+    row 1766 0x7c8048ce with (0, 0x8000000000000000) with (9, 0x40435a310) with (m1, 0xffffffff)
+    => (132, 0xa4df00000000ffffffffda3cce0cc3fe) ∷
+    row 1767 0x7dfd80ce with (16, 0xffffffff80000012) with (29, 0x7fffffff)
+    with (m1, 0x7fffffffffffffff) with (at, 1) => (143, 0xbb0fb2b4c2c3096345aaef275cd29b7f) ∷
+    row 1768 0x7d9bd8ce with (27, 0x26b3b4c) with (m1, 1)
+    => (140, 0x43f571c4633c662c3fb3d87e00000000) ∷
+    row 1769 0x7ff768ce with (13, 0x40450a1b8) with (23, 0xffffffffffffffff)
+    with (m1, 0xffffffff7fffffff) => (159, 0xa65556b4cc33b3b688ffffffff7fffff) ∷
+    row 1770 0x7e0330ce with (3, 0x80000000) with (6, 0xffffffff84adbf90) with (m1, 0x80000000)
+    => (144, 0x86f55557b067e834f7035c6cb9000000) ∷
+    row 1771 0x7ebd30ce with (6, 0x487fffff2) with (29, 0xffffffff7fffffff)
+    with (m1, 0xffffffffffffffff) with (at, 0x407ffffe0) => (149, 0x799e99217828ee16662f484aeadfb12)
+    ∷
+    row 1772 0x7e6580ce with (5, 1) with (16, 0x404bb7e17) with (m1, 0xffffffff80000000)
+    => (147, 0x9d35a86192ffffffff80000000c95635) ∷
+    row 1773 0x7ca200ce with (0, 0x800000040416c978) with (2, 0x7fffffffffffffff)
+    with (m1, 0x7fffffff) => (133, 0x88eed785b97b97762c984ba03a000000) ∷
+    row 1774 0x7ec000ce with (0, 0x204ffb22f) with (m1, 0x8000000000000000)
+    => (150, 0xb7088000000000000000a836df87422d) ∷
+    row 1775 0x7ffc68ce with (13, 0x10) with (28, 1) with (m1, 1) with (at, 1)
+    => (159, 0x50181d34cfdd2ed0d4759bf08ca5fe00) ∷
+    row 1776 0x7c7ce0ce with (28, 0x80000001023d2de4) with (m1, 0xffffffff7fffffff)
+    => (131, 0xe47be62a6d1bffffffff7fffffffa612) ∷
+    row 1777 0x7c95b0ce with (21, 0xffffffff) with (22, 0xffffffff040c1ca8) with (m1, 0x80000000)
+    => (132, 0xb7710c600000000080000000e7eca0b6) ∷
+    row 1778 0x7d90e0ce with (16, 0) with (28, 0x404d6259f) with (m1, 0xffffffffffffffff)
+    => (140, 0x8ab4646083ccffffffffffffffffc2e9) ∷
+    row 1779 0x7e6b58ce with (11, 0x8000000103fffff8) with (m1, 0xffffffff80000000)
+    with (at, 0x207ffffe0) => (147, 0xe27d48d80caaadefd840160cecf8d35f) ∷
+    row 1780 0x7f1b20ce with (4, 0x184bdba49) with (27, 0x7fffffff) with (m1, 0x7fffffff)
+    => (152, 0x98dc5139fb19000000007fffffff36af) ∷
+    row 1781 0x7ec5c0ce with (5, 0xffffffff80000000) with (24, 0x84db4607)
+    with (m1, 0x8000000000000000) => (150, 0xe9123fafa800000000000000065cb8c) ∷
+    row 1782 0x7d2008ce with (0, 0xffffffffffffffff) with (1, 0x4043119df) with (m1, 0)
+    => (137, 0x8fbdfecbacb6d3030000000000000000) ∷
+    row 1783 0x7ddda8ce with (21, 0xffffffff80000010) with (29, 0x80000000) with (m1, 0xffffffff)
+    with (at, 1) => (142, 0x9751009f1301245b988deba3f2833300) ∷
+    row 1784 0x7cbce0ce with (28, 0x20242ccc8) with (m1, 0x7fffffffffffffff)
+    => (133, 0x9676d70b8b7fffffffffffffff17b9fa) ∷
+    row 1785 0x7e59f0ce with (30, 0x4248d785734924a1) => (146, 0xa425646c09c7bba873940378115f974f) ∷
+    row 1786 0x7e2880ce with (16, 0x79e0a082e34a92f0) => (145, 0x76426c3caf9aa4af088e8764a75e07df) ∷
+    row 1787 0x7d1500ce with (0, 0xd4342a9d7c509a53) with (at, 0x7ffffe0)
+    => (136, 0xdee6a5d4ec08d6ce6ba3354c1579b57c) ∷
+    row 1788 0x7ed870ce with (14, 0x4fed0db4f547b802) => (150, 0x9e71f868c6c1610daff074b1b2cdc290) ∷
+    row 1789 0x7cff98ce with (19, 0x46001ecea2f38a03) => (135, 0x3a693878d28e9ff901bb74325f8c16b2) ∷
+    row 1790 0x7f6000ce with (0, 0x404c9da1a) => (155, 0xf8cf073e3bf98960b89e51a65fe0fd2c) ∷
+    row 1791 0x7f2218ce with (3, 0x84742211bbe049c1) with (at, 1)
+    => (153, 0x4f04d8f38c2eecf34a0406418e6a3a38) ∷
+    row 1792 0x7fac60ce with (12, 0x80000000027c1800) => (157, 0xd8bc4e67f1b9b3cb350ee70d205721ea) ∷
+    row 1793 0x7feed0ce with (26, 0x366d156637136684) => (159, 0xebe665963c2c7d8dd584788e0c3e354f) ∷
+    row 1794 0x7cb5b0ce with (22, 0xeff31c1ee9ee505b) => (133, 0x3b071afb9b8e9e5da34b7be50acf6486) ∷
+    row 1795 0x7d7980ce with (16, 0x150bd9a62ad776a) with (at, 0x7ffffe0)
+    => (139, 0x31a43b4ab59d097ef6ddaa2e2830a16b) ∷
+    row 1796 0x7fb9a8ce with (21, 0xa0a16f1e24cf84a4) => (157, 0x4b9af8ea93b09a2e16580c2d41ff44d3) ∷
+    row 1797 0x7f2b08ce with (1, 0x30decd21bf5058e4) => (153, 0x56568dd31dc9efd6216a66a45193ed65) ∷
+    row 1798 0x7d0028ce with (5, 0x4749daf) => (136, 0xe7361797286d89e734567d0ea17b6b49) ∷
+    row 1799 0x7d8728ce with (5, 0xd79d392f4ef8f01a) with (at, 1)
+    => (140, 0x8cb668323b6684ac8177d7c9605b1188) ∷
+    row 1800 0x7cc318ce with (3, 0x1023e64da) => (134, 0x85dc56d265dd39df0ad7ce928d3be960) ∷
+    row 1801 0x7c9598ce with (19, 0xba6093e24f2b510d) => (132, 0xa5f3a0f4db6bbfed48d04ae66dbfc0d1) ∷
+    row 1802 0x7ebe28ce with (5, 0x1ca4d1610a0b04f3) => (149, 0xd21f09e6a70f5a5e04b103ea08d21734) ∷
+    row 1803 0x7e7948ce with (9, 0x68652e088ad9aec0) with (at, 0x207ffffe0)
+    => (147, 0x583043b5696745ffb46374db251d972c) ∷
+    row 1804 0x7f9498ce with (19, 0xe15b5b2442e49332) => (156, 0xc6de64bb21330294f6c0596cbd848691) ∷
+    []) ∷
+    []
+
+unfoldable pub ppc64_savevr : Functions
+ppc64_savevr =
+    -- _savevr_N
+    functions
+    (0x3980ff40 ∷ 0x7e8c01ce ∷ 0x3980ff50 ∷ 0x7eac01ce ∷ 0x3980ff60 ∷ 0x7ecc01ce ∷ 0x3980ff70 ∷
+    0x7eec01ce ∷ 0x3980ff80 ∷ 0x7f0c01ce ∷ 0x3980ff90 ∷ 0x7f2c01ce ∷ 0x3980ffa0 ∷ 0x7f4c01ce ∷
+    0x3980ffb0 ∷ 0x7f6c01ce ∷ 0x3980ffc0 ∷ 0x7f8c01ce ∷ 0x3980ffd0 ∷ 0x7fac01ce ∷ 0x3980ffe0 ∷
+    0x7fcc01ce ∷ 0x3980fff0 ∷ 0x7fec01ce ∷ 0x4e800020 ∷ []) (
+    row 1805 20 with (0, 0xd5) with (64, 0x129b000) with (at, 1) => (12, 0xfffffffffffffff0)
+    => (pc, 0x129b000) => (161, 0xb93ee00b88f229bd) => (162, 0xa6c1000d03b42f7b)
+    => (163, 0xe946f173cbbbca39) => (164, 0x2c08f4bbd9cfe0b0) => (165, 0xbf46f2157603303)
+    => (166, 0xa6b0105c57ea8f96) => (167, 0x1e7785324553b316) => (168, 0x16b652ee7e043c2b)
+    => (169, 0x22d033a695964a74) => (170, 0x7c1bbc724c1ce670) => (171, 0x18fe7a7e4827f91b)
+    => (172, 0xd6e04ce7c2348e65) => (173, 0xff0259b95d08bf0c) => (174, 0x2704044ee04b3409)
+    => (175, 0xd7dbd157d4389c48) => (176, 0x6c86e2a7a660d75e) => (177, 0xa18ae159adb790cd)
+    => (178, 0xa768e7f214757863) => (179, 0x5c0f89bee9859c9c) => (180, 0xd7aa142e2a891718)
+    => (181, 0x869ca8787a2bfb5) => (182, 0xfd4a675be89bb37d) => (183, 0xa699a3b3880efa18)
+    => (184, 0x1849e17b4ead4d91) => (185, 0x3f9f1542eaca4bc6) ∷
+    row 1806 21 with (0, 0x20431653d) with (64, 0x200550c80) => (12, 0xfffffffffffffff0)
+    => (pc, 0x200550c80) => (162, 0xe68597d6ab848a90) => (163, 0xb7db9709f06573d7)
+    => (164, 0x455c110392232f68) => (165, 0x5011d0d7fdadf0f0) => (166, 0xa1e27b117e54325b)
+    => (167, 0xff92000531e81607) => (168, 0xfc18d7f502e8979c) => (169, 0xc65c24918d13e31d)
+    => (170, 0x53ff24ae1fe05f2d) => (171, 0x89b6247d0f315833) => (172, 0xa99562a2ab14d28e)
+    => (173, 0xfbf709c7b8407547) => (174, 0xfcdb92161fff3b1b) => (175, 0x8581e47188413a5a)
+    => (176, 0x4dd1b35f2d4d05f8) => (177, 0x2656b47a7f33a76d) => (178, 0x9c77c67dd2fe3324)
+    => (179, 0xde7579e29d17bc7e) => (180, 0xe8cdc9721112c29e) => (181, 0xadde34a9e1ed798e)
+    => (182, 0x32d3bf3be78ab468) => (183, 0x9490e4d04db4de9e) => (184, 0x107ad1db56660881) ∷
+    row 1807 22 with (0, 0x4045b97a8) with (64, 0x1257716) => (12, 0xfffffffffffffff0)
+    => (pc, 0x1257714) => (165, 0x87a5ec798d30fcb2) => (166, 0x192b8e9f85f192fe)
+    => (167, 0xabbaf8f14f53e183) => (168, 0x6fcad3254a45b8e0) => (169, 0x77cf031902d16363)
+    => (170, 0x28b92ef503f905b4) => (171, 0xebe20af0a7247da7) => (172, 0x43f6a20eb30b7979)
+    => (173, 0x7f410783d4d304e) => (174, 0xc1832c72577d1431) => (175, 0xcc0513afc44b7b58)
+    => (176, 0xa15ece1ff14dd5d9) => (177, 0x381514973d1f5ec6) => (178, 0xe3898717807dbe74)
+    => (179, 0x4c24132ea7c8da97) => (180, 0x88035759050cce00) => (181, 0x8320f760247eecc)
+    => (182, 0x8ecc3ee47efb047e) => (183, 0x6c3f096d4f9c9b64) => (184, 0xf7e43db9ee4861ed)
+    => (185, 0x96ac982426c6e05f) ∷
+    row 1808 23 with (0, 0x408000009) with (64, 0x1834f56) with (at, 0x407ffff30)
+    => (12, 0xfffffffffffffff0) => (pc, 0x1834f54) => (168, 0x77e7d83f1e41579a)
+    => (169, 0xaf1a379e1b0b5781) => (170, 0x5226540a2ffb70a5) => (171, 0x3211019624ad590a)
+    => (172, 0x8b8bc17d40b339a1) => (173, 0xf4c0f4a2bfb5784e) => (174, 0x241820985068b28e)
+    => (175, 0x8d094b11a9d4e188) => (176, 0x1bcb715b5f1bdb6d) => (177, 0xfaea04e2e30b94b7)
+    => (178, 0x72a5b3c66cccb43d) => (179, 0x3e6322166b5991db) => (180, 0x28a6e7d9797b3cfe)
+    => (181, 0x5774a2ac42bed8f5) => (182, 0x3dcf0d94852775b1) => (183, 0x461e86a4693b6a04)
+    => (184, 0xb21e24f78fd15e55) => (185, 0xa60cdfedecf4508) ∷
+    row 1809 24 with (0, 0x4ae29f0) with (64, 0x139529a) => (12, 0xfffffffffffffff0)
+    => (pc, 0x1395298) => (169, 0xeef29a40e51fbe54) => (170, 0xa7ad1ed730a3279c)
+    => (171, 0x46080c4f4cda120a) => (172, 0x2dc0407150e52afd) => (173, 0xc40f265cb2445758)
+    => (174, 0x4c36c45a887123bc) => (175, 0x6907e869155e8d7b) => (176, 0x310aa92d74711db)
+    => (177, 0x34f252747628b474) => (178, 0x524df31a3d66f559) => (179, 0x27ce647ed4a2cd42)
+    => (180, 0x39ee9df0bad0ce36) => (181, 0x419c1e8830ccd7e6) => (182, 0xb9f2ab164f849c72)
+    => (183, 0x825b80908aa6d35f) => (184, 0xd25a1a8afb82600d) => (185, 0xd1fd3b2a15b6bae) ∷
+    row 1810 25 with (0, 0x4d689d4) with (64, 0x734688) => (12, 0xfffffffffffffff0)
+    => (pc, 0x734688) => (170, 0x4d990dd7d1f9012c) => (171, 0xb1887dad0f1460a8)
+    => (172, 0xfcb218ed2d9606fd) => (173, 0x73fdc479a0a24717) => (174, 0x9d7323003923c419)
+    => (175, 0x99d55a5d7c258cae) => (176, 0x2fdc2c10f4a256cd) => (177, 0x230f3f58a19e316c)
+    => (178, 0xb3ed341f6013bf1a) => (179, 0xfab736b110c3550) => (180, 0x29a63b2b7b74fcff)
+    => (181, 0x5fa9f694ca6f985c) => (182, 0x9107413546c7107c) => (183, 0x130ac8d5cdc85a8e)
+    => (184, 0x9365649741d3f992) ∷
+    row 1811 26 with (0, 0x2048c8724) with (64, 0x400d2dec1) => (12, 0xfffffffffffffff0)
+    => (pc, 0x400d2dec0) => (173, 0x13e93b85196e4ca2) => (174, 0x43f1dcbeb0448bc3)
+    => (175, 0x9c31fb8cdc6b316b) => (176, 0xce37c953ac42ce2f) => (177, 0x4b6c63939d180788)
+    => (178, 0xf0e11837bf8b05fb) => (179, 0x219873995b74cf7b) => (180, 0xabedc96aea1d3326)
+    => (181, 0x1eb62b9e17818844) => (182, 0xff5ddced2bf955b0) => (183, 0x42c58ba1d13e33e2)
+    => (184, 0xeb3152be851f6d99) => (185, 0xa28e451c8a65fe56) ∷
+    row 1812 27 with (0, 0x408000000) with (64, 0x4002708cc) with (at, 0x407ffff30)
+    => (12, 0xfffffffffffffff0) => (pc, 0x4002708cc) => (176, 0xc431c581a6a9f4b5)
+    => (177, 0x72d80bdd5e7b382f) => (178, 0xb6d2a7e8ab1a92e3) => (179, 0xfff8011da02385fc)
+    => (180, 0x89a7bf7ae88e102) => (181, 0x62b059c030e31dbf) => (182, 0xb98941aeb0f4df13)
+    => (183, 0x9b0115c510b9ff76) => (184, 0xc99ef90db25e8d15) => (185, 0xa8ea352c3fa82b23) ∷
+    row 1813 28 with (0, 0x4f6af38) with (64, 0xc38bc3) => (12, 0xfffffffffffffff0)
+    => (pc, 0xc38bc0) => (177, 0x1e26b728965369e) => (178, 0xb65152e20d83b264)
+    => (179, 0xbb5e7973a7a4ac75) => (180, 0x44ca0a71e53e33dc) => (181, 0x9bcc2f73c3941463)
+    => (182, 0x6ba62450d442aab4) => (183, 0xa32b8d72dd336e26) => (184, 0x1ecca9a0e10200eb)
+    => (185, 0x56f7ec61e213f392) ∷
+    row 1814 29 with (0, 0x204002f59) with (64, 0x400322274) => (12, 0xfffffffffffffff0)
+    => (pc, 0x400322274) => (179, 0xbfcd42496d70af5d) => (180, 0xff0da2843ff8e8b7)
+    => (181, 0xa08d888880ea7b26) => (182, 0x919a15655ade683) => (183, 0x313ee5aca8f5b7ab)
+    => (184, 0x5d1aff4f5d0ae34d) => (185, 0x80fe186934634346) ∷
+    row 1815 30 with (0, 0x40441f779) with (64, 0x201665fe8) => (12, 0xfffffffffffffff0)
+    => (pc, 0x201665fe8) => (180, 0x47c8221f878ea3c) => (181, 0x609b7fb8de2a0935)
+    => (182, 0x868429fecb814148) => (183, 0xf44604a38d8603ae) => (184, 0x1a5008dd16c9e7c7) ∷
+    row 1816 31 with (0, 0x20800000a) with (64, 0x4007ce992) with (at, 0x207ffff30)
+    => (12, 0xfffffffffffffff0) => (pc, 0x4007ce990) => (184, 0xfb9fbcfed4013342)
+    => (185, 0x480f10afd3b063ad) ∷
+    [])
+
+unfoldable pub ppc64_restvr : Functions
+ppc64_restvr =
+    -- _restvr_N
+    functions
+    (0x3980ff40 ∷ 0x7e8c00ce ∷ 0x3980ff50 ∷ 0x7eac00ce ∷ 0x3980ff60 ∷ 0x7ecc00ce ∷ 0x3980ff70 ∷
+    0x7eec00ce ∷ 0x3980ff80 ∷ 0x7f0c00ce ∷ 0x3980ff90 ∷ 0x7f2c00ce ∷ 0x3980ffa0 ∷ 0x7f4c00ce ∷
+    0x3980ffb0 ∷ 0x7f6c00ce ∷ 0x3980ffc0 ∷ 0x7f8c00ce ∷ 0x3980ffd0 ∷ 0x7fac00ce ∷ 0x3980ffe0 ∷
+    0x7fcc00ce ∷ 0x3980fff0 ∷ 0x7fec00ce ∷ 0x4e800020 ∷ []) (
+    row 1817 20 with (0, 0xd6) with (64, 0x201c54450) with (at, 1) => (12, 0xfffffffffffffff0)
+    => (pc, 0x201c54450) => (148, 0x533915808e9cd8ba715764de8ac7fcf9)
+    => (149, 0xafc792cafad98b9012b3cf7a094d5d97) => (150, 0x82ba35734284e0d52a745f73634161a4)
+    => (151, 0xcc10fd79659ed989b89914ca98a40821) => (152, 0x8bcbeadd642776adbd21ef7fa975530d)
+    => (153, 0xc1eafd9f3e1eb641380eef9295b54269) => (154, 0x6e6e35bef3849944296015035d63d334)
+    => (155, 0x9155933c845920b691155fd20081086f) => (156, 0x2aa11617f09c4a986f2ecffe7f0ce119)
+    => (157, 0x3a50be51384e17e9c3ac6588d9075c33) => (158, 0xc0648be85b6e88aa8e8e20710e707bbc)
+    => (159, 0xbcdc7edd59fd9cdacfd400b71f483eb4) ∷
+    row 1818 21 with (0, 0x20403aae8) with (64, 0x18e1f9) => (12, 0xfffffffffffffff0)
+    => (pc, 0x18e1f8) => (149, 0xfc12a6ddacf250ada5b949b89c3b2294)
+    => (150, 0xd585a7b672bc8e5c947ab1e9b42881d) => (151, 0xfa0cb2023c13cc7bc844b1cc31db4f05)
+    => (152, 0xc22fadc1e94fe36fa2b05b5423e55349) => (153, 0x65c14bf10cf01fc1588aa84b8c537cec)
+    => (154, 0xe4c18d8fa6f48170e9d398b26b25cbed) => (155, 0x3f30739db75d087e568b2c88c05c404b)
+    => (156, 0x750dfb1b3e29b4e99eb163ce8bf6da08) => (157, 0x865a27083b5a86b2c2463d83cdf59922)
+    => (158, 0x7314f764aeef7dd9c149bba886587d9a) => (159, 0x3b3e6a3098e89a5e9bbbdc3cb51f8770) ∷
+    row 1819 22 with (0, 0x4047be896) with (64, 0x400303ae4) => (12, 0xfffffffffffffff0)
+    => (pc, 0x400303ae4) => (150, 0x7ad07b6d87dc408df389fd919f9d97b0)
+    => (151, 0x82b10ff0745ff6dcaa32d6e279726047) => (152, 0x2e011ad78641889a044b269778a5044d)
+    => (153, 0x7dc09c22bd80f5c601d2ecb09d3583c2) => (154, 0x6fef93d21a1e3e60a1ca292de723dea5)
+    => (155, 0x58e01e59c196269e530dc0f567014f7) => (156, 0x3d9be65d437261e1cd070554eb1a26b8)
+    => (157, 0x1a19413910293cc8574ca4fea52213e7) => (158, 0x9ad7ff85b43df31d8501bb0c8487dc85)
+    => (159, 0xbd774d641fb084e15799b7a8654b8091) ∷
+    row 1820 23 with (0, 0x800000b) with (64, 0x201c192b7) with (at, 0x7ffff30)
+    => (12, 0xfffffffffffffff0) => (pc, 0x201c192b4) => (151, 0xc7d2db59ef175bd4282ca8a4dbb7667a)
+    => (152, 0x5ab80be01c3bd9818356a71859ee2cd6) => (153, 0x5d13a08ba73bc5d24df709b1360061d5)
+    => (154, 0xcee5995c901720c6880dd06f6fee0578) => (155, 0xb02df652d6cdea5e319afb5307b717be)
+    => (156, 0xecb76e7b6022994a9e8a5bfd5b98a7) => (157, 0xc121dcaf7dcdc977d3187d8a50db8834)
+    => (158, 0xf0cd6615de16def9cb08d4de0236e664) => (159, 0x8fef53a19c3b631e326f9057116db337) ∷
+    row 1821 24 with (0, 0x2046a917b) with (64, 0x20062a767) => (12, 0xfffffffffffffff0)
+    => (pc, 0x20062a764) => (152, 0x1364d3ea784ef5cb2b8fcbb7ee135799)
+    => (153, 0x36a7af6b932ac529171775265a016fa5) => (154, 0xc960ef120be2032a721582ba23caf655)
+    => (155, 0xcb9092dde274afce3c89f4734b6feba8) => (156, 0x8f5186d916e2cb16270c9931d0f04f9e)
+    => (157, 0xb3742d43a92c550213740d89b44c2238) => (158, 0x470d37d399514d906f51e606f5836374)
+    => (159, 0x4a1ca688e751b4c23aa622a994961355) ∷
+    row 1822 25 with (0, 0x204365209) with (64, 0xb19b6e) => (12, 0xfffffffffffffff0)
+    => (pc, 0xb19b6c) => (153, 0x4c3118a9087e2371ed3e62fce35e5d7b)
+    => (154, 0x107b16fea6567a7a029aa9ff497b8271) => (155, 0x32a083f6b3a535a775d25fa61f0f0b8c)
+    => (156, 0xb2a15f92306a54fa46e583ef6418f8cc) => (157, 0x907da9d11ca5d87275d416dd18994a31)
+    => (158, 0xcc3562b37857c010029e186d3c8fffbc) => (159, 0x65c88a3943800bd2ed4388a1cffd196c) ∷
+    row 1823 26 with (0, 0x48fafe7) with (64, 0x332f76) => (12, 0xfffffffffffffff0)
+    => (pc, 0x332f74) => (154, 0xf7956e407e94720d476829064f69c2bb)
+    => (155, 0x73f65d47d43d697bb11a2a5655dafef7) => (156, 0x15b527bdcf55d74e402a0714fdbbb198)
+    => (157, 0xdcd1cda26cddbb84f497bf42490bda9d) => (158, 0xc94c4ef5add5161fce6352de38cb7a05)
+    => (159, 0xdb24abb7923be71ecd8cc1e8cbfa8fd2) ∷
+    row 1824 27 with (0, 0x408000003) with (64, 0x20194451f) with (at, 0x407ffff30)
+    => (12, 0xfffffffffffffff0) => (pc, 0x20194451c) => (155, 0x36ff3120fd167e2b54aaa5d75291082b)
+    => (156, 0x4f4112d05885fd2835315573ff12cfd5) => (157, 0xd6f958a511d0eac7852e693609700623)
+    => (158, 0xce28029f28f7470a44a1e11d71a8ab14) => (159, 0x1c5864189df911f1738bbd2a37bcbea9) ∷
+    row 1825 28 with (0, 0x404409935) with (64, 0x4014e8988) => (12, 0xfffffffffffffff0)
+    => (pc, 0x4014e8988) => (156, 0xf4f5902e233c627d24a6ba033b584b82)
+    => (157, 0x9bf7cf7d469d5b8e1cbb420126fe1280) => (158, 0xa0d57d71d974b8c472ab38a3821a3da4)
+    => (159, 0x38e9a07dbc27a2026769de84caccced) ∷
+    row 1826 29 with (0, 0x4ed79e6) with (64, 0x400c10524) => (12, 0xfffffffffffffff0)
+    => (pc, 0x400c10524) => (157, 0xaf5606a4e4114a6d0dfb5b58f38bc925)
+    => (158, 0x569e58f8171a1b01c78c5bd2e8455d0b) => (159, 0xd9554e960d8eb2f45c8bfe392387e24f) ∷
+    row 1827 30 with (0, 0x427f80b) with (64, 0x2007d8672) => (12, 0xfffffffffffffff0)
+    => (pc, 0x2007d8670) => (158, 0xd754d49b07aadc354e19915643402160)
+    => (159, 0x3d64264096e4e4db7c6db0e9238c72b4) ∷
+    row 1828 31 with (0, 0x408000008) with (64, 0x400f2abd0) with (at, 0x407ffff30)
+    => (12, 0xfffffffffffffff0) => (pc, 0x400f2abd0) => (159, 0x4997a0a35a44433783119f9b18994c8f) ∷
+    [])

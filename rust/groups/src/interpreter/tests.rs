@@ -169,9 +169,23 @@ fn numbers_are_extended() {
 fn powerpc64_is_as_in_qemu() {
     let table = include_str!("../../../../crates/vectors/specs/Ppc64Steps.antt");
     // no group has them: they are of stubs, of lazy PLTs and of functions that save registers
-    let of_stubs =
-        ["mflr", "mtlr", "mtctr", "bcl 20, 31, .+4", "bctr", "b", "subf", "rldicl", "blr"];
-    let count = replayed(Architecture::Ppc64, table, &of_stubs);
+    let others = [
+        "mflr",
+        "mtlr",
+        "mtctr",
+        "bcl 20, 31, .+4",
+        "bctr",
+        "b",
+        "subf",
+        "rldicl",
+        "blr",
+        "stvx",
+        "lvx",
+        // whole functions
+        "_savevr_N",
+        "_restvr_N",
+    ];
+    let count = replayed(Architecture::Ppc64, table, &others);
     assert!(count > 1300, "{count} rows");
 }
 
