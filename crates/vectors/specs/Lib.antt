@@ -7,6 +7,7 @@ pub mod LoongArchSteps
 pub mod LoongArchTable
 pub mod Poke
 pub mod Ppc64Executed
+pub mod Ppc64FunctionsExecuted
 pub mod Ppc64Steps
 pub mod Ppc64Table
 pub mod Ppc64VectorsExecuted

@@ -108,7 +108,8 @@ fn replayed(architecture: Architecture, text: &str, skipped: &[&str]) -> usize {
     let is_loongarch = architecture == Architecture::LoongArch64;
     let mut count = 0;
     for (name, row) in rows(text) {
-        if skipped.contains(&name.as_str()) {
+        // functions, whose rows are of many instructions, have names with `_` in front
+        if skipped.contains(&name.as_str()) || name.starts_with('_') {
             continue;
         }
         let before = |place: u64| {
@@ -181,9 +182,6 @@ fn powerpc64_is_as_in_qemu() {
         "blr",
         "stvx",
         "lvx",
-        // whole functions
-        "_savevr_N",
-        "_restvr_N",
     ];
     let count = replayed(Architecture::Ppc64, table, &others);
     assert!(count > 1300, "{count} rows");
