@@ -7,8 +7,10 @@ pub mod LoongArchSteps
 pub mod LoongArchTable
 pub mod Poke
 pub mod Ppc64Executed
+pub mod Ppc64FunctionsExecuted
 pub mod Ppc64Steps
 pub mod Ppc64Table
+pub mod Ppc64VectorsExecuted
 pub mod RiscVExecuted
 pub mod RiscVSteps
 pub mod RiscVTable

@@ -1,6 +1,7 @@
 -- What qemu-ppc64le made of instructions. `tools/emulate_steps` makes this file.
 use Rattle.std.specs.Prelude.{List, [], ◌∷◌}
-use Rattle.vectors.specs.Steps.{Group, at, group, m1, pc, row, ◌=>◌, ◌with◌}
+use Rattle.vectors.specs.Steps.{Functions, Group, at, functions, group, m0, m1, m2, m3, pc, row}
+use Rattle.vectors.specs.Steps.{◌=>◌, ◌with◌}
 
 unfoldable pub ppc64_groups : List Group
 ppc64_groups =
@@ -2292,3 +2293,904 @@ ppc64_groups =
     row 1724 0x4e800020 with (64, 0x7c1830) => (pc, 0x7c1830) ∷
     []) ∷
     []
+
+unfoldable pub ppc64_vector_groups : List Group
+ppc64_vector_groups =
+    -- stvx
+    group 0x0 (
+    row 1725 0x7cb619ce with (3, 0x4044b77ff) with (22, 0) with (133, 0) => (m1, 0x93) => (m2, 0)
+    => (m3, 0xcee992d007048a00) ∷
+    row 1726 0x7d6089ce with (0, 0x8000000000000000) with (17, 0x4fc3390) with (139, 1)
+    => (m1, 0x188db8ad32d) => (m2, 0) => (m3, 0x3433270000000000) ∷
+    row 1727 0x7f3d19ce with (3, 0xffffffff80000012) with (29, 0x7fffffff) with (at, 1)
+    with (153, 0xffffffffffffffffffffffffffffffff) => (m1, 0xffb5c2154efb91ee)
+    => (m2, 0xffffffffffffffff) => (m3, 0x55ffffffffffffff) ∷
+    row 1728 0x7f5ce1ce with (28, 0x800000000203417c) with (154, 0x80000000000000000000000000000000)
+    => (m1, 0x8baa189e1528d6) => (m2, 0) => (m3, 0x4180000000000000) ∷
+    row 1729 0x7d30d9ce with (16, 0xffffffffffffffff) with (27, 0x4b56c08)
+    with (137, 0x7fffffffffffffffffffffffffffffff) => (m0, 0xff14d2338efa6ede)
+    => (m1, 0xffffffffffffffff) => (m2, 0x557fffffffffffff) ∷
+    row 1730 0x7e6c21ce with (4, 0xffffffff849c9d20) with (12, 0x80000000)
+    with (147, 0x10000000000000000) => (m0, 0xd3d) => (m1, 0x10000) => (m2, 0x6b190bbfd7720000) ∷
+    row 1731 0x7d4051ce with (0, 0xffffffff7fffffff) with (10, 0x207fffff1) with (at, 0x207ffffe0)
+    with (138, 0xffffffffffffffff) => (m2, 0xffffffffffffffff) => (m3, 0) ∷
+    row 1732 0x7ecb29ce with (5, 0x4692cf7) with (11, 1) with (150, 1) => (m1, 0x113f5fe) => (m2, 0)
+    => (m3, 0xd140cc95b2000000) ∷
+    row 1733 0x7ff6f1ce with (22, 0x7fffffffffffffff) with (30, 0x8000000204f93648)
+    with (159, 0xffffffffffffffffffffffffffffffff) => (m1, 0xff4a95620879c5ab)
+    => (m2, 0xffffffffffffffff) => (m3, 0xadffffffffffffff) ∷
+    row 1734 0x7ee001ce with (0, 0x416dcef) with (151, 0x80000000000000000000000000000000)
+    => (m0, 0) => (m1, 0x8000000000000000) ∷
+    row 1735 0x7ea211ce with (2, 0x8000000000000008) with (at, 1)
+    with (149, 0x7fffffffffffffffffffffffffffffff) => (m1, 0xff72fa71ce3fed79)
+    => (m2, 0xffffffffffffffff) => (m3, 0xb67fffffffffffff) ∷
+    row 1736 0x7f0841ce with (8, 0x8000000102282be4) with (152, 0x10000000000000000)
+    => (m0, 0xf7b680c17eac) => (m1, 0x1000000000000) => (m2, 0xb812000000000000) ∷
+    row 1737 0x7ce161ce with (1, 0xffffffff) with (12, 0x3046c2bf8) with (135, 0xffffffffffffffff)
+    => (m1, 0xffffffffffa975e5) => (m2, 0xffffff) => (m3, 0xde247df4ea000000) ∷
+    row 1738 0x7eb621ce with (4, 0x46af2df) with (22, 0) with (149, 0) => (m0, 0xfdc807ec565b5)
+    => (m1, 0) => (m2, 0xba00000000000000) ∷
+    row 1739 0x7ec701ce with (0, 0x8000000407fffff0) with (7, 0x8000000000000000)
+    with (at, 0x407ffffe0) with (150, 0xffffffffffffffffffffffffffffffff)
+    => (m2, 0xffffffffffffffff) => (m3, 0xffffffffffffffff) ∷
+    row 1740 0x7f5d91ce with (18, 0x3841158c9) with (29, 0x7fffffff)
+    with (154, 0x80000000000000000000000000000000) => (m1, 0x17ad) => (m2, 0)
+    => (m3, 0x3e114fff1b98000) ∷
+    row 1741 0x7c5559ce with (11, 0x48463a277) with (21, 0xffffffff80000000)
+    with (130, 0x7fffffffffffffffffffffffffffffff) => (m0, 0xffffff8aeb3d956b)
+    => (m1, 0xffffffffffffffff) => (m2, 0x18a4b77fffffffff) ∷
+    row 1742 0x7d2029ce with (0, 0xffffffffffffffff) with (5, 0x404ee343f)
+    with (137, 0x10000000000000000) => (m0, 0xb755a0) => (m1, 0x1000000) => (m2, 0x20851eb8a4000000)
+    ∷
+    row 1743 0x7f0f91ce with (15, 0x80000000) with (18, 0xffffffff80000010) with (at, 1)
+    with (152, 0xffffffffffffffff) => (m1, 0xff772d9b37ba52d6) => (m2, 0xffffffffffffff)
+    => (m3, 0xf00000000000000) ∷
+    row 1744 0x7d35a9ce with (21, 0x800000020200c298) with (137, 0) => (m0, 0x5e82) => (m1, 0)
+    => (m2, 0x85fa895ec9940000) ∷
+    row 1745 0x7ee201ce with (0, 0x7874c76b8f1877ca) => (m0, 0x54ef9c6ce519a72d)
+    => (m1, 0x1b2aa45cc5b0f938) => (m2, 0xdd5538da25c11f1a) ∷
+    row 1746 0x7ef339ce with (7, 0x87b39bcd64857e72) => (m0, 0x6712edfac936c800)
+    => (m1, 0xc85c786e77b671a4) => (m2, 0xa2cdf39f995db9b) ∷
+    row 1747 0x7e5e29ce with (5, 0xeaf3f2932fd83a8f) with (at, 0x207ffffe0)
+    => (m2, 0xaf98884504118e83) => (m3, 0xb378dce005fcce0b) ∷
+    row 1748 0x7e8d49ce with (9, 0x8991afb0015ee3f2) => (m1, 0x96872d8f78699fd7)
+    => (m2, 0xbc7dc39a3b148901) ∷
+    row 1749 0x7d0e01ce with (0, 0x614f3e4c861660b7) => (m1, 0xd52ea8d9ac94954d)
+    => (m2, 0xeb8e02e28837ae7) => (m3, 0x936eebf55cfae9d3) ∷
+    row 1750 0x7e8001ce with (0, 0x4042ce429) => (m1, 0xa2cae38dcb0ebf95)
+    => (m2, 0xc31cb001bfe09f73) => (m3, 0x937820407a4e43b3) ∷
+    row 1751 0x7d8a31ce with (6, 0xf4c7fa72a1229d17) with (at, 1) => (m1, 0xe25711658b6ac205)
+    => (m2, 0x576805df2038143b) => (m3, 0x9a00a794a5b76994) ∷
+    row 1752 0x7f0109ce with (1, 0x800000020237b056) => (m1, 0x7a6c1ba372589c9b)
+    => (m2, 0x3d349c899d5a1b61) => (m3, 0xa6bb2ae4c097d601) ∷
+    row 1753 0x7d3111ce with (2, 0xf887a161b0882153) => (m0, 0xb5bc72ee0dbf6e6f)
+    => (m1, 0x3f93ad9eccf5b1e0) ∷
+    row 1754 0x7fe249ce with (9, 0xafc063f9da449e11) => (m1, 0xa703b4704f2eda3e)
+    => (m2, 0x8f1516c6d5367cc9) => (m3, 0xa47f75cb848990f7) ∷
+    row 1755 0x7ee0e9ce with (29, 0x207fffff6) with (at, 0x207ffffe0) => (m2, 0xde792848a15cf7dc)
+    => (m3, 0xa3e0e1a233b60fd0) ∷
+    row 1756 0x7e0d31ce with (6, 0x366eacb55c5ec30f) => (m0, 0xcab03eb76573517a)
+    => (m1, 0x3379cdf618195396) ∷
+    row 1757 0x7f13f1ce with (30, 0x2410def2d4f98cbb) => (m1, 0x835c2580983e8bd9)
+    => (m2, 0xbe7b89c9dd4c2059) => (m3, 0x68dc94464e0e9bb9) ∷
+    row 1758 0x7da0b1ce with (22, 0x47d9755) => (m1, 0x9536d815f7c5775b) => (m2, 0x495ad27ddf0287dc)
+    => (m3, 0x72623f864887690e) ∷
+    row 1759 0x7f1961ce with (12, 0xd1d079551389c4fb) with (at, 1) => (m1, 0x8cab4ffcc9513b04)
+    => (m2, 0x395ea32665dd1c74) => (m3, 0x46be182d56e7e3c8) ∷
+    row 1760 0x7e98c1ce with (24, 0x202224a54) => (m1, 0xd322fcdb8d85d6d5)
+    => (m2, 0x95475c6f71b06937) => (m3, 0x7cc752a08b4ec38) ∷
+    row 1761 0x7d7319ce with (3, 0x44dd2eb85711e52b) => (m0, 0x74e882ef181106c1)
+    => (m1, 0x5c3f0212dd9a4308) => (m2, 0x46d0a9c5a5ad455e) ∷
+    row 1762 0x7f5ce1ce with (28, 0x8000000202765917) => (m1, 0x4e0d4ad57796ec)
+    => (m2, 0xd42ea8638d652397) => (m3, 0xbc31e0aec7aa0b08) ∷
+    row 1763 0x7e6a61ce with (12, 0x7ae0fb13ec413540) with (at, 0x7ffffe0)
+    => (m2, 0xddc80d13208dc6d2) => (m3, 0x5805ce043c224233) ∷
+    row 1764 0x7d43b9ce with (23, 0x7d34c33b30f45961) => (m1, 0x98408b84ca7e7c99)
+    => (m2, 0xcafbbd3a6f6f5fda) ∷
+    []) ∷
+    -- lvx
+    group 0x0 (
+    row 1765 0x7c9940ce with (8, 0x40efacf) with (25, 0) with (m1, 0)
+    => (132, 0xa94f4a0000000000000000cc9f68cc50) ∷
+    row 1766 0x7c8048ce with (0, 0x8000000000000000) with (9, 0x40435a310) with (m1, 0xffffffff)
+    => (132, 0xa4df00000000ffffffffda3cce0cc3fe) ∷
+    row 1767 0x7dfd80ce with (16, 0xffffffff80000012) with (29, 0x7fffffff)
+    with (m1, 0x7fffffffffffffff) with (at, 1) => (143, 0xbb0fb2b4c2c3096345aaef275cd29b7f) ∷
+    row 1768 0x7d9bd8ce with (27, 0x26b3b4c) with (m1, 1)
+    => (140, 0x43f571c4633c662c3fb3d87e00000000) ∷
+    row 1769 0x7ff768ce with (13, 0x40450a1b8) with (23, 0xffffffffffffffff)
+    with (m1, 0xffffffff7fffffff) => (159, 0xa65556b4cc33b3b688ffffffff7fffff) ∷
+    row 1770 0x7e0330ce with (3, 0x80000000) with (6, 0xffffffff84adbf90) with (m1, 0x80000000)
+    => (144, 0x86f55557b067e834f7035c6cb9000000) ∷
+    row 1771 0x7ebd30ce with (6, 0x487fffff2) with (29, 0xffffffff7fffffff)
+    with (m1, 0xffffffffffffffff) with (at, 0x407ffffe0) => (149, 0x799e99217828ee16662f484aeadfb12)
+    ∷
+    row 1772 0x7e6580ce with (5, 1) with (16, 0x404bb7e17) with (m1, 0xffffffff80000000)
+    => (147, 0x9d35a86192ffffffff80000000c95635) ∷
+    row 1773 0x7ca200ce with (0, 0x800000040416c978) with (2, 0x7fffffffffffffff)
+    with (m1, 0x7fffffff) => (133, 0x88eed785b97b97762c984ba03a000000) ∷
+    row 1774 0x7ec000ce with (0, 0x204ffb22f) with (m1, 0x8000000000000000)
+    => (150, 0xb7088000000000000000a836df87422d) ∷
+    row 1775 0x7ffc68ce with (13, 0x10) with (28, 1) with (m1, 1) with (at, 1)
+    => (159, 0x50181d34cfdd2ed0d4759bf08ca5fe00) ∷
+    row 1776 0x7c7ce0ce with (28, 0x80000001023d2de4) with (m1, 0xffffffff7fffffff)
+    => (131, 0xe47be62a6d1bffffffff7fffffffa612) ∷
+    row 1777 0x7c95b0ce with (21, 0xffffffff) with (22, 0xffffffff040c1ca8) with (m1, 0x80000000)
+    => (132, 0xb7710c600000000080000000e7eca0b6) ∷
+    row 1778 0x7d90e0ce with (16, 0) with (28, 0x404d6259f) with (m1, 0xffffffffffffffff)
+    => (140, 0x8ab4646083ccffffffffffffffffc2e9) ∷
+    row 1779 0x7e6b58ce with (11, 0x8000000103fffff8) with (m1, 0xffffffff80000000)
+    with (at, 0x207ffffe0) => (147, 0xe27d48d80caaadefd840160cecf8d35f) ∷
+    row 1780 0x7f1b20ce with (4, 0x184bdba49) with (27, 0x7fffffff) with (m1, 0x7fffffff)
+    => (152, 0x98dc5139fb19000000007fffffff36af) ∷
+    row 1781 0x7ec5c0ce with (5, 0xffffffff80000000) with (24, 0x84db4607)
+    with (m1, 0x8000000000000000) => (150, 0xe9123fafa800000000000000065cb8c) ∷
+    row 1782 0x7d2008ce with (0, 0xffffffffffffffff) with (1, 0x4043119df) with (m1, 0)
+    => (137, 0x8fbdfecbacb6d3030000000000000000) ∷
+    row 1783 0x7ddda8ce with (21, 0xffffffff80000010) with (29, 0x80000000) with (m1, 0xffffffff)
+    with (at, 1) => (142, 0x9751009f1301245b988deba3f2833300) ∷
+    row 1784 0x7cbce0ce with (28, 0x20242ccc8) with (m1, 0x7fffffffffffffff)
+    => (133, 0x9676d70b8b7fffffffffffffff17b9fa) ∷
+    row 1785 0x7e59f0ce with (30, 0x4248d785734924a1) => (146, 0xa425646c09c7bba873940378115f974f) ∷
+    row 1786 0x7e2880ce with (16, 0x79e0a082e34a92f0) => (145, 0x76426c3caf9aa4af088e8764a75e07df) ∷
+    row 1787 0x7d1500ce with (0, 0xd4342a9d7c509a53) with (at, 0x7ffffe0)
+    => (136, 0xdee6a5d4ec08d6ce6ba3354c1579b57c) ∷
+    row 1788 0x7ed870ce with (14, 0x4fed0db4f547b802) => (150, 0x9e71f868c6c1610daff074b1b2cdc290) ∷
+    row 1789 0x7cff98ce with (19, 0x46001ecea2f38a03) => (135, 0x3a693878d28e9ff901bb74325f8c16b2) ∷
+    row 1790 0x7f6000ce with (0, 0x404c9da1a) => (155, 0xf8cf073e3bf98960b89e51a65fe0fd2c) ∷
+    row 1791 0x7f2218ce with (3, 0x84742211bbe049c1) with (at, 1)
+    => (153, 0x4f04d8f38c2eecf34a0406418e6a3a38) ∷
+    row 1792 0x7fac60ce with (12, 0x80000000027c1800) => (157, 0xd8bc4e67f1b9b3cb350ee70d205721ea) ∷
+    row 1793 0x7feed0ce with (26, 0x366d156637136684) => (159, 0xebe665963c2c7d8dd584788e0c3e354f) ∷
+    row 1794 0x7cb5b0ce with (22, 0xeff31c1ee9ee505b) => (133, 0x3b071afb9b8e9e5da34b7be50acf6486) ∷
+    row 1795 0x7d7980ce with (16, 0x150bd9a62ad776a) with (at, 0x7ffffe0)
+    => (139, 0x31a43b4ab59d097ef6ddaa2e2830a16b) ∷
+    row 1796 0x7fb9a8ce with (21, 0xa0a16f1e24cf84a4) => (157, 0x4b9af8ea93b09a2e16580c2d41ff44d3) ∷
+    row 1797 0x7f2b08ce with (1, 0x30decd21bf5058e4) => (153, 0x56568dd31dc9efd6216a66a45193ed65) ∷
+    row 1798 0x7d0028ce with (5, 0x4749daf) => (136, 0xe7361797286d89e734567d0ea17b6b49) ∷
+    row 1799 0x7d8728ce with (5, 0xd79d392f4ef8f01a) with (at, 1)
+    => (140, 0x8cb668323b6684ac8177d7c9605b1188) ∷
+    row 1800 0x7cc318ce with (3, 0x1023e64da) => (134, 0x85dc56d265dd39df0ad7ce928d3be960) ∷
+    row 1801 0x7c9598ce with (19, 0xba6093e24f2b510d) => (132, 0xa5f3a0f4db6bbfed48d04ae66dbfc0d1) ∷
+    row 1802 0x7ebe28ce with (5, 0x1ca4d1610a0b04f3) => (149, 0xd21f09e6a70f5a5e04b103ea08d21734) ∷
+    row 1803 0x7e7948ce with (9, 0x68652e088ad9aec0) with (at, 0x207ffffe0)
+    => (147, 0x583043b5696745ffb46374db251d972c) ∷
+    row 1804 0x7f9498ce with (19, 0xe15b5b2442e49332) => (156, 0xc6de64bb21330294f6c0596cbd848691) ∷
+    []) ∷
+    []
+
+unfoldable pub ppc64_savegpr0 : Functions
+ppc64_savegpr0 =
+    -- _savegpr0_N
+    functions
+    (0xf9c1ff70 ∷ 0xf9e1ff78 ∷ 0xfa01ff80 ∷ 0xfa21ff88 ∷ 0xfa41ff90 ∷ 0xfa61ff98 ∷ 0xfa81ffa0 ∷
+    0xfaa1ffa8 ∷ 0xfac1ffb0 ∷ 0xfae1ffb8 ∷ 0xfb01ffc0 ∷ 0xfb21ffc8 ∷ 0xfb41ffd0 ∷ 0xfb61ffd8 ∷
+    0xfb81ffe0 ∷ 0xfba1ffe8 ∷ 0xfbc1fff0 ∷ 0xfbe1fff8 ∷ 0xf8010010 ∷ 0x4e800020 ∷ []) (
+    row 1805 14 with (1, 0x404ea2558) with (64, 0x201bedd5a) => (pc, 0x201bedd58)
+    => (162, 0xce7e681748205366) => (163, 0x3c6f8db1c7214083) => (164, 0xc63e4c559d990949)
+    => (165, 0x6beaa402cb87adb8) => (166, 0x2d7494b950ed2dcf) => (167, 0xadc1e792dc98990)
+    => (168, 0x4214142621cc0f9) => (169, 0x1943fd14ede6d40b) => (170, 0x4a4451f0d127c2c6)
+    => (171, 0x97223fd60bdf8d2a) => (172, 0xffddc6c49e0e3337) => (173, 0x8476e6bc87b3b4ed)
+    => (174, 0x24ed9fbdc8d0124b) => (175, 0xe141f1c861634b52) => (176, 0xb973dcdc516d6002)
+    => (177, 0xad8360f998ee505b) => (178, 0xbd707e2037e61c5d) => (179, 0xe93b34502e54c408)
+    => (182, 0xc490fc7935d3740e) ∷
+    row 1806 15 with (1, 0x207ffffe8) with (64, 0x201badd83) with (at, 0x207ffff30)
+    => (pc, 0x201badd80) => (166, 0xede162d1f1509e25) => (167, 0xbfdef6f33ea40fc4)
+    => (168, 0xadba241de36e5d0b) => (169, 0xb772ea51dfaf85fa) => (170, 0xdd09498f33678a93)
+    => (171, 0x1e7d41d5de966ad5) => (172, 0x7bced325e13c26bf) => (173, 0xf4fdfd7f3b58be52)
+    => (174, 0x8a0ac0e1ecec318e) => (175, 0x3af51d4df5f68073) => (176, 0x7bd12c35677ab01)
+    => (177, 0xf062a1420e6fb137) => (178, 0xf4e5c8ca1dde9317) => (179, 0x1546895b84c4509f)
+    => (180, 0x951d7cb84320e9d0) => (181, 0x8ebc8c8658f45eaa) => (182, 0xa439355dc63eaf2d)
+    => (185, 0xafe5713f6923ed07) ∷
+    row 1807 16 with (1, 0x4045b9775) with (64, 0x40153af05) => (pc, 0x40153af04)
+    => (164, 0x112e8da7bb57ee66) => (165, 0xe8bbad79d6fde485) => (166, 0xdc2666554a1ab64d)
+    => (167, 0xeb6eb83a14ae63bd) => (168, 0x1694a32836b8ecd7) => (169, 0x5d98271fb03a519a)
+    => (170, 0xc079442081329205) => (171, 0x3f37fa2aa9a1ae19) => (172, 0xd9d4493e2987a5d6)
+    => (173, 0x904e315b00e4793c) => (174, 0x62a5b2812fb8284b) => (175, 0x50daccb0b602b302)
+    => (176, 0x5aed7fe993c41963) => (177, 0x80ddcc2bc8fc5b6c) => (178, 0xc2abb17755ab791e)
+    => (179, 0x20572fcc39d17279) => (182, 0xeb3a677c781d3e26) ∷
+    row 1808 17 with (1, 0x40468bc97) with (64, 0x2007dedd8) => (pc, 0x2007dedd8)
+    => (165, 0x36eb9e82a6364426) => (166, 0x72852cdb902ebec6) => (167, 0xc9fc543dd19e150f)
+    => (168, 0x3d5114a96a844701) => (169, 0xcc836e1e5ae1549c) => (170, 0x7793609ca2b53ddf)
+    => (171, 0xbf412aea420002cc) => (172, 0x438f6ca538c1a361) => (173, 0xe3bb476986fa1f9f)
+    => (174, 0x9fc4bb372ca97786) => (175, 0x77abc80e29cfab15) => (176, 0x6b706dee7e6cba4e)
+    => (177, 0x7b12acd82a80a52f) => (178, 0xa69284cb2e0b6bba) => (179, 0xedeff5c7890d0ded)
+    => (182, 0xe929a13062bf676d) ∷
+    row 1809 18 with (1, 0x4ae29c7) with (64, 0x400b275a3) => (pc, 0x400b275a0)
+    => (166, 0xa9d36dccb1eb9f67) => (167, 0xeafc87d66a369e88) => (168, 0x48033ae979f87952)
+    => (169, 0xc0e78705e1312fc5) => (170, 0x55a96c2b9fe0c1e1) => (171, 0x648ea5ab6072fa5)
+    => (172, 0xd2c6019323a47913) => (173, 0xbb20b1d4e8b89e29) => (174, 0xbf58fb2005439ee8)
+    => (175, 0xdf6edd7479457b50) => (176, 0x1b6258d244be3360) => (177, 0x73336d3967adc71a)
+    => (178, 0xe6e21aa9e214367c) => (179, 0x766e6123b3f18188) => (182, 0x30df085b290a68db) ∷
+    row 1810 19 with (1, 0x7ffffe8) with (64, 0x200af2209) with (at, 0x7ffff30) => (pc, 0x200af2208)
+    => (170, 0xd6d8b2e5de780029) => (171, 0x1d9158a0651583cb) => (172, 0x802797644329e316)
+    => (173, 0xfe9b6f3178b51e09) => (174, 0x98ece00805b734a6) => (175, 0x4f1be9e7ea3026ec)
+    => (176, 0x21288cd1261ff4da) => (177, 0xf12c8c3b9869e71) => (178, 0x18da9dbfa46423b1)
+    => (179, 0x3e800bc4e6b8849a) => (180, 0x800312d38083c12c) => (181, 0xdd63b2eb71c5d966)
+    => (182, 0x56a1ec0cba7ecd4a) => (185, 0x416906fccafe4271) ∷
+    row 1811 20 with (1, 0xa1) with (64, 0xa2c5f7) with (at, 1) => (pc, 0xa2c5f4)
+    => (168, 0x986d08862bdb666a) => (169, 0x43321cc780cb6e8d) => (170, 0x9d4ca122d325259)
+    => (171, 0xec551066311011ce) => (172, 0xeab2efc38c64acec) => (173, 0x4ee682a3f3023b2)
+    => (174, 0x3b07799a49727622) => (175, 0x8cfe2413ab2ba43a) => (176, 0xfad26796645badfb)
+    => (177, 0x8484442275029365) => (178, 0x2a13b9b7dd205478) => (179, 0xeb80c8569cb4f133)
+    => (182, 0x1ccefd15489af42d) ∷
+    row 1812 21 with (1, 0x4042576f8) with (64, 0x400c8c88c) => (pc, 0x400c8c88c)
+    => (169, 0x150cf2139a15d22d) => (170, 0xc5619205bd585ed1) => (171, 0x9193cb013811c71e)
+    => (172, 0x79a39d060a420b13) => (173, 0x7d91081433e92ab2) => (174, 0x9d5c0c2bb50725fa)
+    => (175, 0xd904a94c8d9bfcea) => (176, 0x308adf76bda7af83) => (177, 0xa3eeaeaa452a3dc5)
+    => (178, 0x333016e72423a7b0) => (179, 0xde4f182d5a93ed44) => (182, 0xb8a3a2a4a1e07e11) ∷
+    row 1813 22 with (1, 0x4f6af07) with (64, 0x400d04aa8) => (pc, 0x400d04aa8)
+    => (170, 0xdcfb5dd42927436f) => (171, 0xf15c6c4d1abc5494) => (172, 0x219b13cf63c84162)
+    => (173, 0x6db7545b044b09d9) => (174, 0xd5b12deffc44adf9) => (175, 0xefe725fc4bb52dc1)
+    => (176, 0x311f4ecdf29c8933) => (177, 0x8e3510a8f0fac04d) => (178, 0x7286b8d46cfd310)
+    => (179, 0x9bf95f7af41bc17c) => (182, 0xa6a45daad6cee01c) ∷
+    row 1814 23 with (1, 0x207ffffe8) with (64, 0x2002b0a54) with (at, 0x207ffff30)
+    => (pc, 0x2002b0a54) => (174, 0xa935ebd5d90fba32) => (175, 0xc32685ff98f74fd8)
+    => (176, 0xf8f4b932b055c127) => (177, 0x4aa0856f1f2b0e1f) => (178, 0xb829eab4e57736c0)
+    => (179, 0x4190e904033a3b09) => (180, 0xe6d5805c78741afc) => (181, 0xa7f7b0be4524d697)
+    => (182, 0x84f77a29694c6ddb) => (185, 0x4ed97427e7661a4f) ∷
+    row 1815 24 with (1, 0x40441f74a) with (64, 0x4003e6f79) => (pc, 0x4003e6f78)
+    => (172, 0x2f8defa6a9cf3676) => (173, 0x4f0e15813809509d) => (174, 0x8a6bd4651dba466d)
+    => (175, 0xe1a72c525ae217e6) => (176, 0x54c01d48ef80c507) => (177, 0xe3b6a748db964dd2)
+    => (178, 0x8e8aca521f22b245) => (179, 0x553c8664ba25f261) => (182, 0x4f74f41bd3a62ca8) ∷
+    row 1816 25 with (1, 0x204bc0780) with (64, 0x20189642e) => (pc, 0x20189642c)
+    => (173, 0x9353a02c9b65b83a) => (174, 0x16e0348df7f256e2) => (175, 0xb64a61f8abf5d133)
+    => (176, 0x7192286cb770272d) => (177, 0x48b787ea1a6158cf) => (178, 0x3bba8070d4c9661b)
+    => (179, 0x4a9b1200e6a84f0f) => (182, 0x40a7b869b8f1729) ∷
+    row 1817 26 with (1, 0x204c3b518) with (64, 0x1acceb2) => (pc, 0x1acceb0)
+    => (174, 0x69464871add33f7e) => (175, 0xf2626883d8b262a7) => (176, 0x975c219f5b086179)
+    => (177, 0x583373c434d53bf4) => (178, 0x34e85ef26618f218) => (179, 0x2d7ae329eed383e4)
+    => (182, 0x1740c0683f20d9d2) ∷
+    row 1818 27 with (1, 0x207ffffe8) with (64, 0x200e0b49b) with (at, 0x207ffff30)
+    => (pc, 0x200e0b498) => (178, 0xd3660f17e117cc43) => (179, 0xc08e9db0da4973ed)
+    => (180, 0xc994c5532af1f740) => (181, 0xee7885fed311563c) => (182, 0xdb36abc9d2a790e0)
+    => (185, 0xf552fcc0be5b74a1) ∷
+    row 1819 28 with (1, 0x4047be86f) with (64, 0x201d093ee) => (pc, 0x201d093ec)
+    => (176, 0xf8f35bd135335e88) => (177, 0xebab761afcb78ab3) => (178, 0xfa41296e1bb29287)
+    => (179, 0x24b475ca92247604) => (182, 0xfe07c290193ee798) ∷
+    row 1820 29 with (1, 0x481c384) with (64, 0x152f39e) => (pc, 0x152f39c)
+    => (177, 0xd89e1e59aa25f64e) => (178, 0xd0e5c4543ffca6fa) => (179, 0xe50b03582d4a334f)
+    => (182, 0xeeb4c3d64fcb32b6) ∷
+    row 1821 30 with (1, 0x2046a9150) with (64, 0x2003234c6) => (pc, 0x2003234c4)
+    => (178, 0xde9529c53fef9394) => (179, 0x3ae93e46a418c8c1) => (182, 0x3c9fa93620055fb) ∷
+    row 1822 31 with (1, 0x207ffffe8) with (64, 0x2019da5ea) with (at, 0x207ffff30)
+    => (pc, 0x2019da5e8) => (182, 0xdda90c1f690365a) => (185, 0x711c0c74fde5168) ∷
+    [])
+
+unfoldable pub ppc64_restgpr0 : Functions
+ppc64_restgpr0 =
+    -- _restgpr0_N
+    functions
+    (0xe9c1ff70 ∷ 0xe9e1ff78 ∷ 0xea01ff80 ∷ 0xea21ff88 ∷ 0xea41ff90 ∷ 0xea61ff98 ∷ 0xea81ffa0 ∷
+    0xeaa1ffa8 ∷ 0xeac1ffb0 ∷ 0xeae1ffb8 ∷ 0xeb01ffc0 ∷ 0xeb21ffc8 ∷ 0xeb41ffd0 ∷ 0xeb61ffd8 ∷
+    0xeb81ffe0 ∷ 0xeba1ffe8 ∷ 0xebc1fff0 ∷ 0xebe1fff8 ∷ 0xe8010010 ∷ 0x7c0803a6 ∷ 0x4e800020 ∷
+    []) (
+    row 1823 14 with (1, 0x48fafbb) with (182, 0xa761f5) => (0, 0xa761f5)
+    => (14, 0xd9dee18a02d427dc) => (15, 0x4c631ba96dfdf1c8) => (16, 0xdac4eed2309e975e)
+    => (17, 0x85045b044ab6189d) => (18, 0x4b21603fbc447584) => (19, 0x2d1bfe848549ae14)
+    => (20, 0x2af435d2a5c5c24d) => (21, 0x44aa062a1db8b22f) => (22, 0x67fce36eed227dba)
+    => (23, 0x5af10303140324ee) => (24, 0x69c2bba0925aa7ca) => (25, 0x94720d476829064f)
+    => (26, 0xdafef7f7956e407e) => (27, 0x3d697bb11a2a5655) => (28, 0xbbb19873f65d47d4)
+    => (29, 0x55d74e402a0714fd) => (30, 0xbda9d15b527bdcf) => (31, 0xddbb84f497bf4249)
+    => (64, 0xa761f5) => (pc, 0xa761f4) ∷
+    row 1824 15 with (1, 0x407ffffe8) with (at, 0x407ffff30) with (185, 0x200c91ac8)
+    => (0, 0x200c91ac8) => (15, 0x79f915f873e39d69) => (16, 0x45a5a6e4b3c47ed1)
+    => (17, 0x2d2fd0da4b1c3be2) => (18, 0x309793d939ead49c) => (19, 0x4fdcefe1803048ff)
+    => (20, 0x8affe4f31dec990b) => (21, 0xe200730e131fc4c0) => (22, 0x54de9a325fc9cc1d)
+    => (23, 0xe39a5a6003eaaf23) => (24, 0x8e33b396ff826dd3) => (25, 0x54aaa5d75291082b)
+    => (26, 0x36ff3120fd167e2b) => (27, 0x35315573ff12cfd5) => (28, 0x4f4112d05885fd28)
+    => (29, 0x852e693609700623) => (30, 0xd6f958a511d0eac7) => (31, 0x44a1e11d71a8ab14)
+    => (64, 0x200c91ac8) => (pc, 0x200c91ac8) ∷
+    row 1825 16 with (1, 0x404409904) with (182, 0x1bae899) => (0, 0x1bae899)
+    => (16, 0x31a16e34a0171bee) => (17, 0xda2bd89da7e5eedd) => (18, 0x73acc328072b9d75)
+    => (19, 0x290b46bbbde827b5) => (20, 0xfa476358cc1b8d9f) => (21, 0xe76118ff31c5cf31)
+    => (22, 0xf05867aeeee6ec6c) => (23, 0x152d4f68037ee550) => (24, 0x55dfd02a6f8db9dd)
+    => (25, 0xb26fe9f633136a12) => (26, 0x2add9ccb4e0ff5f1) => (27, 0xbf28e8a9c0835d78)
+    => (28, 0x6f51cd918a6da0a8) => (29, 0x3b584b82abcebf81) => (30, 0x233c627d24a6ba03)
+    => (31, 0x26fe1280f4f5902e) => (64, 0x1bae899) => (pc, 0x1bae898) ∷
+    row 1826 17 with (1, 0x4ed79bd) with (182, 0x69a97a) => (0, 0x69a97a)
+    => (17, 0x65822a8a9ffb1e38) => (18, 0x4731ea92761c75a8) => (19, 0x44bf43a3a3b4a8c0)
+    => (20, 0x5e2a35be28c3b782) => (21, 0x9372c0e20549a1ec) => (22, 0xe498e50f39466800)
+    => (23, 0x519ca245c4ba09bc) => (24, 0xda7df885a7a48721) => (25, 0x7f3ce7cee205e02e)
+    => (26, 0x3fd9702173de14e5) => (27, 0x1c53917d5d2d2544) => (28, 0x14ab4be29df3114d)
+    => (29, 0x28e09f51362fd8fe) => (30, 0x58f38bc925e37c58) => (31, 0xa4e4114a6d0dfb5b)
+    => (64, 0x69a97a) => (pc, 0x69a978) ∷
+    row 1827 18 with (1, 0x427f7d8) with (182, 0x401b02bcb) => (0, 0x401b02bcb)
+    => (18, 0x53805cafc0b62602) => (19, 0x3abfa868652a01f3) => (20, 0x3ddc8d2a6114b98d)
+    => (21, 0x5cd70af5b4764ccf) => (22, 0x97af21ca5f4ebbbb) => (23, 0xee64d1a8619e064f)
+    => (24, 0x60f81a8fbb642c8c) => (25, 0xef68fc806ca12e72) => (26, 0x99b7777a75550c01)
+    => (27, 0x5fe38b7dd57fc538) => (28, 0x41ed388a8d215a19) => (29, 0x3fd47ea09c39caa2)
+    => (30, 0x59995dc002c916d4) => (31, 0x8f3bd5e8c0cf3eaf) => (64, 0x401b02bcb)
+    => (pc, 0x401b02bc8) ∷
+    row 1828 19 with (1, 0x407ffffe8) with (at, 0x407ffff30) with (185, 0xc509e2) => (0, 0xc509e2)
+    => (19, 0x9850101860ffe79d) => (20, 0x37349573da2adb09) => (21, 0xf1f6b3d8aaccaa1f)
+    => (22, 0xc8966b46d2e554dd) => (23, 0xbe71764a5274db44) => (24, 0x6e4f7cf5297b3d53)
+    => (25, 0x3a0b1ca957f87b0c) => (26, 0x21a45566ddec946d) => (27, 0x251b272dbb578978)
+    => (28, 0x446f91fdf0395a2b) => (29, 0x7fa195d77c920687) => (30, 0xd6b132ba60618e8c)
+    => (31, 0x499e68a69ba7f239) => (64, 0xc509e2) => (pc, 0xc509e0) ∷
+    row 1829 20 with (1, 0xa1) with (at, 1) with (182, 0x816d9c) => (0, 0x816d9c)
+    => (20, 0xa06cecd764b14618) => (21, 0xf14832c7a5ca2b0b) => (22, 0x5e0111c13e59eba7)
+    => (23, 0xe69789c42e6087eb) => (24, 0x8b0b9ad075ddffd9) => (25, 0x4b5d44e614d2536f)
+    => (26, 0x278c88050b3d82ae) => (27, 0x1f99642d591f8d96) => (28, 0x3383d95efe787426)
+    => (29, 0x634be799fb483660) => (30, 0xaef18ede4f8ed443) => (31, 0x1674cf2bfb4c4dce)
+    => (64, 0x816d9c) => (pc, 0x816d9c) ∷
+    row 1830 21 with (1, 0x404d3cd21) with (182, 0x200de221c) => (0, 0x200de221c)
+    => (21, 0x9823393fe7f15e64) => (22, 0xee8e0ae0f75cc7d7) => (23, 0x60d6758b5e3f0cf4)
+    => (24, 0xeefc793f1c982dba) => (25, 0x990015fc32682a28) => (26, 0x5ee14bc29faf023f)
+    => (27, 0x40a01a92646cb5ff) => (28, 0x3e3c826b80a14568) => (29, 0x57b6834df44cb07a)
+    => (30, 0x8d0e1d39bf6ef735) => (31, 0xde43502ee2081998) => (64, 0x200de221c)
+    => (pc, 0x200de221c) ∷
+    row 1831 22 with (1, 0x20444c0c6) with (182, 0x400e9073e) => (0, 0x400e9073e)
+    => (22, 0x434e37938c087c30) => (23, 0xfdc577bb69c66a24) => (24, 0xd41a50ec9efb33c2)
+    => (25, 0xc64cc3272ba6d909) => (26, 0xd45cce6b0fc959f8) => (27, 0xfe4a72b84b62b690)
+    => (28, 0x4415b00ede72eed1) => (29, 0xa5be866ec8fa02bb) => (30, 0x2344f5d80af7f24e)
+    => (31, 0xbca8fe4aa46cbd8a) => (64, 0x400e9073e) => (pc, 0x400e9073c) ∷
+    row 1832 23 with (1, 0x407ffffe8) with (at, 0x407ffff30) with (185, 0x1cd5eca) => (0, 0x1cd5eca)
+    => (23, 0x1e4c57165b8c89d8) => (24, 0x31ebee0b0e018f48) => (25, 0x61691e0917ed7062)
+    => (26, 0xacc3e71079502d24) => (27, 0x13fc49213229c58f) => (28, 0x9712443b427a39a2)
+    => (29, 0x3605d85eaa41895f) => (30, 0xf0d7058b697fb4c4) => (31, 0xc785cbc18034bbd3)
+    => (64, 0x1cd5eca) => (pc, 0x1cd5ec8) ∷
+    row 1833 24 with (1, 0x2047a2ae1) with (182, 0x201726b10) => (0, 0x201726b10)
+    => (24, 0x3c243ce436bbc849) => (25, 0x60377743b11ebf40) => (26, 0xa0284aac82f891df)
+    => (27, 0xfbf6b71eac494028) => (28, 0x73a2bc9a2d10ca19) => (29, 0x72c5b1f054f2fb3)
+    => (30, 0xcf8f93e1350470f7) => (31, 0x3c5781a2bc308de2) => (64, 0x201726b10)
+    => (pc, 0x201726b10) ∷
+    row 1834 25 with (1, 0x20493f6ad) with (182, 0x200ee4db2) => (0, 0x200ee4db2)
+    => (25, 0xd30fd2353d57f696) => (26, 0xfcb29845860d720e) => (27, 0x4232f75f2639c92f)
+    => (28, 0xa390ef821ddcfbf8) => (29, 0x20cc80ae6cf70a6a) => (30, 0xb9e5aae41387f486)
+    => (31, 0x6edc6e23118fba4a) => (64, 0x200ee4db2) => (pc, 0x200ee4db0) ∷
+    row 1835 26 with (1, 0x204e60a86) with (182, 0x401193075) => (0, 0x401193075)
+    => (26, 0x2418dd5564cb2a64) => (27, 0x534b2f167bd32a5d) => (28, 0x9e5b19e0ea5205fe)
+    => (29, 0x5489db4b047bd49) => (30, 0x8813ba91cdb4503c) => (31, 0x26bc70784297bed8)
+    => (64, 0x401193075) => (pc, 0x401193074) ∷
+    row 1836 27 with (1, 0x407ffffe8) with (at, 0x407ffff30) with (185, 0x400b0d473)
+    => (0, 0x400b0d473) => (27, 0x7eca42826389841a) => (28, 0x65a1cde64f489b8e)
+    => (29, 0x6856f253927e8eab) => (30, 0x86e9afca2d2b5d72) => (31, 0xc15a064a1f4f07e0)
+    => (64, 0x400b0d473) => (pc, 0x400b0d470) ∷
+    row 1837 28 with (1, 0x4ddb50a) with (182, 0x511bfc) => (0, 0x511bfc)
+    => (28, 0x1218e6231636a280) => (29, 0xaae7321bc9e3ab7b) => (30, 0x5f93171dd507901f)
+    => (31, 0x301c952937a2506b) => (64, 0x511bfc) => (pc, 0x511bfc) ∷
+    row 1838 29 with (1, 0x4042df65f) with (182, 0x4de643) => (0, 0x4de643)
+    => (29, 0x65cf557ca02ee6cf) => (30, 0x62aa0ffc222e744b) => (31, 0x7b626384fba4dd70)
+    => (64, 0x4de643) => (pc, 0x4de640) ∷
+    row 1839 30 with (1, 0x4040bd517) with (182, 0x201638efe) => (0, 0x201638efe)
+    => (30, 0x560da9854afe309f) => (31, 0x5877efb59b50429c) => (64, 0x201638efe)
+    => (pc, 0x201638efc) ∷
+    row 1840 31 with (1, 0x207ffffe8) with (at, 0x207ffff30) with (185, 0x201b3eb0d)
+    => (0, 0x201b3eb0d) => (31, 0x6befb41c78f6d662) => (64, 0x201b3eb0d) => (pc, 0x201b3eb0c) ∷
+    [])
+
+unfoldable pub ppc64_savegpr1 : Functions
+ppc64_savegpr1 =
+    -- _savegpr1_N
+    functions
+    (0xf9ccff70 ∷ 0xf9ecff78 ∷ 0xfa0cff80 ∷ 0xfa2cff88 ∷ 0xfa4cff90 ∷ 0xfa6cff98 ∷ 0xfa8cffa0 ∷
+    0xfaacffa8 ∷ 0xfaccffb0 ∷ 0xfaecffb8 ∷ 0xfb0cffc0 ∷ 0xfb2cffc8 ∷ 0xfb4cffd0 ∷ 0xfb6cffd8 ∷
+    0xfb8cffe0 ∷ 0xfbacffe8 ∷ 0xfbccfff0 ∷ 0xfbecfff8 ∷ 0x4e800020 ∷ []) (
+    row 1841 14 with (12, 0x404706aae) with (64, 0x20112cbf9) => (pc, 0x20112cbf8)
+    => (162, 0x7b74f691169b082) => (163, 0x3a7cc1f0474e5c05) => (164, 0x891fcd80d4a9e330)
+    => (165, 0xf3a0721ab97c4604) => (166, 0x79feafbdf5c58482) => (167, 0x1c3a866a89859ea8)
+    => (168, 0xda53f62074bc9477) => (169, 0xb44afedfb76a65ee) => (170, 0xaa1fa0a8518f130f)
+    => (171, 0x23548440432a9bd8) => (172, 0xf26775458c3d004b) => (173, 0xdd57ff542cc64066)
+    => (174, 0xe426226c24c65c2a) => (175, 0x6d1de8d743d5396) => (176, 0x455b33b81b2b26ac)
+    => (177, 0x9fc221ec198fd56b) => (178, 0x1606a9296f6b5fd2) => (179, 0xa828c9701cbdc5e2) ∷
+    row 1842 15 with (12, 0x407ffffe8) with (64, 0x400c6c4bc) with (at, 0x407ffff30)
+    => (pc, 0x400c6c4bc) => (166, 0xaf77c53d553c1f2d) => (167, 0xe7ccc37559734f31)
+    => (168, 0x3bff5ab6b5215add) => (169, 0xac0f8b0168464232) => (170, 0x37fd545572e20531)
+    => (171, 0xdfc8b6b2d4f4a3d8) => (172, 0xa371b2198e7e1e28) => (173, 0x82f846899f7e7420)
+    => (174, 0x7e5c740307f5a5c2) => (175, 0x959e3a85c7e3b30c) => (176, 0xc8bd9a11df489c00)
+    => (177, 0x17ba92a74e24609c) => (178, 0x82952446147700e1) => (179, 0x94d4eee32407cce)
+    => (180, 0xabe3129fa780d465) => (181, 0x6a566f5a743807a4) => (182, 0x44a7651e9866168d) ∷
+    row 1843 16 with (12, 0x204b6207a) with (64, 0x200d38f8e) => (pc, 0x200d38f8c)
+    => (164, 0xe2e8040b9e59358) => (165, 0x4f3a3ac98c6f47dd) => (166, 0xa8fc5dbbb66fd80b)
+    => (167, 0x1e9c19b737e743e1) => (168, 0xb0196ebc10d58b60) => (169, 0x5d745cca413aae88)
+    => (170, 0x26ace3e1c916ad59) => (171, 0xbc30402a86987d3) => (172, 0xcb6bd2cdf333df5)
+    => (173, 0x29880f606d73cfc1) => (174, 0x6236fa9d532b3d35) => (175, 0xb6c37ee390598652)
+    => (176, 0x272d9c3324feab18) => (177, 0xb375528c111aab87) => (178, 0x5b9aa1ee54ad879e)
+    => (179, 0x1f9d8a59efb73f5f) ∷
+    row 1844 17 with (12, 0x402bcc9) with (64, 0x2018056b0) => (pc, 0x2018056b0)
+    => (165, 0x5899a893f660d04) => (166, 0xa77a92f8e042460a) => (167, 0x65492471d8955ab8)
+    => (168, 0x3ef54ef4285f4b10) => (169, 0x347f127fcfa01710) => (170, 0x45e66f14ce57beb9)
+    => (171, 0x732b64b32486420b) => (172, 0xbc4df35ad22ba106) => (173, 0x214e1b0bd747dba9)
+    => (174, 0xa22bdbc633daf1f6) => (175, 0x3ee73589e7e4e3eb) => (176, 0xf7802856f365b189)
+    => (177, 0xcbf6b42d565d5ad0) => (178, 0xbc4ad90d10cbdfc0) => (179, 0xc87c96f622b14058) ∷
+    row 1845 18 with (12, 0x487a125) with (64, 0xe956da) => (pc, 0xe956d8)
+    => (166, 0xb7022aa0e5bd8c31) => (167, 0x5e82aec154ec49b7) => (168, 0x21e0cbeb1b91e2e7)
+    => (169, 0x11c821e39ae57bf) => (170, 0xfc35d15aaf41a840) => (171, 0x132cb9a07c4bd46a)
+    => (172, 0x46013aefa0ccdc3d) => (173, 0x94b355481cc4bfb9) => (174, 0xff4308a9f0337edd)
+    => (175, 0x85b055151b1919ab) => (176, 0x27fb3a899d759021) => (177, 0xe623b9077748e240)
+    => (178, 0xc029d08ea8931008) => (179, 0xb60d811f31541979) ∷
+    row 1846 19 with (12, 0x407ffffe8) with (64, 0x1569ba) with (at, 0x407ffff30) => (pc, 0x1569b8)
+    => (170, 0xb1902a69acec10dd) => (171, 0xbd1d1d10ea6d52e5) => (172, 0xe487a8c17f657095)
+    => (173, 0x27cfcd7b6bd469ef) => (174, 0x86f58b3eafba3ef1) => (175, 0x1f8e20b4b16ef9c)
+    => (176, 0x98d9d1e13dea7bf0) => (177, 0x27362d048834e3ec) => (178, 0x97556c1729f62792)
+    => (179, 0x23524433232e46e0) => (180, 0xcb2cb55873dd41d8) => (181, 0x8ee4bf871c031878)
+    => (182, 0x6e7a62bf1b9fcac1) ∷
+    row 1847 20 with (12, 0xa1) with (64, 0x124f300) with (at, 1) => (pc, 0x124f300)
+    => (168, 0xb2a35ef594f19b0a) => (169, 0xc3bfdd4da0c56193) => (170, 0xf0b9f4af041003c4)
+    => (171, 0x3991a519bed1819f) => (172, 0x9e46ee8dd109db22) => (173, 0x1ed9d10b3ab9104e)
+    => (174, 0xbb4a4c91fbdf2123) => (175, 0x73986122147c0da1) => (176, 0x47c40ebb848fd5c7)
+    => (177, 0x37cd555e4c1a7997) => (178, 0x43b4350a6b1bf90f) => (179, 0x6b78adbfe1945430) ∷
+    row 1848 21 with (12, 0x40412a931) with (64, 0x2011157b8) => (pc, 0x2011157b8)
+    => (169, 0x6dd409509dce2ab8) => (170, 0x8480135977f475c2) => (171, 0xb709b66ba9919c74)
+    => (172, 0x570f28732a59ecf) => (173, 0x6fb5c7ac13307cd4) => (174, 0xf5d835da4b323681)
+    => (175, 0x97d83d11daaacbd6) => (176, 0x55b5dd52c19a3cd5) => (177, 0x2f71169d0000897d)
+    => (178, 0x2509e8f095ddb1cd) => (179, 0x3680544d8331b5c6) ∷
+    row 1849 22 with (12, 0x20423586c) with (64, 0x201dc17b3) => (pc, 0x201dc17b0)
+    => (170, 0x4394ddec781bfe6) => (171, 0x7ef1c66e6ffa8f70) => (172, 0x1587d8076fea3aa4)
+    => (173, 0xc7fb82a9c750c180) => (174, 0x964cc655762e2405) => (175, 0x807ba30a7c826233)
+    => (176, 0x868818c8da4d7c0a) => (177, 0xa87227908f8f718a) => (178, 0xe639cf619c4842b3)
+    => (179, 0x3fdf103c0077ef84) ∷
+    row 1850 23 with (12, 0x407ffffe8) with (64, 0x20169e842) with (at, 0x407ffff30)
+    => (pc, 0x20169e840) => (174, 0xf049cae120c5a94) => (175, 0x8f4ca0ee88d7aea0)
+    => (176, 0x2b723e385719de54) => (177, 0xe375748b7cd2e9b2) => (178, 0xb75643e7fa02d0b8)
+    => (179, 0xa714ac4dcea99367) => (180, 0xb2b0adbcfac731bf) => (181, 0xda2a48357e5babbf)
+    => (182, 0x1d817bb759670169) ∷
+    row 1851 24 with (12, 0x204ed8f09) with (64, 0x4016e1874) => (pc, 0x4016e1874)
+    => (172, 0xabc3f75c7d6dfac3) => (173, 0x90186a23c28bd350) => (174, 0x904a75f45f208785)
+    => (175, 0xac5a1ace532c1763) => (176, 0xe44758b19eae82eb) => (177, 0x38122f9e41a7ca1b)
+    => (178, 0x98f6b8803c17ecf4) => (179, 0xc5ffdea98dfeeb75) ∷
+    row 1852 25 with (12, 0x404a7166b) with (64, 0x2017563aa) => (pc, 0x2017563a8)
+    => (173, 0x629eaa009a6a072) => (174, 0xf00de9181d16fd80) => (175, 0xf5cf809987fe3636)
+    => (176, 0x176eb1244a5c4a96) => (177, 0x54eb7ab864313a9e) => (178, 0xae45dd55d57d064f)
+    => (179, 0x237dd8fc9e3fada9) ∷
+    row 1853 26 with (12, 0x40498e5da) with (64, 0x14b37e1) => (pc, 0x14b37e0)
+    => (174, 0x1aad53b2b6b64ba2) => (175, 0xa20dddb98792d31) => (176, 0x1572010dd1b2ea68)
+    => (177, 0x3ca0bd4962638348) => (178, 0x7fad128e4a8af7d1) => (179, 0xde9700dc8a294804) ∷
+    row 1854 27 with (12, 0x7ffffe8) with (64, 0x1398ac8) with (at, 0x7ffff30) => (pc, 0x1398ac8)
+    => (178, 0x5343f326849cfc52) => (179, 0xa6c3ebd634b26262) => (180, 0x16217d8f3c3ea41a)
+    => (181, 0xa15ca8519b41c17b) => (182, 0x48756c1d51bbba86) ∷
+    row 1855 28 with (12, 0x4047ab235) with (64, 0x201c28754) => (pc, 0x201c28754)
+    => (176, 0xb76200ad735ab282) => (177, 0x1071850df1c29d13) => (178, 0x855ea277c7a1634d)
+    => (179, 0x162958eaf4f7052f) ∷
+    row 1856 29 with (12, 0x4046aaf21) with (64, 0x4009a2ef5) => (pc, 0x4009a2ef4)
+    => (177, 0xf652b64182ef6e33) => (178, 0xb36ea928cfa9dd45) => (179, 0x8c68351973db27ff) ∷
+    row 1857 30 with (12, 0x40492f41a) with (64, 0x201d3ed4e) => (pc, 0x201d3ed4c)
+    => (178, 0xaa0b683cb35b2f65) => (179, 0x6cb6e6d4ce6822f7) ∷
+    row 1858 31 with (12, 0x407ffffe8) with (64, 0x4011e315a) with (at, 0x407ffff30)
+    => (pc, 0x4011e3158) => (182, 0x17e19007049df617) ∷
+    [])
+
+unfoldable pub ppc64_restgpr1 : Functions
+ppc64_restgpr1 =
+    -- _restgpr1_N
+    functions
+    (0xe9ccff70 ∷ 0xe9ecff78 ∷ 0xea0cff80 ∷ 0xea2cff88 ∷ 0xea4cff90 ∷ 0xea6cff98 ∷ 0xea8cffa0 ∷
+    0xeaacffa8 ∷ 0xeaccffb0 ∷ 0xeaecffb8 ∷ 0xeb0cffc0 ∷ 0xeb2cffc8 ∷ 0xeb4cffd0 ∷ 0xeb6cffd8 ∷
+    0xeb8cffe0 ∷ 0xebacffe8 ∷ 0xebccfff0 ∷ 0xebecfff8 ∷ 0x4e800020 ∷ []) (
+    row 1859 14 with (12, 0x4e1ab89) with (64, 0x166735e) => (14, 0x6b2839258b2abb11)
+    => (15, 0x4403dd5bad384363) => (16, 0x38bd1a9b26bca75f) => (17, 0x4953f0e3f7b7e703)
+    => (18, 0x75c86036202a0250) => (19, 0xbe1a6891a012f945) => (20, 0x224a09f67772cbe4)
+    => (21, 0xa2574464a6497a2b) => (22, 0x3e4217dc2c97041c) => (23, 0xf60a845d0a5b69b5)
+    => (24, 0xc9b089e73f96aaf7) => (25, 0xb934287acc48c7e2) => (26, 0xc4956017b071c075)
+    => (27, 0xebd430bdec1194b2) => (28, 0x2ef09a6d7f284497) => (29, 0x8dea9d2669b5d025)
+    => (30, 0x8c238e8abba375c) => (31, 0xaaecd01245357a3c) => (pc, 0x166735c) ∷
+    row 1860 15 with (12, 0x407ffffe8) with (64, 0x401229d65) with (at, 0x407ffff30)
+    => (15, 0x7cd96ca5bb878fba) => (16, 0xaedd67a8b24c2f88) => (17, 0xfcbefbb50087aaff)
+    => (18, 0x667e28caa63a021e) => (19, 0xec1aeee9a36334e7) => (20, 0x8d954e11f8034358)
+    => (21, 0x4aed4643a41a2d72) => (22, 0x2422d77ea7a7f335) => (23, 0x193601c302ac94a1)
+    => (24, 0x2a26c510b52811b6) => (25, 0x56f52167bf1a6a73) => (26, 0x9fa116c820839ed9)
+    => (27, 0x42aa531d963aee9) => (28, 0x8491cca4e9ba9aa1) => (29, 0x20d68d2151886202)
+    => (30, 0xd8f8e6a710cd050b) => (31, 0xacf8d936278883be) => (pc, 0x401229d64) ∷
+    row 1861 16 with (12, 0x40411832b) with (64, 0x1364ad4) => (16, 0xcff25f6b5db1f6fa)
+    => (17, 0x1269fdd91c64884e) => (18, 0x70bf3550328df54c) => (19, 0xeaf205d0a02e3df2)
+    => (20, 0x81026f5a65456241) => (21, 0x32f071ed81d36238) => (22, 0xbc0d89f5d83dd9)
+    => (23, 0xea65422fc153f522) => (24, 0xefec0fdee4468815) => (25, 0x115076975eaff6b0)
+    => (26, 0x38b29ae5309040f4) => (27, 0x335550da59e766e1) => (28, 0x49d59fd8dab56876)
+    => (29, 0x7c3387e0b2fa45b5) => (30, 0xca6f08f1e2b5fe9c) => (31, 0x3488230c69e8932c)
+    => (pc, 0x1364ad4) ∷
+    row 1862 17 with (12, 0x204533066) with (64, 0x400c0df54) => (17, 0x4263dc8ef8381d2f)
+    => (18, 0x8a6b06ad853d3305) => (19, 0xee4fc9d569b92483) => (20, 0x6e122606a5abf1aa)
+    => (21, 0x9b21b4139159a7a) => (22, 0xc12fa98523f61ef2) => (23, 0x948ad0d2664d7f14)
+    => (24, 0x83c39129001bbadf) => (25, 0x8ed9ea88f160d252) => (26, 0xb5cddcf23a1cc56e)
+    => (27, 0xf89f6864da4f9433) => (28, 0x574e8ce0d1f93ea1) => (29, 0xd1db4a662119c4b7)
+    => (30, 0x6845a0f4c7b12677) => (31, 0x1a8d908cc5bf63df) => (pc, 0x400c0df54) ∷
+    row 1863 18 with (12, 0x4227b03) with (64, 0x2010aa839) => (18, 0x8ab14045b39548e5)
+    => (19, 0x36c4d8eb0eece33b) => (20, 0x25fdd429c1bb593a) => (21, 0xab4fbc0bcc00aae2)
+    => (22, 0x4c7f3cf72dbcd833) => (23, 0x98c56ebe6efe12d) => (24, 0xe27709e9f799c5d0)
+    => (25, 0xd73f55f15fba861b) => (26, 0xe7e53b021f52220f) => (27, 0x1468b91c366099ac)
+    => (28, 0x5cc9d03fa4e5ecf2) => (29, 0xc108806c6ae21be1) => (30, 0x4124c9a288552679)
+    => (31, 0xdd1eabe1fd3f0cb9) => (pc, 0x2010aa838) ∷
+    row 1864 19 with (12, 0x207ffffe8) with (64, 0x7f082b) with (at, 0x207ffff30)
+    => (19, 0xb53f99fc132c699b) => (20, 0xba7b896e433b1b6d) => (21, 0xdb9511e9cac0a8e8)
+    => (22, 0x188c336ea9bd120c) => (23, 0x7160edfce03056d8) => (24, 0xe61341946e1a774d)
+    => (25, 0x76a32e35537b736b) => (26, 0x2310b3df90534b32) => (27, 0xeb5bd29324a1fea2)
+    => (28, 0xcf848a5010678dbb) => (29, 0xcf8adb1653a3f87c) => (30, 0xeb6ec4e5ee573ee7)
+    => (31, 0x233047bee08160fa) => (pc, 0x7f0828) ∷
+    row 1865 20 with (12, 0xa1) with (64, 0x201df586c) with (at, 1) => (20, 0xc8e6f9448cd4b0d1)
+    => (21, 0x8019a94b84d1542a) => (22, 0x5329f25bd444d32b) => (23, 0x4217d4757b2f2dd5)
+    => (24, 0x4ce34f9879906428) => (25, 0x738c63c4cf687623) => (26, 0xb61310fa7cb763c8)
+    => (27, 0x14775739817d2d15) => (28, 0x8eb93681ddb9d20c) => (29, 0x24d8aed3916d52ab)
+    => (30, 0xd6d5c02e9c97aef3) => (31, 0xa4b06a92ff38e6e4) => (pc, 0x201df586c) ∷
+    row 1866 21 with (12, 0x4e20b28) with (64, 0x20046514c) => (21, 0xad0ba1c0aab6ed08)
+    => (22, 0xc84ac04e710614e1) => (23, 0xff6777e58ecc1864) => (24, 0x5261c8860408f78f)
+    => (25, 0xc139b22fd0bcb263) => (26, 0x4bef34e2f4e748df) => (27, 0xf282509f7088bb05)
+    => (28, 0xb4f3056543a108d3) => (29, 0x934153346e30324b) => (30, 0x8d2ba540f036376b)
+    => (31, 0x44b8424cc9b31834) => (pc, 0x20046514c) ∷
+    row 1867 22 with (12, 0x49275f9) with (64, 0x1d72272) => (22, 0x78cfdd9be9702ebf)
+    => (23, 0x999e87da7e11db1a) => (24, 0xd64acb226a2a631d) => (25, 0x2ed4a773adb9c6c9)
+    => (26, 0xa33c1cce48c0061e) => (27, 0x33812b323b3d211c) => (28, 0xdfa3d29f853117c2)
+    => (29, 0xa7a41316269bea12) => (30, 0x8b81ec961f7d980a) => (31, 0x8b3d5f1f6fd621ab)
+    => (pc, 0x1d72270) ∷
+    row 1868 23 with (12, 0x207ffffe8) with (64, 0x200de8d19) with (at, 0x207ffff30)
+    => (23, 0xc564fc3078419b84) => (24, 0x3f5bfd3be19a5f5a) => (25, 0xd5309750a269fed8)
+    => (26, 0x86e2ca6ebab07a00) => (27, 0x547296962a6dd0d0) => (28, 0x3ddffbc6f1a2034a)
+    => (29, 0x432afa01104d116c) => (30, 0x64539144866efb37) => (31, 0xa159c1915407c0aa)
+    => (pc, 0x200de8d18) ∷
+    row 1869 24 with (12, 0x4f17918) with (64, 0x4002e9a0e) => (24, 0x7ead7c87c967c2af)
+    => (25, 0x91820fdfaae780b) => (26, 0xaf605e7d836c0911) => (27, 0x7186350663a075bf)
+    => (28, 0x4f89a4989b4bbe16) => (29, 0x496aad342a6de215) => (30, 0x5f294ed91106e1be)
+    => (31, 0x90c589874f16bd0f) => (pc, 0x4002e9a0c) ∷
+    row 1870 25 with (12, 0x4f566bb) with (64, 0x401617710) => (25, 0x5429d2a66aa614e8)
+    => (26, 0xe42402cd6a3f4ec5) => (27, 0x8ffbcbfdc14f644b) => (28, 0x57b12e376fd6557a)
+    => (29, 0x3b44297a75d42252) => (30, 0x3ab4bdc6d348cad3) => (31, 0x5602eb1c88344efc)
+    => (pc, 0x401617710) ∷
+    row 1871 26 with (12, 0x204319c6b) with (64, 0x201bcdd81) => (26, 0xda7fd6082cbb6ca1)
+    => (27, 0xce8674b5faa72aff) => (28, 0xde6aac6d2009c506) => (29, 0xa2c7d2d9ce33ab6)
+    => (30, 0x51cbe6f771338c0f) => (31, 0xb548e9ca9cfab911) => (pc, 0x201bcdd80) ∷
+    row 1872 27 with (12, 0x207ffffe8) with (64, 0x94b7dc) with (at, 0x207ffff30)
+    => (27, 0x3ff21ad2eac72573) => (28, 0x8d21104d8d69fb4c) => (29, 0xf62d9ed18783accf)
+    => (30, 0x7b17c65ed91439fb) => (31, 0x1bdf86f5821ba2cf) => (pc, 0x94b7dc) ∷
+    row 1873 28 with (12, 0x404fd8a9d) with (64, 0x2011a8562) => (28, 0xdecb40fd136b2c94)
+    => (29, 0xddf0f70c7dfbf3f4) => (30, 0xf8f44625400396fd) => (31, 0x2fd52e47598215af)
+    => (pc, 0x2011a8560) ∷
+    row 1874 29 with (12, 0x4e29875) with (64, 0x2011fe052) => (29, 0xf88924380594ce)
+    => (30, 0x642aadba70e8e0af) => (31, 0xe33a6b5a0143083a) => (pc, 0x2011fe050) ∷
+    row 1875 30 with (12, 0x404ffee59) with (64, 0xf4eb5c) => (30, 0x2fc79dfa7d770289)
+    => (31, 0x98894e4184acd2eb) => (pc, 0xf4eb5c) ∷
+    row 1876 31 with (12, 0x207ffffe8) with (64, 0x401cfb5ec) with (at, 0x207ffff30)
+    => (31, 0x125223c76abd0768) => (pc, 0x401cfb5ec) ∷
+    [])
+
+unfoldable pub ppc64_savefpr : Functions
+ppc64_savefpr =
+    -- _savefpr_N
+    functions
+    (0xd9c1ff70 ∷ 0xd9e1ff78 ∷ 0xda01ff80 ∷ 0xda21ff88 ∷ 0xda41ff90 ∷ 0xda61ff98 ∷ 0xda81ffa0 ∷
+    0xdaa1ffa8 ∷ 0xdac1ffb0 ∷ 0xdae1ffb8 ∷ 0xdb01ffc0 ∷ 0xdb21ffc8 ∷ 0xdb41ffd0 ∷ 0xdb61ffd8 ∷
+    0xdb81ffe0 ∷ 0xdba1ffe8 ∷ 0xdbc1fff0 ∷ 0xdbe1fff8 ∷ 0xf8010010 ∷ 0x4e800020 ∷ []) (
+    row 1877 14 with (1, 0x4e3724a) with (64, 0x201968d49) => (pc, 0x201968d48)
+    => (162, 0xdca0d021f0d02896) => (163, 0x92f3eb14cc74079a) => (164, 0x65249f10ff8ec246)
+    => (165, 0x5332ec168a20589b) => (166, 0x5d1ed2256c28ca98) => (167, 0x82e8513da5a8183f)
+    => (168, 0xc48f695f369e418e) => (169, 0x22141a8a1f0b4687) => (170, 0x9b7664be5eef2728)
+    => (171, 0x30b647fbf649e372) => (172, 0xe1d3c442e51b7b64) => (173, 0xaeced9932b63ef00)
+    => (174, 0x97a787ecc9233e45) => (175, 0x9c5dcf4fbe596932) => (176, 0xbcf1afbc0b066fc8)
+    => (177, 0xf9632931af2a5207) => (178, 0x51b23bb0aac50fef) => (179, 0xc5dee738fdd6a980)
+    => (182, 0x6f983ef0ce43a1fc) ∷
+    row 1878 15 with (1, 0x207ffffe8) with (64, 0x2017ed4d3) with (at, 0x207ffff30)
+    => (pc, 0x2017ed4d0) => (166, 0x9983c40799954b4d) => (167, 0x55666aab438baed1)
+    => (168, 0x2d26aa5844f8edfe) => (169, 0x20c4830e9ddd08d4) => (170, 0x303ff4ce4e37ff52)
+    => (171, 0x5b98ff975609d17a) => (172, 0xa2cfa369b5527f4a) => (173, 0x5e3e0456c1208c4)
+    => (174, 0x84d5b62a7a486de6) => (175, 0x1fa52518dff5aeb1) => (176, 0xd6522d109d19cb25)
+    => (177, 0xa8dcce11b1b4c341) => (178, 0x9745081c1dc69707) => (179, 0xa18adb2fe14f4675)
+    => (180, 0xc7ae474cfc4ed18c) => (181, 0x9af4c736ec5384c) => (182, 0x678deaa338b27ab5)
+    => (185, 0x336d4524c910e600) ∷
+    row 1879 16 with (1, 0x20452c119) with (64, 0x2017dc4c3) => (pc, 0x2017dc4c0)
+    => (164, 0x6cdf6fdc63317383) => (165, 0x8cce8506db7a5b88) => (166, 0xc89b333aab3a1f37)
+    => (167, 0x20457a77d270be8d) => (168, 0x93cd5abe511e398d) => (169, 0x2332d40e27429036)
+    => (170, 0xce75e66754ddc287) => (171, 0x959691c9d9efd081) => (172, 0x7894d635b678ba24)
+    => (173, 0x7770b3aaea787f70) => (174, 0x922a2a2975ef2065) => (175, 0x5d08385f58dc9d03)
+    => (176, 0x50fffe1a9340f549) => (177, 0x60d55cdf251c2939) => (178, 0x8c8854ad0e6e38d1)
+    => (179, 0xd418e5844f372412) => (182, 0x16f334cf9f87022b) ∷
+    row 1880 17 with (1, 0x43429ea) with (64, 0x4003bb25b) => (pc, 0x4003bb258)
+    => (165, 0x795d08364da4a13a) => (166, 0x9edba91194400dc1) => (167, 0xe037e2f6325255f0)
+    => (168, 0x3d71b5e427db79c7) => (169, 0xb68921db74db7948) => (170, 0x4b7e26dc19525472)
+    => (171, 0xfc50c4e615400b44) => (172, 0xc900fbf968a49dbf) => (173, 0xb18ecc1613800be4)
+    => (174, 0xb5fa353c15d255b0) => (175, 0xd643376b6f9b7b26) => (176, 0x1269d2a420db7c45)
+    => (177, 0x6a6e06e62992590c) => (178, 0xde4fd43189c0117d) => (179, 0x6e0f3a864164a596)
+    => (182, 0xe728abf151a5f67d) ∷
+    row 1881 18 with (1, 0x204f88572) with (64, 0x1036613) => (pc, 0x1036610)
+    => (166, 0x5312ca2b58eed472) => (167, 0xdc9dd98d6ddcc579) => (168, 0x820681f8da419229)
+    => (169, 0x434cc36d9e1d3a82) => (170, 0x93625ec7b96fbe84) => (171, 0x2de6ef792c391e2e)
+    => (172, 0xe4491933f6795982) => (173, 0xb688dbf81830707e) => (174, 0xa4a637c5915e6323)
+    => (175, 0xaea12c9c62033171) => (176, 0xd479ba7c8a1edb68) => (177, 0x162fe16609b16107)
+    => (178, 0x73c3a158e0bac250) => (179, 0xed34fa550f3aff41) => (182, 0xdd496089df6dc2f7) ∷
+    row 1882 19 with (1, 0x7ffffe8) with (64, 0x200a79397) with (at, 0x7ffff30) => (pc, 0x200a79394)
+    => (170, 0xaf2b06f985100d2a) => (171, 0x3e45a20c685082b2) => (172, 0xe93dd628a307d3e3)
+    => (173, 0xb013a34e353600bd) => (174, 0x92c7097d1edb0940) => (175, 0x915808b55ff6ed6b)
+    => (176, 0xabc6a0f6f889ad40) => (177, 0xe212d241e89348bd) => (178, 0x343c9c963013bfe3)
+    => (179, 0xa243fff3cf0b12b2) => (180, 0x2c28fc5ac579412a) => (181, 0xd1eb91cb135e4b4a)
+    => (182, 0x938bc044b8ba3114) => (185, 0xb9df489948de6798) ∷
+    row 1883 20 with (1, 0xa1) with (64, 0x201dd0f31) with (at, 1) => (pc, 0x201dd0f30)
+    => (168, 0xc560b996d2084b62) => (169, 0x5a0ae05a839b456b) => (170, 0xa92a0278ca51b1d)
+    => (171, 0xd6f7f8fded25cc78) => (172, 0xbf3aeadda51d597c) => (173, 0xc35b75c6b48bc228)
+    => (174, 0xe35999b91b71067e) => (175, 0x1f3556b4d9cd267c) => (176, 0x76eeacb9efa02223)
+    => (177, 0xea859bc85ce9f973) => (178, 0x79fa23e021aaac6c) => (179, 0x254c45013de23b0e)
+    => (182, 0xc29ac21f8df7e460) ∷
+    row 1884 21 with (1, 0x20497485a) with (64, 0x401e29259) => (pc, 0x401e29258)
+    => (169, 0x3aedc0513fd78f1b) => (170, 0x33a4559bbfbd0da5) => (171, 0x483883ef971967d8)
+    => (172, 0x78aa4b4cc5ec9db4) => (173, 0xc4f9abb34c36af39) => (174, 0x2d26a52329f79c66)
+    => (175, 0xb131379c5f2f653d) => (176, 0x5119631eebde09bc) => (177, 0xcdf27aad00389e4)
+    => (178, 0xe48285400b9fe5b5) => (179, 0x81e8c1349eb31d2f) => (182, 0x9632331caeba394f) ∷
+    row 1885 22 with (1, 0x43cc417) with (64, 0x635831) => (pc, 0x635830)
+    => (170, 0xa0be1762ce7dd854) => (171, 0x9f04385e1cb5db5f) => (172, 0xb927f262c264ba13)
+    => (173, 0xef294570bf8a7470) => (174, 0x4108318814270a76) => (175, 0xaec4b6a8c03a7c24)
+    => (176, 0x385ed4d2c3c4c97c) => (177, 0xddd68c061ec5f27c) => (178, 0x9f2bdc42d13df725)
+    => (179, 0x7c5ec588db2cd777) => (182, 0xc6e75990ab256666) ∷
+    row 1886 23 with (1, 0x207ffffe8) with (64, 0x401cfa29d) with (at, 0x207ffff30)
+    => (pc, 0x401cfa29c) => (174, 0x1ca5343d7dfb270e) => (175, 0x7ef7c3bf9a85ae9a)
+    => (176, 0xfd27ec4b0e8711cf) => (177, 0x1fc5b563d9ff50ad) => (178, 0x77342d2bfcee6b33)
+    => (179, 0xea803dfd77546163) => (180, 0x79a9e7d84931333b) => (181, 0x24b12abc7284e0bd)
+    => (182, 0xeb9606a9f34f69e7) => (185, 0xad198f7b83396ba4) ∷
+    row 1887 24 with (1, 0x20485e90d) with (64, 0x200a885a6) => (pc, 0x200a885a4)
+    => (172, 0xd2102fc34e4f7b48) => (173, 0x39f24af6392c8755) => (174, 0xbdb1ff327b806f0b)
+    => (175, 0x5d4f4c78154b326a) => (176, 0x18ca32c7068cd171) => (177, 0xf022b21f4f454c22)
+    => (178, 0xe358ca80ef74a27b) => (179, 0xf26c7bebe71ad47e) => (182, 0xea2f26dd36f64909) ∷
+    row 1888 25 with (1, 0x47ee79c) with (64, 0x2008cf30a) => (pc, 0x2008cf308)
+    => (173, 0x4198a1183f7ad502) => (174, 0xaf0a47fbf8aa6590) => (175, 0x385987e90950d1c7)
+    => (176, 0xdd8660df716e19a7) => (177, 0x9e90d2df31023d30) => (178, 0x7b78dde8480d3c61)
+    => (179, 0x743e81fab68f173c) => (182, 0xe2fc21b5c65bfe96) ∷
+    row 1889 26 with (1, 0x404b02e37) with (64, 0x4017c280b) => (pc, 0x4017c2808)
+    => (174, 0x595702b8517d343d) => (175, 0x2ad51822d8ff494c) => (176, 0x1830c696b7f83a04)
+    => (177, 0x216a0e13ee680665) => (178, 0x4680ee9a7c4eae6f) => (179, 0x8775682a61ac3221)
+    => (182, 0xa6a51405316a8c4a) ∷
+    row 1890 27 with (1, 0x207ffffe8) with (64, 0x1a64cdf) with (at, 0x207ffff30) => (pc, 0x1a64cdc)
+    => (178, 0x187a1881845698f8) => (179, 0xef87b99cda2b3288) => (180, 0xe272f3c18776a7c1)
+    => (181, 0xf13bc6ef8c38f8a3) => (182, 0x1be23326e872252e) => (185, 0x37d9e9cb7821f225) ∷
+    row 1891 28 with (1, 0x204663e41) with (64, 0x4018833ed) => (pc, 0x4018833ec)
+    => (176, 0x36929041d8070334) => (177, 0x71ac9fe3fc2e2145) => (178, 0x66d296bb77cc1aff)
+    => (179, 0x7b2af59a4ae0f062) => (182, 0xe1da1089a823027) ∷
+    row 1892 29 with (1, 0x4eb07af) with (64, 0x2009b7375) => (pc, 0x2009b7374)
+    => (177, 0x45504a7f4c8e72f0) => (178, 0x85f9e5d23f081582) => (179, 0xe2811a2e88f893bd)
+    => (182, 0xabb2e7bc988b4651) ∷
+    row 1893 30 with (1, 0x4a8192a) with (64, 0x2013b1a3f) => (pc, 0x2013b1a3c)
+    => (178, 0xe2b7a8be1ece82d) => (179, 0x5464a18fa2b90f40) => (182, 0x949163e7723d34a1) ∷
+    row 1894 31 with (1, 0x7ffffe8) with (64, 0x1a4ca7d) with (at, 0x7ffff30) => (pc, 0x1a4ca7c)
+    => (182, 0xc81b3711982262ea) => (185, 0x3e871b892797fb1a) ∷
+    [])
+
+unfoldable pub ppc64_restfpr : Functions
+ppc64_restfpr =
+    -- _restfpr_N
+    functions
+    (0xc9c1ff70 ∷ 0xc9e1ff78 ∷ 0xca01ff80 ∷ 0xca21ff88 ∷ 0xca41ff90 ∷ 0xca61ff98 ∷ 0xca81ffa0 ∷
+    0xcaa1ffa8 ∷ 0xcac1ffb0 ∷ 0xcae1ffb8 ∷ 0xcb01ffc0 ∷ 0xcb21ffc8 ∷ 0xcb41ffd0 ∷ 0xcb61ffd8 ∷
+    0xcb81ffe0 ∷ 0xcba1ffe8 ∷ 0xcbc1fff0 ∷ 0xcbe1fff8 ∷ 0xe8010010 ∷ 0x7c0803a6 ∷ 0x4e800020 ∷
+    []) (
+    row 1895 14 with (1, 0x4cb1447) with (182, 0x401d04a09) => (0, 0x401d04a09)
+    => (46, 0xd2fd2a791a479516) => (47, 0x123038c5f338dbce) => (48, 0x6d40e01c23a0fe2f)
+    => (49, 0xe42f207bab7ffc38) => (50, 0x76faf9e48ad5d5eb) => (51, 0x25a46c56c1a28b46)
+    => (52, 0xf02b77d24fe61c4a) => (53, 0xd6901c5735a088f7) => (54, 0xd8d259e572d1d14d)
+    => (55, 0xf6f2307d0779f54b) => (56, 0x30efa01df398f4f3) => (57, 0x86caa8c8372ed043)
+    => (58, 0xf8834a7bd23b873c) => (59, 0x86198538c4bf19df) => (60, 0x2f8d58ff0eb98829)
+    => (61, 0xf4dec5ceb02ad21d) => (62, 0xd60dcba7a912f7ba) => (63, 0xd31a6a89f971f8ff)
+    => (64, 0x401d04a09) => (pc, 0x401d04a08) ∷
+    row 1896 15 with (1, 0x7ffffe8) with (at, 0x7ffff30) with (185, 0x19c6c6f) => (0, 0x19c6c6f)
+    => (47, 0x8b4163cf09f1c8db) => (48, 0x8219abbeb79a270e) => (49, 0xa2d9c047bcb960ea)
+    => (50, 0x72f05774194f7670) => (51, 0x5ee487a9cd5c679e) => (52, 0x66b650e8d8e03474)
+    => (53, 0x8a65b3313bdadcf4) => (54, 0xc9f2ae82f64c611d) => (55, 0x255d42de0834c0ee)
+    => (56, 0x9ca570427193fc68) => (57, 0x2fcb36b0326a138b) => (58, 0xdece96274ab70657)
+    => (59, 0xa9af8ea7ba7ad4cc) => (60, 0x906e203181b57ee9) => (61, 0x930a4ac4a06704b0)
+    => (62, 0xb1840e61168f661f) => (63, 0xebdb6b06e42ea337) => (64, 0x19c6c6f) => (pc, 0x19c6c6c) ∷
+    row 1897 16 with (1, 0x4042484ed) with (182, 0x2011ad36f) => (0, 0x2011ad36f)
+    => (48, 0x44ceea5a221318d6) => (49, 0xed9df2de97a9688f) => (50, 0xb24a946c64b693f2)
+    => (51, 0x92d4cf03893a9afe) => (52, 0x8f3ca2a405357db2) => (53, 0xa7820f4dd8a73c0f)
+    => (54, 0xdba51501038fd616) => (55, 0x2ba5b3bd85ef4bc5) => (56, 0x9783eb835fc59d1c)
+    => (57, 0x1f3fbc529112ca1d) => (58, 0xc2d9262b19d6d2c7) => (59, 0x8250290cfa11b719)
+    => (60, 0x5da4c4f831c37714) => (61, 0x54d6f9ecc0ec12b8) => (62, 0x67e6c7eaa78b8a05)
+    => (63, 0x96d42ef1e5a1dcfb) => (64, 0x2011ad36f) => (pc, 0x2011ad36c) ∷
+    row 1898 17 with (1, 0x2045053ff) with (182, 0x20081b405) => (0, 0x20081b405)
+    => (49, 0xf5d1284b573b62f6) => (50, 0xa42fbc809b243731) => (51, 0x6e6be9bf3683e715)
+    => (52, 0x5485b007295a72a1) => (53, 0x567d0f5873a7d9d7) => (54, 0x745207b3156c1cb5)
+    => (55, 0xae0499170ea73b3c) => (56, 0x394c3845f59356c) => (57, 0x750286fb07820b45)
+    => (58, 0x24de37b0721bcc6) => (59, 0xab76d9045e3849f1) => (60, 0x707d67970cc5b2c4)
+    => (61, 0x51618f3312c9f740) => (62, 0x4e234fd870451766) => (63, 0x66c2a98725371333)
+    => (64, 0x20081b405) => (pc, 0x20081b404) ∷
+    row 1899 18 with (1, 0x20409c073) with (182, 0x200b5336b) => (0, 0x200b5336b)
+    => (50, 0xc9564cfad3ab297) => (51, 0x1f00678bbf760b53) => (52, 0x4d49035129283fb7)
+    => (53, 0x976f381fea514fc5) => (54, 0xfd7305f802f13b7b) => (55, 0x7f546cd9730802db)
+    => (56, 0x1d136cc43a95a5e3) => (57, 0xd6b005b8599a2494) => (58, 0xac2a37b5d0157eee)
+    => (59, 0x9d8202bc9e07b4f0) => (60, 0xaab766ccc370c69c) => (61, 0x18c81bf04050b3f0)
+    => (62, 0xff3bcf3d14a77ced) => (63, 0x18d1b9340752193) => (64, 0x200b5336b) => (pc, 0x200b53368)
+    ∷
+    row 1900 19 with (1, 0x7ffffe8) with (at, 0x7ffff30) with (185, 0x201299f3e) => (0, 0x201299f3e)
+    => (51, 0xa8babd97cc1f3269) => (52, 0x144e1720b311a2a1) => (53, 0x9bbf09b2f17aee81)
+    => (54, 0x3f0d954e875b160a) => (55, 0xfe39b9f374b2193c) => (56, 0xd94377a1b97ff817)
+    => (57, 0xd02ace5955c4b29b) => (58, 0xe2efbe1a498048c7) => (59, 0x119246e494b2ba9c)
+    => (60, 0x5c1268b8375c081b) => (61, 0xc2702395317c3142) => (62, 0x44ab777b83133611)
+    => (63, 0xe2c4646b2c21168a) => (64, 0x201299f3e) => (pc, 0x201299f3c) ∷
+    row 1901 20 with (1, 0xa1) with (at, 1) with (182, 0x20012ad85) => (0, 0x20012ad85)
+    => (52, 0x2a5099d9bbbe625a) => (53, 0xa65796cd6a9ec418) => (54, 0x3e3c2cca70f6017e)
+    => (55, 0xf1fe5bd0cec41a8e) => (56, 0xe5469e1884090f46) => (57, 0x72471c5b90c4dfa8)
+    => (58, 0x1b2533a7f4f78bb2) => (59, 0xdfe0e3fdb0a11365) => (60, 0xc07a2d5cc3c176c1)
+    => (61, 0xbcf10fc52e58b5c5) => (62, 0xd5458b36f066d073) => (63, 0x9779fb209ebc6c9)
+    => (64, 0x20012ad85) => (pc, 0x20012ad84) ∷
+    row 1902 21 with (1, 0x4043260c8) with (182, 0x2018d8ef4) => (0, 0x2018d8ef4)
+    => (53, 0x7a8820b37442c27c) => (54, 0xfc1ea957f175a8bb) => (55, 0x9992cb05c61f6aa3)
+    => (56, 0x52e485bcf2400833) => (57, 0x2813d97d75d7816d) => (58, 0x1920c64750e5d64f)
+    => (59, 0x260b4c1a836b06da) => (60, 0x4ed36af70d67130e) => (61, 0x937922dceed9faeb)
+    => (62, 0xf3fc73cc27c3be70) => (63, 0x705d5dc4b8245d9f) => (64, 0x2018d8ef4)
+    => (pc, 0x2018d8ef4) ∷
+    row 1903 22 with (1, 0x4cced71) with (182, 0x4002db415) => (0, 0x4002db415)
+    => (54, 0x84dd1d5c4d9e281f) => (55, 0xc0331b1992392de) => (56, 0xaf06df103c1fd947)
+    => (57, 0x6de825783692fb59) => (58, 0x48a704e9887cf913) => (59, 0x3f437d6431ddd276)
+    => (60, 0x51bd8ee832b58783) => (61, 0x801539758b041838) => (62, 0xca4a7d0c3ac98495)
+    => (63, 0x305d59ac4205cc9c) => (64, 0x4002db415) => (pc, 0x4002db414) ∷
+    row 1904 23 with (1, 0x7ffffe8) with (at, 0x7ffff30) with (185, 0x4010c92fa) => (0, 0x4010c92fa)
+    => (55, 0x530308769bbcf3ff) => (56, 0x91ce566ebbf9763a) => (57, 0xec773d7033acd41e)
+    => (58, 0x62fdbd7b02d70dac) => (59, 0xf561d68f297822e1) => (60, 0xa3a388aca79013c0)
+    => (61, 0x6dc2d3d37d1ee048) => (62, 0xae5bb6b5aa248878) => (63, 0x51b951192ea10c52)
+    => (64, 0x4010c92fa) => (pc, 0x4010c92f8) ∷
+    row 1905 24 with (1, 0x20400343e) with (182, 0x4019dc9e5) => (0, 0x4019dc9e5)
+    => (56, 0x97c255e362da03e5) => (57, 0x888464704b0477a7) => (58, 0x95240c068aa5c712)
+    => (59, 0xbda14ca621bdf225) => (60, 0x1fc264f104cf8e2) => (61, 0x623499015652db47)
+    => (62, 0xde4aa4bcf3cf9955) => (63, 0x763e4981e8c3330c) => (64, 0x4019dc9e5)
+    => (pc, 0x4019dc9e4) ∷
+    row 1906 25 with (1, 0x404ee43b8) with (182, 0x2014dd6dc) => (0, 0x2014dd6dc)
+    => (57, 0x5712036d9eba7a09) => (58, 0xabe080815537724c) => (59, 0xb4503a54632b4637)
+    => (60, 0xe25d06a4c895f5cc) => (61, 0x2c476bfe85778109) => (62, 0x920f6a6199cfe7f0)
+    => (63, 0x13b501ce059f2a7f) => (64, 0x2014dd6dc) => (pc, 0x2014dd6dc) ∷
+    row 1907 26 with (1, 0x4bf45eb) with (182, 0x88a7d4) => (0, 0x88a7d4) => (58, 0x9c48fefb71f5ad)
+    => (59, 0x5afa51c380417271) => (60, 0xd135f3915c87cade) => (61, 0x634f2e689044fef3)
+    => (62, 0x114602491b790eb2) => (63, 0xdb1a6f32fe23fa19) => (64, 0x88a7d4) => (pc, 0x88a7d4) ∷
+    row 1908 27 with (1, 0x7ffffe8) with (at, 0x7ffff30) with (185, 0x4012cdc95) => (0, 0x4012cdc95)
+    => (59, 0xd7a58cdb78cb0d9b) => (60, 0x8b2bec6cd251a1da) => (61, 0x5a8fe507834f11c3)
+    => (62, 0x45d176ab8bc35d54) => (63, 0x4cf0a158ebae848e) => (64, 0x4012cdc95)
+    => (pc, 0x4012cdc94) ∷
+    row 1909 28 with (1, 0x4045f77cb) with (182, 0x10658a5) => (0, 0x10658a5)
+    => (60, 0xbf6af6af1765fd77) => (61, 0x8364f9ab38da833d) => (62, 0x633c95b0b1c5e4ab)
+    => (63, 0x5ef1cabf822821c3) => (64, 0x10658a5) => (pc, 0x10658a4) ∷
+    row 1910 29 with (1, 0x2042ea77a) with (182, 0x400e988e7) => (0, 0x400e988e7)
+    => (61, 0x72ad5683d6a2899c) => (62, 0x3c36e530c66993e3) => (63, 0x219e0ce70da779d3)
+    => (64, 0x400e988e7) => (pc, 0x400e988e4) ∷
+    row 1911 30 with (1, 0x4048b748b) with (182, 0xf618df) => (0, 0xf618df)
+    => (62, 0xd42e5ef3b6b61b42) => (63, 0xaf26468574cfaa0a) => (64, 0xf618df) => (pc, 0xf618dc) ∷
+    row 1912 31 with (1, 0x207ffffe8) with (at, 0x207ffff30) with (185, 0x1b4327d) => (0, 0x1b4327d)
+    => (63, 0xc414c90663497f3e) => (64, 0x1b4327d) => (pc, 0x1b4327c) ∷
+    [])
+
+unfoldable pub ppc64_savevr : Functions
+ppc64_savevr =
+    -- _savevr_N
+    functions
+    (0x3980ff40 ∷ 0x7e8c01ce ∷ 0x3980ff50 ∷ 0x7eac01ce ∷ 0x3980ff60 ∷ 0x7ecc01ce ∷ 0x3980ff70 ∷
+    0x7eec01ce ∷ 0x3980ff80 ∷ 0x7f0c01ce ∷ 0x3980ff90 ∷ 0x7f2c01ce ∷ 0x3980ffa0 ∷ 0x7f4c01ce ∷
+    0x3980ffb0 ∷ 0x7f6c01ce ∷ 0x3980ffc0 ∷ 0x7f8c01ce ∷ 0x3980ffd0 ∷ 0x7fac01ce ∷ 0x3980ffe0 ∷
+    0x7fcc01ce ∷ 0x3980fff0 ∷ 0x7fec01ce ∷ 0x4e800020 ∷ []) (
+    row 1913 20 with (0, 0xd5) with (64, 0x129b000) with (at, 1) => (12, 0xfffffffffffffff0)
+    => (pc, 0x129b000) => (161, 0xda8b9c407741264) => (162, 0xa8fef1f43925937d)
+    => (163, 0x24cbdddabc0db1d1) => (164, 0xccb4d982a2477e83) => (165, 0x2c4d1b7d7b9d1dff)
+    => (166, 0xe5c9e802b3686739) => (167, 0x25a3f1839d7ba177) => (168, 0xf43e1d746c884d9f)
+    => (169, 0xfd05fed21a93c39) => (170, 0xf81179d7cda731b5) => (171, 0xebd266ba0825ee45)
+    => (172, 0xf143fd2cd6c5137a) => (173, 0xb8aa05ea50f1b79b) => (174, 0xdfd5a77387e1f2f0)
+    => (175, 0x77573d7dfc0c983b) => (176, 0xc3c678abe0fdd016) => (177, 0x26da0d7509769025)
+    => (178, 0x9d1670d5e218aaec) => (179, 0xc73275cf792f9f59) => (180, 0x6bc58ff18b328371)
+    => (181, 0x5a60768d4b37c5d7) => (182, 0x2fd3d5fedc4b59a7) => (183, 0xde640fae7f8f039f)
+    => (184, 0xe94142fdd5632d8c) => (185, 0xc63d4133163558b0) ∷
+    row 1914 21 with (0, 0x404f38c3d) with (64, 0x200550c80) => (12, 0xfffffffffffffff0)
+    => (pc, 0x200550c80) => (162, 0x4289553df7ecdef9) => (163, 0x9a42bf6a5a8b4bf)
+    => (164, 0x52a7ede556844331) => (165, 0x4081c7917de4b4e7) => (166, 0xac5843ca765ef57)
+    => (167, 0xd9ae7a764b7fdc01) => (168, 0x6ae21843e91d33e0) => (169, 0xd52a44a50e7a2a0c)
+    => (170, 0x72fda9fb1caa10cd) => (171, 0x32f5261dc6d39f09) => (172, 0x23183962400c861e)
+    => (173, 0xf59e3351308c3af8) => (174, 0x7b31c679564011ce) => (175, 0xf465c040a9a3fdd8)
+    => (176, 0x7b4a51405e5cdf11) => (177, 0x557c647a181ae7aa) => (178, 0x2361d9b7564f44b8)
+    => (179, 0x18e21ffd7bf0f86e) => (180, 0x73785fde401742c2) => (181, 0x3e96f2cad5263023)
+    => (182, 0x6b8de3b51cb4d92f) => (183, 0xc69adce223ba8eca) => (184, 0xbb3b7efa9d2807ff) ∷
+    row 1915 22 with (0, 0x404dc2428) with (64, 0x1257716) => (12, 0xfffffffffffffff0)
+    => (pc, 0x1257714) => (164, 0xef9765e8f7ce0451) => (165, 0xba004185a0f129ca)
+    => (166, 0xa6b2ac31a056d82f) => (167, 0x448a897003b3428c) => (168, 0x5ccf02a39a81a05)
+    => (169, 0x3163e8a45bd48240) => (170, 0xce631d2c4cef43e) => (171, 0x808c5f22a954e8e5)
+    => (172, 0xbbfe712b40cb66da) => (173, 0x3203eceaec34767b) => (174, 0x1315ae33ad9d71da)
+    => (175, 0x45ca91fd24732b04) => (176, 0x122be8ec0c45153d) => (177, 0xbbe04e595211067e)
+    => (178, 0xb94121545cc25103) => (179, 0x944521ff750e08e9) => (180, 0x855576c9d15252d)
+    => (181, 0xcef90cef8d6a3247) => (182, 0xff688b34d03d91ba) => (183, 0x6bfc0f299b258295)
+    => (184, 0xfe72ffb9c53b96ab) ∷
+    row 1916 23 with (0, 0x8000009) with (64, 0x1834f56) with (at, 0x7ffff30)
+    => (12, 0xfffffffffffffff0) => (pc, 0x1834f54) => (168, 0xd85117404fc57e0f)
+    => (169, 0xadd58b28d94ac0a8) => (170, 0x2082729e67b96800) => (171, 0x5f85e42ab1c217c0)
+    => (172, 0xc7dabfa47eab01e2) => (173, 0xe6cea08ed950b8cc) => (174, 0xce59fe52949a4bb6)
+    => (175, 0x8d857614d8d0c08a) => (176, 0x34002ea8a987457b) => (177, 0xcf262519fd0ad858)
+    => (178, 0xf8cd50a6bd71ef31) => (179, 0xe65f3781705c3a1a) => (180, 0x1cc1644cd05a48d8)
+    => (181, 0xd330ad4b32c4e5d3) => (182, 0x9fdc699ae2405271) => (183, 0x959a86774444db80)
+    => (184, 0x821e6090f3240bfb) => (185, 0x2d9cc305a4dc1b23) ∷
+    row 1917 24 with (0, 0x404ab8180) with (64, 0x139529a) => (12, 0xfffffffffffffff0)
+    => (pc, 0x1395298) => (168, 0xfd3e2c19df690d84) => (169, 0xd75b5e2aa434b273)
+    => (170, 0x88788ba89f702eae) => (171, 0x7dfd2c749939c715) => (172, 0xc3a3aceea7c5b3d2)
+    => (173, 0x6e9459e57fe6dab4) => (174, 0xaebfa3cd137d880d) => (175, 0xa920e67d583bed51)
+    => (176, 0x49cd7043e297ab5f) => (177, 0x2da2d23c2238feec) => (178, 0x94cc125315141dc9)
+    => (179, 0xfc1a1d21ddde0f84) => (180, 0x8fbc89faaaf2df49) => (181, 0x1486c72e8b2b1f1a)
+    => (182, 0x3a9ed73aa433efe2) => (183, 0x76e8d0622a202dae) => (184, 0xfdd5fa1300d74f91) ∷
+    row 1918 25 with (0, 0x43cf1a4) with (64, 0x734688) => (12, 0xfffffffffffffff0)
+    => (pc, 0x734688) => (171, 0x66842417ed8740c8) => (172, 0xe5482b671ccbf71)
+    => (173, 0x93060a4442a06e6a) => (174, 0x480d7190078d0c0) => (175, 0x6f7a9b1ffa49a03a)
+    => (176, 0x44a28aa280cce10d) => (177, 0xfbdf019415552121) => (178, 0xceb99d52f2c8f057)
+    => (179, 0x38363da093c2f11f) => (180, 0xa2c60f2a566cfea0) => (181, 0x247e4f4575931035)
+    => (182, 0xc0c7e028abb90be6) => (183, 0xc0b73682bac57e62) => (184, 0x28bf104df2ad1829)
+    => (185, 0x1422f358635a3ba7) ∷
+    row 1919 26 with (0, 0x204b15474) with (64, 0x400d2dec1) => (12, 0xfffffffffffffff0)
+    => (pc, 0x400d2dec0) => (173, 0xe17c8c9af3fd6ef8) => (174, 0xd845f4800876bdb9)
+    => (175, 0xac6a4f29de98f9c6) => (176, 0xb9206fa85b84ba87) => (177, 0x695b9964ff18f929)
+    => (178, 0x8f5a11c25691b505) => (179, 0x17227c0381e80fd6) => (180, 0x5af2dacdf99dad33)
+    => (181, 0xb6bef70567063dcd) => (182, 0x1beacacb44a8a310) => (183, 0x47310a6aae73830e)
+    => (184, 0xd241e1ba37b2969e) => (185, 0x5a78b633582fdf98) ∷
+    row 1920 27 with (0, 0x8000000) with (64, 0x4002708cc) with (at, 0x7ffff30)
+    => (12, 0xfffffffffffffff0) => (pc, 0x4002708cc) => (176, 0xa7e4cee7d858f755)
+    => (177, 0xf428e2a5d2038588) => (178, 0x87890e1e3036669) => (179, 0x5508cd19feaf37f4)
+    => (180, 0xc8334483ecab856f) => (181, 0x8b811af07a723454) => (182, 0xe714e9cdf5515466)
+    => (183, 0x9791cc29454c7aaa) => (184, 0x651d80bffcf4d34e) => (185, 0x793ae0c45f3e0af6) ∷
+    row 1921 28 with (0, 0x404ed9ce8) with (64, 0x201d8dc02) => (12, 0xfffffffffffffff0)
+    => (pc, 0x201d8dc00) => (177, 0xe1027c453fc289d8) => (178, 0x17a8875e6ae4431e)
+    => (179, 0x3ef2cbcf053f2254) => (180, 0x378f33ba0beb9b2f) => (181, 0x8cb41a3cf0b9fd73)
+    => (182, 0x4cd5070754f1f0ef) => (183, 0xcb4b010e3e83efdc) => (184, 0x577a014645f7445f)
+    => (185, 0xc9b78042ee9cf98f) ∷
+    row 1922 29 with (0, 0x204602d2f) with (64, 0x401e68950) => (12, 0xfffffffffffffff0)
+    => (pc, 0x401e68950) => (178, 0x919a7c308387a678) => (179, 0x63717a9a7f47dc2e)
+    => (180, 0xd99e81e22987e39d) => (181, 0xa299020929b4a123) => (182, 0xc9a18543c0b8c7ba)
+    => (183, 0x440fa0c1c9808d0a) => (184, 0x9f6fb763e4bf443b) ∷
+    row 1923 30 with (0, 0x404605adb) with (64, 0x200422bdc) => (12, 0xfffffffffffffff0)
+    => (pc, 0x200422bdc) => (180, 0x42c3d39e0001d2b) => (181, 0x287f1985e33f5bfb)
+    => (182, 0xb77f2b251e8ee421) => (183, 0xdf5a7878c0ce4afb) => (184, 0xb02f75b6712f9a96) ∷
+    row 1924 31 with (0, 0x40800000a) with (64, 0x4007ce992) with (at, 0x407ffff30)
+    => (12, 0xfffffffffffffff0) => (pc, 0x4007ce990) => (184, 0x629c90ca05db120e)
+    => (185, 0xc57472d94ccf4d38) ∷
+    [])
+
+unfoldable pub ppc64_restvr : Functions
+ppc64_restvr =
+    -- _restvr_N
+    functions
+    (0x3980ff40 ∷ 0x7e8c00ce ∷ 0x3980ff50 ∷ 0x7eac00ce ∷ 0x3980ff60 ∷ 0x7ecc00ce ∷ 0x3980ff70 ∷
+    0x7eec00ce ∷ 0x3980ff80 ∷ 0x7f0c00ce ∷ 0x3980ff90 ∷ 0x7f2c00ce ∷ 0x3980ffa0 ∷ 0x7f4c00ce ∷
+    0x3980ffb0 ∷ 0x7f6c00ce ∷ 0x3980ffc0 ∷ 0x7f8c00ce ∷ 0x3980ffd0 ∷ 0x7fac00ce ∷ 0x3980ffe0 ∷
+    0x7fcc00ce ∷ 0x3980fff0 ∷ 0x7fec00ce ∷ 0x4e800020 ∷ []) (
+    row 1925 20 with (0, 0xd6) with (64, 0x201c54450) with (at, 1) => (12, 0xfffffffffffffff0)
+    => (pc, 0x201c54450) => (148, 0xf0f6ba4f2d42b08f8bf3ef887e32a33d)
+    => (149, 0x53c76be2eff5c38833928e6d532e65fd) => (150, 0x2cfc42d48e177af0519552b00398ca2e)
+    => (151, 0x7c953f2407a7d5c7e5fc3c508f71d3ce) => (152, 0x429260d15ca6d20ef0c74b4ef6b97fdd)
+    => (153, 0x7ef3a7dc8d1473c571f67fab396fce5c) => (154, 0x31b9144598f0b8eb6989d9655794c14a)
+    => (155, 0x4edeb00c803ba080d781587d512857a8) => (156, 0xf4a6bb3142f52bbd32f630f3262a910b)
+    => (157, 0x10d2ebb3e11d597493f04ec6d69b6e8a) => (158, 0xa36341945ab42b9b6b4e91f8627aee7a)
+    => (159, 0xac57bcd2afb9a131b910fa87c9c911d8) ∷
+    row 1926 21 with (0, 0x404b29438) with (64, 0x18e1f9) => (12, 0xfffffffffffffff0)
+    => (pc, 0x18e1f8) => (149, 0xa8f99475b165ee53bc81243f3d715fd8)
+    => (150, 0x884f07ddece7d666ece8e055413815d8) => (151, 0xc57fe9e797e0229f7b2c0b0eb4752ffe)
+    => (152, 0x608c3a95b24ed2fd674aa46a9728ae49) => (153, 0x5973f9e73c33e780b144ac6ae95290ba)
+    => (154, 0xb03727db358f6029591a230daaf2d750) => (155, 0x64d5c4749e613cf75ecb0853dc09820b)
+    => (156, 0x774fcfaf76a97deac2575c3d7c9690ec) => (157, 0xe7a5498ebe68230383bf1eca8c9a03f2)
+    => (158, 0xb5d63210759d2c41a3024ffb0c13db1d) => (159, 0xe1e289369c4899a52020efcffb04166e) ∷
+    row 1927 22 with (0, 0x20493e216) with (64, 0x400303ae4) => (12, 0xfffffffffffffff0)
+    => (pc, 0x400303ae4) => (150, 0x6608cdffb60577000614ef69aa4aac0b)
+    => (151, 0x214423f6e981717c6f188a2ecb17b8d0) => (152, 0x80eef052425b47677c8b9b581142a104)
+    => (153, 0x817dd1cff892f8c12c6e22e57ccb64a6) => (154, 0x264a912df02885897fd642b26fb203b7)
+    => (155, 0x6f86c6f00d1bedc076dabd4279f67e37) => (156, 0x5b3273164f6d3166104eae36a998d425)
+    => (157, 0xea4d95a0b71c507a4e32158efe990582) => (158, 0x1cd82e8f44294afd2f84f34b78f7124d)
+    => (159, 0xf2d23de1f69420eeb347476c18b2fa88) ∷
+    row 1928 23 with (0, 0x20800000b) with (64, 0x201c192b7) with (at, 0x207ffff30)
+    => (12, 0xfffffffffffffff0) => (pc, 0x201c192b4) => (151, 0x57e236099b6af68326b8e23a635fc5f9)
+    => (152, 0xdcda8c411e5ea91a4e922e22aed02b5) => (153, 0x332f7fa3e63c4d43928fc7af5055ae16)
+    => (154, 0xc807baa9186e1e99efacd0a1d399c819) => (155, 0xcc5659d3a87b5e91bc403db9b4b950c0)
+    => (156, 0x401b5d2396640d2df84a0ef6f3b4480b) => (157, 0x2356c498e2282a6da3ca4459908aadf9)
+    => (158, 0x760890338bc7b650bec0dde18b3c828a) => (159, 0x3830bff39342b0d6492ddb8ee3c9c5be) ∷
+    row 1929 24 with (0, 0x204aa00ab) with (64, 0x20062a767) => (12, 0xfffffffffffffff0)
+    => (pc, 0x20062a764) => (152, 0x7616ef050b78cfddc10bd429c50220f6)
+    => (153, 0x732778546382341006ca25bdeaf8d63b) => (154, 0xdedb711a1fb0f61dbb2ce6c87514e95b)
+    => (155, 0xb932d95640051606de32174963565a56) => (156, 0x22db108c47e93cb6fdbb740b5bd292d)
+    => (157, 0xb9cbf831ad1d6f6b7028c6ae6c4955e0) => (158, 0xe00caed0f9e1a8e6df17459286fae06d)
+    => (159, 0x74f1d4e6aacb403dbcaa33ed05d1c8d6) ∷
+    row 1930 25 with (0, 0x404897c09) with (64, 0xb19b6e) => (12, 0xfffffffffffffff0)
+    => (pc, 0xb19b6c) => (153, 0xa105f5143f6a931e2fb2ab67ea8a25d)
+    => (154, 0xbccdc3da675dd2e1a8013d07e6ddb95e) => (155, 0x4af9cbd3012921ef4875f3c8c576f5bc)
+    => (156, 0xb494763b1158965ac4594cf91a745779) => (157, 0xf99dc51297ec30241bab4998e5d5de93)
+    => (158, 0x1a15b6052726a14b4e6be9a8279b8b0b) => (159, 0x15fc4bfea0bcd9d05c9b2c73f52538e2) ∷
+    row 1931 26 with (0, 0x204f694c7) with (64, 0x332f76) => (12, 0xfffffffffffffff0)
+    => (pc, 0x332f74) => (154, 0xd32aecc2cda8db1f756eba500cae6185)
+    => (155, 0x8bf6ea736ba432e5db02fcce97facb94) => (156, 0xe7325e882efd661ae406b5b148a51112)
+    => (157, 0xe5dd490117b474be9279e4f81ead31fe) => (158, 0x87f7a9de25c95ed0e25c8aa31a132e59)
+    => (159, 0xcd81811f593c2451d6aea6b23ad70623) ∷
+    row 1932 27 with (0, 0x408000003) with (64, 0x20194451f) with (at, 0x407ffff30)
+    => (12, 0xfffffffffffffff0) => (pc, 0x20194451c) => (155, 0xf487af3e7bb0b4a4df2ce5b0ac800373)
+    => (156, 0x72d60d762076aa0125c011d5a258417e) => (157, 0x609acfd323180e02dbc9a21ff60bee2d)
+    => (158, 0xbdd5f6558394e0a60149968fa79b0980) => (159, 0x8a8780fd41ed21ee963fef24b7059376) ∷
+    row 1933 28 with (0, 0x404799e75) with (64, 0x4014e8988) => (12, 0xfffffffffffffff0)
+    => (pc, 0x4014e8988) => (156, 0x16b9cf73275c3dd2af81bad5a4268b75)
+    => (157, 0x7df514b4925a9de15b8aed68216d994c) => (158, 0x5b947f53d8c79f5f7df845587a234a92)
+    => (159, 0xaf980f50faa3464d16c9c2a6ae479e48) ∷
+    row 1934 29 with (0, 0x2043a3a06) with (64, 0x400c10524) => (12, 0xfffffffffffffff0)
+    => (pc, 0x400c10524) => (157, 0xc19f3389835c398b7509570a8c98741f)
+    => (158, 0xbf5de6db09aee0698510b82457b9084e) => (159, 0x988b3d9c0665aca57086bdad993dc1db) ∷
+    row 1935 30 with (0, 0x4331dab) with (64, 0x2007d8672) => (12, 0xfffffffffffffff0)
+    => (pc, 0x2007d8670) => (158, 0xcc55e64d48405638d64ee76c7ceac499)
+    => (159, 0x4b5b37a7aa077fdb9e03010bac9f3f4e) ∷
+    row 1936 31 with (0, 0x8000008) with (64, 0x400f2abd0) with (at, 0x7ffff30)
+    => (12, 0xfffffffffffffff0) => (pc, 0x400f2abd0) => (159, 0x2d66b61aab25157ad55d93f844cee3a1) ∷
+    [])

@@ -60,6 +60,15 @@ pub record Group : Type 0 where
 abbrev pub group : ℕ → List Executed → Group
 group mask rows = record { mask = mask; rows = rows }
 
+-- Functions of which the longer ones end with the shorter: the words of the longest, and rows of
+-- each, which have the function's number in place of an instruction.
+pub record Functions : Type 0 where
+  pub words : List ℕ
+  pub rows : List Executed
+
+abbrev pub functions : List ℕ → List Executed → Functions
+functions words rows = record { words = words; rows = rows }
+
 -- ---- before
 
 -- a pseudo-random number of so many bits: the middle of a square
@@ -101,22 +110,34 @@ before made e place = listed_or (made e.row place) e.given place
 abbrev pub after : Numbers → Executed → Numbers
 after numbers e place = listed_or (numbers place) e.left place
 
--- the memory as one number, whose low byte is the first
-abbrev pub memory_in : Numbers → ℕ
-memory_in numbers =
-    numbers m0 + 2 ^ 64 * numbers m1 + 2 ^ 128 * numbers m2 + 2 ^ 192 * numbers m3
+-- the memory at so many places as one number, whose low byte is the first
+abbrev pub memory_from : ℕ → ℕ → Numbers → ℕ
+memory_from zero place numbers = 0
+memory_from (suc n) place numbers = numbers place + 2 ^ 64 * memory_from n (place + 1) numbers
 
--- the bytes of such a memory by their addresses, where it begins at one; it is 0 elsewhere
-abbrev pub bytes_from : ℕ → ℕ → Numbers
-bytes_from start memory address =
+abbrev pub memory_in : Numbers → ℕ
+memory_in numbers = memory_from 4 m0 numbers
+
+-- the bytes of such a memory by their addresses, where it has so many and begins at an address; it
+-- is 0 elsewhere
+abbrev pub bytes_of : ℕ → ℕ → ℕ → Numbers
+bytes_of length start memory address =
     let k = difference_64 address start in
-    if nat_lt k 32 then byte_at k memory else 0
+    if nat_lt k length then byte_at k memory else 0
+
+abbrev pub bytes_from : ℕ → ℕ → Numbers
+bytes_from start memory = bytes_of 32 start memory
 
 -- ---- what is compared
 
 abbrev pub all_below : ℕ → (ℕ → Bool) → Bool
 all_below zero test = true
 all_below (suc n) test = test n && all_below n test
+
+-- So many bytes from an address on are those of a number.
+abbrev pub are_bytes : ℕ → ℕ → ℕ → Numbers → Bool
+are_bytes length start number memory =
+    all_below length (λ k. memory (sum_64 start k) == byte_at k number)
 
 -- Of a row, by the numbers before, and an instruction of so many bytes: each of so many registers,
 -- the memory and the flags are as the row leaves them, or else as before. The next address is the
@@ -126,6 +147,6 @@ is_left registers bytes mask e numbers register next memory flags_after =
     let start = numbers at in
     let memory_after = memory_in (after numbers e) in
     all_below registers (λ r. register r == after numbers e r)
-    && all_below 32 (λ k. memory (sum_64 start k) == byte_at k memory_after)
+    && are_bytes 32 start memory_after memory
     && next == listed_or (sum_64 (numbers pc) bytes) e.left pc
     && bit_and flags_after mask == bit_and (after numbers e flags) mask

@@ -10,7 +10,9 @@ ghost use Rattle.vectors.specs.AArch64Table as aarch64_table;
 ghost use Rattle.vectors.specs.LoongArchExecuted as loongarch_executed;
 ghost use Rattle.vectors.specs.LoongArchTable as loongarch_table;
 ghost use Rattle.vectors.specs.Ppc64Executed as ppc64_executed;
+ghost use Rattle.vectors.specs.Ppc64FunctionsExecuted as ppc64_functions_executed;
 ghost use Rattle.vectors.specs.Ppc64Table as ppc64_table;
+ghost use Rattle.vectors.specs.Ppc64VectorsExecuted as ppc64_vectors_executed;
 ghost use Rattle.vectors.specs.RiscVExecuted as riscv_executed;
 ghost use Rattle.vectors.specs.RiscVTable as riscv_table;
 ghost use Rattle.vectors.specs.X86Executed as x86_executed;
@@ -41,10 +43,22 @@ pub fn loongarch64()
 /// PowerPC64: displacements, also those in units of 4 and 16 bytes, branches, `paddi`, `ori` and
 /// `oris`, `addis` with `addi` or `ori`, and numbers of 64 bits by five instructions; and what the
 /// instructions of `linker_laws` do, but for `stfs` of a number that is too small for single
-/// precision; and those of stubs, which move the link and the count register, and of lazy PLTs.
+/// precision; and those of stubs, which move the link and the count register, of lazy PLTs, and of
+/// functions that save registers.
 pub fn ppc64()
     ensures agrees { ppc64_table.Agrees }
     ensures steps { ppc64_executed.Agrees }
+{}
+
+/// PowerPC64: what `stvx` and `lvx` do.
+pub fn ppc64_vectors()
+    ensures steps { ppc64_vectors_executed.Agrees }
+{}
+
+/// PowerPC64: what each function does that saves or restores registers, `_savegpr0_N` and so on,
+/// from its first instruction until it has returned.
+pub fn ppc64_functions()
+    ensures agree { ppc64_functions_executed.Agree }
 {}
 
 /// x86-64: what the instructions of `linker_laws`, and PUSH, do.

@@ -108,7 +108,8 @@ fn replayed(architecture: Architecture, text: &str, skipped: &[&str]) -> usize {
     let is_loongarch = architecture == Architecture::LoongArch64;
     let mut count = 0;
     for (name, row) in rows(text) {
-        if skipped.contains(&name.as_str()) {
+        // functions, whose rows are of many instructions, have names with `_` in front
+        if skipped.contains(&name.as_str()) || name.starts_with('_') {
             continue;
         }
         let before = |place: u64| {
@@ -169,9 +170,20 @@ fn numbers_are_extended() {
 fn powerpc64_is_as_in_qemu() {
     let table = include_str!("../../../../crates/vectors/specs/Ppc64Steps.antt");
     // no group has them: they are of stubs, of lazy PLTs and of functions that save registers
-    let of_stubs =
-        ["mflr", "mtlr", "mtctr", "bcl 20, 31, .+4", "bctr", "b", "subf", "rldicl", "blr"];
-    let count = replayed(Architecture::Ppc64, table, &of_stubs);
+    let others = [
+        "mflr",
+        "mtlr",
+        "mtctr",
+        "bcl 20, 31, .+4",
+        "bctr",
+        "b",
+        "subf",
+        "rldicl",
+        "blr",
+        "stvx",
+        "lvx",
+    ];
+    let count = replayed(Architecture::Ppc64, table, &others);
     assert!(count > 1300, "{count} rows");
 }
 
