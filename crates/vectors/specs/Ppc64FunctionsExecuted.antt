@@ -1,8 +1,7 @@
 -- PowerPC64: the functions that save and restore registers, compared with an emulator from their
 -- first instruction until they have returned. Registers are as in `Ppc64VectorsExecuted`.
-use Rattle.std.specs.Prelude.{ℕ, ◌≡◌, ◌*◌, ◌==◌, ◌&&◌, length, Bool, true, false, List, slice_get}
-use Rattle.std.specs.Prelude.{Option, Some, None, IsSomeAnd}
-use Rattle.std.specs.List.{list_all}
+use Rattle.std.specs.Prelude.{ℕ, ◌≡◌, ◌+◌, ◌*◌, ◌==◌, ◌&&◌, length, Bool, true, false, slice_get}
+use Rattle.std.specs.Prelude.{List, [], ◌∷◌, Option, Some, None, IsSomeAnd}
 use Rattle.linker_elf.specs.Value.{sum_64}
 use Rattle.linker_laws.specs.Machine.{Memory}
 use Rattle.linker_output.specs.Layout.{Run}
@@ -47,13 +46,16 @@ ends_so code e (Some v) =
 abbrev pub returns_so : List ℕ → Executed → Bool
 returns_so code e = ends_so code e (run_vectored formats code (begun e))
 
--- The functions of a run, by the numbers of their registers, have the words that the emulator
--- executed, and leave what it did.
+-- There is a row of the function of each register, from one on to the last.
+abbrev pub return_so : (ℕ → List ℕ) → ℕ → List Executed → Bool
+return_so code n [] = n == 32
+return_so code n (e ∷ rows) = e.code == n && returns_so (code n) e && return_so code (n + 1) rows
+
+-- The functions of a run have the words that the emulator executed, and leave what it did.
 abbrev pub DoAgree : ℕ → (Run → ℕ → List ℕ) → Functions → Type 0
 DoAgree index code_of f =
     IsSomeAnd (slice_get ppc64_output.runs index) (λ r.
-    (code_of r r.first ≡ f.words)
-    × list_all (λ (e : Executed). returns_so (code_of r e.code) e) f.rows ≡ true)
+    (code_of r r.first ≡ f.words) × return_so (code_of r) r.first f.rows ≡ true)
 
 abbrev pub Agree : Type 0
 Agree =

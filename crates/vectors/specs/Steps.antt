@@ -60,8 +60,8 @@ pub record Group : Type 0 where
 abbrev pub group : ℕ → List Executed → Group
 group mask rows = record { mask = mask; rows = rows }
 
--- Functions of which the longer ones end with the shorter: the words of the longest, and rows of
--- each, which have the function's number in place of an instruction.
+-- Functions of which the longer ones end with the shorter: the words of the longest, and a row of
+-- each, which has the number of its register in place of an instruction.
 pub record Functions : Type 0 where
   pub words : List ℕ
   pub rows : List Executed
