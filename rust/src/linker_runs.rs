@@ -2,6 +2,7 @@
 //! Runs of code that become shorter: the items that a section's relocations make, which instructions
 //! become shorter and how many nops each alignment keeps, and sections without the bytes that they lose.
 
+mod guesses;
 pub mod items;
 mod loongarch64;
 pub mod packing;

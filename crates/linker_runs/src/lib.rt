@@ -2,6 +2,7 @@
 //! become shorter and how many nops each alignment keeps, and sections without the bytes that they lose.
 #![tactic(auto)]
 
+mod guesses;
 pub mod items;
 pub mod laws;
 mod loongarch64;

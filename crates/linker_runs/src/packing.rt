@@ -25,10 +25,11 @@ mod code;
 mod loongarch64;
 mod riscv64;
 
+use crate::guesses::{about, density, middle};
 use crate::items::{AsItem, ItemList};
 use crate::packing::code::Code;
 use crate::relaxation::{Item, Site};
-use linker_base::packing::{Position, copy_kept, position_from, position_near, position_of};
+use linker_base::packing::{Position, copy_kept, position_from, position_near};
 use linker_base::relaxation::{DeltaSlice, RelaxDelta};
 use linker_utils::elf::Architecture;
 
@@ -97,7 +98,15 @@ pub(crate) enum Piece {
     Code(Code),
 }
 
+/// Where a run begins.
+const RUN_START: Position = Position {
+    input_offset: 0,
+    begun: 0,
+    output_offset: 0,
+};
+
 /// Whether the item at an index begins at or above a position behind the one before it.
+#[inline(always)]
 fn is_apart(index: usize, behind: &Position, item: &Item) -> bool
     ensures { IsTrue result
         ↔ (0 < index → behind.now.input_offset ≤ offset_of item.now) }
@@ -106,6 +115,7 @@ fn is_apart(index: usize, behind: &Position, item: &Item) -> bool
 }
 
 /// Whether an item lies in a section that begins at the input offset `base`.
+#[inline(always)]
 fn is_inside(section: &[u8], base: u64, item: &Item) -> bool
     ensures { (deletions : List (ℕ × ℕ)) (start : ℕ)
         → IsTrue result ↔ IsInside (section_of section.now base deletions start) item.now }
@@ -119,6 +129,7 @@ fn is_inside(section: &[u8], base: u64, item: &Item) -> bool
 }
 
 /// Whether all bytes between two positions stay.
+#[inline(always)]
 fn stay_whole(from: &Position, to: &Position) -> bool
     requires { from.now.input_offset ≤ to.now.input_offset }
     ensures { (deltas : List RelaxDelta) → AreValidDeltas deltas
@@ -129,12 +140,47 @@ fn stay_whole(from: &Position, to: &Position) -> bool
     to.output_offset.saturating_sub(from.output_offset) == to.input_offset - from.input_offset
 }
 
+/// About how many deltas begin in 4 GiB, in the middle of a list.
+fn density_of(deltas: &[RelaxDelta]) -> u64 {
+    let (low, high) = middle(deltas.len());
+    match (deltas.get(low), deltas.get(high)) {
+        (Some(from), Some(to)) => density(
+            high.saturating_sub(low),
+            from.input_offset,
+            to.input_offset,
+        ),
+        _ => 0,
+    }
+}
+
+/// About the position of an input offset, if deltas are as near each other everywhere.
+#[inline(always)]
+fn guessed_position(
+    deltas: &[RelaxDelta],
+    density: u64,
+    from: &Position,
+    input_offset: u64,
+) -> Position {
+    let near = about(density, from.begun, from.input_offset, input_offset);
+    let begun = match deltas.get(near) {
+        Some(delta) => about(density, near, delta.input_offset, input_offset),
+        None => near,
+    };
+    Position {
+        input_offset,
+        begun,
+        output_offset: 0,
+    }
+}
+
 /// What the instructions of a site become of which so many bytes stay.
+#[inline(always)]
 fn code_of_site(
     machine: Machine,
     section: &[u8],
     base: u64,
     deltas: &[RelaxDelta],
+    density: u64,
     at: &Position,
     start: u64,
     site: &Site,
@@ -161,7 +207,8 @@ fn code_of_site(
         return Err(ItemError::NotItsInstructions);
     }
     let place = start.wrapping_add(at.output_offset);
-    let target = start.wrapping_add(position_near(deltas, at, site.target).output_offset);
+    let near = guessed_position(deltas, density, at, site.target);
+    let target = start.wrapping_add(position_near(deltas, &near, site.target).output_offset);
     match machine {
         Machine::RiscV64 => riscv64::code_of(section, site.offset - base, kept, place, target),
         Machine::LoongArch64 => {
@@ -171,6 +218,7 @@ fn code_of_site(
 }
 
 /// How many bytes the shortest nop has.
+#[inline(always)]
 fn nop_len(machine: Machine) -> u64
     ensures len { result ≡ nop_len machine }
     ensures some { 0 < result }
@@ -182,6 +230,7 @@ fn nop_len(machine: Machine) -> u64
 }
 
 /// Whether the linker has decided what stays of an item.
+#[inline(always)]
 fn is_fixed(item: &Item) -> bool
     ensures { result ≡ is_fixed item.now }
 {
@@ -191,17 +240,20 @@ fn is_fixed(item: &Item) -> bool
     }
 }
 
-/// How many bytes of an item at a position stay, if they are its first ones.
-fn kept_of(deltas: &[RelaxDelta], at: &Position, item: &Item) -> Option<u64>
+/// How many bytes of an item between two positions stay, if they are its first ones.
+#[inline(always)]
+fn kept_of(deltas: &[RelaxDelta], at: &Position, end: &Position, item: &Item) -> Option<u64>
     requires small { end_of item.now < 2 ^ 64 }
     requires at { at.now.input_offset ≡ offset_of item.now }
+    requires end { end.now.input_offset ≡ end_of item.now }
     ensures some { AreValidDeltas deltas.now → IsPosition deltas.now at.now
+        → IsPosition deltas.now end.now
         → IfSome result (λ kept. (kept ≡ kept_len (deletions_of deltas.now) item.now)
         × KeepsFirst (deletions_of deltas.now) item.now) }
     ensures none { AreValidDeltas deltas.now → IsPosition deltas.now at.now
+        → IsPosition deltas.now end.now
         → IfNone result (¬ KeepsFirst (deletions_of deltas.now) item.now) }
 {
-    let end = position_from(deltas, at, at.input_offset + item.len());
     let kept = end.output_offset.saturating_sub(at.output_offset);
     if kept > item.len() {
         return None;
@@ -215,11 +267,13 @@ fn kept_of(deltas: &[RelaxDelta], at: &Position, item: &Item) -> Option<u64>
 }
 
 /// What is written of an item of which so many bytes stay.
+#[inline(always)]
 fn piece_for(
     machine: Machine,
     section: &[u8],
     base: u64,
     deltas: &[RelaxDelta],
+    density: u64,
     at: &Position,
     start: u64,
     item: &Item,
@@ -252,7 +306,9 @@ fn piece_for(
             }
         }
         Item::Site(site) => {
-            match code_of_site(machine, section, base, deltas, at, start, site, kept) {
+            match code_of_site(
+                machine, section, base, deltas, density, at, start, site, kept,
+            ) {
                 Ok(code) => Ok(Piece::Code(code)),
                 Err(error) => Err(error),
             }
@@ -261,36 +317,42 @@ fn piece_for(
 }
 
 /// What is written in place of an item's bytes that stay.
+#[inline(always)]
 fn piece_of(
     machine: Machine,
     section: &[u8],
     base: u64,
     deltas: &[RelaxDelta],
+    density: u64,
     at: &Position,
+    end: &Position,
     start: u64,
     item: &Item,
 ) -> Result<Piece, ItemError>
     requires small { base + length section.now < 2 ^ 64 }
     requires at { at.now.input_offset ≡ offset_of item.now }
+    requires end { end.now.input_offset ≡ end_of item.now }
     requires from { base ≤ offset_of item.now }
     requires to { end_of item.now ≤ base + length section.now }
     ensures piece { AreValidDeltas deltas.now → IsPosition deltas.now at.now
-        → IfOk result
+        → IsPosition deltas.now end.now → IfOk result
         (IsPieceOf machine (section_of section.now base (deletions_of deltas.now) start) item.now) }
     ensures writable { AreValidDeltas deltas.now → IsPosition deltas.now at.now
-        → OnOk result (is_fixed item.now ≡ false
+        → IsPosition deltas.now end.now → OnOk result (is_fixed item.now ≡ false
         → IsWritable machine (section_of section.now base (deletions_of deltas.now) start)
         item.now) }
     ensures rejected { AreValidDeltas deltas.now → IsPosition deltas.now at.now
-        → IfErr result (λ error. (is_fixed item.now ≡ false)
+        → IsPosition deltas.now end.now → IfErr result (λ error. (is_fixed item.now ≡ false)
         × IsUnwritable machine (section_of section.now base (deletions_of deltas.now) start)
         item.now error) }
 {
     if is_fixed(item) {
         return Ok(Piece::Nothing);
     }
-    match kept_of(deltas, at, item) {
-        Some(kept) => piece_for(machine, section, base, deltas, at, start, item, kept),
+    match kept_of(deltas, at, end, item) {
+        Some(kept) => piece_for(
+            machine, section, base, deltas, density, at, start, item, kept,
+        ),
         None => Err(ItemError::NotItsFirstBytes),
     }
 }
@@ -302,21 +364,24 @@ fn test_items<I: AsItem>(
     base: u64,
     items: &ItemList<'_, I>,
     deltas: &[RelaxDelta],
+    density: u64,
     start: u64,
+    begin: &Position,
 ) -> Result<(), RejectedItem>
-    requires { base + length section.now < 2 ^ 64 }
-    ensures ok { AreValidDeltas deltas.now
+    requires small { base + length section.now < 2 ^ 64 }
+    requires begin { begin.now.input_offset ≡ base }
+    ensures ok { AreValidDeltas deltas.now → IsPosition deltas.now begin.now
         → OnOk result
         (AreReady machine (section_of section.now base (deletions_of deltas.now) start) items.now
         (length items.now)
         × KeepsEnd (section_of section.now base (deletions_of deltas.now) start) items.now) }
-    ensures err { AreValidDeltas deltas.now
+    ensures err { AreValidDeltas deltas.now → IsPosition deltas.now begin.now
         → IfErr result
         (IsFirstRejected machine (section_of section.now base (deletions_of deltas.now) start)
         items.now) }
 {
     let count = items.len();
-    let mut behind = position_of(deltas, base);
+    let mut behind = *begin;
     for index in 0..count {
         let item = items.at(index);
         if !is_apart(index, &behind, &item) {
@@ -338,10 +403,13 @@ fn test_items<I: AsItem>(
                 error: ItemError::DeletedOutside,
             });
         }
-        if let Err(error) = piece_of(machine, section, base, deltas, &at, start, &item) {
+        let past = position_from(deltas, &at, item.offset().saturating_add(item.len()));
+        if let Err(error) = piece_of(
+            machine, section, base, deltas, density, &at, &past, start, &item,
+        ) {
             return Err(RejectedItem { index, error });
         }
-        behind = position_from(deltas, &at, item.offset().saturating_add(item.len()));
+        behind = past;
     }
     let end = position_from(deltas, &behind, base + section.len() as u64);
     if stay_whole(&behind, &end) {
@@ -355,6 +423,7 @@ fn test_items<I: AsItem>(
 }
 
 /// Puts bytes at an offset, where they fit there.
+#[inline(always)]
 fn put_bytes(packed: &mut [u8], at: u64, bytes: &[u8])
     ensures { at + length bytes.now ≤ length packed.old
         → packed.new ≡ take at packed.old ++ bytes.now ++ drop (at + length bytes.now) packed.old }
@@ -400,6 +469,7 @@ fn put_nops(machine: Machine, packed: &mut [u8], at: u64, len: u64)
 }
 
 /// Puts what is written of an item at an offset, where it fits there.
+#[inline(always)]
 fn put_piece(machine: Machine, packed: &mut [u8], at: u64, piece: Piece)
     ensures { at + length (piece_bytes machine piece) ≤ length packed.old
         → IsWhole machine piece
@@ -424,11 +494,14 @@ fn put_items<I: AsItem>(
     base: u64,
     items: &ItemList<'_, I>,
     deltas: &[RelaxDelta],
+    density: u64,
     start: u64,
+    begin: &Position,
     packed: &mut [u8],
 )
-    requires { base + length section.now < 2 ^ 64 }
-    ensures { AreValidDeltas deltas.now
+    requires small { base + length section.now < 2 ^ 64 }
+    requires begin { begin.now.input_offset ≡ base }
+    ensures { AreValidDeltas deltas.now → IsPosition deltas.now begin.now
         → length packed.old
         ≡ packed_offset (section_of section.now base (deletions_of deltas.now) start)
         (base + length section.now)
@@ -439,7 +512,7 @@ fn put_items<I: AsItem>(
         → IsPackedRun machine (section_of section.now base (deletions_of deltas.now) start)
         items.now packed.new }
 {
-    let mut at = position_of(deltas, base);
+    let mut at = *begin;
     let before = at.output_offset;
     for index in 0..items.len() {
         let item = items.at(index);
@@ -447,7 +520,10 @@ fn put_items<I: AsItem>(
             return;
         }
         at = position_from(deltas, &at, item.offset());
-        match piece_of(machine, section, base, deltas, &at, start, &item) {
+        let past = position_from(deltas, &at, item.offset().saturating_add(item.len()));
+        match piece_of(
+            machine, section, base, deltas, density, &at, &past, start, &item,
+        ) {
             Err(_error) => return,
             Ok(piece) => {
                 let place = at.output_offset.saturating_sub(before);
@@ -546,8 +622,15 @@ pub fn pack_run<I: AsItem>(
     ensures unchanged { OnErr result (out.new ≡ out.old) }
 {
     let list = ItemList::new(items);
-    test_items(machine, section, base, &list, deltas, start)?;
+    let density = density_of(deltas);
+    let near = guessed_position(deltas, density, &RUN_START, base);
+    let begin = position_near(deltas, &near, base);
+    test_items(
+        machine, section, base, &list, deltas, density, start, &begin,
+    )?;
     copy_kept(section, base, deltas, out);
-    put_items(machine, section, base, &list, deltas, start, out);
+    put_items(
+        machine, section, base, &list, deltas, density, start, &begin, out,
+    );
     Ok(())
 }

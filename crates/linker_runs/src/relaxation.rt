@@ -1,7 +1,7 @@
 //! Sites of instructions that can become shorter, alignments between them, and the choice of a
 //! shape for each site.
 
-ghost use Rattle.std.specs.Prelude.{◌≡◌, ◌+◌, ◌-◌, ◌<◌, ◌≤◌, ◌^◌, ℕ, length, map, true, false, nat_le};
+ghost use Rattle.std.specs.Prelude.{◌≡◌, ◌+◌, ◌-◌, ◌%◌, ◌<◌, ◌≤◌, ◌^◌, ℕ, length, map, true, false, nat_le};
 ghost use Rattle.std.specs.Prelude.{IfOk};
 ghost use Rattle.linker_runs.specs.Relaxing.{offset_of, len_of, end_of, target_of, needed};
 ghost use Rattle.linker_runs.specs.Relaxing.{padding_at};
@@ -23,6 +23,7 @@ mod validity;
 use cautious::choose_cautiously;
 pub use faults::{Fault, ItemFault, are_items, first_faulty};
 use passes::{find_places, keep, lay_out, settle};
+use validity::is_power_of_two;
 
 /// One form of the instructions of a site, as C has it.
 #[repr(C)]
@@ -110,6 +111,20 @@ impl Item {
     }
 }
 
+/// What a number leaves when it is divided by another one. That is a power of two mostly, where no
+/// division is needed.
+#[inline(always)]
+fn remainder(number: u64, divisor: u64) -> u64
+    requires { 0 < divisor }
+    ensures { result ≡ number % divisor }
+{
+    if is_power_of_two(divisor) {
+        number & (divisor - 1)
+    } else {
+        number % divisor
+    }
+}
+
 impl Shape {
     /// Whether a target is in reach, both given by output offsets.
     #[inline(always)]
@@ -120,10 +135,10 @@ impl Shape {
         let granularity = u64::from(self.granularity);
         if from <= to {
             let distance = to - from;
-            distance < self.max_forward && distance % granularity == 0
+            distance < self.max_forward && remainder(distance, granularity) == 0
         } else {
             let distance = from - to;
-            distance <= self.max_backward && distance % granularity == 0
+            distance <= self.max_backward && remainder(distance, granularity) == 0
         }
     }
 }
@@ -135,7 +150,10 @@ impl Alignment {
         requires { 0 < self.now.alignment }
         ensures { result ≡ needed self.now.alignment address }
     {
-        (self.alignment - address % self.alignment) % self.alignment
+        remainder(
+            self.alignment - remainder(address, self.alignment),
+            self.alignment,
+        )
     }
 
     /// How many nops stay where the first one has an output address.

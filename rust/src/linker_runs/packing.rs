@@ -5,10 +5,11 @@ mod code;
 mod loongarch64;
 mod riscv64;
 
+use crate::linker_runs::guesses::{about, density, middle};
 use crate::linker_runs::items::{AsItem, ItemList};
 use crate::linker_runs::packing::code::Code;
 use crate::linker_runs::relaxation::{Item, Site};
-use crate::linker_base::packing::{Position, copy_kept, position_from, position_near, position_of};
+use crate::linker_base::packing::{Position, copy_kept, position_from, position_near};
 use crate::linker_base::relaxation::{DeltaSlice, RelaxDelta};
 use crate::elf::Architecture;
 
@@ -76,12 +77,21 @@ pub(crate) enum Piece {
     Code(Code),
 }
 
+/// Where a run begins.
+const RUN_START: Position = Position {
+    input_offset: 0,
+    begun: 0,
+    output_offset: 0,
+};
+
 /// Whether the item at an index begins at or above a position behind the one before it.
+#[inline(always)]
 fn is_apart(index: usize, behind: &Position, item: &Item) -> bool {
     index == 0 || behind.input_offset <= item.offset()
 }
 
 /// Whether an item lies in a section that begins at the input offset `base`.
+#[inline(always)]
 fn is_inside(section: &[u8], base: u64, item: &Item) -> bool {
     let len = section.len() as u64;
     if item.offset() < base {
@@ -92,16 +102,52 @@ fn is_inside(section: &[u8], base: u64, item: &Item) -> bool {
 }
 
 /// Whether all bytes between two positions stay.
+#[inline(always)]
 fn stay_whole(from: &Position, to: &Position) -> bool {
     to.output_offset.saturating_sub(from.output_offset) == to.input_offset - from.input_offset
 }
 
+/// About how many deltas begin in 4 GiB, in the middle of a list.
+fn density_of(deltas: &[RelaxDelta]) -> u64 {
+    let (low, high) = middle(deltas.len());
+    match (deltas.get(low), deltas.get(high)) {
+        (Some(from), Some(to)) => density(
+            high.saturating_sub(low),
+            from.input_offset,
+            to.input_offset,
+        ),
+        _ => 0,
+    }
+}
+
+/// About the position of an input offset, if deltas are as near each other everywhere.
+#[inline(always)]
+fn guessed_position(
+    deltas: &[RelaxDelta],
+    density: u64,
+    from: &Position,
+    input_offset: u64,
+) -> Position {
+    let near = about(density, from.begun, from.input_offset, input_offset);
+    let begun = match deltas.get(near) {
+        Some(delta) => about(density, near, delta.input_offset, input_offset),
+        None => near,
+    };
+    Position {
+        input_offset,
+        begun,
+        output_offset: 0,
+    }
+}
+
 /// What the instructions of a site become of which so many bytes stay.
+#[inline(always)]
 fn code_of_site(
     machine: Machine,
     section: &[u8],
     base: u64,
     deltas: &[RelaxDelta],
+    density: u64,
     at: &Position,
     start: u64,
     site: &Site,
@@ -111,7 +157,8 @@ fn code_of_site(
         return Err(ItemError::NotItsInstructions);
     }
     let place = start.wrapping_add(at.output_offset);
-    let target = start.wrapping_add(position_near(deltas, at, site.target).output_offset);
+    let near = guessed_position(deltas, density, at, site.target);
+    let target = start.wrapping_add(position_near(deltas, &near, site.target).output_offset);
     match machine {
         Machine::RiscV64 => riscv64::code_of(section, site.offset - base, kept, place, target),
         Machine::LoongArch64 => {
@@ -121,6 +168,7 @@ fn code_of_site(
 }
 
 /// How many bytes the shortest nop has.
+#[inline(always)]
 fn nop_len(machine: Machine) -> u64 {
     match machine {
         Machine::RiscV64 => 2,
@@ -129,6 +177,7 @@ fn nop_len(machine: Machine) -> u64 {
 }
 
 /// Whether the linker has decided what stays of an item.
+#[inline(always)]
 fn is_fixed(item: &Item) -> bool {
     match item {
         Item::Site(site) => site.shapes.count == 0,
@@ -136,9 +185,9 @@ fn is_fixed(item: &Item) -> bool {
     }
 }
 
-/// How many bytes of an item at a position stay, if they are its first ones.
-fn kept_of(deltas: &[RelaxDelta], at: &Position, item: &Item) -> Option<u64> {
-    let end = position_from(deltas, at, at.input_offset + item.len());
+/// How many bytes of an item between two positions stay, if they are its first ones.
+#[inline(always)]
+fn kept_of(deltas: &[RelaxDelta], at: &Position, end: &Position, item: &Item) -> Option<u64> {
     let kept = end.output_offset.saturating_sub(at.output_offset);
     if kept > item.len() {
         return None;
@@ -152,11 +201,13 @@ fn kept_of(deltas: &[RelaxDelta], at: &Position, item: &Item) -> Option<u64> {
 }
 
 /// What is written of an item of which so many bytes stay.
+#[inline(always)]
 fn piece_for(
     machine: Machine,
     section: &[u8],
     base: u64,
     deltas: &[RelaxDelta],
+    density: u64,
     at: &Position,
     start: u64,
     item: &Item,
@@ -171,7 +222,9 @@ fn piece_for(
             }
         }
         Item::Site(site) => {
-            match code_of_site(machine, section, base, deltas, at, start, site, kept) {
+            match code_of_site(
+                machine, section, base, deltas, density, at, start, site, kept,
+            ) {
                 Ok(code) => Ok(Piece::Code(code)),
                 Err(error) => Err(error),
             }
@@ -180,20 +233,25 @@ fn piece_for(
 }
 
 /// What is written in place of an item's bytes that stay.
+#[inline(always)]
 fn piece_of(
     machine: Machine,
     section: &[u8],
     base: u64,
     deltas: &[RelaxDelta],
+    density: u64,
     at: &Position,
+    end: &Position,
     start: u64,
     item: &Item,
 ) -> Result<Piece, ItemError> {
     if is_fixed(item) {
         return Ok(Piece::Nothing);
     }
-    match kept_of(deltas, at, item) {
-        Some(kept) => piece_for(machine, section, base, deltas, at, start, item, kept),
+    match kept_of(deltas, at, end, item) {
+        Some(kept) => piece_for(
+            machine, section, base, deltas, density, at, start, item, kept,
+        ),
         None => Err(ItemError::NotItsFirstBytes),
     }
 }
@@ -205,10 +263,12 @@ fn test_items<I: AsItem>(
     base: u64,
     items: &ItemList<'_, I>,
     deltas: &[RelaxDelta],
+    density: u64,
     start: u64,
+    begin: &Position,
 ) -> Result<(), RejectedItem> {
     let count = items.len();
-    let mut behind = position_of(deltas, base);
+    let mut behind = *begin;
     for index in 0..count {
         let item = items.at(index);
         if !is_apart(index, &behind, &item) {
@@ -230,10 +290,13 @@ fn test_items<I: AsItem>(
                 error: ItemError::DeletedOutside,
             });
         }
-        if let Err(error) = piece_of(machine, section, base, deltas, &at, start, &item) {
+        let past = position_from(deltas, &at, item.offset().saturating_add(item.len()));
+        if let Err(error) = piece_of(
+            machine, section, base, deltas, density, &at, &past, start, &item,
+        ) {
             return Err(RejectedItem { index, error });
         }
-        behind = position_from(deltas, &at, item.offset().saturating_add(item.len()));
+        behind = past;
     }
     let end = position_from(deltas, &behind, base + section.len() as u64);
     if stay_whole(&behind, &end) {
@@ -247,6 +310,7 @@ fn test_items<I: AsItem>(
 }
 
 /// Puts bytes at an offset, where they fit there.
+#[inline(always)]
 fn put_bytes(packed: &mut [u8], at: u64, bytes: &[u8]) {
     let len = packed.len() as u64;
     let count = bytes.len() as u64;
@@ -282,6 +346,7 @@ fn put_nops(machine: Machine, packed: &mut [u8], at: u64, len: u64) {
 }
 
 /// Puts what is written of an item at an offset, where it fits there.
+#[inline(always)]
 fn put_piece(machine: Machine, packed: &mut [u8], at: u64, piece: Piece) {
     match piece {
         Piece::Nothing => {}
@@ -301,10 +366,12 @@ fn put_items<I: AsItem>(
     base: u64,
     items: &ItemList<'_, I>,
     deltas: &[RelaxDelta],
+    density: u64,
     start: u64,
+    begin: &Position,
     packed: &mut [u8],
 ) {
-    let mut at = position_of(deltas, base);
+    let mut at = *begin;
     let before = at.output_offset;
     for index in 0..items.len() {
         let item = items.at(index);
@@ -312,7 +379,10 @@ fn put_items<I: AsItem>(
             return;
         }
         at = position_from(deltas, &at, item.offset());
-        match piece_of(machine, section, base, deltas, &at, start, &item) {
+        let past = position_from(deltas, &at, item.offset().saturating_add(item.len()));
+        match piece_of(
+            machine, section, base, deltas, density, &at, &past, start, &item,
+        ) {
             Err(_error) => return,
             Ok(piece) => {
                 let place = at.output_offset.saturating_sub(before);
@@ -405,8 +475,15 @@ pub fn pack_run<I: AsItem>(
     debug_assert!((base as u128) + (section.len() as u128) < 1 << 64);
     debug_assert!(!DeltaSlice::new(deltas).has_valid_deltas() || packed_run_len(base, section.len(), deltas) == out.len());
     let list = ItemList::new(items);
-    test_items(machine, section, base, &list, deltas, start)?;
+    let density = density_of(deltas);
+    let near = guessed_position(deltas, density, &RUN_START, base);
+    let begin = position_near(deltas, &near, base);
+    test_items(
+        machine, section, base, &list, deltas, density, start, &begin,
+    )?;
     copy_kept(section, base, deltas, out);
-    put_items(machine, section, base, &list, deltas, start, out);
+    put_items(
+        machine, section, base, &list, deltas, density, start, &begin, out,
+    );
     Ok(())
 }

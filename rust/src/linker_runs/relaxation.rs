@@ -15,6 +15,7 @@ mod validity;
 use cautious::choose_cautiously;
 pub use faults::{Fault, ItemFault, are_items, first_faulty};
 use passes::{find_places, keep, lay_out, settle};
+use validity::is_power_of_two;
 
 /// One form of the instructions of a site, as C has it.
 #[repr(C)]
@@ -100,6 +101,17 @@ impl Item {
     }
 }
 
+/// What a number leaves when it is divided by another one. That is a power of two mostly, where no
+/// division is needed.
+#[inline(always)]
+fn remainder(number: u64, divisor: u64) -> u64 {
+    if is_power_of_two(divisor) {
+        number & (divisor - 1)
+    } else {
+        number % divisor
+    }
+}
+
 impl Shape {
     /// Whether a target is in reach, both given by output offsets.
     #[inline(always)]
@@ -107,10 +119,10 @@ impl Shape {
         let granularity = u64::from(self.granularity);
         if from <= to {
             let distance = to - from;
-            distance < self.max_forward && distance % granularity == 0
+            distance < self.max_forward && remainder(distance, granularity) == 0
         } else {
             let distance = from - to;
-            distance <= self.max_backward && distance % granularity == 0
+            distance <= self.max_backward && remainder(distance, granularity) == 0
         }
     }
 }
@@ -119,7 +131,10 @@ impl Alignment {
     /// How many bytes of nops it takes from an address to the next multiple of the alignment.
     #[inline(always)]
     fn needed_at(&self, address: u64) -> u64 {
-        (self.alignment - address % self.alignment) % self.alignment
+        remainder(
+            self.alignment - remainder(address, self.alignment),
+            self.alignment,
+        )
     }
 
     /// How many nops stay where the first one has an output address.

@@ -23,6 +23,7 @@ pub(crate) struct Template {
 }
 
 /// The eight bytes at an offset.
+#[inline(always)]
 pub(crate) fn pair_at(section: &[u8], offset: u64) -> [u8; 8]
     requires { offset + 8 ≤ length section.now }
     ensures { result ≡ take 8 (drop offset section.now) }
@@ -34,6 +35,7 @@ pub(crate) fn pair_at(section: &[u8], offset: u64) -> [u8; 8]
 }
 
 /// The operands of a relocation at a place, of a symbol and a PLT entry at the target.
+#[inline(always)]
 pub(crate) fn operands_of(place: u64, target: u64) -> Operands
     ensures { result ≡ operands_of place target }
 {
@@ -47,6 +49,7 @@ pub(crate) fn operands_of(place: u64, target: u64) -> Operands
 
 /// A template with its relocation applied, at an address and for a target's. None where the
 /// relocation's value is rejected.
+#[inline(always)]
 pub(crate) fn relocated(template: Template, place: u64, target: u64) -> Option<Code>
     ensures applied { MatchOption result
         (IsRejected template.row (operands_of place target) (code_bytes template.code))

@@ -33,6 +33,7 @@ pub(crate) enum Kind {
 }
 
 /// What a relocation means that has a row.
+#[inline(always)]
 fn row_of(name: LoongArch64Relocation) -> RelocationKindInfo
     requires { IsSomeAnd (loongarch_raw_row name) (λ _. ⊤) }
     ensures { loongarch_raw_row name ≡ Some result }
@@ -44,6 +45,7 @@ fn row_of(name: LoongArch64Relocation) -> RelocationKindInfo
 }
 
 /// The site's instructions at an offset. None where other ones are there.
+#[inline(always)]
 fn kind_at(section: &[u8], offset: u64) -> Option<Kind>
     ensures { MatchOption result (¬ IsSiteAt section.now offset)
         (λ kind. IsKindAt section.now offset kind) }
@@ -58,6 +60,7 @@ fn kind_at(section: &[u8], offset: u64) -> Option<Kind>
 }
 
 /// The destination register of the second instruction at an offset.
+#[inline(always)]
 fn destination(section: &[u8], offset: u64) -> u32
     requires { offset + 8 ≤ length section.now }
     ensures { result ≡ destination section.now offset }
@@ -66,6 +69,7 @@ fn destination(section: &[u8], offset: u64) -> u32
 }
 
 /// `b` of distance 0, or `bl` where register 1, `ra`, is linked.
+#[inline(always)]
 fn branch(link: u32) -> [u8; 4]
     requires { link < 2 }
     ensures { result ≡ to_le_bytes w32 (0x50000000 + link * 2 ^ 26) }
@@ -74,6 +78,7 @@ fn branch(link: u32) -> [u8; 4]
 }
 
 /// `pcaddi` of distance 0 into a register.
+#[inline(always)]
 fn pcaddi(register: u32) -> [u8; 4]
     requires { register < 32 }
     ensures { result ≡ to_le_bytes w32 (0x18000000 + register) }
@@ -82,6 +87,7 @@ fn pcaddi(register: u32) -> [u8; 4]
 }
 
 /// The short instruction of a site.
+#[inline(always)]
 fn short_of(section: &[u8], offset: u64, kind: Kind) -> Template
     requires inside { offset + 8 ≤ length section.now }
     requires kind { IsKindAt section.now offset kind }
@@ -102,6 +108,7 @@ fn short_of(section: &[u8], offset: u64, kind: Kind) -> Template
 }
 
 /// Whether the distance of the pages is a number of 32 bits.
+#[inline(always)]
 fn are_pages_near(row: &RelocationKindInfo, place: u64, target: u64) -> bool
     requires { loongarch_raw_row LoongArch64Relocation.R_LARCH_PCALA_HI20 ≡ Some row.now }
     ensures { IsTrue result ↔ ArePagesNear place target }
@@ -113,6 +120,7 @@ fn are_pages_near(row: &RelocationKindInfo, place: u64, target: u64) -> bool
 }
 
 /// The four bytes at an offset.
+#[inline(always)]
 fn word_at(section: &[u8], offset: u64) -> [u8; 4]
     requires { offset + 4 ≤ length section.now }
     ensures { result ≡ take 4 (drop offset section.now) }
@@ -124,6 +132,7 @@ fn word_at(section: &[u8], offset: u64) -> [u8; 4]
 }
 
 /// Two words, one behind the other.
+#[inline(always)]
 fn joined(first: [u8; 4], second: [u8; 4]) -> [u8; 8]
     ensures { result ≡ first ++ second }
 {
@@ -135,6 +144,7 @@ fn joined(first: [u8; 4], second: [u8; 4]) -> [u8; 8]
 
 /// The `pcalau12i` and `addi.d` at an offset with their relocations applied. None where they can't
 /// compute the target, or a relocation's value is rejected.
+#[inline(always)]
 fn address_of(section: &[u8], offset: u64, place: u64, target: u64) -> Option<[u8; 8]>
     requires { offset + 8 ≤ length section.now }
     ensures { MatchOption result (IsAddressOutOfReach section.now offset place target)
@@ -158,6 +168,7 @@ fn address_of(section: &[u8], offset: u64, place: u64, target: u64) -> Option<[u
 
 /// The instructions of a site as they are, with their relocations applied. None where they can't
 /// reach the target.
+#[inline(always)]
 fn long_of(section: &[u8], offset: u64, kind: Kind, place: u64, target: u64) -> Option<Code>
     requires { offset + 8 ≤ length section.now }
     ensures long { MatchOption result (IsLongOutOfReach section.now offset kind place target)
@@ -180,6 +191,7 @@ fn long_of(section: &[u8], offset: u64, kind: Kind, place: u64, target: u64) -> 
 }
 
 /// What a site becomes of which so many bytes stay, at an address and for a target's.
+#[inline(always)]
 pub(crate) fn code_of(
     section: &[u8],
     offset: u64,

@@ -21,6 +21,7 @@ use linker_elf::elf::RelocationKindInfo;
 use linker_riscv64::{RiscVRelocation, relocation_type_from_raw};
 
 /// What a relocation means that has a row.
+#[inline(always)]
 fn row_of(name: RiscVRelocation) -> RelocationKindInfo
     requires { IsSomeAnd (riscv_row name) (λ _. ⊤) }
     ensures { riscv_row name ≡ Some result }
@@ -32,6 +33,7 @@ fn row_of(name: RiscVRelocation) -> RelocationKindInfo
 }
 
 /// `jal` of distance 0 that links a register.
+#[inline(always)]
 fn jal(link: u32) -> [u8; 4]
     requires { link < 32 }
     ensures { result ≡ to_le_bytes w32 (0x6f + link * 2 ^ 7) }
@@ -40,6 +42,7 @@ fn jal(link: u32) -> [u8; 4]
 }
 
 /// The instruction of which so many bytes stay of a call that links a register.
+#[inline(always)]
 fn template_of(section: &[u8], offset: u64, link: u32, kept: u64) -> Option<Template>
     requires inside { offset + 8 ≤ length section.now }
     requires link { link ≡ link_register OfJalr section.now offset }
@@ -66,6 +69,7 @@ fn template_of(section: &[u8], offset: u64, link: u32, kept: u64) -> Option<Temp
 }
 
 /// What a call becomes of which so many bytes stay, at an address and for a target's.
+#[inline(always)]
 pub(crate) fn code_of(
     section: &[u8],
     offset: u64,

@@ -18,12 +18,12 @@ ghost use Rattle.linker_runs.specs.Choosing.{HasItsNops};
 ghost use Rattle.linker_runs.specs.Faults.{ShapesMeet, AlignmentMeets};
 ghost use Rattle.linker_runs.specs.Inner.Validity.{IsClearRun};
 
-use super::{Alignment, Item, Shapes};
+use super::{Alignment, Item, Shapes, remainder};
 use crate::items::{AsItem, ItemList};
 
 /// Whether a number is a power of two.
 #[inline]
-fn is_power_of_two(number: u64) -> bool
+pub(super) fn is_power_of_two(number: u64) -> bool
     ensures { IsTrue result ↔ IsPowerOfTwo number }
 {
     number.is_power_of_two()
@@ -114,9 +114,9 @@ impl Shapes {
         requires within { ShapesMeet self.now len ShapeTooLong }
         ensures { IsTrue result ↔ ShapesFit granularity len self.now }
     {
-        (len - self.kept_by(0)) % granularity == 0
-            && (len - self.kept_by(1)) % granularity == 0
-            && (len - self.kept_by(2)) % granularity == 0
+        remainder(len - self.kept_by(0), granularity) == 0
+            && remainder(len - self.kept_by(1), granularity) == 0
+            && remainder(len - self.kept_by(2), granularity) == 0
     }
 
     /// The greatest granularity of the short ones, and 1 where there is none.

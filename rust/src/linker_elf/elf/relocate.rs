@@ -416,6 +416,7 @@ impl RelocationKindInfo {
 
     /// Computes the relocation's value from a linker's numbers and writes it. Returns true if it has a
     /// value and `write` accepts it, and else writes nothing.
+    #[inline(always)]
     pub fn apply(&self, operands: &Operands, dest: &mut [u8]) -> bool {
         match self.value(operands) {
             Some(value) => self.write(value, dest).is_ok(),

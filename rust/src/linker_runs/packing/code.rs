@@ -19,6 +19,7 @@ pub(crate) struct Template {
 }
 
 /// The eight bytes at an offset.
+#[inline(always)]
 pub(crate) fn pair_at(section: &[u8], offset: u64) -> [u8; 8] {
     let start = offset as usize;
     let mut pair = [0; 8];
@@ -27,6 +28,7 @@ pub(crate) fn pair_at(section: &[u8], offset: u64) -> [u8; 8] {
 }
 
 /// The operands of a relocation at a place, of a symbol and a PLT entry at the target.
+#[inline(always)]
 pub(crate) fn operands_of(place: u64, target: u64) -> Operands {
     Operands {
         symbol: target,
@@ -38,6 +40,7 @@ pub(crate) fn operands_of(place: u64, target: u64) -> Operands {
 
 /// A template with its relocation applied, at an address and for a target's. None where the
 /// relocation's value is rejected.
+#[inline(always)]
 pub(crate) fn relocated(template: Template, place: u64, target: u64) -> Option<Code> {
     let operands = operands_of(place, target);
     match template.code {

@@ -20,6 +20,7 @@ pub(crate) enum Kind {
 }
 
 /// What a relocation means that has a row.
+#[inline(always)]
 fn row_of(name: LoongArch64Relocation) -> RelocationKindInfo {
     match relocation_type_from_raw(name) {
         Some(row) => row,
@@ -28,6 +29,7 @@ fn row_of(name: LoongArch64Relocation) -> RelocationKindInfo {
 }
 
 /// The site's instructions at an offset. None where other ones are there.
+#[inline(always)]
 fn kind_at(section: &[u8], offset: u64) -> Option<Kind> {
     if is_call(section, offset) {
         Some(Kind::Call)
@@ -39,21 +41,25 @@ fn kind_at(section: &[u8], offset: u64) -> Option<Kind> {
 }
 
 /// The destination register of the second instruction at an offset.
+#[inline(always)]
 fn destination(section: &[u8], offset: u64) -> u32 {
     u32_from_slice(&section[offset as usize + 4..]) & 0x1f
 }
 
 /// `b` of distance 0, or `bl` where register 1, `ra`, is linked.
+#[inline(always)]
 fn branch(link: u32) -> [u8; 4] {
     (0x5000_0000 + link * 0x0400_0000).to_le_bytes()
 }
 
 /// `pcaddi` of distance 0 into a register.
+#[inline(always)]
 fn pcaddi(register: u32) -> [u8; 4] {
     (0x1800_0000 + register).to_le_bytes()
 }
 
 /// The short instruction of a site.
+#[inline(always)]
 fn short_of(section: &[u8], offset: u64, kind: Kind) -> Template {
     let register = destination(section, offset);
     match kind {
@@ -69,6 +75,7 @@ fn short_of(section: &[u8], offset: u64, kind: Kind) -> Template {
 }
 
 /// Whether the distance of the pages is a number of 32 bits.
+#[inline(always)]
 fn are_pages_near(row: &RelocationKindInfo, place: u64, target: u64) -> bool {
     match row.value(&operands_of(place, target)) {
         Some(distance) => AllowedRange::from_bit_size(32, Sign::Signed).contains(distance),
@@ -77,6 +84,7 @@ fn are_pages_near(row: &RelocationKindInfo, place: u64, target: u64) -> bool {
 }
 
 /// The four bytes at an offset.
+#[inline(always)]
 fn word_at(section: &[u8], offset: u64) -> [u8; 4] {
     let start = offset as usize;
     let mut word = [0; 4];
@@ -85,6 +93,7 @@ fn word_at(section: &[u8], offset: u64) -> [u8; 4] {
 }
 
 /// Two words, one behind the other.
+#[inline(always)]
 fn joined(first: [u8; 4], second: [u8; 4]) -> [u8; 8] {
     let mut pair = [0; 8];
     pair[..4].copy_from_slice(&first);
@@ -94,6 +103,7 @@ fn joined(first: [u8; 4], second: [u8; 4]) -> [u8; 8] {
 
 /// The `pcalau12i` and `addi.d` at an offset with their relocations applied. None where they can't
 /// compute the target, or a relocation's value is rejected.
+#[inline(always)]
 fn address_of(section: &[u8], offset: u64, place: u64, target: u64) -> Option<[u8; 8]> {
     let row = row_of(LoongArch64Relocation::R_LARCH_PCALA_HI20);
     if !are_pages_near(&row, place, target) {
@@ -113,6 +123,7 @@ fn address_of(section: &[u8], offset: u64, place: u64, target: u64) -> Option<[u
 
 /// The instructions of a site as they are, with their relocations applied. None where they can't
 /// reach the target.
+#[inline(always)]
 fn long_of(section: &[u8], offset: u64, kind: Kind, place: u64, target: u64) -> Option<Code> {
     match kind {
         Kind::Call => {
@@ -130,6 +141,7 @@ fn long_of(section: &[u8], offset: u64, kind: Kind, place: u64, target: u64) -> 
 }
 
 /// What a site becomes of which so many bytes stay, at an address and for a target's.
+#[inline(always)]
 pub(crate) fn code_of(
     section: &[u8],
     offset: u64,

@@ -10,6 +10,7 @@ use crate::linker_elf::elf::RelocationKindInfo;
 use crate::riscv64::{RiscVRelocation, relocation_type_from_raw};
 
 /// What a relocation means that has a row.
+#[inline(always)]
 fn row_of(name: RiscVRelocation) -> RelocationKindInfo {
     match relocation_type_from_raw(name) {
         Some(row) => row,
@@ -18,11 +19,13 @@ fn row_of(name: RiscVRelocation) -> RelocationKindInfo {
 }
 
 /// `jal` of distance 0 that links a register.
+#[inline(always)]
 fn jal(link: u32) -> [u8; 4] {
     (0x6f + link * 128).to_le_bytes()
 }
 
 /// The instruction of which so many bytes stay of a call that links a register.
+#[inline(always)]
 fn template_of(section: &[u8], offset: u64, link: u32, kept: u64) -> Option<Template> {
     match kept {
         2 if link == 0 => Some(Template {
@@ -42,6 +45,7 @@ fn template_of(section: &[u8], offset: u64, link: u32, kept: u64) -> Option<Temp
 }
 
 /// What a call becomes of which so many bytes stay, at an address and for a target's.
+#[inline(always)]
 pub(crate) fn code_of(
     section: &[u8],
     offset: u64,

@@ -1,12 +1,12 @@
 // Made by tools/erase of crates/linker_runs/src/relaxation/validity.rt.
 //! What is tested of the items of a run.
 
-use super::{Alignment, Item, Shapes};
+use super::{Alignment, Item, Shapes, remainder};
 use crate::linker_runs::items::{AsItem, ItemList};
 
 /// Whether a number is a power of two.
 #[inline]
-fn is_power_of_two(number: u64) -> bool {
+pub(super) fn is_power_of_two(number: u64) -> bool {
     number.is_power_of_two()
 }
 
@@ -66,9 +66,9 @@ impl Shapes {
     /// Whether each shape of a site of so many bytes frees a multiple of a granularity.
     #[inline]
     pub(super) fn are_even(&self, granularity: u64, len: u64) -> bool {
-        (len - self.kept_by(0)) % granularity == 0
-            && (len - self.kept_by(1)) % granularity == 0
-            && (len - self.kept_by(2)) % granularity == 0
+        remainder(len - self.kept_by(0), granularity) == 0
+            && remainder(len - self.kept_by(1), granularity) == 0
+            && remainder(len - self.kept_by(2), granularity) == 0
     }
 
     /// The greatest granularity of the short ones, and 1 where there is none.

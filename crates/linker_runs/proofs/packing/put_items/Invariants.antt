@@ -12,10 +12,10 @@ abbrev pub invariant-loop-index : goal.invariant-loop-index
 invariant-loop-index g l = record {
   rises : AreReady l.machine (section_of l.section l.base (deletions_of l.deltas) l.start) l.items (length l.items)
       → l.index < length l.items → l.at.input_offset ≤ offset_of (item_at l.items l.index);
-  position : AreValidDeltas l.deltas
+  position : AreValidDeltas l.deltas → IsPosition l.deltas l.begin
       → AreReady l.machine (section_of l.section l.base (deletions_of l.deltas) l.start) l.items (length l.items)
       → IsPosition l.deltas l.at;
-  put : AreValidDeltas l.deltas
+  put : AreValidDeltas l.deltas → IsPosition l.deltas l.begin
       → length l.packed ≡ packed_offset (section_of l.section l.base (deletions_of l.deltas) l.start) (l.base + length l.section)
       → AreReady l.machine (section_of l.section l.base (deletions_of l.deltas) l.start) l.items (length l.items)
       → IsFilled (deletions_of l.deltas) l.base l.section l.initial.packed

@@ -17,9 +17,9 @@ pub returns-clause-place : goal.returns-clause-place
 returns-clause-place g c =
     let elements = c.self.inside.elements.now in
     let items : List Item = map g.I.AsItem.item elements in
-    let p = c.passing_near.result in
+    let p = c.passing_by_steps.result in
     subst (λ all. p ≡ place_of all c.args.offset) c.self.view_is
     (place_unique c.args.start items (subst (AreInOrder c.args.start) (sym c.self.view_is) c.requires) c.args.offset p
-    (omega (arith, c.passing_near.ensures.within, length-map elements g.I.AsItem.item))
-    (λ some. ends (end_of (item_at items (p - 1))) c.args.offset (c.passing_near.ensures.below some))
-    (λ within. past (end_of (item_at items p)) c.args.offset (c.passing_near.ensures.above (omega (arith, within, length-map elements g.I.AsItem.item)))))
+    (omega (arith, c.passing_by_steps.ensures.within, length-map elements g.I.AsItem.item))
+    (λ some. ends (end_of (item_at items (p - 1))) c.args.offset (c.passing_by_steps.ensures.below some))
+    (λ within. past (end_of (item_at items p)) c.args.offset (c.passing_by_steps.ensures.above (omega (arith, within, length-map elements g.I.AsItem.item)))))
