@@ -115,18 +115,11 @@ static void pack_output(struct output *o) {
 
 /* Relaxes the sections of a run. */
 static void relax_run(struct run *run) {
-    size_t room = 1, at = SIZE_MAX;
+    size_t room = outputs_len + 1, at = SIZE_MAX;
     uint64_t end = 0, unit = code_unit();
-    bool shrinks = false;
-    EACH_OUTPUT(o) {
-        if (o->run != run) continue;
+    EACH_OUTPUT(o)
         for (const struct section *s = o->first; s; s = s->behind)
             room += s->relocations_len + s->deleted_len + 1;
-        room++;
-        shrinks |= o->shrinks;
-        if (o->base + o->len > end) end = o->base + o->len;
-    }
-    if (!shrinks) return;
     items = zeros(room, sizeof *items);
     makers = zeros(room, sizeof *makers);
     items_len = 0;
@@ -134,6 +127,7 @@ static void relax_run(struct run *run) {
         if (o->run != run) continue;
         if (o->before.len) items[items_len++] = o->before;
         for (struct section *s = o->first; s; s = s->behind) add_items(s);
+        if (o->base + o->len > end) end = o->base + o->len;
     }
     /* one more at the end, which says the unit of the code where there is no site */
     items[items_len++] = (struct linker_utils_item){
@@ -146,28 +140,28 @@ static void relax_run(struct run *run) {
     stay = zeros(len, sizeof *stay);
     uint32_t status = linker_utils_relax(items, len, run->start, shapes, len, stay, len, places,
                                          len, freed, len + 1, &at);
-    if (status)
-        EACH_SECTION(s)
-            if (s->output && s->output->run == run && at - s->first_item < s->items_len)
-                check_items(s, makers[at], status);
+    EACH_SECTION(s)
+        if (status && s->output && s->output->run == run && at - s->first_item < s->items_len)
+            check_items(s, makers[at], status);
     if (status) fail("the code can't be relaxed: %s", linker_utils_status_text(status));
-    free(places), free(freed), free(shapes);
     run->deltas = zeros(len, sizeof *run->deltas);
     linker_utils_run_deltas(items, len, stay, len, run->deltas, len, &run->deltas_len);
     run->heads_len = linker_utils_deltas_block_count(run->deltas, run->deltas_len);
     run->heads = zeros(run->heads_len, sizeof *run->heads);
     linker_utils_deltas_heads(run->deltas, run->deltas_len, run->heads, run->heads_len);
     EACH_OUTPUT(o) if (o->run == run && o->shrinks) pack_output(o);
-    free(items), free(makers), free(stay);
+    free(places), free(freed), free(shapes), free(items), free(makers), free(stay);
 }
 
 /* Relaxes all code. */
 void relax(void) {
-    bool shrinks = has_short_offsets && relaxes;
-    EACH_OUTPUT(o) shrinks |= o->shrinks;
+    bool shrinks = false;
     uint32_t phase = LINKER_UTILS_PHASE_THREAD_OFFSETS;
-    EACH_OBJECT(o) if (shrinks && o->is_threaded) rewrite_object(o, phase, phase);
-    EACH_OUTPUT(o) if (!o->run->deltas) relax_run(o->run);
+    EACH_OUTPUT(o) shrinks |= o->shrinks;
+    EACH_OBJECT(o)
+        if (o->is_threaded && (shrinks || (has_short_offsets && relaxes)))
+            rewrite_object(o, phase, phase);
+    EACH_OUTPUT(o) if (shrinks && !o->run->deltas) relax_run(o->run);
     set_addresses();
     EACH_OUTPUT(o) {
         uint64_t align = o->flags & SHF_TLS && o->address == tls.image ? tls.align : o->align;

@@ -23,13 +23,6 @@ void check(const struct section *s, const Elf64_Rela *r, uint32_t status) {
     if (status) fail("%s: %s", place_of(s, r), linker_utils_status_text(status));
 }
 
-/* Whether a relocation's symbol is in a discarded section. */
-static bool is_discarded(const struct section *s, const Elf64_Rela *r) {
-    const struct symbol *to = symbol_at(s, r);
-    return !to->output && to->elf.st_shndx && to->elf.st_shndx < SHN_LORESERVE &&
-           to->object->sections[to->elf.st_shndx].is_discarded;
-}
-
 /* Reads the relocations of a section. In tables beside functions that other objects have too, what
  * refers to a discarded section is nothing wrong: it is left unset. */
 void read_relocations(struct section *s) {
@@ -43,8 +36,11 @@ void read_relocations(struct section *s) {
     if (has_addresses) s->kept_words = take(len, 1);
     EACH_RELOCATION(s, r) {
         if (r->r_offset > s->len || ELF64_R_SYM(r->r_info) >= o->mentions_len)
-            fail_in(o, s->name, "a relocation is of no byte or no symbol");
-        if ((is_beside || has_addresses) && is_discarded(s, r)) set_type(r, 0);
+            fail_in(s, "a relocation is of no byte or no symbol");
+        if (!is_beside && !has_addresses) continue;
+        const struct symbol *to = symbol_at(s, r);
+        bool is_in_section = !to->output && is_defined(to) && to->elf.st_shndx < SHN_LORESERVE;
+        if (is_in_section && to->object->sections[to->elf.st_shndx].is_discarded) set_type(r, 0);
     }
 }
 
@@ -57,9 +53,8 @@ static bool changes_numbers(void) {
     return is_found;
 }
 
-struct kind *ask_kind(const struct section *s, const Elf64_Rela *r) {
+struct kind *ask_kind(const struct section *s, const Elf64_Rela *r, struct kind *kind) {
     uint32_t type = type_of(r);
-    struct kind *kind = &kinds[type < 2048 ? type : 2047];
     check(s, r, linker_utils_relocation(machine, type, &kind->row));
     check(s, r, linker_utils_reach(machine, type, &kind->reach));
     for (int is_tls = 0; is_tls < 2; is_tls++)
@@ -94,61 +89,52 @@ struct linker_utils_symbol known_symbol(const struct symbol *s, int64_t addend) 
     return known;
 }
 
-/* What is known of the linked file, for relocations that count from an address. */
-struct linker_utils_addresses addresses_of(uint64_t start) {
+/* What is known of the linked file, for the relocations of a section. */
+struct linker_utils_addresses addresses_of(const struct section *s) {
     return (struct linker_utils_addresses){
-        .section = start, .got_base = known_got().base,
-        .thread_origin = tls.origins.thread_pointer,
-        .module_origin = tls.origins.module_block,
-        .module_entry = module_entry ? address_of(got, module_entry->offset) : 0};
+        .section = s->output->address + s->offset, .got_base = known_got().base,
+        .thread_origin = tls.origins.thread_pointer, .module_origin = tls.origins.module_block,
+        .module_entry = module.entries ? address_of(got, module.entries->offset) : 0};
 }
 
-/* Adds a value to a ULEB128 number, or subtracts it, modulo what its bytes hold, as in ld.lld. */
-static void change_number(const struct section *s, const Elf64_Rela *r, int64_t value,
-                          uint8_t *bytes, size_t len) {
+/* Adds the value of a relocation to a ULEB128 number, or subtracts it, modulo what its bytes hold,
+ * as in ld.lld. */
+static void change_number(const struct section *s, Elf64_Rela *r, int64_t value) {
     uint64_t number = 0;
-    size_t used = 0;
+    size_t used = 0, len = r->r_offset < s->len ? s->len - r->r_offset : 0;
+    uint8_t *bytes = s->output->bytes + s->offset + s->len - len;
     check(s, r, linker_utils_read_uleb128(bytes, len, &number, &used));
     bool subtracts = kind_of(s, r)->role == LINKER_UTILS_ROLE_SUBTRACTS;
     number += (uint64_t)(subtracts ? -value : value);
     if (used < 9) number &= (UINT64_C(1) << 7 * used) - 1;
     check(s, r, linker_utils_write_uleb128(bytes, len, number));
+    set_type(r, 0);
 }
 
 /* Writes the values of a section's relocations. Those at ULEB128 numbers that are there are first,
  * each by itself. */
-static void relocate_section(struct section *s, const struct linker_utils_symbol *values) {
+void relocate_section(struct section *s, const struct linker_utils_symbol *values) {
     static uint64_t *memory; /* for one section after another */
     static size_t room;
-    size_t size = s->relocations_len * sizeof(Elf64_Rela), count = s->object->symbols_len;
-    size_t len = s->len, at = 0;
-    uint8_t *relocations = (uint8_t *)s->relocations, *bytes = s->output->bytes + s->offset;
-    struct linker_utils_addresses addresses = addresses_of(s->output->address + s->offset);
-    int64_t value;
-    if (s->has_numbers)
-        EACH_RELOCATION(s, r) {
-            if (kind_of(s, r)->role == LINKER_UTILS_ROLE_NONE) continue;
-            check(s, r, linker_utils_value_at(machine, &addresses, relocations, size, values, count,
-                                              (size_t)(r - s->relocations), &value));
-            size_t left = r->r_offset < len ? len - r->r_offset : 0;
-            change_number(s, r, value, bytes + len - left, left);
-            set_type(r, 0);
-        }
-    size_t memory_len = linker_utils_relocate_memory(relocations, size);
-    memory = grow(memory, memory_len, &room, sizeof *memory);
-    uint32_t status = linker_utils_relocate_section(machine, &addresses, relocations, size, values,
-                                                    count, bytes, len, memory, memory_len, &at);
-    const Elf64_Rela *r = &s->relocations[at];
-    if (status == LINKER_UTILS_OUT_OF_REACH &&
-        !linker_utils_value_at(machine, &addresses, relocations, size, values, count, at, &value)) {
-        struct linker_utils_relocation_reach reach = kind_of(s, r)->reach;
-        fail("%s out of reach: %" PRId64 " is not in [%" PRId64 ", %" PRId64 "), to '%s'",
-             place_of(s, r), value, reach.min, reach.max, symbol_at(s, r)->name);
+    size_t count = s->object->symbols_len, at = 0;
+    struct linker_utils_addresses here = addresses_of(s);
+    int64_t value = 0;
+    for (; s->has_numbers && at < s->relocations_len; at++) {
+        Elf64_Rela *r = &s->relocations[at];
+        if (kind_of(s, r)->role == LINKER_UTILS_ROLE_NONE) continue;
+        check(s, r, linker_utils_value_at(machine, &here, TABLE_OF(s), values, count, at, &value));
+        change_number(s, r, value);
     }
+    size_t memory_len = linker_utils_relocate_memory(TABLE_OF(s));
+    memory = grow(memory, memory_len, &room, sizeof *memory);
+    uint32_t status = linker_utils_relocate_section(machine, &here, TABLE_OF(s), values, count,
+                                                    BYTES_OF(s), memory, memory_len, &at);
+    if (!status) return;
+    const Elf64_Rela *r = &s->relocations[at];
+    const struct linker_utils_relocation_reach *reach = &kind_of(s, r)->reach;
+    if (status == LINKER_UTILS_OUT_OF_REACH &&
+        !linker_utils_value_at(machine, &here, TABLE_OF(s), values, count, at, &value))
+        fail("%s out of reach: %" PRId64 " is not in [%" PRId64 ", %" PRId64 "), to '%s'",
+             place_of(s, r), value, reach->min, reach->max, symbol_at(s, r)->name);
     check(s, r, status);
-}
-
-/* Writes all values of an object. */
-void relocate_object(struct object *o, const struct linker_utils_symbol *values) {
-    EACH_SECTION_OF(o, s) if (s->relocations_len) relocate_section(s, values);
 }
