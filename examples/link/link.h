@@ -232,9 +232,8 @@ static inline void expect_symbol(const struct section *s, const Elf64_Rela *r) {
     if (r + 8 < s->relocations + s->relocations_len) __builtin_prefetch(symbol_at(s, r + 8));
 }
 
-static inline void set_type(Elf64_Rela *r, uint32_t type) {
-    r->r_info = ELF64_R_INFO(ELF64_R_SYM(r->r_info), type);
-}
+/* Has a relocation do nothing. */
+static inline void drop(Elf64_Rela *r) { r->r_info = ELF64_R_INFO(ELF64_R_SYM(r->r_info), 0); }
 
 /* main.c */
 void *zeros(uint64_t count, size_t size), *take(uint64_t count, size_t size);
@@ -250,9 +249,8 @@ void read_file(const char *path), load_member(struct archive *a, uint64_t offset
 void read_library(struct object file);
 /* symbols.c */
 struct symbol *named(const char *name);
-void offer(const char *name, struct archive *a, uint64_t member), define_symbols(void);
-void resolve(struct symbol *known, struct symbol *s), list_symbol(struct symbol *s);
-void place_common(struct symbol *s), place_symbol(struct symbol *s);
+void offer(const char *name, struct archive *a, uint64_t member), list_symbol(struct symbol *s);
+void resolve(struct symbol *known, struct symbol *s), define_symbols(void), place_symbols(void);
 int rank(const struct symbol *s);
 bool is_ifunc(const struct symbol *s), is_undefined_weak(const struct symbol *s);
 bool is_here(const struct symbol *s);

@@ -124,9 +124,7 @@ int main(int argc, char **argv) {
     EACH_SECTION(s) add_section(s);
     define_symbols();
     if (is_dynamic) bind_symbols();
-    EACH_SYMBOL(s) place_common(s); /* these are first in `.bss`, as in ld.lld */
-    EACH_SECTION(s) copy_section(s);
-    EACH_SYMBOL(s) place_symbol(s);
+    place_symbols();
     EACH_OBJECT(o) {
         rewrite_object(o, LINKER_UTILS_PHASE_EARLY, LINKER_UTILS_PHASE_EARLY);
         require(o);

@@ -79,10 +79,9 @@ static struct symbol *mention(const struct object *o, size_t i) {
     s.object = o;
     s.elf = o->mentions[i];
     size_t at = s.elf.st_shndx < o->sections_len ? s.elf.st_shndx : 0;
-    const struct section *section = &o->sections[at];
-    bool is_section = ELF64_ST_TYPE(s.elf.st_info) == STT_SECTION && section != o->sections;
-    s.name = is_section ? section->name : o->names + s.elf.st_name;
-    if (bind_of(&s) == STB_WEAK && section->is_discarded) s.elf.st_shndx = SHN_UNDEF;
+    bool is_section = stt_of(&s) == STT_SECTION && at;
+    s.name = is_section ? o->sections[at].name : o->names + s.elf.st_name;
+    if (bind_of(&s) == STB_WEAK && o->sections[at].is_discarded) s.elf.st_shndx = SHN_UNDEF;
     return &s;
 }
 

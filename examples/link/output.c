@@ -53,23 +53,22 @@ Elf64_Sym symbol_of(const struct symbol *s) {
     return elf;
 }
 
-/* Adds a symbol to the table, if it has a name and is in the file. */
-static void add_symbol(const struct symbol *s) {
-    uint16_t at = s->elf.st_shndx;
-    bool is_in_file = !at || at >= SHN_LORESERVE || s->output;
-    if (!*s->name || !is_in_file || stt_of(s) == STT_SECTION) return;
-    Elf64_Sym elf = symbol_of(s);
-    elf.st_name = add_name(&strings, s->name);
-    append(&symbol_table, 8, &elf, sizeof elf);
-    symbol_table.info += is_local(s);
-}
-
-/* Puts the symbols, if wanted, local ones first, and the section headers behind the segments. */
+/* Puts the symbols, if wanted, behind the segments, local ones first, and then the section headers.
+ * Symbols have a name and are in the file. */
 static void put_symbols(uint64_t offset, Elf64_Ehdr *head, bool has_symbols) {
     symbol_table.room = (has_symbols ? symbols_len + 1 : 1) * sizeof(Elf64_Sym);
     make_room(&symbol_table, 8, sizeof(Elf64_Sym));
-    for (int is_global = 0; has_symbols && is_global < 2; is_global++)
-        EACH_SYMBOL(s) if (is_global != is_local(s)) add_symbol(s);
+    for (int locals = 1; has_symbols && locals >= 0; locals--)
+        EACH_SYMBOL(s) {
+            uint16_t at = s->elf.st_shndx;
+            bool is_in_file = !at || at >= SHN_LORESERVE || s->output;
+            bool has_name = *s->name && stt_of(s) != STT_SECTION;
+            if (is_local(s) != locals || !is_in_file || !has_name) continue;
+            Elf64_Sym elf = symbol_of(s);
+            elf.st_name = add_name(&strings, s->name);
+            append(&symbol_table, 8, &elf, sizeof elf);
+            symbol_table.info += (uint32_t)locals;
+        }
     offset = round_up(offset, 8);
     add_head(outputs[outputs_len++] = &symbol_table, offset);
     add_head(outputs[outputs_len++] = &strings, offset + symbol_table.len);

@@ -80,7 +80,7 @@ static void pack(struct section *s, uint8_t *packed, uint64_t to) {
         lost += items[i].len - stay[i];
         size_t k = items[i].shapes.count ? makers[i] : s->relocations_len;
         for (; k < s->relocations_len && s->relocations[k].r_offset < past; k++)
-            set_type(&s->relocations[k], 0); /* its value is written here */
+            drop(&s->relocations[k]); /* its value is written here */
         items[last] = items[i];
         stay[last] = stay[i];
         makers[last++] = makers[i];

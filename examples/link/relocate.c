@@ -40,26 +40,21 @@ void read_relocations(struct section *s) {
         if (!is_beside && !has_addresses) continue;
         const struct symbol *to = symbol_at(s, r);
         bool is_in_section = !to->output && is_defined(to) && to->elf.st_shndx < SHN_LORESERVE;
-        if (is_in_section && to->object->sections[to->elf.st_shndx].is_discarded) set_type(r, 0);
+        if (is_in_section && to->object->sections[to->elf.st_shndx].is_discarded) drop(r);
     }
 }
 
-/* Whether a machine's relocations change ULEB128 numbers that are there. */
-static bool changes_numbers(void) {
-    static uint32_t next;
-    static bool is_found;
-    for (; next < 256 && !is_found; next++)
-        is_found = linker_utils_uleb128_role(machine, next) == LINKER_UTILS_ROLE_ADDS;
-    return is_found;
-}
-
 struct kind *ask_kind(const struct section *s, const Elf64_Rela *r, struct kind *kind) {
+    static bool changes; /* whether the machine's relocations change ULEB128 numbers */
+    static uint32_t asked;
     uint32_t type = type_of(r);
+    for (; asked < 256; asked++)
+        changes |= linker_utils_uleb128_role(machine, asked) == LINKER_UTILS_ROLE_ADDS;
     check(s, r, linker_utils_relocation(machine, type, &kind->row));
     check(s, r, linker_utils_reach(machine, type, &kind->reach));
     for (int is_tls = 0; is_tls < 2; is_tls++)
         check(s, r, linker_utils_needs(machine, type, 0, is_tls, &kind->needs[is_tls]));
-    if (changes_numbers()) kind->role = linker_utils_uleb128_role(machine, type);
+    if (changes) kind->role = linker_utils_uleb128_role(machine, type);
     kind->is_known = true;
     return kind;
 }
@@ -108,7 +103,7 @@ static void change_number(const struct section *s, Elf64_Rela *r, int64_t value)
     number += (uint64_t)(subtracts ? -value : value);
     if (used < 9) number &= (UINT64_C(1) << 7 * used) - 1;
     check(s, r, linker_utils_write_uleb128(bytes, len, number));
-    set_type(r, 0);
+    drop(r);
 }
 
 /* Writes the values of a section's relocations. Those at ULEB128 numbers that are there are first,

@@ -53,12 +53,8 @@ int rank(const struct symbol *s) {
     return at == SHN_COMMON ? 4 : is_weak ? 3 : 5;
 }
 
-/* Loads the member that defines a symbol, if one is needed and an archive has it. */
-static void want(const struct symbol *s) {
-    if (s->object && s->archive && rank(s) == 1) load_member(s->archive, s->member);
-}
-
-/* Adds to a global symbol what one more object says of it. */
+/* Adds to a global symbol what one more object says of it. Loads the member that defines it, if one
+ * is needed now and an archive has it. */
 void resolve(struct symbol *known, struct symbol *s) {
     int before = known->object ? rank(known) : -1, after = rank(s);
     bool is_tls = is_thread_local(s);
@@ -80,16 +76,17 @@ void resolve(struct symbol *known, struct symbol *s) {
     /* of visibilities the stricter one counts: 0 is the least */
     known->elf.st_other &= (uint8_t)~3;
     known->elf.st_other |= (uint8_t)(seen && (!own || seen < own) ? seen : own);
-    if (after > before) want(known);
+    if (before < 1 && after == 1 && known->archive) load_member(known->archive, known->member);
 }
 
-/* A symbol of an archive's index. The first archive that has it counts. */
+/* A symbol of an archive's index. The first archive that has it counts. A member that is needed
+ * already is loaded. */
 void offer(const char *name, struct archive *a, uint64_t member) {
     struct symbol *s = named(name);
     if (s->archive || s->library) return;
     s->archive = a;
     s->member = member;
-    want(s);
+    if (s->object && rank(s) == 1) load_member(a, member);
 }
 
 /* Puts a symbol behind the others, once. */
@@ -200,19 +197,22 @@ void define_symbols(void) {
     define_ends();
 }
 
-/* Makes room for a common symbol. */
-void place_common(struct symbol *s) {
-    if (s->elf.st_shndx != SHN_COMMON) return;
-    s->output = output_of(".bss");
-    s->output->flags |= SHF_WRITE | SHF_ALLOC;
-    s->offset = make_room(s->output, s->elf.st_value, s->elf.st_size);
-}
-
-/* Where a symbol is that an object defines. */
-void place_symbol(struct symbol *s) {
-    if (s->output) return;
-    s->offset = s->elf.st_value;
-    if (!s->elf.st_shndx || s->elf.st_shndx >= s->object->sections_len) return;
-    s->output = s->object->sections[s->elf.st_shndx].output;
-    s->offset += s->object->sections[s->elf.st_shndx].offset;
+/* Places the symbols that objects define, and the sections with these. Common symbols are the first in
+ * `.bss`, as in ld.lld. */
+void place_symbols(void) {
+    EACH_SYMBOL(s) {
+        if (s->elf.st_shndx != SHN_COMMON) continue;
+        s->output = output_of(".bss");
+        s->output->flags |= SHF_WRITE | SHF_ALLOC;
+        s->offset = make_room(s->output, s->elf.st_value, s->elf.st_size);
+    }
+    EACH_SECTION(s) copy_section(s);
+    EACH_SYMBOL(s) {
+        uint16_t at = s->elf.st_shndx;
+        if (s->output) continue;
+        s->offset = s->elf.st_value;
+        if (!at || at >= s->object->sections_len) continue;
+        s->output = s->object->sections[at].output;
+        s->offset += s->object->sections[at].offset;
+    }
 }
