@@ -23,11 +23,6 @@ void add_row(struct output *o, uint64_t offset, uint32_t type, struct symbol *s,
     rows[rows_len++] = (struct dynamic_row){o, offset, type, s, addend};
 }
 
-/* Whether nothing defines a weak symbol so far. Where code doesn't load its address that is 0. */
-static bool may_be_absent(const struct symbol *s) {
-    return !s->library && bind_of(s) == STB_WEAK;
-}
-
 /* Says which symbols other files define, and which they may see. What another file may replace is
  * referred to as if that defined it. */
 void bind_symbols(void) {
@@ -39,13 +34,14 @@ void bind_symbols(void) {
         if (s->library && is_thread_local(s) != (ELF64_ST_TYPE(s->there.st_info) == STT_TLS))
             fail_of(s->object, "'%s' is thread-local in only one of it and %s", s->name,
                     s->library->file.path);
-        s->is_imported = is_seen && is_default &&
-                         (is_shared || (!is_defined(s) && (s->library || may_be_absent(s))));
+        bool may_be_there = !is_defined(s) && (s->library || bind_of(s) == STB_WEAK);
+        s->is_imported = is_seen && is_default && (is_shared || may_be_there);
         s->is_exported = is_seen && is_defined(s) && (is_shared || s->is_exported);
     }
 }
 
-/* How a relocation reaches a symbol of another file, or one of this file wherever it is loaded. */
+/* How a relocation reaches a symbol of another file, or one of this file wherever it is loaded.
+ * Where code doesn't load the address of a weak symbol that nothing defines so far, that is 0. */
 void import(struct section *in, Elf64_Rela *r, const struct linker_utils_requirements *needs) {
     struct symbol *s = symbol_at(in, r);
     uint32_t kind = kind_of(in, r)->row.kind;
@@ -69,7 +65,7 @@ void import(struct section *in, Elf64_Rela *r, const struct linker_utils_require
         fail_at(in, r, " depends on where the output is loaded, to '%s'", s->name);
     } else if (!linked.is_executable) {
         fail_at(in, r, " can't reach '%s', which another file may replace", s->name);
-    } else if (!may_be_absent(s)) {
+    } else if (s->library) {
         const char *file = s->library->file.path;
         if (ELF64_ST_VISIBILITY(s->there.st_other) == STV_PROTECTED)
             fail_at(in, r, " can't replace the protected '%s' of %s", s->name, file);
@@ -102,10 +98,9 @@ static void make_copy(struct symbol *s) {
             continue;
         list_symbol(alias);
         unsigned bind = ELF64_ST_BIND((alias->object ? alias->elf : alias->there).st_info);
-        alias->elf = alias->there;
-        alias->elf.st_info = ELF64_ST_INFO(bind, ELF64_ST_TYPE(alias->there.st_info));
-        alias->elf.st_other = 0;
-        alias->elf.st_shndx = SHN_ABS;
+        unsigned type = ELF64_ST_TYPE(alias->there.st_info);
+        alias->elf = (Elf64_Sym){.st_info = ELF64_ST_INFO(bind, type), .st_shndx = SHN_ABS,
+                                 .st_size = alias->there.st_size};
         alias->output = bss;
         alias->offset = at;
         alias->is_imported = false;

@@ -31,8 +31,7 @@ static uint8_t encoding_of(const struct section *s, const uint8_t *bytes, uint64
 /* The offset from `.eh_frame_hdr` of an address that a section of unwind information has. */
 static int32_t in_index(const struct section *s, uint64_t address) {
     int64_t offset = (int64_t)(address - index_of->address);
-    if (offset != (int32_t)offset)
-        fail_in(s, ".eh_frame_hdr doesn't reach 0x%" PRIx64, address);
+    if (offset != (int32_t)offset) fail_in(s, ".eh_frame_hdr doesn't reach 0x%" PRIx64, address);
     return (int32_t)offset;
 }
 
@@ -52,8 +51,7 @@ uint64_t read_frames(const struct section *s, const uint8_t *bytes, uint8_t *row
         if (rows && !back) is_cie[at] = true;
         if (!rows || !back) continue;
         uint64_t place = frames->address + s->offset + at, cie = at + 4 - back, address = 0;
-        if (back > at + 4 || !is_cie[cie])
-            fail_in(s, "a record without its CIE");
+        if (back > at + 4 || !is_cie[cie]) fail_in(s, "a record without its CIE");
         memcpy(&cie_len, bytes + cie, 4);
         uint8_t encoding = encoding_of(s, bytes + cie, 4 + (uint64_t)cie_len);
         bool is_short = (encoding & 7) == 3;

@@ -6,8 +6,7 @@ static struct library **libraries_end = &libraries;
 
 /* Bytes of a section, which have to be in it. */
 static const uint8_t *bytes_in(const struct section *s, uint64_t at, uint64_t len) {
-    if (at > s->head->sh_size || len > s->head->sh_size - at)
-        fail_in(s, "it ends too early");
+    if (at > s->head->sh_size || len > s->head->sh_size - at) fail_in(s, "it ends too early");
     return s->object->bytes + s->head->sh_offset + at;
 }
 

@@ -15,15 +15,13 @@ static size_t *makers, items_len;
 static struct linker_utils_rela seen(const struct section *s, const Elf64_Rela *r) {
     const struct symbol *to = symbol_at(s, r);
     const struct output *o = to->is_imported && is_defined(to) ? NULL : to->output;
-    struct linker_utils_rela seen = {
-        .offset = r->r_offset, .addend = r->r_addend, .r_type = type_of(r),
-        .has_symbol = ELF64_R_SYM(r->r_info) > 0, .may_compress = s->object->is_compressed};
-    if (!relaxes || !o || o->run != s->output->run || o->flags & SHF_TLS) return seen;
-    if (o->shrinks && r->r_addend) return seen;
-    uint64_t offset = (to->offset == END ? o->len : to->offset) + (uint64_t)r->r_addend;
-    seen.has_target = offset <= o->len;
-    seen.target = o->base + offset;
-    return seen;
+    bool is_in_run = relaxes && o && o->run == s->output->run && !(o->flags & SHF_TLS) &&
+                     !(o->shrinks && r->r_addend);
+    uint64_t offset = (o && to->offset == END ? o->len : to->offset) + (uint64_t)r->r_addend;
+    return (struct linker_utils_rela){
+        .offset = r->r_offset, .target = is_in_run ? o->base + offset : 0, .addend = r->r_addend,
+        .r_type = type_of(r), .has_symbol = ELF64_R_SYM(r->r_info) > 0,
+        .has_target = is_in_run && offset <= o->len, .may_compress = s->object->is_compressed};
 }
 
 /* Ends with an error of a relocation, if there is one with this index, or of a whole section. */
@@ -67,17 +65,15 @@ static void move_relocations(struct section *s) {
     }
 }
 
-/* Writes a section anew at an offset of what is packed: what becomes shorter, and without what it
- * loses. Items that lose nothing count no more. */
-static void pack(struct section *s, uint8_t *packed, uint64_t to) {
-    const struct output *o = s->output;
-    const struct run *run = o->run;
-    uint64_t base = o->base + s->offset, lost = 0;
+/* Writes a section anew: what becomes shorter, and without what it loses. Items that lose nothing
+ * count no more. */
+static void pack(struct section *s, uint8_t *packed, size_t len) {
+    const struct run *run = s->output->run;
+    uint64_t base = s->output->base + s->offset;
     size_t first = s->first_item, last = first, at = SIZE_MAX;
     for (size_t i = first; i < first + s->items_len; i++) {
         uint64_t past = items[i].offset - base + items[i].len;
         if (stay[i] == items[i].len) continue;
-        lost += items[i].len - stay[i];
         size_t k = items[i].shapes.count ? makers[i] : s->relocations_len;
         for (; k < s->relocations_len && s->relocations[k].r_offset < past; k++)
             drop(&s->relocations[k]); /* its value is written here */
@@ -86,27 +82,26 @@ static void pack(struct section *s, uint8_t *packed, uint64_t to) {
         makers[last++] = makers[i];
     }
     s->items_len = (uint32_t)(last - first);
-    uint32_t status = linker_utils_pack_run(machine, o->bytes + s->offset, s->len, base,
-                                            items + first, s->items_len, run->deltas,
-                                            run->deltas_len, run->start, packed + to,
-                                            s->len - lost, &at);
+    uint32_t status = linker_utils_pack_run(machine, BYTES_OF(s), base, items + first, s->items_len,
+                                            run->deltas, run->deltas_len, run->start, packed, len,
+                                            &at);
     check_items(s, at < s->items_len ? makers[first + at] : SIZE_MAX, status);
     move_relocations(s);
-    s->offset = to;
-    s->len -= lost;
 }
 
 /* Writes code anew, with what stays of the gaps between its parts. */
 static void pack_output(struct output *o) {
     uint8_t *packed = zeros(o->len, 1);
-    uint64_t from = 0, to = 0;
+    uint64_t from = 0, to = 0, start = address_of(o, 0);
     for (struct section *s = o->first; s; s = s->behind) {
-        uint64_t end = s->offset + s->len, len = s->offset - s->gap - from;
-        if (s->gap) len += stay[s->first_item - 1];
-        memcpy(packed + to, o->bytes + from, len);
-        pack(s, packed, to + len);
-        to = s->offset + s->len;
+        uint64_t at = address_of(o, s->offset) - start, end = s->offset + s->len;
+        uint64_t len = address_of(o, end) - start - at;
+        memcpy(packed + to, o->bytes + from, at - to);
+        pack(s, packed + at, len);
+        s->offset = at;
+        s->len = len;
         from = end;
+        to = at + len;
     }
     free(o->bytes);
     o->bytes = packed;

@@ -197,8 +197,8 @@ void define_symbols(void) {
     define_ends();
 }
 
-/* Places the symbols that objects define, and the sections with these. Common symbols are the first in
- * `.bss`, as in ld.lld. */
+/* Places the symbols that objects define, and the sections with these. Common symbols are the first
+ * in `.bss`, as in ld.lld. */
 void place_symbols(void) {
     EACH_SYMBOL(s) {
         if (s->elf.st_shndx != SHN_COMMON) continue;
