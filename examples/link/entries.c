@@ -92,31 +92,30 @@ static int64_t entered_at(const struct section *s, const Elf64_Rela *r) {
 /* Notes what the relocations of an object require. A descriptor of a group that doesn't stay is
  * rewritten later. */
 void require(struct object *o) {
-    EACH_SECTION_OF(o, s)
-        EACH_RELOCATION(s, r) {
-            struct symbol *to = symbol_at(s, r);
-            const struct kind *kind = kind_of(s, r);
-            uint64_t index = ELF64_R_SYM(r->r_info);
-            uint16_t at = to->elf.st_shndx;
-            expect_symbol(s, r);
-            if (kind->row.kind == LINKER_UTILS_KIND_NONE) continue;
-            if (index && !at && rank(to) == 1 && !to->is_imported)
-                fail_at(s, r, ": undefined symbol '%s'", to->name);
-            if (!to->output && at && at < SHN_LORESERVE)
-                fail_at(s, r, ": '%s' is in a section that is left out", to->name);
-            if (kind->row.kind == LINKER_UTILS_KIND_ALIGNMENT && !s->output->shrinks)
-                fail_at(s, r, " is not supported");
-            struct linker_utils_requirements needs = needs_of(s, r);
-            bool is_rewritten = needs.entry_class == LINKER_UTILS_ENTRY_DESCRIPTOR &&
-                                linked.is_executable && !to->is_imported && !kept[index].descriptor;
-            s->has_loads |= needs.entry_class == LINKER_UTILS_ENTRY_ADDRESS;
-            s->has_numbers |= kind->role != LINKER_UTILS_ROLE_NONE;
-            if (needs.entry_class && !is_rewritten) add_entry(s, r, &needs);
-            if (is_ifunc(to)) to->needs_stub = true;
-            if (is_dynamic) import(s, r, &needs);
-            if (needs.may_use_stub && (is_ifunc(to) || to->is_imported))
-                r->r_addend += entered_at(s, r);
-        }
+    EACH_SECTION_OF(o, s) EACH_RELOCATION(s, r) {
+        struct symbol *to = symbol_at(s, r);
+        const struct kind *kind = kind_of(s, r);
+        uint64_t index = ELF64_R_SYM(r->r_info);
+        uint16_t at = to->elf.st_shndx;
+        expect_symbol(s, r);
+        if (kind->row.kind == LINKER_UTILS_KIND_NONE) continue;
+        if (index && !at && rank(to) == 1 && !to->is_imported)
+            fail_at(s, r, ": undefined symbol '%s'", to->name);
+        if (!to->output && at && at < SHN_LORESERVE)
+            fail_at(s, r, ": '%s' is in a section that is left out", to->name);
+        if (kind->row.kind == LINKER_UTILS_KIND_ALIGNMENT && !s->output->shrinks)
+            fail_at(s, r, " is not supported");
+        struct linker_utils_requirements needs = needs_of(s, r);
+        bool is_rewritten = needs.entry_class == LINKER_UTILS_ENTRY_DESCRIPTOR &&
+                            linked.is_executable && !to->is_imported && !kept[index].descriptor;
+        s->has_loads |= needs.entry_class == LINKER_UTILS_ENTRY_ADDRESS;
+        s->has_numbers |= kind->role != LINKER_UTILS_ROLE_NONE;
+        if (needs.entry_class && !is_rewritten) add_entry(s, r, &needs);
+        if (is_ifunc(to)) to->needs_stub = true;
+        if (is_dynamic) import(s, r, &needs);
+        bool is_by_word = needs.may_use_stub && (is_ifunc(to) || to->is_imported);
+        if (is_by_word) r->r_addend += entered_at(s, r);
+    }
 }
 
 /* An indirect function's address is that of its stub, which goes to the address in a slot. When the

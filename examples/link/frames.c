@@ -79,10 +79,9 @@ void index_frames(void) {
     EACH_SECTION(s)
         if (s->output == frames)
             count += read_frames(s, frames->bytes + s->offset, index_of->bytes + 12 + 8 * count);
-    uint32_t head[3] = {0x3b031b01, (uint32_t)(frames->address - index_of->address - 4),
-                        (uint32_t)count};
-    if ((int64_t)(frames->address - index_of->address - 4) != (int32_t)head[1])
-        fail(".eh_frame_hdr doesn't reach .eh_frame");
+    int64_t distance = (int64_t)(frames->address - index_of->address - 4);
+    uint32_t head[3] = {0x3b031b01, (uint32_t)distance, (uint32_t)count};
+    if (distance != (int32_t)distance) fail(".eh_frame_hdr doesn't reach .eh_frame");
     memcpy(index_of->bytes, head, sizeof head);
     qsort(index_of->bytes + sizeof head, count, 8, by_function);
 }

@@ -197,10 +197,8 @@ static void place_behind(struct place *p, struct output *o) {
     uint64_t permissions = o->flags & (SHF_WRITE | SHF_EXECINSTR);
     bool is_first_data = is_dynamic && !p->has_data && o->len && o->rank >= RANK_DATA;
     if (!p->run) begin_run(p, linked.is_fixed ? BASE : 0);
-    if (o->len && permissions != p->permissions) {
-        skip(p, page);
-        p->permissions = permissions;
-    }
+    if (o->len && permissions != p->permissions) skip(p, page);
+    if (o->len) p->permissions = permissions;
     if (p->is_behind_placed) align = MOST_ALIGN;
     align_next(p, o, is_first_data && page > align ? page : align);
     p->has_data |= is_first_data;
@@ -238,9 +236,8 @@ void place_outputs(void) {
         }
         if (is_tls) tls.len = o->base + o->len - first_tls->base;
         if (is_tls && !o->has_bytes) continue;
-        uint64_t least = o->shrinks ? p.low : p.low + o->len;
         skip(&p, o->len);
-        p.low = least;
+        if (o->shrinks) p.low -= o->len;
     }
     set_addresses();
 }
@@ -260,10 +257,10 @@ void set_addresses(void) {
     }
     span = last->address + last->len - outputs[0]->address;
     tls.image = first_tls ? first_tls->address : 0;
-    uint64_t past = tls.image % tls.align; /* (0 once code is shorter) */
-    linker_utils_origins(machine, tls.image - past, tls.len, tls.align, &tls.origins);
-    tls.origins.thread_pointer += past;
-    tls.origins.module_block += past;
+    /* (where code is still to become shorter the image isn't aligned so far) */
+    linker_utils_origins(machine, 0, tls.len, tls.align, &tls.origins);
+    tls.origins.thread_pointer += tls.image;
+    tls.origins.module_block += tls.image;
     bool is_at_pointer = tls.has_base && linked.is_executable;
     if (!module_base) return;
     module_base->offset = is_at_pointer ? tls.origins.thread_pointer : tls.origins.module_block;

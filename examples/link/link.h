@@ -60,7 +60,7 @@ enum { RANK_HEADERS, RANK_FIXED, RANK_CODE, RANK_TLS, RANK_TLS_BSS, RANK_ARRAYS,
 #define fail_of(o, ...) (fprintf(stderr, "%s: ", (o)->path), fail(__VA_ARGS__))
 #define fail_in(s, ...) \
     (fprintf(stderr, "%s: %s: ", (s)->object->path, (s)->name), fail(__VA_ARGS__))
-#define fail_at(s, r, ...) (fputs(place_of(s, r), stderr), fail(__VA_ARGS__))
+#define fail_at(s, r, ...) (print_place(s, r), fail(__VA_ARGS__))
 
 /* the bytes of a section in the linked file, and its relocations, as the library takes them */
 #define BYTES_OF(s) (s)->output->bytes + (s)->offset, (s)->len
@@ -265,7 +265,7 @@ void add_section(struct section *s), copy_section(struct section *s), sort_outpu
 void add_part_of(struct output *o, struct section *s, uint64_t align);
 void place_outputs(void), set_addresses(void);
 /* relocate.c */
-const char *place_of(const struct section *s, const Elf64_Rela *r);
+void print_place(const struct section *s, const Elf64_Rela *r);
 void check(const struct section *s, const Elf64_Rela *r, uint32_t status);
 void read_relocations(struct section *s);
 struct kind *ask_kind(const struct section *s, const Elf64_Rela *r, struct kind *kind);

@@ -1,6 +1,5 @@
 /* Objects, archives and groups. Everything that is read of a file is checked to be in it. */
 #include <ar.h>
-#include <endian.h>
 #include <fcntl.h>
 #include <sys/mman.h>
 #include <sys/stat.h>
@@ -210,11 +209,8 @@ void load_member(struct archive *a, uint64_t offset) {
     read_object(path, member);
 }
 
-/* A number of an archive's index. */
-static uint32_t number_at(const uint8_t *bytes) {
-    uint32_t number;
-    memcpy(&number, bytes, sizeof number);
-    return be32toh(number);
+static uint32_t big_endian(const uint8_t *bytes) {
+    return (uint32_t)bytes[0] << 24 | (uint32_t)bytes[1] << 16 | (uint32_t)bytes[2] << 8 | bytes[3];
 }
 
 /* Offers what the index of an archive names. A member that is needed already is read at once. */
@@ -232,12 +228,12 @@ static void read_archive(struct object file) {
     }
     if (file.len == SARMAG) return;
     demand(&a->file, index.len >= 4, "an archive without an index");
-    uint64_t count = number_at(index.at);
+    uint64_t count = big_endian(index.at);
     demand(&a->file, count <= (index.len - 4) / 4, "the index ends too early");
     const char *end = (const char *)index.at + index.len, *text = end - index.len + 4 * (count + 1);
     for (uint64_t i = 1; i <= count; i++) {
         const char *next = memchr(text, 0, (size_t)(end - text));
-        uint64_t at = number_at(index.at + 4 * i);
+        uint64_t at = big_endian(index.at + 4 * i);
         demand(&a->file, next, "the index ends too early");
         if (at % 2 || at >= file.len || file.len - at < sizeof(struct ar_hdr) ||
             memcmp(((const struct ar_hdr *)(file.bytes + at))->ar_fmag, ARFMAG, 2))

@@ -4,23 +4,20 @@
 struct tls tls;
 struct kind kinds[2048];
 
-/* Where a relocation is, and its name, as "b.o: .text+0x1c: R_RISCV_JAL". The offset is the
+/* Prints where a relocation is, and its name, as "b.o: .text+0x1c: R_RISCV_JAL". The offset is the
  * object's. */
-const char *place_of(const struct section *s, const Elf64_Rela *r) {
-    static char text[4096];
+void print_place(const struct section *s, const Elf64_Rela *r) {
     uint8_t name[LINKER_UTILS_NAME_SIZE];
     size_t len = 0;
-    Elf64_Rela first;
-    uint64_t at = s->table->sh_offset + (uint64_t)(r - s->relocations) * sizeof first;
-    memcpy(&first, s->object->bytes + at, sizeof first);
+    uint64_t offset, at = s->table->sh_offset + (uint64_t)(r - s->relocations) * sizeof *r;
+    memcpy(&offset, s->object->bytes + at, sizeof offset);
     linker_utils_relocation_name(machine, type_of(r), name, sizeof name, &len);
-    snprintf(text, sizeof text, "%s: %s+0x%" PRIx64 ": %.*s", s->object->path, s->name,
-             first.r_offset, (int)len, (const char *)name);
-    return text;
+    fprintf(stderr, "%s: %s+0x%" PRIx64 ": %.*s", s->object->path, s->name, offset, (int)len,
+            (const char *)name);
 }
 
 void check(const struct section *s, const Elf64_Rela *r, uint32_t status) {
-    if (status) fail("%s: %s", place_of(s, r), linker_utils_status_text(status));
+    if (status) fail_at(s, r, ": %s", linker_utils_status_text(status));
 }
 
 /* Reads the relocations of a section. In tables beside functions that other objects have too, what
@@ -129,7 +126,7 @@ void relocate_section(struct section *s, const struct linker_utils_symbol *value
     const struct linker_utils_relocation_reach *reach = &kind_of(s, r)->reach;
     if (status == LINKER_UTILS_OUT_OF_REACH &&
         !linker_utils_value_at(machine, &here, TABLE_OF(s), values, count, at, &value))
-        fail("%s out of reach: %" PRId64 " is not in [%" PRId64 ", %" PRId64 "), to '%s'",
-             place_of(s, r), value, reach->min, reach->max, symbol_at(s, r)->name);
+        fail_at(s, r, " out of reach: %" PRId64 " is not in [%" PRId64 ", %" PRId64 "), to '%s'",
+                value, reach->min, reach->max, symbol_at(s, r)->name);
     check(s, r, status);
 }

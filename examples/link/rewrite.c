@@ -55,26 +55,24 @@ static void rewrite_in(uint32_t phase, struct section *s, const struct section *
     size_t count = s->object->symbols_len, len = s->relocations_len, used = 0, at = 0;
     struct linker_utils_addresses here = addresses_of(s);
     uint64_t start = words ? words->output->address + words->offset : 0;
-    uint32_t status;
-    decisions = grow(decisions, len, &rooms[0], sizeof *decisions);
-    deleted = grow(deleted, len, &rooms[1], sizeof *deleted);
-    if (words && is_survey)
-        status = linker_utils_survey_address_loads(
+    if (is_survey && words)
+        linker_utils_survey_address_loads(
             machine, &linked, facts, count, &here, values, count, start, TABLE_OF(words),
             TABLE_OF(s), BYTES_OF(s), words->kept_words, words->relocations_len);
-    else if (words)
-        status = linker_utils_rewrite_address_loads(
-            machine, &linked, facts, count, &here, values, count, start, TABLE_OF(words),
-            words->kept_words, words->relocations_len, TABLE_OF(s), BYTES_OF(s), decisions, len,
-            &at);
     else if (is_survey)
-        status = linker_utils_survey_placed_section(
-            machine, phase, &linked, facts, count, &here, values, count, TABLE_OF(s), BYTES_OF(s),
-            kept, count);
-    else
-        status = linker_utils_rewrite_placed_section(
-            machine, phase, &linked, facts, count, &here, values, count, kept, count, TABLE_OF(s),
-            BYTES_OF(s), decisions, len, deleted, len, &used, &at);
+        linker_utils_survey_placed_section(machine, phase, &linked, facts, count, &here, values,
+                                           count, TABLE_OF(s), BYTES_OF(s), kept, count);
+    if (is_survey) return;
+    decisions = grow(decisions, len, &rooms[0], sizeof *decisions);
+    deleted = grow(deleted, len, &rooms[1], sizeof *deleted);
+    uint32_t status =
+        words ? linker_utils_rewrite_address_loads(
+                    machine, &linked, facts, count, &here, values, count, start, TABLE_OF(words),
+                    words->kept_words, words->relocations_len, TABLE_OF(s), BYTES_OF(s), decisions,
+                    len, &at)
+              : linker_utils_rewrite_placed_section(
+                    machine, phase, &linked, facts, count, &here, values, count, kept, count,
+                    TABLE_OF(s), BYTES_OF(s), decisions, len, deleted, len, &used, &at);
     check(s, &s->relocations[at], status);
     if (!used) return;
     s->deleted_len = (uint32_t)used;
