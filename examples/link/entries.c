@@ -4,6 +4,7 @@
 
 struct symbol module = {.name = "", .elf = {.st_shndx = SHN_ABS}};
 struct linker_utils_dynamic_types types;
+struct linker_utils_got known_got;
 
 /* Code that the linker adds, and where it goes: to the address in a word, or to its target. It is
  * written once addresses are known. */
@@ -128,16 +129,9 @@ static void make_stub(struct symbol *s) {
     s->elf.st_other = 0;
 }
 
-/* What the library says of the GOT, by its address. */
-struct linker_utils_got known_got(void) {
-    struct linker_utils_got known = {.base = 0};
-    linker_utils_got(machine, got->address, dynamic ? dynamic->address : 0, &known);
-    return known;
-}
-
 /* Makes the stubs and the GOT. The local symbols' entries are the last. */
 void make_entries(void) {
-    if (got->has_bytes && known_got().has_header) make_room(got, 8, 8);
+    if (got->has_bytes && known_got.has_header) make_room(got, 8, 8);
     for (int is_local = 0; is_local < 2; is_local++)
         EACH_SYMBOL(s) {
             if ((!s->needs_stub && !s->entries) || (bind_of(s) == STB_LOCAL) != is_local) continue;
@@ -152,9 +146,8 @@ void make_entries(void) {
 /* Writes the GOT: each entry by the address that it is of. That of a weak thread-local variable
  * that nothing defines is as in ld.lld. */
 void write_entries(void) {
-    struct linker_utils_got known = known_got();
     struct linker_utils_entry_words held;
-    if (got->len && known.has_header) memcpy(got->bytes, &known.header, sizeof known.header);
+    if (got->len && known_got.has_header) memcpy(got->bytes, &known_got.header, 8);
     EACH_SYMBOL(s)
         for (const struct entry *e = s->entries; e; e = e->next) {
             bool is_absent = is_undefined_weak(s);

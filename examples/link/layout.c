@@ -255,6 +255,7 @@ void set_addresses(void) {
         const struct output *from = o->flags & SHF_TLS ? first_tls : o;
         o->address = address_in(from->run, from->base) + (o->base - from->base);
     }
+    linker_utils_got(machine, got->address, dynamic ? dynamic->address : 0, &known_got);
     span = last->address + last->len - outputs[0]->address;
     tls.image = first_tls ? first_tls->address : 0;
     /* (where code is still to become shorter the image isn't aligned so far) */

@@ -197,6 +197,7 @@ extern uint32_t machine_flags; /* `e_flags` of all objects */
 extern bool is_dynamic, relaxes, has_short_offsets;
 extern struct linker_utils_output_facts linked;
 extern struct linker_utils_dynamic_types types;
+extern struct linker_utils_got known_got; /* by addresses, so far as these are known */
 extern const char *own_name;         /* of a shared library, by `-soname`; null where it has none */
 extern struct object *objects;       /* in the order in which they are read */
 extern struct library *libraries;    /* in their order */
@@ -274,7 +275,6 @@ static inline struct kind *kind_of(const struct section *s, const Elf64_Rela *r)
     struct kind *kind = &kinds[type_of(r) < 2048 ? type_of(r) : 2047];
     return kind->is_known ? kind : ask_kind(s, r, kind);
 }
-struct linker_utils_got known_got(void);
 struct linker_utils_symbol known_symbol(const struct symbol *s, int64_t addend);
 struct linker_utils_addresses addresses_of(const struct section *s);
 void relocate_section(struct section *s, const struct linker_utils_symbol *values);

@@ -121,6 +121,7 @@ int main(int argc, char **argv) {
              "-o OUTPUT [--section-start=NAME=ADDRESS]... FILE...");
     if (!is_placed) make_room(headers, 8, HEADERS);
     linker_utils_dynamic_types(machine, &types);
+    linker_utils_got(machine, 0, 0, &known_got);
     EACH_SECTION(s) add_section(s);
     define_symbols();
     if (is_dynamic) bind_symbols();

@@ -66,14 +66,15 @@ static void move_relocations(struct section *s) {
 }
 
 /* Writes a section anew: what becomes shorter, and without what it loses. Items that lose nothing
- * count no more. */
-static void pack(struct section *s, uint8_t *packed, size_t len) {
+ * count no more. Returns how long it is then. */
+static uint64_t pack(struct section *s, uint8_t *packed) {
     const struct run *run = s->output->run;
-    uint64_t base = s->output->base + s->offset;
+    uint64_t base = s->output->base + s->offset, len = s->len;
     size_t first = s->first_item, last = first, at = SIZE_MAX;
     for (size_t i = first; i < first + s->items_len; i++) {
         uint64_t past = items[i].offset - base + items[i].len;
         if (stay[i] == items[i].len) continue;
+        len -= items[i].len - stay[i];
         size_t k = items[i].shapes.count ? makers[i] : s->relocations_len;
         for (; k < s->relocations_len && s->relocations[k].r_offset < past; k++)
             drop(&s->relocations[k]); /* its value is written here */
@@ -87,21 +88,21 @@ static void pack(struct section *s, uint8_t *packed, size_t len) {
                                             &at);
     check_items(s, at < s->items_len ? makers[first + at] : SIZE_MAX, status);
     move_relocations(s);
+    return len;
 }
 
 /* Writes code anew, with what stays of the gaps between its parts. */
 static void pack_output(struct output *o) {
     uint8_t *packed = zeros(o->len, 1);
-    uint64_t from = 0, to = 0, start = address_of(o, 0);
+    uint64_t from = 0, to = 0;
     for (struct section *s = o->first; s; s = s->behind) {
-        uint64_t at = address_of(o, s->offset) - start, end = s->offset + s->len;
-        uint64_t len = address_of(o, end) - start - at;
+        uint64_t end = s->offset + s->len, lost = s->gap ? s->gap - stay[s->first_item - 1] : 0;
+        uint64_t at = to + (s->offset - from - lost);
         memcpy(packed + to, o->bytes + from, at - to);
-        pack(s, packed + at, len);
+        s->len = pack(s, packed + at);
         s->offset = at;
-        s->len = len;
         from = end;
-        to = at + len;
+        to = at + s->len;
     }
     free(o->bytes);
     o->bytes = packed;

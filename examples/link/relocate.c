@@ -84,7 +84,7 @@ struct linker_utils_symbol known_symbol(const struct symbol *s, int64_t addend) 
 /* What is known of the linked file, for the relocations of a section. */
 struct linker_utils_addresses addresses_of(const struct section *s) {
     return (struct linker_utils_addresses){
-        .section = s->output->address + s->offset, .got_base = known_got().base,
+        .section = s->output->address + s->offset, .got_base = known_got.base,
         .thread_origin = tls.origins.thread_pointer, .module_origin = tls.origins.module_block,
         .module_entry = module.entries ? address_of(got, module.entries->offset) : 0};
 }

@@ -103,7 +103,6 @@ static void hide(struct object *o, bool is_shown) {
 /* Rewrites the instructions of an object in some phases, all of a group or none. */
 void rewrite_object(struct object *o, uint32_t first, uint32_t last) {
     bool hides = note_symbols(o, first != LINKER_UTILS_PHASE_EARLY);
-    memset(kept, 0, (o->symbols_len + 1) * sizeof *kept);
     if (hides) hide(o, false);
     EACH_SECTION_OF(o, words)
         for (int is_survey = 1; words->kept_words && is_survey >= 0; is_survey--)
@@ -112,8 +111,8 @@ void rewrite_object(struct object *o, uint32_t first, uint32_t last) {
                     rewrite_in(first, s, words, is_survey);
     for (uint32_t phase = first; phase <= last; phase++) {
         bool is_of_got = phase == LINKER_UTILS_PHASE_GOT_LOADS;
+        memset(kept, 0, (o->symbols_len + 1) * sizeof *kept);
         if (!linker_utils_has_rewrites(machine, phase)) continue;
-        memset(kept, 0, o->symbols_len * sizeof *kept);
         kept->got_load = phase == LINKER_UTILS_PHASE_EARLY; /* as in ld.lld */
         for (int is_survey = !is_of_got; is_survey >= 0; is_survey--)
             EACH_SECTION_OF(o, s)
