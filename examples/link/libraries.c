@@ -60,7 +60,7 @@ void read_library(struct object file) {
     l->name = strrchr(file.path, '/') ? strrchr(file.path, '/') + 1 : file.path;
     *libraries_end = l;
     libraries_end = &l->next;
-    read_heads(&l->file, ET_DYN, "not a shared library of little-endian ELF64");
+    read_heads(&l->file, ET_DYN, "not a shared library");
     EACH_SECTION_OF(&l->file, s) {
         uint32_t type = s->head->sh_type;
         if (type == SHT_DYNSYM) symbols = s;

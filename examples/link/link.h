@@ -58,6 +58,7 @@ enum { RANK_HEADERS, RANK_FIXED, RANK_CODE, RANK_TLS, RANK_TLS_BSS, RANK_ARRAYS,
 /* ends with an error; of a file, of a section of it, and of a relocation of that */
 #define fail(...) (fprintf(stderr, __VA_ARGS__), fputc('\n', stderr), exit(1))
 #define fail_of(o, ...) (fprintf(stderr, "%s: ", (o)->path), fail(__VA_ARGS__))
+#define demand(o, holds, otherwise) ((holds) ? (void)0 : fail_of(o, otherwise))
 #define fail_in(s, ...) \
     (fprintf(stderr, "%s: %s: ", (s)->object->path, (s)->name), fail(__VA_ARGS__))
 #define fail_at(s, r, ...) (print_place(s, r), fail(__VA_ARGS__))
@@ -224,9 +225,9 @@ static inline bool is_thread_local(const struct symbol *s) { return stt_of(s) ==
 
 static inline uint32_t type_of(const Elf64_Rela *r) { return ELF64_R_TYPE(r->r_info); }
 
-static inline struct symbol *symbol_at(const struct section *s, const Elf64_Rela *r) {
-    return s->object->symbols[ELF64_R_SYM(r->r_info)];
-}
+/* The symbol of a relocation of a section. */
+#define symbol_at(s, r) ((s)->object->symbols[ELF64_R_SYM((r)->r_info)])
+
 
 /* Reads ahead the symbol of a relocation that comes soon. */
 static inline void expect_symbol(const struct section *s, const Elf64_Rela *r) {
@@ -241,7 +242,6 @@ void *zeros(uint64_t count, size_t size), *take(uint64_t count, size_t size);
 void *grow(void *array, size_t need, size_t *room, size_t size);
 uint64_t round_up(uint64_t at, uint64_t align);
 /* objects.c */
-void demand(const struct object *o, bool holds, const char *otherwise);
 void read_heads(struct object *o, uint16_t type, const char *otherwise);
 const char *text_at(const struct section *s, uint64_t at);
 const void *table_of(const struct object *o, const Elf64_Shdr *head, size_t size, size_t *len);

@@ -22,11 +22,6 @@ struct object *objects;
 static struct object **objects_end = &objects;
 static struct object *reading; /* a stack of those whose undefined symbols are to be looked up */
 
-/* Ends with an error of an object, where something does not hold of it. */
-void demand(const struct object *o, bool holds, const char *otherwise) {
-    if (!holds) fail_of(o, "%s", otherwise);
-}
-
 static const uint8_t *bytes_at(const struct object *o, uint64_t offset, uint64_t len) {
     demand(o, offset <= o->len && len <= o->len - offset, "it ends too early");
     return o->bytes + offset;
@@ -136,8 +131,8 @@ static void resolve_all(void) {
 void read_heads(struct object *o, uint16_t type, const char *otherwise) {
     Elf64_Ehdr head;
     memcpy(&head, bytes_at(o, 0, sizeof head), sizeof head);
-    demand(o, !memcmp(head.e_ident, ELFMAG "\2\1", 6) && head.e_type == type && head.e_shnum,
-           otherwise);
+    if (memcmp(head.e_ident, ELFMAG "\2\1", 6) || head.e_type != type || !head.e_shnum)
+        fail_of(o, "%s of little-endian ELF64", otherwise);
     if (!machine) machine = head.e_machine;
     demand(o, machine == head.e_machine && !linker_utils_relocate(machine, 0, 0, NULL, 0),
            "of another architecture");
@@ -168,7 +163,7 @@ static void read_object(const char *path, struct bytes file) {
     *o = (struct object){.path = path, .bytes = file.at, .len = file.len};
     *objects_end = o;
     objects_end = &o->next;
-    read_heads(o, ET_REL, "not a relocatable object of little-endian ELF64");
+    read_heads(o, ET_REL, "not a relocatable object");
     EACH_SECTION_OF(o, s) if (s->head->sh_type == SHT_GROUP) read_group(s);
     EACH_SECTION_OF(o, s) {
         uint32_t type = s->head->sh_type, of = s->head->sh_info;
@@ -203,9 +198,8 @@ void load_member(struct archive *a, uint64_t offset) {
     }
     const uint8_t *slash = memchr(name.at, '/', name.len);
     int name_len = (int)(slash ? slash - name.at : (ptrdiff_t)name.len);
-    size_t path_len = strlen(a->file.path) + (size_t)name_len + 3;
-    char *path = take(path_len, 1);
-    snprintf(path, path_len, "%s(%.*s)", a->file.path, name_len, (const char *)name.at);
+    char *path = take(strlen(a->file.path) + (size_t)name_len + 3, 1);
+    sprintf(path, "%s(%.*s)", a->file.path, name_len, (const char *)name.at);
     read_object(path, member);
 }
 
