@@ -94,7 +94,6 @@ void add_section(struct section *s) {
     const Elf64_Shdr *head = s->head;
     if (!(head->sh_flags & SHF_ALLOC) || head->sh_type == SHT_NOTE || s->is_discarded) return;
     bool has_bytes = head->sh_type != SHT_NOBITS, is_code = head->sh_flags & SHF_EXECINSTR;
-    size_t len;
     struct output *o = s->output = output_of(s->name);
     if (o->is_own || (!has_bytes && (s->table || o == frames)))
         fail_of(s->object, "a section %s is not supported", s->name);
@@ -102,9 +101,7 @@ void add_section(struct section *s) {
         fail_of(s->object, "%s is thread-local, and elsewhere it is not", s->name);
     o->flags |= head->sh_flags;
     o->has_bytes |= has_bytes;
-    o->shrinks |= has_bytes && is_code && !(head->sh_flags & SHF_TLS) &&
-                  !linker_utils_section_items(machine, NULL, 0, 0, NULL, 0, NULL, 0, NULL, 0, &len,
-                                              NULL);
+    o->shrinks |= shrinks && has_bytes && is_code && !(head->sh_flags & SHF_TLS);
     s->len = head->sh_size;
     if (has_bytes) o->room += s->len + head->sh_addralign % MOST_ALIGN;
     uint64_t rows = o == frames ? read_frames(s, s->object->bytes + head->sh_offset, NULL) : 0;

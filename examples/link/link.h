@@ -193,9 +193,10 @@ struct tls {
 
 extern uint16_t machine;
 extern uint32_t machine_flags; /* `e_flags` of all objects */
-/* whether a dynamic linker loads the linked file, whether instructions are rewritten that need not
- * be, and whether PowerPC64's local-exec is, which ld.lld leaves */
-extern bool is_dynamic, relaxes, has_short_offsets;
+/* whether a dynamic linker loads the linked file, whether the machine's code may become shorter,
+ * whether instructions are rewritten that need not be, and whether PowerPC64's local-exec is, which
+ * ld.lld leaves */
+extern bool is_dynamic, shrinks, relaxes, has_short_offsets;
 extern struct linker_utils_output_facts linked;
 extern struct linker_utils_dynamic_types types;
 extern struct linker_utils_got known_got; /* by addresses, so far as these are known */

@@ -10,7 +10,7 @@
 
 uint16_t machine;
 uint32_t machine_flags;
-bool is_dynamic, relaxes = true, has_short_offsets = false;
+bool is_dynamic, shrinks, relaxes = true, has_short_offsets = false;
 struct output *headers, *got, *stubs, *slots, *rela, *frames, *index_of, *interpreter, *dynamic;
 struct output *dynsym, *dynstr, *hash_table, *versym, *verneed;
 
@@ -112,6 +112,7 @@ static void read_arguments(char **argument) {
 }
 
 int main(int argc, char **argv) {
+    size_t none;
     if (argc > 0) read_arguments(argv + 1);
     is_dynamic = libraries || !linked.is_fixed;
     if (is_dynamic && is_placed) fail("--section-start is for static executables");
@@ -120,6 +121,8 @@ int main(int argc, char **argv) {
         fail("usage: link [-s] [--no-relax | --short-offsets] [-pie | -shared [-soname NAME]] "
              "-o OUTPUT [--section-start=NAME=ADDRESS]... FILE...");
     if (!is_placed) make_room(headers, 8, HEADERS);
+    shrinks = !linker_utils_section_items(machine, NULL, 0, 0, NULL, 0, NULL, 0, NULL, 0, &none,
+                                          NULL);
     linker_utils_dynamic_types(machine, &types);
     linker_utils_got(machine, 0, 0, &known_got);
     EACH_SECTION(s) add_section(s);

@@ -151,9 +151,7 @@ static void relax_run(struct run *run) {
 
 /* Relaxes all code. */
 void relax(void) {
-    bool shrinks = false;
     uint32_t phase = LINKER_UTILS_PHASE_THREAD_OFFSETS;
-    EACH_OUTPUT(o) shrinks |= o->shrinks;
     EACH_OBJECT(o)
         if (o->is_threaded && (shrinks || (has_short_offsets && relaxes)))
             rewrite_object(o, phase, phase);

@@ -90,20 +90,18 @@ static void rewrite_got_loads(struct section *s) {
     if (!stays) rewrite_in(LINKER_UTILS_PHASE_GOT_LOADS, s, NULL, false);
 }
 
-/* Hides relocations of an object's code from the library, and shows them again. */
-static void hide(struct object *o, bool is_shown) {
+/* Hides relocations of an object's code from the library, and when called again shows them. */
+static void hide(struct object *o) {
     EACH_SECTION_OF(o, s)
         if (is_code(s) || s->kept_words)
-            EACH_RELOCATION(s, r) {
-                if (is_shown) r->r_info &= ~HIDDEN;
-                else if (is_hidden(s, r)) r->r_info |= HIDDEN;
-            }
+            EACH_RELOCATION(s, r)
+                if (r->r_info & HIDDEN || is_hidden(s, r)) r->r_info ^= HIDDEN;
 }
 
 /* Rewrites the instructions of an object in some phases, all of a group or none. */
 void rewrite_object(struct object *o, uint32_t first, uint32_t last) {
     bool hides = note_symbols(o, first != LINKER_UTILS_PHASE_EARLY);
-    if (hides) hide(o, false);
+    if (hides) hide(o);
     EACH_SECTION_OF(o, words)
         for (int is_survey = 1; words->kept_words && is_survey >= 0; is_survey--)
             EACH_SECTION_OF(o, s)
@@ -119,7 +117,7 @@ void rewrite_object(struct object *o, uint32_t first, uint32_t last) {
                 if (is_code(s) && !is_of_got) rewrite_in(phase, s, NULL, is_survey);
                 else if (is_code(s) && s->has_loads) rewrite_got_loads(s);
     }
-    if (hides) hide(o, true);
+    if (hides) hide(o);
 }
 
 /* Whether compilers keep addresses in a section, beside the GOT. */
