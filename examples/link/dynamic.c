@@ -31,7 +31,7 @@ void bind_symbols(void) {
         bool is_default = visibility_of(s) == STV_DEFAULT;
         bool is_seen = bind_of(s) != STB_LOCAL && rank(s) != 2 &&
                        (is_default || visibility_of(s) == STV_PROTECTED);
-        if (s->library && is_thread_local(s) != (ELF64_ST_TYPE(s->there.st_info) == STT_TLS))
+        if (s->library && is_thread_local(s) != (ELF64_ST_TYPE(s->there->st_info) == STT_TLS))
             fail_of(s->object, "'%s' is thread-local in only one of it and %s", s->name,
                     s->library->file.path);
         bool may_be_there = !is_defined(s) && (s->library || bind_of(s) == STB_WEAK);
@@ -67,9 +67,9 @@ void import(struct section *in, Elf64_Rela *r, const struct linker_utils_require
         fail_at(in, r, " can't reach '%s', which another file may replace", s->name);
     } else if (s->library) {
         const char *file = s->library->file.path;
-        if (ELF64_ST_VISIBILITY(s->there.st_other) == STV_PROTECTED)
+        if (ELF64_ST_VISIBILITY(s->there->st_other) == STV_PROTECTED)
             fail_at(in, r, " can't replace the protected '%s' of %s", s->name, file);
-        bool is_function = ELF64_ST_TYPE(s->there.st_info) == STT_FUNC;
+        bool is_function = ELF64_ST_TYPE(s->there->st_info) == STT_FUNC;
         s->has_stub |= is_function;
         s->is_canonical |= is_function;
         s->is_copied |= !is_function;
@@ -81,26 +81,26 @@ void import(struct section *in, Elf64_Rela *r, const struct linker_utils_require
 static void make_copy(struct symbol *s) {
     const struct library *l = s->library;
     struct output *bss = output_of(".bss");
-    uint64_t align = s->there.st_value & -s->there.st_value, most = 64;
-    if (s->there.st_shndx < l->file.sections_len)
-        most = l->file.heads[s->there.st_shndx].sh_addralign;
-    if (!s->there.st_size || s->there.st_size > MOST_BYTES)
+    uint64_t align = s->there->st_value & -s->there->st_value, most = 64;
+    if (s->there->st_shndx < l->file.sections_len)
+        most = l->file.heads[s->there->st_shndx].sh_addralign;
+    if (!s->there->st_size || s->there->st_size > MOST_BYTES)
         fail_of(&l->file, ".dynsym: '%s' can't be copied", s->name);
     if (!most || most & (most - 1) || most > MOST_ALIGN)
         fail_of(&l->file, ".dynsym: '%s' can't be aligned so", s->name);
     bss->flags |= SHF_WRITE | SHF_ALLOC;
-    uint64_t at = make_room(bss, align && align < most ? align : most, s->there.st_size);
+    uint64_t at = make_room(bss, align && align < most ? align : most, s->there->st_size);
     add_row(bss, at, types.copy, s, 0);
     for (size_t i = 0; i < l->file.symbols_len; i++) {
         struct symbol *alias = l->file.symbols[i];
-        if (!alias || alias->library != l || alias->there.st_value != s->there.st_value ||
-            alias->there.st_shndx != s->there.st_shndx || (alias->object && is_defined(alias)))
+        if (!alias || alias->library != l || alias->there->st_value != s->there->st_value ||
+            alias->there->st_shndx != s->there->st_shndx || (alias->object && is_defined(alias)))
             continue;
         list_symbol(alias);
-        unsigned bind = ELF64_ST_BIND((alias->object ? alias->elf : alias->there).st_info);
-        unsigned type = ELF64_ST_TYPE(alias->there.st_info);
+        unsigned bind = alias->object ? bind_of(alias) : ELF64_ST_BIND(alias->there->st_info);
+        unsigned type = ELF64_ST_TYPE(alias->there->st_info);
         alias->elf = (Elf64_Sym){.st_info = ELF64_ST_INFO(bind, type), .st_shndx = SHN_ABS,
-                                 .st_size = alias->there.st_size};
+                                 .st_size = alias->there->st_size};
         alias->output = bss;
         alias->offset = at;
         alias->is_imported = false;
@@ -320,7 +320,7 @@ bool write_dynamic(void) {
         elf->st_name = name;
         if (!is_defined(s)) elf->st_shndx = SHN_UNDEF;
         if (!is_defined(s) && s->library)
-            elf->st_info = ELF64_ST_INFO(bind_of(s), ELF64_ST_TYPE(s->there.st_info));
+            elf->st_info = ELF64_ST_INFO(bind_of(s), ELF64_ST_TYPE(s->there->st_info));
         is_of_gnu |= ELF64_ST_TYPE(elf->st_info) == STT_GNU_IFUNC ||
                      ELF64_ST_BIND(elf->st_info) == STB_GNU_UNIQUE;
         uint16_t number = version_of(s) ? version_of(s)->number : VER_NDX_GLOBAL;

@@ -26,11 +26,13 @@ static void read_versions(struct library *l, const struct section *s) {
 }
 
 /* Notes the symbols of a library, those that it refers to among them, but for versions that only
- * old programs ask for. The first library that defines one counts, and then no archive. */
+ * old programs ask for. The first library that defines one counts, and then no archive. An indirect
+ * function of a library is called as any other. */
 static void read_dynamic_symbols(struct library *l, const struct section *in,
                                  const struct section *versions) {
     struct object *file = &l->file;
-    const Elf64_Sym *elf = table_of(file, in->head, sizeof *elf, &file->symbols_len);
+    const Elf64_Sym *table = table_of(file, in->head, sizeof *table, &file->symbols_len);
+    Elf64_Sym *elf = memcpy(take(file->symbols_len, sizeof *elf), table, in->head->sh_size);
     file->symbols = take(file->symbols_len, sizeof *file->symbols);
     for (size_t i = 0; i < file->symbols_len; i++, elf++) {
         uint16_t version = VER_NDX_GLOBAL;
@@ -44,10 +46,9 @@ static void read_dynamic_symbols(struct library *l, const struct section *in,
         struct symbol *s = file->symbols[i] = named(name);
         s->is_exported = true;
         if (!elf->st_shndx || s->library) continue;
+        if (type == STT_GNU_IFUNC) elf->st_info = ELF64_ST_INFO(bind, STT_FUNC);
         s->library = l;
-        s->there = *elf;
-        if (type == STT_GNU_IFUNC) /* it is called there as any function */
-            s->there.st_info = ELF64_ST_INFO(bind, STT_FUNC);
+        s->there = elf;
         s->version = version;
         s->archive = NULL;
     }

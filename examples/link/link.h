@@ -146,7 +146,7 @@ struct library {
 /* Its first 64 bytes are what each pass over all symbols reads. */
 struct symbol {
     struct output *output; /* null where the address is absolute, and where nothing defines it */
-    uint64_t offset;       /* in the output */
+    uint64_t offset;       /* in the output; until it is placed that of the member in its archive */
     Elf64_Sym elf;
     struct symbol *later;  /* as objects mention them */
     struct entry *entries; /* in the GOT */
@@ -160,11 +160,11 @@ struct symbol {
     const struct object *object; /* null where only an index of an archive names it */
     const char *name;
     struct archive *archive; /* which can define it; null where none can */
-    uint64_t member, stub;   /* in the archive; to a function of another file, where `has_stub` */
+    uint64_t stub;           /* to a function of another file, where `has_stub` */
     struct symbol *thunks;   /* to it */
     struct symbol *same;     /* the next global one in its bucket */
     struct library *library; /* the first that defines it; null where none does */
-    Elf64_Sym there;         /* as that has it */
+    const Elf64_Sym *there;  /* as that has it */
 };
 
 /* An entry of the GOT. */

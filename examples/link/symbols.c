@@ -76,7 +76,7 @@ void resolve(struct symbol *known, struct symbol *s) {
     /* of visibilities the stricter one counts: 0 is the least */
     known->elf.st_other &= (uint8_t)~3;
     known->elf.st_other |= (uint8_t)(seen && (!own || seen < own) ? seen : own);
-    if (before < 1 && after == 1 && known->archive) load_member(known->archive, known->member);
+    if (before < 1 && after == 1 && known->archive) load_member(known->archive, known->offset);
 }
 
 /* A symbol of an archive's index. The first archive that has it counts. A member that is needed
@@ -85,7 +85,7 @@ void offer(const char *name, struct archive *a, uint64_t member) {
     struct symbol *s = named(name);
     if (s->archive || s->library) return;
     s->archive = a;
-    s->member = member;
+    s->offset = member;
     if (s->object && rank(s) == 1) load_member(a, member);
 }
 
