@@ -55,7 +55,8 @@ enum { RANK_HEADERS, RANK_FIXED, RANK_CODE, RANK_TLS, RANK_TLS_BSS, RANK_ARRAYS,
 #define EACH_RELOCATION(s, r) \
     for (Elf64_Rela *r = s->relocations; r < s->relocations + s->relocations_len; r++)
 
-/* ends with an error; of a file, of a section of it, and of a relocation of that */
+/* ends with an error; of a file, or where something doesn't hold of it; of a section of it; and of a
+ * relocation of that */
 #define fail(...) (fprintf(stderr, __VA_ARGS__), fputc('\n', stderr), exit(1))
 #define fail_of(o, ...) (fprintf(stderr, "%s: ", (o)->path), fail(__VA_ARGS__))
 #define demand(o, holds, otherwise) ((holds) ? (void)0 : fail_of(o, otherwise))
@@ -97,7 +98,7 @@ struct output {
 };
 
 /* An object. Behind its own symbols are those that relocations get, with entries of the GOT for an
- * addend each. */
+ * addend each, or a thunk. */
 struct object {
     struct object *next, *below; /* and in the stack of those that are being read */
     const char *path, *names;    /* of symbols */
@@ -106,7 +107,7 @@ struct object {
     struct section *sections;    /* one for each head */
     const Elf64_Sym *mentions;   /* of its symbols, as it says itself */
     struct symbol **symbols;     /* as all objects say */
-    int64_t *addends; /* of these: null where all are 0 */
+    int64_t *addends;            /* of these; null where all are 0 */
     size_t len, sections_len, symbols_len, mentions_len, resolved_len, symbols_room, addends_room;
     bool is_threaded, is_compressed; /* it has thread-local symbols; the shortest instructions */
 };
