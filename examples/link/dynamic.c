@@ -3,7 +3,6 @@
 #include "link.h"
 
 struct linker_utils_output_facts linked = {.is_executable = true, .is_fixed = true};
-bool is_dynamic;
 const char *own_name;
 
 /* A word that the dynamic linker fills. */
@@ -11,11 +10,10 @@ struct dynamic_row {
     const struct output *output;
     uint64_t offset;
     uint32_t type;
-    const struct symbol *symbol; /* null where it is the output itself */
+    const struct symbol *symbol;
     int64_t addend;
 };
 
-struct output *interpreter, *dynamic, *rela, *dynsym, *dynstr, *hash_table, *versym, *verneed;
 static struct dynamic_row *rows;
 static size_t rows_len, rows_room, listed_len = 1, imports_len;
 static struct symbol **listed; /* by their numbers in the table, first those of other files */
@@ -23,11 +21,6 @@ static struct symbol **listed; /* by their numbers in the table, first those of 
 void add_row(struct output *o, uint64_t offset, uint32_t type, struct symbol *s, int64_t addend) {
     rows = grow(rows, rows_len + 1, &rows_room, sizeof *rows);
     rows[rows_len++] = (struct dynamic_row){o, offset, type, s, addend};
-}
-
-/* Whether nothing defines a weak symbol so far. Where code doesn't load its address that is 0. */
-static bool may_be_absent(const struct symbol *s) {
-    return !s->library && bind_of(s) == STB_WEAK;
 }
 
 /* Says which symbols other files define, and which they may see. What another file may replace is
@@ -38,71 +31,76 @@ void bind_symbols(void) {
         bool is_default = visibility_of(s) == STV_DEFAULT;
         bool is_seen = bind_of(s) != STB_LOCAL && rank(s) != 2 &&
                        (is_default || visibility_of(s) == STV_PROTECTED);
-        if (s->library && is_thread_local(s) != (ELF64_ST_TYPE(s->there.st_info) == STT_TLS))
+        if (s->library && is_thread_local(s) != (ELF64_ST_TYPE(s->there->st_info) == STT_TLS))
             fail_of(s->object, "'%s' is thread-local in only one of it and %s", s->name,
                     s->library->file.path);
-        s->is_imported = is_seen && is_default &&
-                         (is_shared || (!is_defined(s) && (s->library || may_be_absent(s))));
+        bool may_be_there = !is_defined(s) && (s->library || bind_of(s) == STB_WEAK);
+        s->is_imported = is_seen && is_default && (is_shared || may_be_there);
         s->is_exported = is_seen && is_defined(s) && (is_shared || s->is_exported);
     }
 }
 
-/* How a relocation reaches a symbol of another file, or one of this file wherever it is loaded. */
+/* How a relocation reaches a symbol of another file, or one of this file wherever it is loaded.
+ * Where code doesn't load the address of a weak symbol that nothing defines so far, that is 0. */
 void import(struct section *in, Elf64_Rela *r, const struct linker_utils_requirements *needs) {
     struct symbol *s = symbol_at(in, r);
     uint32_t kind = kind_of(in, r)->row.kind;
     bool is_in_module = kind == LINKER_UTILS_KIND_DTP_OFF;
     bool is_of_thread = kind == LINKER_UTILS_KIND_TP_OFF;
-    bool is_absolute = kind < LINKER_UTILS_KIND_ABSOLUTE_SET;
-    bool is_difference = !is_absolute && kind < LINKER_UTILS_KIND_RELATIVE;
-    bool is_imported = s->is_imported && !((is_in_module || is_difference) && is_defined(s));
+    bool is_changed = kind >= LINKER_UTILS_KIND_ABSOLUTE_SET && kind < LINKER_UTILS_KIND_RELATIVE;
+    bool is_imported = s->is_imported && !((is_in_module || is_changed) && is_defined(s));
     bool is_word = needs->is_word && in->output->flags & SHF_WRITE;
     if (needs->entry_class || kind == LINKER_UTILS_KIND_ALIGNMENT ||
         kind == LINKER_UTILS_KIND_TLS_DESC_CALL)
         return;
     if ((is_imported && (is_in_module || is_of_thread)) || (is_of_thread && !linked.is_executable))
-        fail("%s can't reach '%s' from such an output", place_of(in, r), s->name);
+        fail_at(in, r, " can't reach '%s' from such an output", s->name);
     if (!is_imported && (linked.is_fixed || !needs->depends_on_load || !is_here(s))) return;
     if (is_imported && needs->may_use_stub) {
         s->has_stub = true;
     } else if (is_word) {
-        add_row(in->output, in->offset + r->r_offset, is_imported ? types.word : types.relative, s,
-                r->r_addend);
+        uint32_t type = is_imported ? types.word : types.relative;
+        add_row(in->output, in->offset + r->r_offset, type, s, r->r_addend);
     } else if (!is_imported) {
-        fail("%s depends on where the output is loaded, to '%s'", place_of(in, r), s->name);
+        fail_at(in, r, " depends on where the output is loaded, to '%s'", s->name);
     } else if (!linked.is_executable) {
-        fail("%s can't reach '%s', which another file may replace", place_of(in, r), s->name);
-    } else if (!may_be_absent(s)) {
-        if (ELF64_ST_VISIBILITY(s->there.st_other) == STV_PROTECTED)
-            fail("%s can't replace the protected '%s' of %s", place_of(in, r), s->name,
-                 s->library->file.path);
-        bool is_function = ELF64_ST_TYPE(s->there.st_info) == STT_FUNC;
+        fail_at(in, r, " can't reach '%s', which another file may replace", s->name);
+    } else if (s->library) {
+        const char *file = s->library->file.path;
+        if (ELF64_ST_VISIBILITY(s->there->st_other) == STV_PROTECTED)
+            fail_at(in, r, " can't replace the protected '%s' of %s", s->name, file);
+        bool is_function = ELF64_ST_TYPE(s->there->st_info) == STT_FUNC;
         s->has_stub |= is_function;
         s->is_canonical |= is_function;
         s->is_copied |= !is_function;
     }
 }
 
-/* Makes room for a variable of a library in the program, and moves all its names there. */
+/* Makes room for a variable of a library in the program, and moves all its names there. Its address
+ * and its section in the library say how it is aligned. */
 static void make_copy(struct symbol *s) {
     const struct library *l = s->library;
     struct output *bss = output_of(".bss");
-    if (!s->there.st_size || s->there.st_size > MOST_BYTES)
-        fail_in(&l->file, ".dynsym", "'%s' can't be copied", s->name);
+    uint64_t align = s->there->st_value & -s->there->st_value, most = 64;
+    if (s->there->st_shndx < l->file.sections_len)
+        most = l->file.heads[s->there->st_shndx].sh_addralign;
+    if (!s->there->st_size || s->there->st_size > MOST_BYTES)
+        fail_of(&l->file, ".dynsym: '%s' can't be copied", s->name);
+    if (!most || most & (most - 1) || most > MOST_ALIGN)
+        fail_of(&l->file, ".dynsym: '%s' can't be aligned so", s->name);
     bss->flags |= SHF_WRITE | SHF_ALLOC;
-    uint64_t at = make_room(bss, import_align(s), s->there.st_size);
+    uint64_t at = make_room(bss, align && align < most ? align : most, s->there->st_size);
     add_row(bss, at, types.copy, s, 0);
     for (size_t i = 0; i < l->file.symbols_len; i++) {
         struct symbol *alias = l->file.symbols[i];
-        if (!alias || alias->library != l || alias->there.st_value != s->there.st_value ||
-            alias->there.st_shndx != s->there.st_shndx || (alias->object && is_defined(alias)))
+        if (!alias || alias->library != l || alias->there->st_value != s->there->st_value ||
+            alias->there->st_shndx != s->there->st_shndx || (alias->object && is_defined(alias)))
             continue;
         list_symbol(alias);
-        unsigned bind = ELF64_ST_BIND((alias->object ? alias->elf : alias->there).st_info);
-        alias->elf = alias->there;
-        alias->elf.st_info = ELF64_ST_INFO(bind, ELF64_ST_TYPE(alias->there.st_info));
-        alias->elf.st_other = 0;
-        alias->elf.st_shndx = SHN_ABS;
+        unsigned bind = alias->object ? bind_of(alias) : ELF64_ST_BIND(alias->there->st_info);
+        unsigned type = ELF64_ST_TYPE(alias->there->st_info);
+        alias->elf = (Elf64_Sym){.st_info = ELF64_ST_INFO(bind, type), .st_shndx = SHN_ABS,
+                                 .st_size = alias->there->st_size};
         alias->output = bss;
         alias->offset = at;
         alias->is_imported = false;
@@ -126,8 +124,8 @@ void make_imports(void) {
 /* Leaves an entry of the GOT to the dynamic linker, or what of it is not known here. */
 void fill_entry(struct symbol *s, const struct entry *e) {
     struct linker_utils_word_types words;
-    bool is_bound = !s || !s->is_imported;
-    if (!is_dynamic || (is_bound && s && !is_here(s)) ||
+    bool is_bound = !s->is_imported;
+    if (!is_dynamic || (is_bound && !is_here(s)) ||
         linker_utils_dynamic_words(machine, e->class, is_bound, linked.is_executable, &words) ||
         (linked.is_fixed && words.first == types.relative))
         return;
@@ -138,7 +136,7 @@ void fill_entry(struct symbol *s, const struct entry *e) {
 /* How many buckets the table of hashes has. */
 static uint32_t buckets_len(void) { return (uint32_t)(listed_len - imports_len) / 4 + 1; }
 
-static uint32_t bucket_of(const struct symbol *s) { return gnu_hash(s->name) % buckets_len(); }
+static uint32_t bucket_of(const struct symbol *s) { return s->hash % buckets_len(); }
 
 static int by_bucket(const void *left, const void *right) {
     const struct symbol *a = *(struct symbol *const *)left, *b = *(struct symbol *const *)right;
@@ -156,7 +154,7 @@ static void write_hashes(void) {
         uint32_t at = bucket_of(listed[i]);
         if (!buckets[at]) buckets[at] = (uint32_t)i;
         bool is_last = i + 1 == listed_len || bucket_of(listed[i + 1]) != at;
-        *chain++ = (gnu_hash(listed[i]->name) & ~1u) | is_last;
+        *chain++ = (listed[i]->hash & ~1u) | is_last;
     }
 }
 
@@ -184,25 +182,22 @@ static void write_needed(void) {
     if (verneed->len) memset(verneed->bytes + last + offsetof(Elf64_Verneed, vn_next), 0, 4);
 }
 
-/* Whether a symbol is in the table: of another file, or one that other files find here. */
-static bool is_in_table(const struct symbol *s, bool is_import) {
-    if (is_import) return s->is_imported && !is_defined(s) && !s->is_canonical;
-    return s->is_canonical || (s->is_exported && (s->output || s->elf.st_shndx == SHN_ABS));
-}
-
 /* The version with which a symbol is looked up, which its library has; null where there is none. */
 static struct version *version_of(const struct symbol *s) {
     bool is_there = s->library && ((s->is_imported && !is_defined(s)) || s->is_copied);
     return is_there && s->version > VER_NDX_GLOBAL ? &s->library->versions[s->version] : NULL;
 }
 
-/* Lists the dynamic symbols, numbers them, and says which versions they require. */
+/* Lists the dynamic symbols, which are those of other files and then those that other files find
+ * here, numbers them, and says which versions they require. */
 static void list_dynamic(void) {
     listed = zeros(symbols_len + 1, sizeof *listed);
-    for (int is_import = 1; is_import >= 0; is_import--) {
+    for (int is_here = 0; is_here < 2; is_here++) {
         imports_len = listed_len;
         EACH_SYMBOL(s) {
-            if (!is_in_table(s, is_import)) continue;
+            bool is_import = s->is_imported && !is_defined(s) && !s->is_canonical;
+            bool is_found = s->is_exported && (s->output || s->elf.st_shndx == SHN_ABS);
+            if (is_here ? !is_found && !s->is_canonical : !is_import) continue;
             listed[listed_len++] = s;
             if (version_of(s)) version_of(s)->number = 1;
         }
@@ -235,19 +230,19 @@ static void put_table(const struct output *o, int64_t tag, int64_t size, int64_t
 }
 
 /* An array of functions: with priorities it is several sections, one behind the other. */
-static void put_array(int64_t tag, int64_t size, const char *name) {
-    uint64_t start = UINT64_MAX, end = 0;
+static void put_array(int64_t tag, int64_t size, unsigned rank) {
+    uint64_t start = 0, end = 0;
     EACH_OUTPUT(o) {
-        if (!o->len || strncmp(o->name, name, strlen(name))) continue;
-        if (o->address < start) start = o->address;
-        if (o->address + o->len > end) end = o->address + o->len;
+        if (!o->len || o->rank != rank) continue;
+        if (!end) start = o->address;
+        end = o->address + o->len;
     }
     if (end) put_entry(tag, start), put_entry(size, end - start);
 }
 
 static void put_function(int64_t tag, const char *name) {
-    const struct symbol *s = *global(name);
-    if (s && s->output) put_entry(tag, address_of(s->output, s->offset));
+    const struct symbol *s = named(name);
+    if (s->output) put_entry(tag, address_of(s->output, s->offset));
 }
 
 /* Makes the entries, or writes them once addresses are known. */
@@ -260,9 +255,9 @@ static void put_entries(void) {
     if (name) put_entry(DT_SONAME, name);
     put_function(DT_INIT, "_init");
     put_function(DT_FINI, "_fini");
-    if (linked.is_executable) put_array(DT_PREINIT_ARRAY, DT_PREINIT_ARRAYSZ, ".preinit_array");
-    put_array(DT_INIT_ARRAY, DT_INIT_ARRAYSZ, ".init_array");
-    put_array(DT_FINI_ARRAY, DT_FINI_ARRAYSZ, ".fini_array");
+    if (linked.is_executable) put_array(DT_PREINIT_ARRAY, DT_PREINIT_ARRAYSZ, RANK_ARRAYS);
+    put_array(DT_INIT_ARRAY, DT_INIT_ARRAYSZ, RANK_ARRAYS + 1);
+    put_array(DT_FINI_ARRAY, DT_FINI_ARRAYSZ, RANK_ARRAYS + 2);
     put_table(hash_table, DT_GNU_HASH, 0, 0);
     put_table(dynstr, DT_STRTAB, DT_STRSZ, 0);
     put_table(dynsym, DT_SYMTAB, 0, DT_SYMENT);
@@ -299,31 +294,22 @@ static int by_symbol(const void *left, const void *right) {
     return by ? by : order(a->r_offset, b->r_offset);
 }
 
-/* Whether a word is of a symbol that the dynamic linker looks up. */
-static bool is_looked_up(const struct dynamic_row *row) {
-    return row->symbol && (row->symbol->is_imported || row->type == types.copy);
-}
-
-/* What a word is relative to: the symbol, the image of thread-local storage, or nothing. */
-static uint64_t addend_of(const struct dynamic_row *row) {
-    const struct symbol *s = row->symbol;
-    if (row->type == types.module_number) return 0;
-    if (is_looked_up(row)) return (uint64_t)row->addend;
-    uint64_t at = (s ? address_of(s->output, s->offset) : 0) + (uint64_t)row->addend;
-    bool is_offset = row->type == types.thread_offset || row->type == types.module_offset;
-    return is_offset || row->type == types.descriptor ? at - tls.image : at;
-}
-
 /* Writes the tables, once all addresses are known. Whether a symbol is of a kind that only GNU's
  * systems know. */
 bool write_dynamic(void) {
     bool is_of_gnu = false;
     Elf64_Rela *to = (Elf64_Rela *)rela->bytes;
-    for (const struct dynamic_row *row = rows; row < rows + rows_len; row++)
-        *to++ = (Elf64_Rela){
-            address_of(row->output, row->offset),
-            ELF64_R_INFO((uint64_t)(is_looked_up(row) ? row->symbol->dynamic : 0), row->type),
-            (int64_t)addend_of(row)};
+    for (const struct dynamic_row *row = rows; row < rows + rows_len; row++, to++) {
+        const struct symbol *s = row->symbol;
+        bool is_looked_up = s->is_imported || row->type == types.copy;
+        bool is_offset = row->type == types.thread_offset || row->type == types.module_offset ||
+                         row->type == types.descriptor;
+        uint64_t at = address_of(s->output, s->offset) - (is_offset ? tls.image : 0);
+        to->r_offset = address_of(row->output, row->offset);
+        to->r_info = ELF64_R_INFO((uint64_t)(is_looked_up ? s->dynamic : 0), row->type);
+        to->r_addend = (int64_t)((uint64_t)row->addend + (is_looked_up ? 0 : at));
+        if (row->type == types.module_number) to->r_addend = 0;
+    }
     if (rows_len) qsort(rela->bytes, rows_len, sizeof(Elf64_Rela), by_symbol);
     if (!is_dynamic) return false;
     Elf64_Sym *elf = (Elf64_Sym *)dynsym->bytes + 1;
@@ -334,7 +320,7 @@ bool write_dynamic(void) {
         elf->st_name = name;
         if (!is_defined(s)) elf->st_shndx = SHN_UNDEF;
         if (!is_defined(s) && s->library)
-            elf->st_info = ELF64_ST_INFO(bind_of(s), ELF64_ST_TYPE(s->there.st_info));
+            elf->st_info = ELF64_ST_INFO(bind_of(s), ELF64_ST_TYPE(s->there->st_info));
         is_of_gnu |= ELF64_ST_TYPE(elf->st_info) == STT_GNU_IFUNC ||
                      ELF64_ST_BIND(elf->st_info) == STB_GNU_UNIQUE;
         uint16_t number = version_of(s) ? version_of(s)->number : VER_NDX_GLOBAL;

@@ -2,9 +2,9 @@
  * functions whose address is in a word, and thunks for branches that don't reach their target. */
 #include "link.h"
 
-struct output *got, *stubs, *slots;
-struct entry *module_entry;
+struct symbol module = {.name = "", .elf = {.st_shndx = SHN_ABS}};
 struct linker_utils_dynamic_types types;
+struct linker_utils_got known_got;
 
 /* Code that the linker adds, and where it goes: to the address in a word, or to its target. It is
  * written once addresses are known. */
@@ -13,7 +13,6 @@ struct stub {
     struct stub *before;
     const struct output *target;
     uint64_t target_offset;
-    const char *name;
     uint32_t kind; /* `enum linker_utils_stub_kind` */
 };
 
@@ -25,7 +24,8 @@ static uint64_t add_stub(struct output *o, uint32_t kind, const char *name,
     struct linker_utils_stub stub;
     struct stub *s = take(1, sizeof *s);
     if (linker_utils_stub(machine, kind, &stub)) fail("there is no stub to '%s'", name);
-    *s = (struct stub){{.output = o, .len = stub.len}, added, target, target_offset, name, kind};
+    *s = (struct stub){.part = {.name = name, .output = o, .len = stub.len}, .before = added,
+                       .target = target, .target_offset = target_offset, .kind = kind};
     add_part_of(o, &s->part, 8);
     added = s;
     return s->part.offset + stub.entry;
@@ -42,33 +42,31 @@ uint64_t add_slot(struct symbol *s, uint32_t type) {
 /* Writes all stubs. */
 void write_stubs(void) {
     for (const struct stub *s = added; s; s = s->before) {
-        struct output *o = s->part.output;
-        uint64_t at = s->part.offset, target = address_of(s->target, s->target_offset);
-        uint32_t status = linker_utils_write_stub(machine, s->kind, o->address + at, target,
-                                                  o->bytes + at, s->part.len);
-        if (status) fail("a stub to '%s': %s", s->name, linker_utils_status_text(status));
+        uint64_t at = s->part.output->address + s->part.offset;
+        uint64_t target = address_of(s->target, s->target_offset);
+        uint32_t status = linker_utils_write_stub(machine, s->kind, at, target, BYTES_OF(&s->part));
+        if (status) fail("a stub to '%s': %s", s->part.name, linker_utils_status_text(status));
     }
 }
 
-/* Gives a relocation another index of a symbol, with what the symbol's entries have for an addend.
- *  */
+/* Gives a relocation another index of a symbol, with what its entries have for an addend. */
 static void refer(struct object *o, Elf64_Rela *r, struct symbol *to, int64_t addend) {
-    size_t at = o->symbols_len++, others_len = o->symbols_len - o->mentions_len;
-    o->symbols = grow(o->symbols, o->symbols_len, &o->symbols_room, sizeof *o->symbols);
-    o->addends = grow(o->addends, others_len, &o->addends_room, sizeof *o->addends);
+    size_t at = o->symbols_len++;
+    o->symbols = grow(o->symbols, at + 1, &o->symbols_room, sizeof *o->symbols);
+    o->addends = grow(o->addends, at + 1, &o->addends_room, sizeof *o->addends);
     o->symbols[at] = to;
-    o->addends[others_len - 1] = addend;
+    o->addends[at] = addend;
     r->r_info = ELF64_R_INFO((uint64_t)at, type_of(r));
 }
 
 /* Adds the entry of the GOT that a relocation requires, once; one of the module serves all. */
 static void add_entry(struct section *s, Elf64_Rela *r,
                       const struct linker_utils_requirements *needs) {
-    struct symbol *to = symbol_at(s, r);
+    bool is_of_module = needs->entry_class == LINKER_UTILS_ENTRY_MODULE;
+    struct symbol *to = is_of_module ? &module : symbol_at(s, r);
     struct entry **at = &to->entries;
-    if (needs->entry_class == LINKER_UTILS_ENTRY_MODULE) at = &module_entry;
     if (!is_dynamic && needs->entry_class == LINKER_UTILS_ENTRY_DESCRIPTOR)
-        fail("%s is not supported", place_of(s, r));
+        fail_at(s, r, " is not supported");
     while (*at && ((*at)->class != needs->entry_class || (*at)->addend != needs->entry_addend))
         at = &(*at)->next;
     if (!*at) *at = take(1, sizeof **at);
@@ -85,106 +83,81 @@ static int64_t entered_at(const struct section *s, const Elf64_Rela *r) {
     struct linker_utils_stub stub;
     struct linker_utils_route route;
     uint32_t status = linker_utils_route_by_word(machine, 0, (const uint8_t *)r, sizeof *r, 0,
-                                                 s->output->bytes + s->offset, s->len, &route);
+                                                 BYTES_OF(s), &route);
     if (status == LINKER_UTILS_NO_ROOM) return 0;
     check(s, r, status);
     check(s, r, linker_utils_stub(machine, route.kind, &stub));
     return (int64_t)(route.entry - stub.entry);
 }
 
-/* Notes what a relocation requires. A descriptor of a group that doesn't stay is rewritten later.
- *  */
-static void require(struct section *s, Elf64_Rela *r) {
-    struct symbol *to = symbol_at(s, r);
-    const struct kind *kind = kind_of(s, r);
-    uint64_t index = ELF64_R_SYM(r->r_info);
-    uint16_t at = to->elf.st_shndx;
-    if (kind->row.kind == LINKER_UTILS_KIND_NONE) return;
-    if (index && !is_defined(to) && rank(to) == 1 && !to->is_imported)
-        fail("%s: undefined symbol '%s'", place_of(s, r), to->name);
-    if (!to->output && at && at < SHN_LORESERVE)
-        fail("%s: '%s' is in a section that is left out", place_of(s, r), to->name);
-    if (kind->row.kind == LINKER_UTILS_KIND_ALIGNMENT && !s->output->shrinks)
-        fail("%s is not supported", place_of(s, r));
-    struct linker_utils_requirements needs = needs_of(s, r);
-    bool is_rewritten = needs.entry_class == LINKER_UTILS_ENTRY_DESCRIPTOR &&
-                        linked.is_executable && !to->is_imported && !kept[index].descriptor;
-    s->has_loads |= needs.entry_class == LINKER_UTILS_ENTRY_ADDRESS;
-    s->has_numbers |= kind->role != LINKER_UTILS_ROLE_NONE;
-    if (needs.entry_class && !is_rewritten) add_entry(s, r, &needs);
-    if (is_ifunc(to)) to->needs_stub = true;
-    if (is_dynamic) import(s, r, &needs);
-    if (needs.may_use_stub && (is_ifunc(to) || to->is_imported)) r->r_addend += entered_at(s, r);
-}
-
-/* Notes what an object requires. */
-void require_all(struct object *o) {
-    EACH_SECTION_OF(o, s)
-        EACH_RELOCATION(s, r) {
-            expect_symbol(s, r);
-            require(s, r);
-        }
+/* Notes what the relocations of an object require. A descriptor of a group that doesn't stay is
+ * rewritten later. */
+void require(struct object *o) {
+    EACH_SECTION_OF(o, s) EACH_RELOCATION(s, r) {
+        struct symbol *to = symbol_at(s, r);
+        const struct kind *kind = kind_of(s, r);
+        uint64_t index = ELF64_R_SYM(r->r_info);
+        uint16_t at = to->elf.st_shndx;
+        expect_symbol(s, r);
+        if (kind->row.kind == LINKER_UTILS_KIND_NONE) continue;
+        if (index && !at && rank(to) == 1 && !to->is_imported)
+            fail_at(s, r, ": undefined symbol '%s'", to->name);
+        if (!to->output && at && at < SHN_LORESERVE)
+            fail_at(s, r, ": '%s' is in a section that is left out", to->name);
+        if (kind->row.kind == LINKER_UTILS_KIND_ALIGNMENT && !s->output->shrinks)
+            fail_at(s, r, " is not supported");
+        struct linker_utils_requirements needs = needs_of(s, r);
+        bool is_rewritten = needs.entry_class == LINKER_UTILS_ENTRY_DESCRIPTOR &&
+                            linked.is_executable && !to->is_imported && !kept[index].descriptor;
+        s->has_loads |= needs.entry_class == LINKER_UTILS_ENTRY_ADDRESS;
+        s->has_numbers |= kind->role != LINKER_UTILS_ROLE_NONE;
+        if (needs.entry_class && !is_rewritten) add_entry(s, r, &needs);
+        if (is_ifunc(to)) to->needs_stub = true;
+        if (is_dynamic) import(s, r, &needs);
+        bool is_by_word = needs.may_use_stub && (is_ifunc(to) || to->is_imported);
+        if (is_by_word) r->r_addend += entered_at(s, r);
+    }
 }
 
 /* An indirect function's address is that of its stub, which goes to the address in a slot. When the
  * program starts, the function is called, which says which address that is. */
 static void make_stub(struct symbol *s) {
-    struct symbol *resolver = take(1, sizeof *resolver);
-    *resolver = *s;
+    struct symbol *resolver = memcpy(take(1, sizeof *s), s, sizeof *s);
     s->output = stubs;
     s->offset = add_slot(resolver, types.irelative);
     s->elf.st_shndx = SHN_ABS;
     s->elf.st_other = 0;
 }
 
-/* What the library says of the GOT, by its address. */
-struct linker_utils_got known_got(void) {
-    struct linker_utils_got known = {.base = 0};
-    linker_utils_got(machine, got->address, dynamic ? dynamic->address : 0, &known);
-    return known;
-}
-
-static void make_entry(struct symbol *s, struct entry *e) {
-    e->offset = make_room(got, 8, 8 * linker_utils_entry_words(e->class));
-    fill_entry(s, e);
-}
-
 /* Makes the stubs and the GOT. The local symbols' entries are the last. */
 void make_entries(void) {
-    if (got->has_bytes && known_got().has_header) make_room(got, 8, 8);
-    bool has_locals = false;
-    for (int locals = 0; locals <= has_locals; locals++) {
+    if (got->has_bytes && known_got.has_header) make_room(got, 8, 8);
+    for (int is_local = 0; is_local < 2; is_local++)
         EACH_SYMBOL(s) {
-            bool is_local = ELF64_ST_BIND(s->elf.st_info) == STB_LOCAL;
-            has_locals |= is_local && (s->needs_stub || s->entries);
-            if (locals != is_local) continue;
+            if ((!s->needs_stub && !s->entries) || (bind_of(s) == STB_LOCAL) != is_local) continue;
             if (s->needs_stub) make_stub(s);
-            for (struct entry *e = s->entries; e; e = e->next) make_entry(s, e);
+            for (struct entry *e = s->entries; e; e = e->next) {
+                e->offset = make_room(got, 8, 8 * linker_utils_entry_words(e->class));
+                fill_entry(s, e);
+            }
         }
-    }
-    if (module_entry) make_entry(NULL, module_entry);
 }
 
-/* Writes an entry by the address that it is of. That of a weak thread-local variable that nothing
- * defines is as in ld.lld. */
-static void write_entry(const struct symbol *s, const struct entry *e) {
-    struct linker_utils_entry_words words;
-    uint64_t at = s ? address_of(s->output, s->offset) : 0;
-    if (s && is_undefined_weak(s)) {
-        at = e->class == LINKER_UTILS_ENTRY_MODULE_OFFSET ? tls.image : 0;
-        if (e->class == LINKER_UTILS_ENTRY_THREAD_OFFSET) at = tls.origins.thread_pointer;
-    }
-    if (!linker_utils_static_words(e->class, at + (uint64_t)e->addend, &tls.origins, &words))
-        memcpy(got->bytes + e->offset, &words, 8 * linker_utils_entry_words(e->class));
-}
-
-/* Writes the GOT. */
+/* Writes the GOT: each entry by the address that it is of. That of a weak thread-local variable
+ * that nothing defines is as in ld.lld. */
 void write_entries(void) {
-    struct linker_utils_got known = known_got();
-    if (got->len && known.has_header) memcpy(got->bytes, &known.header, sizeof known.header);
+    struct linker_utils_entry_words held;
+    if (got->len && known_got.has_header) memcpy(got->bytes, &known_got.header, 8);
     EACH_SYMBOL(s)
-        for (const struct entry *e = s->entries; e; e = e->next) write_entry(s, e);
-    if (module_entry) write_entry(NULL, module_entry);
+        for (const struct entry *e = s->entries; e; e = e->next) {
+            bool is_absent = is_undefined_weak(s);
+            uint64_t at = is_absent ? 0 : address_of(s->output, s->offset);
+            if (is_absent && e->class == LINKER_UTILS_ENTRY_MODULE_OFFSET) at = tls.image;
+            if (is_absent && e->class == LINKER_UTILS_ENTRY_THREAD_OFFSET)
+                at = tls.origins.thread_pointer;
+            if (!linker_utils_static_words(e->class, at + (uint64_t)e->addend, &tls.origins, &held))
+                memcpy(got->bytes + e->offset, &held, 8 * linker_utils_entry_words(e->class));
+        }
 }
 
 /* The symbol of a thunk in a section that goes to an address, which is so far above a symbol. */
@@ -200,33 +173,28 @@ static struct symbol *thunk_to(struct output *o, struct symbol *s, uint64_t abov
     return s->thunks = t;
 }
 
-/* Whether a branch of a kind reaches a function of this file wherever both are. */
-static bool is_near(const struct kind *kind, const Elf64_Rela *r, const struct symbol *to) {
-    return to->output && to->offset <= to->output->len && !to->has_stub && !r->r_addend &&
-           (!kind->reach.has_range || span < (uint64_t)kind->reach.max / 2);
-}
-
 /* Has a branch in code go by a thunk, if it doesn't reach its target, or its function expects other
- * registers. Whether it has added one. What is near is computed once. */
+ * registers. Whether it has added one. Where it reaches what is near is computed once. */
 static bool add_thunk(struct section *s, Elf64_Rela *r, const struct linker_utils_stub *stub) {
     struct kind *kind = kind_of(s, r);
     struct symbol *to = symbol_at(s, r);
-    struct output *o = s->output;
     if (!kind->needs[0].may_use_stub || to->is_thunk) return false;
-    bool *is_direct = &kind->is_direct[to->elf.st_other & ~3], near = is_near(kind, r, to);
-    if (near && *is_direct) return false;
+    bool reaches_all = !kind->reach.has_range || span < (uint64_t)kind->reach.max / 2;
+    bool is_near = reaches_all && to->output && to->offset <= to->output->len && !to->has_stub &&
+                   !r->r_addend;
+    bool *is_direct = &kind->is_direct[to->elf.st_other & ~3];
+    if (is_near && *is_direct) return false;
     struct linker_utils_route route;
     Elf64_Rela one = {r->r_offset, ELF64_R_INFO(UINT64_C(1), type_of(r)), r->r_addend};
     struct linker_utils_symbol known[2] = {{.address = 0}, known_symbol(to, 0)};
-    struct linker_utils_addresses addresses = addresses_of(o->address + s->offset);
-    uint32_t status =
-        linker_utils_route_at(machine, &addresses, (const uint8_t *)&one, sizeof one, known, 2, 0,
-                              o->bytes + s->offset, s->len, &route);
+    struct linker_utils_addresses here = addresses_of(s);
+    uint32_t status = linker_utils_route_at(machine, &here, (const uint8_t *)&one, sizeof one,
+                                            known, 2, 0, BYTES_OF(s), &route);
     if (status == LINKER_UTILS_NO_ROOM) check(s, r, status);
-    *is_direct |= near && !status && !route.is_by_stub;
+    *is_direct |= is_near && !status && !route.is_by_stub;
     if (status || !route.is_by_stub) return false;
     uint64_t from = to->has_stub ? known[1].stub : known[1].address;
-    refer(s->object, r, thunk_to(o, to, route.target - from), 0);
+    refer(s->object, r, thunk_to(s->output, to, route.target - from), 0);
     r->r_addend = (int64_t)(route.entry - stub->entry);
     return true;
 }

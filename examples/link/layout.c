@@ -1,7 +1,7 @@
 /* Which sections the linked file has, what is in them, and where they are. */
 #include "link.h"
 
-struct output *outputs[257];
+struct output *outputs[MOST_OUTPUTS + 3];
 size_t outputs_len;
 uint64_t span;
 
@@ -20,7 +20,7 @@ struct output *output_of(const char *name) {
     }
     EACH_OUTPUT(o) if (o->name == kind) return o;
     EACH_OUTPUT(o) if (!strcmp(o->name, kind)) return o;
-    if (outputs_len + 1 == sizeof outputs / sizeof *outputs) fail("too many sections");
+    if (outputs_len == MOST_OUTPUTS) fail("too many sections");
     struct output *o = outputs[outputs_len++] = take(1, sizeof *o);
     *o = (struct output){.name = kind, .align = 1, .priority = priority};
     return o;
@@ -43,26 +43,22 @@ static unsigned rank_of(const struct output *o) {
     return !(o->flags & SHF_WRITE) ? RANK_FIXED : o->has_bytes ? RANK_DATA : RANK_BSS;
 }
 
-static int by_rank(const void *left, const void *right) {
+static int by_address(const void *left, const void *right) {
     const struct output *a = *(struct output *const *)left, *b = *(struct output *const *)right;
-    int by = order(a->rank, b->rank);
+    int by = order(a->address, b->address);
+    if (!by) by = order(a->rank, b->rank);
     if (!by) by = order(a->priority, b->priority);
     return by ? by : strcmp(a->name, b->name);
 }
 
+/* Sorts the sections by their addresses, so far as these are known. */
 void sort_outputs(void) {
     EACH_OUTPUT(o) o->rank = rank_of(o);
-    qsort(outputs, outputs_len, sizeof *outputs, by_rank);
+    qsort(outputs, outputs_len, sizeof *outputs, by_address);
 }
 
 /* How many bytes the shortest instruction has. */
 uint64_t code_unit(void) { return linker_utils_code_unit(machine, machine_flags); }
-
-/* Whether code may become shorter. */
-static bool may_shrink(void) {
-    size_t len, at;
-    return !linker_utils_section_items(machine, NULL, 0, 0, NULL, 0, NULL, 0, NULL, 0, &len, &at);
-}
 
 /* The offset of new room at a section's end. Gaps in code have instructions that trap, or zeros, as
  * ld.lld's; where code shrinks they are as long as may be needed. */
@@ -105,7 +101,7 @@ void add_section(struct section *s) {
         fail_of(s->object, "%s is thread-local, and elsewhere it is not", s->name);
     o->flags |= head->sh_flags;
     o->has_bytes |= has_bytes;
-    o->shrinks |= may_shrink() && has_bytes && is_code && !(head->sh_flags & SHF_TLS);
+    o->shrinks |= shrinks && has_bytes && is_code && !(head->sh_flags & SHF_TLS);
     s->len = head->sh_size;
     if (has_bytes) o->room += s->len + head->sh_addralign % MOST_ALIGN;
     uint64_t rows = o == frames ? read_frames(s, s->object->bytes + head->sh_offset, NULL) : 0;
@@ -138,19 +134,20 @@ struct linker_utils_item alignment_item(uint64_t at, uint64_t align, uint64_t le
 }
 
 /* Where the next section goes: its offset in a run, and the least and the greatest address that it
- * may have once code is shorter. */
+ * may have once code is shorter. And what those before it are. */
 struct place {
     struct run *run;
-    uint64_t at, low, high;
+    uint64_t at, low, high, permissions;
+    bool is_behind_placed, has_data; /* the last one; one that isn't protected */
 };
 
-static struct run runs[sizeof outputs / sizeof *outputs];
+static struct run runs[MOST_OUTPUTS];
+static const struct output *first_tls; /* null where there is no thread-local storage */
 
 static void begin_run(struct place *p, uint64_t address) {
-    p->run = p->run ? p->run + 1 : runs;
-    *p->run = (struct run){.start = address};
-    p->at = 0;
-    p->low = p->high = address;
+    struct run *run = p->run ? p->run + 1 : runs;
+    *run = (struct run){.start = address};
+    *p = (struct place){.run = run, .low = address, .high = address};
 }
 
 static void skip(struct place *p, uint64_t len) {
@@ -189,61 +186,55 @@ static void place_next(struct place *p, struct output *o) {
     skip(p, o->place - p->high);
 }
 
-static int by_place(const void *left, const void *right) {
-    const struct output *a = *(struct output *const *)left, *b = *(struct output *const *)right;
-    int by = order(b->is_placed, a->is_placed);
-    if (!by) by = order(a->place, b->place);
-    return by ? by : by_rank(left, right);
+/* Puts the next section behind those before it. One with other permissions begins a new page, at
+ * the same offset in the page as the one before it ends. The first that isn't protected begins one
+ * too. */
+static void place_behind(struct place *p, struct output *o) {
+    uint64_t page = linker_utils_page(machine), align = o->flags & SHF_TLS ? tls.align : o->align;
+    uint64_t permissions = o->flags & (SHF_WRITE | SHF_EXECINSTR);
+    bool is_first_data = is_dynamic && !p->has_data && o->len && o->rank >= RANK_DATA;
+    if (!p->run) begin_run(p, linked.is_fixed ? BASE : 0);
+    if (o->len && permissions != p->permissions) skip(p, page);
+    if (o->len) p->permissions = permissions;
+    if (p->is_behind_placed) align = MOST_ALIGN;
+    align_next(p, o, is_first_data && page > align ? page : align);
+    p->has_data |= is_first_data;
 }
 
-/* Places the sections, first those that the command line places. One with other permissions begins
- * a new page, at the same offset in the page as the one before it ends. */
+/* Places the sections, first those that the command line places. Thread-local storage has no gaps
+ * but for its alignments. */
 void place_outputs(void) {
-    uint64_t page = linker_utils_page(machine), kinds = 0, now, end = 0;
     struct place p = {.run = NULL};
-    const struct output *first = NULL; /* of thread-local storage */
-    bool is_behind_placed = false, has_data = false;
-    tls.align = 1;
-    EACH_OUTPUT(o) if (o->flags & SHF_TLS && o->align > tls.align) tls.align = o->align;
-    qsort(outputs, outputs_len, sizeof *outputs, by_place);
+    first_tls = NULL;
+    tls.len = 0, tls.align = 1;
+    EACH_OUTPUT(o) {
+        o->address = o->is_placed ? o->place : UINT64_MAX;
+        if (o->flags & SHF_TLS && o->align > tls.align) tls.align = o->align;
+    }
+    sort_outputs();
     EACH_OUTPUT(o) {
         bool is_tls = o->flags & SHF_TLS;
         o->before.len = 0;
         if (o->is_placed && o->place > UINT64_MAX / 4)
             fail("section %s can't be at 0x%" PRIx64, o->name, o->place);
-        if (is_tls && first) { /* thread-local storage has no other gaps */
-            end = round_up(end, o->align);
-            o->run = first->run;
-            o->base = first->base + end;
-            end += o->len;
+        if (is_tls && first_tls) {
+            o->run = first_tls->run;
+            o->base = first_tls->base + round_up(tls.len, o->align);
             if (o->is_placed || (o->has_bytes && (p.run != o->run || p.at > o->base)))
-                fail("section %s can't be apart from %s", o->name, first->name);
-            if (o->has_bytes) skip(&p, o->base + o->len - p.at);
-            continue;
-        }
-        if (o->is_placed) {
-            place_next(&p, o);
-            is_behind_placed = true;
+                fail("section %s can't be apart from %s", o->name, first_tls->name);
+            if (o->has_bytes) skip(&p, o->base - p.at);
         } else {
-            if (!p.run) begin_run(&p, linked.is_fixed ? BASE : 0);
-            if (o->len && (now = o->flags & (SHF_WRITE | SHF_EXECINSTR)) != kinds) {
-                skip(&p, page);
-                kinds = now;
-            }
-            uint64_t own = is_behind_placed ? MOST_ALIGN : is_tls ? tls.align : o->align;
-            bool is_first_data = is_dynamic && !has_data && o->len && o->rank >= RANK_DATA;
-            has_data |= is_first_data; /* what is before it is protected */
-            align_next(&p, o, is_first_data && page > own ? page : own);
-            is_behind_placed = false;
+            if (o->is_placed) place_next(&p, o);
+            else place_behind(&p, o);
+            p.is_behind_placed = o->is_placed;
+            o->run = p.run;
+            o->base = p.at;
+            if (is_tls) first_tls = o;
         }
-        o->run = p.run;
-        o->base = p.at;
-        if (is_tls) first = o;
-        if (is_tls) end = o->len;
+        if (is_tls) tls.len = o->base + o->len - first_tls->base;
         if (is_tls && !o->has_bytes) continue;
-        uint64_t least = o->shrinks ? p.low : p.low + o->len;
         skip(&p, o->len);
-        p.low = least;
+        if (o->shrinks) p.low -= o->len;
     }
     set_addresses();
 }
@@ -256,27 +247,21 @@ static uint64_t address_in(const struct run *run, uint64_t offset) {
 
 /* Sets the addresses of the sections, by what the runs lose. */
 void set_addresses(void) {
-    const struct output *first = NULL;
-    uint64_t least = UINT64_MAX, most = 0;
-    tls.image = tls.len = 0;
+    const struct output *last = outputs[outputs_len - 1];
     EACH_OUTPUT(o) {
-        o->address = address_in(o->run, o->base);
-        least = o->address < least ? o->address : least;
-        most = o->address + o->len > most ? o->address + o->len : most;
-        if (!(o->flags & SHF_TLS)) continue;
-        if (!first) tls.image = (first = o)->address;
-        o->address = tls.image + (o->base - first->base);
-        tls.len = o->address + o->len - tls.image;
+        const struct output *from = o->flags & SHF_TLS ? first_tls : o;
+        o->address = address_in(from->run, from->base) + (o->base - from->base);
     }
-    span = most - least;
-    uint64_t past = tls.image % tls.align; /* (0 once code is shorter) */
-    linker_utils_origins(machine, tls.image - past, tls.len, tls.align, &tls.origins);
-    tls.origins.thread_pointer += past;
-    tls.origins.module_block += past;
+    linker_utils_got(machine, got->address, dynamic ? dynamic->address : 0, &known_got);
+    span = last->address + last->len - outputs[0]->address;
+    tls.image = first_tls ? first_tls->address : 0;
+    /* (where code is still to become shorter the image isn't aligned so far) */
+    linker_utils_origins(machine, 0, tls.len, tls.align, &tls.origins);
+    tls.origins.thread_pointer += tls.image;
+    tls.origins.module_block += tls.image;
     bool is_at_pointer = tls.has_base && linked.is_executable;
-    if (module_base)
-        module_base->offset =
-            is_at_pointer ? tls.origins.thread_pointer : tls.origins.module_block;
+    if (!module_base) return;
+    module_base->offset = is_at_pointer ? tls.origins.thread_pointer : tls.origins.module_block;
 }
 
 uint64_t address_of(const struct output *o, uint64_t offset) {

@@ -6,13 +6,8 @@ static struct library **libraries_end = &libraries;
 
 /* Bytes of a section, which have to be in it. */
 static const uint8_t *bytes_in(const struct section *s, uint64_t at, uint64_t len) {
-    if (at > s->head->sh_size || len > s->head->sh_size - at)
-        fail_in(s->object, s->name, "it ends too early");
+    if (at > s->head->sh_size || len > s->head->sh_size - at) fail_in(s, "it ends too early");
     return s->object->bytes + s->head->sh_offset + at;
-}
-
-static const char *name_in(const struct section *s, uint64_t at) {
-    return text_at(s->object, s->name, s->head->sh_link, at);
 }
 
 /* The names of the versions that a library defines, by their numbers. The first is its own name. */
@@ -24,57 +19,49 @@ static void read_versions(struct library *l, const struct section *s) {
         memcpy(&version, bytes_in(s, at, sizeof version), sizeof version);
         memcpy(&name, bytes_in(s, at + version.vd_aux, sizeof name), sizeof name);
         l->versions[version.vd_ndx & MOST_VERSIONS] =
-            (struct version){.name = name_in(s, name.vda_name), .hash = version.vd_hash};
+            (struct version){.name = text_at(s, name.vda_name), .hash = version.vd_hash};
         at += version.vd_next;
     }
     l->versions[VER_NDX_LOCAL].name = l->versions[VER_NDX_GLOBAL].name = NULL;
 }
 
-/* Notes a symbol of a library, or one that it refers to. The first library that defines it counts,
- * and then no archive. */
-static struct symbol *offer_import(const char *name, struct library *l, const Elf64_Sym *elf,
-                                   uint16_t version) {
-    struct symbol *s = named(name);
-    s->is_exported = true;
-    if (!elf->st_shndx || s->library) return s;
-    s->library = l;
-    s->there = *elf;
-    if (ELF64_ST_TYPE(elf->st_info) == STT_GNU_IFUNC) /* it is called there as any function */
-        s->there.st_info = ELF64_ST_INFO(ELF64_ST_BIND(elf->st_info), STT_FUNC);
-    s->version = version;
-    s->archive = NULL;
-    return s;
-}
-
-/* Offers what a library defines, but for versions that only old programs ask for. */
-static void read_dynamic_symbols(struct library *l, const struct section *s,
+/* Notes the symbols of a library, those that it refers to among them, but for versions that only
+ * old programs ask for. The first library that defines one counts, and then no archive. An indirect
+ * function of a library is called as any other. */
+static void read_dynamic_symbols(struct library *l, const struct section *in,
                                  const struct section *versions) {
-    const Elf64_Sym *elf = table_of(&l->file, s->head, sizeof *elf, &l->file.symbols_len);
-    l->file.symbols = take(l->file.symbols_len, sizeof *l->file.symbols);
-    for (size_t i = 0; i < l->file.symbols_len; i++, elf++) {
+    struct object *file = &l->file;
+    const Elf64_Sym *table = table_of(file, in->head, sizeof *table, &file->symbols_len);
+    Elf64_Sym *elf = memcpy(take(file->symbols_len, sizeof *elf), table, in->head->sh_size);
+    file->symbols = take(file->symbols_len, sizeof *file->symbols);
+    for (size_t i = 0; i < file->symbols_len; i++, elf++) {
         uint16_t version = VER_NDX_GLOBAL;
         if (versions) memcpy(&version, bytes_in(versions, 2 * i, 2), 2);
-        const char *name = name_in(s, elf->st_name);
+        const char *name = text_at(in, elf->st_name);
+        unsigned bind = ELF64_ST_BIND(elf->st_info), type = ELF64_ST_TYPE(elf->st_info);
         bool is_hidden = version & ~MOST_VERSIONS || version == VER_NDX_LOCAL;
-        if (ELF64_ST_BIND(elf->st_info) == STB_LOCAL || (elf->st_shndx && is_hidden)) continue;
+        if (bind == STB_LOCAL || (elf->st_shndx && is_hidden)) continue;
         if (version > VER_NDX_GLOBAL && elf->st_shndx && !l->versions[version].name)
-            fail_in(&l->file, s->name, "'%s' is of a version that is not there", name);
-        l->file.symbols[i] = offer_import(name, l, elf, version);
+            fail_in(in, "'%s' is of a version that is not there", name);
+        struct symbol *s = file->symbols[i] = named(name);
+        s->is_exported = true;
+        if (!elf->st_shndx || s->library) continue;
+        if (type == STT_GNU_IFUNC) elf->st_info = ELF64_ST_INFO(bind, STT_FUNC);
+        s->library = l;
+        s->there = elf;
+        s->version = version;
+        s->archive = NULL;
     }
 }
 
 void read_library(struct object file) {
     struct library *l = take(1, sizeof *l);
     const struct section *symbols = NULL, *versions = NULL;
-    uint32_t joined;
     *l = (struct library){.file = file, .versions = take(MOST_VERSIONS + 1, sizeof *l->versions)};
     l->name = strrchr(file.path, '/') ? strrchr(file.path, '/') + 1 : file.path;
     *libraries_end = l;
     libraries_end = &l->next;
-    read_heads(&l->file, ET_DYN, "not a shared library of little-endian ELF64");
-    demand(&l->file,
-           !objects || !linker_utils_join_flags(machine, machine_flags, l->file.flags, &joined),
-           "of another ABI than those before it");
+    read_heads(&l->file, ET_DYN, "not a shared library");
     EACH_SECTION_OF(&l->file, s) {
         uint32_t type = s->head->sh_type;
         if (type == SHT_DYNSYM) symbols = s;
@@ -84,19 +71,9 @@ void read_library(struct object file) {
             Elf64_Dyn entry;
             memcpy(&entry, bytes_in(s, at, sizeof entry), sizeof entry);
             if (entry.d_tag == DT_NULL) break;
-            if (entry.d_tag == DT_SONAME) l->name = name_in(s, entry.d_un.d_val);
+            if (entry.d_tag == DT_SONAME) l->name = text_at(s, entry.d_un.d_val);
         }
     }
     demand(&l->file, symbols, "a shared library without dynamic symbols");
     read_dynamic_symbols(l, symbols, versions);
-}
-
-/* The alignment of a variable of a library, by its address and its section. */
-uint64_t import_align(const struct symbol *s) {
-    uint64_t align = s->there.st_value & -s->there.st_value, most = 64;
-    const struct object *o = &s->library->file;
-    if (s->there.st_shndx < o->sections_len) most = o->heads[s->there.st_shndx].sh_addralign;
-    if (!most || most & (most - 1) || most > MOST_ALIGN)
-        fail_in(o, ".dynsym", "'%s' can't be aligned so", s->name);
-    return align && align < most ? align : most;
 }

@@ -33,6 +33,7 @@
 #define BASE UINT64_C(0x400000)         /* where the file's header is, if no section is placed */
 #define HEADERS UINT64_C(0x400)         /* room for the headers there */
 #define MOST_BYTES UINT64_C(0x40000000) /* of a file and of a section */
+#define MOST_OUTPUTS 256                /* sections of the linked file, but for those of symbols */
 #ifndef BLOCK
 #define BLOCK ((size_t)1 << 20)         /* of memory; with 0 each use of it is by itself */
 #endif
@@ -54,10 +55,18 @@ enum { RANK_HEADERS, RANK_FIXED, RANK_CODE, RANK_TLS, RANK_TLS_BSS, RANK_ARRAYS,
 #define EACH_RELOCATION(s, r) \
     for (Elf64_Rela *r = s->relocations; r < s->relocations + s->relocations_len; r++)
 
-/* ends with an error; of a file, and of a section of it */
+/* ends with an error; of a file, or where something doesn't hold of it; of a section of it; and of a
+ * relocation of that */
 #define fail(...) (fprintf(stderr, __VA_ARGS__), fputc('\n', stderr), exit(1))
 #define fail_of(o, ...) (fprintf(stderr, "%s: ", (o)->path), fail(__VA_ARGS__))
-#define fail_in(o, name, ...) (fprintf(stderr, "%s: %s: ", (o)->path, name), fail(__VA_ARGS__))
+#define demand(o, holds, otherwise) ((holds) ? (void)0 : fail_of(o, otherwise))
+#define fail_in(s, ...) \
+    (fprintf(stderr, "%s: %s: ", (s)->object->path, (s)->name), fail(__VA_ARGS__))
+#define fail_at(s, r, ...) (print_place(s, r), fail(__VA_ARGS__))
+
+/* the bytes of a section in the linked file, and its relocations, as the library takes them */
+#define BYTES_OF(s) (s)->output->bytes + (s)->offset, (s)->len
+#define TABLE_OF(s) (uint8_t *)(s)->relocations, (s)->relocations_len * sizeof(Elf64_Rela)
 
 /* Sections that are relaxed together, one behind the other from `start` on: all of the linked file,
  * as far as the addresses of the command line allow it. Their offsets in it count from before bytes
@@ -76,8 +85,8 @@ struct output {
     uint64_t place, address; /* by the command line; and at last, or if all bytes stayed */
     uint8_t *bytes;
     size_t room;
-    bool has_bytes, is_placed, shrinks;  /* in the file; by the command line; code that relaxes */
-    bool is_own;                         /* the linker's own: no object has a part of it */
+    /* in the file; by the command line; code that relaxes; the linker's own, of no object */
+    bool has_bytes, is_placed, shrinks, is_own;
     uint16_t index;                      /* of its header; 0 where it has none */
     uint32_t type, info;                 /* in its header, as these two; of ordinary bytes if 0 */
     unsigned rank, priority;             /* its place among the others */
@@ -89,7 +98,7 @@ struct output {
 };
 
 /* An object. Behind its own symbols are those that relocations get, with entries of the GOT for an
- * addend each. */
+ * addend each, or a thunk. */
 struct object {
     struct object *next, *below; /* and in the stack of those that are being read */
     const char *path, *names;    /* of symbols */
@@ -98,8 +107,7 @@ struct object {
     struct section *sections;    /* one for each head */
     const Elf64_Sym *mentions;   /* of its symbols, as it says itself */
     struct symbol **symbols;     /* as all objects say */
-    int64_t *addends;
-    uint32_t *hashes, flags;     /* of the names of the global ones; `e_flags` */
+    int64_t *addends;            /* of these; null where all are 0 */
     size_t len, sections_len, symbols_len, mentions_len, resolved_len, symbols_room, addends_room;
     bool is_threaded, is_compressed; /* it has thread-local symbols; the shortest instructions */
 };
@@ -139,7 +147,7 @@ struct library {
 /* Its first 64 bytes are what each pass over all symbols reads. */
 struct symbol {
     struct output *output; /* null where the address is absolute, and where nothing defines it */
-    uint64_t offset;       /* in the output */
+    uint64_t offset;       /* in the output; until it is placed that of the member in its archive */
     Elf64_Sym elf;
     struct symbol *later;  /* as objects mention them */
     struct entry *entries; /* in the GOT */
@@ -148,13 +156,16 @@ struct symbol {
     bool is_listed : 1, needs_stub : 1, is_thunk : 1; /* (an indirect function needs a stub) */
     bool is_imported : 1, is_exported : 1; /* other files define or may replace it; may see it */
     bool is_copied : 1, has_stub : 1, is_canonical : 1; /* its stub is its address in all files */
+    bool has_group : 1;          /* an object has a group of its name */
+    uint32_t hash;               /* of a global one's name */
     const struct object *object; /* null where only an index of an archive names it */
     const char *name;
     struct archive *archive; /* which can define it; null where none can */
-    uint64_t member, stub;   /* in the archive; to a function of another file, where `has_stub` */
+    uint64_t stub;           /* to a function of another file, where `has_stub` */
     struct symbol *thunks;   /* to it */
+    struct symbol *same;     /* the next global one in its bucket */
     struct library *library; /* the first that defines it; null where none does */
-    Elf64_Sym there;         /* as that has it */
+    const Elf64_Sym *there;  /* as that has it */
 };
 
 /* An entry of the GOT. */
@@ -183,18 +194,21 @@ struct tls {
 
 extern uint16_t machine;
 extern uint32_t machine_flags; /* `e_flags` of all objects */
-/* whether a dynamic linker loads the linked file, whether instructions are rewritten that need not
- * be, and whether PowerPC64's local-exec is, which ld.lld leaves */
-extern bool is_dynamic, relaxes, has_short_offsets;
+/* whether a dynamic linker loads the linked file, whether the machine's code may become shorter,
+ * whether instructions are rewritten that need not be, and whether PowerPC64's local-exec is, which
+ * ld.lld leaves */
+extern bool is_dynamic, shrinks, relaxes, has_short_offsets;
 extern struct linker_utils_output_facts linked;
 extern struct linker_utils_dynamic_types types;
+extern struct linker_utils_got known_got; /* by addresses, so far as these are known */
 extern const char *own_name;         /* of a shared library, by `-soname`; null where it has none */
 extern struct object *objects;       /* in the order in which they are read */
 extern struct library *libraries;    /* in their order */
 extern struct symbol *symbols;       /* all that objects mention, in their order */
 extern struct symbol *module_base;   /* `_TLS_MODULE_BASE_`; null where no object requires it */
-extern struct entry *module_entry;   /* of the GOT; null where no relocation requires it */
-extern struct output *outputs[257], *headers, *got, *stubs, *slots, *rela, *frames, *index_of;
+extern struct symbol module;         /* has the entry of the GOT that is the module's, if any */
+extern struct output *outputs[MOST_OUTPUTS + 3]; /* null behind them */
+extern struct output *headers, *got, *stubs, *slots, *rela, *frames, *index_of;
 /* null where there is none: */
 extern struct output *interpreter, *dynamic, *dynsym, *dynstr, *hash_table, *versym, *verneed;
 extern size_t symbols_len, outputs_len;
@@ -206,50 +220,43 @@ extern struct linker_utils_kept_groups *kept; /* which groups of the last object
 static inline int order(uint64_t a, uint64_t b) { return a < b ? -1 : a > b; }
 
 static inline unsigned bind_of(const struct symbol *s) { return ELF64_ST_BIND(s->elf.st_info); }
+static inline unsigned stt_of(const struct symbol *s) { return ELF64_ST_TYPE(s->elf.st_info); }
 static inline unsigned visibility_of(const struct symbol *s) { return s->elf.st_other & 3; }
 static inline bool is_defined(const struct symbol *s) { return s->elf.st_shndx != SHN_UNDEF; }
-static inline bool is_thread_local(const struct symbol *s) {
-    return ELF64_ST_TYPE(s->elf.st_info) == STT_TLS;
-}
+static inline bool is_thread_local(const struct symbol *s) { return stt_of(s) == STT_TLS; }
 
 static inline uint32_t type_of(const Elf64_Rela *r) { return ELF64_R_TYPE(r->r_info); }
 
-static inline struct symbol *symbol_at(const struct section *s, const Elf64_Rela *r) {
-    return s->object->symbols[ELF64_R_SYM(r->r_info)];
-}
+/* The symbol of a relocation of a section. */
+#define symbol_at(s, r) ((s)->object->symbols[ELF64_R_SYM((r)->r_info)])
+
 
 /* Reads ahead the symbol of a relocation that comes soon. */
 static inline void expect_symbol(const struct section *s, const Elf64_Rela *r) {
     if (r + 8 < s->relocations + s->relocations_len) __builtin_prefetch(symbol_at(s, r + 8));
 }
 
-static inline void set_type(Elf64_Rela *r, uint32_t type) {
-    r->r_info = ELF64_R_INFO(ELF64_R_SYM(r->r_info), type);
-}
+/* Has a relocation do nothing. */
+static inline void drop(Elf64_Rela *r) { r->r_info = ELF64_R_INFO(ELF64_R_SYM(r->r_info), 0); }
 
 /* main.c */
 void *zeros(uint64_t count, size_t size), *take(uint64_t count, size_t size);
 void *grow(void *array, size_t need, size_t *room, size_t size);
 uint64_t round_up(uint64_t at, uint64_t align);
 /* objects.c */
-void demand(const struct object *o, bool holds, const char *otherwise);
 void read_heads(struct object *o, uint16_t type, const char *otherwise);
-const char *text_at(const struct object *o, const char *section, uint64_t table, uint64_t at);
+const char *text_at(const struct section *s, uint64_t at);
 const void *table_of(const struct object *o, const Elf64_Shdr *head, size_t size, size_t *len);
 void read_file(const char *path), load_member(struct archive *a, uint64_t offset);
 /* libraries.c */
 void read_library(struct object file);
-uint64_t import_align(const struct symbol *s);
 /* symbols.c */
-uint32_t gnu_hash(const char *name), hash_of(const char *name);
-struct symbol **global(const char *name), *resolve(struct symbol *s, uint32_t hash);
 struct symbol *named(const char *name);
-void offer(const char *name, struct archive *a, uint64_t member), expect(uint32_t hash);
-void list_symbol(struct symbol *s), list_symbols(void), define_symbols(void);
-void place_common(struct symbol *s), place_symbol(struct symbol *s);
+void offer(const char *name, struct archive *a, uint64_t member), list_symbol(struct symbol *s);
+void resolve(struct symbol *known, struct symbol *s), define_symbols(void), place_symbols(void);
 int rank(const struct symbol *s);
 bool is_ifunc(const struct symbol *s), is_undefined_weak(const struct symbol *s);
-bool is_here(const struct symbol *s), is_first_group(const char *name);
+bool is_here(const struct symbol *s);
 /* layout.c */
 struct output *output_of(const char *name);
 uint64_t code_unit(void), make_room(struct output *o, uint64_t align, uint64_t len);
@@ -261,24 +268,23 @@ void add_section(struct section *s), copy_section(struct section *s), sort_outpu
 void add_part_of(struct output *o, struct section *s, uint64_t align);
 void place_outputs(void), set_addresses(void);
 /* relocate.c */
-const char *place_of(const struct section *s, const Elf64_Rela *r);
+void print_place(const struct section *s, const Elf64_Rela *r);
 void check(const struct section *s, const Elf64_Rela *r, uint32_t status);
 void read_relocations(struct section *s);
-struct kind *ask_kind(const struct section *s, const Elf64_Rela *r);
+struct kind *ask_kind(const struct section *s, const Elf64_Rela *r, struct kind *kind);
 struct linker_utils_requirements needs_of(const struct section *s, const Elf64_Rela *r);
 static inline struct kind *kind_of(const struct section *s, const Elf64_Rela *r) {
-    uint32_t type = type_of(r);
-    return type < 2048 && kinds[type].is_known ? &kinds[type] : ask_kind(s, r);
+    struct kind *kind = &kinds[type_of(r) < 2048 ? type_of(r) : 2047];
+    return kind->is_known ? kind : ask_kind(s, r, kind);
 }
-struct linker_utils_got known_got(void);
 struct linker_utils_symbol known_symbol(const struct symbol *s, int64_t addend);
-struct linker_utils_addresses addresses_of(uint64_t start);
-void relocate_object(struct object *o, const struct linker_utils_symbol *values);
+struct linker_utils_addresses addresses_of(const struct section *s);
+void relocate_section(struct section *s, const struct linker_utils_symbol *values);
 /* rewrite.c */
 void rewrite_object(struct object *o, uint32_t first, uint32_t last), relocate(void);
 bool is_of_addresses(const char *name);
 /* entries.c */
-void require_all(struct object *o), make_entries(void), write_entries(void), write_stubs(void);
+void require(struct object *o), make_entries(void), write_entries(void), write_stubs(void);
 bool add_thunks(void);
 uint64_t add_slot(struct symbol *s, uint32_t type);
 /* dynamic.c */

@@ -10,7 +10,9 @@
 
 uint16_t machine;
 uint32_t machine_flags;
-bool relaxes = true, has_short_offsets = false;
+bool is_dynamic, shrinks, relaxes = true, has_short_offsets = false;
+struct output *headers, *got, *stubs, *slots, *rela, *frames, *index_of, *interpreter, *dynamic;
+struct output *dynsym, *dynstr, *hash_table, *versym, *verneed;
 
 static const char *path; /* of the output */
 static bool has_symbols = true, is_placed = false;
@@ -47,18 +49,13 @@ void *grow(void *array, size_t need, size_t *room, size_t size) {
 
 uint64_t round_up(uint64_t at, uint64_t align) { return (at + align - 1) & ~(align - 1); }
 
-/* A section that the linker itself fills. */
-static struct output *own_section(const char *name, uint64_t flags) {
+/* A section that the linker itself fills; a table has a type, elements of so many bytes where these
+ * are more than one, and refers to another. */
+static struct output *own_section(const char *name, uint64_t flags, uint32_t type, uint64_t element,
+                                  const struct output *link) {
     struct output *o = output_of(name);
     o->flags = SHF_ALLOC | flags;
     o->has_bytes = o->is_own = true;
-    return o;
-}
-
-/* And one with a type, with elements of so many bytes, which refers to another. */
-static struct output *own_table(const char *name, uint64_t flags, uint32_t type, uint64_t element,
-                                const struct output *link) {
-    struct output *o = own_section(name, flags);
     o->type = type;
     o->element = element;
     o->link = link;
@@ -66,42 +63,26 @@ static struct output *own_table(const char *name, uint64_t flags, uint32_t type,
 }
 
 static void make_sections(void) {
-    got = own_section(".got", SHF_WRITE);
-    got->has_bytes = false;
-    stubs = own_section(is_dynamic ? ".plt" : ".iplt", SHF_EXECINSTR);
-    slots = own_section(is_dynamic ? ".got.plt" : ".igot.plt", SHF_WRITE);
-    index_of = own_section(".eh_frame_hdr", 0);
-    headers = own_section("the headers", 0);
-    frames = output_of(".eh_frame");
-    if (is_dynamic) {
-        if (linked.is_executable) interpreter = own_section(".interp", 0);
-        dynstr = own_table(".dynstr", 0, SHT_STRTAB, 0, NULL);
-        dynsym = own_table(".dynsym", 0, SHT_DYNSYM, sizeof(Elf64_Sym), dynstr);
-        hash_table = own_table(".gnu.hash", 0, SHT_GNU_HASH, 0, dynsym);
-        versym = own_table(".gnu.version", 0, SHT_GNU_versym, 2, dynsym);
-        verneed = own_table(".gnu.version_r", 0, SHT_GNU_verneed, 0, dynstr);
-        dynamic = own_table(".dynamic", SHF_WRITE, SHT_DYNAMIC, sizeof(Elf64_Dyn), dynstr);
-    }
     const char *name = is_dynamic ? ".rela.dyn" : ".rela_iplt";
-    rela = own_table(name, 0, SHT_RELA, sizeof(Elf64_Rela), dynsym);
-}
-
-/* Sets what an argument without a value says. Whether it is one. */
-static bool set_switch(const char *name) {
-    static const struct {
-        const char *name;
-        bool *set, value;
-    } switches[] = {{"-s", &has_symbols, false}, {"--no-relax", &relaxes, false},
-                    {"--short-offsets", &has_short_offsets, true},
-                    {"-pie", &linked.is_fixed, false}, {"-shared", &linked.is_fixed, false},
-                    {"-shared", &linked.is_executable, false}};
-    bool is_found = false;
-    for (size_t i = 0; i < sizeof switches / sizeof *switches; i++) {
-        if (strcmp(name, switches[i].name)) continue;
-        *switches[i].set = switches[i].value;
-        is_found = true;
+    got = own_section(".got", SHF_WRITE, 0, 0, NULL);
+    got->has_bytes = false;
+    stubs = own_section(is_dynamic ? ".plt" : ".iplt", SHF_EXECINSTR, 0, 0, NULL);
+    slots = own_section(is_dynamic ? ".got.plt" : ".igot.plt", SHF_WRITE, 0, 0, NULL);
+    index_of = own_section(".eh_frame_hdr", 0, 0, 0, NULL);
+    headers = own_section("the headers", 0, 0, 0, NULL);
+    frames = output_of(".eh_frame");
+    if (is_dynamic && linked.is_executable) interpreter = own_section(".interp", 0, 0, 0, NULL);
+    if (is_dynamic) {
+        dynstr = own_section(".dynstr", 0, SHT_STRTAB, 0, NULL);
+        dynsym = own_section(".dynsym", 0, SHT_DYNSYM, sizeof(Elf64_Sym), dynstr);
+        hash_table = own_section(".gnu.hash", 0, SHT_GNU_HASH, 0, dynsym);
+        versym = own_section(".gnu.version", 0, SHT_GNU_versym, 2, dynsym);
+        verneed = own_section(".gnu.version_r", 0, SHT_GNU_verneed, 0, dynstr);
+        dynamic = own_section(".dynamic", SHF_WRITE, SHT_DYNAMIC, sizeof(Elf64_Dyn), dynstr);
     }
-    return is_found;
+    rela = own_section(name, 0, SHT_RELA, sizeof(Elf64_Rela), dynsym);
+    module.output = got;
+    list_symbol(&module);
 }
 
 /* Reads the arguments, and the files that they name. */
@@ -109,23 +90,29 @@ static void read_arguments(char **argument) {
     uint64_t address;
     int end = 0;
     for (char *it; (it = *argument); argument++) {
-        const char *next = argument[1] ? argument[1] : "";
         if (sscanf(it, "--section-start=%*[^=]%n=%" SCNx64, &end, &address) == 1) {
             it[end] = 0;
             struct output *placed = output_of(it + strlen("--section-start="));
             placed->place = address;
             is_placed = placed->is_placed = true;
-        } else if (!strcmp(it, "-z") && (!strcmp(next, "now") || !strcmp(next, "relro"))) {
-            argument++; /* all outputs are so */
-        } else if (argument[1] && (!strcmp(it, "-o") || !strcmp(it, "-soname"))) {
-            *(it[1] == 'o' ? &path : &own_name) = *++argument;
-        } else if (!set_switch(it)) {
-            read_file(it);
+            continue;
         }
+        const char *next = argument[1] ? argument[1] : "";
+        bool protects = !strcmp(next, "now") || !strcmp(next, "relro"); /* all outputs are so */
+        if (!strcmp(it, "-s")) has_symbols = false;
+        else if (!strcmp(it, "--no-relax")) relaxes = false;
+        else if (!strcmp(it, "--short-offsets")) has_short_offsets = true;
+        else if (!strcmp(it, "-pie")) linked.is_fixed = false;
+        else if (!strcmp(it, "-shared")) linked.is_fixed = linked.is_executable = false;
+        else if (!strcmp(it, "-z") && protects) argument++;
+        else if (!strcmp(it, "-o") && argument[1]) path = *++argument;
+        else if (!strcmp(it, "-soname") && argument[1]) own_name = *++argument;
+        else read_file(it);
     }
 }
 
 int main(int argc, char **argv) {
+    size_t none;
     if (argc > 0) read_arguments(argv + 1);
     is_dynamic = libraries || !linked.is_fixed;
     if (is_dynamic && is_placed) fail("--section-start is for static executables");
@@ -134,17 +121,17 @@ int main(int argc, char **argv) {
         fail("usage: link [-s] [--no-relax | --short-offsets] [-pie | -shared [-soname NAME]] "
              "-o OUTPUT [--section-start=NAME=ADDRESS]... FILE...");
     if (!is_placed) make_room(headers, 8, HEADERS);
+    shrinks = !linker_utils_section_items(machine, NULL, 0, 0, NULL, 0, NULL, 0, NULL, 0, &none,
+                                          NULL);
     linker_utils_dynamic_types(machine, &types);
-    list_symbols();
+    linker_utils_got(machine, 0, 0, &known_got);
     EACH_SECTION(s) add_section(s);
     define_symbols();
     if (is_dynamic) bind_symbols();
-    EACH_SYMBOL(s) place_common(s); /* these are first in `.bss`, as in ld.lld */
-    EACH_SECTION(s) copy_section(s);
-    EACH_SYMBOL(s) place_symbol(s);
+    place_symbols();
     EACH_OBJECT(o) {
         rewrite_object(o, LINKER_UTILS_PHASE_EARLY, LINKER_UTILS_PHASE_EARLY);
-        require_all(o);
+        require(o);
     }
     if (is_dynamic) make_imports();
     make_entries();
@@ -156,9 +143,8 @@ int main(int argc, char **argv) {
     write_entries();
     write_stubs();
     index_frames();
-    struct symbol *start = *global("_start");
-    bool has_start = start && start->output;
-    if (!has_start && linked.is_executable) fail("undefined symbol '_start'");
-    write_file(path, has_start ? address_of(start->output, start->offset) : 0, has_symbols);
+    const struct symbol *start = named("_start");
+    if (!start->output && linked.is_executable) fail("undefined symbol '_start'");
+    write_file(path, start->output ? address_of(start->output, start->offset) : 0, has_symbols);
     return 0;
 }

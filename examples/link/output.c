@@ -3,40 +3,22 @@
 
 #include "link.h"
 
-struct output *headers;
-
-#define MOST_PARTS (sizeof outputs / sizeof *outputs + 5)
-
-/* The parts of the file, by their offsets. Between them are zeros. */
-static struct part {
-    uint64_t offset, len;
-    const void *bytes;
-} parts[MOST_PARTS];
-static Elf64_Phdr loads[MOST_PARTS], *load = loads - 1;
-static Elf64_Shdr heads[MOST_PARTS]; /* of sections; the first is empty */
-static size_t parts_len, heads_len = 1;
+static Elf64_Phdr loads[MOST_OUTPUTS + 7], *load = loads - 1;
+static Elf64_Shdr heads[MOST_OUTPUTS + 3]; /* of sections; the first is empty */
+static size_t heads_len = 1;
 
 static struct output strings = {.name = ".strtab", .align = 1, .has_bytes = true,
                                 .type = SHT_STRTAB};
 static struct output symbol_table = {.name = ".symtab", .align = 8, .has_bytes = true, .info = 1,
-                                     .type = SHT_SYMTAB, .element = sizeof(Elf64_Sym)};
+                                     .type = SHT_SYMTAB, .element = sizeof(Elf64_Sym),
+                                     .link = &strings};
 
-static void put(uint64_t offset, const void *bytes, uint64_t len) {
-    parts[parts_len++] = (struct part){offset, len, bytes};
-}
-
-static int by_address(const void *left, const void *right) {
-    const struct output *a = *(struct output *const *)left, *b = *(struct output *const *)right;
-    int by = order(a->address, b->address);
-    return by ? by : order(a->rank, b->rank);
-}
-
-/* Adds the header of a part of a segment that is loaded. */
-static void add_part(uint32_t type, uint64_t at, uint64_t bytes, uint64_t len, uint64_t align) {
+/* The header of a part of a segment that is loaded. */
+static Elf64_Phdr part(uint32_t type, uint32_t flags, uint64_t at, uint64_t len, uint64_t align) {
     const Elf64_Phdr *in = load;
     while (in > loads && (in->p_type != PT_LOAD || in->p_vaddr > at)) in--;
     uint64_t offset = in >= loads && at ? in->p_offset + (at - in->p_vaddr) : 0;
-    *++load = (Elf64_Phdr){type, PF_R, offset, at, at, bytes, len, align};
+    return (Elf64_Phdr){type, flags, offset, at, at, len, len, align};
 }
 
 /* Adds the header of a section. */
@@ -71,49 +53,51 @@ Elf64_Sym symbol_of(const struct symbol *s) {
     return elf;
 }
 
-/* Adds a symbol to the table, if it has a name and is in the file. */
-static void add_symbol(const struct symbol *s) {
-    uint16_t at = s->elf.st_shndx;
-    bool is_in_file = !at || at >= SHN_LORESERVE || s->output;
-    if (!*s->name || !is_in_file || ELF64_ST_TYPE(s->elf.st_info) == STT_SECTION) return;
-    Elf64_Sym elf = symbol_of(s);
-    elf.st_name = add_name(&strings, s->name);
-    append(&symbol_table, 8, &elf, sizeof elf);
-    symbol_table.info += is_local(s);
-}
-
-/* Puts the symbols, if wanted, local ones first, and the section headers behind the segments. */
+/* Puts the symbols, if wanted, behind the segments, local ones first, and then the section headers.
+ * Symbols have a name and are in the file. */
 static void put_symbols(uint64_t offset, Elf64_Ehdr *head, bool has_symbols) {
     symbol_table.room = (has_symbols ? symbols_len + 1 : 1) * sizeof(Elf64_Sym);
     make_room(&symbol_table, 8, sizeof(Elf64_Sym));
-    for (int is_global = 0; has_symbols && is_global < 2; is_global++)
-        EACH_SYMBOL(s) if (is_global != is_local(s)) add_symbol(s);
+    for (int locals = 1; has_symbols && locals >= 0; locals--)
+        EACH_SYMBOL(s) {
+            uint16_t at = s->elf.st_shndx;
+            bool is_in_file = !at || at >= SHN_LORESERVE || s->output;
+            bool has_name = *s->name && stt_of(s) != STT_SECTION;
+            if (is_local(s) != locals || !is_in_file || !has_name) continue;
+            Elf64_Sym elf = symbol_of(s);
+            elf.st_name = add_name(&strings, s->name);
+            append(&symbol_table, 8, &elf, sizeof elf);
+            symbol_table.info += (uint32_t)locals;
+        }
     offset = round_up(offset, 8);
-    add_head(&symbol_table, offset);
-    add_head(&strings, offset + symbol_table.len);
-    put(offset, symbol_table.bytes, symbol_table.len);
-    put(offset + symbol_table.len, strings.bytes, strings.len);
-    heads[symbol_table.index].sh_link = strings.index;
+    add_head(outputs[outputs_len++] = &symbol_table, offset);
+    add_head(outputs[outputs_len++] = &strings, offset + symbol_table.len);
     EACH_OUTPUT(o) if (o->link) heads[o->index].sh_link = o->link->index;
     head->e_shoff = round_up(offset + symbol_table.len + strings.len, 8);
     head->e_shentsize = sizeof *heads;
     head->e_shnum = (uint16_t)heads_len;
     head->e_shstrndx = strings.index;
-    put(head->e_shoff, heads, heads_len * sizeof *heads);
 }
 
-/* Writes the parts, once all are known. A file that is there already stays what it is: a device or
+/* Writes a part of the file, which is behind those before it, with zeros between. */
+static void write_part(FILE *file, uint64_t offset, const void *bytes, uint64_t len) {
+    static uint64_t end;
+    for (; end < offset; end++) putc(0, file);
+    end += fwrite(bytes, 1, len, file);
+}
+
+/* Writes all parts, once they are known. A file that is there already stays what it is: a device or
  * a pipe is written to. Only an ordinary one is made executable. */
-static void write_parts(const char *path) {
+static void write_parts(const char *path, const Elf64_Ehdr *head) {
     struct stat status;
     FILE *file = fopen(path, "wb");
-    uint64_t end = 0;
     if (!file) fail("%s: can't be written", path);
-    for (const struct part *p = parts; p < parts + parts_len; p++) {
-        for (; end < p->offset; end++) putc(0, file);
-        fwrite(p->bytes, 1, p->len, file);
-        end += p->len;
-    }
+    write_part(file, 0, head, sizeof *head);
+    write_part(file, head->e_phoff, loads, head->e_phnum * sizeof *loads);
+    EACH_OUTPUT(o)
+        if (o->index && o->has_bytes)
+            write_part(file, heads[o->index].sh_offset, o->bytes, o->len);
+    write_part(file, head->e_shoff, heads, head->e_shnum * sizeof *heads);
     bool is_ordinary = !fstat(fileno(file), &status) && S_ISREG(status.st_mode);
     bool holds = !ferror(file) && (!is_ordinary || !fchmod(fileno(file), 0755));
     if (fclose(file) || !holds) fail("%s: can't be written", path);
@@ -125,25 +109,16 @@ static void add_dynamic_parts(void) {
     uint64_t start = 0, end = 0;
     EACH_OUTPUT(o) {
         if (!o->len || o->rank < RANK_TLS || o->rank == RANK_TLS_BSS) continue;
-        uint64_t page = o->address & -linker_utils_page(machine);
-        if (o->rank >= RANK_DATA) {
-            end = page > end ? page : end;
-            break;
-        }
-        start = end ? start : o->address;
-        end = o->address + o->len;
+        if (!end) start = o->address;
+        end = o->rank < RANK_DATA ? o->address + o->len : o->address; /* (which begins a page) */
+        if (o->rank >= RANK_DATA) break;
     }
-    add_part(PT_DYNAMIC, dynamic->address, dynamic->len, dynamic->len, 8);
-    load->p_flags |= PF_W;
-    add_part(PT_GNU_RELRO, start, end - start, end - start, 1);
+    *++load = part(PT_DYNAMIC, PF_R | PF_W, dynamic->address, dynamic->len, 8);
+    *++load = part(PT_GNU_RELRO, PF_R, start, end - start, 1);
     if (!interpreter) return;
-    Elf64_Phdr *last = load;
-    uint64_t size = (uint64_t)(last + 2 - loads) * sizeof *loads;
-    add_part(PT_INTERP, interpreter->address, interpreter->len, interpreter->len, 1);
-    loads[1] = *load;
-    add_part(PT_PHDR, headers->address + sizeof(Elf64_Ehdr), size, size, 8);
-    loads[0] = *load;
-    load = last;
+    uint64_t len = (uint64_t)(load + 2 - loads) * sizeof *loads; /* with that of the stack */
+    loads[0] = part(PT_PHDR, PF_R, headers->address + sizeof(Elf64_Ehdr), len, 8);
+    loads[1] = part(PT_INTERP, PF_R, interpreter->address, interpreter->len, 1);
 }
 
 /* Puts the sections, in segments by what is allowed there, and returns where they end in the file.
@@ -170,9 +145,9 @@ static uint64_t put_sections(void) {
         load->p_filesz = load->p_memsz;
         offset = load->p_offset + load->p_memsz;
         heads[o->index].sh_offset = o->index ? offset - bytes : 0;
-        if (o != headers) put(offset - bytes, o->bytes, bytes);
     }
-    if (tls.len) add_part(PT_TLS, tls.image, image, tls.len, tls.align);
+    if (tls.len) *++load = part(PT_TLS, PF_R, tls.image, tls.len, tls.align);
+    if (tls.len) load->p_filesz = image;
     return offset;
 }
 
@@ -182,20 +157,16 @@ void write_file(const char *path, uint64_t entry, bool has_symbols) {
                        .e_version = EV_CURRENT, .e_entry = entry, .e_phoff = sizeof head,
                        .e_flags = linker_utils_output_flags(machine, machine_flags),
                        .e_ehsize = sizeof head, .e_phentsize = sizeof *loads};
-    uint64_t len = index_of->len;
-    qsort(outputs, outputs_len, sizeof *outputs, by_address);
-    put(0, &head, sizeof head);
-    put(sizeof head, loads, 0); /* (how many there are is said below) */
+    sort_outputs();
     if (interpreter) load += 2;
-    uint64_t offset = put_sections();
-    if (len) add_part(PT_GNU_EH_FRAME, index_of->address, len, len, 4);
+    uint64_t offset = put_sections(), len = index_of->len;
+    if (len) *++load = part(PT_GNU_EH_FRAME, PF_R, index_of->address, len, 4);
     if (is_dynamic) add_dynamic_parts();
     if (write_dynamic()) head.e_ident[EI_OSABI] = ELFOSABI_GNU;
-    add_part(PT_GNU_STACK, 0, 0, 0, 16);
-    load->p_flags |= PF_W;
+    *++load = part(PT_GNU_STACK, PF_R | PF_W, 0, 0, 16);
     head.e_phnum = (uint16_t)(load + 1 - loads);
-    parts[1].len = head.e_phnum * sizeof *loads;
-    if (headers->len && sizeof head + parts[1].len > headers->len) fail("too many segments");
+    if (headers->len && sizeof head + head.e_phnum * sizeof *loads > headers->len)
+        fail("too many segments");
     if (has_symbols || is_dynamic) put_symbols(offset, &head, has_symbols);
-    write_parts(path);
+    write_parts(path, &head);
 }

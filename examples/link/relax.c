@@ -15,15 +15,13 @@ static size_t *makers, items_len;
 static struct linker_utils_rela seen(const struct section *s, const Elf64_Rela *r) {
     const struct symbol *to = symbol_at(s, r);
     const struct output *o = to->is_imported && is_defined(to) ? NULL : to->output;
-    struct linker_utils_rela seen = {
-        .offset = r->r_offset, .addend = r->r_addend, .r_type = type_of(r),
-        .has_symbol = ELF64_R_SYM(r->r_info) > 0, .may_compress = s->object->is_compressed};
-    if (!relaxes || !o || o->run != s->output->run || o->flags & SHF_TLS) return seen;
-    if (o->shrinks && r->r_addend) return seen;
-    uint64_t offset = (to->offset == END ? o->len : to->offset) + (uint64_t)r->r_addend;
-    seen.has_target = offset <= o->len;
-    seen.target = o->base + offset;
-    return seen;
+    bool is_in_run = relaxes && o && o->run == s->output->run && !(o->flags & SHF_TLS) &&
+                     !(o->shrinks && r->r_addend);
+    uint64_t offset = (o && to->offset == END ? o->len : to->offset) + (uint64_t)r->r_addend;
+    return (struct linker_utils_rela){
+        .offset = r->r_offset, .target = is_in_run ? o->base + offset : 0, .addend = r->r_addend,
+        .r_type = type_of(r), .has_symbol = ELF64_R_SYM(r->r_info) > 0,
+        .has_target = is_in_run && offset <= o->len, .may_compress = s->object->is_compressed};
 }
 
 /* Ends with an error of a relocation, if there is one with this index, or of a whole section. */
@@ -67,33 +65,30 @@ static void move_relocations(struct section *s) {
     }
 }
 
-/* Writes a section anew at an offset of what is packed: what becomes shorter, and without what it
- * loses. Items that lose nothing count no more. */
-static void pack(struct section *s, uint8_t *packed, uint64_t to) {
-    const struct output *o = s->output;
-    const struct run *run = o->run;
-    uint64_t base = o->base + s->offset, lost = 0;
+/* Writes a section anew: what becomes shorter, and without what it loses. Items that lose nothing
+ * count no more. Returns how long it is then. */
+static uint64_t pack(struct section *s, uint8_t *packed) {
+    const struct run *run = s->output->run;
+    uint64_t base = s->output->base + s->offset, len = s->len;
     size_t first = s->first_item, last = first, at = SIZE_MAX;
     for (size_t i = first; i < first + s->items_len; i++) {
         uint64_t past = items[i].offset - base + items[i].len;
         if (stay[i] == items[i].len) continue;
-        lost += items[i].len - stay[i];
+        len -= items[i].len - stay[i];
         size_t k = items[i].shapes.count ? makers[i] : s->relocations_len;
         for (; k < s->relocations_len && s->relocations[k].r_offset < past; k++)
-            set_type(&s->relocations[k], 0); /* its value is written here */
+            drop(&s->relocations[k]); /* its value is written here */
         items[last] = items[i];
         stay[last] = stay[i];
         makers[last++] = makers[i];
     }
     s->items_len = (uint32_t)(last - first);
-    uint32_t status = linker_utils_pack_run(machine, o->bytes + s->offset, s->len, base,
-                                            items + first, s->items_len, run->deltas,
-                                            run->deltas_len, run->start, packed + to,
-                                            s->len - lost, &at);
+    uint32_t status = linker_utils_pack_run(machine, BYTES_OF(s), base, items + first, s->items_len,
+                                            run->deltas, run->deltas_len, run->start, packed, len,
+                                            &at);
     check_items(s, at < s->items_len ? makers[first + at] : SIZE_MAX, status);
     move_relocations(s);
-    s->offset = to;
-    s->len -= lost;
+    return len;
 }
 
 /* Writes code anew, with what stays of the gaps between its parts. */
@@ -101,12 +96,13 @@ static void pack_output(struct output *o) {
     uint8_t *packed = zeros(o->len, 1);
     uint64_t from = 0, to = 0;
     for (struct section *s = o->first; s; s = s->behind) {
-        uint64_t end = s->offset + s->len, len = s->offset - s->gap - from;
-        if (s->gap) len += stay[s->first_item - 1];
-        memcpy(packed + to, o->bytes + from, len);
-        pack(s, packed, to + len);
-        to = s->offset + s->len;
+        uint64_t end = s->offset + s->len, lost = s->gap ? s->gap - stay[s->first_item - 1] : 0;
+        uint64_t at = to + (s->offset - from - lost);
+        memcpy(packed + to, o->bytes + from, at - to);
+        s->len = pack(s, packed + at);
+        s->offset = at;
         from = end;
+        to = at + s->len;
     }
     free(o->bytes);
     o->bytes = packed;
@@ -115,18 +111,11 @@ static void pack_output(struct output *o) {
 
 /* Relaxes the sections of a run. */
 static void relax_run(struct run *run) {
-    size_t room = 1, at = SIZE_MAX;
+    size_t room = outputs_len + 1, at = SIZE_MAX;
     uint64_t end = 0, unit = code_unit();
-    bool shrinks = false;
-    EACH_OUTPUT(o) {
-        if (o->run != run) continue;
+    EACH_OUTPUT(o)
         for (const struct section *s = o->first; s; s = s->behind)
             room += s->relocations_len + s->deleted_len + 1;
-        room++;
-        shrinks |= o->shrinks;
-        if (o->base + o->len > end) end = o->base + o->len;
-    }
-    if (!shrinks) return;
     items = zeros(room, sizeof *items);
     makers = zeros(room, sizeof *makers);
     items_len = 0;
@@ -134,6 +123,7 @@ static void relax_run(struct run *run) {
         if (o->run != run) continue;
         if (o->before.len) items[items_len++] = o->before;
         for (struct section *s = o->first; s; s = s->behind) add_items(s);
+        if (o->base + o->len > end) end = o->base + o->len;
     }
     /* one more at the end, which says the unit of the code where there is no site */
     items[items_len++] = (struct linker_utils_item){
@@ -146,10 +136,9 @@ static void relax_run(struct run *run) {
     stay = zeros(len, sizeof *stay);
     uint32_t status = linker_utils_relax(items, len, run->start, shapes, len, stay, len, places,
                                          len, freed, len + 1, &at);
-    if (status)
-        EACH_SECTION(s)
-            if (s->output && s->output->run == run && at - s->first_item < s->items_len)
-                check_items(s, makers[at], status);
+    EACH_SECTION(s)
+        if (status && s->output && s->output->run == run && at - s->first_item < s->items_len)
+            check_items(s, makers[at], status);
     if (status) fail("the code can't be relaxed: %s", linker_utils_status_text(status));
     free(places), free(freed), free(shapes);
     run->deltas = zeros(len, sizeof *run->deltas);
@@ -163,11 +152,11 @@ static void relax_run(struct run *run) {
 
 /* Relaxes all code. */
 void relax(void) {
-    bool shrinks = has_short_offsets && relaxes;
-    EACH_OUTPUT(o) shrinks |= o->shrinks;
     uint32_t phase = LINKER_UTILS_PHASE_THREAD_OFFSETS;
-    EACH_OBJECT(o) if (shrinks && o->is_threaded) rewrite_object(o, phase, phase);
-    EACH_OUTPUT(o) if (!o->run->deltas) relax_run(o->run);
+    EACH_OBJECT(o)
+        if (o->is_threaded && (shrinks || (has_short_offsets && relaxes)))
+            rewrite_object(o, phase, phase);
+    EACH_OUTPUT(o) if (shrinks && !o->run->deltas) relax_run(o->run);
     set_addresses();
     EACH_OUTPUT(o) {
         uint64_t align = o->flags & SHF_TLS && o->address == tls.image ? tls.align : o->align;

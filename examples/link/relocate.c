@@ -4,30 +4,20 @@
 struct tls tls;
 struct kind kinds[2048];
 
-/* Where a relocation is, and its name, as "b.o: .text+0x1c: R_RISCV_JAL". The offset is the
+/* Prints where a relocation is, and its name, as "b.o: .text+0x1c: R_RISCV_JAL". The offset is the
  * object's. */
-const char *place_of(const struct section *s, const Elf64_Rela *r) {
-    static char text[4096];
+void print_place(const struct section *s, const Elf64_Rela *r) {
     uint8_t name[LINKER_UTILS_NAME_SIZE];
     size_t len = 0;
-    Elf64_Rela first;
-    uint64_t at = s->table->sh_offset + (uint64_t)(r - s->relocations) * sizeof first;
-    memcpy(&first, s->object->bytes + at, sizeof first);
+    uint64_t offset, at = s->table->sh_offset + (uint64_t)(r - s->relocations) * sizeof *r;
+    memcpy(&offset, s->object->bytes + at, sizeof offset);
     linker_utils_relocation_name(machine, type_of(r), name, sizeof name, &len);
-    snprintf(text, sizeof text, "%s: %s+0x%" PRIx64 ": %.*s", s->object->path, s->name,
-             first.r_offset, (int)len, (const char *)name);
-    return text;
+    fprintf(stderr, "%s: %s+0x%" PRIx64 ": %.*s", s->object->path, s->name, offset, (int)len,
+            (const char *)name);
 }
 
 void check(const struct section *s, const Elf64_Rela *r, uint32_t status) {
-    if (status) fail("%s: %s", place_of(s, r), linker_utils_status_text(status));
-}
-
-/* Whether a relocation's symbol is in a discarded section. */
-static bool is_discarded(const struct section *s, const Elf64_Rela *r) {
-    const struct symbol *to = symbol_at(s, r);
-    return !to->output && to->elf.st_shndx && to->elf.st_shndx < SHN_LORESERVE &&
-           to->object->sections[to->elf.st_shndx].is_discarded;
+    if (status) fail_at(s, r, ": %s", linker_utils_status_text(status));
 }
 
 /* Reads the relocations of a section. In tables beside functions that other objects have too, what
@@ -43,28 +33,25 @@ void read_relocations(struct section *s) {
     if (has_addresses) s->kept_words = take(len, 1);
     EACH_RELOCATION(s, r) {
         if (r->r_offset > s->len || ELF64_R_SYM(r->r_info) >= o->mentions_len)
-            fail_in(o, s->name, "a relocation is of no byte or no symbol");
-        if ((is_beside || has_addresses) && is_discarded(s, r)) set_type(r, 0);
+            fail_in(s, "a relocation is of no byte or no symbol");
+        if (!is_beside && !has_addresses) continue;
+        const struct symbol *to = symbol_at(s, r);
+        bool is_in_section = !to->output && is_defined(to) && to->elf.st_shndx < SHN_LORESERVE;
+        if (is_in_section && to->object->sections[to->elf.st_shndx].is_discarded) drop(r);
     }
 }
 
-/* Whether a machine's relocations change ULEB128 numbers that are there. */
-static bool changes_numbers(void) {
-    static uint32_t next;
-    static bool is_found;
-    for (; next < 256 && !is_found; next++)
-        is_found = linker_utils_uleb128_role(machine, next) == LINKER_UTILS_ROLE_ADDS;
-    return is_found;
-}
-
-struct kind *ask_kind(const struct section *s, const Elf64_Rela *r) {
+struct kind *ask_kind(const struct section *s, const Elf64_Rela *r, struct kind *kind) {
+    static bool changes; /* whether the machine's relocations change ULEB128 numbers */
+    static uint32_t asked;
     uint32_t type = type_of(r);
-    struct kind *kind = &kinds[type < 2048 ? type : 2047];
+    for (; asked < 256; asked++)
+        changes |= linker_utils_uleb128_role(machine, asked) == LINKER_UTILS_ROLE_ADDS;
     check(s, r, linker_utils_relocation(machine, type, &kind->row));
     check(s, r, linker_utils_reach(machine, type, &kind->reach));
     for (int is_tls = 0; is_tls < 2; is_tls++)
         check(s, r, linker_utils_needs(machine, type, 0, is_tls, &kind->needs[is_tls]));
-    if (changes_numbers()) kind->role = linker_utils_uleb128_role(machine, type);
+    if (changes) kind->role = linker_utils_uleb128_role(machine, type);
     kind->is_known = true;
     return kind;
 }
@@ -94,61 +81,52 @@ struct linker_utils_symbol known_symbol(const struct symbol *s, int64_t addend) 
     return known;
 }
 
-/* What is known of the linked file, for relocations that count from an address. */
-struct linker_utils_addresses addresses_of(uint64_t start) {
+/* What is known of the linked file, for the relocations of a section. */
+struct linker_utils_addresses addresses_of(const struct section *s) {
     return (struct linker_utils_addresses){
-        .section = start, .got_base = known_got().base,
-        .thread_origin = tls.origins.thread_pointer,
-        .module_origin = tls.origins.module_block,
-        .module_entry = module_entry ? address_of(got, module_entry->offset) : 0};
+        .section = s->output->address + s->offset, .got_base = known_got.base,
+        .thread_origin = tls.origins.thread_pointer, .module_origin = tls.origins.module_block,
+        .module_entry = module.entries ? address_of(got, module.entries->offset) : 0};
 }
 
-/* Adds a value to a ULEB128 number, or subtracts it, modulo what its bytes hold, as in ld.lld. */
-static void change_number(const struct section *s, const Elf64_Rela *r, int64_t value,
-                          uint8_t *bytes, size_t len) {
+/* Adds the value of a relocation to a ULEB128 number, or subtracts it, modulo what its bytes hold,
+ * as in ld.lld. */
+static void change_number(const struct section *s, Elf64_Rela *r, int64_t value) {
     uint64_t number = 0;
-    size_t used = 0;
+    size_t used = 0, len = r->r_offset < s->len ? s->len - r->r_offset : 0;
+    uint8_t *bytes = s->output->bytes + s->offset + s->len - len;
     check(s, r, linker_utils_read_uleb128(bytes, len, &number, &used));
     bool subtracts = kind_of(s, r)->role == LINKER_UTILS_ROLE_SUBTRACTS;
     number += (uint64_t)(subtracts ? -value : value);
     if (used < 9) number &= (UINT64_C(1) << 7 * used) - 1;
     check(s, r, linker_utils_write_uleb128(bytes, len, number));
+    drop(r);
 }
 
 /* Writes the values of a section's relocations. Those at ULEB128 numbers that are there are first,
  * each by itself. */
-static void relocate_section(struct section *s, const struct linker_utils_symbol *values) {
+void relocate_section(struct section *s, const struct linker_utils_symbol *values) {
     static uint64_t *memory; /* for one section after another */
     static size_t room;
-    size_t size = s->relocations_len * sizeof(Elf64_Rela), count = s->object->symbols_len;
-    size_t len = s->len, at = 0;
-    uint8_t *relocations = (uint8_t *)s->relocations, *bytes = s->output->bytes + s->offset;
-    struct linker_utils_addresses addresses = addresses_of(s->output->address + s->offset);
-    int64_t value;
-    if (s->has_numbers)
-        EACH_RELOCATION(s, r) {
-            if (kind_of(s, r)->role == LINKER_UTILS_ROLE_NONE) continue;
-            check(s, r, linker_utils_value_at(machine, &addresses, relocations, size, values, count,
-                                              (size_t)(r - s->relocations), &value));
-            size_t left = r->r_offset < len ? len - r->r_offset : 0;
-            change_number(s, r, value, bytes + len - left, left);
-            set_type(r, 0);
-        }
-    size_t memory_len = linker_utils_relocate_memory(relocations, size);
-    memory = grow(memory, memory_len, &room, sizeof *memory);
-    uint32_t status = linker_utils_relocate_section(machine, &addresses, relocations, size, values,
-                                                    count, bytes, len, memory, memory_len, &at);
-    const Elf64_Rela *r = &s->relocations[at];
-    if (status == LINKER_UTILS_OUT_OF_REACH &&
-        !linker_utils_value_at(machine, &addresses, relocations, size, values, count, at, &value)) {
-        struct linker_utils_relocation_reach reach = kind_of(s, r)->reach;
-        fail("%s out of reach: %" PRId64 " is not in [%" PRId64 ", %" PRId64 "), to '%s'",
-             place_of(s, r), value, reach.min, reach.max, symbol_at(s, r)->name);
+    size_t count = s->object->symbols_len, at = 0;
+    struct linker_utils_addresses here = addresses_of(s);
+    int64_t value = 0;
+    for (; s->has_numbers && at < s->relocations_len; at++) {
+        Elf64_Rela *r = &s->relocations[at];
+        if (kind_of(s, r)->role == LINKER_UTILS_ROLE_NONE) continue;
+        check(s, r, linker_utils_value_at(machine, &here, TABLE_OF(s), values, count, at, &value));
+        change_number(s, r, value);
     }
+    size_t memory_len = linker_utils_relocate_memory(TABLE_OF(s));
+    memory = grow(memory, memory_len, &room, sizeof *memory);
+    uint32_t status = linker_utils_relocate_section(machine, &here, TABLE_OF(s), values, count,
+                                                    BYTES_OF(s), memory, memory_len, &at);
+    if (!status) return;
+    const Elf64_Rela *r = &s->relocations[at];
+    const struct linker_utils_relocation_reach *reach = &kind_of(s, r)->reach;
+    if (status == LINKER_UTILS_OUT_OF_REACH &&
+        !linker_utils_value_at(machine, &here, TABLE_OF(s), values, count, at, &value))
+        fail_at(s, r, " out of reach: %" PRId64 " is not in [%" PRId64 ", %" PRId64 "), to '%s'",
+                value, reach->min, reach->max, symbol_at(s, r)->name);
     check(s, r, status);
-}
-
-/* Writes all values of an object. */
-void relocate_object(struct object *o, const struct linker_utils_symbol *values) {
-    EACH_SECTION_OF(o, s) if (s->relocations_len) relocate_section(s, values);
 }

@@ -7,8 +7,6 @@
 static struct linker_utils_symbol_facts *facts;
 static struct linker_utils_symbol *values;
 struct linker_utils_kept_groups *kept;
-static struct linker_utils_decision *decisions; /* of one section after another */
-static size_t decisions_room;
 static const struct symbol *tls_get_addr;
 
 /* Whether the library is not shown a relocation: nothing here has its symbol, or it would be
@@ -30,16 +28,15 @@ static bool note_symbols(struct object *o, bool has_addresses) {
     static size_t rooms[3];
     bool hides = !relaxes;
     size_t len = o->symbols_len;
-    tls_get_addr = *global("__tls_get_addr");
+    tls_get_addr = named("__tls_get_addr");
     facts = grow(facts, len, &rooms[0], sizeof *facts);
-    if (has_addresses) values = grow(values, len, &rooms[1], sizeof *values);
+    values = grow(values, len, &rooms[1], sizeof *values);
     kept = grow(kept, len + 1, &rooms[2], sizeof *kept);
     for (size_t i = 1; i < len; i++) {
         const struct symbol *s = o->symbols[i];
         __builtin_prefetch(o->symbols[i + 8 < len ? i + 8 : i]);
-        if (has_addresses)
-            values[i] = known_symbol(s, i < o->mentions_len ? 0 : o->addends[i - o->mentions_len]);
-        hides |= !s->is_imported && !is_here(s) && ELF64_ST_TYPE(s->elf.st_info) != STT_FILE;
+        if (has_addresses) values[i] = known_symbol(s, o->addends ? o->addends[i] : 0);
+        hides |= !s->is_imported && !is_here(s) && stt_of(s) != STT_FILE;
         o->is_threaded |= is_thread_local(s);
         facts[i] = (struct linker_utils_symbol_facts){
             .is_local = !s->is_imported, .is_ifunc = is_ifunc(s) && s->output != stubs,
@@ -48,27 +45,35 @@ static bool note_symbols(struct object *o, bool has_addresses) {
     return hides;
 }
 
-/* Rewrites a section of an object in a phase, or notes which groups of it stay. */
-static void rewrite_in(uint32_t phase, struct section *s, bool is_survey) {
+/* Rewrites a section of an object in a phase, or notes which groups of it stay. With words of
+ * addresses: has code compute those that it loads from there, all that load a word or none. */
+static void rewrite_in(uint32_t phase, struct section *s, const struct section *words,
+                       bool is_survey) {
+    static struct linker_utils_decision *decisions; /* of one section after another */
     static struct linker_utils_deletion *deleted;
-    static size_t room;
+    static size_t rooms[2];
     size_t count = s->object->symbols_len, len = s->relocations_len, used = 0, at = 0;
-    size_t values_len = phase == LINKER_UTILS_PHASE_EARLY ? 0 : count;
-    size_t relocations_len = len * sizeof *s->relocations;
-    uint8_t *relocations = (uint8_t *)s->relocations, *bytes = s->output->bytes + s->offset;
-    struct linker_utils_addresses addresses = addresses_of(s->output->address + s->offset);
-    if (is_survey) {
-        linker_utils_survey_placed_section(machine, phase, &linked, facts, count, &addresses,
-                                           values, values_len, relocations, relocations_len, bytes,
-                                           s->len, kept, count);
-        return;
-    }
-    decisions = grow(decisions, len, &decisions_room, sizeof *decisions);
-    deleted = grow(deleted, len, &room, sizeof *deleted);
-    uint32_t status = linker_utils_rewrite_placed_section(
-        machine, phase, &linked, facts, count, &addresses, values, values_len, kept, count,
-        relocations, relocations_len, bytes, s->len, decisions, len, deleted, len, &used, &at);
-    check(s, &s->relocations[at < len ? at : 0], status);
+    struct linker_utils_addresses here = addresses_of(s);
+    uint64_t start = words ? words->output->address + words->offset : 0;
+    if (is_survey && words)
+        linker_utils_survey_address_loads(
+            machine, &linked, facts, count, &here, values, count, start, TABLE_OF(words),
+            TABLE_OF(s), BYTES_OF(s), words->kept_words, words->relocations_len);
+    else if (is_survey)
+        linker_utils_survey_placed_section(machine, phase, &linked, facts, count, &here, values,
+                                           count, TABLE_OF(s), BYTES_OF(s), kept, count);
+    if (is_survey) return;
+    decisions = grow(decisions, len, &rooms[0], sizeof *decisions);
+    deleted = grow(deleted, len, &rooms[1], sizeof *deleted);
+    uint32_t status =
+        words ? linker_utils_rewrite_address_loads(
+                    machine, &linked, facts, count, &here, values, count, start, TABLE_OF(words),
+                    words->kept_words, words->relocations_len, TABLE_OF(s), BYTES_OF(s), decisions,
+                    len, &at)
+              : linker_utils_rewrite_placed_section(
+                    machine, phase, &linked, facts, count, &here, values, count, kept, count,
+                    TABLE_OF(s), BYTES_OF(s), decisions, len, deleted, len, &used, &at);
+    check(s, &s->relocations[at], status);
     if (!used) return;
     s->deleted_len = (uint32_t)used;
     s->deleted = memcpy(take(used, sizeof *deleted), deleted, used * sizeof *deleted);
@@ -79,66 +84,40 @@ static void rewrite_in(uint32_t phase, struct section *s, bool is_survey) {
 static void rewrite_got_loads(struct section *s) {
     *kept = (struct linker_utils_kept_groups){.got_load = false};
     EACH_RELOCATION(s, r) kept[ELF64_R_SYM(r->r_info)] = *kept;
-    rewrite_in(LINKER_UTILS_PHASE_GOT_LOADS, s, true);
+    rewrite_in(LINKER_UTILS_PHASE_GOT_LOADS, s, NULL, true);
     bool stays = kept->got_load;
     EACH_RELOCATION(s, r) stays |= kept[ELF64_R_SYM(r->r_info)].got_load;
-    if (!stays) rewrite_in(LINKER_UTILS_PHASE_GOT_LOADS, s, false);
+    if (!stays) rewrite_in(LINKER_UTILS_PHASE_GOT_LOADS, s, NULL, false);
 }
 
-/* Has code compute the addresses that it loads from words of a section, all that load a word or none,
- * or notes which words stay. */
-static void rewrite_loads(struct section *s, struct section *words, bool is_survey) {
-    size_t count = s->object->symbols_len, len = s->relocations_len, at = 0;
-    size_t relocations_len = len * sizeof *s->relocations;
-    size_t words_len = words->relocations_len * sizeof *words->relocations;
-    uint8_t *relocations = (uint8_t *)s->relocations, *bytes = s->output->bytes + s->offset;
-    const uint8_t *of_words = (const uint8_t *)words->relocations;
-    struct linker_utils_addresses addresses = addresses_of(s->output->address + s->offset);
-    uint64_t start = words->output->address + words->offset;
-    if (is_survey) {
-        linker_utils_survey_address_loads(machine, &linked, facts, count, &addresses, values, count,
-                                          start, of_words, words_len, relocations, relocations_len,
-                                          bytes, s->len, words->kept_words, words->relocations_len);
-        return;
-    }
-    decisions = grow(decisions, len, &decisions_room, sizeof *decisions);
-    uint32_t status = linker_utils_rewrite_address_loads(
-        machine, &linked, facts, count, &addresses, values, count, start, of_words, words_len,
-        words->kept_words, words->relocations_len, relocations, relocations_len, bytes, s->len,
-        decisions, len, &at);
-    check(s, &s->relocations[at < len ? at : 0], status);
-}
-
-/* Hides relocations of an object's code from the library, and shows them again. */
-static void hide(struct object *o, bool is_shown) {
+/* Hides relocations of an object's code from the library, and when called again shows them. */
+static void hide(struct object *o) {
     EACH_SECTION_OF(o, s)
         if (is_code(s) || s->kept_words)
-            EACH_RELOCATION(s, r) {
-                if (is_shown) r->r_info &= ~HIDDEN;
-                else if (is_hidden(s, r)) r->r_info |= HIDDEN;
-            }
+            EACH_RELOCATION(s, r)
+                if (r->r_info & HIDDEN || is_hidden(s, r)) r->r_info ^= HIDDEN;
 }
 
 /* Rewrites the instructions of an object in some phases, all of a group or none. */
 void rewrite_object(struct object *o, uint32_t first, uint32_t last) {
     bool hides = note_symbols(o, first != LINKER_UTILS_PHASE_EARLY);
-    memset(kept, 0, (o->symbols_len + 1) * sizeof *kept);
-    if (hides) hide(o, false);
-    bool is_placed = first == LINKER_UTILS_PHASE_GOT_LOADS;
+    if (hides) hide(o);
     EACH_SECTION_OF(o, words)
-        for (int is_survey = 1; is_placed && words->kept_words && is_survey >= 0; is_survey--)
-            EACH_SECTION_OF(o, s) if (is_code(s)) rewrite_loads(s, words, is_survey);
+        for (int is_survey = 1; words->kept_words && is_survey >= 0; is_survey--)
+            EACH_SECTION_OF(o, s)
+                if (is_code(s) && first == LINKER_UTILS_PHASE_GOT_LOADS)
+                    rewrite_in(first, s, words, is_survey);
     for (uint32_t phase = first; phase <= last; phase++) {
         bool is_of_got = phase == LINKER_UTILS_PHASE_GOT_LOADS;
+        memset(kept, 0, (o->symbols_len + 1) * sizeof *kept);
         if (!linker_utils_has_rewrites(machine, phase)) continue;
-        memset(kept, 0, o->symbols_len * sizeof *kept);
         kept->got_load = phase == LINKER_UTILS_PHASE_EARLY; /* as in ld.lld */
         for (int is_survey = !is_of_got; is_survey >= 0; is_survey--)
             EACH_SECTION_OF(o, s)
-                if (is_code(s) && !is_of_got) rewrite_in(phase, s, is_survey);
+                if (is_code(s) && !is_of_got) rewrite_in(phase, s, NULL, is_survey);
                 else if (is_code(s) && s->has_loads) rewrite_got_loads(s);
     }
-    if (hides) hide(o, true);
+    if (hides) hide(o);
 }
 
 /* Whether compilers keep addresses in a section, beside the GOT. */
@@ -154,6 +133,6 @@ void relocate(void) {
     uint32_t last = LINKER_UTILS_PHASE_DISTANCES;
     EACH_OBJECT(o) {
         rewrite_object(o, relaxes ? LINKER_UTILS_PHASE_GOT_LOADS : last + 1, last);
-        relocate_object(o, values);
+        EACH_SECTION_OF(o, s) if (s->relocations_len) relocate_section(s, values);
     }
 }
