@@ -8,7 +8,7 @@ use Rattle.linker_elf.specs.declared.ppc64.relocations.Ppc64Relocation.{Ppc64Rel
 use Rattle.linker_elf.specs.declared.ppc64.relocations.Ppc64Relocation.TheVariants as names
 use Rattle.linker_final.proofs.Chosen.{chosen_at}
 use Rattle.linker_final.proofs.Entries.{IsOfEntry as IsOfEntryIn, IsOfOne as IsOfOneIn, of_entry as of_entry_in, of_one as of_one_in}
-use Rattle.linker_final.specs.Final.{Linked, IsLinked, count}
+use Rattle.linker_final.specs.Final.{AreRewritten, Linked, count}
 use Rattle.linker_ppc64.specs.Ppc64Rewrites.{Ppc64Applies, ppc64_entries, ppc64_matches}
 use Rattle.linker_ppc64.specs.declared.rewrites.RelaxationKind.{RelaxationKind}
 use Rattle.linker_ppc64.specs.declared.rewrites.RelaxationKind.TheVariants as kinds
@@ -94,7 +94,7 @@ abbrev pub IsOfOne : List (Entry RelaxationKind Ppc64Relocation) → List ℕ �
 IsOfOne es section o =
     IsOfOneIn ppc64_name relaxations.Ppc64 (λ (e : Entry RelaxationKind Ppc64Relocation). ppc64_matches e.kind section o) es
 
-module _ (l : Linked) (linked : IsLinked l) (ppc64 : l.setting.architecture ≡ Ppc64) (i : ℕ)
+module _ (l : Linked) (rewriting : AreRewritten l) (ppc64 : l.setting.architecture ≡ Ppc64) (i : ℕ)
     (chosen : Choice Relaxation ℕ) (below : i < count l)
     (decided : decision_at l.decisions i ≡ Rewritten chosen)
     (name : Ppc64Relocation) (named : IsNamed (ppc64_name name))
@@ -103,7 +103,7 @@ module _ (l : Linked) (linked : IsLinked l) (ppc64 : l.setting.architecture ≡ 
     pub of_one : IsOfOne (ppc64_entries name) l.section (relocation_in l.relocations i).offset chosen
     of_one =
         let r = relocation_in l.relocations i in
-        let c = chosen_at l.setting l.kept l.relocations l.section l.decisions (count l) i chosen linked.decided below decided
+        let c = chosen_at l.setting l.kept l.relocations l.section l.decisions (count l) i chosen rewriting.decided below decided
         (λ scope is. unlabelled l.setting.phase r.code scope (subst (λ x. IsScopeIn x l.setting.phase r.code scope) ppc64 is)) in
         of_one_in ppc64_name relaxations.Ppc64 (λ (e : Entry RelaxationKind Ppc64Relocation). ppc64_matches e.kind l.section r.offset) chosen
         (λ n. Ppc64Applies l.section r.offset c.facts) ppc64_entries kinds.NoOp refl r.code name named is_name

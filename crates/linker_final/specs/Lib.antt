@@ -1,3 +1,4 @@
+pub mod AArch64Anywhere
 pub mod AArch64Final
 pub mod Final
 pub mod Joined
@@ -5,6 +6,7 @@ pub mod LoongArchFinal
 pub mod LoongArchJoined
 pub mod LoongArchPacked
 pub mod Packed
+pub mod Ppc64Anywhere
 pub mod Ppc64Final
 pub mod RiscVFinal
 pub mod RiscVJoined
