@@ -1,7 +1,7 @@
 -- The rewrite that is chosen for a relocation of PowerPC64.
 use Rattle.std.proofs.Common.{◌≡◌, ℕ, ◌<◌, List, [], ◌∷◌, true, false, refl, sym, ap, subst, ◌∙◌}
 use Rattle.linker_elf.specs.Choices.{Entry}
-use Rattle.linker_elf.specs.ElfNames.{IsNamed, IsNameOf}
+use Rattle.linker_elf.specs.ElfNames.{IsNamed, IsNameOf, code_of}
 use Rattle.linker_elf.specs.Ppc64Relocations.{ppc64_name}
 use Rattle.linker_elf.specs.declared.elf.choice.Choice.{Choice}
 use Rattle.linker_elf.specs.declared.ppc64.relocations.Ppc64Relocation.{Ppc64Relocation}
@@ -93,6 +93,19 @@ IsOfEntry e section o =
 abbrev pub IsOfOne : List (Entry RelaxationKind Ppc64Relocation) → List ℕ → ℕ → Choice Relaxation ℕ → Type 0
 IsOfOne es section o =
     IsOfOneIn ppc64_name relaxations.Ppc64 (λ (e : Entry RelaxationKind Ppc64Relocation). ppc64_matches e.kind section o) es
+
+-- a relocation that is rewritten has the name of its code
+pub named_there : (l : Linked) → AreRewritten l → l.setting.architecture ≡ Ppc64 → (i : ℕ)
+    (chosen : Choice Relaxation ℕ) → i < count l → decision_at l.decisions i ≡ Rewritten chosen
+    → (name : Ppc64Relocation) → IsNamed (ppc64_name name)
+    → code_of (ppc64_name name) ≡ (relocation_in l.relocations i).code
+    → IsNameOf ppc64_name (relocation_in l.relocations i).code name
+named_there l rewriting ppc64 i chosen below decided name named code =
+    let r = relocation_in l.relocations i in
+    let c = chosen_at l.setting l.kept l.relocations l.section l.decisions (count l) i chosen rewriting.decided below decided
+    (λ scope is. unlabelled l.setting.phase r.code scope (subst (λ x. IsScopeIn x l.setting.phase r.code scope) ppc64 is)) in
+    let is = subst (λ x. IsArchitectureChoice x r.code l.section r.offset c.facts chosen) ppc64 c.is_choice in
+    subst (IsNameOf ppc64_name r.code) (is.is_name.named name named code) is.is_name
 
 module _ (l : Linked) (rewriting : AreRewritten l) (ppc64 : l.setting.architecture ≡ Ppc64) (i : ℕ)
     (chosen : Choice Relaxation ℕ) (below : i < count l)

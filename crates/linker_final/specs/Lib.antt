@@ -8,8 +8,10 @@ pub mod LoongArchPacked
 pub mod Packed
 pub mod Ppc64Anywhere
 pub mod Ppc64Final
+pub mod Ppc64Twice
 pub mod RiscVFinal
 pub mod RiscVJoined
 pub mod RiscVPacked
+pub mod Twice
 pub mod X86Final
 pub mod X86ThreadFinal

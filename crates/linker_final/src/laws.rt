@@ -9,6 +9,7 @@ ghost use Rattle.linker_final.specs.Final as final_bytes;
 ghost use Rattle.linker_final.specs.LoongArchFinal as loongarch64_final;
 ghost use Rattle.linker_final.specs.Ppc64Anywhere as ppc64_anywhere;
 ghost use Rattle.linker_final.specs.Ppc64Final as ppc64_final;
+ghost use Rattle.linker_final.specs.Ppc64Twice as ppc64_twice;
 ghost use Rattle.linker_final.specs.RiscVFinal as riscv64_final;
 ghost use Rattle.linker_final.specs.X86Final as x86_64_final;
 ghost use Rattle.linker_final.specs.X86ThreadFinal as x86_64_threads;
@@ -128,6 +129,7 @@ pub fn ppc64()
     ensures local_dynamic_anywhere { ppc64_anywhere.LocalDynamicAnywhere }
     ensures near_arguments_anywhere { ppc64_anywhere.NearArgumentsAnywhere }
     ensures loads_anywhere { ppc64_anywhere.LoadsAnywhere }
+    ensures loads_twice { ppc64_twice.LoadsTwice }
 {
     linker_laws::rewrites::ppc64();
 }
