@@ -9,7 +9,7 @@ use Rattle.linker_elf.specs.declared.aarch64.relocations.AArch64Relocation.TheVa
 use Rattle.linker_elf.specs.declared.elf.choice.Choice.{Choice}
 use Rattle.linker_final.proofs.Chosen.{chosen_at}
 use Rattle.linker_final.proofs.Entries.{IsOfEntry as IsOfEntryIn, IsOfOne as IsOfOneIn, of_entry as of_entry_in, of_one as of_one_in}
-use Rattle.linker_final.specs.Final.{Linked, IsLinked, count}
+use Rattle.linker_final.specs.Final.{AreRewritten, Linked, count}
 use Rattle.linker_rewriting.specs.Decisions.{decision_at}
 use Rattle.linker_rewriting.specs.Groups.{IsScopeIn, aarch64_scope, aarch64_scope_in}
 use Rattle.linker_rewriting.specs.Labels.{is_labelled}
@@ -76,7 +76,7 @@ IsOfEntry name e section o = IsOfEntryIn aarch64_name relaxations.AArch64 (IsMea
 abbrev pub IsOfOne : AArch64Relocation → List AArch64Entry → List ℕ → ℕ → Choice Relaxation ℕ → Type 0
 IsOfOne name es section o = IsOfOneIn aarch64_name relaxations.AArch64 (IsMeant name section o) es
 
-module _ (l : Linked) (linked : IsLinked l) (aarch64 : l.setting.architecture ≡ AArch64) (i : ℕ)
+module _ (l : Linked) (rewriting : AreRewritten l) (aarch64 : l.setting.architecture ≡ AArch64) (i : ℕ)
     (chosen : Choice Relaxation ℕ) (below : i < count l)
     (decided : decision_at l.decisions i ≡ Rewritten chosen)
     (name : AArch64Relocation) (named : IsNamed (aarch64_name name))
@@ -85,7 +85,7 @@ module _ (l : Linked) (linked : IsLinked l) (aarch64 : l.setting.architecture �
     pub of_one : IsOfOne name (aarch64_entries name) l.section (relocation_in l.relocations i).offset chosen
     of_one =
         let r = relocation_in l.relocations i in
-        let c = chosen_at l.setting l.kept l.relocations l.section l.decisions (count l) i chosen linked.decided below decided
+        let c = chosen_at l.setting l.kept l.relocations l.section l.decisions (count l) i chosen rewriting.decided below decided
         (λ scope is. unlabelled l.setting.phase r.code scope (subst (λ x. IsScopeIn x l.setting.phase r.code scope) aarch64 is)) in
         of_one_in aarch64_name relaxations.AArch64 (IsMeant name l.section r.offset) chosen
         (λ n. AArch64Applies n l.section r.offset c.facts) aarch64_entries kinds.NoOp refl r.code name named is_name

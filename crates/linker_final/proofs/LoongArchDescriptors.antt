@@ -15,7 +15,7 @@ use Rattle.linker_elf.specs.declared.loongarch64.relocations.LoongArch64Relocati
 use Rattle.linker_final.proofs.LoongArchAlone.{high_after, high_does, low_after}
 use Rattle.linker_final.proofs.LoongArchChosen.{IsByTable, IsEntry, by_table, entry_by, same_kind}
 use Rattle.linker_final.proofs.LoongArchWritten.{IsAfter, applied_there, becomes, becomes_nop}
-use Rattle.linker_final.proofs.Written.{rela, stays, with_operands, word_same}
+use Rattle.linker_final.proofs.Written.{are_rewritten, rela, stays, with_operands, word_same}
 use Rattle.linker_final.specs.Final.{instruction_at}
 use Rattle.linker_final.specs.LoongArchFinal.{CallDoesNothing, Descriptors, EachRewritten, HighDoesTheSame, IsAny, IsKind, LoadDoesNothing, LowLoadsOffset, LowMakesOffset, PageDoesTheSame}
 use Rattle.linker_laws.specs.LoongArchRewriteLaws.{IsRewritten, Laws, with_entry, word_of}
@@ -202,7 +202,7 @@ page laws l linked loongarch i chosen below is_name decided left kind alone symb
     let w = operands_with LoongArch64 l.addresses high_after.row symbol r got in
     let is : IsPageOfDescriptor (word_of (instruction_at l.section o)) = subst IsPageOfDescriptor (word_same l.section o) (by.asked.1) in
     let stayed : instruction_at l.rewritten o ≡ instruction_at l.section o =
-    stays l linked i chosen below decided (ap relaxation_rewrite by.kind_is) alone (by.asked.0) in
+    stays l (are_rewritten l linked) i chosen below decided (ap relaxation_rewrite by.kind_is) alone (by.asked.0) in
     let code = code_of (loongarch_name names.R_LARCH_TLS_IE_PC_HI20) in
     let written : IsApplied entry_high.row (with_entry e w) (instruction_at l.section o) (instruction_at l.final o) =
     with_operands entry_high.row

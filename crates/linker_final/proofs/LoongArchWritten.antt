@@ -13,7 +13,7 @@ use Rattle.linker_elf.specs.declared.elf.choice.Choice.{Choice}
 use Rattle.linker_elf.specs.declared.loongarch64.relocations.LoongArch64Relocation.{LoongArch64Relocation}
 use Rattle.linker_elf.specs.declared.loongarch64.relocations.LoongArch64Relocation.TheVariants as names
 use Rattle.linker_final.proofs.InstructionFields.{IsOfInstruction}
-use Rattle.linker_final.proofs.Written.{IsRowOf, applied_after, by_name, rela, relocation_is, unwritten_without}
+use Rattle.linker_final.proofs.Written.{IsRowOf, applied_after, are_rewritten, by_name, rela, relocation_is, unwritten_without}
 use Rattle.linker_final.specs.Final.{InstructionIsLeft, Linked, IsLinked, IsWrittenByNoOther, count, instruction_at}
 use Rattle.linker_laws.specs.LoongArchRewriteLaws.{BeginsRewritten, IsRewritten}
 use Rattle.linker_loongarch64.specs.LoongArchRewrites.{loongarch_rewrite, rewrites_word}
@@ -96,7 +96,7 @@ module _ (l : Linked) (linked : IsLinked l) (loongarch : l.setting.architecture 
       let code = code_of (loongarch_name name) in
       let after = rela r.offset code r.symbol r.addend in
       let r_after : relocation_in l.relocations_after i ≡ after =
-      relocation_is l linked i chosen below decided (loongarch_rewrite kind) code (ap relaxation_rewrite kind_is) code_is
+      relocation_is l (are_rewritten l linked) i chosen below decided (loongarch_rewrite kind) code (ap relaxation_rewrite kind_is) code_is
       ∙ (ap (λ x. rela x code r.symbol (addend_after (loongarch_rewrite kind) r.addend)) (unmoved kind r.offset)
       ∙ ap (λ x. rela r.offset code r.symbol x) (same_addend kind r.addend)) in
       subst (λ x. IsApplied a.row (operands_with x l.addresses a.row symbol after got) (instruction_at l.rewritten r.offset) (instruction_at l.final r.offset)) loongarch

@@ -1,3 +1,4 @@
+pub mod AArch64Anywhere
 pub mod AArch64Final
 pub mod Final
 pub mod Joined
@@ -5,9 +6,12 @@ pub mod LoongArchFinal
 pub mod LoongArchJoined
 pub mod LoongArchPacked
 pub mod Packed
+pub mod Ppc64Anywhere
 pub mod Ppc64Final
+pub mod Ppc64Twice
 pub mod RiscVFinal
 pub mod RiscVJoined
 pub mod RiscVPacked
+pub mod Twice
 pub mod X86Final
 pub mod X86ThreadFinal

@@ -1,0 +1,185 @@
+-- Instructions of PowerPC64 that two calls rewrite do what the object's do.
+use Rattle.std.proofs.Common.{◌≡◌, ℕ, ◌+◌, true, false, cond, eqb, refl, sym, ap, subst, ◌∙◌, arith, inl, inr, Option, Some, None, IsSomeAnd}
+use Rattle.std.proofs.lemmas.Bool.{and_parts, cases_Bool, cond-true, cond-false, eq-eqb}
+use Rattle.std.specs.Prelude.{IsTrue, not, ◌&&◌, ◌||◌, ◌==◌}
+use Rattle.linker_base.specs.Bits.{field}
+use Rattle.linker_elf.specs.ElfNames.{IsNamed, IsNameOf}
+use Rattle.linker_elf.specs.Ppc64Relocations.{ppc64_name}
+use Rattle.linker_elf.specs.declared.ppc64.forms.Ppc64Instruction.TheVariants.{D}
+use Rattle.linker_elf.specs.declared.ppc64.relocations.Ppc64Relocation.{Ppc64Relocation}
+use Rattle.linker_elf.specs.declared.ppc64.relocations.Ppc64Relocation.TheVariants as names
+use Rattle.linker_elf.specs.Choices.{entry}
+use Rattle.linker_final.proofs.Ppc64Chosen.{named_there, of_entry}
+use Rattle.linker_final.proofs.Ppc64Halves.{toc_halves_anywhere}
+use Rattle.linker_final.proofs.Ppc64Loads.{loads_anywhere}
+use Rattle.linker_final.proofs.Ppc64Written.{applied_so, becomes, test_there, toc_high_after, toc_low_after}
+use Rattle.linker_final.proofs.Written.{stays}
+use Rattle.linker_final.specs.Final.{Linked, instruction_at}
+use Rattle.linker_final.specs.Ppc64Anywhere.{named_as}
+use Rattle.linker_final.specs.Ppc64Final.{final, object, offset_of}
+use Rattle.linker_final.specs.Ppc64Twice.{EachTwice, IsRewrittenTwice, LoadsTwice, NopIsAlikeTwice, SumIsAlikeTwice}
+use Rattle.linker_laws.proofs.AArch64Pairs.{word_made}
+use Rattle.linker_laws.specs.Ppc64Machine.{Formats, State, step}
+use Rattle.linker_laws.specs.Ppc64RewriteLaws.{AgreeBut, Changes, IsRelocated, Laws, Leads, StepSo, at_place, from_toc, with_entry, with_register, without_register, word_of}
+use Rattle.linker_ppc64.specs.Ppc64Rewrites.{is_addi, is_ld, opcode_of, ra_of, registers_of, rewrites_word, rt_of, to_toc_distance}
+use Rattle.linker_ppc64.specs.declared.rewrites.RelaxationKind.TheVariants as kinds
+use Rattle.linker_section.specs.Relocations.{relocation_in}
+use Rattle.linker_section.specs.declared.relocations.Rela.{Rela}
+use Rattle.linker_utils.specs.Architectures.{relaxation_rewrite}
+
+-- ---- three runs
+
+together : (P Q R : State → State → Type 0) (a b d : Option State)
+    → ((u w v : State) → P u w → Q w v → R u v) → IsSomeAnd a (λ u. IsSomeAnd b (λ w. P u w))
+    → IsSomeAnd b (λ w. IsSomeAnd d (λ v. Q w v)) → IsSomeAnd a (λ u. IsSomeAnd d (λ v. R u v))
+together P Q R None b d all p q = absurd p
+together P Q R (Some u) None d all p q = absurd p
+together P Q R (Some u) (Some w) None all p q = absurd q
+together P Q R (Some u) (Some w) (Some v) all p q = all u w v p q
+
+-- what one instruction does and the next does, and that does and a third
+pub through : (f : Formats) (x y z : ℕ) (s b t : State) (P Q R : State → State → Type 0)
+    → StepSo f x s y b P → StepSo f y b z t Q → ((u w v : State) → P u w → Q w v → R u v)
+    → StepSo f x s z t R
+through f x y z s b t P Q R first second all =
+    together (λ u w. (u.link ≡ s.link) × (w.link ≡ b.link) × P u w) (λ w v. (w.link ≡ b.link) × (v.link ≡ t.link) × Q w v)
+    (λ u v. (u.link ≡ s.link) × (v.link ≡ t.link) × R u v) (step f x s) (step f y b) (step f z t)
+    (λ u w v p q. (p.0, q.1, all u w v (p.2) (q.2))) first second
+
+pub alike_through : (c : Changes) (s b t : State) → AgreeBut c s b → AgreeBut c b t → AgreeBut c s t
+alike_through c s b t p q =
+    record {
+      registers = λ n is. p.registers n is ∙ q.registers n is;
+      floats = λ n is. p.floats n is ∙ q.floats n is;
+      memory = λ a is. p.memory a is ∙ q.memory a is;
+      pc = p.pc ∙ q.pc;
+    }
+
+pub alike_itself : (c : Changes) (s : State) → AgreeBut c s s
+alike_itself c s =
+    record { registers = λ n is. refl; floats = λ n is. refl; memory = λ a is. refl; pc = refl }
+
+-- a state with a number in a register
+abbrev with_number : ℕ → ℕ → State → State
+with_number r n t = record t { registers = λ k. cond (eqb k r) n (t.registers k) }
+
+number_there : (r n : ℕ) (t : State) → n ≡ (with_number r n t).registers r
+number_there r n t = sym (cond-true (eqb r r) n (t.registers r) (eq-eqb r r refl))
+
+-- which agrees with others but for that
+other_register : (c : Changes) (s t : State) (r n : ℕ) → AgreeBut c s t → (k : ℕ)
+    → (with_register r c).registers k ≡ false → s.registers k ≡ (with_number r n t).registers k
+other_register c s t r n alike k is =
+    elim (cases_Bool (eqb k r)) [
+      | inl same ↦
+          absurd (let e : true ≡ false = sym (ap (λ b. b || c.registers k) same) ∙ is in cc)
+      | inr isnt ↦
+          alike.registers k (sym (ap (λ b. b || c.registers k) isnt) ∙ is)
+          ∙ sym (cond-false (eqb k r) n (t.registers k) isnt)
+    ]
+
+number_before : (c : Changes) (s t : State) (r n : ℕ) → AgreeBut c s t
+    → AgreeBut (with_register r c) s (with_number r n t)
+number_before c s t r n alike =
+    record {
+      registers = other_register c s t r n alike;
+      floats = alike.floats;
+      memory = alike.memory;
+      pc = alike.pc;
+    }
+
+number_after : (c : Changes) (t : State) (r n : ℕ) → AgreeBut (with_register r c) (with_number r n t) t
+number_after c t r n =
+    record {
+      registers = λ k is. sym (other_register c t t r n (alike_itself c t) k is);
+      floats = λ k is. refl;
+      memory = λ a is. refl;
+      pc = refl;
+    }
+
+-- ---- what the second call is passed
+
+module _ (l m : Linked) (i : ℕ) (name between : Ppc64Relocation) (twice : IsRewrittenTwice name l m i)
+    (named : relocation_in l.relocations_after i ≡ named_as between (relocation_in l.relocations i))
+    (is_named : IsNamed (ppc64_name between)) where
+  between_there : relocation_in m.relocations i ≡ named_as between (relocation_in l.relocations i)
+  between_there = ap (λ bytes. relocation_in bytes i) twice.calls.relocations ∙ named
+
+  pub name_again : IsNameOf ppc64_name (relocation_in m.relocations i).code between
+  name_again =
+      named_there m twice.calls.second twice.calls.second_architecture i twice.chosen_again twice.below_again twice.decided_again
+      between is_named (sym (ap (λ (r : Rela). r.code) between_there))
+
+  pub object_again : object m i ≡ instruction_at l.rewritten (offset_of l i)
+  object_again =
+      ap (instruction_at m.section) (ap (λ (r : Rela). r.offset) between_there)
+      ∙ ap (λ bytes. instruction_at bytes (offset_of l i)) twice.calls.section
+
+-- ---- loads of addresses
+
+high : Laws → EachTwice names.R_PPC64_GOT16_HA names.R_PPC64_TOC16_HA NopIsAlikeTwice
+high laws l m i twice o e small applied alone left f s t c addis agree of_entry_there =
+    let between = names.R_PPC64_TOC16_HA in
+    let first = (loads_anywhere laws).1 l twice.calls.first twice.calls.first_architecture i twice.chosen twice.below twice.is_name twice.decided in
+    let again = name_again l m i names.R_PPC64_GOT16_HA between twice (first.0) tt in
+    let same = object_again l m i names.R_PPC64_GOT16_HA between twice (first.0) tt in
+    let second = (toc_halves_anywhere laws).0 m twice.calls.second twice.calls.second_architecture i twice.chosen_again twice.below_again again twice.decided_again in
+    let by = of_entry l twice.calls.first twice.calls.first_architecture i twice.chosen twice.below twice.decided names.R_PPC64_GOT16_HA tt twice.is_name
+    (entry kinds.KeepAddis between to_toc_distance) refl in
+    let kept : object m i ≡ object l i =
+    same ∙ stays l twice.calls.first i twice.chosen twice.below twice.decided (ap relaxation_rewrite by.kind_is) alone (by.meant.0) in
+    let x = rt_of (word_of (object l i)) in
+    let there : IsRelocated between o (object m i) (final l i) =
+    subst (λ xs. IsRelocated between o xs (final l i)) (sym same)
+    (applied_so 4 between toc_high_after (at_place (applied.0) (with_entry e o)) o (instruction_at l.rewritten (offset_of l i)) (final l i) refl (applied.1)) in
+    through f (word_of addis) (word_of (final l i)) (word_of (final m i)) s s t _ _ _
+    (first.1 o e small applied alone f s s c addis (alike_itself c s) of_entry_there)
+    (second.1 left o small f s t c (final l i) agree there)
+    (λ u w v p q. (
+      alike_through (with_register x c) u w v (p.0)
+          (subst (λ xs. AgreeBut (with_register (rt_of (word_of xs)) c) w v) kept (q.0)),
+      p.1,
+      (w.registers x, p.2),
+    ))
+
+low : Laws → EachTwice names.R_PPC64_GOT16_LO_DS names.R_PPC64_TOC16_LO SumIsAlikeTwice
+low laws l m i twice o e small applied own applied_again f s t c ld got_entry n agree leads holds page of_entry_there =
+    let between = names.R_PPC64_TOC16_LO in
+    let first = (loads_anywhere laws).2 l twice.calls.first twice.calls.first_architecture i twice.chosen twice.below twice.is_name twice.decided in
+    let again = name_again l m i names.R_PPC64_GOT16_LO_DS between twice (first.0) tt in
+    let same = object_again l m i names.R_PPC64_GOT16_LO_DS between twice (first.0) tt in
+    let second = (toc_halves_anywhere laws).1 m twice.calls.second twice.calls.second_architecture i twice.chosen_again twice.below_again again twice.decided_again in
+    let by = of_entry l twice.calls.first twice.calls.first_architecture i twice.chosen twice.below twice.decided names.R_PPC64_GOT16_LO_DS tt twice.is_name
+    (entry kinds.LdToAddi between to_toc_distance) refl in
+    let x = word_of (object l i) in
+    let y = word_of (object m i) in
+    let r = ra_of x in
+    let d = with_register r c in
+    let b = with_number r n t in
+    let address = from_toc o (t.registers 2) in
+    let word : y ≡ 0x38000000 + registers_of x =
+    ap word_of same
+    ∙ word_made (λ w. 0x38000000 + registers_of w) (object l i) (instruction_at l.rewritten (offset_of l i)) (omega arith)
+    (becomes l twice.calls.first i twice.chosen twice.below twice.decided kinds.LdToAddi by.kind_is (rewrites_word (λ w. 0x38000000 + registers_of w)) refl refl) in
+    let opcode : opcode_of y ≡ 14 = omega arith in
+    let target : rt_of y ≡ rt_of x = omega arith in
+    let base : ra_of y ≡ r = omega arith in
+    let over : IsTrue (not (r == 0)) =
+    (and_parts (opcode_of x == 58 && field x 0 2 == 0) (not (r == 0)) (test_there l i is_ld by.meant)).1 in
+    let adds : IsTrue (is_addi y) =
+    subst (λ k. IsTrue (k == 14 && not (ra_of y == 0))) (sym opcode)
+    (subst (λ k. IsTrue (14 == 14 && not (k == 0))) (sym base) over) in
+    let there : IsRelocated between o (object m i) (final l i) =
+    subst (λ xs. IsRelocated between o xs (final l i)) (sym same)
+    (applied_so 4 between toc_low_after (at_place (applied.0) (with_entry e o)) o (instruction_at l.rewritten (offset_of l i)) (final l i) refl (applied.1)) in
+    let from : Leads between D o (b.registers r) address =
+    subst (λ k. Leads between D o k address) (number_there r n t) page in
+    through f (word_of ld) (word_of (final l i)) (word_of (final m i)) s b t _ _ _
+    (first.1 o e small applied f s b d ld got_entry address (number_before c s t r n agree) leads holds from of_entry_there)
+    ((second.1 o own small applied_again).0 f b t d (final l i) (number_after c t r n) adds
+    (subst (λ k. Leads between D o (b.registers k) address) (sym base) from) tt there)
+    (λ u w v p q. alike_through (without_register (rt_of x) d) u w v p
+    (subst (λ k. AgreeBut (without_register k d) w v) target q))
+
+pub loads_twice : Laws → LoadsTwice
+loads_twice laws = (high laws, low laws)

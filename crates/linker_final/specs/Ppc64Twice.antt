@@ -1,0 +1,79 @@
+-- PowerPC64: an instruction that two calls of rewriting rewrite does what the object's does.
+use Rattle.std.specs.Prelude.{◌≡◌, ℕ, ◌<◌, List}
+use Rattle.linker_elf.specs.ElfNames.{IsNameOf}
+use Rattle.linker_elf.specs.Ppc64Relocations.{ppc64_name}
+use Rattle.linker_elf.specs.declared.elf.choice.Choice.{Choice}
+use Rattle.linker_elf.specs.declared.elf.value.Operands.{Operands}
+use Rattle.linker_elf.specs.declared.ppc64.forms.Ppc64Instruction.TheVariants.{D, Ds}
+use Rattle.linker_elf.specs.declared.ppc64.relocations.Ppc64Relocation.{Ppc64Relocation}
+use Rattle.linker_elf.specs.declared.ppc64.relocations.Ppc64Relocation.TheVariants as names
+use Rattle.linker_final.specs.Final.{IsRewrittenByNoOther, Linked, count}
+use Rattle.linker_final.specs.Ppc64Anywhere.{IsAppliedAt, IsLeft}
+use Rattle.linker_final.specs.Ppc64Final.{final, object, offset_of}
+use Rattle.linker_final.specs.Twice.{AreTwoCalls}
+use Rattle.linker_laws.specs.Machine.{loaded}
+use Rattle.linker_laws.specs.Ppc64Machine.{Formats, State}
+use Rattle.linker_laws.specs.Ppc64RewriteLaws.{AgreeBut, Changes, IsRelocated, Leads, StepSo}
+use Rattle.linker_laws.specs.Ppc64RewriteLaws.{entry_from_toc, from_toc, with_register}
+use Rattle.linker_laws.specs.Ppc64RewriteLaws.{without_register, word_of}
+use Rattle.linker_laws.specs.Schemes.{AreAddresses}
+use Rattle.linker_ppc64.specs.Ppc64Rewrites.{ra_of, rt_of}
+use Rattle.linker_rewriting.specs.Decisions.{decision_at}
+use Rattle.linker_rewriting.specs.declared.decisions.Decision.TheVariants.{Rewritten}
+use Rattle.linker_section.specs.Relocations.{relocation_in}
+use Rattle.linker_utils.specs.declared.architecture.Relaxation.{Relaxation}
+use Rattle.linker_utils.specs.declared.elf.Architecture.TheVariants.{Ppc64}
+
+-- Both calls rewrite the instruction of the relocation at an index, which has a name in the object.
+pub record IsRewrittenTwice (name : Ppc64Relocation) (l m : Linked) (i : ℕ) : Type 0 where
+  pub calls : AreTwoCalls Ppc64 l m
+  pub is_name : IsNameOf ppc64_name (relocation_in l.relocations i).code name
+  pub below : i < count l
+  pub chosen : Choice Relaxation ℕ
+  pub decided : decision_at l.decisions i ≡ Rewritten chosen
+  pub below_again : i < count m
+  pub chosen_again : Choice Relaxation ℕ
+  pub decided_again : decision_at m.decisions i ≡ Rewritten chosen_again
+
+-- It holds of operands of each such relocation with which the one between can be applied, wherever
+-- its GOT entry is.
+abbrev pub EachTwice : Ppc64Relocation → Ppc64Relocation
+    → (Linked → Linked → ℕ → Operands → Type 0) → Type 0
+EachTwice name between Holds =
+    (l m : Linked) (i : ℕ) → IsRewrittenTwice name l m i
+    → (o : Operands) (entry : ℕ) → AreAddresses o → IsAppliedAt between entry o l (offset_of l i)
+    → Holds l m i o
+
+-- The high half of a GOT entry became that of the symbol's address, and then `nop`. In the object's
+-- run its register leads to the entry. There is a number that leads to the address by low halves of
+-- it.
+abbrev pub NopIsAlikeTwice : Linked → Linked → ℕ → Operands → Type 0
+NopIsAlikeTwice l m i o =
+    let x = rt_of (word_of (object l i)) in
+    IsRewrittenByNoOther l i (offset_of l i) → IsLeft m (offset_of m i)
+    → (f : Formats) (s t : State) (c : Changes) (addis : List ℕ) → AgreeBut c s t
+    → IsRelocated names.R_PPC64_GOT16_HA o (object l i) addis
+    → StepSo f (word_of addis) s (word_of (final m i)) t
+    (λ u v. AgreeBut (with_register x c) u v
+    × Leads names.R_PPC64_GOT16_LO_DS Ds o (u.registers x) (entry_from_toc o (s.registers 2))
+    × ((n : ℕ) × Leads names.R_PPC64_TOC16_LO D o n (from_toc o (s.registers 2))))
+
+-- `ld rT` of the entry, which holds the address, became `addi rT` over its register, and then over
+-- register 2.
+abbrev pub SumIsAlikeTwice : Linked → Linked → ℕ → Operands → Type 0
+SumIsAlikeTwice l m i o =
+    let word = word_of (object l i) in
+    (own : ℕ) → IsAppliedAt names.R_PPC64_TOC16 own o m (offset_of m i)
+    → (f : Formats) (s t : State) (c : Changes) (ld : List ℕ) (entry n : ℕ) → AgreeBut c s t
+    → let address = from_toc o (t.registers 2) in
+    Leads names.R_PPC64_GOT16_LO_DS Ds o (s.registers (ra_of word)) entry
+    → loaded 8 s.memory entry ≡ address → Leads names.R_PPC64_TOC16_LO D o n address
+    → IsRelocated names.R_PPC64_GOT16_LO_DS o (object l i) ld
+    → StepSo f (word_of ld) s (word_of (final m i)) t
+    (AgreeBut (without_register (rt_of word) (with_register (ra_of word) c)))
+
+-- of every load of an address from the GOT whose halves are rewritten twice
+abbrev pub LoadsTwice : Type 0
+LoadsTwice =
+    EachTwice names.R_PPC64_GOT16_HA names.R_PPC64_TOC16_HA NopIsAlikeTwice
+    × EachTwice names.R_PPC64_GOT16_LO_DS names.R_PPC64_TOC16_LO SumIsAlikeTwice
