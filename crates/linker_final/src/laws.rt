@@ -5,6 +5,7 @@
 
 ghost use Rattle.linker_final.specs.AArch64Anywhere as aarch64_anywhere;
 ghost use Rattle.linker_final.specs.AArch64Final as aarch64_final;
+ghost use Rattle.linker_final.specs.AArch64Twice as aarch64_twice;
 ghost use Rattle.linker_final.specs.Final as final_bytes;
 ghost use Rattle.linker_final.specs.LoongArchFinal as loongarch64_final;
 ghost use Rattle.linker_final.specs.Ppc64Anywhere as ppc64_anywhere;
@@ -63,6 +64,7 @@ pub fn aarch64()
     ensures low_halves_anywhere { aarch64_anywhere.LowHalvesAnywhere }
     ensures branches_anywhere { aarch64_anywhere.BranchesAnywhere }
     ensures descriptors_anywhere { aarch64_anywhere.DescriptorsAnywhere }
+    ensures loads_twice { aarch64_twice.LoadsTwice }
 {
     linker_laws::rewrites::aarch64();
 }
