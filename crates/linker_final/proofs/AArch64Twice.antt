@@ -1,5 +1,5 @@
 -- A load of an address of AArch64 that two calls rewrite does what the object's does.
-use Rattle.std.proofs.Common.{◌≡◌, ℕ, ◌+◌, ◌≤◌, List, [], ◌∷◌, length, take, drop, false, refl, sym, ap, subst, ◌∙◌, arith, pos, int_lt, Option, Some, None, IsSomeAnd}
+use Rattle.std.proofs.Common.{◌≡◌, ℕ, ◌+◌, List, [], ◌∷◌, take, drop, false, refl, sym, ap, subst, ◌∙◌, arith, pos, int_lt, Option, Some, None, IsSomeAnd}
 use Rattle.std.proofs.lemmas.List.{take-take}
 use Rattle.std.specs.Int.{w32, from_le_bytes}
 use Rattle.linker_base.specs.Form.{Written}

@@ -14,7 +14,8 @@ use Rattle.linker_section.specs.Relocations.{relocation_in}
 use Rattle.linker_utils.specs.declared.architecture.Relaxation.{Relaxation}
 use Rattle.linker_utils.specs.declared.elf.Architecture.TheVariants.{AArch64}
 
--- The first call makes a sum of the load of the relocations at two indexes, and the second an `adr`.
+-- The first call makes a sum of the load of the relocations at two indexes, and the second an
+-- `adr`.
 pub record IsRewrittenTwice (l m : Linked) (i j : ℕ) : Type 0 where
   pub calls : AreTwoCalls AArch64 l m
   pub load : AreOfLoad l i j

@@ -1,5 +1,5 @@
 -- A section that two calls rewrite, one after the other.
-use Rattle.std.specs.Prelude.{◌≡◌, ℕ, List}
+use Rattle.std.specs.Prelude.{◌≡◌}
 use Rattle.linker_final.specs.Final.{AreRewritten, Linked}
 use Rattle.linker_utils.specs.declared.elf.Architecture.{Architecture}
 
