@@ -3,7 +3,7 @@ use Rattle.std.proofs.Common.{◌≡◌, ℕ, ◌<◌, List, [], ◌∷◌, true
 use Rattle.linker_aarch64.specs.AArch64Rewrites.{AArch64Entry, AArch64Applies, IsAskedFor, aarch64_entries, aarch64_matches}
 use Rattle.linker_aarch64.specs.declared.rewrites.RelaxationKind.TheVariants as kinds
 use Rattle.linker_elf.specs.AArch64Relocations.{aarch64_name}
-use Rattle.linker_elf.specs.ElfNames.{IsNamed, IsNameOf}
+use Rattle.linker_elf.specs.ElfNames.{IsNamed, IsNameOf, code_of}
 use Rattle.linker_elf.specs.declared.aarch64.relocations.AArch64Relocation.{AArch64Relocation}
 use Rattle.linker_elf.specs.declared.aarch64.relocations.AArch64Relocation.TheVariants as names
 use Rattle.linker_elf.specs.declared.elf.choice.Choice.{Choice}
@@ -75,6 +75,19 @@ IsOfEntry name e section o = IsOfEntryIn aarch64_name relaxations.AArch64 (IsMea
 
 abbrev pub IsOfOne : AArch64Relocation → List AArch64Entry → List ℕ → ℕ → Choice Relaxation ℕ → Type 0
 IsOfOne name es section o = IsOfOneIn aarch64_name relaxations.AArch64 (IsMeant name section o) es
+
+-- a relocation that is rewritten has the name of its code
+pub named_there : (l : Linked) → AreRewritten l → l.setting.architecture ≡ AArch64 → (i : ℕ)
+    (chosen : Choice Relaxation ℕ) → i < count l → decision_at l.decisions i ≡ Rewritten chosen
+    → (name : AArch64Relocation) → IsNamed (aarch64_name name)
+    → code_of (aarch64_name name) ≡ (relocation_in l.relocations i).code
+    → IsNameOf aarch64_name (relocation_in l.relocations i).code name
+named_there l rewriting aarch64 i chosen below decided name named code =
+    let r = relocation_in l.relocations i in
+    let c = chosen_at l.setting l.kept l.relocations l.section l.decisions (count l) i chosen rewriting.decided below decided
+    (λ scope is. unlabelled l.setting.phase r.code scope (subst (λ x. IsScopeIn x l.setting.phase r.code scope) aarch64 is)) in
+    let is = subst (λ x. IsArchitectureChoice x r.code l.section r.offset c.facts chosen) aarch64 c.is_choice in
+    subst (IsNameOf aarch64_name r.code) (is.is_name.named name named code) is.is_name
 
 module _ (l : Linked) (rewriting : AreRewritten l) (aarch64 : l.setting.architecture ≡ AArch64) (i : ℕ)
     (chosen : Choice Relaxation ℕ) (below : i < count l)

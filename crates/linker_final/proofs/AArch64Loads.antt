@@ -36,7 +36,7 @@ use Rattle.linker_final.proofs.Written.{are_rewritten, rela, stays, word_same}
 abbrev got_row : RelocationKindInfo
 got_row = paged_row entry_pages (signed_row 33 (insn_row GotRelative 12 33 Adr))
 
-abbrev page_after : IsAfter names.R_AARCH64_ADR_PREL_PG_HI21
+abbrev pub page_after : IsAfter names.R_AARCH64_ADR_PREL_PG_HI21
 page_after =
     record {
       row = paged_row place_pages (signed_row 33 (insn_row Relative 12 33 Adr));
@@ -54,7 +54,7 @@ page_after =
       };
     }
 
-abbrev low_after : IsAfter names.R_AARCH64_ADD_ABS_LO12_NC
+abbrev pub low_after : IsAfter names.R_AARCH64_ADD_ABS_LO12_NC
 low_after =
     record {
       row = insn_row AbsoluteLowPart 0 12 Add;

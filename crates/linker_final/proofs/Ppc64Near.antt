@@ -33,7 +33,7 @@ abbrev kind_in : RelaxationKind → Relaxation → RelaxationKind
 kind_in other (relaxations.Ppc64 kind) = kind
 kind_in other relaxation = other
 
-same_kind : (r : Relaxation) (a b : RelaxationKind) → r ≡ relaxations.Ppc64 a → r ≡ relaxations.Ppc64 b → a ≡ b
+pub same_kind : (r : Relaxation) (a b : RelaxationKind) → r ≡ relaxations.Ppc64 a → r ≡ relaxations.Ppc64 b → a ≡ b
 same_kind r a b first second = ap (kind_in a) (sym first ∙ second)
 
 to_local : (section : List ℕ) (o : ℕ) (chosen : Choice Relaxation ℕ)

@@ -5,27 +5,32 @@ use Rattle.std.specs.Prelude.{IsTrue, not, ◌&&◌, ◌||◌, ◌==◌}
 use Rattle.linker_base.specs.Bits.{field}
 use Rattle.linker_elf.specs.ElfNames.{IsNamed, IsNameOf}
 use Rattle.linker_elf.specs.Ppc64Relocations.{ppc64_name}
+use Rattle.linker_elf.specs.declared.elf.value.Operands.{Operands}
 use Rattle.linker_elf.specs.declared.ppc64.forms.Ppc64Instruction.TheVariants.{D}
 use Rattle.linker_elf.specs.declared.ppc64.relocations.Ppc64Relocation.{Ppc64Relocation}
 use Rattle.linker_elf.specs.declared.ppc64.relocations.Ppc64Relocation.TheVariants as names
 use Rattle.linker_elf.specs.Choices.{entry}
-use Rattle.linker_final.proofs.Ppc64Chosen.{named_there, of_entry}
-use Rattle.linker_final.proofs.Ppc64Halves.{toc_halves_anywhere}
+use Rattle.linker_final.proofs.Ppc64Chosen.{named_there, of_entry, of_one}
+use Rattle.linker_final.proofs.Ppc64Halves.{thread_halves_anywhere, toc_halves_anywhere}
 use Rattle.linker_final.proofs.Ppc64Loads.{loads_anywhere}
-use Rattle.linker_final.proofs.Ppc64Written.{applied_so, becomes, test_there, toc_high_after, toc_low_after}
+use Rattle.linker_final.proofs.Ppc64Near.{same_kind}
+use Rattle.linker_final.proofs.Ppc64Offsets.{initial_exec_anywhere}
+use Rattle.linker_final.proofs.Ppc64Written.{applied_so, becomes, test_there, thread_high_after, thread_low_after, toc_high_after, toc_low_after}
 use Rattle.linker_final.proofs.Written.{stays}
 use Rattle.linker_final.specs.Final.{Linked, instruction_at}
-use Rattle.linker_final.specs.Ppc64Anywhere.{named_as}
-use Rattle.linker_final.specs.Ppc64Final.{final, object, offset_of}
-use Rattle.linker_final.specs.Ppc64Twice.{EachTwice, IsRewrittenTwice, LoadsTwice, NopIsAlikeTwice, SumIsAlikeTwice}
+use Rattle.linker_final.specs.Ppc64Anywhere.{Becomes, IsAppliedAt, named_as}
+use Rattle.linker_final.specs.Ppc64Final.{OverOffsetIsAlike, final, object, offset_of}
+use Rattle.linker_final.specs.Ppc64Twice.{AddIsAlikeTwice, EachTwice, InitialExecTwice, IsRewrittenTwice, LoadsTwice, NopIsAlikeTwice, OffsetIsAlikeTwice, SumIsAlikeTwice}
 use Rattle.linker_laws.proofs.AArch64Pairs.{word_made}
 use Rattle.linker_laws.specs.Ppc64Machine.{Formats, State, step}
-use Rattle.linker_laws.specs.Ppc64RewriteLaws.{AgreeBut, Changes, IsRelocated, Laws, Leads, StepSo, at_place, from_toc, with_entry, with_register, without_register, word_of}
-use Rattle.linker_ppc64.specs.Ppc64Rewrites.{is_addi, is_ld, opcode_of, ra_of, registers_of, rewrites_word, rt_of, to_toc_distance}
+use Rattle.linker_laws.specs.Ppc64RewriteLaws.{AgreeBut, Changes, IsRelocated, Laws, Leads, LowHalfLeads, StepSo, adds, at_place, from_thread, from_toc, with_entry, with_register, without_register, word_of}
+use Rattle.linker_ppc64.specs.Ppc64Rewrites.{addis_of_thread, is_add_of_thread, is_addi, is_ld, is_over_thread, opcode_of, ra_of, registers_of, rewrites_word, rt_of, to_local_exec, to_toc_distance}
+use Rattle.linker_laws.specs.Schemes.{AreAddresses}
 use Rattle.linker_ppc64.specs.declared.rewrites.RelaxationKind.TheVariants as kinds
 use Rattle.linker_section.specs.Relocations.{relocation_in}
 use Rattle.linker_section.specs.declared.relocations.Rela.{Rela}
 use Rattle.linker_utils.specs.Architectures.{relaxation_rewrite}
+use Rattle.linker_utils.specs.declared.architecture.Relaxation.TheVariants as relaxations
 
 -- ---- three runs
 
@@ -115,6 +120,14 @@ module _ (l m : Linked) (i : ℕ) (name between : Ppc64Relocation) (twice : IsRe
       ap (instruction_at m.section) (ap (λ (r : Rela). r.offset) between_there)
       ∙ ap (λ bytes. instruction_at bytes (offset_of l i)) twice.calls.section
 
+-- `addi rT,rA` of the registers of an instruction over a register
+is_sum : (x y : ℕ) → y ≡ 0x38000000 + registers_of x → IsTrue (not (ra_of x == 0)) → IsTrue (is_addi y)
+is_sum x y word over =
+    let opcode : opcode_of y ≡ 14 = omega (arith, word) in
+    let base : ra_of y ≡ ra_of x = omega (arith, word) in
+    subst (λ k. IsTrue (k == 14 && not (ra_of y == 0))) (sym opcode)
+    (subst (λ k. IsTrue (14 == 14 && not (k == 0))) (sym base) over)
+
 -- ---- loads of addresses
 
 high : Laws → EachTwice names.R_PPC64_GOT16_HA names.R_PPC64_TOC16_HA NopIsAlikeTwice
@@ -161,14 +174,11 @@ low laws l m i twice o e small applied own applied_again f s t c ld got_entry n 
     ap word_of same
     ∙ word_made (λ w. 0x38000000 + registers_of w) (object l i) (instruction_at l.rewritten (offset_of l i)) (omega arith)
     (becomes l twice.calls.first i twice.chosen twice.below twice.decided kinds.LdToAddi by.kind_is (rewrites_word (λ w. 0x38000000 + registers_of w)) refl refl) in
-    let opcode : opcode_of y ≡ 14 = omega arith in
     let target : rt_of y ≡ rt_of x = omega arith in
     let base : ra_of y ≡ r = omega arith in
     let over : IsTrue (not (r == 0)) =
     (and_parts (opcode_of x == 58 && field x 0 2 == 0) (not (r == 0)) (test_there l i is_ld by.meant)).1 in
-    let adds : IsTrue (is_addi y) =
-    subst (λ k. IsTrue (k == 14 && not (ra_of y == 0))) (sym opcode)
-    (subst (λ k. IsTrue (14 == 14 && not (k == 0))) (sym base) over) in
+    let adds = is_sum x y word over in
     let there : IsRelocated between o (object m i) (final l i) =
     subst (λ xs. IsRelocated between o xs (final l i)) (sym same)
     (applied_so 4 between toc_low_after (at_place (applied.0) (with_entry e o)) o (instruction_at l.rewritten (offset_of l i)) (final l i) refl (applied.1)) in
@@ -183,3 +193,102 @@ low laws l m i twice o e small applied own applied_again f s t c ld got_entry n 
 
 pub loads_twice : Laws → LoadsTwice
 loads_twice laws = (high laws, low laws)
+
+-- ---- initial-exec
+
+offset : Laws → EachTwice names.R_PPC64_GOT_TPREL16_LO_DS names.R_PPC64_TPREL16_HA OffsetIsAlikeTwice
+offset laws l m i twice o e small applied left f s t c ld got_entry agree leads holds of_entry_there =
+    let between = names.R_PPC64_TPREL16_HA in
+    let first = (initial_exec_anywhere laws).1 l twice.calls.first twice.calls.first_architecture i twice.chosen twice.below twice.is_name twice.decided in
+    let again = name_again l m i names.R_PPC64_GOT_TPREL16_LO_DS between twice (first.0) tt in
+    let same = object_again l m i names.R_PPC64_GOT_TPREL16_LO_DS between twice (first.0) tt in
+    let second = (thread_halves_anywhere laws).0 m twice.calls.second twice.calls.second_architecture i twice.chosen_again twice.below_again again twice.decided_again in
+    let by = of_entry l twice.calls.first twice.calls.first_architecture i twice.chosen twice.below twice.decided names.R_PPC64_GOT_TPREL16_LO_DS tt twice.is_name
+    (entry kinds.LdToAddisThread between to_local_exec) refl in
+    let x = word_of (object l i) in
+    let y = word_of (object m i) in
+    let word : y ≡ addis_of_thread (rt_of x) =
+    ap word_of same
+    ∙ word_made (λ w. addis_of_thread (rt_of w)) (object l i) (instruction_at l.rewritten (offset_of l i)) (omega arith)
+    (becomes l twice.calls.first i twice.chosen twice.below twice.decided kinds.LdToAddisThread by.kind_is (rewrites_word (λ w. addis_of_thread (rt_of w))) refl refl) in
+    let target : rt_of y ≡ rt_of x = omega (arith, word) in
+    let there : IsRelocated between o (object m i) (final l i) =
+    subst (λ xs. IsRelocated between o xs (final l i)) (sym same)
+    (applied_so 4 between thread_high_after (at_place (applied.0) (with_entry e o)) o (instruction_at l.rewritten (offset_of l i)) (final l i) refl (applied.1)) in
+    through f (word_of ld) (word_of (final l i)) (word_of (final m i)) s s t _ _ _
+    (first.1 o e small applied f s s c ld got_entry (alike_itself c s) leads holds of_entry_there)
+    (second.1 left o small f s t c (final l i) agree there)
+    (λ u w v p q. (
+      alike_through (with_register (rt_of x) c) u w v (p.0)
+          (subst (λ k. AgreeBut (with_register k c) w v) target (q.0)),
+      (p.1).offset_is,
+      (w.registers (rt_of x), (p.1).leads),
+    ))
+
+-- what an `add` of the offset became
+added : Laws → (l m : Linked) (i : ℕ) → (twice : IsRewrittenTwice names.R_PPC64_TLS l m i)
+    → twice.chosen.kind ≡ relaxations.Ppc64 kinds.AddToAddi
+    → Becomes names.R_PPC64_TPREL16_LO l i (λ entry. OverOffsetIsAlike (adds is_add_of_thread) l i)
+added laws l m i twice kind =
+    let chosen = twice.chosen in
+    elim ((initial_exec_anywhere laws).3 l twice.calls.first twice.calls.first_architecture i chosen twice.below twice.is_name twice.decided) [
+      | inl its ↦ its.1
+      | inr (inl its) ↦
+          absurd (let e : kinds.AddToAddi ≡ kinds.IndexedToD = same_kind chosen.kind kinds.AddToAddi kinds.IndexedToD kind (its.0) in cc)
+      | inr (inr its) ↦
+          absurd (let e : kinds.AddToAddi ≡ kinds.IndexedToDs = same_kind chosen.kind kinds.AddToAddi kinds.IndexedToDs kind (its.0) in cc)
+    ]
+
+-- that it is one
+is_added : (l m : Linked) (i : ℕ) → (twice : IsRewrittenTwice names.R_PPC64_TLS l m i)
+    → twice.chosen.kind ≡ relaxations.Ppc64 kinds.AddToAddi → IsTrue (is_add_of_thread (word_of (object l i)))
+is_added l m i twice kind =
+    let chosen = twice.chosen in
+    elim (of_one l twice.calls.first twice.calls.first_architecture i chosen twice.below twice.decided names.R_PPC64_TLS tt twice.is_name) [
+      | inl by ↦ test_there l i is_add_of_thread (by.meant.1)
+      | inr (inl by) ↦
+          absurd (let e : kinds.AddToAddi ≡ kinds.IndexedToD = same_kind chosen.kind kinds.AddToAddi kinds.IndexedToD kind by.kind_is in cc)
+      | inr (inr (inl by)) ↦
+          absurd (let e : kinds.AddToAddi ≡ kinds.IndexedToDs = same_kind chosen.kind kinds.AddToAddi kinds.IndexedToDs kind by.kind_is in cc)
+      | inr (inr (inr nothing)) ↦ absurd nothing
+    ]
+
+add : Laws → (l m : Linked) (i : ℕ) → (twice : IsRewrittenTwice names.R_PPC64_TLS l m i)
+    → twice.chosen.kind ≡ relaxations.Ppc64 kinds.AddToAddi
+    → (o : Operands) (e : ℕ) → AreAddresses o
+    → IsAppliedAt names.R_PPC64_TPREL16_LO e o l (offset_of l i) → AddIsAlikeTwice l m i o
+add laws l m i twice kind o e small applied own applied_again f s t c n agree offset_is thread page =
+    let between = names.R_PPC64_TPREL16_LO in
+    let first = added laws l m i twice kind in
+    let again = name_again l m i names.R_PPC64_TLS between twice (first.0) tt in
+    let same = object_again l m i names.R_PPC64_TLS between twice (first.0) tt in
+    let second = (thread_halves_anywhere laws).1 m twice.calls.second twice.calls.second_architecture i twice.chosen_again twice.below_again again twice.decided_again in
+    let x = word_of (object l i) in
+    let y = word_of (object m i) in
+    let r = ra_of x in
+    let d = with_register r c in
+    let b = with_number r n t in
+    let word : y ≡ 0x38000000 + registers_of x =
+    ap word_of same
+    ∙ word_made (λ w. 0x38000000 + registers_of w) (object l i) (instruction_at l.rewritten (offset_of l i)) (omega arith)
+    (becomes l twice.calls.first i twice.chosen twice.below twice.decided kinds.AddToAddi kind (rewrites_word (λ w. 0x38000000 + registers_of w)) refl refl) in
+    let target : rt_of y ≡ rt_of x = omega (arith, word) in
+    let base : ra_of y ≡ r = omega (arith, word) in
+    let over : IsTrue (not (r == 0)) =
+    (and_parts (opcode_of x == 31 && field x 11 16 == 13) (not (r == 0))
+    (and_parts (is_over_thread x) (field x 0 11 == 0x214) (is_added l m i twice kind)).0).1 in
+    let there : IsRelocated between o (object m i) (final l i) =
+    subst (λ xs. IsRelocated between o xs (final l i)) (sym same)
+    (applied_so 4 between thread_low_after (at_place (applied.0) (with_entry e o)) o (instruction_at l.rewritten (offset_of l i)) (final l i) refl (applied.1)) in
+    let from : LowHalfLeads o (b.registers r) (from_thread o (s.registers 13)) =
+    subst (λ k. LowHalfLeads o k (from_thread o (s.registers 13))) (number_there r n t) page in
+    through f x (word_of (final l i)) (word_of (final m i)) s b t _ _ _
+    (first.1 o e small applied f s b d (number_before c s t r n agree) (record { offset_is = offset_is; leads = from }) tt)
+    ((second.1 o own small applied_again).0 f b t d (final l i) (number_after c t r n) (is_sum x y word over)
+    (subst (λ k. Leads between D o (b.registers k) (from_thread o (t.registers 13))) (sym base)
+    (subst (λ k. Leads between D o (b.registers r) (from_thread o k)) thread (from.0))) tt there)
+    (λ u w v p q. alike_through (without_register (rt_of x) d) u w v p
+    (subst (λ k. AgreeBut (without_register k d) w v) target q))
+
+pub initial_exec_twice : Laws → InitialExecTwice
+initial_exec_twice laws = (offset laws, add laws)

@@ -38,7 +38,7 @@ use Rattle.linker_utils.specs.declared.elf.Architecture.{Architecture}
 -- ---- words
 
 -- that of the first four bytes
-word_front : (xs : List ℕ) → from_le_bytes w32 (take 4 xs) ≡ from_le_bytes w32 xs
+pub word_front : (xs : List ℕ) → from_le_bytes w32 (take 4 xs) ≡ from_le_bytes w32 xs
 word_front [] = refl
 word_front (a ∷ []) = refl
 word_front (a ∷ b ∷ []) = refl

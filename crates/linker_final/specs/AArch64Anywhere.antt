@@ -73,8 +73,8 @@ AddressesAnywhere =
     → IsAppliedAt names.R_AARCH64_ADR_PREL_LO21 (behind 4 operands) l (o + 4)
     → AddressIsAlike l i operands)
 
--- Each relocation of a name whose instruction is rewritten gets another. It holds of operands of the
--- object's relocation where that is applied with the same, wherever a GOT entry is.
+-- Each relocation of a name whose instruction is rewritten gets another. It holds of operands of
+-- the object's relocation where that is applied with the same, wherever a GOT entry is.
 abbrev pub EachBecomes : AArch64Relocation → AArch64Relocation
     → (Linked → ℕ → Operands → Type 0) → Type 0
 EachBecomes name new Holds =

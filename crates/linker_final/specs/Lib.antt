@@ -1,5 +1,6 @@
 pub mod AArch64Anywhere
 pub mod AArch64Final
+pub mod AArch64Twice
 pub mod Final
 pub mod Joined
 pub mod LoongArchFinal

@@ -14,14 +14,17 @@ use Rattle.linker_final.specs.Twice.{AreTwoCalls}
 use Rattle.linker_laws.specs.Machine.{loaded}
 use Rattle.linker_laws.specs.Ppc64Machine.{Formats, State}
 use Rattle.linker_laws.specs.Ppc64RewriteLaws.{AgreeBut, Changes, IsRelocated, Leads, StepSo}
-use Rattle.linker_laws.specs.Ppc64RewriteLaws.{entry_from_toc, from_toc, with_register}
-use Rattle.linker_laws.specs.Ppc64RewriteLaws.{without_register, word_of}
+use Rattle.linker_laws.specs.Ppc64RewriteLaws.{LowHalfLeads, entry_from_toc, from_thread, from_toc}
+use Rattle.linker_laws.specs.Ppc64RewriteLaws.{thread_offset, with_register, without_register}
+use Rattle.linker_laws.specs.Ppc64RewriteLaws.{word_of}
 use Rattle.linker_laws.specs.Schemes.{AreAddresses}
 use Rattle.linker_ppc64.specs.Ppc64Rewrites.{ra_of, rt_of}
+use Rattle.linker_ppc64.specs.declared.rewrites.RelaxationKind.TheVariants as kinds
 use Rattle.linker_rewriting.specs.Decisions.{decision_at}
 use Rattle.linker_rewriting.specs.declared.decisions.Decision.TheVariants.{Rewritten}
 use Rattle.linker_section.specs.Relocations.{relocation_in}
 use Rattle.linker_utils.specs.declared.architecture.Relaxation.{Relaxation}
+use Rattle.linker_utils.specs.declared.architecture.Relaxation.TheVariants as relaxations
 use Rattle.linker_utils.specs.declared.elf.Architecture.TheVariants.{Ppc64}
 
 -- Both calls rewrite the instruction of the relocation at an index, which has a name in the object.
@@ -43,6 +46,8 @@ EachTwice name between Holds =
     (l m : Linked) (i : ℕ) → IsRewrittenTwice name l m i
     → (o : Operands) (entry : ℕ) → AreAddresses o → IsAppliedAt between entry o l (offset_of l i)
     → Holds l m i o
+
+-- ---- loads of addresses
 
 -- The high half of a GOT entry became that of the symbol's address, and then `nop`. In the object's
 -- run its register leads to the entry. There is a number that leads to the address by low halves of
@@ -77,3 +82,40 @@ abbrev pub LoadsTwice : Type 0
 LoadsTwice =
     EachTwice names.R_PPC64_GOT16_HA names.R_PPC64_TOC16_HA NopIsAlikeTwice
     × EachTwice names.R_PPC64_GOT16_LO_DS names.R_PPC64_TOC16_LO SumIsAlikeTwice
+
+-- ---- initial-exec
+
+-- `ld rT` of the GOT entry of the offset became `addis rT,13`, and then `nop`. In the object's run
+-- rT then has the offset. There is a number that leads to the variable by low halves of it.
+abbrev pub OffsetIsAlikeTwice : Linked → Linked → ℕ → Operands → Type 0
+OffsetIsAlikeTwice l m i o =
+    let word = word_of (object l i) in
+    IsLeft m (offset_of m i)
+    → (f : Formats) (s t : State) (c : Changes) (ld : List ℕ) (entry : ℕ) → AgreeBut c s t
+    → Leads names.R_PPC64_GOT_TPREL16_LO_DS Ds o (s.registers (ra_of word)) entry
+    → loaded 8 s.memory entry ≡ thread_offset o
+    → IsRelocated names.R_PPC64_GOT_TPREL16_LO_DS o (object l i) ld
+    → StepSo f (word_of ld) s (word_of (final m i)) t
+    (λ u v. AgreeBut (with_register (rt_of word) c) u v
+    × (u.registers (rt_of word) ≡ thread_offset o)
+    × ((n : ℕ) × LowHalfLeads o n (from_thread o (s.registers 13))))
+
+-- `add rZ,rT,13` became `addi rZ,rT`, and then `addi rZ,13`.
+abbrev pub AddIsAlikeTwice : Linked → Linked → ℕ → Operands → Type 0
+AddIsAlikeTwice l m i o =
+    let word = word_of (object l i) in
+    (own : ℕ) → IsAppliedAt names.R_PPC64_TPREL16 own o m (offset_of m i)
+    → (f : Formats) (s t : State) (c : Changes) (n : ℕ) → AgreeBut c s t
+    → s.registers (ra_of word) ≡ thread_offset o → s.registers 13 ≡ t.registers 13
+    → LowHalfLeads o n (from_thread o (s.registers 13))
+    → StepSo f word s (word_of (final m i)) t
+    (AgreeBut (without_register (rt_of word) (with_register (ra_of word) c)))
+
+-- of every load of an offset that is rewritten twice, and of every `add` of one
+abbrev pub InitialExecTwice : Type 0
+InitialExecTwice =
+    EachTwice names.R_PPC64_GOT_TPREL16_LO_DS names.R_PPC64_TPREL16_HA OffsetIsAlikeTwice
+    × ((l m : Linked) (i : ℕ) → (twice : IsRewrittenTwice names.R_PPC64_TLS l m i)
+    → twice.chosen.kind ≡ relaxations.Ppc64 kinds.AddToAddi
+    → (o : Operands) (entry : ℕ) → AreAddresses o
+    → IsAppliedAt names.R_PPC64_TPREL16_LO entry o l (offset_of l i) → AddIsAlikeTwice l m i o)

@@ -5,6 +5,7 @@
 
 ghost use Rattle.linker_final.specs.AArch64Anywhere as aarch64_anywhere;
 ghost use Rattle.linker_final.specs.AArch64Final as aarch64_final;
+ghost use Rattle.linker_final.specs.AArch64Twice as aarch64_twice;
 ghost use Rattle.linker_final.specs.Final as final_bytes;
 ghost use Rattle.linker_final.specs.LoongArchFinal as loongarch64_final;
 ghost use Rattle.linker_final.specs.Ppc64Anywhere as ppc64_anywhere;
@@ -55,7 +56,8 @@ pub fn x86_64()
 /// TLS descriptor that became one of local-exec or of initial-exec, and each branch to an undefined
 /// weak symbol that became `nop`. The clauses named `anywhere` are of a call of rewriting alone: what
 /// each relocation became, and that the rewritten instructions do what the object's do once it is
-/// applied to them, whatever applies it. So another phase may come between.
+/// applied to them, whatever applies it. So another phase may come between: a load that became a sum,
+/// and then an `adr`, does what the object's does.
 pub fn aarch64()
     ensures addresses { aarch64_final.Addresses }
     ensures got_loads { aarch64_final.GotLoads }
@@ -69,6 +71,7 @@ pub fn aarch64()
     ensures low_halves_anywhere { aarch64_anywhere.LowHalvesAnywhere }
     ensures branches_anywhere { aarch64_anywhere.BranchesAnywhere }
     ensures descriptors_anywhere { aarch64_anywhere.DescriptorsAnywhere }
+    ensures loads_twice { aarch64_twice.LoadsTwice }
 {
     linker_laws::rewrites::aarch64();
 }
@@ -117,7 +120,8 @@ pub fn loongarch64()
 /// `nop` behind a call that restores the TOC pointer, each high and low half of an address near the
 /// TOC pointer and near the thread pointer, each instruction of initial-exec, of general-dynamic
 /// and of local-dynamic TLS, and each load of an address from the GOT that became a sum. The clauses
-/// named `anywhere` are of a call of rewriting alone, as those of AArch64 are.
+/// named `anywhere` are of a call of rewriting alone, as those of AArch64 are. Those named `twice` are
+/// of instructions that two calls rewrite.
 pub fn ppc64()
     ensures calls { ppc64_final.Calls }
     ensures toc_halves { ppc64_final.TocHalves }
@@ -136,6 +140,7 @@ pub fn ppc64()
     ensures near_arguments_anywhere { ppc64_anywhere.NearArgumentsAnywhere }
     ensures loads_anywhere { ppc64_anywhere.LoadsAnywhere }
     ensures loads_twice { ppc64_twice.LoadsTwice }
+    ensures initial_exec_twice { ppc64_twice.InitialExecTwice }
 {
     linker_laws::rewrites::ppc64();
 }

@@ -2,6 +2,7 @@ use Rattle.linker_final.proofs.AArch64Addresses.{addresses, addresses_anywhere}
 use Rattle.linker_final.proofs.AArch64Alone.{branches, branches_anywhere, high_halves, high_halves_anywhere, low_halves, low_halves_anywhere}
 use Rattle.linker_final.proofs.AArch64Descriptors.{descriptors, descriptors_anywhere}
 use Rattle.linker_final.proofs.AArch64Loads.{got_loads_anywhere, joined}
+use Rattle.linker_final.proofs.AArch64Twice.{loads_twice}
 use Rattle.linker_final.proofs.laws.aarch64.Goals as goal
 
 pub returns : goal.returns
@@ -20,4 +21,5 @@ returns c =
       low_halves_anywhere = low_halves_anywhere laws;
       branches_anywhere = branches_anywhere laws;
       descriptors_anywhere = descriptors_anywhere laws;
+      loads_twice = loads_twice laws;
     }
