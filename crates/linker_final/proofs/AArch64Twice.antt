@@ -15,6 +15,8 @@ use Rattle.linker_final.proofs.AArch64Addresses.{addresses_anywhere}
 use Rattle.linker_final.proofs.AArch64Chosen.{named_there}
 use Rattle.linker_final.proofs.AArch64Loads.{got_loads_anywhere, low_after, page_after}
 use Rattle.linker_final.proofs.AArch64Written.{applied_so}
+use Rattle.linker_final.proofs.Twice.{bytes_between, relocation_between}
+use Rattle.linker_final.proofs.Written.{second_same}
 use Rattle.linker_final.specs.AArch64Anywhere.{IsAppliedAt, IsLeft}
 use Rattle.linker_final.specs.AArch64Final.{AreOfAddress}
 use Rattle.linker_final.specs.AArch64Twice.{LoadsTwice}
@@ -23,6 +25,7 @@ use Rattle.linker_laws.specs.AArch64Machine.{AreAlikeBut, State, RunAlike, run}
 use Rattle.linker_laws.specs.AArch64RewriteLaws.{IsRelocated, Laws, behind, pair, with_entry, word_of}
 use Rattle.linker_section.specs.Relocations.{relocation_in}
 use Rattle.linker_section.specs.declared.relocations.Rela.{Rela}
+use Rattle.linker_utils.specs.declared.elf.Architecture.TheVariants.{AArch64}
 
 -- ---- three runs
 
@@ -93,9 +96,9 @@ loads_twice laws l m i j twice w applied left adr s adrp ldr small holds at of_p
     let o = (relocation_in l.relocations i).offset in
     let first = got_loads_anywhere laws l twice.calls.first twice.calls.first_architecture i j twice.load twice.alone in
     let page : relocation_in m.relocations i ≡ record (relocation_in l.relocations i) { code = code_of (aarch64_name page_name) } =
-    ap (λ bytes. relocation_in bytes i) twice.calls.relocations ∙ first.0 in
+    relocation_between AArch64 l m twice.calls i twice.load.together.first_below o 8 twice.page_left ∙ first.0 in
     let low : relocation_in m.relocations j ≡ record (relocation_in l.relocations j) { code = code_of (aarch64_name low_name) } =
-    ap (λ bytes. relocation_in bytes j) twice.calls.relocations ∙ first.1 in
+    relocation_between AArch64 l m twice.calls j twice.load.together.second_below o 8 twice.low_left ∙ first.1 in
     let there : (relocation_in m.relocations i).offset ≡ o = ap (λ (r : Rela). r.offset) page in
     let of : AreOfAddress m i j =
     record {
@@ -114,15 +117,17 @@ loads_twice laws l m i j twice w applied left adr s adrp ldr small holds at of_p
     } in
     let second = addresses_anywhere laws m twice.calls.second twice.calls.second_architecture i j of in
     let both = two_at l.rewritten o in
+    let same : two_at m.section o ≡ two_at l.rewritten o =
+    bytes_between AArch64 l m twice.calls i twice.load.together.first_below o 8 twice.page_left in
     let between = instruction_at l.final o in
     let of_first : IsRelocated page_name w (take 4 both) between =
     subst (λ xs. IsRelocated page_name w xs between) (sym (take-take 4 8 (drop o l.rewritten) (omega arith)))
     (applied_so page_name page_after (with_entry applied.entry w) w (instruction_at l.rewritten o) between refl applied.first_is) in
     let adrp_there : IsRelocated page_name w (two_at m.section o) (with_word (word_of between) (drop 4 both)) =
-    subst (λ xs. IsRelocated page_name w (two_at xs o) (with_word (word_of between) (drop 4 both))) (sym twice.calls.section)
+    subst (λ xs. IsRelocated page_name w xs (with_word (word_of between) (drop 4 both))) (sym same)
     (wider w both between of_first) in
     let add_there : IsRelocated low_name (behind 4 w) (instruction_at m.section (o + 4)) (instruction_at l.final (o + 4)) =
-    subst (λ xs. IsRelocated low_name (behind 4 w) (instruction_at xs (o + 4)) (instruction_at l.final (o + 4))) (sym twice.calls.section)
+    subst (λ xs. IsRelocated low_name (behind 4 w) xs (instruction_at l.final (o + 4))) (sym (sym (second_same m.section o) ∙ (ap (drop 4) same ∙ second_same l.rewritten o)))
     (applied_so low_name low_after (behind 4 (with_entry applied.entry w)) (behind 4 w) (instruction_at l.rewritten (o + 4)) (instruction_at l.final (o + 4)) refl applied.second_is) in
     let ends : RunAlike (pair (with_word (word_of between) (drop 4 both)) (instruction_at l.final (o + 4)))
     (pair (instruction_at m.final o) (instruction_at m.final (o + 4))) s =

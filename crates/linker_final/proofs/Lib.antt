@@ -51,6 +51,7 @@ pub mod RiscVPackedDeletions
 pub mod RiscVTested
 pub mod RiscVWritten
 pub mod SameDecisions
+pub mod Twice
 pub mod Written
 pub mod X86Chosen
 pub mod X86Descriptors

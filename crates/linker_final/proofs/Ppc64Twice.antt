@@ -16,6 +16,7 @@ use Rattle.linker_final.proofs.Ppc64Loads.{loads_anywhere}
 use Rattle.linker_final.proofs.Ppc64Near.{same_kind}
 use Rattle.linker_final.proofs.Ppc64Offsets.{initial_exec_anywhere}
 use Rattle.linker_final.proofs.Ppc64Written.{applied_so, becomes, test_there, thread_high_after, thread_low_after, toc_high_after, toc_low_after}
+use Rattle.linker_final.proofs.Twice.{bytes_between, relocation_between}
 use Rattle.linker_final.proofs.Written.{stays}
 use Rattle.linker_final.specs.Final.{Linked, instruction_at}
 use Rattle.linker_final.specs.Ppc64Anywhere.{Becomes, IsAppliedAt, named_as}
@@ -31,6 +32,7 @@ use Rattle.linker_section.specs.Relocations.{relocation_in}
 use Rattle.linker_section.specs.declared.relocations.Rela.{Rela}
 use Rattle.linker_utils.specs.Architectures.{relaxation_rewrite}
 use Rattle.linker_utils.specs.declared.architecture.Relaxation.TheVariants as relaxations
+use Rattle.linker_utils.specs.declared.elf.Architecture.TheVariants.{Ppc64}
 
 -- ---- three runs
 
@@ -108,7 +110,7 @@ module _ (l m : Linked) (i : ℕ) (name between : Ppc64Relocation) (twice : IsRe
     (named : relocation_in l.relocations_after i ≡ named_as between (relocation_in l.relocations i))
     (is_named : IsNamed (ppc64_name between)) where
   between_there : relocation_in m.relocations i ≡ named_as between (relocation_in l.relocations i)
-  between_there = ap (λ bytes. relocation_in bytes i) twice.calls.relocations ∙ named
+  between_there = relocation_between Ppc64 l m twice.calls i twice.below (offset_of l i) 4 twice.left ∙ named
 
   pub name_again : IsNameOf ppc64_name (relocation_in m.relocations i).code between
   name_again =
@@ -118,7 +120,7 @@ module _ (l m : Linked) (i : ℕ) (name between : Ppc64Relocation) (twice : IsRe
   pub object_again : object m i ≡ instruction_at l.rewritten (offset_of l i)
   object_again =
       ap (instruction_at m.section) (ap (λ (r : Rela). r.offset) between_there)
-      ∙ ap (λ bytes. instruction_at bytes (offset_of l i)) twice.calls.section
+      ∙ bytes_between Ppc64 l m twice.calls i twice.below (offset_of l i) 4 twice.left
 
 -- `addi rT,rA` of the registers of an instruction over a register
 is_sum : (x y : ℕ) → y ≡ 0x38000000 + registers_of x → IsTrue (not (ra_of x == 0)) → IsTrue (is_addi y)

@@ -5,7 +5,7 @@ use Rattle.linker_elf.specs.declared.elf.choice.Choice.{Choice}
 use Rattle.linker_elf.specs.declared.elf.value.Operands.{Operands}
 use Rattle.linker_final.specs.AArch64Anywhere.{AreAppliedAt, IsAppliedAt, IsLeft}
 use Rattle.linker_final.specs.AArch64Final.{AreOfLoad, LoadIsAlike}
-use Rattle.linker_final.specs.Final.{IsRewrittenByNoOther, Linked, count}
+use Rattle.linker_final.specs.Final.{IsLeftAlone, IsRewrittenByNoOther, Linked, count}
 use Rattle.linker_final.specs.Twice.{AreTwoCalls}
 use Rattle.linker_laws.specs.AArch64RewriteLaws.{behind}
 use Rattle.linker_rewriting.specs.Decisions.{decision_at}
@@ -15,11 +15,13 @@ use Rattle.linker_utils.specs.declared.architecture.Relaxation.{Relaxation}
 use Rattle.linker_utils.specs.declared.elf.Architecture.TheVariants.{AArch64}
 
 -- The first call makes a sum of the load of the relocations at two indexes, and the second an
--- `adr`.
+-- `adr`. Phases between leave both alone.
 pub record IsRewrittenTwice (l m : Linked) (i j : ℕ) : Type 0 where
   pub calls : AreTwoCalls AArch64 l m
   pub load : AreOfLoad l i j
   pub alone : IsRewrittenByNoOther l i (relocation_in l.relocations i).offset
+  pub page_left : IsLeftAlone l i (relocation_in l.relocations i).offset 8
+  pub low_left : IsLeftAlone l j (relocation_in l.relocations i).offset 8
   pub first_below : i < count m
   pub second_below : j < count m
   pub page_decided : decision_at m.decisions i ≡ TakenAlong

@@ -7,7 +7,7 @@ use Rattle.linker_elf.specs.declared.elf.value.Operands.{Operands}
 use Rattle.linker_elf.specs.declared.ppc64.forms.Ppc64Instruction.TheVariants.{D, Ds}
 use Rattle.linker_elf.specs.declared.ppc64.relocations.Ppc64Relocation.{Ppc64Relocation}
 use Rattle.linker_elf.specs.declared.ppc64.relocations.Ppc64Relocation.TheVariants as names
-use Rattle.linker_final.specs.Final.{IsRewrittenByNoOther, Linked, count}
+use Rattle.linker_final.specs.Final.{IsLeftAlone, IsRewrittenByNoOther, Linked, count}
 use Rattle.linker_final.specs.Ppc64Anywhere.{IsAppliedAt, IsLeft}
 use Rattle.linker_final.specs.Ppc64Final.{final, object, offset_of}
 use Rattle.linker_final.specs.Twice.{AreTwoCalls}
@@ -28,12 +28,14 @@ use Rattle.linker_utils.specs.declared.architecture.Relaxation.TheVariants as re
 use Rattle.linker_utils.specs.declared.elf.Architecture.TheVariants.{Ppc64}
 
 -- Both calls rewrite the instruction of the relocation at an index, which has a name in the object.
+-- Phases between leave it alone.
 pub record IsRewrittenTwice (name : Ppc64Relocation) (l m : Linked) (i : ℕ) : Type 0 where
   pub calls : AreTwoCalls Ppc64 l m
   pub is_name : IsNameOf ppc64_name (relocation_in l.relocations i).code name
   pub below : i < count l
   pub chosen : Choice Relaxation ℕ
   pub decided : decision_at l.decisions i ≡ Rewritten chosen
+  pub left : IsLeftAlone l i (offset_of l i) 4
   pub below_again : i < count m
   pub chosen_again : Choice Relaxation ℕ
   pub decided_again : decision_at m.decisions i ≡ Rewritten chosen_again
