@@ -39,7 +39,7 @@ use Rattle.linker_laws.specs.AArch64Machine.{RunAlike}
 abbrev page_row : RelocationKindInfo
 page_row = paged_row place_pages (signed_row 33 (insn_row Relative 12 33 Adr))
 
-abbrev adr_after : IsAfter names.R_AARCH64_ADR_PREL_LO21
+abbrev pub adr_after : IsAfter names.R_AARCH64_ADR_PREL_LO21
 adr_after =
     record {
       row = signed_row 21 (insn_row Relative 0 21 Adr);

@@ -33,7 +33,7 @@ use Rattle.linker_final.proofs.Written.{are_rewritten, rela, stays, word_same}
 
 -- ---- rows
 
-abbrev got_row : RelocationKindInfo
+abbrev pub got_row : RelocationKindInfo
 got_row = paged_row entry_pages (signed_row 33 (insn_row GotRelative 12 33 Adr))
 
 abbrev pub page_after : IsAfter names.R_AARCH64_ADR_PREL_PG_HI21

@@ -72,6 +72,7 @@ pub fn aarch64()
     ensures branches_anywhere { aarch64_anywhere.BranchesAnywhere }
     ensures descriptors_anywhere { aarch64_anywhere.DescriptorsAnywhere }
     ensures loads_twice { aarch64_twice.LoadsTwice }
+    ensures final_loads_twice { aarch64_twice.FinalLoadsTwice }
 {
     linker_laws::rewrites::aarch64();
 }
