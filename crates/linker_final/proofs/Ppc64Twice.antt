@@ -1,10 +1,11 @@
 -- Instructions of PowerPC64 that two calls rewrite do what the object's do.
-use Rattle.std.proofs.Common.{◌≡◌, ℕ, ◌+◌, true, false, cond, eqb, refl, sym, ap, subst, ◌∙◌, arith, inl, inr, Option, Some, None, IsSomeAnd}
+use Rattle.std.proofs.Common.{◌≡◌, ℕ, ◌+◌, true, false, cond, eqb, refl, sym, ap, subst, ◌∙◌, arith, inl, inr, Ok, Option, Some, None, IsSomeAnd}
 use Rattle.std.proofs.lemmas.Bool.{and_parts, cases_Bool, cond-true, cond-false, eq-eqb}
-use Rattle.std.specs.Prelude.{IsTrue, not, ◌&&◌, ◌||◌, ◌==◌}
+use Rattle.std.specs.Prelude.{IsTrue, slice_get, not, ◌&&◌, ◌||◌, ◌==◌}
 use Rattle.linker_base.specs.Bits.{field}
 use Rattle.linker_elf.specs.ElfNames.{IsNamed, IsNameOf}
 use Rattle.linker_elf.specs.Ppc64Relocations.{ppc64_name}
+use Rattle.linker_elf.specs.Value.{value_of}
 use Rattle.linker_elf.specs.declared.elf.value.Operands.{Operands}
 use Rattle.linker_elf.specs.declared.ppc64.forms.Ppc64Instruction.TheVariants.{D}
 use Rattle.linker_elf.specs.declared.ppc64.relocations.Ppc64Relocation.{Ppc64Relocation}
@@ -15,20 +16,23 @@ use Rattle.linker_final.proofs.Ppc64Halves.{thread_halves_anywhere, toc_halves_a
 use Rattle.linker_final.proofs.Ppc64Loads.{loads_anywhere}
 use Rattle.linker_final.proofs.Ppc64Near.{same_kind}
 use Rattle.linker_final.proofs.Ppc64Offsets.{initial_exec_anywhere}
-use Rattle.linker_final.proofs.Ppc64Written.{applied_so, becomes, test_there, thread_high_after, thread_low_after, toc_high_after, toc_low_after}
+use Rattle.linker_final.proofs.Ppc64Written.{IsAfter, applied_so, applied_there, becomes, left_alone, thread_after, toc_after, test_there, thread_high_after, thread_low_after, toc_high_after, toc_low_after}
 use Rattle.linker_final.proofs.Twice.{bytes_between, relocation_between}
 use Rattle.linker_final.proofs.Written.{stays}
-use Rattle.linker_final.specs.Final.{Linked, instruction_at}
+use Rattle.linker_final.specs.Final.{IsLeftAlone, IsLinked, Linked, instruction_at}
 use Rattle.linker_final.specs.Ppc64Anywhere.{Becomes, IsAppliedAt, named_as}
 use Rattle.linker_final.specs.Ppc64Final.{OverOffsetIsAlike, final, object, offset_of}
-use Rattle.linker_final.specs.Ppc64Twice.{AddIsAlikeTwice, EachTwice, InitialExecTwice, IsRewrittenTwice, LoadsTwice, NopIsAlikeTwice, OffsetIsAlikeTwice, SumIsAlikeTwice}
+use Rattle.linker_final.specs.Ppc64Twice.{AddDoesTheSame, AddIsAlikeTwice, EachTwice, FinalInitialExecTwice, FinalLoadsTwice, FinalNopDoesTheSame, FinalOffsetDoesTheSame, InFinalBytes, SumDoesTheSame, InitialExecTwice, IsRewrittenTwice, LoadsTwice, NopIsAlikeTwice, OffsetIsAlikeTwice, SumIsAlikeTwice}
 use Rattle.linker_laws.proofs.AArch64Pairs.{word_made}
 use Rattle.linker_laws.specs.Ppc64Machine.{Formats, State, step}
 use Rattle.linker_laws.specs.Ppc64RewriteLaws.{AgreeBut, Changes, IsRelocated, Laws, Leads, LowHalfLeads, StepSo, adds, at_place, from_thread, from_toc, with_entry, with_register, without_register, word_of}
-use Rattle.linker_ppc64.specs.Ppc64Rewrites.{addis_of_thread, is_add_of_thread, is_addi, is_ld, is_over_thread, opcode_of, ra_of, registers_of, rewrites_word, rt_of, to_local_exec, to_toc_distance}
+use Rattle.linker_ppc64.specs.Ppc64Rewrites.{addis_of_thread, is_add_of_thread, is_addi, is_ld, is_over_thread, opcode_of, ra_of, registers_of, rewrites_word, rt_of, to_local_exec, to_toc_distance, without_high_offset, without_high_part}
 use Rattle.linker_laws.specs.Schemes.{AreAddresses}
 use Rattle.linker_ppc64.specs.declared.rewrites.RelaxationKind.TheVariants as kinds
+use Rattle.linker_section.specs.Needed.{entry_of}
 use Rattle.linker_section.specs.Relocations.{relocation_in}
+use Rattle.linker_section.specs.Values.{entry_address, operands_by, operands_with}
+use Rattle.linker_section.specs.declared.facts.Symbol.{Symbol}
 use Rattle.linker_section.specs.declared.relocations.Rela.{Rela}
 use Rattle.linker_utils.specs.Architectures.{relaxation_rewrite}
 use Rattle.linker_utils.specs.declared.architecture.Relaxation.TheVariants as relaxations
@@ -294,3 +298,90 @@ add laws l m i twice kind o e small applied own applied_again f s t c n agree of
 
 pub initial_exec_twice : Laws → InitialExecTwice
 initial_exec_twice laws = (offset laws, add laws)
+
+-- ---- in the final bytes
+
+-- an instruction that the second call rewrites becomes one of a name, which is applied
+module _ (l m : Linked) (i : ℕ) (name between : Ppc64Relocation) (twice : IsRewrittenTwice name l m i)
+    (named : relocation_in l.relocations_after i ≡ named_as between (relocation_in l.relocations i))
+    (is_named : IsNamed (ppc64_name between)) (linked : IsLinked m)
+    (left : IsLeftAlone m i (offset_of m i) 4) (symbol : Symbol)
+    (is_symbol : slice_get m.symbols (relocation_in l.relocations i).symbol ≡ Some symbol)
+    (new : Ppc64Relocation) (a : IsAfter 4 new)
+    (again : relocation_in m.relocations_after i ≡ named_as new (relocation_in m.relocations i))
+    (no_entry : (r : Rela) → operands_by Ppc64 m.addresses a.row r symbol
+    (entry_address m.addresses symbol (entry_of a.row r.addend symbol.is_thread_local))
+    ≡ Ok (operands_with Ppc64 m.addresses a.row symbol r 0))
+    (o : Operands)
+    (same : value_of a.row (at_place o.place (with_entry 0 o))
+    ≡ value_of a.row (operands_with Ppc64 m.addresses a.row symbol (named_as new (named_as between (relocation_in l.relocations i))) 0))
+  where
+    pub applied_again : IsAppliedAt new 0 o m (offset_of m i)
+    applied_again =
+        let r = relocation_in m.relocations i in
+        let there = between_there l m i name between twice named is_named in (
+          o.place,
+          applied_there m linked twice.calls.second_architecture i twice.below_again 4 (omega arith) new a (named_as new r) again refl
+              left symbol (ap (λ (q : Rela). slice_get m.symbols q.symbol) there ∙ is_symbol) 0 (no_entry (named_as new r))
+              (at_place o.place (with_entry 0 o))
+              (same ∙ ap (λ q. value_of a.row (operands_with Ppc64 m.addresses a.row symbol (named_as new q) 0)) (sym there)),
+        )
+
+final_high : Laws → (l m : Linked) (i : ℕ) → IsRewrittenTwice names.R_PPC64_GOT16_HA l m i
+    → InFinalBytes names.R_PPC64_TOC16_HA FinalNopDoesTheSame l m i
+final_high laws l m i twice linked left symbol got e is_symbol small applied alone alone_again =
+    let between = names.R_PPC64_TOC16_HA in
+    let architecture = twice.calls.second_architecture in
+    let first = (loads_anywhere laws).1 l twice.calls.first twice.calls.first_architecture i twice.chosen twice.below twice.is_name twice.decided in
+    let again = name_again l m i names.R_PPC64_GOT16_HA between twice (first.0) tt in
+    let second = (toc_halves_anywhere laws).0 m twice.calls.second architecture i twice.chosen_again twice.below_again again twice.decided_again in
+    let by = of_entry m twice.calls.second architecture i twice.chosen_again twice.below_again twice.decided_again between tt again
+    (entry kinds.AddisToNop names.R_PPC64_NONE without_high_part) refl in
+    high laws l m i twice (operands_with Ppc64 m.addresses toc_high_after.row symbol (relocation_in l.relocations i) got) e small applied alone
+    (left_alone m linked architecture i twice.below_again (named_as names.R_PPC64_NONE (relocation_in m.relocations i)) (second.0) refl
+    (offset_of m i) left (by.meant.0) alone_again)
+
+final_low : Laws → (l m : Linked) (i : ℕ) → IsRewrittenTwice names.R_PPC64_GOT16_LO_DS l m i
+    → InFinalBytes names.R_PPC64_TOC16_LO SumDoesTheSame l m i
+final_low laws l m i twice linked left symbol got e is_symbol small applied =
+    let between = names.R_PPC64_TOC16_LO in
+    let o = operands_with Ppc64 m.addresses toc_low_after.row symbol (relocation_in l.relocations i) got in
+    let first = (loads_anywhere laws).2 l twice.calls.first twice.calls.first_architecture i twice.chosen twice.below twice.is_name twice.decided in
+    let again = name_again l m i names.R_PPC64_GOT16_LO_DS between twice (first.0) tt in
+    let second = (toc_halves_anywhere laws).1 m twice.calls.second twice.calls.second_architecture i twice.chosen_again twice.below_again again twice.decided_again in
+    low laws l m i twice o e small applied 0
+    (applied_again l m i names.R_PPC64_GOT16_LO_DS between twice (first.0) tt linked left symbol is_symbol names.R_PPC64_TOC16 toc_after (second.0)
+    (λ r. refl) o refl)
+
+pub final_loads_twice : Laws → FinalLoadsTwice
+final_loads_twice laws = (final_high laws, final_low laws)
+
+final_offset : Laws → (l m : Linked) (i : ℕ) → IsRewrittenTwice names.R_PPC64_GOT_TPREL16_LO_DS l m i
+    → InFinalBytes names.R_PPC64_TPREL16_HA FinalOffsetDoesTheSame l m i
+final_offset laws l m i twice linked left symbol got e is_symbol small applied alone_again =
+    let between = names.R_PPC64_TPREL16_HA in
+    let architecture = twice.calls.second_architecture in
+    let first = (initial_exec_anywhere laws).1 l twice.calls.first twice.calls.first_architecture i twice.chosen twice.below twice.is_name twice.decided in
+    let again = name_again l m i names.R_PPC64_GOT_TPREL16_LO_DS between twice (first.0) tt in
+    let second = (thread_halves_anywhere laws).0 m twice.calls.second architecture i twice.chosen_again twice.below_again again twice.decided_again in
+    let by = of_entry m twice.calls.second architecture i twice.chosen_again twice.below_again twice.decided_again between tt again
+    (entry kinds.AddisThreadToNop names.R_PPC64_NONE without_high_offset) refl in
+    offset laws l m i twice (operands_with Ppc64 m.addresses thread_high_after.row symbol (relocation_in l.relocations i) got) e small applied
+    (left_alone m linked architecture i twice.below_again (named_as names.R_PPC64_NONE (relocation_in m.relocations i)) (second.0) refl
+    (offset_of m i) left (by.meant.0) alone_again)
+
+final_add : Laws → (l m : Linked) (i : ℕ) → (twice : IsRewrittenTwice names.R_PPC64_TLS l m i)
+    → twice.chosen.kind ≡ relaxations.Ppc64 kinds.AddToAddi
+    → InFinalBytes names.R_PPC64_TPREL16_LO AddDoesTheSame l m i
+final_add laws l m i twice kind linked left symbol got e is_symbol small applied =
+    let between = names.R_PPC64_TPREL16_LO in
+    let o = operands_with Ppc64 m.addresses thread_low_after.row symbol (relocation_in l.relocations i) got in
+    let first = added laws l m i twice kind in
+    let again = name_again l m i names.R_PPC64_TLS between twice (first.0) tt in
+    let second = (thread_halves_anywhere laws).1 m twice.calls.second twice.calls.second_architecture i twice.chosen_again twice.below_again again twice.decided_again in
+    add laws l m i twice kind o e small applied 0
+    (applied_again l m i names.R_PPC64_TLS between twice (first.0) tt linked left symbol is_symbol names.R_PPC64_TPREL16 thread_after (second.0)
+    (λ r. refl) o refl)
+
+pub final_initial_exec_twice : Laws → FinalInitialExecTwice
+final_initial_exec_twice laws = (final_offset laws, final_add laws)

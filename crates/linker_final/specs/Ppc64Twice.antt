@@ -1,13 +1,14 @@
 -- PowerPC64: an instruction that two calls of rewriting rewrite does what the object's does.
-use Rattle.std.specs.Prelude.{◌≡◌, ℕ, ◌<◌, List}
+use Rattle.std.specs.Prelude.{◌≡◌, ℕ, ◌<◌, List, IsSomeAnd, Some, slice_get}
 use Rattle.linker_elf.specs.ElfNames.{IsNameOf}
-use Rattle.linker_elf.specs.Ppc64Relocations.{ppc64_name}
+use Rattle.linker_elf.specs.Ppc64Relocations.{ppc64_name, ppc64_row}
 use Rattle.linker_elf.specs.declared.elf.choice.Choice.{Choice}
 use Rattle.linker_elf.specs.declared.elf.value.Operands.{Operands}
 use Rattle.linker_elf.specs.declared.ppc64.forms.Ppc64Instruction.TheVariants.{D, Ds}
 use Rattle.linker_elf.specs.declared.ppc64.relocations.Ppc64Relocation.{Ppc64Relocation}
 use Rattle.linker_elf.specs.declared.ppc64.relocations.Ppc64Relocation.TheVariants as names
-use Rattle.linker_final.specs.Final.{IsLeftAlone, IsRewrittenByNoOther, Linked, count}
+use Rattle.linker_final.specs.Final.{IsLeftAlone, IsLinked, IsRewrittenByNoOther, Linked, count}
+use Rattle.linker_final.specs.Final.{IsWrittenByNoOther}
 use Rattle.linker_final.specs.Ppc64Anywhere.{IsAppliedAt, IsLeft}
 use Rattle.linker_final.specs.Ppc64Final.{final, object, offset_of}
 use Rattle.linker_final.specs.Twice.{AreTwoCalls}
@@ -23,6 +24,8 @@ use Rattle.linker_ppc64.specs.declared.rewrites.RelaxationKind.TheVariants as ki
 use Rattle.linker_rewriting.specs.Decisions.{decision_at}
 use Rattle.linker_rewriting.specs.declared.decisions.Decision.TheVariants.{Rewritten}
 use Rattle.linker_section.specs.Relocations.{relocation_in}
+use Rattle.linker_section.specs.Values.{operands_with}
+use Rattle.linker_section.specs.declared.facts.Symbol.{Symbol}
 use Rattle.linker_utils.specs.declared.architecture.Relaxation.{Relaxation}
 use Rattle.linker_utils.specs.declared.architecture.Relaxation.TheVariants as relaxations
 use Rattle.linker_utils.specs.declared.elf.Architecture.TheVariants.{Ppc64}
@@ -54,30 +57,36 @@ EachTwice name between Holds =
 -- The high half of a GOT entry became that of the symbol's address, and then `nop`. In the object's
 -- run its register leads to the entry. There is a number that leads to the address by low halves of
 -- it.
-abbrev pub NopIsAlikeTwice : Linked → Linked → ℕ → Operands → Type 0
-NopIsAlikeTwice l m i o =
+abbrev pub NopDoesTheSame : Linked → Linked → ℕ → Operands → Type 0
+NopDoesTheSame l m i o =
     let x = rt_of (word_of (object l i)) in
-    IsRewrittenByNoOther l i (offset_of l i) → IsLeft m (offset_of m i)
-    → (f : Formats) (s t : State) (c : Changes) (addis : List ℕ) → AgreeBut c s t
+    (f : Formats) (s t : State) (c : Changes) (addis : List ℕ) → AgreeBut c s t
     → IsRelocated names.R_PPC64_GOT16_HA o (object l i) addis
     → StepSo f (word_of addis) s (word_of (final m i)) t
     (λ u v. AgreeBut (with_register x c) u v
     × Leads names.R_PPC64_GOT16_LO_DS Ds o (u.registers x) (entry_from_toc o (s.registers 2))
     × ((n : ℕ) × Leads names.R_PPC64_TOC16_LO D o n (from_toc o (s.registers 2))))
 
+abbrev pub NopIsAlikeTwice : Linked → Linked → ℕ → Operands → Type 0
+NopIsAlikeTwice l m i o =
+    IsRewrittenByNoOther l i (offset_of l i) → IsLeft m (offset_of m i) → NopDoesTheSame l m i o
+
 -- `ld rT` of the entry, which holds the address, became `addi rT` over its register, and then over
 -- register 2.
-abbrev pub SumIsAlikeTwice : Linked → Linked → ℕ → Operands → Type 0
-SumIsAlikeTwice l m i o =
+abbrev pub SumDoesTheSame : Linked → Linked → ℕ → Operands → Type 0
+SumDoesTheSame l m i o =
     let word = word_of (object l i) in
-    (own : ℕ) → IsAppliedAt names.R_PPC64_TOC16 own o m (offset_of m i)
-    → (f : Formats) (s t : State) (c : Changes) (ld : List ℕ) (entry n : ℕ) → AgreeBut c s t
+    (f : Formats) (s t : State) (c : Changes) (ld : List ℕ) (entry n : ℕ) → AgreeBut c s t
     → let address = from_toc o (t.registers 2) in
     Leads names.R_PPC64_GOT16_LO_DS Ds o (s.registers (ra_of word)) entry
     → loaded 8 s.memory entry ≡ address → Leads names.R_PPC64_TOC16_LO D o n address
     → IsRelocated names.R_PPC64_GOT16_LO_DS o (object l i) ld
     → StepSo f (word_of ld) s (word_of (final m i)) t
     (AgreeBut (without_register (rt_of word) (with_register (ra_of word) c)))
+
+abbrev pub SumIsAlikeTwice : Linked → Linked → ℕ → Operands → Type 0
+SumIsAlikeTwice l m i o =
+    (own : ℕ) → IsAppliedAt names.R_PPC64_TOC16 own o m (offset_of m i) → SumDoesTheSame l m i o
 
 -- of every load of an address from the GOT whose halves are rewritten twice
 abbrev pub LoadsTwice : Type 0
@@ -89,11 +98,10 @@ LoadsTwice =
 
 -- `ld rT` of the GOT entry of the offset became `addis rT,13`, and then `nop`. In the object's run
 -- rT then has the offset. There is a number that leads to the variable by low halves of it.
-abbrev pub OffsetIsAlikeTwice : Linked → Linked → ℕ → Operands → Type 0
-OffsetIsAlikeTwice l m i o =
+abbrev pub OffsetDoesTheSame : Linked → Linked → ℕ → Operands → Type 0
+OffsetDoesTheSame l m i o =
     let word = word_of (object l i) in
-    IsLeft m (offset_of m i)
-    → (f : Formats) (s t : State) (c : Changes) (ld : List ℕ) (entry : ℕ) → AgreeBut c s t
+    (f : Formats) (s t : State) (c : Changes) (ld : List ℕ) (entry : ℕ) → AgreeBut c s t
     → Leads names.R_PPC64_GOT_TPREL16_LO_DS Ds o (s.registers (ra_of word)) entry
     → loaded 8 s.memory entry ≡ thread_offset o
     → IsRelocated names.R_PPC64_GOT_TPREL16_LO_DS o (object l i) ld
@@ -102,16 +110,22 @@ OffsetIsAlikeTwice l m i o =
     × (u.registers (rt_of word) ≡ thread_offset o)
     × ((n : ℕ) × LowHalfLeads o n (from_thread o (s.registers 13))))
 
+abbrev pub OffsetIsAlikeTwice : Linked → Linked → ℕ → Operands → Type 0
+OffsetIsAlikeTwice l m i o = IsLeft m (offset_of m i) → OffsetDoesTheSame l m i o
+
 -- `add rZ,rT,13` became `addi rZ,rT`, and then `addi rZ,13`.
-abbrev pub AddIsAlikeTwice : Linked → Linked → ℕ → Operands → Type 0
-AddIsAlikeTwice l m i o =
+abbrev pub AddDoesTheSame : Linked → Linked → ℕ → Operands → Type 0
+AddDoesTheSame l m i o =
     let word = word_of (object l i) in
-    (own : ℕ) → IsAppliedAt names.R_PPC64_TPREL16 own o m (offset_of m i)
-    → (f : Formats) (s t : State) (c : Changes) (n : ℕ) → AgreeBut c s t
+    (f : Formats) (s t : State) (c : Changes) (n : ℕ) → AgreeBut c s t
     → s.registers (ra_of word) ≡ thread_offset o → s.registers 13 ≡ t.registers 13
     → LowHalfLeads o n (from_thread o (s.registers 13))
     → StepSo f word s (word_of (final m i)) t
     (AgreeBut (without_register (rt_of word) (with_register (ra_of word) c)))
+
+abbrev pub AddIsAlikeTwice : Linked → Linked → ℕ → Operands → Type 0
+AddIsAlikeTwice l m i o =
+    (own : ℕ) → IsAppliedAt names.R_PPC64_TPREL16 own o m (offset_of m i) → AddDoesTheSame l m i o
 
 -- of every load of an offset that is rewritten twice, and of every `add` of one
 abbrev pub InitialExecTwice : Type 0
@@ -121,3 +135,42 @@ InitialExecTwice =
     → twice.chosen.kind ≡ relaxations.Ppc64 kinds.AddToAddi
     → (o : Operands) (entry : ℕ) → AreAddresses o
     → IsAppliedAt names.R_PPC64_TPREL16_LO entry o l (offset_of l i) → AddIsAlikeTwice l m i o)
+
+-- ---- in the final bytes
+
+-- In the final bytes behind the second call, and behind later ones that leave the instruction alone,
+-- it holds of the operands that the formula of a name has, wherever a GOT entry is.
+abbrev pub InFinalBytes : Ppc64Relocation → (Linked → Linked → ℕ → Operands → Type 0) → Linked
+    → Linked → ℕ → Type 0
+InFinalBytes between Holds l m i =
+    IsLinked m → IsLeftAlone m i (offset_of m i) 4
+    → IsSomeAnd (ppc64_row between) (λ row. (symbol : Symbol) (got entry : ℕ)
+    → slice_get m.symbols (relocation_in l.relocations i).symbol ≡ Some symbol
+    → let o = operands_with Ppc64 m.addresses row symbol (relocation_in l.relocations i) got in
+    AreAddresses o → IsAppliedAt between entry o l (offset_of l i) → Holds l m i o)
+
+-- No other rewrite of the first call has a byte of an instruction that stays there, and no other
+-- relocation has a field in one that became `nop`.
+abbrev pub FinalNopDoesTheSame : Linked → Linked → ℕ → Operands → Type 0
+FinalNopDoesTheSame l m i o =
+    IsRewrittenByNoOther l i (offset_of l i) → IsWrittenByNoOther m i (offset_of m i)
+    → NopDoesTheSame l m i o
+
+abbrev pub FinalOffsetDoesTheSame : Linked → Linked → ℕ → Operands → Type 0
+FinalOffsetDoesTheSame l m i o = IsWrittenByNoOther m i (offset_of m i) → OffsetDoesTheSame l m i o
+
+-- the same groups
+abbrev pub FinalLoadsTwice : Type 0
+FinalLoadsTwice =
+    ((l m : Linked) (i : ℕ) → IsRewrittenTwice names.R_PPC64_GOT16_HA l m i
+    → InFinalBytes names.R_PPC64_TOC16_HA FinalNopDoesTheSame l m i)
+    × ((l m : Linked) (i : ℕ) → IsRewrittenTwice names.R_PPC64_GOT16_LO_DS l m i
+    → InFinalBytes names.R_PPC64_TOC16_LO SumDoesTheSame l m i)
+
+abbrev pub FinalInitialExecTwice : Type 0
+FinalInitialExecTwice =
+    ((l m : Linked) (i : ℕ) → IsRewrittenTwice names.R_PPC64_GOT_TPREL16_LO_DS l m i
+    → InFinalBytes names.R_PPC64_TPREL16_HA FinalOffsetDoesTheSame l m i)
+    × ((l m : Linked) (i : ℕ) → (twice : IsRewrittenTwice names.R_PPC64_TLS l m i)
+    → twice.chosen.kind ≡ relaxations.Ppc64 kinds.AddToAddi
+    → InFinalBytes names.R_PPC64_TPREL16_LO AddDoesTheSame l m i)

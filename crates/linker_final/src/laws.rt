@@ -57,7 +57,7 @@ pub fn x86_64()
 /// weak symbol that became `nop`. The clauses named `anywhere` are of a call of rewriting alone: what
 /// each relocation became, and that the rewritten instructions do what the object's do once it is
 /// applied to them, whatever applies it. So another phase may come between: a load that became a sum,
-/// and then an `adr`, does what the object's does.
+/// and then an `adr`, does what the object's does, also in the final bytes.
 pub fn aarch64()
     ensures addresses { aarch64_final.Addresses }
     ensures got_loads { aarch64_final.GotLoads }
@@ -122,7 +122,7 @@ pub fn loongarch64()
 /// TOC pointer and near the thread pointer, each instruction of initial-exec, of general-dynamic
 /// and of local-dynamic TLS, and each load of an address from the GOT that became a sum. The clauses
 /// named `anywhere` are of a call of rewriting alone, as those of AArch64 are. Those named `twice` are
-/// of instructions that two calls rewrite.
+/// of instructions that two calls rewrite, also in the final bytes.
 pub fn ppc64()
     ensures calls { ppc64_final.Calls }
     ensures toc_halves { ppc64_final.TocHalves }
@@ -142,6 +142,8 @@ pub fn ppc64()
     ensures loads_anywhere { ppc64_anywhere.LoadsAnywhere }
     ensures loads_twice { ppc64_twice.LoadsTwice }
     ensures initial_exec_twice { ppc64_twice.InitialExecTwice }
+    ensures final_loads_twice { ppc64_twice.FinalLoadsTwice }
+    ensures final_initial_exec_twice { ppc64_twice.FinalInitialExecTwice }
 {
     linker_laws::rewrites::ppc64();
 }
