@@ -89,7 +89,7 @@ module _ (laws : Laws) (l : Linked) (rewriting : AreRewritten l) (i : ℕ) (chos
       (becomes l rewriting i chosen below decided kind kind_is (rewrites_word new) is refl)
       has requires o.place (final l i) applied
 
-  added : IsOfEntry (entry kinds.AddToAddi names.R_PPC64_TPREL16_LO to_local_exec) l.section (offset_of l i) chosen
+  pub added : IsOfEntry (entry kinds.AddToAddi names.R_PPC64_TPREL16_LO to_local_exec) l.section (offset_of l i) chosen
       → Becomes names.R_PPC64_TPREL16_LO l i (λ entry. OverOffsetIsAlike (adds is_add_of_thread) l i)
   added by = (
     word_after l rewriting i chosen below decided kinds.AddToAddi by.kind_is names.R_PPC64_TPREL16_LO by.code_is
@@ -100,7 +100,7 @@ module _ (laws : Laws) (l : Linked) (rewriting : AreRewritten l) (i : ℕ) (chos
         (applied_so 4 names.R_PPC64_TPREL16_LO thread_low_after (at_place (applied.0) (with_entry e o)) o (instruction_at l.rewritten (offset_of l i)) (final l i) refl (applied.1)),
   )
 
-  accessed : IsOfEntry (entry kinds.IndexedToD names.R_PPC64_TPREL16_LO to_local_exec) l.section (offset_of l i) chosen
+  pub accessed : IsOfEntry (entry kinds.IndexedToD names.R_PPC64_TPREL16_LO to_local_exec) l.section (offset_of l i) chosen
       → Becomes names.R_PPC64_TPREL16_LO l i (λ entry. OverOffsetIsAlike (accesses is_indexed (λ word. access_with (access_of word))) l i)
   accessed by = (
     word_after l rewriting i chosen below decided kinds.IndexedToD by.kind_is names.R_PPC64_TPREL16_LO by.code_is by_displacement refl,

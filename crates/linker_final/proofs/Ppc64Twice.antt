@@ -1,8 +1,9 @@
 -- Instructions of PowerPC64 that two calls rewrite do what the object's do.
-use Rattle.std.proofs.Common.{◌≡◌, ℕ, ◌+◌, true, false, cond, eqb, refl, sym, ap, subst, ◌∙◌, arith, inl, inr, Ok, Option, Some, None, IsSomeAnd}
-use Rattle.std.proofs.lemmas.Bool.{and_parts, cases_Bool, cond-true, cond-false, eq-eqb}
+use Rattle.std.proofs.Common.{◌≡◌, ℕ, ◌+◌, ◌*◌, ◌^◌, ◌<◌, true, false, cond, eqb, refl, take, sym, ap, subst, ◌∙◌, arith, inl, inr, Ok, Option, Some, None, IsSomeAnd}
+use Rattle.std.proofs.lemmas.Bool.{and_from, and_parts, cases_Bool, cond-true, cond-false, eq-eqb}
 use Rattle.std.specs.Prelude.{IsTrue, slice_get, not, ◌&&◌, ◌||◌, ◌==◌}
 use Rattle.linker_base.specs.Bits.{field}
+use Rattle.linker_base.specs.Rewrite.{Rewrite}
 use Rattle.linker_elf.specs.ElfNames.{IsNamed, IsNameOf}
 use Rattle.linker_elf.specs.Ppc64Relocations.{ppc64_name}
 use Rattle.linker_elf.specs.Value.{value_of}
@@ -15,19 +16,20 @@ use Rattle.linker_final.proofs.Ppc64Chosen.{named_there, of_entry, of_one}
 use Rattle.linker_final.proofs.Ppc64Halves.{thread_halves_anywhere, toc_halves_anywhere}
 use Rattle.linker_final.proofs.Ppc64Loads.{loads_anywhere}
 use Rattle.linker_final.proofs.Ppc64Near.{same_kind}
-use Rattle.linker_final.proofs.Ppc64Offsets.{initial_exec_anywhere}
+use Rattle.linker_final.proofs.Ppc64Offsets.{accessed as accessed_becomes, added as added_becomes, initial_exec_anywhere}
 use Rattle.linker_final.proofs.Ppc64Written.{IsAfter, applied_so, applied_there, becomes, left_alone, thread_after, toc_after, test_there, thread_high_after, thread_low_after, toc_high_after, toc_low_after}
 use Rattle.linker_final.proofs.Twice.{bytes_between, relocation_between}
 use Rattle.linker_final.proofs.Written.{stays}
 use Rattle.linker_final.specs.Final.{IsLeftAlone, IsLinked, Linked, instruction_at}
 use Rattle.linker_final.specs.Ppc64Anywhere.{Becomes, IsAppliedAt, named_as}
-use Rattle.linker_final.specs.Ppc64Final.{OverOffsetIsAlike, final, object, offset_of}
-use Rattle.linker_final.specs.Ppc64Twice.{AddDoesTheSame, AddIsAlikeTwice, EachTwice, FinalInitialExecTwice, FinalLoadsTwice, FinalNopDoesTheSame, FinalOffsetDoesTheSame, InFinalBytes, SumDoesTheSame, InitialExecTwice, IsRewrittenTwice, LoadsTwice, NopIsAlikeTwice, OffsetIsAlikeTwice, SumIsAlikeTwice}
+use Rattle.linker_final.specs.Ppc64Final.{OverBaseIsAlike, OverOffsetIsAlike, final, object, offset_of}
+use Rattle.linker_final.specs.Ppc64Twice.{EachFinalVariable, FinalInitialExecTwice, FinalLoadsTwice, FinalNopDoesTheSame, FinalOffsetDoesTheSame, InFinalBytes, SumDoesTheSame, EachTwice, EachVariableTwice, InitialExecTwice, IsRewrittenTwice, LoadsTwice, NopIsAlikeTwice, OffsetIsAlikeTwice, SumIsAlikeTwice, VariableIsAlikeTwice}
 use Rattle.linker_laws.proofs.AArch64Pairs.{word_made}
-use Rattle.linker_laws.specs.Ppc64Machine.{Formats, State, step}
-use Rattle.linker_laws.specs.Ppc64RewriteLaws.{AgreeBut, Changes, IsRelocated, Laws, Leads, LowHalfLeads, StepSo, adds, at_place, from_thread, from_toc, with_entry, with_register, without_register, word_of}
-use Rattle.linker_ppc64.specs.Ppc64Rewrites.{addis_of_thread, is_add_of_thread, is_addi, is_ld, is_over_thread, opcode_of, ra_of, registers_of, rewrites_word, rt_of, to_local_exec, to_toc_distance, without_high_offset, without_high_part}
+use Rattle.linker_laws.specs.Ppc64Machine.{Formats, State, access_with, step}
+use Rattle.linker_laws.specs.Ppc64RewriteLaws.{AgreeBut, Changes, IsRelocated, Laws, Leads, LowHalfLeads, ReadsSame, StepSo, Use, access_number, accesses, adds, after_access, at_place, from_thread, from_toc, is_d_over, is_d_over_base, with_entry, with_register, without_register, word_of}
+use Rattle.linker_ppc64.specs.Ppc64Rewrites.{access_of, addis_of_thread, by_displacement, is_access, is_add_of_thread, is_addi, is_indexed, is_ld, is_over_thread, is_store, opcode_of, ppc64_rewrite, ra_of, registers_of, rewrites_word, rt_of, to_local_exec, to_toc_distance, without_high_offset, without_high_part}
 use Rattle.linker_laws.specs.Schemes.{AreAddresses}
+use Rattle.linker_ppc64.specs.declared.rewrites.RelaxationKind.{RelaxationKind}
 use Rattle.linker_ppc64.specs.declared.rewrites.RelaxationKind.TheVariants as kinds
 use Rattle.linker_section.specs.Needed.{entry_of}
 use Rattle.linker_section.specs.Relocations.{relocation_in}
@@ -231,73 +233,147 @@ offset laws l m i twice o e small applied left f s t c ld got_entry agree leads 
       (w.registers (rt_of x), (p.1).leads),
     ))
 
--- what an `add` of the offset became
-added : Laws → (l m : Linked) (i : ℕ) → (twice : IsRewrittenTwice names.R_PPC64_TLS l m i)
-    → twice.chosen.kind ≡ relaxations.Ppc64 kinds.AddToAddi
-    → Becomes names.R_PPC64_TPREL16_LO l i (λ entry. OverOffsetIsAlike (adds is_add_of_thread) l i)
-added laws l m i twice kind =
-    let chosen = twice.chosen in
-    elim ((initial_exec_anywhere laws).3 l twice.calls.first twice.calls.first_architecture i chosen twice.below twice.is_name twice.decided) [
-      | inl its ↦ its.1
-      | inr (inl its) ↦
-          absurd (let e : kinds.AddToAddi ≡ kinds.IndexedToD = same_kind chosen.kind kinds.AddToAddi kinds.IndexedToD kind (its.0) in cc)
-      | inr (inr its) ↦
-          absurd (let e : kinds.AddToAddi ≡ kinds.IndexedToDs = same_kind chosen.kind kinds.AddToAddi kinds.IndexedToDs kind (its.0) in cc)
-    ]
+-- ---- variables by their offsets
 
--- that it is one
-is_added : (l m : Linked) (i : ℕ) → (twice : IsRewrittenTwice names.R_PPC64_TLS l m i)
-    → twice.chosen.kind ≡ relaxations.Ppc64 kinds.AddToAddi → IsTrue (is_add_of_thread (word_of (object l i)))
-is_added l m i twice kind =
-    let chosen = twice.chosen in
-    elim (of_one l twice.calls.first twice.calls.first_architecture i chosen twice.below twice.decided names.R_PPC64_TLS tt twice.is_name) [
-      | inl by ↦ test_there l i is_add_of_thread (by.meant.1)
-      | inr (inl by) ↦
-          absurd (let e : kinds.AddToAddi ≡ kinds.IndexedToD = same_kind chosen.kind kinds.AddToAddi kinds.IndexedToD kind by.kind_is in cc)
-      | inr (inr (inl by)) ↦
-          absurd (let e : kinds.AddToAddi ≡ kinds.IndexedToDs = same_kind chosen.kind kinds.AddToAddi kinds.IndexedToDs kind by.kind_is in cc)
-      | inr (inr (inr nothing)) ↦ absurd nothing
-    ]
+-- what is the same of an instruction that two calls rewrite, by what the first left
+module _ (laws : Laws) (l m : Linked) (i : ℕ) (twice : IsRewrittenTwice names.R_PPC64_TLS l m i)
+    (kind : RelaxationKind) (kind_is : twice.chosen.kind ≡ relaxations.Ppc64 kind) (does : Use)
+    (first : Becomes names.R_PPC64_TPREL16_LO l i (λ entry. OverOffsetIsAlike does l i))
+    (new : ℕ → ℕ) (is : ppc64_rewrite kind ≡ Some (rewrites_word new))
+    (small_word : new (word_of (object l i)) < 2 ^ 32) where
+  again : IsNameOf ppc64_name (relocation_in m.relocations i).code names.R_PPC64_TPREL16_LO
+  again = name_again l m i names.R_PPC64_TLS names.R_PPC64_TPREL16_LO twice (first.0) tt
 
-add : Laws → (l m : Linked) (i : ℕ) → (twice : IsRewrittenTwice names.R_PPC64_TLS l m i)
-    → twice.chosen.kind ≡ relaxations.Ppc64 kinds.AddToAddi
-    → (o : Operands) (e : ℕ) → AreAddresses o
-    → IsAppliedAt names.R_PPC64_TPREL16_LO e o l (offset_of l i) → AddIsAlikeTwice l m i o
-add laws l m i twice kind o e small applied own applied_again f s t c n agree offset_is thread page =
-    let between = names.R_PPC64_TPREL16_LO in
-    let first = added laws l m i twice kind in
-    let again = name_again l m i names.R_PPC64_TLS between twice (first.0) tt in
-    let same = object_again l m i names.R_PPC64_TLS between twice (first.0) tt in
-    let second = (thread_halves_anywhere laws).1 m twice.calls.second twice.calls.second_architecture i twice.chosen_again twice.below_again again twice.decided_again in
+  same : object m i ≡ instruction_at l.rewritten (offset_of l i)
+  same = object_again l m i names.R_PPC64_TLS names.R_PPC64_TPREL16_LO twice (first.0) tt
+
+  pub word_again : word_of (object m i) ≡ new (word_of (object l i))
+  word_again =
+      ap word_of same
+      ∙ word_made new (object l i) (instruction_at l.rewritten (offset_of l i)) small_word
+      (subst (λ q. IsSomeAnd q (λ (made : Rewrite). take made.len (instruction_at l.rewritten (offset_of l i)) ≡ made.bytes (take made.len (object l i)))) is
+      (becomes l twice.calls.first i twice.chosen twice.below twice.decided kind kind_is (rewrites_word new) is refl))
+
+  -- where that is over the base the same
+  pub variable_twice : (over : Use)
+      → ((o : Operands) (own : ℕ) → AreAddresses o → IsAppliedAt names.R_PPC64_TPREL16 own o m (offset_of m i)
+      → OverBaseIsAlike 13 names.R_PPC64_TPREL16_LO D from_thread over m i o)
+      → IsTrue (over.test (word_of (object m i))) → ra_of (word_of (object m i)) ≡ ra_of (word_of (object l i))
+      → ((d : Changes) (address : ℕ) → does.Requires d (word_of (object l i)) address → over.Requires d (word_of (object m i)) address)
+      → ((d : Changes) → over.after d (word_of (object m i)) ≡ does.after d (word_of (object l i)))
+      → (o : Operands) (e : ℕ) → AreAddresses o
+      → IsAppliedAt names.R_PPC64_TPREL16_LO e o l (offset_of l i) → VariableIsAlikeTwice does l m i o
+  variable_twice over second tested base requires after o e small applied own applied_again f s t c n agree offset_is thread page required =
+      let low = names.R_PPC64_TPREL16_LO in
+      let x = word_of (object l i) in
+      let r = ra_of x in
+      let d = with_register r c in
+      let b = with_number r n t in
+      let there : IsRelocated low o (object m i) (final l i) =
+      subst (λ xs. IsRelocated low o xs (final l i)) (sym same)
+      (applied_so 4 low thread_low_after (at_place (applied.0) (with_entry e o)) o (instruction_at l.rewritten (offset_of l i)) (final l i) refl (applied.1)) in
+      let from : LowHalfLeads o (b.registers r) (from_thread o (s.registers 13)) =
+      subst (λ k. LowHalfLeads o k (from_thread o (s.registers 13))) (number_there r n t) page in
+      through f x (word_of (final l i)) (word_of (final m i)) s b t _ _ _
+      (first.1 o e small applied f s b d (number_before c s t r n agree) (record { offset_is = offset_is; leads = from }) required)
+      (second o own small applied_again f b t d (final l i) (number_after c t r n) tested
+      (subst (λ k. Leads low D o (b.registers k) (from_thread o (t.registers 13))) (sym base)
+      (subst (λ k. Leads low D o (b.registers r) (from_thread o k)) thread (from.0)))
+      (subst (λ k. over.Requires d (word_of (object m i)) (from_thread o k)) thread (requires d (from_thread o (s.registers 13)) required)) there)
+      (λ u w v p q. alike_through (does.after d x) u w v p (subst (λ k. AgreeBut k w v) (after d) q))
+
+-- what the first call left, by its kind
+module _ (laws : Laws) (l m : Linked) (i : ℕ) (twice : IsRewrittenTwice names.R_PPC64_TLS l m i) where
+  added : twice.chosen.kind ≡ relaxations.Ppc64 kinds.AddToAddi
+      → Becomes names.R_PPC64_TPREL16_LO l i (λ entry. OverOffsetIsAlike (adds is_add_of_thread) l i)
+      × IsTrue (is_add_of_thread (word_of (object l i)))
+  added kind =
+      elim (of_one l twice.calls.first twice.calls.first_architecture i twice.chosen twice.below twice.decided names.R_PPC64_TLS tt twice.is_name) [
+        | inl by ↦ (
+          added_becomes laws l twice.calls.first i twice.chosen twice.below twice.decided by,
+          test_there l i is_add_of_thread (by.meant.1),
+        )
+        | inr (inl by) ↦
+            absurd (let e : kinds.AddToAddi ≡ kinds.IndexedToD = same_kind twice.chosen.kind kinds.AddToAddi kinds.IndexedToD kind by.kind_is in cc)
+        | inr (inr (inl by)) ↦
+            absurd (let e : kinds.AddToAddi ≡ kinds.IndexedToDs = same_kind twice.chosen.kind kinds.AddToAddi kinds.IndexedToDs kind by.kind_is in cc)
+        | inr (inr (inr nothing)) ↦ absurd nothing
+      ]
+
+  accessed : twice.chosen.kind ≡ relaxations.Ppc64 kinds.IndexedToD
+      → Becomes names.R_PPC64_TPREL16_LO l i (λ entry. OverOffsetIsAlike (accesses is_indexed (λ word. access_with (access_of word))) l i)
+      × IsTrue (is_indexed (word_of (object l i)))
+  accessed kind =
+      elim (of_one l twice.calls.first twice.calls.first_architecture i twice.chosen twice.below twice.decided names.R_PPC64_TLS tt twice.is_name) [
+        | inl by ↦
+            absurd (let e : kinds.IndexedToD ≡ kinds.AddToAddi = same_kind twice.chosen.kind kinds.IndexedToD kinds.AddToAddi kind by.kind_is in cc)
+        | inr (inl by) ↦ (
+          accessed_becomes laws l twice.calls.first i twice.chosen twice.below twice.decided by,
+          test_there l i is_indexed (by.meant.1),
+        )
+        | inr (inr (inl by)) ↦
+            absurd (let e : kinds.IndexedToD ≡ kinds.IndexedToDs = same_kind twice.chosen.kind kinds.IndexedToD kinds.IndexedToDs kind by.kind_is in cc)
+        | inr (inr (inr nothing)) ↦ absurd nothing
+      ]
+
+  -- what the second makes of a low half of D-form
+  over_thread : IsNameOf ppc64_name (relocation_in m.relocations i).code names.R_PPC64_TPREL16_LO
+      → Becomes names.R_PPC64_TPREL16 m i (λ entry o. OverBaseIsAlike 13 names.R_PPC64_TPREL16_LO D from_thread (adds is_addi) m i o
+      × OverBaseIsAlike 13 names.R_PPC64_TPREL16_LO D from_thread is_d_over m i o)
+  over_thread named =
+      (thread_halves_anywhere laws).1 m twice.calls.second twice.calls.second_architecture i twice.chosen_again twice.below_again named twice.decided_again
+
+add : Laws → EachVariableTwice kinds.AddToAddi (adds is_add_of_thread)
+add laws l m i twice kind =
+    let its = added laws l m i twice kind in
     let x = word_of (object l i) in
     let y = word_of (object m i) in
-    let r = ra_of x in
-    let d = with_register r c in
-    let b = with_number r n t in
+    let new : ℕ → ℕ = λ w. 0x38000000 + registers_of w in
     let word : y ≡ 0x38000000 + registers_of x =
-    ap word_of same
-    ∙ word_made (λ w. 0x38000000 + registers_of w) (object l i) (instruction_at l.rewritten (offset_of l i)) (omega arith)
-    (becomes l twice.calls.first i twice.chosen twice.below twice.decided kinds.AddToAddi kind (rewrites_word (λ w. 0x38000000 + registers_of w)) refl refl) in
+    word_again laws l m i twice kinds.AddToAddi kind (adds is_add_of_thread) (its.0) new refl (omega arith) in
     let target : rt_of y ≡ rt_of x = omega (arith, word) in
-    let base : ra_of y ≡ r = omega (arith, word) in
-    let over : IsTrue (not (r == 0)) =
-    (and_parts (opcode_of x == 31 && field x 11 16 == 13) (not (r == 0))
-    (and_parts (is_over_thread x) (field x 0 11 == 0x214) (is_added l m i twice kind)).0).1 in
-    let there : IsRelocated between o (object m i) (final l i) =
-    subst (λ xs. IsRelocated between o xs (final l i)) (sym same)
-    (applied_so 4 between thread_low_after (at_place (applied.0) (with_entry e o)) o (instruction_at l.rewritten (offset_of l i)) (final l i) refl (applied.1)) in
-    let from : LowHalfLeads o (b.registers r) (from_thread o (s.registers 13)) =
-    subst (λ k. LowHalfLeads o k (from_thread o (s.registers 13))) (number_there r n t) page in
-    through f x (word_of (final l i)) (word_of (final m i)) s b t _ _ _
-    (first.1 o e small applied f s b d (number_before c s t r n agree) (record { offset_is = offset_is; leads = from }) tt)
-    ((second.1 o own small applied_again).0 f b t d (final l i) (number_after c t r n) (is_sum x y word over)
-    (subst (λ k. Leads between D o (b.registers k) (from_thread o (t.registers 13))) (sym base)
-    (subst (λ k. Leads between D o (b.registers r) (from_thread o k)) thread (from.0))) tt there)
-    (λ u w v p q. alike_through (without_register (rt_of x) d) u w v p
-    (subst (λ k. AgreeBut (without_register k d) w v) target q))
+    let base : ra_of y ≡ ra_of x = omega (arith, word) in
+    let over : IsTrue (not (ra_of x == 0)) =
+    (and_parts (opcode_of x == 31 && field x 11 16 == 13) (not (ra_of x == 0))
+    (and_parts (is_over_thread x) (field x 0 11 == 0x214) (its.1)).0).1 in
+    let second = over_thread laws l m i twice (again laws l m i twice kinds.AddToAddi kind (adds is_add_of_thread) (its.0) new refl (omega arith)) in
+    variable_twice laws l m i twice kinds.AddToAddi kind (adds is_add_of_thread) (its.0) new refl (omega arith) (adds is_addi)
+    (λ o own small applied. (second.1 o own small applied).0) (is_sum x y word over) base (λ d address required. tt)
+    (λ d. ap (λ k. without_register k d) target)
+
+access : Laws → EachVariableTwice kinds.IndexedToD (accesses is_indexed (λ word. access_with (access_of word)))
+access laws l m i twice kind =
+    let its = accessed laws l m i twice kind in
+    let does = accesses is_indexed (λ word. access_with (access_of word)) in
+    let x = word_of (object l i) in
+    let y = word_of (object m i) in
+    let word : y ≡ (32 + access_of x) * 2 ^ 26 + registers_of x =
+    word_again laws l m i twice kinds.IndexedToD kind does (its.0) by_displacement refl (omega arith) in
+    let target : rt_of y ≡ rt_of x = omega (arith, word) in
+    let base : ra_of y ≡ ra_of x = omega (arith, word) in
+    let number : access_number y ≡ access_of x = omega (arith, word) in
+    let top : field y 31 32 ≡ 1 = omega (arith, word) in
+    let parts = and_parts (is_over_thread x && field x 0 6 == 0x2e && is_access (access_of x)) (not (is_store (access_of x) && rt_of x == ra_of x)) (its.1) in
+    let known = (and_parts (is_over_thread x && field x 0 6 == 0x2e) (is_access (access_of x)) (parts.0)).1 in
+    let thread = (and_parts (is_over_thread x) (field x 0 6 == 0x2e)
+    (and_parts (is_over_thread x && field x 0 6 == 0x2e) (is_access (access_of x)) (parts.0)).0).0 in
+    let over = (and_parts (opcode_of x == 31 && field x 11 16 == 13) (not (ra_of x == 0)) thread).1 in
+    let tested : IsTrue (is_d_over_base y) =
+    subst (λ k. IsTrue (k == 1 && is_access (access_number y) && not (is_store (access_number y) && rt_of y == ra_of y) && not (ra_of y == 0))) (sym top)
+    (subst (λ k. IsTrue (1 == 1 && is_access k && not (is_store k && rt_of y == ra_of y) && not (ra_of y == 0))) (sym number)
+    (subst (λ k. IsTrue (1 == 1 && is_access (access_of x) && not (is_store (access_of x) && k == ra_of y) && not (ra_of y == 0))) (sym target)
+    (subst (λ k. IsTrue (1 == 1 && is_access (access_of x) && not (is_store (access_of x) && rt_of x == k) && not (k == 0))) (sym base)
+    (and_from (is_access (access_of x) && not (is_store (access_of x) && rt_of x == ra_of x)) (not (ra_of x == 0))
+    (and_from (is_access (access_of x)) (not (is_store (access_of x) && rt_of x == ra_of x)) known (parts.1)) over)))) in
+    let second = over_thread laws l m i twice (again laws l m i twice kinds.IndexedToD kind does (its.0) by_displacement refl (omega arith)) in
+    variable_twice laws l m i twice kinds.IndexedToD kind does (its.0) by_displacement refl (omega arith) is_d_over
+    (λ o own small applied. (second.1 o own small applied).1) tested base
+    (λ d address required. subst (λ k. ReadsSame d (access_with k) (rt_of y) address) (sym number)
+    (subst (λ k. ReadsSame d (access_with (access_of x)) k address) (sym target) required))
+    (λ d. ap (λ k. after_access d (access_with k) (rt_of y)) number ∙ ap (after_access d (access_with (access_of x))) target)
 
 pub initial_exec_twice : Laws → InitialExecTwice
-initial_exec_twice laws = (offset laws, add laws)
+initial_exec_twice laws = (offset laws, add laws, access laws)
 
 -- ---- in the final bytes
 
@@ -370,18 +446,27 @@ final_offset laws l m i twice linked left symbol got e is_symbol small applied a
     (left_alone m linked architecture i twice.below_again (named_as names.R_PPC64_NONE (relocation_in m.relocations i)) (second.0) refl
     (offset_of m i) left (by.meant.0) alone_again)
 
-final_add : Laws → (l m : Linked) (i : ℕ) → (twice : IsRewrittenTwice names.R_PPC64_TLS l m i)
-    → twice.chosen.kind ≡ relaxations.Ppc64 kinds.AddToAddi
-    → InFinalBytes names.R_PPC64_TPREL16_LO AddDoesTheSame l m i
+final_add : Laws → EachFinalVariable kinds.AddToAddi (adds is_add_of_thread)
 final_add laws l m i twice kind linked left symbol got e is_symbol small applied =
     let between = names.R_PPC64_TPREL16_LO in
     let o = operands_with Ppc64 m.addresses thread_low_after.row symbol (relocation_in l.relocations i) got in
-    let first = added laws l m i twice kind in
-    let again = name_again l m i names.R_PPC64_TLS between twice (first.0) tt in
-    let second = (thread_halves_anywhere laws).1 m twice.calls.second twice.calls.second_architecture i twice.chosen_again twice.below_again again twice.decided_again in
+    let its = added laws l m i twice kind in
+    let named = (its.0).0 in
+    let second = over_thread laws l m i twice (name_again l m i names.R_PPC64_TLS between twice named tt) in
     add laws l m i twice kind o e small applied 0
-    (applied_again l m i names.R_PPC64_TLS between twice (first.0) tt linked left symbol is_symbol names.R_PPC64_TPREL16 thread_after (second.0)
+    (applied_again l m i names.R_PPC64_TLS between twice named tt linked left symbol is_symbol names.R_PPC64_TPREL16 thread_after (second.0)
+    (λ r. refl) o refl)
+
+final_access : Laws → EachFinalVariable kinds.IndexedToD (accesses is_indexed (λ word. access_with (access_of word)))
+final_access laws l m i twice kind linked left symbol got e is_symbol small applied =
+    let between = names.R_PPC64_TPREL16_LO in
+    let o = operands_with Ppc64 m.addresses thread_low_after.row symbol (relocation_in l.relocations i) got in
+    let its = accessed laws l m i twice kind in
+    let named = (its.0).0 in
+    let second = over_thread laws l m i twice (name_again l m i names.R_PPC64_TLS between twice named tt) in
+    access laws l m i twice kind o e small applied 0
+    (applied_again l m i names.R_PPC64_TLS between twice named tt linked left symbol is_symbol names.R_PPC64_TPREL16 thread_after (second.0)
     (λ r. refl) o refl)
 
 pub final_initial_exec_twice : Laws → FinalInitialExecTwice
-final_initial_exec_twice laws = (final_offset laws, final_add laws)
+final_initial_exec_twice laws = (final_offset laws, final_add laws, final_access laws)

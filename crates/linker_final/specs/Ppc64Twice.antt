@@ -13,13 +13,15 @@ use Rattle.linker_final.specs.Ppc64Anywhere.{IsAppliedAt, IsLeft}
 use Rattle.linker_final.specs.Ppc64Final.{final, object, offset_of}
 use Rattle.linker_final.specs.Twice.{AreTwoCalls}
 use Rattle.linker_laws.specs.Machine.{loaded}
-use Rattle.linker_laws.specs.Ppc64Machine.{Formats, State}
+use Rattle.linker_laws.specs.Ppc64Machine.{Formats, State, access_with}
 use Rattle.linker_laws.specs.Ppc64RewriteLaws.{AgreeBut, Changes, IsRelocated, Leads, StepSo}
-use Rattle.linker_laws.specs.Ppc64RewriteLaws.{LowHalfLeads, entry_from_toc, from_thread, from_toc}
+use Rattle.linker_laws.specs.Ppc64RewriteLaws.{LowHalfLeads, Use, accesses, adds, entry_from_toc}
+use Rattle.linker_laws.specs.Ppc64RewriteLaws.{from_thread, from_toc}
 use Rattle.linker_laws.specs.Ppc64RewriteLaws.{thread_offset, with_register, without_register}
 use Rattle.linker_laws.specs.Ppc64RewriteLaws.{word_of}
 use Rattle.linker_laws.specs.Schemes.{AreAddresses}
-use Rattle.linker_ppc64.specs.Ppc64Rewrites.{ra_of, rt_of}
+use Rattle.linker_ppc64.specs.Ppc64Rewrites.{access_of, is_add_of_thread, is_indexed, ra_of, rt_of}
+use Rattle.linker_ppc64.specs.declared.rewrites.RelaxationKind.{RelaxationKind}
 use Rattle.linker_ppc64.specs.declared.rewrites.RelaxationKind.TheVariants as kinds
 use Rattle.linker_rewriting.specs.Decisions.{decision_at}
 use Rattle.linker_rewriting.specs.declared.decisions.Decision.TheVariants.{Rewritten}
@@ -113,28 +115,40 @@ OffsetDoesTheSame l m i o =
 abbrev pub OffsetIsAlikeTwice : Linked → Linked → ℕ → Operands → Type 0
 OffsetIsAlikeTwice l m i o = IsLeft m (offset_of m i) → OffsetDoesTheSame l m i o
 
--- `add rZ,rT,13` became `addi rZ,rT`, and then `addi rZ,13`.
-abbrev pub AddDoesTheSame : Linked → Linked → ℕ → Operands → Type 0
-AddDoesTheSame l m i o =
+-- An instruction with the sum of rT and r13 became one with a low half over rT, and then one over
+-- r13. In the object's run rT has the offset.
+abbrev pub VariableDoesTheSame : Use → Linked → Linked → ℕ → Operands → Type 0
+VariableDoesTheSame does l m i o =
     let word = word_of (object l i) in
     (f : Formats) (s t : State) (c : Changes) (n : ℕ) → AgreeBut c s t
     → s.registers (ra_of word) ≡ thread_offset o → s.registers 13 ≡ t.registers 13
-    → LowHalfLeads o n (from_thread o (s.registers 13))
-    → StepSo f word s (word_of (final m i)) t
-    (AgreeBut (without_register (rt_of word) (with_register (ra_of word) c)))
+    → let address = from_thread o (s.registers 13) in
+    LowHalfLeads o n address
+    → let base = with_register (ra_of word) c in
+    does.Requires base word address
+    → StepSo f word s (word_of (final m i)) t (AgreeBut (does.after base word))
 
-abbrev pub AddIsAlikeTwice : Linked → Linked → ℕ → Operands → Type 0
-AddIsAlikeTwice l m i o =
-    (own : ℕ) → IsAppliedAt names.R_PPC64_TPREL16 own o m (offset_of m i) → AddDoesTheSame l m i o
+abbrev pub VariableIsAlikeTwice : Use → Linked → Linked → ℕ → Operands → Type 0
+VariableIsAlikeTwice does l m i o =
+    (own : ℕ) → IsAppliedAt names.R_PPC64_TPREL16 own o m (offset_of m i)
+    → VariableDoesTheSame does l m i o
 
--- of every load of an offset that is rewritten twice, and of every `add` of one
+-- rewritten by the first call so
+abbrev pub EachVariableTwice : RelaxationKind → Use → Type 0
+EachVariableTwice kind does =
+    (l m : Linked) (i : ℕ) → (twice : IsRewrittenTwice names.R_PPC64_TLS l m i)
+    → twice.chosen.kind ≡ relaxations.Ppc64 kind → (o : Operands) (entry : ℕ) → AreAddresses o
+    → IsAppliedAt names.R_PPC64_TPREL16_LO entry o l (offset_of l i)
+    → VariableIsAlikeTwice does l m i o
+
+-- of every load of an offset that is rewritten twice, of every `add` of one, and of every load and
+-- store by it that becomes one of D-form
 abbrev pub InitialExecTwice : Type 0
 InitialExecTwice =
     EachTwice names.R_PPC64_GOT_TPREL16_LO_DS names.R_PPC64_TPREL16_HA OffsetIsAlikeTwice
-    × ((l m : Linked) (i : ℕ) → (twice : IsRewrittenTwice names.R_PPC64_TLS l m i)
-    → twice.chosen.kind ≡ relaxations.Ppc64 kinds.AddToAddi
-    → (o : Operands) (entry : ℕ) → AreAddresses o
-    → IsAppliedAt names.R_PPC64_TPREL16_LO entry o l (offset_of l i) → AddIsAlikeTwice l m i o)
+    × EachVariableTwice kinds.AddToAddi (adds is_add_of_thread)
+    × EachVariableTwice kinds.IndexedToD
+    (accesses is_indexed (λ word. access_with (access_of word)))
 
 -- ---- in the final bytes
 
@@ -167,10 +181,16 @@ FinalLoadsTwice =
     × ((l m : Linked) (i : ℕ) → IsRewrittenTwice names.R_PPC64_GOT16_LO_DS l m i
     → InFinalBytes names.R_PPC64_TOC16_LO SumDoesTheSame l m i)
 
+abbrev pub EachFinalVariable : RelaxationKind → Use → Type 0
+EachFinalVariable kind does =
+    (l m : Linked) (i : ℕ) → (twice : IsRewrittenTwice names.R_PPC64_TLS l m i)
+    → twice.chosen.kind ≡ relaxations.Ppc64 kind
+    → InFinalBytes names.R_PPC64_TPREL16_LO (VariableDoesTheSame does) l m i
+
 abbrev pub FinalInitialExecTwice : Type 0
 FinalInitialExecTwice =
     ((l m : Linked) (i : ℕ) → IsRewrittenTwice names.R_PPC64_GOT_TPREL16_LO_DS l m i
     → InFinalBytes names.R_PPC64_TPREL16_HA FinalOffsetDoesTheSame l m i)
-    × ((l m : Linked) (i : ℕ) → (twice : IsRewrittenTwice names.R_PPC64_TLS l m i)
-    → twice.chosen.kind ≡ relaxations.Ppc64 kinds.AddToAddi
-    → InFinalBytes names.R_PPC64_TPREL16_LO AddDoesTheSame l m i)
+    × EachFinalVariable kinds.AddToAddi (adds is_add_of_thread)
+    × EachFinalVariable kinds.IndexedToD
+    (accesses is_indexed (λ word. access_with (access_of word)))
