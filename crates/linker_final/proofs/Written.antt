@@ -26,6 +26,7 @@ use Rattle.linker_section.specs.Needed.{entry_of}
 use Rattle.linker_section.specs.Relocations.{relocation_in}
 use Rattle.linker_section.specs.Sections.{IsInNoField, IsRowValue}
 use Rattle.linker_section.specs.Values.{IsValueBy, IsValueIn, entry_address, entry_in, has_value, is_there, value_by, offset_at, operands_by, operands_in, operands_of, operands_with}
+use Rattle.linker_section.specs.declared.facts.Addresses.{Addresses}
 use Rattle.linker_section.specs.declared.facts.Symbol.{Symbol}
 use Rattle.linker_section.specs.declared.needed.Entry.{Entry}
 use Rattle.linker_section.specs.declared.relocations.Rela.{Rela}
@@ -73,13 +74,14 @@ abbrev pub IsRowOf : Architecture → ℕ → RelocationKindInfo → Type 0
 IsRowOf architecture code row =
     (found : Option RelocationKindInfo) → IsRow architecture code found → found ≡ Some row
 
-row_in : (l : Linked) (r : Rela) (row : RelocationKindInfo) → IsRowOf l.setting.architecture r.code row
-    → (found : _) → IsRowValue l.setting.architecture l.addresses l.relocations_last l.symbols r (Ok found)
-    → IsRow l.setting.architecture r.code (Some row)
-row_in l r row only (Some one) has =
-    subst (λ x. IsRow l.setting.architecture r.code x) (only (Some (one.0)) has.is_row) has.is_row
-row_in l r row only None marked =
-    subst (λ x. IsRow l.setting.architecture r.code x) (only (marked.0) (marked.1)) (marked.1)
+pub row_in : (architecture : Architecture) (addresses : Addresses) (relocations : List ℕ) (symbols : List Symbol)
+    (r : Rela) (row : RelocationKindInfo) → IsRowOf architecture r.code row
+    → (found : _) → IsRowValue architecture addresses relocations symbols r (Ok found)
+    → IsRow architecture r.code (Some row)
+row_in architecture addresses relocations symbols r row only (Some one) has =
+    subst (λ x. IsRow architecture r.code x) (only (Some (one.0)) has.is_row) has.is_row
+row_in architecture addresses relocations symbols r row only None marked =
+    subst (λ x. IsRow architecture r.code x) (only (marked.0) (marked.1)) (marked.1)
 
 -- ---- relocations that rewrites leave
 
@@ -110,7 +112,7 @@ module _ (l : Linked) (linked : IsLinked l) (i : ℕ) (below : i < count l) (n :
 
   there : IsRow l.setting.architecture (relocation_in l.relocations_last i).code (Some row)
   there =
-      row_in l (relocation_in l.relocations_last i) row
+      row_in l.setting.architecture l.addresses l.relocations_last l.symbols (relocation_in l.relocations_last i) row
       (subst (λ (x : Rela). IsRowOf l.setting.architecture x.code row) (sym is_last) only)
       (linked.written.can.found i) (linked.written.can.are_found i within)
 

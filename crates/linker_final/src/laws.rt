@@ -105,7 +105,8 @@ pub fn riscv64()
 /// of an address from the GOT that became a sum of its page and the rest, each half of initial-exec
 /// that became a half of local-exec, each instruction of a TLS descriptor that became one of
 /// local-exec or of initial-exec, and each low part of local-exec over the thread pointer, also
-/// where instructions before it are deleted then.
+/// where instructions before it are deleted then. All but the loads do the same wherever a linker
+/// applies their relocations, as in a section that it packs first.
 pub fn loongarch64()
     ensures got_loads { loongarch64_final.GotLoads }
     ensures high_halves { loongarch64_final.HighHalves }
@@ -113,6 +114,9 @@ pub fn loongarch64()
     ensures descriptors { loongarch64_final.Descriptors }
     ensures low_parts { loongarch64_final.LowParts }
     ensures moved_low_parts { loongarch64_final.MovedLowParts }
+    ensures high_halves_anywhere { loongarch64_final.HighHalvesAnywhere }
+    ensures low_halves_anywhere { loongarch64_final.LowHalvesAnywhere }
+    ensures descriptors_anywhere { loongarch64_final.DescriptorsAnywhere }
 {
     linker_laws::rewrites::loongarch64();
 }
