@@ -12,14 +12,15 @@ use Rattle.linker_final.specs.Ppc64Anywhere.{IsAppliedAt, IsLeft}
 use Rattle.linker_final.specs.Ppc64Final.{final, object, offset_of}
 use Rattle.linker_final.specs.Twice.{AreTwoCalls}
 use Rattle.linker_laws.specs.Machine.{loaded}
-use Rattle.linker_laws.specs.Ppc64Machine.{Formats, State, access_with}
+use Rattle.linker_laws.specs.Ppc64Machine.{Formats, State, access_with, word_access_with}
 use Rattle.linker_laws.specs.Ppc64RewriteLaws.{AgreeBut, Changes, IsRelocated, Leads, StepSo}
 use Rattle.linker_laws.specs.Ppc64RewriteLaws.{LowHalfLeads, Use, accesses, adds, entry_from_toc}
 use Rattle.linker_laws.specs.Ppc64RewriteLaws.{from_thread, from_toc}
 use Rattle.linker_laws.specs.Ppc64RewriteLaws.{thread_offset, with_register, without_register}
 use Rattle.linker_laws.specs.Ppc64RewriteLaws.{word_of}
 use Rattle.linker_laws.specs.Schemes.{AreAddresses}
-use Rattle.linker_ppc64.specs.Ppc64Rewrites.{access_of, is_add_of_thread, is_indexed, ra_of, rt_of}
+use Rattle.linker_ppc64.specs.Ppc64Rewrites.{access_of, is_add_of_thread, is_indexed}
+use Rattle.linker_ppc64.specs.Ppc64Rewrites.{is_indexed_word, ra_of, rt_of}
 use Rattle.linker_ppc64.specs.declared.rewrites.RelaxationKind.{RelaxationKind}
 use Rattle.linker_ppc64.specs.declared.rewrites.RelaxationKind.TheVariants as kinds
 use Rattle.linker_rewriting.specs.Decisions.{decision_at}
@@ -104,10 +105,10 @@ OffsetIsAlikeTwice l m i o =
 
 -- An instruction with the sum of rT and r13 became one with a low half over rT, and then one over
 -- r13. In the object's run rT has the offset.
-abbrev pub VariableIsAlikeTwice : Use → Linked → Linked → ℕ → Operands → Type 0
-VariableIsAlikeTwice does l m i o =
+abbrev pub VariableIsAlikeTwice : Ppc64Relocation → Use → Linked → Linked → ℕ → Operands → Type 0
+VariableIsAlikeTwice whole does l m i o =
     let word = word_of (object l i) in
-    (own : ℕ) → IsAppliedAt names.R_PPC64_TPREL16 own o m (offset_of m i)
+    (own : ℕ) → IsAppliedAt whole own o m (offset_of m i)
     → (f : Formats) (s t : State) (c : Changes) (n : ℕ) → AgreeBut c s t
     → s.registers (ra_of word) ≡ thread_offset o → s.registers 13 ≡ t.registers 13
     → let address = from_thread o (s.registers 13) in
@@ -116,19 +117,21 @@ VariableIsAlikeTwice does l m i o =
     does.Requires base word address
     → StepSo f word s (word_of (final m i)) t (AgreeBut (does.after base word))
 
--- rewritten by the first call so
-abbrev pub EachVariableTwice : RelaxationKind → Use → Type 0
-EachVariableTwice kind does =
+-- The first call rewrites it so, and its relocations are then of two names.
+abbrev pub EachVariableTwice : RelaxationKind → Ppc64Relocation → Ppc64Relocation → Use → Type 0
+EachVariableTwice kind low whole does =
     (l m : Linked) (i : ℕ) → (twice : IsRewrittenTwice names.R_PPC64_TLS l m i)
     → twice.chosen.kind ≡ relaxations.Ppc64 kind → (o : Operands) (entry : ℕ) → AreAddresses o
-    → IsAppliedAt names.R_PPC64_TPREL16_LO entry o l (offset_of l i)
-    → VariableIsAlikeTwice does l m i o
+    → IsAppliedAt low entry o l (offset_of l i) → VariableIsAlikeTwice whole does l m i o
 
 -- of every load of an offset that is rewritten twice, of every `add` of one, and of every load and
--- store by it that becomes one of D-form
+-- store by it
 abbrev pub InitialExecTwice : Type 0
 InitialExecTwice =
     EachTwice names.R_PPC64_GOT_TPREL16_LO_DS names.R_PPC64_TPREL16_HA OffsetIsAlikeTwice
-    × EachVariableTwice kinds.AddToAddi (adds is_add_of_thread)
-    × EachVariableTwice kinds.IndexedToD
+    × EachVariableTwice kinds.AddToAddi names.R_PPC64_TPREL16_LO names.R_PPC64_TPREL16
+    (adds is_add_of_thread)
+    × EachVariableTwice kinds.IndexedToD names.R_PPC64_TPREL16_LO names.R_PPC64_TPREL16
     (accesses is_indexed (λ word. access_with (access_of word)))
+    × EachVariableTwice kinds.IndexedToDs names.R_PPC64_TPREL16_LO_DS names.R_PPC64_TPREL16_DS
+    (accesses is_indexed_word (λ word. word_access_with (access_of word)))
