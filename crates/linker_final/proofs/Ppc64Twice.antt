@@ -23,7 +23,7 @@ use Rattle.linker_final.proofs.Written.{stays}
 use Rattle.linker_final.specs.Final.{Linked, instruction_at}
 use Rattle.linker_final.specs.Ppc64Anywhere.{Becomes, IsAppliedAt, named_as}
 use Rattle.linker_final.specs.Ppc64Final.{OverBaseIsAlike, OverOffsetIsAlike, VectorIsAlike, final, object, offset_of}
-use Rattle.linker_final.specs.Ppc64Twice.{EachTwice, EachVariableTwice, InitialExecTwice, IsRewrittenTwice, LoadsTwice, NopIsAlikeTwice, OffsetIsAlikeTwice, SumIsAlikeTwice, VariableIsAlikeTwice}
+use Rattle.linker_final.specs.Ppc64Twice.{EachTwice, EachVariableTwice, InitialExecTwice, IsRewrittenTwice, LoadsTwice, NopIsAlikeTwice, OffsetIsAlikeTwice, StepsCompose, SumIsAlikeTwice, VariableIsAlikeTwice}
 use Rattle.linker_laws.proofs.AArch64Pairs.{word_made}
 use Rattle.linker_laws.specs.Ppc64Machine.{Access, Formats, State, access_with, loads, loads_signed, step, stores, word_access_with}
 use Rattle.linker_laws.specs.Ppc64RewriteLaws.{AgreeBut, Changes, IsRelocated, Laws, Leads, LowHalfLeads, ReadsSame, StepSo, Use, access_number, accesses, adds, after_access, at_place, ds_access, from_thread, from_toc, is_d_over, is_d_over_base, is_ds_over_base, with_entry, with_register, without_register, word_of}
@@ -67,6 +67,10 @@ alike_through c s b t p q =
 pub alike_itself : (c : Changes) (s : State) → AgreeBut c s s
 alike_itself c s =
     record { registers = λ n is. refl; floats = λ n is. refl; memory = λ a is. refl; pc = refl }
+
+pub steps_compose : StepsCompose
+steps_compose f x y z s b t c first second =
+    through f x y z s b t (AgreeBut c) (AgreeBut c) (AgreeBut c) first second (λ u w v. alike_through c u w v)
 
 -- a state with a number in a register
 abbrev with_number : ℕ → ℕ → State → State

@@ -1,5 +1,5 @@
 -- AArch64: a load of an address that two calls of rewriting rewrite does what the object's does.
-use Rattle.std.specs.Prelude.{◌≡◌, ℕ, ◌+◌, ◌<◌}
+use Rattle.std.specs.Prelude.{◌≡◌, ℕ, ◌+◌, ◌<◌, Bool, List}
 use Rattle.linker_elf.specs.declared.aarch64.relocations.AArch64Relocation.TheVariants as names
 use Rattle.linker_elf.specs.declared.elf.choice.Choice.{Choice}
 use Rattle.linker_elf.specs.declared.elf.value.Operands.{Operands}
@@ -7,6 +7,7 @@ use Rattle.linker_final.specs.AArch64Anywhere.{AreAppliedAt, IsAppliedAt, IsLeft
 use Rattle.linker_final.specs.AArch64Final.{AreOfLoad, LoadIsAlike}
 use Rattle.linker_final.specs.Final.{IsRewrittenByNoOther, Linked, count}
 use Rattle.linker_final.specs.Twice.{AreTwoCalls}
+use Rattle.linker_laws.specs.AArch64Machine.{RunAlikeBut, State}
 use Rattle.linker_laws.specs.AArch64RewriteLaws.{behind}
 use Rattle.linker_rewriting.specs.Decisions.{decision_at}
 use Rattle.linker_rewriting.specs.declared.decisions.Decision.TheVariants.{Rewritten, TakenAlong}
@@ -35,3 +36,11 @@ LoadsTwice =
     AreAppliedAt names.R_AARCH64_ADR_PREL_PG_HI21 names.R_AARCH64_ADD_ABS_LO12_NC operands l o
     → IsLeft m o → IsAppliedAt names.R_AARCH64_ADR_PREL_LO21 (behind 4 operands) m (o + 4)
     → LoadIsAlike (record l { final = m.final }) i operands
+
+-- Instructions do what others do, but for registers, and those what others again do. So the first do
+-- what the last do.
+abbrev pub RunsCompose : Type 0
+RunsCompose =
+    (differing : ℕ → Bool) (old between new : List ℕ) (s : State)
+    → RunAlikeBut differing old between s → RunAlikeBut differing between new s
+    → RunAlikeBut differing old new s

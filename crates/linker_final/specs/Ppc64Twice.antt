@@ -50,6 +50,15 @@ EachTwice name between Holds =
     → (o : Operands) (entry : ℕ) → AreAddresses o → IsAppliedAt between entry o l (offset_of l i)
     → Holds l m i o
 
+-- ---- three runs
+
+-- An instruction does what another does, but for changes, and that what a third does. So the first
+-- does what the third does.
+abbrev pub StepsCompose : Type 0
+StepsCompose =
+    (f : Formats) (x y z : ℕ) (s b t : State) (c : Changes) → StepSo f x s y b (AgreeBut c)
+    → StepSo f y b z t (AgreeBut c) → StepSo f x s z t (AgreeBut c)
+
 -- ---- loads of addresses
 
 -- The high half of a GOT entry became that of the symbol's address, and then `nop`. In the object's
