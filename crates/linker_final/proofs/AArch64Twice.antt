@@ -1,5 +1,5 @@
 -- A load of an address of AArch64 that two calls rewrite does what the object's does.
-use Rattle.std.proofs.Common.{◌≡◌, ℕ, ◌+◌, List, [], ◌∷◌, take, drop, false, cond, refl, sym, ap, subst, ◌∙◌, arith, pos, int_lt, Option, Some, None, IsSomeAnd}
+use Rattle.std.proofs.Common.{◌≡◌, ℕ, ◌+◌, List, [], ◌∷◌, take, drop, false, cond, refl, sym, ap, subst, ◌∙◌, arith, pos, int_lt, Option, Some, None, IsSomeAnd, Bool}
 use Rattle.std.proofs.lemmas.Bool.{cond-false}
 use Rattle.std.proofs.lemmas.List.{take-take}
 use Rattle.std.specs.Prelude.{slice_get}
@@ -22,7 +22,7 @@ use Rattle.linker_final.proofs.Twice.{bytes_between, relocation_between}
 use Rattle.linker_final.proofs.Written.{rela, second_same}
 use Rattle.linker_final.specs.AArch64Anywhere.{IsAppliedAt, IsLeft}
 use Rattle.linker_final.specs.AArch64Final.{AreOfAddress}
-use Rattle.linker_final.specs.AArch64Twice.{FinalLoadsTwice, IsRewrittenTwice, LoadsTwice}
+use Rattle.linker_final.specs.AArch64Twice.{FinalLoadsTwice, IsRewrittenTwice, LoadsTwice, RunsCompose}
 use Rattle.linker_final.specs.Final.{Linked, instruction_at, two_at}
 use Rattle.linker_laws.specs.AArch64Machine.{AreAlikeBut, State, RunAlike, run}
 use Rattle.linker_laws.specs.AArch64RewriteLaws.{IsRelocated, Laws, behind, pair, with_entry, word_of}
@@ -35,11 +35,9 @@ use Rattle.linker_utils.specs.declared.elf.Architecture.TheVariants.{AArch64}
 
 -- ---- three runs
 
-abbrev are_alike : State → State → Type 0
-are_alike = AreAlikeBut (λ _. false)
-
-alike_through : (t u v : State) → are_alike t u → are_alike u v → are_alike t v
-alike_through t u v p q =
+alike_through : (differing : ℕ → Bool) (t u v : State) → AreAlikeBut differing t u
+    → AreAlikeBut differing u v → AreAlikeBut differing t v
+alike_through differing t u v p q =
     record {
       registers = λ n is. p.registers n is ∙ q.registers n is;
       pc = p.pc ∙ q.pc;
@@ -47,16 +45,18 @@ alike_through t u v p q =
       thread_pointer = p.thread_pointer ∙ q.thread_pointer;
     }
 
-together : (a b d : Option State) → IsSomeAnd a (λ t. IsSomeAnd b (λ u. are_alike t u))
-    → IsSomeAnd b (λ u. IsSomeAnd d (λ v. are_alike u v)) → IsSomeAnd a (λ t. IsSomeAnd d (λ v. are_alike t v))
-together None b d p q = absurd p
-together (Some t) None d p q = absurd p
-together (Some t) (Some u) None p q = absurd q
-together (Some t) (Some u) (Some v) p q = alike_through t u v p q
+together : (differing : ℕ → Bool) (a b d : Option State)
+    → IsSomeAnd a (λ t. IsSomeAnd b (λ u. AreAlikeBut differing t u))
+    → IsSomeAnd b (λ u. IsSomeAnd d (λ v. AreAlikeBut differing u v))
+    → IsSomeAnd a (λ t. IsSomeAnd d (λ v. AreAlikeBut differing t v))
+together differing None b d p q = absurd p
+together differing (Some t) None d p q = absurd p
+together differing (Some t) (Some u) None p q = absurd q
+together differing (Some t) (Some u) (Some v) p q = alike_through differing t u v p q
 
-through : (old between new : List ℕ) (s : State) → RunAlike old between s → RunAlike between new s
-    → RunAlike old new s
-through old between new s first second = together (run old s) (run between s) (run new s) first second
+pub runs_compose : RunsCompose
+runs_compose differing old between new s first second =
+    together differing (run old s) (run between s) (run new s) first second
 
 -- ---- the page, in a window of two instructions
 
@@ -160,7 +160,7 @@ loads_twice laws l m i j twice w applied left adr s adrp ldr small holds at of_p
     → RunAlike (pair (with_word (word_of between) (drop 4 both)) (instruction_at l.final (o + 4))) (pair (instruction_at m.final n) (instruction_at m.final (n + 4))) s) there
     (λ left adr of_adrp of_add. second.2 w left adr s (with_word (word_of between) (drop 4 both)) (instruction_at l.final (o + 4)) small at of_adrp of_add)
     left adr adrp_there add_there in
-    through (pair adrp ldr) (pair between (instruction_at l.final (o + 4))) (pair (instruction_at m.final o) (instruction_at m.final (o + 4))) s
+    runs_compose (λ _. false) (pair adrp ldr) (pair between (instruction_at l.final (o + 4))) (pair (instruction_at m.final o) (instruction_at m.final (o + 4))) s
     (first.2 w applied s adrp ldr small holds at of_page of_low)
     (subst (λ x. RunAlike (x ∷ word_of (instruction_at l.final (o + 4)) ∷ []) (pair (instruction_at m.final o) (instruction_at m.final (o + 4))) s)
     (same_word (word_of between) (drop 4 both)) ends)

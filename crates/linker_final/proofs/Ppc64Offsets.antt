@@ -110,7 +110,7 @@ module _ (laws : Laws) (l : Linked) (rewriting : AreRewritten l) (i : ℕ) (chos
         (applied_so 4 names.R_PPC64_TPREL16_LO thread_low_after (at_place (applied.0) (with_entry e o)) o (instruction_at l.rewritten (offset_of l i)) (final l i) refl (applied.1)),
   )
 
-  accessed_words : IsOfEntry (entry kinds.IndexedToDs names.R_PPC64_TPREL16_LO_DS to_local_exec_words) l.section (offset_of l i) chosen
+  pub accessed_words : IsOfEntry (entry kinds.IndexedToDs names.R_PPC64_TPREL16_LO_DS to_local_exec_words) l.section (offset_of l i) chosen
       → Becomes names.R_PPC64_TPREL16_LO_DS l i (λ entry. OverOffsetIsAlike (accesses is_indexed_word (λ word. word_access_with (access_of word))) l i)
   accessed_words by = (
     word_after l rewriting i chosen below decided kinds.IndexedToDs by.kind_is names.R_PPC64_TPREL16_LO_DS by.code_is by_word_displacement refl,

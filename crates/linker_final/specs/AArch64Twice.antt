@@ -1,5 +1,5 @@
 -- AArch64: a load of an address that two calls of rewriting rewrite does what the object's does.
-use Rattle.std.specs.Prelude.{◌≡◌, ℕ, ◌+◌, ◌<◌, false, IsSomeAnd, Some, slice_get}
+use Rattle.std.specs.Prelude.{◌≡◌, ℕ, ◌+◌, ◌<◌, false, IsSomeAnd, Some, slice_get, Bool, List}
 use Rattle.linker_elf.specs.AArch64Relocations.{aarch64_row}
 use Rattle.linker_elf.specs.declared.aarch64.relocations.AArch64Relocation.TheVariants as names
 use Rattle.linker_elf.specs.declared.elf.RelocationKindInfo.{RelocationKindInfo}
@@ -10,6 +10,7 @@ use Rattle.linker_final.specs.AArch64Final.{AreOfLoad, LoadIsAlike}
 use Rattle.linker_final.specs.Final.{AreLeft, IsLeftAlone, IsLinked, IsRewrittenByNoOther, Linked}
 use Rattle.linker_final.specs.Final.{IsWrittenByNoOther, count}
 use Rattle.linker_final.specs.Twice.{AreTwoCalls}
+use Rattle.linker_laws.specs.AArch64Machine.{RunAlikeBut, State}
 use Rattle.linker_laws.specs.AArch64RewriteLaws.{behind}
 use Rattle.linker_rewriting.specs.Decisions.{decision_at}
 use Rattle.linker_rewriting.specs.declared.decisions.Decision.TheVariants.{Rewritten, TakenAlong}
@@ -59,3 +60,11 @@ FinalLoadsTwice =
     (l m : Linked) (i j : ℕ) → IsRewrittenTwice l m i j → IsLinked m → AreLeft m i j
     → IsWrittenByNoOther m i (relocation_in m.relocations i).offset
     → IsSomeAnd (aarch64_row names.R_AARCH64_ADR_GOT_PAGE) (FinalBytesLoadTheSame l m i)
+
+-- Instructions do what others do, but for registers, and those what others again do. So the first do
+-- what the last do.
+abbrev pub RunsCompose : Type 0
+RunsCompose =
+    (differing : ℕ → Bool) (old between new : List ℕ) (s : State)
+    → RunAlikeBut differing old between s → RunAlikeBut differing between new s
+    → RunAlikeBut differing old new s

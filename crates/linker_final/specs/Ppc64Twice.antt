@@ -13,14 +13,15 @@ use Rattle.linker_final.specs.Ppc64Anywhere.{IsAppliedAt, IsLeft}
 use Rattle.linker_final.specs.Ppc64Final.{final, object, offset_of}
 use Rattle.linker_final.specs.Twice.{AreTwoCalls}
 use Rattle.linker_laws.specs.Machine.{loaded}
-use Rattle.linker_laws.specs.Ppc64Machine.{Formats, State, access_with}
+use Rattle.linker_laws.specs.Ppc64Machine.{Formats, State, access_with, word_access_with}
 use Rattle.linker_laws.specs.Ppc64RewriteLaws.{AgreeBut, Changes, IsRelocated, Leads, StepSo}
 use Rattle.linker_laws.specs.Ppc64RewriteLaws.{LowHalfLeads, Use, accesses, adds, entry_from_toc}
 use Rattle.linker_laws.specs.Ppc64RewriteLaws.{from_thread, from_toc}
 use Rattle.linker_laws.specs.Ppc64RewriteLaws.{thread_offset, with_register, without_register}
 use Rattle.linker_laws.specs.Ppc64RewriteLaws.{word_of}
 use Rattle.linker_laws.specs.Schemes.{AreAddresses}
-use Rattle.linker_ppc64.specs.Ppc64Rewrites.{access_of, is_add_of_thread, is_indexed, ra_of, rt_of}
+use Rattle.linker_ppc64.specs.Ppc64Rewrites.{access_of, is_add_of_thread, is_indexed}
+use Rattle.linker_ppc64.specs.Ppc64Rewrites.{is_indexed_word, ra_of, rt_of}
 use Rattle.linker_ppc64.specs.declared.rewrites.RelaxationKind.{RelaxationKind}
 use Rattle.linker_ppc64.specs.declared.rewrites.RelaxationKind.TheVariants as kinds
 use Rattle.linker_rewriting.specs.Decisions.{decision_at}
@@ -53,6 +54,15 @@ EachTwice name between Holds =
     (l m : Linked) (i : ℕ) → IsRewrittenTwice name l m i
     → (o : Operands) (entry : ℕ) → AreAddresses o → IsAppliedAt between entry o l (offset_of l i)
     → Holds l m i o
+
+-- ---- three runs
+
+-- An instruction does what another does, but for changes, and that what a third does. So the first
+-- does what the third does.
+abbrev pub StepsCompose : Type 0
+StepsCompose =
+    (f : Formats) (x y z : ℕ) (s b t : State) (c : Changes) → StepSo f x s y b (AgreeBut c)
+    → StepSo f y b z t (AgreeBut c) → StepSo f x s z t (AgreeBut c)
 
 -- ---- loads of addresses
 
@@ -128,27 +138,28 @@ VariableDoesTheSame does l m i o =
     does.Requires base word address
     → StepSo f word s (word_of (final m i)) t (AgreeBut (does.after base word))
 
-abbrev pub VariableIsAlikeTwice : Use → Linked → Linked → ℕ → Operands → Type 0
-VariableIsAlikeTwice does l m i o =
-    (own : ℕ) → IsAppliedAt names.R_PPC64_TPREL16 own o m (offset_of m i)
-    → VariableDoesTheSame does l m i o
+abbrev pub VariableIsAlikeTwice : Ppc64Relocation → Use → Linked → Linked → ℕ → Operands → Type 0
+VariableIsAlikeTwice whole does l m i o =
+    (own : ℕ) → IsAppliedAt whole own o m (offset_of m i) → VariableDoesTheSame does l m i o
 
--- rewritten by the first call so
-abbrev pub EachVariableTwice : RelaxationKind → Use → Type 0
-EachVariableTwice kind does =
+-- The first call rewrites it so, and its relocations are then of two names.
+abbrev pub EachVariableTwice : RelaxationKind → Ppc64Relocation → Ppc64Relocation → Use → Type 0
+EachVariableTwice kind low whole does =
     (l m : Linked) (i : ℕ) → (twice : IsRewrittenTwice names.R_PPC64_TLS l m i)
     → twice.chosen.kind ≡ relaxations.Ppc64 kind → (o : Operands) (entry : ℕ) → AreAddresses o
-    → IsAppliedAt names.R_PPC64_TPREL16_LO entry o l (offset_of l i)
-    → VariableIsAlikeTwice does l m i o
+    → IsAppliedAt low entry o l (offset_of l i) → VariableIsAlikeTwice whole does l m i o
 
 -- of every load of an offset that is rewritten twice, of every `add` of one, and of every load and
--- store by it that becomes one of D-form
+-- store by it
 abbrev pub InitialExecTwice : Type 0
 InitialExecTwice =
     EachTwice names.R_PPC64_GOT_TPREL16_LO_DS names.R_PPC64_TPREL16_HA OffsetIsAlikeTwice
-    × EachVariableTwice kinds.AddToAddi (adds is_add_of_thread)
-    × EachVariableTwice kinds.IndexedToD
+    × EachVariableTwice kinds.AddToAddi names.R_PPC64_TPREL16_LO names.R_PPC64_TPREL16
+    (adds is_add_of_thread)
+    × EachVariableTwice kinds.IndexedToD names.R_PPC64_TPREL16_LO names.R_PPC64_TPREL16
     (accesses is_indexed (λ word. access_with (access_of word)))
+    × EachVariableTwice kinds.IndexedToDs names.R_PPC64_TPREL16_LO_DS names.R_PPC64_TPREL16_DS
+    (accesses is_indexed_word (λ word. word_access_with (access_of word)))
 
 -- ---- in the final bytes
 
@@ -181,16 +192,18 @@ FinalLoadsTwice =
     × ((l m : Linked) (i : ℕ) → IsRewrittenTwice names.R_PPC64_GOT16_LO_DS l m i
     → InFinalBytes names.R_PPC64_TOC16_LO SumDoesTheSame l m i)
 
-abbrev pub EachFinalVariable : RelaxationKind → Use → Type 0
-EachFinalVariable kind does =
+abbrev pub EachFinalVariable : RelaxationKind → Ppc64Relocation → Use → Type 0
+EachFinalVariable kind low does =
     (l m : Linked) (i : ℕ) → (twice : IsRewrittenTwice names.R_PPC64_TLS l m i)
     → twice.chosen.kind ≡ relaxations.Ppc64 kind
-    → InFinalBytes names.R_PPC64_TPREL16_LO (VariableDoesTheSame does) l m i
+    → InFinalBytes low (VariableDoesTheSame does) l m i
 
 abbrev pub FinalInitialExecTwice : Type 0
 FinalInitialExecTwice =
     ((l m : Linked) (i : ℕ) → IsRewrittenTwice names.R_PPC64_GOT_TPREL16_LO_DS l m i
     → InFinalBytes names.R_PPC64_TPREL16_HA FinalOffsetDoesTheSame l m i)
-    × EachFinalVariable kinds.AddToAddi (adds is_add_of_thread)
-    × EachFinalVariable kinds.IndexedToD
+    × EachFinalVariable kinds.AddToAddi names.R_PPC64_TPREL16_LO (adds is_add_of_thread)
+    × EachFinalVariable kinds.IndexedToD names.R_PPC64_TPREL16_LO
     (accesses is_indexed (λ word. access_with (access_of word)))
+    × EachFinalVariable kinds.IndexedToDs names.R_PPC64_TPREL16_LO_DS
+    (accesses is_indexed_word (λ word. word_access_with (access_of word)))

@@ -73,6 +73,7 @@ pub fn aarch64()
     ensures descriptors_anywhere { aarch64_anywhere.DescriptorsAnywhere }
     ensures loads_twice { aarch64_twice.LoadsTwice }
     ensures final_loads_twice { aarch64_twice.FinalLoadsTwice }
+    ensures runs_compose { aarch64_twice.RunsCompose }
 {
     linker_laws::rewrites::aarch64();
 }
@@ -145,6 +146,7 @@ pub fn ppc64()
     ensures near_arguments_anywhere { ppc64_anywhere.NearArgumentsAnywhere }
     ensures loads_anywhere { ppc64_anywhere.LoadsAnywhere }
     ensures loads_twice { ppc64_twice.LoadsTwice }
+    ensures steps_compose { ppc64_twice.StepsCompose }
     ensures initial_exec_twice { ppc64_twice.InitialExecTwice }
     ensures final_loads_twice { ppc64_twice.FinalLoadsTwice }
     ensures final_initial_exec_twice { ppc64_twice.FinalInitialExecTwice }

@@ -4,7 +4,7 @@ use Rattle.linker_final.proofs.Ppc64Halves.{thread_halves, thread_halves_anywher
 use Rattle.linker_final.proofs.Ppc64Loads.{loads, loads_anywhere}
 use Rattle.linker_final.proofs.Ppc64Near.{near_arguments, near_arguments_anywhere}
 use Rattle.linker_final.proofs.Ppc64Offsets.{initial_exec, initial_exec_anywhere}
-use Rattle.linker_final.proofs.Ppc64Twice.{final_initial_exec_twice, final_loads_twice, initial_exec_twice, loads_twice}
+use Rattle.linker_final.proofs.Ppc64Twice.{final_initial_exec_twice, final_loads_twice, initial_exec_twice, loads_twice, steps_compose}
 use Rattle.linker_final.proofs.laws.ppc64.Goals as goal
 
 pub returns : goal.returns
@@ -28,6 +28,7 @@ returns c =
       near_arguments_anywhere = near_arguments_anywhere laws;
       loads_anywhere = loads_anywhere laws;
       loads_twice = loads_twice laws;
+      steps_compose = steps_compose;
       initial_exec_twice = initial_exec_twice laws;
       final_loads_twice = final_loads_twice laws;
       final_initial_exec_twice = final_initial_exec_twice laws;
