@@ -16,8 +16,7 @@ use Rattle.linker_elf.specs.declared.loongarch64.relocations.LoongArch64Relocati
 use Rattle.linker_final.proofs.Early.{isnt}
 use Rattle.linker_final.proofs.LoongArchChosen.{IsByTable, IsEntry, by_table, entry_by}
 use Rattle.linker_final.proofs.LoongArchWritten.{IsAfter, becomes, named_after, relocated_there}
-use Rattle.linker_final.proofs.RiscVWritten.{are_rewritten}
-use Rattle.linker_final.proofs.Written.{word_same}
+use Rattle.linker_final.proofs.Written.{are_rewritten, word_same}
 use Rattle.linker_final.specs.Final.{AreRewritten, Linked, IsLinked, count, instruction_at}
 use Rattle.linker_final.specs.LoongArchFinal.{Anywhere, HighDoesTheSame, HighHalves, HighHalvesAnywhere, InPlace, LowDoesTheSame, LowHalves, LowHalvesAnywhere, LowParts, MovedLowParts, named_as}
 use Rattle.linker_laws.specs.LoongArchRewriteLaws.{HighHalfToLu12i, Laws, word_of}

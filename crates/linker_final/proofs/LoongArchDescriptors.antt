@@ -19,8 +19,8 @@ use Rattle.linker_elf.specs.declared.loongarch64.relocations.LoongArch64Relocati
 use Rattle.linker_final.proofs.LoongArchAlone.{high_after, high_anywhere, high_takes, in_place, low_after, low_takes}
 use Rattle.linker_final.proofs.LoongArchChosen.{IsByTable, IsEntry, by_table, entry_by, same_kind}
 use Rattle.linker_final.proofs.LoongArchWritten.{IsAfter, becomes, named_after, relocated_there, unwritten_nop}
-use Rattle.linker_final.proofs.RiscVWritten.{are_rewritten, stays}
-use Rattle.linker_final.proofs.Written.{word_same}
+use Rattle.linker_final.proofs.RiscVWritten.{stays}
+use Rattle.linker_final.proofs.Written.{are_rewritten, word_same}
 use Rattle.linker_final.specs.Final.{Linked, IsLinked, count, instruction_at}
 use Rattle.linker_final.specs.LoongArchFinal.{Anywhere, AnywhereUnchanged, AnywhereUnwritten, CallDoesNothing, Descriptors, DescriptorsAnywhere, EachAnywhere, HasOffsetEntry, HighDoesTheSame, InPlaceByEntry, InPlaceUnwritten, IsAny, IsKind, LoadDoesNothing, LowLoadsOffset, LowMakesOffset, PageDoesTheSame, named_as, with_entry}
 use Rattle.linker_laws.specs.LoongArchRewriteLaws.{IsRelocated, Laws, word_of}

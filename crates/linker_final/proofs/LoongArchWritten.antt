@@ -15,8 +15,7 @@ use Rattle.linker_elf.specs.declared.elf.value.Operands.{Operands}
 use Rattle.linker_elf.specs.declared.loongarch64.relocations.LoongArch64Relocation.{LoongArch64Relocation}
 use Rattle.linker_elf.specs.declared.loongarch64.relocations.LoongArch64Relocation.TheVariants as names
 use Rattle.linker_final.proofs.InstructionFields.{IsOfInstruction}
-use Rattle.linker_final.proofs.RiscVWritten.{are_rewritten}
-use Rattle.linker_final.proofs.Written.{IsRowOf, applied_after, by_name, rela, unwritten_without, with_operands}
+use Rattle.linker_final.proofs.Written.{IsRowOf, applied_after, are_rewritten, by_name, rela, unwritten_without, with_operands}
 use Rattle.linker_final.specs.Final.{AreRewritten, Linked, IsLinked, IsWrittenByNoOther, count, instruction_at}
 use Rattle.linker_final.specs.LoongArchFinal.{named_as}
 use Rattle.linker_laws.specs.LoongArchRewriteLaws.{BeginsRewritten, IsRelocated, IsRewritten}

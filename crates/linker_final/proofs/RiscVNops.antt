@@ -8,10 +8,10 @@ use Rattle.linker_elf.specs.declared.elf.choice.Choice.{Choice}
 use Rattle.linker_elf.specs.declared.riscv64.relocations.RiscVRelocation.{RiscVRelocation}
 use Rattle.linker_elf.specs.declared.riscv64.relocations.RiscVRelocation.TheVariants as names
 use Rattle.linker_final.proofs.Joined.{unwritten_there}
-use Rattle.linker_final.proofs.Written.{IsRowOf, by_name, unwritten_without}
+use Rattle.linker_final.proofs.Written.{IsRowOf, are_rewritten, by_name, unwritten_without}
 use Rattle.linker_final.proofs.RiscVChosen.{IsOfSome, of_some}
 use Rattle.linker_final.proofs.RiscVDescriptors.{Becomes, same_kind}
-use Rattle.linker_final.proofs.RiscVWritten.{are_rewritten, becomes, long_there, redirected_after}
+use Rattle.linker_final.proofs.RiscVWritten.{becomes, long_there, redirected_after}
 use Rattle.linker_final.specs.Final.{instruction_at}
 use Rattle.linker_final.specs.Final.{AreRewritten, Linked, count}
 use Rattle.linker_final.specs.Joined.{final_instruction}

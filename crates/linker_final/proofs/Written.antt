@@ -16,7 +16,7 @@ use Rattle.linker_elf.specs.declared.elf.choice.Choice.{Choice}
 use Rattle.linker_elf.specs.declared.elf.value.Operands.{Operands}
 use Rattle.linker_final.proofs.InstructionFields.{IsOfInstruction, applied, instruction_len}
 use Rattle.linker_final.proofs.PutBack.{same_windows}
-use Rattle.linker_final.specs.Final.{Linked, IsLinked, IsRewrittenByNoOther, IsWrittenByNoOther, count, instruction_at, two_at}
+use Rattle.linker_final.specs.Final.{AreRewritten, Linked, IsLinked, IsRewrittenByNoOther, IsWrittenByNoOther, count, instruction_at, two_at}
 use Rattle.linker_rewriting.specs.Decisions.{decision_at, written_end_at, written_end_by}
 use Rattle.linker_rewriting.specs.Rewritten.{IsDone, IsMade, relocation_after}
 use Rattle.linker_rewriting.specs.declared.decisions.Decision.TheVariants.{Rewritten}
@@ -171,6 +171,16 @@ entry_is_there l linked i below n row of after is_after only symbol is_symbol en
     ]
 
 -- ---- bytes that rewrites leave
+
+pub are_rewritten : (l : Linked) → IsLinked l → AreRewritten l
+are_rewritten l linked =
+    record {
+      decided = linked.decided;
+      relocations = linked.relocations;
+      done = linked.done;
+      others = linked.others;
+      same_length = linked.same_length;
+    }
 
 module _ (l : Linked) (linked : IsLinked l) (i : ℕ) (chosen : Choice Relaxation ℕ) (below : i < count l)
     (decided : decision_at l.decisions i ≡ Rewritten chosen) where
