@@ -1,13 +1,12 @@
--- Addresses of AArch64 that became one instruction do in the final bytes what the object's do.
-use Rattle.std.proofs.Common.{◌≡◌, ℕ, ℤ, ◌+◌, ◌-◌, ◌≤◌, [], ◌∷◌, length, take, drop, false, cond, refl, sym, ap, subst, ◌∙◌, arith, Some}
+-- Addresses of AArch64 that became one instruction do what the object's do, and in the final bytes.
+use Rattle.std.proofs.Common.{◌≡◌, ℕ, ℤ, ◌+◌, ◌-◌, [], ◌∷◌, take, drop, false, cond, refl, sym, ap, subst, ◌∙◌, arith, Some}
 use Rattle.std.proofs.lemmas.Bool.{cond-false}
 use Rattle.std.proofs.lemmas.List.{take-take}
 use Rattle.std.specs.Prelude.{slice_get}
-use Rattle.linker_aarch64.specs.AArch64Rewrites.{AArch64Entry, to_adr, nop_adr, IsAdd64, AreOfOneRegister}
+use Rattle.linker_aarch64.specs.AArch64Rewrites.{to_adr, nop_adr, IsAdd64, AreOfOneRegister}
 use Rattle.linker_aarch64.specs.declared.rewrites.RelaxationKind.TheVariants as kinds
 use Rattle.linker_base.specs.Rewrite.{replaces}
 use Rattle.linker_elf.specs.AArch64Relocations.{aarch64_name, insn_row}
-use Rattle.linker_elf.specs.Applied.{IsApplied}
 use Rattle.linker_elf.specs.Choices.{entry}
 use Rattle.linker_elf.specs.ElfNames.{code_of}
 use Rattle.linker_elf.specs.Rows.{paged_row, signed_row, place_pages}
@@ -19,8 +18,9 @@ use Rattle.linker_elf.specs.declared.elf.RelocationKind.TheVariants.{Relative}
 use Rattle.linker_elf.specs.declared.elf.RelocationKindInfo.{RelocationKindInfo}
 use Rattle.linker_elf.specs.declared.elf.value.Operands.{Operands}
 use Rattle.linker_final.proofs.AArch64Chosen.{IsOfEntry, of_entry}
-use Rattle.linker_final.specs.AArch64Final.{AreOfAddress, Addresses as AddressesByAdr, MakesTheSame}
-use Rattle.linker_final.specs.Final.{AreLeft, Linked, IsLinked, IsWrittenByNoOther, instruction_at, two_at}
+use Rattle.linker_final.specs.AArch64Anywhere.{AddressesAnywhere, IsAppliedAt, IsLeft, IsNamedAs}
+use Rattle.linker_final.specs.AArch64Final.{AddressIsAlike, AreOfAddress, Addresses as AddressesByAdr}
+use Rattle.linker_final.specs.Final.{AreRewritten, Linked, instruction_at, two_at}
 use Rattle.linker_laws.specs.AArch64RewriteLaws.{IsPair, IsRelocated, IsRewritten, Laws, behind, pair, word_of}
 use Rattle.linker_rewriting.specs.Rewritten.{IsDone, IsMade, relocation_after}
 use Rattle.linker_section.specs.Relocations.{relocation_in}
@@ -30,8 +30,8 @@ use Rattle.linker_section.specs.declared.facts.Symbol.{Symbol}
 use Rattle.linker_section.specs.declared.relocations.Rela.{Rela}
 use Rattle.linker_utils.specs.Architectures.{relaxation_rewrite}
 use Rattle.linker_utils.specs.declared.elf.Architecture.TheVariants.{AArch64}
-use Rattle.linker_final.proofs.AArch64Written.{IsAfter, applied_there, unwritten}
-use Rattle.linker_final.proofs.Written.{first_same, rela, second_same, with_operands, word_same}
+use Rattle.linker_final.proofs.AArch64Written.{IsAfter, applied_there, left_alone, named_after}
+use Rattle.linker_final.proofs.Written.{are_rewritten, first_same, rela, second_same, word_same}
 use Rattle.linker_laws.specs.AArch64Machine.{RunAlike}
 
 -- ---- rows
@@ -39,7 +39,7 @@ use Rattle.linker_laws.specs.AArch64Machine.{RunAlike}
 abbrev page_row : RelocationKindInfo
 page_row = paged_row place_pages (signed_row 33 (insn_row Relative 12 33 Adr))
 
-abbrev adr_after : IsAfter names.R_AARCH64_ADR_PREL_LO21
+abbrev pub adr_after : IsAfter names.R_AARCH64_ADR_PREL_LO21
 adr_after =
     record {
       row = signed_row 21 (insn_row Relative 0 21 Adr);
@@ -83,20 +83,17 @@ module _ (addresses : Addresses) (symbol : Symbol) (is_there : symbol.is_undefin
 
 -- ---- a pair
 
-module _ (laws : Laws) (l : Linked) (linked : IsLinked l) (aarch64 : l.setting.architecture ≡ AArch64)
-    (i j : ℕ) (of : AreOfAddress l i j) (left : AreLeft l i j) (alone : IsWrittenByNoOther l i (relocation_in l.relocations i).offset) where
+module _ (laws : Laws) (l : Linked) (rewriting : AreRewritten l) (aarch64 : l.setting.architecture ≡ AArch64)
+    (i j : ℕ) (of : AreOfAddress l i j) where
   abbrev first : Rela
   first = relocation_in l.relocations i
 
   abbrev second : Rela
   second = relocation_in l.relocations j
 
-  abbrev e : AArch64Entry
-  e = entry kinds.AdrpAddToNopAdr names.R_AARCH64_ADR_PREL_LO21 to_adr
-
-  by : IsOfEntry names.R_AARCH64_ADD_ABS_LO12_NC (entry kinds.AdrpAddToNopAdr names.R_AARCH64_ADR_PREL_LO21 to_adr) l.section second.offset of.low_chosen
+  pub by : IsOfEntry names.R_AARCH64_ADD_ABS_LO12_NC (entry kinds.AdrpAddToNopAdr names.R_AARCH64_ADR_PREL_LO21 to_adr) l.section second.offset of.low_chosen
   by =
-      of_entry l linked aarch64 j of.low_chosen of.together.second_below of.low_decided names.R_AARCH64_ADD_ABS_LO12_NC tt of.low
+      of_entry l rewriting aarch64 j of.low_chosen of.together.second_below of.low_decided names.R_AARCH64_ADD_ABS_LO12_NC tt of.low
       (entry kinds.AdrpAddToNopAdr names.R_AARCH64_ADR_PREL_LO21 to_adr) refl
 
   back : second.offset - 4 ≡ first.offset
@@ -105,7 +102,7 @@ module _ (laws : Laws) (l : Linked) (linked : IsLinked l) (aarch64 : l.setting.a
   made_two : IsRewritten kinds.AdrpAddToNopAdr (two_at l.section first.offset) (two_at l.rewritten first.offset)
   made_two =
       let done : IsMade (relaxation_rewrite of.low_chosen.kind) second.offset l.section l.rewritten =
-      subst (λ d. IsDone d second.offset l.section l.rewritten) of.low_decided (linked.done j of.together.second_below) in
+      subst (λ d. IsDone d second.offset l.section l.rewritten) of.low_decided (rewriting.done j of.together.second_below) in
       let made : IsMade (Some (replaces 4 8 nop_adr)) second.offset l.section l.rewritten =
       subst (λ k. IsMade (relaxation_rewrite k) second.offset l.section l.rewritten) by.kind_is done in
       let here : two_at l.rewritten first.offset ≡ nop_adr (two_at l.section first.offset) =
@@ -113,14 +110,19 @@ module _ (laws : Laws) (l : Linked) (linked : IsLinked l) (aarch64 : l.setting.a
       take-take 8 8 (drop first.offset l.rewritten) (omega arith)
       ∙ (here ∙ ap nop_adr (sym (take-take 8 8 (drop first.offset l.section) (omega arith))))
 
-  pub makes_the_same : MakesTheSame l i page_row
-  makes_the_same symbol is_symbol is_there s adrp add small at of_page of_low =
+  gone : IsNamedAs names.R_AARCH64_NONE l i
+  gone = rewriting.relocations i of.together.first_below ∙ ap (λ d. relocation_after d first) of.page_decided
+
+  named : IsNamedAs names.R_AARCH64_ADR_PREL_LO21 l j
+  named =
+      named_after l rewriting j of.low_chosen of.together.second_below of.low_decided
+      (entry kinds.AdrpAddToNopAdr names.R_AARCH64_ADR_PREL_LO21 to_adr) by.kind_is by.code_is (λ o. refl) (λ a. refl)
+
+  wherever : (w : Operands) → IsLeft l first.offset
+      → IsAppliedAt names.R_AARCH64_ADR_PREL_LO21 (behind 4 w) l (first.offset + 4) → AddressIsAlike l i w
+  wherever w left applied s adrp add small at of_page of_low =
       let o = first.offset in
-      let w = operands_with AArch64 l.addresses page_row symbol first 0 in
       let next = of.together.next in
-      let inside = by.meant.matches.1.1.0 in
-      let code = code_of (aarch64_name names.R_AARCH64_ADR_PREL_LO21) in
-      let section_long : o + 8 ≤ length l.section = omega (arith, inside, next) in
       let is_add : IsAdd64 (word_of (drop (o + 4) l.section)) =
       subst (λ n. IsAdd64 (word_of (drop n l.section))) next (by.meant.matches.1.1.1.0) in
       let one : AreOfOneRegister (word_of (drop o l.section)) (word_of (drop (o + 4) l.section)) =
@@ -140,26 +142,39 @@ module _ (laws : Laws) (l : Linked) (linked : IsLinked l) (aarch64 : l.setting.a
       } in
       let low : IsRelocated names.R_AARCH64_ADD_ABS_LO12_NC (behind 4 w) (drop 4 (two_at l.section o)) add =
       subst (λ xs. IsRelocated names.R_AARCH64_ADD_ABS_LO12_NC (behind 4 w) xs add) (sym (second_same l.section o)) of_low in
-      let there : IsApplied adr_after.row (operands_with AArch64 l.addresses adr_after.row symbol (rela (o + 4) code second.symbol second.addend) 0) (instruction_at l.rewritten (o + 4)) (instruction_at l.final (o + 4)) =
-      subst (λ n. IsApplied adr_after.row (operands_with AArch64 l.addresses adr_after.row symbol (rela n code second.symbol second.addend) 0) (instruction_at l.rewritten n) (instruction_at l.final n)) next
-      (applied_there l linked aarch64 j of.low_chosen of.together.second_below of.low_decided (left.1) e
-      by.kind_is by.code_is (λ o. refl) (λ a. refl) adr_after symbol 0 refl
-      (ap (slice_get l.symbols) of.together.same_symbol ∙ is_symbol)) in
-      let written : IsApplied adr_after.row (behind 4 w) (drop 4 (two_at l.rewritten o)) (instruction_at l.final (o + 4)) =
-      subst (λ xs. IsApplied adr_after.row (behind 4 w) xs (instruction_at l.final (o + 4))) (sym (second_same l.rewritten o))
-      (with_operands adr_after.row
-      (operands_with AArch64 l.addresses adr_after.row symbol (rela (o + 4) code second.symbol second.addend) 0)
-      (behind 4 w) (instruction_at l.rewritten (o + 4)) (instruction_at l.final (o + 4))
-      (adr_value l.addresses symbol is_there first code second.addend of.together.same_addend) there) in
-      let gone : (relocation_in l.relocations_after i).code ≡ 0 =
-      ap (λ (x : Rela). x.code) (linked.relocations i of.together.first_below ∙ ap (λ d. relocation_after d first) of.page_decided) in
-      let stays : instruction_at l.final o ≡ instruction_at l.rewritten o =
-      unwritten l linked aarch64 i of.together.first_below o (left.0) gone (omega (arith, section_long)) alone in
+      let written : IsRelocated names.R_AARCH64_ADR_PREL_LO21 (behind 4 w) (drop 4 (two_at l.rewritten o)) (instruction_at l.final (o + 4)) =
+      subst (λ xs. IsRelocated names.R_AARCH64_ADR_PREL_LO21 (behind 4 w) xs (instruction_at l.final (o + 4))) (sym (second_same l.rewritten o)) applied in
       let word : word_of (two_at l.rewritten o) ≡ word_of (instruction_at l.final o) =
-      first_same l.rewritten o ∙ ap word_of (sym stays) in
+      first_same l.rewritten o ∙ ap word_of (sym left) in
       subst (λ x. RunAlike (pair adrp add) (x ∷ word_of (instruction_at l.final (o + 4)) ∷ []) s) word
       (laws.address.0 w s (two_at l.section o) (two_at l.rewritten o) together made_two adrp add (instruction_at l.final (o + 4))
       of_page low written)
 
+pub addresses_anywhere : Laws → AddressesAnywhere
+addresses_anywhere laws l rewriting aarch64 i j of = (
+  gone laws l rewriting aarch64 i j of,
+  named laws l rewriting aarch64 i j of,
+  wherever laws l rewriting aarch64 i j of,
+)
+
+-- ---- in the final bytes
+
 pub addresses : Laws → AddressesByAdr
-addresses laws l linked aarch64 i j of left alone = makes_the_same laws l linked aarch64 i j of left alone
+addresses laws l linked aarch64 i j of left alone symbol is_symbol is_there =
+    let rewriting = are_rewritten l linked in
+    let r = relocation_in l.relocations i in
+    let q = relocation_in l.relocations j in
+    let o = r.offset in
+    let w = operands_with AArch64 l.addresses page_row symbol r 0 in
+    let any = addresses_anywhere laws l rewriting aarch64 i j of in
+    let e = by laws l rewriting aarch64 i j of in
+    let inside = e.meant.matches.1.1.0 in
+    let next = of.together.next in
+    let code = code_of (aarch64_name names.R_AARCH64_ADR_PREL_LO21) in
+    any.2 w
+    (left_alone l linked aarch64 i of.together.first_below (any.0) o (left.0) (omega (arith, inside, next)) alone)
+    (subst (IsAppliedAt names.R_AARCH64_ADR_PREL_LO21 (behind 4 w) l) next
+    (applied_there l linked aarch64 j of.together.second_below names.R_AARCH64_ADR_PREL_LO21 adr_after (any.1) (left.1) symbol
+    (ap (slice_get l.symbols) of.together.same_symbol ∙ is_symbol) 0 refl (behind 4 w)
+    (adr_value l.addresses symbol is_there r code q.addend of.together.same_addend
+    ∙ ap (λ n. value_of adr_after.row (operands_with AArch64 l.addresses adr_after.row symbol (rela n code r.symbol q.addend) 0)) (sym next))))

@@ -1,12 +1,11 @@
 -- Instructions of AArch64 that are rewritten each by itself do in the final bytes what the object's do.
 use Rattle.std.proofs.Common.{◌≡◌, ℕ, ◌+◌, ◌<◌, ◌≤◌, [], ◌∷◌, length, drop, false, refl, subst, Bool, true, eqb}
 use Rattle.std.proofs.lemmas.Bool.{eq-eqb}
-use Rattle.linker_aarch64.specs.AArch64Rewrites.{aarch64_entries, halves_to_local_exec, IsLdr64, IsIntoOwnSource, IsAdrp, IsAskedFor, rd_of, rn_of}
+use Rattle.linker_aarch64.specs.AArch64Rewrites.{AArch64Entry, aarch64_entries, halves_to_local_exec, IsLdr64, IsIntoOwnSource, IsAdrp, IsAskedFor, rd_of, rn_of}
 use Rattle.linker_aarch64.specs.declared.rewrites.RelaxationKind.TheVariants as kinds
 use Rattle.linker_elf.specs.AArch64Relocations.{aarch64_name, insn_row}
-use Rattle.linker_elf.specs.Applied.{IsApplied}
 use Rattle.linker_elf.specs.Choices.{entry, weak_zero}
-use Rattle.linker_elf.specs.ElfNames.{IsNamed, IsNameOf, code_of}
+use Rattle.linker_elf.specs.ElfNames.{IsNamed, IsNameOf}
 use Rattle.linker_elf.specs.Rows.{aligned_row, signed_row, thunkable_row}
 use Rattle.linker_elf.specs.declared.aarch64.forms.AArch64Instruction.TheVariants.{JumpCall, Movnz, Movkz}
 use Rattle.linker_elf.specs.declared.aarch64.relocations.AArch64Relocation.{AArch64Relocation}
@@ -16,17 +15,18 @@ use Rattle.linker_elf.specs.declared.elf.RelocationKind.TheVariants.{PltRelative
 use Rattle.linker_elf.specs.declared.elf.RelocationKindInfo.{RelocationKindInfo}
 use Rattle.linker_elf.specs.declared.elf.choice.Choice.{Choice}
 use Rattle.linker_final.proofs.AArch64Chosen.{of_entry}
+use Rattle.linker_final.specs.AArch64Anywhere.{BranchesAnywhere, EachBranchGoes, HighHalvesAnywhere, LowHalvesAnywhere}
 use Rattle.linker_final.specs.AArch64Final.{HighHalves, LowHalves, Branches, BranchDoesTheSame}
 use Rattle.linker_final.specs.Final.{InstructionIsLeft, Linked, IsLinked, count, instruction_at}
-use Rattle.linker_laws.specs.AArch64RewriteLaws.{IsRewritten, Laws, BranchToNop, word_of}
+use Rattle.linker_laws.specs.AArch64RewriteLaws.{IsRewritten, Laws, BranchToNop, with_entry, word_of}
 use Rattle.linker_rewriting.specs.Decisions.{decision_at}
 use Rattle.linker_rewriting.specs.declared.decisions.Decision.TheVariants.{Rewritten}
 use Rattle.linker_section.specs.Relocations.{relocation_in}
 use Rattle.linker_section.specs.Values.{operands_with}
 use Rattle.linker_utils.specs.declared.architecture.Relaxation.{Relaxation}
 use Rattle.linker_utils.specs.declared.elf.Architecture.TheVariants.{AArch64}
-use Rattle.linker_final.proofs.AArch64Written.{IsAfter, applied_there, becomes, becomes_nop}
-use Rattle.linker_final.proofs.Written.{rela, with_operands, word_same}
+use Rattle.linker_final.proofs.AArch64Written.{IsAfter, applied_so, applied_there, becomes, becomes_nop, left_alone, named_after}
+use Rattle.linker_final.proofs.Written.{are_rewritten, word_same}
 use Rattle.linker_laws.specs.AArch64Machine.{is_b, is_bl}
 
 -- ---- rows
@@ -69,42 +69,50 @@ low_after =
 
 -- ---- halves
 
-pub high_halves : Laws → HighHalves
-high_halves laws l linked aarch64 i chosen below is_name decided left symbol is_symbol got s t c adrp small at agree not_31 of_entry_there =
-    let r = relocation_in l.relocations i in
-    let o = r.offset in
+pub high_halves_anywhere : Laws → HighHalvesAnywhere
+high_halves_anywhere laws l rewriting aarch64 i chosen below is_name decided =
+    let o = (relocation_in l.relocations i).offset in
     let e = entry kinds.MovzXnLsl16 names.R_AARCH64_TLSLE_MOVW_TPREL_G1 halves_to_local_exec in
-    let by = of_entry l linked aarch64 i chosen below decided names.R_AARCH64_TLSIE_ADR_GOTTPREL_PAGE21 tt is_name e refl in
-    let w = operands_with AArch64 l.addresses high_after.row symbol r got in
-    let written : IsApplied high_after.row w (instruction_at l.rewritten o) (instruction_at l.final o) =
-    with_operands high_after.row
-    (operands_with AArch64 l.addresses high_after.row symbol (rela o (code_of (aarch64_name names.R_AARCH64_TLSLE_MOVW_TPREL_G1)) r.symbol r.addend) 0)
-    w (instruction_at l.rewritten o) (instruction_at l.final o) refl
-    (applied_there l linked aarch64 i chosen below decided left e by.kind_is by.code_is (λ o. refl) (λ a. refl) high_after symbol 0 refl is_symbol) in
-    let made : IsRewritten kinds.MovzXnLsl16 (instruction_at l.section o) (instruction_at l.rewritten o) =
-    becomes l linked i chosen below decided kinds.MovzXnLsl16 (λ _. true) (λ word. 0xd2a00000 + rd_of word) refl by.kind_is in
-    let is_adrp : IsAdrp (word_of (instruction_at l.section o)) = subst IsAdrp (word_same l.section o) (by.meant.matches.1) in
-    laws.high_half w s t c (instruction_at l.section o) (instruction_at l.rewritten o) small at agree is_adrp not_31 made
-    adrp (instruction_at l.final o) of_entry_there written
+    let by = of_entry l rewriting aarch64 i chosen below decided names.R_AARCH64_TLSIE_ADR_GOTTPREL_PAGE21 tt is_name e refl in (
+      named_after l rewriting i chosen below decided e by.kind_is by.code_is (λ o. refl) (λ a. refl),
+      λ w entry applied s t c adrp small at agree not_31 of_entry_there.
+          let made : IsRewritten kinds.MovzXnLsl16 (instruction_at l.section o) (instruction_at l.rewritten o) =
+          becomes l rewriting i chosen below decided kinds.MovzXnLsl16 (λ _. true) (λ word. 0xd2a00000 + rd_of word) refl by.kind_is in
+          let is_adrp : IsAdrp (word_of (instruction_at l.section o)) = subst IsAdrp (word_same l.section o) (by.meant.matches.1) in
+          laws.high_half w s t c (instruction_at l.section o) (instruction_at l.rewritten o) small at agree is_adrp not_31 made
+          adrp (instruction_at l.final o) of_entry_there
+          (applied_so names.R_AARCH64_TLSLE_MOVW_TPREL_G1 high_after (with_entry entry w) w (instruction_at l.rewritten o) (instruction_at l.final o) refl applied),
+    )
+
+pub low_halves_anywhere : Laws → LowHalvesAnywhere
+low_halves_anywhere laws l rewriting aarch64 i chosen below is_name decided =
+    let o = (relocation_in l.relocations i).offset in
+    let e = entry kinds.MovkXn names.R_AARCH64_TLSLE_MOVW_TPREL_G0_NC halves_to_local_exec in
+    let by = of_entry l rewriting aarch64 i chosen below decided names.R_AARCH64_TLSIE_LD64_GOTTPREL_LO12_NC tt is_name e refl in (
+      named_after l rewriting i chosen below decided e by.kind_is by.code_is (λ o. refl) (λ a. refl),
+      λ w entry applied s t c ldr small holds high agree of_entry_there.
+          let made : IsRewritten kinds.MovkXn (instruction_at l.section o) (instruction_at l.rewritten o) =
+          becomes l rewriting i chosen below decided kinds.MovkXn (λ word. eqb (rn_of word) (rd_of word)) (λ word. 0xf2800000 + rd_of word) refl by.kind_is in
+          let is_ldr : IsLdr64 (word_of (instruction_at l.section o)) = subst IsLdr64 (word_same l.section o) (by.meant.matches.1.0) in
+          let own : IsIntoOwnSource (word_of (instruction_at l.section o)) = subst IsIntoOwnSource (word_same l.section o) (by.meant.matches.1.1) in
+          laws.low_half w s t c (instruction_at l.section o) (instruction_at l.rewritten o) small is_ldr own holds high agree made
+          ldr (instruction_at l.final o) of_entry_there
+          (applied_so names.R_AARCH64_TLSLE_MOVW_TPREL_G0_NC low_after (with_entry entry w) w (instruction_at l.rewritten o) (instruction_at l.final o) refl applied),
+    )
+
+pub high_halves : Laws → HighHalves
+high_halves laws l linked aarch64 i chosen below is_name decided left symbol is_symbol got =
+    let w = operands_with AArch64 l.addresses high_after.row symbol (relocation_in l.relocations i) got in
+    let any = high_halves_anywhere laws l (are_rewritten l linked) aarch64 i chosen below is_name decided in
+    any.1 w got
+    (applied_there l linked aarch64 i below names.R_AARCH64_TLSLE_MOVW_TPREL_G1 high_after (any.0) left symbol is_symbol 0 refl (with_entry got w) refl)
 
 pub low_halves : Laws → LowHalves
-low_halves laws l linked aarch64 i chosen below is_name decided left symbol is_symbol got s t c ldr small holds high agree of_entry_there =
-    let r = relocation_in l.relocations i in
-    let o = r.offset in
-    let e = entry kinds.MovkXn names.R_AARCH64_TLSLE_MOVW_TPREL_G0_NC halves_to_local_exec in
-    let by = of_entry l linked aarch64 i chosen below decided names.R_AARCH64_TLSIE_LD64_GOTTPREL_LO12_NC tt is_name e refl in
-    let w = operands_with AArch64 l.addresses high_after.row symbol r got in
-    let written : IsApplied low_after.row w (instruction_at l.rewritten o) (instruction_at l.final o) =
-    with_operands low_after.row
-    (operands_with AArch64 l.addresses low_after.row symbol (rela o (code_of (aarch64_name names.R_AARCH64_TLSLE_MOVW_TPREL_G0_NC)) r.symbol r.addend) 0)
-    w (instruction_at l.rewritten o) (instruction_at l.final o) refl
-    (applied_there l linked aarch64 i chosen below decided left e by.kind_is by.code_is (λ o. refl) (λ a. refl) low_after symbol 0 refl is_symbol) in
-    let made : IsRewritten kinds.MovkXn (instruction_at l.section o) (instruction_at l.rewritten o) =
-    becomes l linked i chosen below decided kinds.MovkXn (λ word. eqb (rn_of word) (rd_of word)) (λ word. 0xf2800000 + rd_of word) refl by.kind_is in
-    let is_ldr : IsLdr64 (word_of (instruction_at l.section o)) = subst IsLdr64 (word_same l.section o) (by.meant.matches.1.0) in
-    let own : IsIntoOwnSource (word_of (instruction_at l.section o)) = subst IsIntoOwnSource (word_same l.section o) (by.meant.matches.1.1) in
-    laws.low_half w s t c (instruction_at l.section o) (instruction_at l.rewritten o) small is_ldr own holds high agree made
-    ldr (instruction_at l.final o) of_entry_there written
+low_halves laws l linked aarch64 i chosen below is_name decided left symbol is_symbol got =
+    let w = operands_with AArch64 l.addresses high_after.row symbol (relocation_in l.relocations i) got in
+    let any = low_halves_anywhere laws l (are_rewritten l linked) aarch64 i chosen below is_name decided in
+    any.1 w got
+    (applied_there l linked aarch64 i below names.R_AARCH64_TLSLE_MOVW_TPREL_G0_NC low_after (any.0) left symbol is_symbol 0 refl (with_entry got w) refl)
 
 -- ---- branches
 
@@ -114,25 +122,46 @@ module _ (name : AArch64Relocation) (named : IsNamed (aarch64_name name))
     (is_branch : ℕ → Bool) (differing : ℕ → Bool) (law : BranchToNop name is_branch differing)
     (is_one : (l : Linked) (o : ℕ) → IsAskedFor name l.section o
     → (o + 4 ≤ length l.section) × (is_branch (word_of (drop o l.section)) ≡ true)) where
+  abbrev e : AArch64Entry
+  e = entry kinds.ReplaceWithNop names.R_AARCH64_NONE (weak_zero ∷ [])
+
+  pub branch_goes : EachBranchGoes name differing
+  branch_goes l rewriting aarch64 i chosen below is_name decided =
+      let o = (relocation_in l.relocations i).offset in
+      let by = of_entry l rewriting aarch64 i chosen below decided name named is_name e entries in
+      let one = is_one l o by.meant.asked in (
+        named_after l rewriting i chosen below decided e by.kind_is by.code_is (λ o. refl) (λ a. refl),
+        λ left w s branch small at on of_branch.
+            let is : is_branch (word_of (instruction_at l.section o)) ≡ true =
+            subst (λ word. is_branch word ≡ true) (word_same l.section o) (one.1) in
+            law w s (instruction_at l.section o) (instruction_at l.final o) small at on is
+            (becomes_nop l rewriting i chosen below decided by.kind_is left) branch of_branch,
+      )
+
   pub branch_alike : (l : Linked) → IsLinked l → l.setting.architecture ≡ AArch64
       → (i : ℕ) (chosen : Choice Relaxation ℕ) → i < count l
       → IsNameOf aarch64_name (relocation_in l.relocations i).code name
       → decision_at l.decisions i ≡ Rewritten chosen → InstructionIsLeft l i
       → (row : RelocationKindInfo) → BranchDoesTheSame name differing l i row
-  branch_alike l linked aarch64 i chosen below is_name decided left row alone symbol is_symbol s branch small at on of_branch =
-      let r = relocation_in l.relocations i in
-      let o = r.offset in
-      let by = of_entry l linked aarch64 i chosen below decided name named is_name (entry kinds.ReplaceWithNop names.R_AARCH64_NONE (weak_zero ∷ [])) entries in
+  branch_alike l linked aarch64 i chosen below is_name decided left row alone symbol is_symbol =
+      let rewriting = are_rewritten l linked in
+      let o = (relocation_in l.relocations i).offset in
+      let by = of_entry l rewriting aarch64 i chosen below decided name named is_name e entries in
       let one = is_one l o by.meant.asked in
-      let final : IsRewritten kinds.ReplaceWithNop (instruction_at l.section o) (instruction_at l.final o) =
-      becomes_nop l linked aarch64 i chosen below decided left by.kind_is by.code_is (one.0) alone in
-      let is : is_branch (word_of (instruction_at l.section o)) ≡ true =
-      subst (λ word. is_branch word ≡ true) (word_same l.section o) (one.1) in
-      law (operands_with AArch64 l.addresses row symbol r 0) s (instruction_at l.section o) (instruction_at l.final o)
-      small at on is final branch of_branch
+      let any = branch_goes l rewriting aarch64 i chosen below is_name decided in
+      any.1 (left_alone l linked aarch64 i below (any.0) o left (one.0) alone)
+      (operands_with AArch64 l.addresses row symbol (relocation_in l.relocations i) 0)
 
 abbrev branch_row : RelocationKindInfo
 branch_row = thunkable_row (aligned_row 4 (signed_row 28 (insn_row PltRelative 2 28 JumpCall)))
+
+pub branches_anywhere : Laws → BranchesAnywhere
+branches_anywhere laws = (
+  branch_goes names.R_AARCH64_JUMP26 tt refl is_b (λ _. false) (laws.weak.0)
+      (λ l o asked. (asked.0, eq-eqb _ _ (asked.1))),
+  branch_goes names.R_AARCH64_CALL26 tt refl is_bl (λ n. eqb n 30) (laws.weak.1)
+      (λ l o asked. (asked.0, eq-eqb _ _ (asked.1))),
+)
 
 pub branches : Laws → Branches
 branches laws = (

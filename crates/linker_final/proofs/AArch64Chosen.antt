@@ -3,13 +3,13 @@ use Rattle.std.proofs.Common.{◌≡◌, ℕ, ◌<◌, List, [], ◌∷◌, true
 use Rattle.linker_aarch64.specs.AArch64Rewrites.{AArch64Entry, AArch64Applies, IsAskedFor, aarch64_entries, aarch64_matches}
 use Rattle.linker_aarch64.specs.declared.rewrites.RelaxationKind.TheVariants as kinds
 use Rattle.linker_elf.specs.AArch64Relocations.{aarch64_name}
-use Rattle.linker_elf.specs.ElfNames.{IsNamed, IsNameOf}
+use Rattle.linker_elf.specs.ElfNames.{IsNamed, IsNameOf, code_of}
 use Rattle.linker_elf.specs.declared.aarch64.relocations.AArch64Relocation.{AArch64Relocation}
 use Rattle.linker_elf.specs.declared.aarch64.relocations.AArch64Relocation.TheVariants as names
 use Rattle.linker_elf.specs.declared.elf.choice.Choice.{Choice}
 use Rattle.linker_final.proofs.Chosen.{chosen_at}
 use Rattle.linker_final.proofs.Entries.{IsOfEntry as IsOfEntryIn, IsOfOne as IsOfOneIn, of_entry as of_entry_in, of_one as of_one_in}
-use Rattle.linker_final.specs.Final.{Linked, IsLinked, count}
+use Rattle.linker_final.specs.Final.{AreRewritten, Linked, count}
 use Rattle.linker_rewriting.specs.Decisions.{decision_at}
 use Rattle.linker_rewriting.specs.Groups.{IsScopeIn, aarch64_scope, aarch64_scope_in}
 use Rattle.linker_rewriting.specs.Labels.{is_labelled}
@@ -76,7 +76,20 @@ IsOfEntry name e section o = IsOfEntryIn aarch64_name relaxations.AArch64 (IsMea
 abbrev pub IsOfOne : AArch64Relocation → List AArch64Entry → List ℕ → ℕ → Choice Relaxation ℕ → Type 0
 IsOfOne name es section o = IsOfOneIn aarch64_name relaxations.AArch64 (IsMeant name section o) es
 
-module _ (l : Linked) (linked : IsLinked l) (aarch64 : l.setting.architecture ≡ AArch64) (i : ℕ)
+-- a relocation that is rewritten has the name of its code
+pub named_there : (l : Linked) → AreRewritten l → l.setting.architecture ≡ AArch64 → (i : ℕ)
+    (chosen : Choice Relaxation ℕ) → i < count l → decision_at l.decisions i ≡ Rewritten chosen
+    → (name : AArch64Relocation) → IsNamed (aarch64_name name)
+    → code_of (aarch64_name name) ≡ (relocation_in l.relocations i).code
+    → IsNameOf aarch64_name (relocation_in l.relocations i).code name
+named_there l rewriting aarch64 i chosen below decided name named code =
+    let r = relocation_in l.relocations i in
+    let c = chosen_at l.setting l.kept l.relocations l.section l.decisions (count l) i chosen rewriting.decided below decided
+    (λ scope is. unlabelled l.setting.phase r.code scope (subst (λ x. IsScopeIn x l.setting.phase r.code scope) aarch64 is)) in
+    let is = subst (λ x. IsArchitectureChoice x r.code l.section r.offset c.facts chosen) aarch64 c.is_choice in
+    subst (IsNameOf aarch64_name r.code) (is.is_name.named name named code) is.is_name
+
+module _ (l : Linked) (rewriting : AreRewritten l) (aarch64 : l.setting.architecture ≡ AArch64) (i : ℕ)
     (chosen : Choice Relaxation ℕ) (below : i < count l)
     (decided : decision_at l.decisions i ≡ Rewritten chosen)
     (name : AArch64Relocation) (named : IsNamed (aarch64_name name))
@@ -85,7 +98,7 @@ module _ (l : Linked) (linked : IsLinked l) (aarch64 : l.setting.architecture �
     pub of_one : IsOfOne name (aarch64_entries name) l.section (relocation_in l.relocations i).offset chosen
     of_one =
         let r = relocation_in l.relocations i in
-        let c = chosen_at l.setting l.kept l.relocations l.section l.decisions (count l) i chosen linked.decided below decided
+        let c = chosen_at l.setting l.kept l.relocations l.section l.decisions (count l) i chosen rewriting.decided below decided
         (λ scope is. unlabelled l.setting.phase r.code scope (subst (λ x. IsScopeIn x l.setting.phase r.code scope) aarch64 is)) in
         of_one_in aarch64_name relaxations.AArch64 (IsMeant name l.section r.offset) chosen
         (λ n. AArch64Applies n l.section r.offset c.facts) aarch64_entries kinds.NoOp refl r.code name named is_name

@@ -1,12 +1,10 @@
--- Sequences of TLS descriptors of AArch64 that became those of local-exec do in the final bytes what the
--- object's do.
-use Rattle.std.proofs.Common.{◌≡◌, ℕ, ◌+◌, ◌≤◌, List, length, refl, sym, ap, subst, ◌∙◌, inl, inr, arith, true, Some, None, cond}
+-- Rewritten sequences of TLS descriptors of AArch64 do what the object's do, and in the final bytes.
+use Rattle.std.proofs.Common.{◌≡◌, ℕ, ◌+◌, ◌≤◌, List, [], length, refl, sym, ap, subst, ◌∙◌, inl, inr, arith, true, Some, None, cond}
 use Rattle.std.specs.Prelude.{slice_get}
-use Rattle.linker_aarch64.specs.AArch64Rewrites.{aarch64_entries, to_initial_exec, to_local_exec, aarch64_rewrite}
+use Rattle.linker_aarch64.specs.AArch64Rewrites.{aarch64_entries, to_initial_exec, to_local_exec, aarch64_rewrite, rewrites_where}
 use Rattle.linker_aarch64.specs.declared.rewrites.RelaxationKind.{RelaxationKind}
 use Rattle.linker_aarch64.specs.declared.rewrites.RelaxationKind.TheVariants as kinds
 use Rattle.linker_elf.specs.AArch64Relocations.{aarch64_name, insn_row}
-use Rattle.linker_elf.specs.Applied.{IsApplied}
 use Rattle.linker_elf.specs.Choices.{entry}
 use Rattle.linker_elf.specs.Rows.{aligned_row, entry_pages, paged_row, signed_row}
 use Rattle.linker_elf.specs.declared.aarch64.forms.AArch64Instruction.TheVariants.{Adr, LdrRegister}
@@ -18,15 +16,15 @@ use Rattle.linker_elf.specs.declared.aarch64.relocations.AArch64Relocation.TheVa
 use Rattle.linker_elf.specs.declared.elf.choice.Choice.{Choice}
 use Rattle.linker_final.proofs.AArch64Alone.{high_after, low_after}
 use Rattle.linker_final.proofs.AArch64Chosen.{IsOfOne, of_one}
-use Rattle.linker_final.proofs.AArch64Written.{IsAfter, applied_there, becomes, becomes_nop, entry_there}
-use Rattle.linker_final.proofs.Written.{rela, relocation_is, with_operands}
-use Rattle.linker_final.specs.AArch64Final.{Descriptors, EachDescriptor, LoadsOffset, OffsetIsTheSame}
-use Rattle.linker_final.specs.Final.{instruction_at}
+use Rattle.linker_final.proofs.AArch64Written.{IsAfter, applied_so, applied_there, becomes, becomes_nop, entry_there, left_alone, named_after}
+use Rattle.linker_final.proofs.Written.{are_rewritten, rela}
+use Rattle.linker_final.specs.AArch64Anywhere.{DescriptorsAnywhere, EachDescriptorAnywhere, IsAppliedAt, IsLeft, IsNamedAs, LoadedOffsetIsAlikeAnywhere, OffsetIsAlikeAnywhere}
+use Rattle.linker_final.specs.AArch64Final.{AreOfDescriptor, Descriptors, EachDescriptor, LoadsOffset, OffsetIsTheSame}
+use Rattle.linker_final.specs.Final.{InstructionIsLeft, AreRewritten, Linked, IsLinked, IsWrittenByNoOther, instruction_at}
 use Rattle.linker_laws.specs.AArch64RewriteLaws.{IsRewritten, Laws, behind, with_entry}
 use Rattle.linker_section.specs.Relocations.{relocation_in}
 use Rattle.linker_section.specs.Values.{is_there, operands_by, operands_with}
 use Rattle.linker_section.specs.declared.needed.EntryClass.TheVariants.{ThreadOffset}
-use Rattle.linker_utils.specs.Architectures.{relaxation_rewrite}
 use Rattle.linker_utils.specs.declared.architecture.Relaxation.{Relaxation}
 use Rattle.linker_utils.specs.declared.architecture.Relaxation.TheVariants as relaxations
 use Rattle.linker_utils.specs.declared.elf.Architecture.TheVariants.{AArch64}
@@ -87,59 +85,88 @@ call_erased section o chosen (inr (inr nothing)) = absurd nothing
 
 -- ---- the sequence
 
-to_local : Laws → EachDescriptor kinds.MovzX0Lsl16 kinds.MovkX0 OffsetIsTheSame
-to_local laws l linked aarch64 i j k m of left behind_left add_alone call_alone symbol is_symbol call c got s adrp ldr add descriptor object =
-    let r = relocation_in l.relocations i in
-    let r2 = relocation_in l.relocations j in
-    let r3 = relocation_in l.relocations k in
-    let r4 = relocation_in l.relocations m in
-    let o = r.offset in
-    let second = of.first.next in
-    let third : r3.offset ≡ o + 8 = let n = of.second.next in omega (arith, n, second) in
-    let fourth : r4.offset ≡ o + 12 = let n = of.third.next in omega (arith, n, third) in
-    let w = operands_with AArch64 l.addresses high_after.row symbol r got in
-    let below2 = of.first.second_below in
-    let below3 = of.second.second_below in
-    let below4 = of.third.second_below in
-    let code = page_code l.section o of.page_chosen of.page_kind
-    (of_one l linked aarch64 i of.page_chosen of.first.first_below of.page_decided names.R_AARCH64_TLSDESC_ADR_PAGE21 tt of.page) in
-    let code2 = load_code l.section r2.offset of.load_chosen of.load_kind
-    (of_one l linked aarch64 j of.load_chosen below2 of.load_decided names.R_AARCH64_TLSDESC_LD64_LO12 tt of.load) in
-    let erased3 = add_erased l.section r3.offset of.add_chosen
-    (of_one l linked aarch64 k of.add_chosen below3 of.add_decided names.R_AARCH64_TLSDESC_ADD_LO12 tt of.add) in
-    let erased4 = call_erased l.section r4.offset of.call_chosen
-    (of_one l linked aarch64 m of.call_chosen below4 of.call_decided names.R_AARCH64_TLSDESC_CALL tt of.call) in
-    let movz : IsRewritten kinds.MovzX0Lsl16 (instruction_at l.section o) (instruction_at l.rewritten o) =
-    becomes l linked i of.page_chosen of.first.first_below of.page_decided kinds.MovzX0Lsl16 (λ _. true) (λ _. 0xd2a00000) refl of.page_kind in
-    let movk : IsRewritten kinds.MovkX0 (instruction_at l.section (o + 4)) (instruction_at l.rewritten (o + 4)) =
-    subst (λ n. IsRewritten kinds.MovkX0 (instruction_at l.section n) (instruction_at l.rewritten n)) second
-    (becomes l linked j of.load_chosen below2 of.load_decided kinds.MovkX0 (λ _. true) (λ _. 0xf2800000) refl of.load_kind) in
-    let nop3 : IsRewritten kinds.ReplaceWithNop (instruction_at l.section (o + 8)) (instruction_at l.final (o + 8)) =
-    subst (λ n. IsRewritten kinds.ReplaceWithNop (instruction_at l.section n) (instruction_at l.final n)) third
-    (becomes_nop l linked aarch64 k of.add_chosen below3 of.add_decided (behind_left.0) erased3.kind_is erased3.code_is erased3.inside add_alone) in
-    let nop4 : IsRewritten kinds.ReplaceWithNop (instruction_at l.section (o + 12)) (instruction_at l.final (o + 12)) =
-    subst (λ n. IsRewritten kinds.ReplaceWithNop (instruction_at l.section n) (instruction_at l.final n)) fourth
-    (becomes_nop l linked aarch64 m of.call_chosen below4 of.call_decided (behind_left.1) erased4.kind_is erased4.code_is erased4.inside call_alone) in
-    let high : IsApplied high_after.row w (instruction_at l.rewritten o) (instruction_at l.final o) =
-    with_operands high_after.row
-    (operands_with AArch64 l.addresses high_after.row symbol (rela o (code_of (aarch64_name names.R_AARCH64_TLSLE_MOVW_TPREL_G1)) r.symbol r.addend) 0)
-    w (instruction_at l.rewritten o) (instruction_at l.final o) refl
-    (applied_there l linked aarch64 i of.page_chosen of.first.first_below of.page_decided (left.0)
-    (entry kinds.MovzX0Lsl16 names.R_AARCH64_TLSLE_MOVW_TPREL_G1 to_local_exec) of.page_kind code (λ o. refl) (λ a. refl) high_after symbol 0 refl is_symbol) in
-    let low_code = code_of (aarch64_name names.R_AARCH64_TLSLE_MOVW_TPREL_G0_NC) in
-    let low : IsApplied low_after.row (behind 4 w) (instruction_at l.rewritten (o + 4)) (instruction_at l.final (o + 4)) =
-    subst (λ n. IsApplied low_after.row (behind 4 w) (instruction_at l.rewritten n) (instruction_at l.final n)) second
-    (with_operands low_after.row
-    (operands_with AArch64 l.addresses low_after.row symbol (rela r2.offset low_code r2.symbol r2.addend) 0)
-    (behind 4 w) (instruction_at l.rewritten r2.offset) (instruction_at l.final r2.offset)
-    (ap (λ x. value_of low_after.row (operands_with AArch64 l.addresses low_after.row symbol (rela r2.offset low_code r2.symbol x) 0)) (sym of.first.same_addend))
-    (applied_there l linked aarch64 j of.load_chosen below2 of.load_decided (left.1)
-    (entry kinds.MovkX0 names.R_AARCH64_TLSLE_MOVW_TPREL_G0_NC to_local_exec) of.load_kind code2 (λ o. refl) (λ a. refl) low_after symbol 0 refl
-    (ap (slice_get l.symbols) of.first.same_symbol ∙ is_symbol))) in
-    laws.descriptor_to_local_exec call c w s
-    (instruction_at l.section o) (instruction_at l.section (o + 4)) (instruction_at l.section (o + 8)) (instruction_at l.section (o + 12)) descriptor
-    (instruction_at l.rewritten o) (instruction_at l.rewritten (o + 4)) (instruction_at l.final (o + 8)) (instruction_at l.final (o + 12))
-    movz movk nop3 nop4 adrp ldr add (instruction_at l.final o) (instruction_at l.final (o + 4)) object high low
+-- the two instructions that go become `nop`
+module _ (l : Linked) (rewriting : AreRewritten l) (aarch64 : l.setting.architecture ≡ AArch64)
+    (high low : RelaxationKind) (i j k m : ℕ) (of : AreOfDescriptor l high low i j k m) where
+  pub add_gone : IsErased l.section (relocation_in l.relocations k).offset of.add_chosen
+  add_gone =
+      add_erased l.section (relocation_in l.relocations k).offset of.add_chosen
+      (of_one l rewriting aarch64 k of.add_chosen of.second.second_below of.add_decided names.R_AARCH64_TLSDESC_ADD_LO12 tt of.add)
+
+  pub call_gone : IsErased l.section (relocation_in l.relocations m).offset of.call_chosen
+  call_gone =
+      call_erased l.section (relocation_in l.relocations m).offset of.call_chosen
+      (of_one l rewriting aarch64 m of.call_chosen of.third.second_below of.call_decided names.R_AARCH64_TLSDESC_CALL tt of.call)
+
+  pub add_named : IsNamedAs names.R_AARCH64_NONE l k
+  add_named =
+      named_after l rewriting k of.add_chosen of.second.second_below of.add_decided
+      (entry kinds.ReplaceWithNop names.R_AARCH64_NONE []) add_gone.kind_is add_gone.code_is (λ o. refl) (λ a. refl)
+
+  pub call_named : IsNamedAs names.R_AARCH64_NONE l m
+  call_named =
+      named_after l rewriting m of.call_chosen of.third.second_below of.call_decided
+      (entry kinds.ReplaceWithNop names.R_AARCH64_NONE []) call_gone.kind_is call_gone.code_is (λ o. refl) (λ a. refl)
+
+  pub second_at : (relocation_in l.relocations j).offset ≡ (relocation_in l.relocations i).offset + 4
+  second_at = of.first.next
+
+  pub third_at : (relocation_in l.relocations k).offset ≡ (relocation_in l.relocations i).offset + 8
+  third_at = let n = of.second.next in let second = of.first.next in omega (arith, n, second)
+
+  pub fourth_at : (relocation_in l.relocations m).offset ≡ (relocation_in l.relocations i).offset + 12
+  fourth_at = let n = of.third.next in let third = third_at in omega (arith, n, third)
+
+  pub add_nop : IsLeft l (relocation_in l.relocations k).offset
+      → IsRewritten kinds.ReplaceWithNop (instruction_at l.section ((relocation_in l.relocations i).offset + 8))
+      (instruction_at l.final ((relocation_in l.relocations i).offset + 8))
+  add_nop left =
+      subst (λ n. IsRewritten kinds.ReplaceWithNop (instruction_at l.section n) (instruction_at l.final n)) third_at
+      (becomes_nop l rewriting k of.add_chosen of.second.second_below of.add_decided add_gone.kind_is left)
+
+  pub call_nop : IsLeft l (relocation_in l.relocations m).offset
+      → IsRewritten kinds.ReplaceWithNop (instruction_at l.section ((relocation_in l.relocations i).offset + 12))
+      (instruction_at l.final ((relocation_in l.relocations i).offset + 12))
+  call_nop left =
+      subst (λ n. IsRewritten kinds.ReplaceWithNop (instruction_at l.section n) (instruction_at l.final n)) fourth_at
+      (becomes_nop l rewriting m of.call_chosen of.third.second_below of.call_decided call_gone.kind_is left)
+
+  -- the second instruction becomes another
+  pub second_made : (kind : RelaxationKind) (word : ℕ)
+      → aarch64_rewrite kind ≡ Some (rewrites_where (λ _. true) (λ _. word))
+      → of.load_chosen.kind ≡ relaxations.AArch64 kind
+      → IsRewritten kind (instruction_at l.section ((relocation_in l.relocations i).offset + 4))
+      (instruction_at l.rewritten ((relocation_in l.relocations i).offset + 4))
+  second_made kind word is kind_is =
+      subst (λ n. IsRewritten kind (instruction_at l.section n) (instruction_at l.rewritten n)) second_at
+      (becomes l rewriting j of.load_chosen of.first.second_below of.load_decided kind (λ _. true) (λ _. word) is kind_is)
+
+to_local_anywhere : Laws → EachDescriptorAnywhere kinds.MovzX0Lsl16 kinds.MovkX0 names.R_AARCH64_TLSLE_MOVW_TPREL_G1
+    names.R_AARCH64_TLSLE_MOVW_TPREL_G0_NC OffsetIsAlikeAnywhere
+to_local_anywhere laws l rewriting aarch64 i j k m of =
+    let o = (relocation_in l.relocations i).offset in
+    let first_code = page_code l.section o of.page_chosen of.page_kind
+    (of_one l rewriting aarch64 i of.page_chosen of.first.first_below of.page_decided names.R_AARCH64_TLSDESC_ADR_PAGE21 tt of.page) in
+    let second_code = load_code l.section (relocation_in l.relocations j).offset of.load_chosen of.load_kind
+    (of_one l rewriting aarch64 j of.load_chosen of.first.second_below of.load_decided names.R_AARCH64_TLSDESC_LD64_LO12 tt of.load) in (
+      named_after l rewriting i of.page_chosen of.first.first_below of.page_decided
+          (entry kinds.MovzX0Lsl16 names.R_AARCH64_TLSLE_MOVW_TPREL_G1 to_local_exec) of.page_kind first_code (λ o. refl) (λ a. refl),
+      named_after l rewriting j of.load_chosen of.first.second_below of.load_decided
+          (entry kinds.MovkX0 names.R_AARCH64_TLSLE_MOVW_TPREL_G0_NC to_local_exec) of.load_kind second_code (λ o. refl) (λ a. refl),
+      add_named l rewriting aarch64 kinds.MovzX0Lsl16 kinds.MovkX0 i j k m of,
+      call_named l rewriting aarch64 kinds.MovzX0Lsl16 kinds.MovkX0 i j k m of,
+      λ add_left call_left w applied call c s adrp ldr add holds descriptor object.
+          laws.descriptor_to_local_exec call c w s
+          (instruction_at l.section o) (instruction_at l.section (o + 4)) (instruction_at l.section (o + 8)) (instruction_at l.section (o + 12)) descriptor
+          (instruction_at l.rewritten o) (instruction_at l.rewritten (o + 4)) (instruction_at l.final (o + 8)) (instruction_at l.final (o + 12))
+          (becomes l rewriting i of.page_chosen of.first.first_below of.page_decided kinds.MovzX0Lsl16 (λ _. true) (λ _. 0xd2a00000) refl of.page_kind)
+          (second_made l rewriting aarch64 kinds.MovzX0Lsl16 kinds.MovkX0 i j k m of kinds.MovkX0 0xf2800000 refl of.load_kind)
+          (add_nop l rewriting aarch64 kinds.MovzX0Lsl16 kinds.MovkX0 i j k m of add_left)
+          (call_nop l rewriting aarch64 kinds.MovzX0Lsl16 kinds.MovkX0 i j k m of call_left)
+          adrp ldr add (instruction_at l.final o) (instruction_at l.final (o + 4)) object
+          (applied_so names.R_AARCH64_TLSLE_MOVW_TPREL_G1 high_after (with_entry applied.entry w) w (instruction_at l.rewritten o) (instruction_at l.final o) refl applied.first_is)
+          (applied_so names.R_AARCH64_TLSLE_MOVW_TPREL_G0_NC low_after (behind 4 (with_entry applied.entry w)) (behind 4 w) (instruction_at l.rewritten (o + 4)) (instruction_at l.final (o + 4)) refl applied.second_is),
+    )
 
 -- ---- for initial-exec
 
@@ -197,66 +224,100 @@ ldr_code section o chosen kind (inl this) =
     absurd (let e : kinds.LdrX0 ≡ kinds.MovkX0 = same_kind chosen.kind kinds.LdrX0 kinds.MovkX0 kind this.kind_is in cc)
 ldr_code section o chosen kind (inr (inr nothing)) = absurd nothing
 
+to_initial_anywhere : Laws → EachDescriptorAnywhere kinds.AdrpX0 kinds.LdrX0 names.R_AARCH64_TLSIE_ADR_GOTTPREL_PAGE21
+    names.R_AARCH64_TLSIE_LD64_GOTTPREL_LO12_NC LoadedOffsetIsAlikeAnywhere
+to_initial_anywhere laws l rewriting aarch64 i j k m of =
+    let o = (relocation_in l.relocations i).offset in
+    let first_code = adrp_code l.section o of.page_chosen of.page_kind
+    (of_one l rewriting aarch64 i of.page_chosen of.first.first_below of.page_decided names.R_AARCH64_TLSDESC_ADR_PAGE21 tt of.page) in
+    let second_code = ldr_code l.section (relocation_in l.relocations j).offset of.load_chosen of.load_kind
+    (of_one l rewriting aarch64 j of.load_chosen of.first.second_below of.load_decided names.R_AARCH64_TLSDESC_LD64_LO12 tt of.load) in (
+      named_after l rewriting i of.page_chosen of.first.first_below of.page_decided
+          (entry kinds.AdrpX0 names.R_AARCH64_TLSIE_ADR_GOTTPREL_PAGE21 (to_initial_exec 0)) of.page_kind first_code (λ o. refl) (λ a. refl),
+      named_after l rewriting j of.load_chosen of.first.second_below of.load_decided
+          (entry kinds.LdrX0 names.R_AARCH64_TLSIE_LD64_GOTTPREL_LO12_NC (to_initial_exec 4)) of.load_kind second_code (λ o. refl) (λ a. refl),
+      add_named l rewriting aarch64 kinds.AdrpX0 kinds.LdrX0 i j k m of,
+      call_named l rewriting aarch64 kinds.AdrpX0 kinds.LdrX0 i j k m of,
+      λ add_left call_left w applied short call c s adrp ldr add holds descriptor object.
+          laws.descriptor_to_initial_exec call c w s
+          (instruction_at l.section o) (instruction_at l.section (o + 4)) (instruction_at l.section (o + 8)) (instruction_at l.section (o + 12)) descriptor
+          applied.entry short holds
+          (instruction_at l.rewritten o) (instruction_at l.rewritten (o + 4)) (instruction_at l.final (o + 8)) (instruction_at l.final (o + 12))
+          (becomes l rewriting i of.page_chosen of.first.first_below of.page_decided kinds.AdrpX0 (λ _. true) (λ _. 0x90000000) refl of.page_kind)
+          (second_made l rewriting aarch64 kinds.AdrpX0 kinds.LdrX0 i j k m of kinds.LdrX0 0xf9400000 refl of.load_kind)
+          (add_nop l rewriting aarch64 kinds.AdrpX0 kinds.LdrX0 i j k m of add_left)
+          (call_nop l rewriting aarch64 kinds.AdrpX0 kinds.LdrX0 i j k m of call_left)
+          adrp ldr add (instruction_at l.final o) (instruction_at l.final (o + 4)) object applied.first_is applied.second_is,
+    )
+
+pub descriptors_anywhere : Laws → DescriptorsAnywhere
+descriptors_anywhere laws = (to_local_anywhere laws, to_initial_anywhere laws)
+
+-- ---- in the final bytes
+
+module _ (l : Linked) (linked : IsLinked l) (aarch64 : l.setting.architecture ≡ AArch64)
+    (high low : RelaxationKind) (i j k m : ℕ) (of : AreOfDescriptor l high low i j k m) where
+  add_left : InstructionIsLeft l k → IsWrittenByNoOther l k (relocation_in l.relocations k).offset
+      → IsLeft l (relocation_in l.relocations k).offset
+  add_left left alone =
+      left_alone l linked aarch64 k of.second.second_below (add_named l (are_rewritten l linked) aarch64 high low i j k m of)
+      (relocation_in l.relocations k).offset left (add_gone l (are_rewritten l linked) aarch64 high low i j k m of).inside alone
+
+  call_left : InstructionIsLeft l m → IsWrittenByNoOther l m (relocation_in l.relocations m).offset
+      → IsLeft l (relocation_in l.relocations m).offset
+  call_left left alone =
+      left_alone l linked aarch64 m of.third.second_below (call_named l (are_rewritten l linked) aarch64 high low i j k m of)
+      (relocation_in l.relocations m).offset left (call_gone l (are_rewritten l linked) aarch64 high low i j k m of).inside alone
+
+to_local : Laws → EachDescriptor kinds.MovzX0Lsl16 kinds.MovkX0 OffsetIsTheSame
+to_local laws l linked aarch64 i j k m of left behind_left add_alone call_alone symbol is_symbol got =
+    let r2 = relocation_in l.relocations j in
+    let w = operands_with AArch64 l.addresses high_after.row symbol (relocation_in l.relocations i) got in
+    let low_code = code_of (aarch64_name names.R_AARCH64_TLSLE_MOVW_TPREL_G0_NC) in
+    let any = to_local_anywhere laws l (are_rewritten l linked) aarch64 i j k m of in
+    any.4
+    (add_left l linked aarch64 kinds.MovzX0Lsl16 kinds.MovkX0 i j k m of (behind_left.0) add_alone)
+    (call_left l linked aarch64 kinds.MovzX0Lsl16 kinds.MovkX0 i j k m of (behind_left.1) call_alone) w
+    (record {
+      entry = got;
+      first_is =
+          applied_there l linked aarch64 i of.first.first_below names.R_AARCH64_TLSLE_MOVW_TPREL_G1 high_after (any.0) (left.0) symbol is_symbol 0 refl (with_entry got w) refl;
+      second_is =
+          subst (IsAppliedAt names.R_AARCH64_TLSLE_MOVW_TPREL_G0_NC (behind 4 (with_entry got w)) l) of.first.next
+          (applied_there l linked aarch64 j of.first.second_below names.R_AARCH64_TLSLE_MOVW_TPREL_G0_NC low_after (any.1) (left.1) symbol
+          (ap (slice_get l.symbols) of.first.same_symbol ∙ is_symbol) 0 refl (behind 4 (with_entry got w))
+          (ap (λ x. value_of low_after.row (operands_with AArch64 l.addresses low_after.row symbol (rela r2.offset low_code r2.symbol x) 0)) (sym of.first.same_addend)));
+    })
+
 to_initial : Laws → EachDescriptor kinds.AdrpX0 kinds.LdrX0 LoadsOffset
-to_initial laws l linked aarch64 i j k m of left behind_left add_alone call_alone symbol is_symbol small call c got s adrp ldr add holds descriptor object =
+to_initial laws l linked aarch64 i j k m of left behind_left add_alone call_alone symbol is_symbol small got =
     let r = relocation_in l.relocations i in
     let r2 = relocation_in l.relocations j in
-    let r3 = relocation_in l.relocations k in
-    let r4 = relocation_in l.relocations m in
-    let o = r.offset in
-    let second = of.first.next in
-    let third : r3.offset ≡ o + 8 = let n = of.second.next in omega (arith, n, second) in
-    let fourth : r4.offset ≡ o + 12 = let n = of.third.next in omega (arith, n, third) in
     let w = operands_with AArch64 l.addresses high_after.row symbol r got in
     let e = symbol.thread_entry in
-    let below2 = of.first.second_below in
-    let below3 = of.second.second_below in
-    let below4 = of.third.second_below in
-    let code = adrp_code l.section o of.page_chosen of.page_kind
-    (of_one l linked aarch64 i of.page_chosen of.first.first_below of.page_decided names.R_AARCH64_TLSDESC_ADR_PAGE21 tt of.page) in
-    let there : is_there l.addresses symbol (record { class = ThreadOffset; addend = r.addend }) ≡ true =
-    entry_there l linked aarch64 i of.first.first_below (left.0) names.R_AARCH64_TLSIE_ADR_GOTTPREL_PAGE21 entry_high
-    (rela o (code_of (aarch64_name names.R_AARCH64_TLSIE_ADR_GOTTPREL_PAGE21)) r.symbol r.addend)
-    (relocation_is l linked i of.page_chosen of.first.first_below of.page_decided (aarch64_rewrite kinds.AdrpX0)
-    (code_of (aarch64_name names.R_AARCH64_TLSIE_ADR_GOTTPREL_PAGE21)) (ap relaxation_rewrite of.page_kind) code)
-    refl symbol is_symbol (record { class = ThreadOffset; addend = r.addend }) refl in
-    let code2 = ldr_code l.section r2.offset of.load_chosen of.load_kind
-    (of_one l linked aarch64 j of.load_chosen below2 of.load_decided names.R_AARCH64_TLSDESC_LD64_LO12 tt of.load) in
-    let erased3 = add_erased l.section r3.offset of.add_chosen
-    (of_one l linked aarch64 k of.add_chosen below3 of.add_decided names.R_AARCH64_TLSDESC_ADD_LO12 tt of.add) in
-    let erased4 = call_erased l.section r4.offset of.call_chosen
-    (of_one l linked aarch64 m of.call_chosen below4 of.call_decided names.R_AARCH64_TLSDESC_CALL tt of.call) in
-    let movz : IsRewritten kinds.AdrpX0 (instruction_at l.section o) (instruction_at l.rewritten o) =
-    becomes l linked i of.page_chosen of.first.first_below of.page_decided kinds.AdrpX0 (λ _. true) (λ _. 0x90000000) refl of.page_kind in
-    let movk : IsRewritten kinds.LdrX0 (instruction_at l.section (o + 4)) (instruction_at l.rewritten (o + 4)) =
-    subst (λ n. IsRewritten kinds.LdrX0 (instruction_at l.section n) (instruction_at l.rewritten n)) second
-    (becomes l linked j of.load_chosen below2 of.load_decided kinds.LdrX0 (λ _. true) (λ _. 0xf9400000) refl of.load_kind) in
-    let nop3 : IsRewritten kinds.ReplaceWithNop (instruction_at l.section (o + 8)) (instruction_at l.final (o + 8)) =
-    subst (λ n. IsRewritten kinds.ReplaceWithNop (instruction_at l.section n) (instruction_at l.final n)) third
-    (becomes_nop l linked aarch64 k of.add_chosen below3 of.add_decided (behind_left.0) erased3.kind_is erased3.code_is erased3.inside add_alone) in
-    let nop4 : IsRewritten kinds.ReplaceWithNop (instruction_at l.section (o + 12)) (instruction_at l.final (o + 12)) =
-    subst (λ n. IsRewritten kinds.ReplaceWithNop (instruction_at l.section n) (instruction_at l.final n)) fourth
-    (becomes_nop l linked aarch64 m of.call_chosen below4 of.call_decided (behind_left.1) erased4.kind_is erased4.code_is erased4.inside call_alone) in
-    let high : IsApplied entry_high.row (with_entry e w) (instruction_at l.rewritten o) (instruction_at l.final o) =
-    with_operands entry_high.row
-    (operands_with AArch64 l.addresses entry_high.row symbol (rela o (code_of (aarch64_name names.R_AARCH64_TLSIE_ADR_GOTTPREL_PAGE21)) r.symbol r.addend) e)
-    (with_entry e w) (instruction_at l.rewritten o) (instruction_at l.final o) refl
-    (applied_there l linked aarch64 i of.page_chosen of.first.first_below of.page_decided (left.0)
-    (entry kinds.AdrpX0 names.R_AARCH64_TLSIE_ADR_GOTTPREL_PAGE21 (to_initial_exec 0)) of.page_kind code (λ o. refl) (λ a. refl) entry_high symbol e (ap (λ b. operands_by AArch64 l.addresses entry_high.row (rela o (code_of (aarch64_name names.R_AARCH64_TLSIE_ADR_GOTTPREL_PAGE21)) r.symbol r.addend) symbol (cond b (Some e) None)) there) is_symbol) in
+    let high_code = code_of (aarch64_name names.R_AARCH64_TLSIE_ADR_GOTTPREL_PAGE21) in
     let low_code = code_of (aarch64_name names.R_AARCH64_TLSIE_LD64_GOTTPREL_LO12_NC) in
-    let low : IsApplied entry_low.row (behind 4 (with_entry e w)) (instruction_at l.rewritten (o + 4)) (instruction_at l.final (o + 4)) =
-    subst (λ n. IsApplied entry_low.row (behind 4 (with_entry e w)) (instruction_at l.rewritten n) (instruction_at l.final n)) second
-    (with_operands entry_low.row
-    (operands_with AArch64 l.addresses entry_low.row symbol (rela r2.offset low_code r2.symbol r2.addend) e)
-    (behind 4 (with_entry e w)) (instruction_at l.rewritten r2.offset) (instruction_at l.final r2.offset)
-    (ap (λ x. value_of entry_low.row (operands_with AArch64 l.addresses entry_low.row symbol (rela r2.offset low_code r2.symbol x) e)) (sym of.first.same_addend))
-    (applied_there l linked aarch64 j of.load_chosen below2 of.load_decided (left.1)
-    (entry kinds.LdrX0 names.R_AARCH64_TLSIE_LD64_GOTTPREL_LO12_NC (to_initial_exec 4)) of.load_kind code2 (λ o. refl) (λ a. refl) entry_low symbol e (ap (λ b. operands_by AArch64 l.addresses entry_low.row (rela r2.offset (code_of (aarch64_name names.R_AARCH64_TLSIE_LD64_GOTTPREL_LO12_NC)) r2.symbol r2.addend) symbol (cond b (Some e) None)) (subst (λ x. is_there l.addresses symbol (record { class = ThreadOffset; addend = x }) ≡ true) (sym of.first.same_addend) there))
-    (ap (slice_get l.symbols) of.first.same_symbol ∙ is_symbol))) in
-    laws.descriptor_to_initial_exec call c w s
-    (instruction_at l.section o) (instruction_at l.section (o + 4)) (instruction_at l.section (o + 8)) (instruction_at l.section (o + 12)) descriptor e small holds
-    (instruction_at l.rewritten o) (instruction_at l.rewritten (o + 4)) (instruction_at l.final (o + 8)) (instruction_at l.final (o + 12))
-    movz movk nop3 nop4 adrp ldr add (instruction_at l.final o) (instruction_at l.final (o + 4)) object high low
+    let any = to_initial_anywhere laws l (are_rewritten l linked) aarch64 i j k m of in
+    let there : is_there l.addresses symbol (record { class = ThreadOffset; addend = r.addend }) ≡ true =
+    entry_there l linked aarch64 i of.first.first_below names.R_AARCH64_TLSIE_ADR_GOTTPREL_PAGE21 entry_high (any.0) (left.0) symbol is_symbol
+    (record { class = ThreadOffset; addend = r.addend }) refl in
+    any.4
+    (add_left l linked aarch64 kinds.AdrpX0 kinds.LdrX0 i j k m of (behind_left.0) add_alone)
+    (call_left l linked aarch64 kinds.AdrpX0 kinds.LdrX0 i j k m of (behind_left.1) call_alone) w
+    (record {
+      entry = e;
+      first_is =
+          applied_there l linked aarch64 i of.first.first_below names.R_AARCH64_TLSIE_ADR_GOTTPREL_PAGE21 entry_high (any.0) (left.0) symbol is_symbol e
+          (ap (λ b. operands_by AArch64 l.addresses entry_high.row (rela r.offset high_code r.symbol r.addend) symbol (cond b (Some e) None)) there)
+          (with_entry e w) refl;
+      second_is =
+          subst (IsAppliedAt names.R_AARCH64_TLSIE_LD64_GOTTPREL_LO12_NC (behind 4 (with_entry e w)) l) of.first.next
+          (applied_there l linked aarch64 j of.first.second_below names.R_AARCH64_TLSIE_LD64_GOTTPREL_LO12_NC entry_low (any.1) (left.1) symbol
+          (ap (slice_get l.symbols) of.first.same_symbol ∙ is_symbol) e
+          (ap (λ b. operands_by AArch64 l.addresses entry_low.row (rela r2.offset low_code r2.symbol r2.addend) symbol (cond b (Some e) None)) (subst (λ x. is_there l.addresses symbol (record { class = ThreadOffset; addend = x }) ≡ true) (sym of.first.same_addend) there))
+          (behind 4 (with_entry e w))
+          (ap (λ x. value_of entry_low.row (operands_with AArch64 l.addresses entry_low.row symbol (rela r2.offset low_code r2.symbol x) e)) (sym of.first.same_addend)));
+    }) small
 
 pub descriptors : Laws → Descriptors
 descriptors laws = (to_local laws, to_initial laws)

@@ -1,4 +1,4 @@
--- Rewritten loads from the GOT of AArch64 do in the final bytes what the object's do.
+-- Rewritten loads from the GOT of AArch64 do what the object's do, and in the final bytes.
 use Rattle.std.proofs.Common.{◌≡◌, ℕ, ℤ, ◌+◌, ◌-◌, drop, false, cond, refl, sym, ap, subst, ◌∙◌, arith}
 use Rattle.std.proofs.lemmas.Bool.{cond-false}
 use Rattle.std.specs.Prelude.{slice_get}
@@ -6,7 +6,6 @@ use Rattle.linker_aarch64.specs.AArch64Rewrites.{is_ldr64, to_address, IsLdr64, 
 use Rattle.linker_aarch64.specs.declared.rewrites.RelaxationKind.TheVariants as kinds
 use Rattle.linker_base.specs.Bits.{field}
 use Rattle.linker_elf.specs.AArch64Relocations.{aarch64_name, insn_row}
-use Rattle.linker_elf.specs.Applied.{IsApplied}
 use Rattle.linker_elf.specs.Choices.{entry}
 use Rattle.linker_elf.specs.ElfNames.{code_of}
 use Rattle.linker_elf.specs.Rows.{paged_row, signed_row, place_pages, entry_pages}
@@ -18,9 +17,10 @@ use Rattle.linker_elf.specs.declared.elf.RelocationKind.TheVariants.{Relative, A
 use Rattle.linker_elf.specs.declared.elf.RelocationKindInfo.{RelocationKindInfo}
 use Rattle.linker_elf.specs.declared.elf.value.Operands.{Operands}
 use Rattle.linker_final.proofs.AArch64Chosen.{IsOfEntry, of_entry}
-use Rattle.linker_final.specs.AArch64Final.{AreOfLoad, GotLoads, LoadsTheSame}
-use Rattle.linker_final.specs.Final.{AreLeft, Linked, IsLinked, IsRewrittenByNoOther, instruction_at}
-use Rattle.linker_laws.specs.AArch64RewriteLaws.{IsPair, IsRewritten, Laws, behind, word_of}
+use Rattle.linker_final.specs.AArch64Anywhere.{AreAppliedAt, GotLoadsAnywhere, IsAppliedAt, IsNamedAs}
+use Rattle.linker_final.specs.AArch64Final.{AreOfLoad, GotLoads, LoadIsAlike}
+use Rattle.linker_final.specs.Final.{AreRewritten, Linked, IsRewrittenByNoOther, instruction_at}
+use Rattle.linker_laws.specs.AArch64RewriteLaws.{IsPair, IsRelocated, IsRewritten, Laws, behind, with_entry, word_of}
 use Rattle.linker_section.specs.Relocations.{relocation_in}
 use Rattle.linker_section.specs.Values.{operands_with}
 use Rattle.linker_section.specs.declared.facts.Addresses.{Addresses}
@@ -28,15 +28,15 @@ use Rattle.linker_section.specs.declared.facts.Symbol.{Symbol}
 use Rattle.linker_section.specs.declared.relocations.Rela.{Rela}
 use Rattle.linker_utils.specs.Architectures.{relaxation_rewrite}
 use Rattle.linker_utils.specs.declared.elf.Architecture.TheVariants.{AArch64}
-use Rattle.linker_final.proofs.AArch64Written.{IsAfter, applied_there, becomes}
-use Rattle.linker_final.proofs.Written.{rela, stays, with_operands, word_same}
+use Rattle.linker_final.proofs.AArch64Written.{IsAfter, applied_so, applied_there, becomes, named_after}
+use Rattle.linker_final.proofs.Written.{are_rewritten, rela, stays, word_same}
 
 -- ---- rows
 
-abbrev got_row : RelocationKindInfo
+abbrev pub got_row : RelocationKindInfo
 got_row = paged_row entry_pages (signed_row 33 (insn_row GotRelative 12 33 Adr))
 
-abbrev page_after : IsAfter names.R_AARCH64_ADR_PREL_PG_HI21
+abbrev pub page_after : IsAfter names.R_AARCH64_ADR_PREL_PG_HI21
 page_after =
     record {
       row = paged_row place_pages (signed_row 33 (insn_row Relative 12 33 Adr));
@@ -54,7 +54,7 @@ page_after =
       };
     }
 
-abbrev low_after : IsAfter names.R_AARCH64_ADD_ABS_LO12_NC
+abbrev pub low_after : IsAfter names.R_AARCH64_ADD_ABS_LO12_NC
 low_after =
     record {
       row = insn_row AbsoluteLowPart 0 12 Add;
@@ -102,8 +102,8 @@ module _ (addresses : Addresses) (symbol : Symbol) (is_there : symbol.is_undefin
 
 -- ---- a pair
 
-module _ (laws : Laws) (l : Linked) (linked : IsLinked l) (aarch64 : l.setting.architecture ≡ AArch64)
-    (i j : ℕ) (of : AreOfLoad l i j) (left : AreLeft l i j) (alone : IsRewrittenByNoOther l i (relocation_in l.relocations i).offset) where
+module _ (laws : Laws) (l : Linked) (rewriting : AreRewritten l) (aarch64 : l.setting.architecture ≡ AArch64)
+    (i j : ℕ) (of : AreOfLoad l i j) (alone : IsRewrittenByNoOther l i (relocation_in l.relocations i).offset) where
   abbrev first : Rela
   first = relocation_in l.relocations i
 
@@ -112,18 +112,29 @@ module _ (laws : Laws) (l : Linked) (linked : IsLinked l) (aarch64 : l.setting.a
 
   page_entry : IsOfEntry names.R_AARCH64_ADR_GOT_PAGE (entry kinds.NoOp names.R_AARCH64_ADR_PREL_PG_HI21 (to_address 0)) l.section first.offset of.page_chosen
   page_entry =
-      of_entry l linked aarch64 i of.page_chosen of.together.first_below of.page_decided names.R_AARCH64_ADR_GOT_PAGE tt of.page
+      of_entry l rewriting aarch64 i of.page_chosen of.together.first_below of.page_decided names.R_AARCH64_ADR_GOT_PAGE tt of.page
       (entry kinds.NoOp names.R_AARCH64_ADR_PREL_PG_HI21 (to_address 0)) refl
 
   low_entry : IsOfEntry names.R_AARCH64_LD64_GOT_LO12_NC (entry kinds.LdrToAdd names.R_AARCH64_ADD_ABS_LO12_NC (to_address 4)) l.section second.offset of.low_chosen
   low_entry =
-      of_entry l linked aarch64 j of.low_chosen of.together.second_below of.low_decided names.R_AARCH64_LD64_GOT_LO12_NC tt of.low
+      of_entry l rewriting aarch64 j of.low_chosen of.together.second_below of.low_decided names.R_AARCH64_LD64_GOT_LO12_NC tt of.low
       (entry kinds.LdrToAdd names.R_AARCH64_ADD_ABS_LO12_NC (to_address 4)) refl
 
-  pub loads_the_same : LoadsTheSame l i got_row
-  loads_the_same symbol is_symbol is_there got s adrp ldr small holds at of_entry_page of_entry_low =
+  page_named : IsNamedAs names.R_AARCH64_ADR_PREL_PG_HI21 l i
+  page_named =
+      named_after l rewriting i of.page_chosen of.together.first_below of.page_decided
+      (entry kinds.NoOp names.R_AARCH64_ADR_PREL_PG_HI21 (to_address 0)) page_entry.kind_is page_entry.code_is (λ o. refl) (λ a. refl)
+
+  low_named : IsNamedAs names.R_AARCH64_ADD_ABS_LO12_NC l j
+  low_named =
+      named_after l rewriting j of.low_chosen of.together.second_below of.low_decided
+      (entry kinds.LdrToAdd names.R_AARCH64_ADD_ABS_LO12_NC (to_address 4)) low_entry.kind_is low_entry.code_is (λ o. refl) (λ a. refl)
+
+  wherever : (w : Operands)
+      → AreAppliedAt names.R_AARCH64_ADR_PREL_PG_HI21 names.R_AARCH64_ADD_ABS_LO12_NC w l first.offset
+      → LoadIsAlike l i w
+  wherever w applied s adrp ldr small holds at of_entry_page of_entry_low =
       let o = first.offset in
-      let w = operands_with AArch64 l.addresses got_row symbol first got in
       let next = of.together.next in
       let asked = low_entry.meant.asked in
       let inside = asked.1.1.0 in
@@ -143,32 +154,43 @@ module _ (laws : Laws) (l : Linked) (linked : IsLinked l) (aarch64 : l.setting.a
         second_is = subst IsLdr64 (word_same l.section (o + 4)) is_ldr;
       } in
       let stayed : instruction_at l.rewritten o ≡ instruction_at l.section o =
-      stays l linked i of.page_chosen of.together.first_below of.page_decided (ap relaxation_rewrite page_entry.kind_is) alone (omega (arith, inside, next)) in
-      let page_written : IsApplied page_after.row w (instruction_at l.section o) (instruction_at l.final o) =
-      with_operands page_after.row
-      (operands_with AArch64 l.addresses page_after.row symbol (rela o (code_of (aarch64_name names.R_AARCH64_ADR_PREL_PG_HI21)) first.symbol first.addend) 0)
-      w (instruction_at l.section o) (instruction_at l.final o)
-      (page_value l.addresses symbol is_there first (code_of (aarch64_name names.R_AARCH64_ADR_PREL_PG_HI21)) got)
-      (subst (λ xs. IsApplied page_after.row (operands_with AArch64 l.addresses page_after.row symbol (rela o (code_of (aarch64_name names.R_AARCH64_ADR_PREL_PG_HI21)) first.symbol first.addend) 0) xs (instruction_at l.final o)) stayed
-      (applied_there l linked aarch64 i of.page_chosen of.together.first_below of.page_decided (left.0)
-      (entry kinds.NoOp names.R_AARCH64_ADR_PREL_PG_HI21 (to_address 0))
-      page_entry.kind_is page_entry.code_is (λ o. refl) (λ a. refl) page_after symbol 0 refl is_symbol)) in
-      let low_written : IsApplied low_after.row (behind 4 w) (instruction_at l.rewritten (o + 4)) (instruction_at l.final (o + 4)) =
-      with_operands low_after.row
-      (operands_with AArch64 l.addresses low_after.row symbol (rela second.offset (code_of (aarch64_name names.R_AARCH64_ADD_ABS_LO12_NC)) second.symbol second.addend) 0)
-      (behind 4 w) (instruction_at l.rewritten (o + 4)) (instruction_at l.final (o + 4))
-      (low_value l.addresses symbol is_there first (code_of (aarch64_name names.R_AARCH64_ADD_ABS_LO12_NC)) got second.offset second.addend of.together.same_addend)
-      (subst (λ n. IsApplied low_after.row (operands_with AArch64 l.addresses low_after.row symbol (rela second.offset (code_of (aarch64_name names.R_AARCH64_ADD_ABS_LO12_NC)) second.symbol second.addend) 0) (instruction_at l.rewritten n) (instruction_at l.final n)) next
-      (applied_there l linked aarch64 j of.low_chosen of.together.second_below of.low_decided (left.1)
-      (entry kinds.LdrToAdd names.R_AARCH64_ADD_ABS_LO12_NC (to_address 4))
-      low_entry.kind_is low_entry.code_is (λ o. refl) (λ a. refl) low_after symbol 0 refl
-      (ap (slice_get l.symbols) of.together.same_symbol ∙ is_symbol))) in
+      stays l rewriting i of.page_chosen of.together.first_below of.page_decided (ap relaxation_rewrite page_entry.kind_is) alone (omega (arith, inside, next)) in
+      let page_written : IsRelocated names.R_AARCH64_ADR_PREL_PG_HI21 w (instruction_at l.section o) (instruction_at l.final o) =
+      subst (λ xs. IsRelocated names.R_AARCH64_ADR_PREL_PG_HI21 w xs (instruction_at l.final o)) stayed
+      (applied_so names.R_AARCH64_ADR_PREL_PG_HI21 page_after (with_entry applied.entry w) w (instruction_at l.rewritten o) (instruction_at l.final o) refl applied.first_is) in
+      let low_written : IsRelocated names.R_AARCH64_ADD_ABS_LO12_NC (behind 4 w) (instruction_at l.rewritten (o + 4)) (instruction_at l.final (o + 4)) =
+      applied_so names.R_AARCH64_ADD_ABS_LO12_NC low_after (behind 4 (with_entry applied.entry w)) (behind 4 w) (instruction_at l.rewritten (o + 4)) (instruction_at l.final (o + 4)) refl applied.second_is in
       let added : IsRewritten kinds.LdrToAdd (instruction_at l.section (o + 4)) (instruction_at l.rewritten (o + 4)) =
       subst (λ n. IsRewritten kinds.LdrToAdd (instruction_at l.section n) (instruction_at l.rewritten n)) next
-      (becomes l linked j of.low_chosen of.together.second_below of.low_decided kinds.LdrToAdd is_ldr64 (λ word. 0x91000000 + field word 0 21) refl low_entry.kind_is) in
+      (becomes l rewriting j of.low_chosen of.together.second_below of.low_decided kinds.LdrToAdd is_ldr64 (λ word. 0x91000000 + field word 0 21) refl low_entry.kind_is) in
       laws.got w s (instruction_at l.section o) (instruction_at l.section (o + 4)) (instruction_at l.rewritten (o + 4))
       together holds added adrp ldr (instruction_at l.final o) (instruction_at l.final (o + 4))
       of_entry_page of_entry_low page_written low_written
 
+pub got_loads_anywhere : Laws → GotLoadsAnywhere
+got_loads_anywhere laws l rewriting aarch64 i j of alone = (
+  page_named laws l rewriting aarch64 i j of alone,
+  low_named laws l rewriting aarch64 i j of alone,
+  wherever laws l rewriting aarch64 i j of alone,
+)
+
+-- ---- in the final bytes
+
 pub joined : Laws → GotLoads
-joined laws l linked aarch64 i j of left alone = loads_the_same laws l linked aarch64 i j of left alone
+joined laws l linked aarch64 i j of left alone symbol is_symbol is_there got =
+    let r = relocation_in l.relocations i in
+    let q = relocation_in l.relocations j in
+    let any = got_loads_anywhere laws l (are_rewritten l linked) aarch64 i j of alone in
+    let w = operands_with AArch64 l.addresses got_row symbol r got in
+    any.2 w
+    (record {
+      entry = got;
+      first_is =
+          applied_there l linked aarch64 i of.together.first_below names.R_AARCH64_ADR_PREL_PG_HI21 page_after (any.0) (left.0) symbol is_symbol 0 refl
+          (with_entry got w) (page_value l.addresses symbol is_there r (code_of (aarch64_name names.R_AARCH64_ADR_PREL_PG_HI21)) got);
+      second_is =
+          subst (IsAppliedAt names.R_AARCH64_ADD_ABS_LO12_NC (behind 4 (with_entry got w)) l) of.together.next
+          (applied_there l linked aarch64 j of.together.second_below names.R_AARCH64_ADD_ABS_LO12_NC low_after (any.1) (left.1) symbol
+          (ap (slice_get l.symbols) of.together.same_symbol ∙ is_symbol) 0 refl (behind 4 (with_entry got w))
+          (low_value l.addresses symbol is_there r (code_of (aarch64_name names.R_AARCH64_ADD_ABS_LO12_NC)) got q.offset q.addend of.together.same_addend));
+    })

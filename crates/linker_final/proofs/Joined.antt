@@ -5,12 +5,12 @@ use Rattle.linker_elf.specs.Applied.{IsApplied}
 use Rattle.linker_elf.specs.declared.elf.RelocationKindInfo.{RelocationKindInfo}
 use Rattle.linker_elf.specs.declared.elf.value.Operands.{Operands}
 use Rattle.linker_final.proofs.InstructionFields.{IsOfInstruction, applied}
-use Rattle.linker_final.proofs.PackedBytes.{place_behind, places_inside, same_there, stay_inside}
+use Rattle.linker_final.proofs.PackedBytes.{packed_there, place_behind, places_inside, same_there, stay_inside}
 use Rattle.linker_final.proofs.Phases.{later_as_many, later_bytes, later_keep, later_length}
 use Rattle.linker_final.proofs.Written.{rela}
-use Rattle.linker_final.specs.Final.{InstructionIsLeft, Linked, count, instruction_at}
+use Rattle.linker_final.specs.Final.{InstructionIsLeft, IsLeftAlone, Linked, count, instruction_at}
 use Rattle.linker_final.specs.Joined.{IsRewrittenAndPacked, IsKeptInstruction}
-use Rattle.linker_final.specs.Packed.{Packed, StayTogether, architecture_of, place_of}
+use Rattle.linker_final.specs.Packed.{IsUnwritten, Packed, StayTogether, architecture_of, place_of}
 use Rattle.linker_final.specs.Packed as packed
 use Rattle.linker_section.specs.Needed.{entry_of}
 use Rattle.linker_section.specs.Relocations.{relocation_in}
@@ -18,6 +18,16 @@ use Rattle.linker_section.specs.Values.{entry_address, offset_at, operands_by, o
 use Rattle.linker_section.specs.declared.facts.Symbol.{Symbol}
 use Rattle.linker_section.specs.declared.relocations.Rela.{Rela}
 use Rattle.linker_utils.specs.Architectures.{IsRow}
+
+-- an instruction that stays, in which no relocation has a field
+pub unwritten_there : (l : Linked) (p : Packed) → IsRewrittenAndPacked l p → (i o : ℕ) → IsLeftAlone l i o 4
+    → StayTogether p o 4 → IsUnwritten p (place_of p o) 4
+    → instruction_at p.final (place_of p o) ≡ instruction_at l.rewritten o
+unwritten_there l p joined i o left stay free =
+    let is = joined.packed in
+    packed_there p is (place_of p o) 4 (places_inside p is o 4 (omega arith) stay) free
+    ∙ (same_there p is o 4 (omega arith) stay
+    ∙ (ap (λ bytes. instruction_at bytes o) joined.bytes ∙ later_bytes l joined.later i o 4 left))
 
 module _ (l : Linked) (p : Packed) (joined : IsRewrittenAndPacked l p) (i : ℕ) (below : i < count l)
     (code symbol : ℕ) (addend : ℤ)
@@ -88,15 +98,15 @@ module _ (l : Linked) (p : Packed) (joined : IsRewrittenAndPacked l p) (i : ℕ)
 
   -- so is the value of its own symbol
   pub own_there : (row : RelocationKindInfo) (of : IsOfInstruction 4 row)
-      → IsRow (architecture_of p.machine) after.code (Some row) → (here : Symbol)
+      → IsRow (architecture_of p.machine) after.code (Some row) → (here : Symbol) (got : ℕ)
       → operands_by (architecture_of p.machine) p.addresses row after here
       (entry_address p.addresses here (entry_of row after.addend here.is_thread_local))
-      ≡ Ok (operands_with (architecture_of p.machine) p.addresses row here after 0)
+      ≡ Ok (operands_with (architecture_of p.machine) p.addresses row here after got)
       → slice_get p.symbols after.symbol ≡ Some here
-      → IsApplied row (operands_with (architecture_of p.machine) p.addresses row here after 0)
+      → IsApplied row (operands_with (architecture_of p.machine) p.addresses row here after got)
       (instruction_at l.rewritten o) (instruction_at p.final (place_of p o))
-  own_there row of is_row here entry_is is_here =
-      let y = operands_with (architecture_of p.machine) p.addresses row here after 0 in
+  own_there row of is_row here got entry_is is_here =
+      let y = operands_with (architecture_of p.machine) p.addresses row here after got in
       kept_there row y
       (applied (architecture_of p.machine) p.addresses p.relocations_after p.symbols p.packed p.final joined.packed.written
       i within 4 (omega arith) row of is_row y

@@ -3,6 +3,7 @@ pub mod AArch64Alone
 pub mod AArch64Chosen
 pub mod AArch64Descriptors
 pub mod AArch64Loads
+pub mod AArch64Twice
 pub mod AArch64Written
 pub mod Chosen
 pub mod Early
@@ -35,6 +36,7 @@ pub mod Ppc64Halves
 pub mod Ppc64Loads
 pub mod Ppc64Near
 pub mod Ppc64Offsets
+pub mod Ppc64Twice
 pub mod Ppc64Written
 pub mod PutBack
 pub mod RelocatedFields
@@ -49,6 +51,7 @@ pub mod RiscVPackedDeletions
 pub mod RiscVTested
 pub mod RiscVWritten
 pub mod SameDecisions
+pub mod Twice
 pub mod Written
 pub mod X86Chosen
 pub mod X86Descriptors

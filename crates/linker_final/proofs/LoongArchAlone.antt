@@ -1,29 +1,34 @@
 -- Instructions of LoongArch that are rewritten each by itself do in the final bytes what the object's do.
-use Rattle.std.proofs.Common.{◌≡◌, ℕ, ◌+◌, ◌*◌, ◌-◌, ◌/◌, ◌^◌, ◌<◌, List, IsTrue, refl, subst, inl, inr}
+use Rattle.std.proofs.Common.{◌≡◌, ℕ, ◌+◌, ◌*◌, ◌-◌, ◌/◌, ◌^◌, ◌<◌, List, IsTrue, Ok, Some, refl, subst, inl, inr}
 use Rattle.linker_base.specs.Bits.{field}
-use Rattle.linker_elf.specs.Applied.{IsApplied}
 use Rattle.linker_elf.specs.Choices.{entry}
-use Rattle.linker_elf.specs.ElfNames.{code_of}
+use Rattle.linker_elf.specs.ElfNames.{IsNameOf, code_of}
 use Rattle.linker_elf.specs.LoongArchRelocations.{loongarch_name, high_row, low_row}
+use Rattle.linker_elf.specs.Value.{value_of}
 use Rattle.linker_elf.specs.declared.elf.RelocationInstruction.TheVariants as insns
 use Rattle.linker_elf.specs.declared.elf.RelocationKind.TheVariants.{TpOff}
+use Rattle.linker_elf.specs.declared.elf.RelocationKindInfo.{RelocationKindInfo}
 use Rattle.linker_elf.specs.declared.elf.choice.Choice.{Choice}
+use Rattle.linker_elf.specs.declared.elf.value.Operands.{Operands}
 use Rattle.linker_elf.specs.declared.loongarch64.forms.LoongArch64Instruction.TheVariants.{Shift5, Shift10}
 use Rattle.linker_elf.specs.declared.loongarch64.relocations.LoongArch64Relocation.{LoongArch64Relocation}
 use Rattle.linker_elf.specs.declared.loongarch64.relocations.LoongArch64Relocation.TheVariants as names
 use Rattle.linker_final.proofs.Early.{isnt}
 use Rattle.linker_final.proofs.LoongArchChosen.{IsByTable, IsEntry, by_table, entry_by}
-use Rattle.linker_final.proofs.LoongArchWritten.{IsAfter, applied_there, becomes}
-use Rattle.linker_final.proofs.Written.{rela, with_operands, word_same}
-use Rattle.linker_final.specs.Final.{InstructionIsLeft, Linked, IsLinked, count, instruction_at}
-use Rattle.linker_final.specs.LoongArchFinal.{HighDoesTheSame, HighHalves, LowHalves, LowParts, MovedLowParts}
-use Rattle.linker_laws.specs.LoongArchRewriteLaws.{HighHalfToLu12i, IsRewritten, Laws, word_of}
+use Rattle.linker_final.proofs.LoongArchWritten.{IsAfter, becomes, named_after, relocated_there}
+use Rattle.linker_final.proofs.Written.{are_rewritten, word_same}
+use Rattle.linker_final.specs.Final.{AreRewritten, InstructionIsLeft, Linked, IsLinked, count, instruction_at}
+use Rattle.linker_final.specs.LoongArchFinal.{Anywhere, HighDoesTheSame, HighHalves, HighHalvesAnywhere, InPlace, LowDoesTheSame, LowHalves, LowHalvesAnywhere, LowParts, MovedLowParts, named_as}
+use Rattle.linker_laws.specs.LoongArchRewriteLaws.{HighHalfToLu12i, Laws, word_of}
 use Rattle.linker_loongarch64.specs.LoongArchRewrites.{IsLd, IsPcalau12i, adds_low12, by_low_part, rd_of, rj_of, to_local_exec, tp}
 use Rattle.linker_loongarch64.specs.declared.rewrites.RelaxationKind.TheVariants as kinds
 use Rattle.linker_rewriting.specs.Decisions.{decision_at}
 use Rattle.linker_rewriting.specs.declared.decisions.Decision.TheVariants.{Rewritten}
 use Rattle.linker_section.specs.Relocations.{relocation_in}
-use Rattle.linker_section.specs.Values.{operands_with}
+use Rattle.linker_section.specs.Values.{operands_in, operands_with}
+use Rattle.linker_section.specs.declared.facts.Addresses.{Addresses}
+use Rattle.linker_section.specs.declared.facts.Symbol.{Symbol}
+use Rattle.linker_section.specs.declared.relocations.Rela.{Rela}
 use Rattle.linker_utils.specs.declared.architecture.Relaxation.{Relaxation}
 use Rattle.linker_utils.specs.declared.architecture.Relaxation.TheVariants as relaxations
 use Rattle.linker_utils.specs.declared.elf.Architecture.TheVariants.{LoongArch64}
@@ -114,7 +119,7 @@ low_entry section o chosen by =
       ]
     ]
 
-pub part_entry : (section : List ℕ) (o : ℕ) (chosen : Choice Relaxation ℕ)
+part_entry : (section : List ℕ) (o : ℕ) (chosen : Choice Relaxation ℕ)
     → IsByTable names.R_LARCH_TLS_LE_LO12_R section o chosen
     → IsEntry kinds.BaseToTp names.R_LARCH_TLS_LE_LO12_R names.R_LARCH_TLS_LE_LO12_R section o chosen
 part_entry section o chosen by =
@@ -125,63 +130,93 @@ part_entry section o chosen by =
       | inr nothing ↦ absurd nothing
     ]
 
--- ---- halves
+-- ---- halves, wherever the section goes then
 
 -- a `pcalau12i` of a name that became `lu12i.w`
-pub high_does : (name : LoongArch64Relocation) → HighHalfToLu12i name
-    → (l : Linked) → IsLinked l → l.setting.architecture ≡ LoongArch64
-    → (i : ℕ) (chosen : Choice Relaxation ℕ) → i < count l
-    → decision_at l.decisions i ≡ Rewritten chosen → InstructionIsLeft l i
+pub high_anywhere : (name : LoongArch64Relocation) → HighHalfToLu12i name
+    → (l : Linked) → AreRewritten l → (i : ℕ) (chosen : Choice Relaxation ℕ) → i < count l
+    → decision_at l.decisions i ≡ Rewritten chosen
     → chosen.kind ≡ relaxations.LoongArch64 kinds.PcalaToLu12i
     → chosen.relocation ≡ code_of (loongarch_name names.R_LARCH_TLS_LE_HI20)
     → IsPcalau12i (word_of (instruction_at l.section (relocation_in l.relocations i).offset))
-    → HighDoesTheSame name l i high_after.row
-high_does name law l linked loongarch i chosen below decided left kind_is code_is is_pcala symbol is_symbol got s t c pcala small at agree fits fits_offset of_entry =
+    → (relocation_in l.relocations_after i ≡ named_as names.R_LARCH_TLS_LE_HI20 (relocation_in l.relocations i))
+    × Anywhere names.R_LARCH_TLS_LE_HI20 (HighDoesTheSame name) l i
+high_anywhere name law l made i chosen below decided kind_is code_is is_pcala = (
+  named_after l made i chosen below decided kinds.PcalaToLu12i kind_is names.R_LARCH_TLS_LE_HI20 code_is,
+  λ x y lu12i of_offset s t c pcala small at agree fits fits_offset of_entry.
+      let o = (relocation_in l.relocations i).offset in
+      law x y s t c (instruction_at l.section o) (instruction_at l.rewritten o) small at agree
+      (becomes l made.done i chosen below decided kinds.PcalaToLu12i kind_is (λ word. 0x14000000 + rd_of word) refl)
+      pcala lu12i (record { is = is_pcala; fits = fits; applied = of_entry }) fits_offset of_offset,
+)
+
+pub high_halves_anywhere : Laws → HighHalvesAnywhere
+high_halves_anywhere laws l made loongarch i chosen below is_name decided any =
+    let o = (relocation_in l.relocations i).offset in
+    let by = high_entry l.section o chosen
+    (by_table l made.decided loongarch i chosen below decided names.R_LARCH_TLS_IE_PC_HI20 tt is_name) in
+    high_anywhere names.R_LARCH_TLS_IE_PC_HI20 laws.high_half l made i chosen below decided by.kind_is by.code_is
+    (subst IsPcalau12i (word_same l.section o) (by.asked.1))
+
+pub low_halves_anywhere : Laws → LowHalvesAnywhere
+low_halves_anywhere laws l made loongarch i chosen below is_name decided any =
+    let o = (relocation_in l.relocations i).offset in
+    let by = low_entry l.section o chosen
+    (by_table l made.decided loongarch i chosen below decided names.R_LARCH_TLS_IE_PC_LO12 tt is_name) in (
+      named_after l made i chosen below decided kinds.LowToOri by.kind_is names.R_LARCH_TLS_LE_LO12 by.code_is,
+      λ x y ori of_offset s t c ld small same holds has agree of_entry.
+          laws.low_half x y s t c (instruction_at l.section o) (instruction_at l.rewritten o) small
+          (subst IsLd (word_same l.section o) (by.asked.1)) same holds has agree
+          (becomes l made.done i chosen below decided kinds.LowToOri by.kind_is (λ word. 0x03800000 + field word 0 10) refl)
+          ld ori of_entry of_offset,
+    )
+
+-- ---- halves in place
+
+-- A formula of the offset takes no entry of the GOT, and no other operands than that of the high half.
+pub record TakesOffset (row : RelocationKindInfo) : Type 0 where
+  pub taken : (addresses : Addresses) (r : Rela) (symbol : Symbol)
+      → operands_in LoongArch64 addresses row r (Some symbol) ≡ Ok (operands_with LoongArch64 addresses row symbol r 0)
+  pub same : (addresses : Addresses) (r : Rela) (symbol : Symbol) (got code : ℕ)
+      → value_of row (operands_with LoongArch64 addresses high_after.row symbol r got)
+      ≡ value_of row (operands_with LoongArch64 addresses row symbol (record r { code = code }) 0)
+
+pub high_takes : TakesOffset high_after.row
+high_takes =
+    record { taken = λ addresses r symbol. refl; same = λ addresses r symbol got code. refl }
+
+pub low_takes : TakesOffset low_after.row
+low_takes =
+    record { taken = λ addresses r symbol. refl; same = λ addresses r symbol got code. refl }
+
+pub in_place : (Holds : List ℕ → List ℕ → Operands → Operands → Type 0) (l : Linked) → IsLinked l
+    → l.setting.architecture ≡ LoongArch64 → (i : ℕ) → i < count l → InstructionIsLeft l i
+    → (name : LoongArch64Relocation) (a : IsAfter name) → TakesOffset a.row
+    → (relocation_in l.relocations_after i ≡ named_as name (relocation_in l.relocations i)) × Anywhere name Holds l i
+    → InPlace Holds l i high_after.row
+in_place Holds l linked loongarch i below left name a takes any symbol is_symbol got =
     let r = relocation_in l.relocations i in
-    let o = r.offset in
     let w = operands_with LoongArch64 l.addresses high_after.row symbol r got in
-    let written : IsApplied high_after.row w (instruction_at l.rewritten o) (instruction_at l.final o) =
-    with_operands high_after.row
-    (operands_with LoongArch64 l.addresses high_after.row symbol (rela o (code_of (loongarch_name names.R_LARCH_TLS_LE_HI20)) r.symbol r.addend) 0)
-    w (instruction_at l.rewritten o) (instruction_at l.final o) refl
-    (applied_there l linked loongarch i chosen below decided left kinds.PcalaToLu12i kind_is
-    names.R_LARCH_TLS_LE_HI20 code_is high_after symbol 0 refl is_symbol) in
-    let made : IsRewritten kinds.PcalaToLu12i (instruction_at l.section o) (instruction_at l.rewritten o) =
-    becomes l linked.done i chosen below decided kinds.PcalaToLu12i kind_is (λ word. 0x14000000 + rd_of word) refl in
-    law w s t c (instruction_at l.section o) (instruction_at l.rewritten o) small at agree made
-    pcala (instruction_at l.final o) (record { is = is_pcala; fits = fits; applied = of_entry }) fits_offset written
+    (any.1) w w (instruction_at l.final r.offset)
+    (relocated_there l linked loongarch i below name a (any.0) left symbol 0
+    (takes.taken l.addresses (named_as name r) symbol) is_symbol w
+    (takes.same l.addresses r symbol got (code_of (loongarch_name name))))
 
 pub high_halves : Laws → HighHalves
 high_halves laws l linked loongarch i chosen below is_name decided left any =
-    let o = (relocation_in l.relocations i).offset in
-    let by = high_entry l.section o chosen
-    (by_table l linked.decided loongarch i chosen below decided names.R_LARCH_TLS_IE_PC_HI20 tt is_name) in
-    high_does names.R_LARCH_TLS_IE_PC_HI20 laws.high_half l linked loongarch i chosen below decided left by.kind_is by.code_is
-    (subst IsPcalau12i (word_same l.section o) (by.asked.1))
+    in_place (HighDoesTheSame names.R_LARCH_TLS_IE_PC_HI20) l linked loongarch i below left
+    names.R_LARCH_TLS_LE_HI20 high_after high_takes
+    (high_halves_anywhere laws l (are_rewritten l linked) loongarch i chosen below is_name decided any)
 
 pub low_halves : Laws → LowHalves
-low_halves laws l linked loongarch i chosen below is_name decided left any symbol is_symbol got s t c ld small holds has agree of_entry =
-    let r = relocation_in l.relocations i in
-    let o = r.offset in
-    let by = low_entry l.section o chosen
-    (by_table l linked.decided loongarch i chosen below decided names.R_LARCH_TLS_IE_PC_LO12 tt is_name) in
-    let w = operands_with LoongArch64 l.addresses high_after.row symbol r got in
-    let written : IsApplied low_after.row w (instruction_at l.rewritten o) (instruction_at l.final o) =
-    with_operands low_after.row
-    (operands_with LoongArch64 l.addresses low_after.row symbol (rela o (code_of (loongarch_name names.R_LARCH_TLS_LE_LO12)) r.symbol r.addend) 0)
-    w (instruction_at l.rewritten o) (instruction_at l.final o) refl
-    (applied_there l linked loongarch i chosen below decided left kinds.LowToOri by.kind_is
-    names.R_LARCH_TLS_LE_LO12 by.code_is low_after symbol 0 refl is_symbol) in
-    let made : IsRewritten kinds.LowToOri (instruction_at l.section o) (instruction_at l.rewritten o) =
-    becomes l linked.done i chosen below decided kinds.LowToOri by.kind_is (λ word. 0x03800000 + field word 0 10) refl in
-    laws.low_half w s t c (instruction_at l.section o) (instruction_at l.rewritten o) small
-    (subst IsLd (word_same l.section o) (by.asked.1)) holds has agree made
-    ld (instruction_at l.final o) of_entry written
+low_halves laws l linked loongarch i chosen below is_name decided left any =
+    in_place LowDoesTheSame l linked loongarch i below left names.R_LARCH_TLS_LE_LO12 low_after low_takes
+    (low_halves_anywhere laws l (are_rewritten l linked) loongarch i chosen below is_name decided any)
 
 -- ---- low parts over the thread pointer
 
 pub moved_low_parts : Laws → MovedLowParts
-moved_low_parts laws l all done loongarch i chosen below is_name decided x y s t differing low base same short alike over stores of_low of_base =
+moved_low_parts laws l all done loongarch i chosen below is_name decided x y base of_base s t differing low same short alike over stores of_low =
     let o = (relocation_in l.relocations i).offset in
     let by = part_entry l.section o chosen
     (by_table l all loongarch i chosen below decided names.R_LARCH_TLS_LE_LO12_R tt is_name) in
@@ -190,13 +225,22 @@ moved_low_parts laws l all done loongarch i chosen below is_name decided x y s t
     (becomes l done i chosen below decided kinds.BaseToTp by.kind_is (λ word. word - rj_of word * 2 ^ 5 + tp * 2 ^ 5) refl)
     low base of_low of_base
 
+-- what becomes of its relocation
+pub part_named : (l : Linked) → AreRewritten l → l.setting.architecture ≡ LoongArch64
+    → (i : ℕ) (chosen : Choice Relaxation ℕ) → i < count l
+    → IsNameOf loongarch_name (relocation_in l.relocations i).code names.R_LARCH_TLS_LE_LO12_R
+    → decision_at l.decisions i ≡ Rewritten chosen
+    → relocation_in l.relocations_after i ≡ named_as names.R_LARCH_TLS_LE_LO12_R (relocation_in l.relocations i)
+part_named l made loongarch i chosen below is_name decided =
+    let by = part_entry l.section (relocation_in l.relocations i).offset chosen
+    (by_table l made.decided loongarch i chosen below decided names.R_LARCH_TLS_LE_LO12_R tt is_name) in
+    named_after l made i chosen below decided kinds.BaseToTp by.kind_is names.R_LARCH_TLS_LE_LO12_R by.code_is
+
 pub low_parts : Laws → LowParts
-low_parts laws l linked loongarch i chosen below is_name decided left any symbol is_symbol s t differing low alike over stores short of_low =
+low_parts laws l linked loongarch i chosen below is_name decided left any symbol is_symbol got =
     let r = relocation_in l.relocations i in
-    let by = part_entry l.section r.offset chosen
-    (by_table l linked.decided loongarch i chosen below decided names.R_LARCH_TLS_LE_LO12_R tt is_name) in
-    let w = operands_with LoongArch64 l.addresses part_after.row symbol r 0 in
-    moved_low_parts laws l linked.decided linked.done loongarch i chosen below is_name decided w w s t differing low
-    (instruction_at l.final r.offset) refl short alike over stores of_low
-    (applied_there l linked loongarch i chosen below decided left kinds.BaseToTp by.kind_is
-    names.R_LARCH_TLS_LE_LO12_R by.code_is part_after symbol 0 refl is_symbol)
+    let w = operands_with LoongArch64 l.addresses part_after.row symbol r got in
+    moved_low_parts laws l linked.decided linked.done loongarch i chosen below is_name decided
+    w w (instruction_at l.final r.offset)
+    (relocated_there l linked loongarch i below names.R_LARCH_TLS_LE_LO12_R part_after
+    (part_named l (are_rewritten l linked) loongarch i chosen below is_name decided) left symbol 0 refl is_symbol w refl)

@@ -1,35 +1,44 @@
 -- Instructions of TLS descriptors of LoongArch that became those of local-exec or of initial-exec do in
 -- the final bytes what the object's do.
-use Rattle.std.proofs.Common.{◌≡◌, ℕ, ◌+◌, List, refl, ap, subst, inl, inr, Some, None, cond}
+use Rattle.std.proofs.Common.{◌≡◌, ℕ, ◌+◌, ◌<◌, ◌≤◌, List, length, refl, sym, ap, subst, inl, inr, Ok, Some, None, cond}
 use Rattle.linker_base.specs.Bits.{field}
-use Rattle.linker_elf.specs.Applied.{IsApplied}
+use Rattle.linker_base.specs.RewriteWindow.{window_of_rewrite}
 use Rattle.linker_elf.specs.Choices.{entry}
 use Rattle.linker_elf.specs.ElfNames.{code_of}
 use Rattle.linker_elf.specs.LoongArchRelocations.{loongarch_name, low_row, rounded_row}
 use Rattle.linker_elf.specs.Rows.{entry_pages, paged_row}
+use Rattle.linker_elf.specs.Value.{value_of}
 use Rattle.linker_elf.specs.declared.elf.RelocationInstruction.TheVariants as insns
 use Rattle.linker_elf.specs.declared.elf.RelocationKind.TheVariants.{GotTpOff, GotTpOffGot}
+use Rattle.linker_elf.specs.declared.elf.RelocationKindInfo.{RelocationKindInfo}
 use Rattle.linker_elf.specs.declared.elf.choice.Choice.{Choice}
+use Rattle.linker_elf.specs.declared.elf.value.Operands.{Operands}
 use Rattle.linker_elf.specs.declared.loongarch64.forms.LoongArch64Instruction.TheVariants.{Shift5, Shift10}
+use Rattle.linker_elf.specs.declared.loongarch64.relocations.LoongArch64Relocation.{LoongArch64Relocation}
 use Rattle.linker_elf.specs.declared.loongarch64.relocations.LoongArch64Relocation.TheVariants as names
-use Rattle.linker_final.proofs.LoongArchAlone.{high_after, high_does, low_after}
+use Rattle.linker_final.proofs.LoongArchAlone.{high_after, high_anywhere, high_takes, in_place, low_after, low_takes}
 use Rattle.linker_final.proofs.LoongArchChosen.{IsByTable, IsEntry, by_table, entry_by, same_kind}
-use Rattle.linker_final.proofs.LoongArchWritten.{IsAfter, applied_there, becomes, becomes_nop}
-use Rattle.linker_final.proofs.Written.{rela, stays, with_operands, word_same}
-use Rattle.linker_final.specs.Final.{instruction_at}
-use Rattle.linker_final.specs.LoongArchFinal.{CallDoesNothing, Descriptors, EachRewritten, HighDoesTheSame, IsAny, IsKind, LoadDoesNothing, LowLoadsOffset, LowMakesOffset, PageDoesTheSame}
-use Rattle.linker_laws.specs.LoongArchRewriteLaws.{IsRewritten, Laws, with_entry, word_of}
+use Rattle.linker_final.proofs.LoongArchWritten.{IsAfter, becomes, named_after, relocated_there, unwritten_nop}
+use Rattle.linker_final.proofs.RiscVWritten.{stays}
+use Rattle.linker_final.proofs.Written.{are_rewritten, word_same}
+use Rattle.linker_final.specs.Final.{InstructionIsLeft, Linked, IsLinked, count, instruction_at}
+use Rattle.linker_final.specs.LoongArchFinal.{Anywhere, AnywhereUnchanged, AnywhereUnwritten, CallDoesNothing, Descriptors, DescriptorsAnywhere, EachAnywhere, HasOffsetEntry, HighDoesTheSame, InPlaceByEntry, InPlaceUnwritten, IsAny, IsKind, LoadDoesNothing, LowLoadsOffset, LowMakesOffset, PageDoesTheSame, named_as, with_entry}
+use Rattle.linker_laws.specs.LoongArchRewriteLaws.{IsRelocated, Laws, word_of}
 use Rattle.linker_loongarch64.specs.LoongArchRewrites.{IsCallOfDescriptor, IsLoadOfDescriptor, IsLowOfDescriptor, IsPageOfDescriptor, page_to_initial_exec, to_initial_exec, to_local_exec}
 use Rattle.linker_loongarch64.specs.declared.rewrites.RelaxationKind.TheVariants as kinds
+use Rattle.linker_rewriting.specs.declared.decisions.Decision.TheVariants.{Rewritten}
 use Rattle.linker_section.specs.Relocations.{relocation_in}
-use Rattle.linker_section.specs.Values.{operands_by, operands_with}
+use Rattle.linker_section.specs.Values.{operands_by, operands_in, operands_with}
+use Rattle.linker_section.specs.declared.facts.Addresses.{Addresses}
+use Rattle.linker_section.specs.declared.facts.Symbol.{Symbol}
+use Rattle.linker_section.specs.declared.relocations.Rela.{Rela}
 use Rattle.linker_utils.specs.Architectures.{relaxation_rewrite}
 use Rattle.linker_utils.specs.declared.architecture.Relaxation.{Relaxation}
 use Rattle.linker_utils.specs.declared.elf.Architecture.TheVariants.{LoongArch64}
 
 -- ---- rows
 
-abbrev entry_high : IsAfter names.R_LARCH_TLS_IE_PC_HI20
+abbrev pub entry_high : IsAfter names.R_LARCH_TLS_IE_PC_HI20
 entry_high =
     record {
       row = paged_row entry_pages (rounded_row GotTpOff);
@@ -47,7 +56,7 @@ entry_high =
       };
     }
 
-abbrev entry_low : IsAfter names.R_LARCH_TLS_IE_PC_LO12
+abbrev pub entry_low : IsAfter names.R_LARCH_TLS_IE_PC_LO12
 entry_low =
     record {
       row = low_row GotTpOffGot;
@@ -159,116 +168,172 @@ module _ (section : List ℕ) (o : ℕ) (chosen : Choice Relaxation ℕ) where
         ]
       ]
 
--- ---- for local-exec
+-- ---- wherever the section goes then
 
-high : Laws → EachRewritten (IsKind kinds.PcalaToLu12i) names.R_LARCH_TLS_DESC_PC_HI20 names.R_LARCH_TLS_LE_HI20
-    (HighDoesTheSame names.R_LARCH_TLS_DESC_PC_HI20)
-high laws l linked loongarch i chosen below is_name decided left kind =
-    let o = (relocation_in l.relocations i).offset in
-    let by = high_entry l.section o chosen kind
-    (by_table l linked.decided loongarch i chosen below decided names.R_LARCH_TLS_DESC_PC_HI20 tt is_name) in
-    let is : IsPageOfDescriptor (word_of (instruction_at l.section o)) = subst IsPageOfDescriptor (word_same l.section o) (by.asked.1) in
-    high_does names.R_LARCH_TLS_DESC_PC_HI20 laws.descriptor_high_half l linked loongarch i chosen below decided left by.kind_is by.code_is
-    (is.0)
+module _ (laws : Laws) where
+  high : EachAnywhere (IsKind kinds.PcalaToLu12i) names.R_LARCH_TLS_DESC_PC_HI20 names.R_LARCH_TLS_LE_HI20
+      (Anywhere names.R_LARCH_TLS_LE_HI20 (HighDoesTheSame names.R_LARCH_TLS_DESC_PC_HI20))
+  high l made loongarch i chosen below is_name decided kind =
+      let o = (relocation_in l.relocations i).offset in
+      let by = high_entry l.section o chosen kind
+      (by_table l made.decided loongarch i chosen below decided names.R_LARCH_TLS_DESC_PC_HI20 tt is_name) in
+      let is : IsPageOfDescriptor (word_of (instruction_at l.section o)) = subst IsPageOfDescriptor (word_same l.section o) (by.asked.1) in
+      high_anywhere names.R_LARCH_TLS_DESC_PC_HI20 laws.descriptor_high_half l made i chosen below decided by.kind_is by.code_is
+      (is.0)
 
-low : Laws → EachRewritten (IsKind kinds.LowToOri) names.R_LARCH_TLS_DESC_PC_LO12 names.R_LARCH_TLS_LE_HI20 LowMakesOffset
-low laws l linked loongarch i chosen below is_name decided left kind symbol is_symbol got s t c addi small has agree of_descriptor =
-    let r = relocation_in l.relocations i in
-    let o = r.offset in
-    let by = low_entry l.section o chosen kind
-    (by_table l linked.decided loongarch i chosen below decided names.R_LARCH_TLS_DESC_PC_LO12 tt is_name) in
-    let w = operands_with LoongArch64 l.addresses high_after.row symbol r got in
-    let written : IsApplied low_after.row w (instruction_at l.rewritten o) (instruction_at l.final o) =
-    with_operands low_after.row
-    (operands_with LoongArch64 l.addresses low_after.row symbol (rela o (code_of (loongarch_name names.R_LARCH_TLS_LE_LO12)) r.symbol r.addend) 0)
-    w (instruction_at l.rewritten o) (instruction_at l.final o) refl
-    (applied_there l linked loongarch i chosen below decided left kinds.LowToOri by.kind_is
-    names.R_LARCH_TLS_LE_LO12 by.code_is low_after symbol 0 refl is_symbol) in
-    let made : IsRewritten kinds.LowToOri (instruction_at l.section o) (instruction_at l.rewritten o) =
-    becomes l linked.done i chosen below decided kinds.LowToOri by.kind_is (λ word. 0x03800000 + field word 0 10) refl in
-    laws.descriptor_low_half w s t c (instruction_at l.section o) (instruction_at l.rewritten o) small
-    (subst IsLowOfDescriptor (word_same l.section o) (by.asked.1)) has agree made
-    addi (instruction_at l.final o) of_descriptor written
+  low : EachAnywhere (IsKind kinds.LowToOri) names.R_LARCH_TLS_DESC_PC_LO12 names.R_LARCH_TLS_LE_LO12
+      (Anywhere names.R_LARCH_TLS_LE_LO12 LowMakesOffset)
+  low l made loongarch i chosen below is_name decided kind =
+      let o = (relocation_in l.relocations i).offset in
+      let by = low_entry l.section o chosen kind
+      (by_table l made.decided loongarch i chosen below decided names.R_LARCH_TLS_DESC_PC_LO12 tt is_name) in (
+        named_after l made i chosen below decided kinds.LowToOri by.kind_is names.R_LARCH_TLS_LE_LO12 by.code_is,
+        λ x y ori of_offset s t c addi small same has agree of_descriptor.
+            laws.descriptor_low_half x y s t c (instruction_at l.section o) (instruction_at l.rewritten o) small
+            (subst IsLowOfDescriptor (word_same l.section o) (by.asked.1)) same has agree
+            (becomes l made.done i chosen below decided kinds.LowToOri by.kind_is (λ word. 0x03800000 + field word 0 10) refl)
+            addi ori of_descriptor of_offset,
+      )
 
--- ---- for initial-exec
+  page : EachAnywhere (IsKind kinds.NoOp) names.R_LARCH_TLS_DESC_PC_HI20 names.R_LARCH_TLS_IE_PC_HI20
+      (AnywhereUnchanged names.R_LARCH_TLS_IE_PC_HI20 PageDoesTheSame)
+  page l made loongarch i chosen below is_name decided kind =
+      let o = (relocation_in l.relocations i).offset in
+      let by = page_entry l.section o chosen kind
+      (by_table l made.decided loongarch i chosen below decided names.R_LARCH_TLS_DESC_PC_HI20 tt is_name) in
+      let is : IsPageOfDescriptor (word_of (instruction_at l.section o)) = subst IsPageOfDescriptor (word_same l.section o) (by.asked.1) in (
+        named_after l made i chosen below decided kinds.NoOp by.kind_is names.R_LARCH_TLS_IE_PC_HI20 by.code_is,
+        λ alone x y pcala1 of_entry s t c pcala small new_small at new_at agree fits new_fits of_descriptor.
+            let stayed : instruction_at l.rewritten o ≡ instruction_at l.section o =
+            stays l made i below (Rewritten chosen) decided (ap (λ k. window_of_rewrite (relaxation_rewrite k)) by.kind_is) alone (by.asked.0) in
+            laws.descriptor_page x y s t c (instruction_at l.section o) small new_small at new_at agree (is.1) pcala pcala1
+            (record { is = is.0; fits = fits; applied = of_descriptor })
+            (record {
+              is = is.0;
+              fits = new_fits;
+              applied = subst (λ bytes. IsRelocated names.R_LARCH_TLS_IE_PC_HI20 y bytes pcala1) stayed of_entry;
+            }),
+      )
 
-page : Laws → EachRewritten (IsKind kinds.NoOp) names.R_LARCH_TLS_DESC_PC_HI20 names.R_LARCH_TLS_LE_HI20 PageDoesTheSame
-page laws l linked loongarch i chosen below is_name decided left kind alone symbol is_symbol there within got s t c pcala small at agree fits fits_entry of_descriptor =
-    let r = relocation_in l.relocations i in
-    let o = r.offset in
-    let e = symbol.thread_entry in
-    let by = page_entry l.section o chosen kind
-    (by_table l linked.decided loongarch i chosen below decided names.R_LARCH_TLS_DESC_PC_HI20 tt is_name) in
-    let w = operands_with LoongArch64 l.addresses high_after.row symbol r got in
-    let is : IsPageOfDescriptor (word_of (instruction_at l.section o)) = subst IsPageOfDescriptor (word_same l.section o) (by.asked.1) in
-    let stayed : instruction_at l.rewritten o ≡ instruction_at l.section o =
-    stays l linked i chosen below decided (ap relaxation_rewrite by.kind_is) alone (by.asked.0) in
-    let code = code_of (loongarch_name names.R_LARCH_TLS_IE_PC_HI20) in
-    let written : IsApplied entry_high.row (with_entry e w) (instruction_at l.section o) (instruction_at l.final o) =
-    with_operands entry_high.row
-    (operands_with LoongArch64 l.addresses entry_high.row symbol (rela o code r.symbol r.addend) e)
-    (with_entry e w) (instruction_at l.section o) (instruction_at l.final o) refl
-    (subst (λ xs. IsApplied entry_high.row (operands_with LoongArch64 l.addresses entry_high.row symbol (rela o code r.symbol r.addend) e) xs (instruction_at l.final o)) stayed
-    (applied_there l linked loongarch i chosen below decided left kinds.NoOp by.kind_is
-    names.R_LARCH_TLS_IE_PC_HI20 by.code_is entry_high symbol e
-    (ap (λ b. operands_by LoongArch64 l.addresses entry_high.row (rela o code r.symbol r.addend) symbol (cond b (Some e) None)) there) is_symbol)) in
-    laws.descriptor_page w e s t c (instruction_at l.section o) small within at agree (is.1) pcala (instruction_at l.final o)
-    (record { is = is.0; fits = fits; applied = of_descriptor })
-    (record { is = is.0; fits = fits_entry; applied = written })
+  load : EachAnywhere (IsKind kinds.AddiToLd) names.R_LARCH_TLS_DESC_PC_LO12 names.R_LARCH_TLS_IE_PC_LO12
+      (Anywhere names.R_LARCH_TLS_IE_PC_LO12 LowLoadsOffset)
+  load l made loongarch i chosen below is_name decided kind =
+      let o = (relocation_in l.relocations i).offset in
+      let by = load_entry l.section o chosen kind
+      (by_table l made.decided loongarch i chosen below decided names.R_LARCH_TLS_DESC_PC_LO12 tt is_name) in (
+        named_after l made i chosen below decided kinds.AddiToLd by.kind_is names.R_LARCH_TLS_IE_PC_LO12 by.code_is,
+        λ x y ld of_entry s t c addi small holds has agree of_descriptor.
+            laws.descriptor_entry x y s t c (instruction_at l.section o) (instruction_at l.rewritten o) small
+            (subst IsLowOfDescriptor (word_same l.section o) (by.asked.1)) holds has agree
+            (becomes l made.done i chosen below decided kinds.AddiToLd by.kind_is (λ word. 0x28c00000 + field word 0 22) refl)
+            addi ld of_descriptor of_entry,
+      )
 
-load : Laws → EachRewritten (IsKind kinds.AddiToLd) names.R_LARCH_TLS_DESC_PC_LO12 names.R_LARCH_TLS_LE_HI20 LowLoadsOffset
-load laws l linked loongarch i chosen below is_name decided left kind symbol is_symbol there within got s t c addi small holds has agree of_descriptor =
-    let r = relocation_in l.relocations i in
-    let o = r.offset in
-    let e = symbol.thread_entry in
-    let by = load_entry l.section o chosen kind
-    (by_table l linked.decided loongarch i chosen below decided names.R_LARCH_TLS_DESC_PC_LO12 tt is_name) in
-    let w = operands_with LoongArch64 l.addresses high_after.row symbol r got in
-    let code = code_of (loongarch_name names.R_LARCH_TLS_IE_PC_LO12) in
-    let written : IsApplied entry_low.row (with_entry e w) (instruction_at l.rewritten o) (instruction_at l.final o) =
-    with_operands entry_low.row
-    (operands_with LoongArch64 l.addresses entry_low.row symbol (rela o code r.symbol r.addend) e)
-    (with_entry e w) (instruction_at l.rewritten o) (instruction_at l.final o) refl
-    (applied_there l linked loongarch i chosen below decided left kinds.AddiToLd by.kind_is
-    names.R_LARCH_TLS_IE_PC_LO12 by.code_is entry_low symbol e
-    (ap (λ b. operands_by LoongArch64 l.addresses entry_low.row (rela o code r.symbol r.addend) symbol (cond b (Some e) None)) there) is_symbol) in
-    let made : IsRewritten kinds.AddiToLd (instruction_at l.section o) (instruction_at l.rewritten o) =
-    becomes l linked.done i chosen below decided kinds.AddiToLd by.kind_is (λ word. 0x28c00000 + field word 0 22) refl in
-    laws.descriptor_entry w e s t c (instruction_at l.section o) (instruction_at l.rewritten o) small within
-    (subst IsLowOfDescriptor (word_same l.section o) (by.asked.1)) holds has agree made
-    addi (instruction_at l.final o) of_descriptor written
+  goes : EachAnywhere IsAny names.R_LARCH_TLS_DESC_LD names.R_LARCH_NONE (AnywhereUnwritten LoadDoesNothing)
+  goes l made loongarch i chosen below is_name decided any =
+      let o = (relocation_in l.relocations i).offset in
+      let by = load_goes l.section o chosen
+      (by_table l made.decided loongarch i chosen below decided names.R_LARCH_TLS_DESC_LD tt is_name) in (
+        named_after l made i chosen below decided kinds.ReplaceWithNop by.kind_is names.R_LARCH_NONE by.code_is,
+        λ x s t c small has agree.
+            laws.descriptor_load x s t c (instruction_at l.section o) (instruction_at l.rewritten o) small
+            (subst IsLoadOfDescriptor (word_same l.section o) (by.asked.1)) has agree
+            (becomes l made.done i chosen below decided kinds.ReplaceWithNop by.kind_is (λ _. 0x03400000) refl),
+      )
 
--- ---- for both
+  called : EachAnywhere IsAny names.R_LARCH_TLS_DESC_CALL names.R_LARCH_NONE (AnywhereUnwritten CallDoesNothing)
+  called l made loongarch i chosen below is_name decided any =
+      let o = (relocation_in l.relocations i).offset in
+      let by = call_goes l.section o chosen
+      (by_table l made.decided loongarch i chosen below decided names.R_LARCH_TLS_DESC_CALL tt is_name) in (
+        named_after l made i chosen below decided kinds.ReplaceWithNop by.kind_is names.R_LARCH_NONE by.code_is,
+        λ call c d x s t descriptor has function agree.
+            laws.descriptor_call call c x s t d (instruction_at l.section o) (instruction_at l.rewritten o) descriptor
+            (subst IsCallOfDescriptor (word_same l.section o) (by.asked.1)) has function agree
+            (becomes l made.done i chosen below decided kinds.ReplaceWithNop by.kind_is (λ _. 0x03400000) refl),
+      )
 
-goes : Laws → EachRewritten IsAny names.R_LARCH_TLS_DESC_LD names.R_LARCH_TLS_LE_HI20 LoadDoesNothing
-goes laws l linked loongarch i chosen below is_name decided left any alone symbol is_symbol got s t c small has agree =
-    let r = relocation_in l.relocations i in
-    let o = r.offset in
-    let by = load_goes l.section o chosen
-    (by_table l linked.decided loongarch i chosen below decided names.R_LARCH_TLS_DESC_LD tt is_name) in
-    let w = operands_with LoongArch64 l.addresses high_after.row symbol r got in
-    laws.descriptor_load w s t c (instruction_at l.section o) (instruction_at l.final o) small
-    (subst IsLoadOfDescriptor (word_same l.section o) (by.asked.1)) has agree
-    (becomes_nop l linked loongarch i chosen below decided left by.kind_is by.code_is (by.asked.0) alone)
+  pub descriptors_anywhere : DescriptorsAnywhere
+  descriptors_anywhere =
+      record { high = high; low = low; page = page; entry = load; load = goes; call = called }
 
-called : Laws → EachRewritten IsAny names.R_LARCH_TLS_DESC_CALL names.R_LARCH_TLS_LE_HI20 CallDoesNothing
-called laws l linked loongarch i chosen below is_name decided left any alone symbol is_symbol call c d got s t descriptor has function agree =
-    let r = relocation_in l.relocations i in
-    let o = r.offset in
-    let by = call_goes l.section o chosen
-    (by_table l linked.decided loongarch i chosen below decided names.R_LARCH_TLS_DESC_CALL tt is_name) in
-    let w = operands_with LoongArch64 l.addresses high_after.row symbol r got in
-    laws.descriptor_call call c w s t d (instruction_at l.section o) (instruction_at l.final o) descriptor
-    (subst IsCallOfDescriptor (word_same l.section o) (by.asked.1)) has function agree
-    (becomes_nop l linked loongarch i chosen below decided left by.kind_is by.code_is (by.asked.0) alone)
+-- ---- in place
+
+-- A formula of the offset's entry takes that of the symbol, and no other operands than the high half's.
+pub record TakesEntry (row : RelocationKindInfo) : Type 0 where
+  pub taken : (addresses : Addresses) (r : Rela) (symbol : Symbol) → HasOffsetEntry addresses symbol
+      → operands_in LoongArch64 addresses row r (Some symbol)
+      ≡ Ok (operands_with LoongArch64 addresses row symbol r symbol.thread_entry)
+  pub same : (addresses : Addresses) (r : Rela) (symbol : Symbol) (got code : ℕ)
+      → value_of row (with_entry symbol.thread_entry (operands_with LoongArch64 addresses high_after.row symbol r got))
+      ≡ value_of row (operands_with LoongArch64 addresses row symbol (record r { code = code }) symbol.thread_entry)
+
+pub high_takes_entry : TakesEntry entry_high.row
+high_takes_entry =
+    record {
+      taken = λ addresses r symbol there.
+          ap (λ b. operands_by LoongArch64 addresses entry_high.row r symbol (cond b (Some symbol.thread_entry) None)) there;
+      same = λ addresses r symbol got code. refl;
+    }
+
+pub low_takes_entry : TakesEntry entry_low.row
+low_takes_entry =
+    record {
+      taken = λ addresses r symbol there.
+          ap (λ b. operands_by LoongArch64 addresses entry_low.row r symbol (cond b (Some symbol.thread_entry) None)) there;
+      same = λ addresses r symbol got code. refl;
+    }
+
+module _ (l : Linked) (linked : IsLinked l) (loongarch : l.setting.architecture ≡ LoongArch64) (i : ℕ)
+    (below : i < count l) (left : InstructionIsLeft l i) where
+  abbrev r : Rela
+  r = relocation_in l.relocations i
+
+  in_place_by_entry : (Holds : List ℕ → List ℕ → Operands → Operands → Type 0)
+      → (name : LoongArch64Relocation) (a : IsAfter name) → TakesEntry a.row
+      → relocation_in l.relocations_after i ≡ named_as name r → Anywhere name Holds l i
+      → InPlaceByEntry Holds l i high_after.row
+  in_place_by_entry Holds name a takes after_is any symbol is_symbol there got =
+      let w = operands_with LoongArch64 l.addresses high_after.row symbol r got in
+      any w (with_entry symbol.thread_entry w) (instruction_at l.final r.offset)
+      (relocated_there l linked loongarch i below name a after_is left symbol symbol.thread_entry
+      (takes.taken l.addresses (named_as name r) symbol there) is_symbol (with_entry symbol.thread_entry w)
+      (takes.same l.addresses r symbol got (code_of (loongarch_name name))))
+
+  -- a `nop`
+  in_place_unwritten : (Holds : List ℕ → List ℕ → Type 0) → r.offset + 4 ≤ length l.section
+      → (relocation_in l.relocations_after i ≡ named_as names.R_LARCH_NONE r) × AnywhereUnwritten Holds l i
+      → InPlaceUnwritten Holds l i high_after.row
+  in_place_unwritten Holds inside any alone =
+      subst (Holds (instruction_at l.section r.offset)) (sym (unwritten_nop l linked loongarch i below (any.0) left inside alone))
+      (any.1)
 
 pub descriptors : Laws → Descriptors
 descriptors laws =
     record {
-      high = high laws;
-      low = low laws;
-      page = page laws;
-      entry = load laws;
-      load = goes laws;
-      call = called laws;
+      high = λ l linked loongarch i chosen below is_name decided left kind.
+          in_place (HighDoesTheSame names.R_LARCH_TLS_DESC_PC_HI20) l linked loongarch i below left
+          names.R_LARCH_TLS_LE_HI20 high_after high_takes
+          (high laws l (are_rewritten l linked) loongarch i chosen below is_name decided kind);
+      low = λ l linked loongarch i chosen below is_name decided left kind.
+          in_place LowMakesOffset l linked loongarch i below left names.R_LARCH_TLS_LE_LO12 low_after low_takes
+          (low laws l (are_rewritten l linked) loongarch i chosen below is_name decided kind);
+      page = λ l linked loongarch i chosen below is_name decided left kind alone.
+          let any = page laws l (are_rewritten l linked) loongarch i chosen below is_name decided kind in
+          in_place_by_entry l linked loongarch i below left PageDoesTheSame
+          names.R_LARCH_TLS_IE_PC_HI20 entry_high high_takes_entry (any.0) ((any.1) alone);
+      entry = λ l linked loongarch i chosen below is_name decided left kind.
+          let any = load laws l (are_rewritten l linked) loongarch i chosen below is_name decided kind in
+          in_place_by_entry l linked loongarch i below left LowLoadsOffset
+          names.R_LARCH_TLS_IE_PC_LO12 entry_low low_takes_entry (any.0) (any.1);
+      load = λ l linked loongarch i chosen below is_name decided left any.
+          let by = load_goes l.section (relocation_in l.relocations i).offset chosen
+          (by_table l linked.decided loongarch i chosen below decided names.R_LARCH_TLS_DESC_LD tt is_name) in
+          in_place_unwritten l linked loongarch i below left LoadDoesNothing (by.asked.0)
+          (goes laws l (are_rewritten l linked) loongarch i chosen below is_name decided any);
+      call = λ l linked loongarch i chosen below is_name decided left any.
+          let by = call_goes l.section (relocation_in l.relocations i).offset chosen
+          (by_table l linked.decided loongarch i chosen below decided names.R_LARCH_TLS_DESC_CALL tt is_name) in
+          in_place_unwritten l linked loongarch i below left CallDoesNothing (by.asked.0)
+          (called laws l (are_rewritten l linked) loongarch i chosen below is_name decided any);
     }

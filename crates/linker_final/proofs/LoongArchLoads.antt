@@ -18,7 +18,7 @@ use Rattle.linker_final.proofs.Early.{isnt}
 use Rattle.linker_final.proofs.LoongArchChosen.{IsByTable, IsEntry, by_table, entry_by}
 use Rattle.linker_final.proofs.LoongArchPairs.{AreOfLoad, load_of}
 use Rattle.linker_final.proofs.LoongArchWritten.{IsAfter, applied_there, becomes}
-use Rattle.linker_final.proofs.Written.{rela, stays, with_operands, word_same}
+use Rattle.linker_final.proofs.Written.{are_rewritten, rela, stays, with_operands, word_same}
 use Rattle.linker_final.specs.Final.{AreLeft, Linked, IsLinked, IsRewrittenByNoOther, instruction_at}
 use Rattle.linker_final.specs.LoongArchFinal.{GotLoads, LoadsTheSame}
 use Rattle.linker_laws.specs.LoongArchRewriteLaws.{IsPair, IsRewritten, Laws, behind, word_of}
@@ -155,7 +155,7 @@ module _ (laws : Laws) (l : Linked) (linked : IsLinked l) (loongarch : l.setting
       } in
       let within = there.within in
       let stayed : instruction_at l.rewritten o ≡ instruction_at l.section o =
-      stays l linked i of.page_chosen of.page_below of.page_decided (ap relaxation_rewrite page.kind_is) alone (omega (arith, within)) in
+      stays l (are_rewritten l linked) i of.page_chosen of.page_below of.page_decided (ap relaxation_rewrite page.kind_is) alone (omega (arith, within)) in
       let page_code = code_of (loongarch_name names.R_LARCH_PCALA_HI20) in
       let low_code = code_of (loongarch_name names.R_LARCH_PCALA_LO12) in
       let page_written : IsApplied page_after.row w (instruction_at l.section o) (instruction_at l.final o) =

@@ -1,5 +1,5 @@
 -- Instructions of LoongArch and their relocations in the final bytes of a section.
-use Rattle.std.proofs.Common.{◌≡◌, ℕ, ℤ, ◌+◌, ◌-◌, ◌<◌, ◌≤◌, length, drop, sym, ap, subst, ◌∙◌, arith, Some, Ok, refl, IsSomeAnd}
+use Rattle.std.proofs.Common.{◌≡◌, ℕ, ℤ, ◌+◌, ◌-◌, ◌<◌, ◌≤◌, List, length, drop, sym, ap, subst, ◌∙◌, arith, Some, Ok, refl, IsSomeAnd}
 use Rattle.std.proofs.lemmas.List.{take-take}
 use Rattle.std.specs.Prelude.{slice_get}
 use Rattle.linker_base.specs.Rewrite.{offset_after, addend_after}
@@ -7,15 +7,18 @@ use Rattle.linker_elf.specs.Applied.{IsApplied}
 use Rattle.linker_elf.specs.ElfNames.{IsNamed, code_of}
 use Rattle.linker_elf.specs.LoongArchRelocations.{loongarch_name, loongarch_row}
 use Rattle.linker_elf.specs.Rows.{bytes_row}
+use Rattle.linker_elf.specs.Value.{value_of}
 use Rattle.linker_elf.specs.declared.elf.RelocationKind.TheVariants.{None as NoValue}
 use Rattle.linker_elf.specs.declared.elf.RelocationKindInfo.{RelocationKindInfo}
 use Rattle.linker_elf.specs.declared.elf.choice.Choice.{Choice}
+use Rattle.linker_elf.specs.declared.elf.value.Operands.{Operands}
 use Rattle.linker_elf.specs.declared.loongarch64.relocations.LoongArch64Relocation.{LoongArch64Relocation}
 use Rattle.linker_elf.specs.declared.loongarch64.relocations.LoongArch64Relocation.TheVariants as names
 use Rattle.linker_final.proofs.InstructionFields.{IsOfInstruction}
-use Rattle.linker_final.proofs.Written.{IsRowOf, applied_after, by_name, rela, relocation_is, unwritten_without}
-use Rattle.linker_final.specs.Final.{InstructionIsLeft, Linked, IsLinked, IsWrittenByNoOther, count, instruction_at}
-use Rattle.linker_laws.specs.LoongArchRewriteLaws.{BeginsRewritten, IsRewritten}
+use Rattle.linker_final.proofs.Written.{IsRowOf, applied_after, are_rewritten, by_name, rela, unwritten_without, with_operands}
+use Rattle.linker_final.specs.Final.{AreRewritten, InstructionIsLeft, Linked, IsLinked, IsWrittenByNoOther, count, instruction_at}
+use Rattle.linker_final.specs.LoongArchFinal.{named_as}
+use Rattle.linker_laws.specs.LoongArchRewriteLaws.{BeginsRewritten, IsRelocated, IsRewritten}
 use Rattle.linker_loongarch64.specs.LoongArchRewrites.{loongarch_rewrite, rewrites_word}
 use Rattle.linker_loongarch64.specs.declared.rewrites.RelaxationKind.{RelaxationKind}
 use Rattle.linker_loongarch64.specs.declared.rewrites.RelaxationKind.TheVariants as kinds
@@ -29,6 +32,7 @@ use Rattle.linker_section.specs.declared.relocations.Rela.{Rela}
 use Rattle.linker_utils.specs.Architectures.{IsRow, relaxation_rewrite}
 use Rattle.linker_utils.specs.declared.architecture.Relaxation.{Relaxation}
 use Rattle.linker_utils.specs.declared.architecture.Relaxation.TheVariants as relaxations
+use Rattle.linker_utils.specs.declared.elf.Architecture.{Architecture}
 use Rattle.linker_utils.specs.declared.elf.Architecture.TheVariants.{LoongArch64}
 
 -- ---- relocations that rewrites leave
@@ -40,10 +44,16 @@ pub record IsAfter (name : LoongArch64Relocation) : Type 0 where
   pub named : IsNamed (loongarch_name name)
   pub of : IsOfInstruction 4 row
 
-row_of : (l : Linked) → l.setting.architecture ≡ LoongArch64 → (name : LoongArch64Relocation)
+-- applied by its name
+pub as_named : (name : LoongArch64Relocation) (a : IsAfter name) (y : Operands) (before after : List ℕ)
+    → IsApplied a.row y before after → IsRelocated name y before after
+as_named name a y before after is =
+    subst (λ q. IsSomeAnd q (λ row. IsApplied row y before after)) (sym a.is) is
+
+pub row_of : (architecture : Architecture) → architecture ≡ LoongArch64 → (name : LoongArch64Relocation)
     → IsNamed (loongarch_name name) → (row : RelocationKindInfo) → loongarch_row name ≡ Some row
-    → IsRowOf l.setting.architecture (code_of (loongarch_name name)) row
-row_of l loongarch name named row is found there =
+    → IsRowOf architecture (code_of (loongarch_name name)) row
+row_of architecture loongarch name named row is found there =
     by_name loongarch_name loongarch_row name named found
     (subst (λ x. IsRow x (code_of (loongarch_name name)) found) loongarch there) ∙ is
 
@@ -78,31 +88,72 @@ same_addend kinds.BaseToTp a = refl
 same_addend kinds.Delete a = refl
 same_addend kinds.DeleteAddi a = refl
 
+-- the relocation that is left has another name
+pub named_after : (l : Linked) → AreRewritten l → (i : ℕ) (chosen : Choice Relaxation ℕ) → i < count l
+    → decision_at l.decisions i ≡ Rewritten chosen
+    → (kind : RelaxationKind) → chosen.kind ≡ relaxations.LoongArch64 kind
+    → (name : LoongArch64Relocation) → chosen.relocation ≡ code_of (loongarch_name name)
+    → relocation_in l.relocations_after i ≡ named_as name (relocation_in l.relocations i)
+named_after l made i chosen below decided kind kind_is name code_is =
+    let r = relocation_in l.relocations i in
+    let code = code_of (loongarch_name name) in
+    made.relocations i below
+    ∙ (ap (λ d. relocation_after d r) decided
+    ∙ (ap (λ k. rela (offset_after (relaxation_rewrite k) r.offset) chosen.relocation r.symbol (addend_after (relaxation_rewrite k) r.addend)) kind_is
+    ∙ (ap (λ c. rela (offset_after (loongarch_rewrite kind) r.offset) c r.symbol (addend_after (loongarch_rewrite kind) r.addend)) code_is
+    ∙ (ap (λ x. rela x code r.symbol (addend_after (loongarch_rewrite kind) r.addend)) (unmoved kind r.offset)
+    ∙ ap (λ x. rela r.offset code r.symbol x) (same_addend kind r.addend)))))
+
 module _ (l : Linked) (linked : IsLinked l) (loongarch : l.setting.architecture ≡ LoongArch64) (i : ℕ)
+    (below : i < count l) (name : LoongArch64Relocation) (a : IsAfter name)
+    (after_is : relocation_in l.relocations_after i ≡ named_as name (relocation_in l.relocations i))
+    (left : InstructionIsLeft l i) where
+  abbrev r : Rela
+  r = relocation_in l.relocations i
+
+  -- is applied to what the rewrite leaves
+  pub applied_after_it : (symbol : Symbol) (got : ℕ)
+      → operands_in LoongArch64 l.addresses a.row (named_as name r) (Some symbol)
+      ≡ Ok (operands_with LoongArch64 l.addresses a.row symbol (named_as name r) got)
+      → slice_get l.symbols r.symbol ≡ Some symbol
+      → IsApplied a.row (operands_with LoongArch64 l.addresses a.row symbol (named_as name r) got)
+      (instruction_at l.rewritten r.offset) (instruction_at l.final r.offset)
+  applied_after_it symbol got taken is_symbol =
+      let after = named_as name r in
+      subst (λ x. IsApplied a.row (operands_with x l.addresses a.row symbol after got) (instruction_at l.rewritten r.offset) (instruction_at l.final r.offset)) loongarch
+      (applied_after l linked i below 4 (omega arith) a.row a.of after after_is left
+      (row_of l.setting.architecture loongarch name a.named a.row a.is) symbol is_symbol got
+      (subst (λ x. operands_in x l.addresses a.row after (Some symbol) ≡ Ok (operands_with x l.addresses a.row symbol after got)) (sym loongarch) taken))
+
+  -- by operands with the same value
+  pub relocated_there : (symbol : Symbol) (got : ℕ)
+      → operands_in LoongArch64 l.addresses a.row (named_as name r) (Some symbol)
+      ≡ Ok (operands_with LoongArch64 l.addresses a.row symbol (named_as name r) got)
+      → slice_get l.symbols r.symbol ≡ Some symbol → (y : Operands)
+      → value_of a.row y ≡ value_of a.row (operands_with LoongArch64 l.addresses a.row symbol (named_as name r) got)
+      → IsRelocated name y (instruction_at l.rewritten r.offset) (instruction_at l.final r.offset)
+  relocated_there symbol got taken is_symbol y same =
+      as_named name a y (instruction_at l.rewritten r.offset) (instruction_at l.final r.offset)
+      (with_operands a.row (operands_with LoongArch64 l.addresses a.row symbol (named_as name r) got) y
+      (instruction_at l.rewritten r.offset) (instruction_at l.final r.offset) same
+      (applied_after_it symbol got taken is_symbol))
+
+-- the relocation of a rewrite's name is applied to what it leaves
+pub applied_there : (l : Linked) (linked : IsLinked l) (loongarch : l.setting.architecture ≡ LoongArch64) (i : ℕ)
     (chosen : Choice Relaxation ℕ) (below : i < count l)
     (decided : decision_at l.decisions i ≡ Rewritten chosen) (left : InstructionIsLeft l i)
-    (kind : RelaxationKind) (kind_is : chosen.kind ≡ relaxations.LoongArch64 kind) where
-  -- the relocation of a name is applied to what the rewrite leaves
-  pub applied_there : (name : LoongArch64Relocation) → chosen.relocation ≡ code_of (loongarch_name name)
-      → (a : IsAfter name) (symbol : Symbol) (got : ℕ)
-      → operands_in LoongArch64 l.addresses a.row (rela (relocation_in l.relocations i).offset (code_of (loongarch_name name)) (relocation_in l.relocations i).symbol (relocation_in l.relocations i).addend) (Some symbol)
-      ≡ Ok (operands_with LoongArch64 l.addresses a.row symbol (rela (relocation_in l.relocations i).offset (code_of (loongarch_name name)) (relocation_in l.relocations i).symbol (relocation_in l.relocations i).addend) got)
-      → slice_get l.symbols (relocation_in l.relocations i).symbol ≡ Some symbol
-      → IsApplied a.row
-      (operands_with LoongArch64 l.addresses a.row symbol (rela (relocation_in l.relocations i).offset (code_of (loongarch_name name)) (relocation_in l.relocations i).symbol (relocation_in l.relocations i).addend) got)
-      (instruction_at l.rewritten (relocation_in l.relocations i).offset) (instruction_at l.final (relocation_in l.relocations i).offset)
-  applied_there name code_is a symbol got taken is_symbol =
-      let r = relocation_in l.relocations i in
-      let code = code_of (loongarch_name name) in
-      let after = rela r.offset code r.symbol r.addend in
-      let r_after : relocation_in l.relocations_after i ≡ after =
-      relocation_is l linked i chosen below decided (loongarch_rewrite kind) code (ap relaxation_rewrite kind_is) code_is
-      ∙ (ap (λ x. rela x code r.symbol (addend_after (loongarch_rewrite kind) r.addend)) (unmoved kind r.offset)
-      ∙ ap (λ x. rela r.offset code r.symbol x) (same_addend kind r.addend)) in
-      subst (λ x. IsApplied a.row (operands_with x l.addresses a.row symbol after got) (instruction_at l.rewritten r.offset) (instruction_at l.final r.offset)) loongarch
-      (applied_after l linked i below 4 (omega arith) a.row a.of after r_after left (row_of l loongarch name a.named a.row a.is)
-      symbol is_symbol got
-      (subst (λ x. operands_in x l.addresses a.row after (Some symbol) ≡ Ok (operands_with x l.addresses a.row symbol after got)) (sym loongarch) taken))
+    (kind : RelaxationKind) (kind_is : chosen.kind ≡ relaxations.LoongArch64 kind)
+    (name : LoongArch64Relocation) (code_is : chosen.relocation ≡ code_of (loongarch_name name))
+    (a : IsAfter name) (symbol : Symbol) (got : ℕ)
+    → operands_in LoongArch64 l.addresses a.row (named_as name (relocation_in l.relocations i)) (Some symbol)
+    ≡ Ok (operands_with LoongArch64 l.addresses a.row symbol (named_as name (relocation_in l.relocations i)) got)
+    → slice_get l.symbols (relocation_in l.relocations i).symbol ≡ Some symbol
+    → IsApplied a.row
+    (operands_with LoongArch64 l.addresses a.row symbol (named_as name (relocation_in l.relocations i)) got)
+    (instruction_at l.rewritten (relocation_in l.relocations i).offset) (instruction_at l.final (relocation_in l.relocations i).offset)
+applied_there l linked loongarch i chosen below decided left kind kind_is name code_is a =
+    applied_after_it l linked loongarch i below name a
+    (named_after l (are_rewritten l linked) i chosen below decided kind kind_is name code_is) left
 
 -- an instruction that becomes another
 pub becomes : (l : Linked) → AreDone l.relocations l.decisions l.section l.rewritten (count l)
@@ -125,20 +176,14 @@ becomes l done i chosen below decided kind kind_is new is =
 
 -- ---- instructions without a field
 
--- an instruction that becomes `nop`, whose relocation goes
-pub becomes_nop : (l : Linked) → IsLinked l → l.setting.architecture ≡ LoongArch64 → (i : ℕ)
-    → (chosen : Choice Relaxation ℕ) → i < count l → decision_at l.decisions i ≡ Rewritten chosen
-    → InstructionIsLeft l i
-    → chosen.kind ≡ relaxations.LoongArch64 kinds.ReplaceWithNop → chosen.relocation ≡ 0
-    → (relocation_in l.relocations i).offset + 4 ≤ length l.section
+-- one whose relocation has no type then
+pub unwritten_nop : (l : Linked) → IsLinked l → l.setting.architecture ≡ LoongArch64 → (i : ℕ) → i < count l
+    → relocation_in l.relocations_after i ≡ named_as names.R_LARCH_NONE (relocation_in l.relocations i)
+    → InstructionIsLeft l i → (relocation_in l.relocations i).offset + 4 ≤ length l.section
     → IsWrittenByNoOther l i (relocation_in l.relocations i).offset
-    → IsRewritten kinds.ReplaceWithNop (instruction_at l.section (relocation_in l.relocations i).offset)
-    (instruction_at l.final (relocation_in l.relocations i).offset)
-becomes_nop l linked loongarch i chosen below decided left kind_is code_is inside alone =
-    let o = (relocation_in l.relocations i).offset in
-    let made : IsRewritten kinds.ReplaceWithNop (instruction_at l.section o) (instruction_at l.rewritten o) =
-    becomes l linked.done i chosen below decided kinds.ReplaceWithNop kind_is (λ _. 0x03400000) refl in
-    let gone : (relocation_in l.relocations_after i).code ≡ 0 =
-    ap (λ (x : Rela). x.code) (linked.relocations i below ∙ ap (λ d. relocation_after d (relocation_in l.relocations i)) decided) ∙ code_is in
-    subst (IsRewritten kinds.ReplaceWithNop (instruction_at l.section o))
-    (sym (unwritten_without l linked i below o left (row_of l loongarch names.R_LARCH_NONE tt (bytes_row NoValue 0) refl) gone inside alone)) made
+    → instruction_at l.final (relocation_in l.relocations i).offset
+    ≡ instruction_at l.rewritten (relocation_in l.relocations i).offset
+unwritten_nop l linked loongarch i below after_is left inside alone =
+    unwritten_without l linked i below (relocation_in l.relocations i).offset left
+    (row_of l.setting.architecture loongarch names.R_LARCH_NONE tt (bytes_row NoValue 0) refl)
+    (ap (λ (x : Rela). x.code) after_is) inside alone

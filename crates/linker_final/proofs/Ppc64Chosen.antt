@@ -1,14 +1,14 @@
 -- The rewrite that is chosen for a relocation of PowerPC64.
 use Rattle.std.proofs.Common.{◌≡◌, ℕ, ◌<◌, List, [], ◌∷◌, true, false, refl, sym, ap, subst, ◌∙◌}
 use Rattle.linker_elf.specs.Choices.{Entry}
-use Rattle.linker_elf.specs.ElfNames.{IsNamed, IsNameOf}
+use Rattle.linker_elf.specs.ElfNames.{IsNamed, IsNameOf, code_of}
 use Rattle.linker_elf.specs.Ppc64Relocations.{ppc64_name}
 use Rattle.linker_elf.specs.declared.elf.choice.Choice.{Choice}
 use Rattle.linker_elf.specs.declared.ppc64.relocations.Ppc64Relocation.{Ppc64Relocation}
 use Rattle.linker_elf.specs.declared.ppc64.relocations.Ppc64Relocation.TheVariants as names
 use Rattle.linker_final.proofs.Chosen.{chosen_at}
 use Rattle.linker_final.proofs.Entries.{IsOfEntry as IsOfEntryIn, IsOfOne as IsOfOneIn, of_entry as of_entry_in, of_one as of_one_in}
-use Rattle.linker_final.specs.Final.{Linked, IsLinked, count}
+use Rattle.linker_final.specs.Final.{AreRewritten, Linked, count}
 use Rattle.linker_ppc64.specs.Ppc64Rewrites.{Ppc64Applies, ppc64_entries, ppc64_matches}
 use Rattle.linker_ppc64.specs.declared.rewrites.RelaxationKind.{RelaxationKind}
 use Rattle.linker_ppc64.specs.declared.rewrites.RelaxationKind.TheVariants as kinds
@@ -94,7 +94,20 @@ abbrev pub IsOfOne : List (Entry RelaxationKind Ppc64Relocation) → List ℕ �
 IsOfOne es section o =
     IsOfOneIn ppc64_name relaxations.Ppc64 (λ (e : Entry RelaxationKind Ppc64Relocation). ppc64_matches e.kind section o) es
 
-module _ (l : Linked) (linked : IsLinked l) (ppc64 : l.setting.architecture ≡ Ppc64) (i : ℕ)
+-- a relocation that is rewritten has the name of its code
+pub named_there : (l : Linked) → AreRewritten l → l.setting.architecture ≡ Ppc64 → (i : ℕ)
+    (chosen : Choice Relaxation ℕ) → i < count l → decision_at l.decisions i ≡ Rewritten chosen
+    → (name : Ppc64Relocation) → IsNamed (ppc64_name name)
+    → code_of (ppc64_name name) ≡ (relocation_in l.relocations i).code
+    → IsNameOf ppc64_name (relocation_in l.relocations i).code name
+named_there l rewriting ppc64 i chosen below decided name named code =
+    let r = relocation_in l.relocations i in
+    let c = chosen_at l.setting l.kept l.relocations l.section l.decisions (count l) i chosen rewriting.decided below decided
+    (λ scope is. unlabelled l.setting.phase r.code scope (subst (λ x. IsScopeIn x l.setting.phase r.code scope) ppc64 is)) in
+    let is = subst (λ x. IsArchitectureChoice x r.code l.section r.offset c.facts chosen) ppc64 c.is_choice in
+    subst (IsNameOf ppc64_name r.code) (is.is_name.named name named code) is.is_name
+
+module _ (l : Linked) (rewriting : AreRewritten l) (ppc64 : l.setting.architecture ≡ Ppc64) (i : ℕ)
     (chosen : Choice Relaxation ℕ) (below : i < count l)
     (decided : decision_at l.decisions i ≡ Rewritten chosen)
     (name : Ppc64Relocation) (named : IsNamed (ppc64_name name))
@@ -103,7 +116,7 @@ module _ (l : Linked) (linked : IsLinked l) (ppc64 : l.setting.architecture ≡ 
     pub of_one : IsOfOne (ppc64_entries name) l.section (relocation_in l.relocations i).offset chosen
     of_one =
         let r = relocation_in l.relocations i in
-        let c = chosen_at l.setting l.kept l.relocations l.section l.decisions (count l) i chosen linked.decided below decided
+        let c = chosen_at l.setting l.kept l.relocations l.section l.decisions (count l) i chosen rewriting.decided below decided
         (λ scope is. unlabelled l.setting.phase r.code scope (subst (λ x. IsScopeIn x l.setting.phase r.code scope) ppc64 is)) in
         of_one_in ppc64_name relaxations.Ppc64 (λ (e : Entry RelaxationKind Ppc64Relocation). ppc64_matches e.kind l.section r.offset) chosen
         (λ n. Ppc64Applies l.section r.offset c.facts) ppc64_entries kinds.NoOp refl r.code name named is_name

@@ -1,24 +1,29 @@
 -- Instructions of PowerPC64 and their relocations in the final bytes of a section.
-use Rattle.std.proofs.Common.{true, ◌≡◌, ℕ, ◌+◌, ◌<◌, ◌≤◌, length, take, drop, sym, ap, subst, ◌∙◌, refl, Some, Ok, IsSomeAnd}
-use Rattle.std.specs.Prelude.{slice_get}
+use Rattle.std.proofs.Common.{true, ◌≡◌, ◌⊎◌, ℕ, ◌+◌, ◌<◌, ◌≤◌, List, length, take, drop, sym, ap, subst, ◌∙◌, refl, arith, Some, Ok, IsSomeAnd}
+use Rattle.std.specs.Prelude.{IsTrue, slice_get}
 use Rattle.linker_base.specs.Rewrite.{Rewrite, addend_after, offset_after}
 use Rattle.linker_elf.specs.Applied.{IsApplied}
 use Rattle.linker_elf.specs.ElfNames.{IsNamed, code_of}
 use Rattle.linker_elf.specs.Ppc64Relocations.{ppc64_name, ppc64_row, branch_row, high_adjusted_row, low_ds_row, low_row, prefixed_row}
 use Rattle.linker_elf.specs.Rows.{bytes_row, signed_row}
+use Rattle.linker_elf.specs.Value.{value_of}
 use Rattle.linker_elf.specs.declared.elf.RelocationInstruction.TheVariants as insns
 use Rattle.linker_elf.specs.declared.elf.RelocationKind.TheVariants.{None as NoValue, GotTpOffGotBase, Relative, SymRelGotBase, TpOff}
 use Rattle.linker_elf.specs.declared.elf.RelocationKindInfo.{RelocationKindInfo}
 use Rattle.linker_elf.specs.declared.elf.choice.Choice.{Choice}
+use Rattle.linker_elf.specs.declared.elf.value.Operands.{Operands}
 use Rattle.linker_elf.specs.declared.ppc64.forms.Ppc64Instruction.TheVariants.{Branch24, D, Ds, Prefixed}
 use Rattle.linker_elf.specs.declared.ppc64.relocations.Ppc64Relocation.{Ppc64Relocation}
 use Rattle.linker_elf.specs.declared.ppc64.relocations.Ppc64Relocation.TheVariants as names
 use Rattle.linker_final.proofs.InstructionFields.{IsOfInstruction}
 use Rattle.linker_final.proofs.Phases.{relocation_left}
-use Rattle.linker_final.proofs.Written.{IsRowOf, applied_after, by_name, entry_is_there, made_there, rela, relocation_is, unwritten_without}
-use Rattle.linker_final.specs.Final.{IsLeftAlone, Linked, IsLinked, IsWrittenByNoOther, count, instruction_at}
-use Rattle.linker_laws.specs.Ppc64RewriteLaws.{IsRewritten}
-use Rattle.linker_ppc64.specs.Ppc64Rewrites.{ppc64_rewrite}
+use Rattle.linker_final.proofs.Written.{IsRowOf, apart_with, applied_after, by_name, entry_is_there, made_there, rela, relocation_is, unwritten_but, unwritten_without, with_operands, word_same}
+use Rattle.linker_final.specs.Final.{IsLeftAlone, AreRewritten, Linked, IsLinked, IsWrittenByNoOther, count}
+use Rattle.linker_final.specs.Ppc64Anywhere.{Becomes, Goes, IsLeft, named_as}
+use Rattle.linker_final.specs.Ppc64Final.{final, object, offset_of}
+use Rattle.linker_laws.specs.Ppc64RewriteLaws.{IsRelocated, IsRewritten, at_place, with_entry, word_of}
+use Rattle.linker_laws.specs.Schemes.{AreAddresses}
+use Rattle.linker_ppc64.specs.Ppc64Rewrites.{HasTest, ppc64_rewrite, rewrites_word}
 use Rattle.linker_ppc64.specs.declared.rewrites.RelaxationKind.{RelaxationKind}
 use Rattle.linker_rewriting.specs.Decisions.{decision_at}
 use Rattle.linker_rewriting.specs.declared.decisions.Decision.TheVariants.{Rewritten}
@@ -53,12 +58,11 @@ pub no_row : (l : Linked) → l.setting.architecture ≡ Ppc64
     → IsRowOf l.setting.architecture 0 (bytes_row NoValue 0)
 no_row l ppc64 = row_of l ppc64 names.R_PPC64_NONE tt (bytes_row NoValue 0) refl
 
--- ---- one relocation
+-- ---- what a call of rewriting leaves
 
-module _ (l : Linked) (linked : IsLinked l) (ppc64 : l.setting.architecture ≡ Ppc64) (i : ℕ)
-    (chosen : Choice Relaxation ℕ) (below : i < count l)
-    (decided : decision_at l.decisions i ≡ Rewritten chosen) (kind : RelaxationKind)
-    (kind_is : chosen.kind ≡ relaxations.Ppc64 kind) where
+module _ (l : Linked) (rewriting : AreRewritten l) (i : ℕ) (chosen : Choice Relaxation ℕ)
+    (below : i < count l) (decided : decision_at l.decisions i ≡ Rewritten chosen)
+    (kind : RelaxationKind) (kind_is : chosen.kind ≡ relaxations.Ppc64 kind) where
   abbrev r : Rela
   r = relocation_in l.relocations i
 
@@ -70,55 +74,129 @@ module _ (l : Linked) (linked : IsLinked l) (ppc64 : l.setting.architecture ≡ 
   pub after_is : (name : Ppc64Relocation) → chosen.relocation ≡ code_of (ppc64_name name)
       → relocation_in l.relocations_after i ≡ after name
   after_is name code_is =
-      relocation_is l linked i chosen below decided (ppc64_rewrite kind) (code_of (ppc64_name name))
+      relocation_is l rewriting i chosen below decided (ppc64_rewrite kind) (code_of (ppc64_name name))
       (ap relaxation_rewrite kind_is) code_is
 
-  -- is applied to the bytes between
-  pub applied_there : (name : Ppc64Relocation) → chosen.relocation ≡ code_of (ppc64_name name)
-      → (n : ℕ) → 0 < n → (a : IsAfter n name) → IsLeftAlone l i (after name).offset n
-      → (symbol : Symbol) (got : ℕ)
-      → operands_by Ppc64 l.addresses a.row (after name) symbol
-      (entry_address l.addresses symbol (entry_of a.row (after name).addend symbol.is_thread_local))
-      ≡ Ok (operands_with Ppc64 l.addresses a.row symbol (after name) got)
-      → slice_get l.symbols r.symbol ≡ Some symbol
-      → IsApplied a.row (operands_with Ppc64 l.addresses a.row symbol (after name) got)
-      (take n (drop (after name).offset l.rewritten)) (take n (drop (after name).offset l.final))
-  applied_there name code_is n some a left symbol got entry_is is_symbol =
-      subst (λ x. IsApplied a.row (operands_with x l.addresses a.row symbol (after name) got)
-      (take n (drop (after name).offset l.rewritten)) (take n (drop (after name).offset l.final))) ppc64
-      (applied_after l linked i below n some a.row a.of (after name) (after_is name code_is) left
-      (row_of l ppc64 name a.named a.row a.is) symbol is_symbol got
-      (subst (λ x. operands_by x l.addresses a.row (after name) symbol
-      (entry_address l.addresses symbol (entry_of a.row (after name).addend symbol.is_thread_local))
-      ≡ Ok (operands_with x l.addresses a.row symbol (after name) got)) (sym ppc64) entry_is))
-
-  -- has the entry of its formula
-  pub entry_there : (name : Ppc64Relocation) → chosen.relocation ≡ code_of (ppc64_name name)
-      → (n : ℕ) → (a : IsAfter n name) → IsLeftAlone l i (after name).offset n → (symbol : Symbol)
-      → slice_get l.symbols r.symbol ≡ Some symbol
-      → (entry : Entry) → entry_of a.row (after name).addend symbol.is_thread_local ≡ Some entry
-      → is_there l.addresses symbol entry ≡ true
-  entry_there name code_is n a left symbol is_symbol entry is_entry =
-      entry_is_there l linked i below n a.row a.of (after name)
-      (relocation_left l linked i (after name).offset n left below ∙ after_is name code_is)
-      (row_of l ppc64 name a.named a.row a.is) symbol is_symbol entry is_entry
-
-  -- ---- bytes
+  -- that of a word has its place
+  pub word_after : (name : Ppc64Relocation) → chosen.relocation ≡ code_of (ppc64_name name)
+      → (new : ℕ → ℕ) → ppc64_rewrite kind ≡ Some (rewrites_word new)
+      → relocation_in l.relocations_after i ≡ named_as name r
+  word_after name code_is new is =
+      after_is name code_is
+      ∙ ap (λ q. rela (offset_after q r.offset) (code_of (ppc64_name name)) r.symbol (addend_after q r.addend)) is
 
   -- what becomes of the window of a rewrite
   pub becomes : (made : Rewrite) → ppc64_rewrite kind ≡ Some made → made.back ≡ 0
       → IsRewritten kind (take made.len (drop r.offset l.section)) (take made.len (drop r.offset l.rewritten))
   becomes made is back =
       subst (λ q. IsSomeAnd q (λ (m : Rewrite). take m.len (take made.len (drop r.offset l.rewritten)) ≡ m.bytes (take m.len (take made.len (drop r.offset l.section))))) (sym is)
-      (made_there l linked i chosen below decided made (ap relaxation_rewrite kind_is ∙ is) back)
+      (made_there l rewriting i chosen below decided made (ap relaxation_rewrite kind_is ∙ is) back)
 
-  -- an instruction stays that no other relocation writes, where the own one goes
-  pub unwritten : chosen.relocation ≡ 0 → (p : ℕ) → IsLeftAlone l i p 4 → p + 4 ≤ length l.section
-      → IsWrittenByNoOther l i p
-      → instruction_at l.final p ≡ instruction_at l.rewritten p
-  unwritten gone p left inside alone =
-      unwritten_without l linked i below p left (no_row l ppc64)
-      (ap (λ (x : Rela). x.code) (after_is names.R_PPC64_NONE gone)) inside alone
+  -- an instruction becomes another, which is left
+  pub becomes_left : (new : ℕ → ℕ) → ppc64_rewrite kind ≡ Some (rewrites_word new)
+      → IsLeft l (offset_of l i) → IsRewritten kind (object l i) (final l i)
+  becomes_left new is left =
+      subst (IsRewritten kind (object l i)) (sym left) (becomes (rewrites_word new) is refl)
+
+-- what is in the instruction at a relocation
+pub test_there : (l : Linked) (i : ℕ) (test : ℕ → _) → HasTest test l.section (offset_of l i)
+    → IsTrue (test (word_of (object l i)))
+test_there l i test is = subst (λ w. IsTrue (test w)) (word_same l.section (offset_of l i)) (is.1)
+
+-- A relocation is applied whose value is that of other operands.
+pub applied_so : (n : ℕ) (name : Ppc64Relocation) (a : IsAfter n name) (o p : Operands)
+    (before new : List ℕ) → value_of a.row p ≡ value_of a.row o → IsRelocated name o before new
+    → IsRelocated name p before new
+applied_so n name a o p before new same is =
+    subst (λ q. IsSomeAnd q (λ row. IsApplied row p before new)) (sym a.is)
+    (with_operands a.row o p before new same
+    (subst (λ q. IsSomeAnd q (λ row. IsApplied row o before new)) a.is is))
+
+-- ---- what a call that writes values does then
+
+module _ (l : Linked) (linked : IsLinked l) (ppc64 : l.setting.architecture ≡ Ppc64) (i : ℕ)
+    (below : i < count l) where
+  -- the relocation that a rewrite left is applied to n bytes
+  pub applied_there : (n : ℕ) → 0 < n → (name : Ppc64Relocation) (a : IsAfter n name) (after : Rela)
+      → relocation_in l.relocations_after i ≡ after → after.code ≡ code_of (ppc64_name name)
+      → IsLeftAlone l i after.offset n → (symbol : Symbol) → slice_get l.symbols after.symbol ≡ Some symbol → (got : ℕ)
+      → operands_by Ppc64 l.addresses a.row after symbol
+      (entry_address l.addresses symbol (entry_of a.row after.addend symbol.is_thread_local))
+      ≡ Ok (operands_with Ppc64 l.addresses a.row symbol after got)
+      → (o : Operands)
+      → value_of a.row o ≡ value_of a.row (operands_with Ppc64 l.addresses a.row symbol after got)
+      → IsRelocated name o (take n (drop after.offset l.rewritten)) (take n (drop after.offset l.final))
+  applied_there n some name a after is_after code left symbol is_symbol got entry_is o same =
+      let w = operands_with Ppc64 l.addresses a.row symbol after got in
+      let there : IsApplied a.row w (take n (drop after.offset l.rewritten)) (take n (drop after.offset l.final)) =
+      subst (λ x. IsApplied a.row (operands_with x l.addresses a.row symbol after got)
+      (take n (drop after.offset l.rewritten)) (take n (drop after.offset l.final))) ppc64
+      (applied_after l linked i below n some a.row a.of after is_after left
+      (subst (λ x. IsRowOf l.setting.architecture x a.row) (sym code) (row_of l ppc64 name a.named a.row a.is))
+      symbol is_symbol got
+      (subst (λ x. operands_by x l.addresses a.row after symbol
+      (entry_address l.addresses symbol (entry_of a.row after.addend symbol.is_thread_local))
+      ≡ Ok (operands_with x l.addresses a.row symbol after got)) (sym ppc64) entry_is)) in
+      subst (λ q. IsSomeAnd q (λ row. IsApplied row o (take n (drop after.offset l.rewritten)) (take n (drop after.offset l.final)))) (sym a.is)
+      (with_operands a.row w o _ _ same there)
+
+  -- the entry of its formula is there
+  pub entry_there : (n : ℕ) (name : Ppc64Relocation) (a : IsAfter n name) (after : Rela)
+      → relocation_in l.relocations_after i ≡ after → after.code ≡ code_of (ppc64_name name)
+      → IsLeftAlone l i after.offset n → (symbol : Symbol) → slice_get l.symbols after.symbol ≡ Some symbol
+      → (entry : Entry) → entry_of a.row after.addend symbol.is_thread_local ≡ Some entry
+      → is_there l.addresses symbol entry ≡ true
+  entry_there n name a after is_after code left symbol is_symbol entry is_entry =
+      entry_is_there l linked i below n a.row a.of after
+      (relocation_left l linked i after.offset n left below ∙ is_after)
+      (subst (λ x. IsRowOf l.setting.architecture x a.row) (sym code) (row_of l ppc64 name a.named a.row a.is))
+      symbol is_symbol entry is_entry
+
+  -- an instruction is left that no other relocation writes, where the own one goes
+  pub left_alone : (after : Rela) → relocation_in l.relocations_after i ≡ after → after.code ≡ 0
+      → (p : ℕ) → IsLeftAlone l i p 4 → p + 4 ≤ length l.section → IsWrittenByNoOther l i p → IsLeft l p
+  left_alone after is_after gone p left inside alone =
+      unwritten_without l linked i below p left (no_row l ppc64) (ap (λ (x : Rela). x.code) is_after ∙ gone) inside alone
+
+  -- and one beside that of the own relocation
+  pub left_beside : (name : Ppc64Relocation) (a : IsAfter 4 name) (after : Rela)
+      → relocation_in l.relocations_after i ≡ after → after.code ≡ code_of (ppc64_name name)
+      → (p : ℕ) → IsLeftAlone l i p 4 → p + 4 ≤ length l.section
+      → (p + 4 ≤ after.offset) ⊎ (after.offset + 4 ≤ p)
+      → IsWrittenByNoOther l i p → IsLeft l p
+  left_beside name a after is_after code p left inside beside alone =
+      unwritten_but l linked i p left inside
+      (apart_with l i after (relocation_left l linked i p 4 left below ∙ is_after) a.row
+      (subst (λ x. IsRowOf l.setting.architecture x a.row) (sym code) (row_of l ppc64 name a.named a.row a.is))
+      4 a.of p beside) alone
+
+-- What holds anywhere holds in the final bytes: where a relocation is applied, and where one goes.
+
+pub in_final : (l : Linked) (linked : IsLinked l) (ppc64 : l.setting.architecture ≡ Ppc64) (i : ℕ)
+    (below : i < count l) (name : Ppc64Relocation) (a : IsAfter 4 name)
+    (Holds : ℕ → Operands → Type 0) → Becomes name l i Holds → IsLeftAlone l i (offset_of l i) 4
+    → (symbol : Symbol) → slice_get l.symbols (relocation_in l.relocations i).symbol ≡ Some symbol
+    → (got : ℕ)
+    → operands_by Ppc64 l.addresses a.row (named_as name (relocation_in l.relocations i)) symbol
+    (entry_address l.addresses symbol (entry_of a.row (relocation_in l.relocations i).addend symbol.is_thread_local))
+    ≡ Ok (operands_with Ppc64 l.addresses a.row symbol (named_as name (relocation_in l.relocations i)) got)
+    → (o : Operands) → AreAddresses o
+    → value_of a.row (at_place o.place (with_entry got o))
+    ≡ value_of a.row (operands_with Ppc64 l.addresses a.row symbol (named_as name (relocation_in l.relocations i)) got)
+    → Holds got o
+in_final l linked ppc64 i below name a Holds holds left symbol is_symbol got entry_is o small same =
+    holds.1 o got small (
+      o.place,
+      applied_there l linked ppc64 i below 4 (omega arith) name a (named_as name (relocation_in l.relocations i)) (holds.0) refl left
+          symbol is_symbol got entry_is (at_place o.place (with_entry got o)) same,
+    )
+
+pub gone_in_final : (l : Linked) (linked : IsLinked l) (ppc64 : l.setting.architecture ≡ Ppc64)
+    (i : ℕ) (below : i < count l) (Holds : Operands → Type 0) → Goes l i Holds
+    → IsLeftAlone l i (offset_of l i) 4 → offset_of l i + 4 ≤ length l.section → IsWrittenByNoOther l i (offset_of l i)
+    → (o : Operands) → AreAddresses o → Holds o
+gone_in_final l linked ppc64 i below Holds holds left inside alone =
+    holds.1 (left_alone l linked ppc64 i below (named_as names.R_PPC64_NONE (relocation_in l.relocations i)) (holds.0) refl (offset_of l i) left inside alone)
 
 -- ---- rows
 

@@ -15,12 +15,12 @@ use Rattle.linker_elf.specs.declared.elf.value.Operands.{Operands}
 use Rattle.linker_elf.specs.declared.riscv64.forms.RiscVInstruction.TheVariants.{UType}
 use Rattle.linker_elf.specs.declared.riscv64.relocations.RiscVRelocation.{RiscVRelocation}
 use Rattle.linker_elf.specs.declared.riscv64.relocations.RiscVRelocation.TheVariants as names
-use Rattle.linker_final.proofs.Written.{rela, with_operands}
+use Rattle.linker_final.proofs.Written.{are_rewritten, rela, with_operands}
 use Rattle.linker_final.proofs.InstructionFields.{IsOfInstruction}
 use Rattle.linker_final.proofs.Phases.{last_length}
 use Rattle.linker_final.proofs.RiscVChosen.{IsOfSome, of_some, of_subject}
 use Rattle.linker_final.proofs.RiscVOffsets.{low_i, of_low_i}
-use Rattle.linker_final.proofs.RiscVWritten.{IsAfter, applied_there, are_rewritten, becomes, bytes_there, long_there, made_is, redirected_after, word_bytes}
+use Rattle.linker_final.proofs.RiscVWritten.{IsAfter, applied_there, becomes, bytes_there, long_there, made_is, redirected_after, word_bytes}
 use Rattle.linker_final.specs.Final.{instruction_at}
 use Rattle.linker_final.specs.Final.{AreBytes, AreRewritten, InstructionIsLeft, Linked, IsLinked, count}
 use Rattle.linker_final.specs.RiscVFinal.{Descriptors, DescriptorsAnywhere, IsOfDescriptor, OffsetIsTheSameAnywhere, ShortDescriptors, ShortDescriptorsAnywhere, ShortOffsetIsTheSameAnywhere, named_as}

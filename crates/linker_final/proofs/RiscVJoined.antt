@@ -21,10 +21,10 @@ use Rattle.linker_final.proofs.RiscVOffsets.{low_i, of_low_i, low_s, of_low_s, l
 use Rattle.linker_final.proofs.RiscVWritten.{IsAfter, bytes_there, long_there, row_in}
 use Rattle.linker_final.proofs.Written.{rela, with_operands}
 use Rattle.linker_final.specs.Final.{AreBytes, AreLeft, InstructionIsLeft, IsRewrittenByNoOther, Linked, count, instruction_at}
-use Rattle.linker_final.specs.Joined.{IsRewrittenAndPacked, IsKeptInstruction}
+use Rattle.linker_final.specs.Joined.{IsRewrittenAndPacked, IsKeptInstruction, final_instruction}
 use Rattle.linker_final.specs.Packed.{Packed, architecture_of, place_of}
 use Rattle.linker_final.specs.RiscVFinal.{IsOfDescriptor, LoadsTheSameAnywhere, LowPartsAnywhereOf, named_as}
-use Rattle.linker_final.specs.RiscVJoined.{AreOfFinalLoad, FinalBytesLoadTheSame, FinalLowPartDoesTheSame, PackedDescriptors, PackedGotLoads, PackedLowParts, PackedLowPartsOf, PackedShortDescriptors, final_instruction, final_operands}
+use Rattle.linker_final.specs.RiscVJoined.{AreOfFinalLoad, FinalBytesLoadTheSame, FinalLowPartDoesTheSame, PackedDescriptors, PackedGotLoads, PackedLowParts, PackedLowPartsOf, PackedShortDescriptors, final_operands}
 use Rattle.linker_laws.specs.Machine.{Relocated}
 use Rattle.linker_laws.specs.RiscVRewriteLaws.{Laws, action_at, offset_row}
 use Rattle.linker_riscv64.specs.declared.rewrites.RelaxationKind.{RelaxationKind}
@@ -87,7 +87,7 @@ module _ (l : Linked) (p : Packed) (joined : IsRewrittenAndPacked l p) (riscv : 
       relocated (final_operands p i a.row symbol)
       (subst (λ x. IsApplied a.row (operands_with x p.addresses a.row symbol after 0) (instruction_at l.rewritten o) (final_instruction p o))
       (ap architecture_of riscv)
-      (own_there l p joined i below code subject.symbol subject.addend after_is kept left a.row of row_is symbol
+      (own_there l p joined i below code subject.symbol subject.addend after_is kept left a.row of row_is symbol 0
       (subst (λ x. operands_by x p.addresses a.row after symbol
       (entry_address p.addresses symbol (entry_of a.row after.addend symbol.is_thread_local))
       ≡ Ok (operands_with x p.addresses a.row symbol after 0)) (sym (ap architecture_of riscv)) entry_is)

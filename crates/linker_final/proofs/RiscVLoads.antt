@@ -15,12 +15,12 @@ use Rattle.linker_elf.specs.declared.elf.RelocationKindInfo.{RelocationKindInfo}
 use Rattle.linker_elf.specs.declared.elf.value.Operands.{Operands}
 use Rattle.linker_elf.specs.declared.riscv64.forms.RiscVInstruction.TheVariants.{UType, IType}
 use Rattle.linker_elf.specs.declared.riscv64.relocations.RiscVRelocation.TheVariants as names
-use Rattle.linker_final.proofs.Written.{word_same}
+use Rattle.linker_final.proofs.Written.{are_rewritten, word_same}
 use Rattle.linker_final.proofs.InstructionFields.{IsOfInstruction, applied_found}
 use Rattle.linker_final.proofs.Labels.{low_found}
 use Rattle.linker_final.proofs.RiscVChosen.{IsOfEntry, of_entry}
 use Rattle.linker_final.proofs.Phases.{bytes_left, last_length}
-use Rattle.linker_final.proofs.RiscVWritten.{IsAfter, applied_there, are_rewritten, becomes, bytes_there, last_is, long_there, made_is, rewritten_after, row_after, stays, within_after, word_bytes}
+use Rattle.linker_final.proofs.RiscVWritten.{IsAfter, applied_there, becomes, bytes_there, last_is, long_there, made_is, rewritten_after, row_after, stays, within_after, word_bytes}
 use Rattle.linker_final.specs.Final.{IsRewrittenByNoOther, instruction_at}
 use Rattle.linker_final.specs.Final.{AreBytes, AreLeft, AreRewritten, Linked, IsLinked}
 use Rattle.linker_final.specs.RiscVFinal.{AreOfLoad, AreOfPair, GotLoads, GotLoadsAnywhere, LoadsTheSame, LoadsTheSameAnywhere, named_as}

@@ -7,17 +7,17 @@ use Rattle.linker_elf.specs.declared.elf.RelocationKind.TheVariants.{None as NoV
 use Rattle.linker_elf.specs.declared.elf.choice.Choice.{Choice}
 use Rattle.linker_elf.specs.declared.riscv64.relocations.RiscVRelocation.{RiscVRelocation}
 use Rattle.linker_elf.specs.declared.riscv64.relocations.RiscVRelocation.TheVariants as names
-use Rattle.linker_final.proofs.PackedBytes.{packed_there, places_inside, same_there}
-use Rattle.linker_final.proofs.Phases.{later_bytes}
-use Rattle.linker_final.proofs.Written.{IsRowOf, by_name, unwritten_without}
+use Rattle.linker_final.proofs.Joined.{unwritten_there}
+use Rattle.linker_final.proofs.Written.{IsRowOf, are_rewritten, by_name, unwritten_without}
 use Rattle.linker_final.proofs.RiscVChosen.{IsOfSome, of_some}
 use Rattle.linker_final.proofs.RiscVDescriptors.{Becomes, same_kind}
-use Rattle.linker_final.proofs.RiscVWritten.{are_rewritten, becomes, long_there, redirected_after}
+use Rattle.linker_final.proofs.RiscVWritten.{becomes, long_there, redirected_after}
 use Rattle.linker_final.specs.Final.{instruction_at}
 use Rattle.linker_final.specs.Final.{AreRewritten, Linked, count}
-use Rattle.linker_final.specs.Packed.{architecture_of, place_of}
+use Rattle.linker_final.specs.Joined.{final_instruction}
+use Rattle.linker_final.specs.Packed.{architecture_of}
 use Rattle.linker_final.specs.RiscVFinal.{Nops, NopsOf}
-use Rattle.linker_final.specs.RiscVJoined.{PackedNops, PackedNopsOf, final_instruction}
+use Rattle.linker_final.specs.RiscVJoined.{PackedNops, PackedNopsOf}
 use Rattle.linker_laws.specs.RiscVMachine.{Hart}
 use Rattle.linker_laws.specs.RiscVRewriteLaws.{AreAlike, EndSo, HaveGoneOn, Laws, after_rewrite}
 use Rattle.linker_elf.specs.Value.{sum_64}
@@ -129,13 +129,9 @@ module _ (laws : Laws) (name : RiscVRelocation) (named : IsNamed (riscv_name nam
     packed_nops_of : PackedNopsOf name
     packed_nops_of l p joined riscv i chosen subject below is_name decided kind_is left stay free =
         let o = (relocation_in l.relocations i).offset in
-        let is = joined.packed in
         let there = nop_there l joined.rewritten (joined.architecture ∙ ap architecture_of riscv) i chosen subject below is_name decided kind_is in
         does_nothing l.section (final_instruction p o) o ((there.0).inside)
-        (packed_there p is (place_of p o) 4 (places_inside p is o 4 (omega arith) stay) free
-        ∙ (same_there p is o 4 (omega arith) stay
-        ∙ (ap (λ bytes. instruction_at bytes o) joined.bytes
-        ∙ (later_bytes l joined.later i o 4 left ∙ there.1))))
+        (unwritten_there l p joined i o left stay free ∙ there.1)
 
 pub nops : Laws → Nops
 nops laws = (

@@ -13,11 +13,11 @@ use Rattle.linker_elf.specs.declared.elf.RelocationKind.TheVariants.{TpOff}
 use Rattle.linker_elf.specs.declared.riscv64.forms.RiscVInstruction.TheVariants.{IType, SType}
 use Rattle.linker_elf.specs.declared.riscv64.relocations.RiscVRelocation.{RiscVRelocation}
 use Rattle.linker_elf.specs.declared.riscv64.relocations.RiscVRelocation.TheVariants as names
-use Rattle.linker_final.proofs.Written.{rela, word_same}
+use Rattle.linker_final.proofs.Written.{are_rewritten, rela, word_same}
 use Rattle.linker_final.proofs.InstructionFields.{IsOfInstruction}
 use Rattle.linker_final.proofs.Phases.{last_length}
 use Rattle.linker_final.proofs.RiscVChosen.{IsOfEntry, of_entry}
-use Rattle.linker_final.proofs.RiscVWritten.{IsAfter, applied_there, are_rewritten, becomes, bytes_there, long_there, made_is, rewritten_after, word_bytes}
+use Rattle.linker_final.proofs.RiscVWritten.{IsAfter, applied_there, becomes, bytes_there, long_there, made_is, rewritten_after, word_bytes}
 use Rattle.linker_final.specs.Final.{instruction_at}
 use Rattle.linker_final.specs.Final.{AreBytes}
 use Rattle.linker_final.specs.RiscVFinal.{HighParts, LowPartDoesTheSame, LowPartDoesTheSameAnywhere, LowParts, LowPartsAnywhere, LowPartsAnywhereOf, LowPartsOf, Sums}

@@ -71,16 +71,6 @@ made_is new (p ∷ q ∷ r ∷ s ∷ t ∷ more) long = absurd (omega (arith, lo
 
 -- ---- what a decision leaves of a relocation
 
-pub are_rewritten : (l : Linked) → IsLinked l → AreRewritten l
-are_rewritten l linked =
-    record {
-      decided = linked.decided;
-      relocations = linked.relocations;
-      done = linked.done;
-      others = linked.others;
-      same_length = linked.same_length;
-    }
-
 module _ (l : Linked) (made : AreRewritten l) (i : ℕ) (chosen : Choice Relaxation ℕ) (below : i < count l)
     (kind : RelaxationKind) (name : RiscVRelocation) (kind_is : chosen.kind ≡ relaxations.RiscV kind)
     (code_is : chosen.relocation ≡ code_of (riscv_name name))

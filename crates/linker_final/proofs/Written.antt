@@ -17,7 +17,7 @@ use Rattle.linker_elf.specs.declared.elf.value.Operands.{Operands}
 use Rattle.linker_final.proofs.InstructionFields.{IsOfInstruction, applied, instruction_len}
 use Rattle.linker_final.proofs.Phases.{bytes_left, last_as_many, last_length, last_within, relocation_left}
 use Rattle.linker_final.proofs.PutBack.{same_windows}
-use Rattle.linker_final.specs.Final.{Linked, IsLeftAlone, IsLinked, IsRewrittenByNoOther, IsWrittenByNoOther, count, instruction_at, two_at}
+use Rattle.linker_final.specs.Final.{AreRewritten, Linked, IsLeftAlone, IsLinked, IsRewrittenByNoOther, IsWrittenByNoOther, count, instruction_at, two_at}
 use Rattle.linker_rewriting.specs.Decisions.{decision_at, written_end_at, written_end_by}
 use Rattle.linker_rewriting.specs.Rewritten.{IsDone, IsMade, relocation_after}
 use Rattle.linker_rewriting.specs.declared.decisions.Decision.TheVariants.{Rewritten}
@@ -26,6 +26,7 @@ use Rattle.linker_section.specs.Needed.{entry_of}
 use Rattle.linker_section.specs.Relocations.{relocation_in}
 use Rattle.linker_section.specs.Sections.{IsInNoField, IsRowValue}
 use Rattle.linker_section.specs.Values.{IsValueBy, IsValueIn, entry_address, entry_in, has_value, is_there, value_by, offset_at, operands_by, operands_in, operands_of, operands_with}
+use Rattle.linker_section.specs.declared.facts.Addresses.{Addresses}
 use Rattle.linker_section.specs.declared.facts.Symbol.{Symbol}
 use Rattle.linker_section.specs.declared.needed.Entry.{Entry}
 use Rattle.linker_section.specs.declared.relocations.Rela.{Rela}
@@ -38,7 +39,7 @@ use Rattle.linker_utils.specs.declared.elf.Architecture.{Architecture}
 -- ---- words
 
 -- that of the first four bytes
-word_front : (xs : List ℕ) → from_le_bytes w32 (take 4 xs) ≡ from_le_bytes w32 xs
+pub word_front : (xs : List ℕ) → from_le_bytes w32 (take 4 xs) ≡ from_le_bytes w32 xs
 word_front [] = refl
 word_front (a ∷ []) = refl
 word_front (a ∷ b ∷ []) = refl
@@ -73,13 +74,14 @@ abbrev pub IsRowOf : Architecture → ℕ → RelocationKindInfo → Type 0
 IsRowOf architecture code row =
     (found : Option RelocationKindInfo) → IsRow architecture code found → found ≡ Some row
 
-row_in : (l : Linked) (r : Rela) (row : RelocationKindInfo) → IsRowOf l.setting.architecture r.code row
-    → (found : _) → IsRowValue l.setting.architecture l.addresses l.relocations_last l.symbols r (Ok found)
-    → IsRow l.setting.architecture r.code (Some row)
-row_in l r row only (Some one) has =
-    subst (λ x. IsRow l.setting.architecture r.code x) (only (Some (one.0)) has.is_row) has.is_row
-row_in l r row only None marked =
-    subst (λ x. IsRow l.setting.architecture r.code x) (only (marked.0) (marked.1)) (marked.1)
+pub row_in : (architecture : Architecture) (addresses : Addresses) (relocations : List ℕ) (symbols : List Symbol)
+    (r : Rela) (row : RelocationKindInfo) → IsRowOf architecture r.code row
+    → (found : _) → IsRowValue architecture addresses relocations symbols r (Ok found)
+    → IsRow architecture r.code (Some row)
+row_in architecture addresses relocations symbols r row only (Some one) has =
+    subst (λ x. IsRow architecture r.code x) (only (Some (one.0)) has.is_row) has.is_row
+row_in architecture addresses relocations symbols r row only None marked =
+    subst (λ x. IsRow architecture r.code x) (only (marked.0) (marked.1)) (marked.1)
 
 -- ---- relocations that rewrites leave
 
@@ -110,7 +112,7 @@ module _ (l : Linked) (linked : IsLinked l) (i : ℕ) (below : i < count l) (n :
 
   there : IsRow l.setting.architecture (relocation_in l.relocations_last i).code (Some row)
   there =
-      row_in l (relocation_in l.relocations_last i) row
+      row_in l.setting.architecture l.addresses l.relocations_last l.symbols (relocation_in l.relocations_last i) row
       (subst (λ (x : Rela). IsRowOf l.setting.architecture x.code row) (sym is_last) only)
       (linked.written.can.found i) (linked.written.can.are_found i within)
 
@@ -175,8 +177,18 @@ entry_is_there l linked i below n row of after is_after only symbol is_symbol en
 
 -- ---- bytes that rewrites leave
 
-module _ (l : Linked) (linked : IsLinked l) (i : ℕ) (chosen : Choice Relaxation ℕ) (below : i < count l)
-    (decided : decision_at l.decisions i ≡ Rewritten chosen) where
+pub are_rewritten : (l : Linked) → IsLinked l → AreRewritten l
+are_rewritten l linked =
+    record {
+      decided = linked.decided;
+      relocations = linked.relocations;
+      done = linked.done;
+      others = linked.others;
+      same_length = linked.same_length;
+    }
+
+module _ (l : Linked) (rewriting : AreRewritten l) (i : ℕ) (chosen : Choice Relaxation ℕ)
+    (below : i < count l) (decided : decision_at l.decisions i ≡ Rewritten chosen) where
   abbrev r : Rela
   r = relocation_in l.relocations i
 
@@ -185,7 +197,7 @@ module _ (l : Linked) (linked : IsLinked l) (i : ℕ) (chosen : Choice Relaxatio
       → relocation_in l.relocations_after i
       ≡ rela (offset_after rewrite r.offset) code r.symbol (addend_after rewrite r.addend)
   relocation_is rewrite code is code_is =
-      linked.relocations i below
+      rewriting.relocations i below
       ∙ (ap (λ d. relocation_after d r) decided
       ∙ (ap (λ q. rela (offset_after q r.offset) chosen.relocation r.symbol (addend_after q r.addend)) is
       ∙ ap (λ x. rela (offset_after rewrite r.offset) x r.symbol (addend_after rewrite r.addend)) code_is))
@@ -197,7 +209,7 @@ module _ (l : Linked) (linked : IsLinked l) (i : ℕ) (chosen : Choice Relaxatio
   made_there made is back =
       let o = r.offset in
       let done : IsMade (relaxation_rewrite chosen.kind) o l.section l.rewritten =
-      subst (λ d. IsDone d o l.section l.rewritten) decided (linked.done i below) in
+      subst (λ d. IsDone d o l.section l.rewritten) decided (rewriting.done i below) in
       let there : IsMade (Some made) o l.section l.rewritten =
       subst (λ q. IsMade q o l.section l.rewritten) is done in
       let here : take made.len (drop o l.rewritten) ≡ made.bytes (take made.len (drop o l.section)) =
@@ -211,9 +223,9 @@ module _ (l : Linked) (linked : IsLinked l) (i : ℕ) (chosen : Choice Relaxatio
       → r.offset + 4 ≤ length l.section
       → instruction_at l.rewritten r.offset ≡ instruction_at l.section r.offset
   stays is alone inside =
-      let long = linked.same_length in
+      let long = rewriting.same_length in
       same_windows r.offset 4 l.rewritten l.section (omega (arith, inside, long)) (sym long)
-      (λ at from less. linked.others at (λ j lj. elim (cases_eq j i) [
+      (λ at from less. rewriting.others at (λ j lj. elim (cases_eq j i) [
         | inl same ↦ inr (subst (λ k. written_end_at l.relocations l.decisions k ≤ at) (sym same) (own at from))
         | inr isnt ↦ alone j at lj isnt from less
       ]))

@@ -2,7 +2,7 @@
 -- values of their relocations (ELF for the Arm 64-bit Architecture, "Relocation optimization", and
 -- the sequences of thread-local storage).
 use Rattle.std.specs.Prelude.{◌≡◌, ◌≢◌, ℕ, ◌+◌, ◌<◌, ◌==◌, List, [], ◌∷◌, Some, IsSomeAnd}
-use Rattle.std.specs.Prelude.{slice_get, Option, Bool, false, ◌^◌}
+use Rattle.std.specs.Prelude.{slice_get, Option, Bool, false, ◌^◌, ⊤}
 use Rattle.linker_aarch64.specs.AArch64Rewrites.{rd_of}
 use Rattle.linker_aarch64.specs.declared.rewrites.RelaxationKind.TheVariants.{AdrpX0, LdrX0, MovkX0}
 use Rattle.linker_aarch64.specs.declared.rewrites.RelaxationKind.TheVariants.{MovzX0Lsl16}
@@ -13,6 +13,7 @@ use Rattle.linker_elf.specs.declared.aarch64.relocations.AArch64Relocation.{AArc
 use Rattle.linker_elf.specs.declared.aarch64.relocations.AArch64Relocation.TheVariants as names
 use Rattle.linker_elf.specs.declared.elf.RelocationKindInfo.{RelocationKindInfo}
 use Rattle.linker_elf.specs.declared.elf.choice.Choice.{Choice}
+use Rattle.linker_elf.specs.declared.elf.value.Operands.{Operands}
 use Rattle.linker_final.specs.Final.{Linked, IsLinked, count, instruction_at, two_at}
 use Rattle.linker_final.specs.Final.{AreLeft, InstructionIsLeft, IsRewrittenByNoOther}
 use Rattle.linker_final.specs.Final.{IsWrittenByNoOther}
@@ -54,23 +55,25 @@ pub record AreOfLoad (l : Linked) (i j : ℕ) : Type 0 where
   pub low_chosen : Choice Relaxation ℕ
   pub low_decided : decision_at l.decisions j ≡ Rewritten low_chosen
 
--- From any state before the `adrp` of a relocation at an index, where the entry at an address holds
--- S + A, the final bytes of the pair run and end as the object's with their relocations' values do.
--- The symbol isn't an undefined weak one.
+-- From any state before the `adrp` of a relocation at an index, where the GOT's entry holds S + A,
+-- the final bytes of the pair run and end as the object's with their relocations' values do.
+abbrev pub LoadIsAlike : Linked → ℕ → Operands → Type 0
+LoadIsAlike l i operands =
+    let o = (relocation_in l.relocations i).offset in
+    (s : State) (adrp ldr : List ℕ) → AreAddresses operands
+    → load_64 s.memory operands.got_entry ≡ symbol_address operands
+    → s.pc ≡ operands.place
+    → IsRelocated names.R_AARCH64_ADR_GOT_PAGE operands (instruction_at l.section o) adrp
+    → IsRelocated names.R_AARCH64_LD64_GOT_LO12_NC (behind 4 operands)
+    (instruction_at l.section (o + 4)) ldr
+    → RunAlike (pair adrp ldr) (pair (instruction_at l.final o) (instruction_at l.final (o + 4))) s
+
+-- The symbol isn't an undefined weak one, and the entry is at any address.
 abbrev pub LoadsTheSame : Linked → ℕ → RelocationKindInfo → Type 0
 LoadsTheSame l i row =
     let r = relocation_in l.relocations i in
     (symbol : Symbol) → slice_get l.symbols r.symbol ≡ Some symbol → symbol.is_undefined_weak ≡ false
-    → (entry : ℕ) (s : State) (adrp ldr : List ℕ)
-    → let operands = operands_with AArch64 l.addresses row symbol r entry in
-    AreAddresses operands
-    → load_64 s.memory entry ≡ symbol_address operands
-    → s.pc ≡ operands.place
-    → IsRelocated names.R_AARCH64_ADR_GOT_PAGE operands (instruction_at l.section r.offset) adrp
-    → IsRelocated names.R_AARCH64_LD64_GOT_LO12_NC (behind 4 operands)
-    (instruction_at l.section (r.offset + 4)) ldr
-    → RunAlike (pair adrp ldr)
-    (pair (instruction_at l.final r.offset) (instruction_at l.final (r.offset + 4))) s
+    → (entry : ℕ) → LoadIsAlike l i (operands_with AArch64 l.addresses row symbol r entry)
 
 -- ---- addresses by `adr`
 
@@ -85,19 +88,22 @@ pub record AreOfAddress (l : Linked) (i j : ℕ) : Type 0 where
   pub low_decided : decision_at l.decisions j ≡ Rewritten low_chosen
 
 -- From any state before the `adrp` the final bytes of the pair, `nop` and `adr`, run and end as the
--- object's with their relocations' values do. The symbol isn't an undefined weak one.
+-- object's with their relocations' values do.
+abbrev pub AddressIsAlike : Linked → ℕ → Operands → Type 0
+AddressIsAlike l i operands =
+    let o = (relocation_in l.relocations i).offset in
+    (s : State) (adrp add : List ℕ) → AreAddresses operands → s.pc ≡ operands.place
+    → IsRelocated names.R_AARCH64_ADR_PREL_PG_HI21 operands (two_at l.section o) adrp
+    → IsRelocated names.R_AARCH64_ADD_ABS_LO12_NC (behind 4 operands)
+    (instruction_at l.section (o + 4)) add
+    → RunAlike (pair adrp add) (pair (instruction_at l.final o) (instruction_at l.final (o + 4))) s
+
+-- The symbol isn't an undefined weak one.
 abbrev pub MakesTheSame : Linked → ℕ → RelocationKindInfo → Type 0
 MakesTheSame l i row =
     let r = relocation_in l.relocations i in
     (symbol : Symbol) → slice_get l.symbols r.symbol ≡ Some symbol → symbol.is_undefined_weak ≡ false
-    → (s : State) (adrp add : List ℕ)
-    → let operands = operands_with AArch64 l.addresses row symbol r 0 in
-    AreAddresses operands → s.pc ≡ operands.place
-    → IsRelocated names.R_AARCH64_ADR_PREL_PG_HI21 operands (two_at l.section r.offset) adrp
-    → IsRelocated names.R_AARCH64_ADD_ABS_LO12_NC (behind 4 operands)
-    (instruction_at l.section (r.offset + 4)) add
-    → RunAlike (pair adrp add)
-    (pair (instruction_at l.final r.offset) (instruction_at l.final (r.offset + 4))) s
+    → AddressIsAlike l i (operands_with AArch64 l.addresses row symbol r 0)
 
 -- ---- the halves of initial-exec
 
@@ -105,34 +111,28 @@ MakesTheSame l i row =
 -- index is executed: in one of them the object's with the value of its relocation, and in the other
 -- the final bytes. Then they agree but for its register, which has the high part of the variable's
 -- offset.
-abbrev pub HighDoesTheSame : Linked → ℕ → RelocationKindInfo → Type 0
-HighDoesTheSame l i row =
-    let r = relocation_in l.relocations i in
-    let n = rd_of (word_of (instruction_at l.section r.offset)) in
-    (symbol : Symbol) → slice_get l.symbols r.symbol ≡ Some symbol
-    → (entry : ℕ) (s t : State) (c : Changes) (adrp : List ℕ)
-    → let operands = operands_with AArch64 l.addresses row symbol r entry in
-    AreAddresses operands → s.pc ≡ operands.place → AgreeBut c s t → n ≢ 31
-    → IsRelocated names.R_AARCH64_TLSIE_ADR_GOTTPREL_PAGE21 operands (instruction_at l.section r.offset)
-    adrp
-    → StepSo (word_of adrp) s (word_of (instruction_at l.final r.offset)) t
+abbrev pub HighIsAlike : Linked → ℕ → Operands → Type 0
+HighIsAlike l i operands =
+    let o = (relocation_in l.relocations i).offset in
+    let n = rd_of (word_of (instruction_at l.section o)) in
+    (s t : State) (c : Changes) (adrp : List ℕ)
+    → AreAddresses operands → s.pc ≡ operands.place → AgreeBut c s t → n ≢ 31
+    → IsRelocated names.R_AARCH64_TLSIE_ADR_GOTTPREL_PAGE21 operands (instruction_at l.section o) adrp
+    → StepSo (word_of adrp) s (word_of (instruction_at l.final o)) t
     (λ u v. AgreeBut (with_register n c) u v × HasHigh n operands u v)
 
 -- From states whose register has that, and where the GOT's entry holds the offset, the low half
 -- leaves the offset in both.
-abbrev pub LowDoesTheSame : Linked → ℕ → RelocationKindInfo → Type 0
-LowDoesTheSame l i row =
-    let r = relocation_in l.relocations i in
-    let n = rd_of (word_of (instruction_at l.section r.offset)) in
-    (symbol : Symbol) → slice_get l.symbols r.symbol ≡ Some symbol
-    → (entry : ℕ) (s t : State) (c : Changes) (ldr : List ℕ)
-    → let operands = operands_with AArch64 l.addresses row symbol r entry in
-    AreAddresses operands → load_64 s.memory entry ≡ thread_offset operands
+abbrev pub LowIsAlike : Linked → ℕ → Operands → Type 0
+LowIsAlike l i operands =
+    let o = (relocation_in l.relocations i).offset in
+    let n = rd_of (word_of (instruction_at l.section o)) in
+    (s t : State) (c : Changes) (ldr : List ℕ)
+    → AreAddresses operands → load_64 s.memory operands.got_entry ≡ thread_offset operands
     → HasHigh n operands s t → AgreeBut c s t
-    → IsRelocated names.R_AARCH64_TLSIE_LD64_GOTTPREL_LO12_NC operands
-    (instruction_at l.section r.offset) ldr
-    → StepSo (word_of ldr) s (word_of (instruction_at l.final r.offset)) t
-    (AgreeBut (without_register n c))
+    → IsRelocated names.R_AARCH64_TLSIE_LD64_GOTTPREL_LO12_NC operands (instruction_at l.section o)
+    ldr
+    → StepSo (word_of ldr) s (word_of (instruction_at l.final o)) t (AgreeBut (without_register n c))
 
 -- ---- TLS descriptors
 
@@ -157,34 +157,12 @@ pub record AreOfDescriptor (l : Linked) (high low : RelaxationKind) (i j k m : �
   pub call_chosen : Choice Relaxation ℕ
   pub call_decided : decision_at l.decisions m ≡ Rewritten call_chosen
 
--- From any state before the sequence, the object's instructions with their relocations' values run
--- to the call, and the final bytes end as the called function returns.
-abbrev pub OffsetIsTheSame : Linked → ℕ → RelocationKindInfo → Type 0
-OffsetIsTheSame l i row =
-    let r = relocation_in l.relocations i in
-    let o = r.offset in
-    (symbol : Symbol) → slice_get l.symbols r.symbol ≡ Some symbol
-    → (call : State → Option State) (c : Changes) (entry : ℕ) (s : State) (adrp ldr add : List ℕ)
-    → let operands = operands_with AArch64 l.addresses row symbol r entry in
-    Descriptor call c operands s (instruction_at l.section o) (instruction_at l.section (o + 4))
-    (instruction_at l.section (o + 8)) (instruction_at l.section (o + 12))
-    → DescriptorOf operands (instruction_at l.section o) (instruction_at l.section (o + 4))
-    (instruction_at l.section (o + 8)) adrp ldr add
-    → RunAlikeBehindCall call (scratch (rd_of (word_of (instruction_at l.section (o + 4)))) c)
-    (four adrp ldr add (instruction_at l.section (o + 12)))
-    (four (instruction_at l.final o) (instruction_at l.final (o + 4)) (instruction_at l.final (o + 8))
-    (instruction_at l.final (o + 12))) s
-
--- The same where the GOT's entry of the offset holds it.
-abbrev pub LoadsOffset : Linked → ℕ → RelocationKindInfo → Type 0
-LoadsOffset l i row =
-    let r = relocation_in l.relocations i in
-    let o = r.offset in
-    (symbol : Symbol) → slice_get l.symbols r.symbol ≡ Some symbol
-    → symbol.thread_entry < 2 ^ 64
-    → (call : State → Option State) (c : Changes) (entry : ℕ) (s : State) (adrp ldr add : List ℕ)
-    → let operands = operands_with AArch64 l.addresses row symbol r entry in
-    load_64 s.memory symbol.thread_entry ≡ thread_offset operands
+-- From any state before the sequence of which something holds, the object's instructions with their
+-- relocations' values run to the call, and the final bytes end as the called function returns.
+abbrev pub OffsetIsAlike : Linked → ℕ → Operands → (State → Type 0) → Type 0
+OffsetIsAlike l i operands Holds =
+    let o = (relocation_in l.relocations i).offset in
+    (call : State → Option State) (c : Changes) (s : State) (adrp ldr add : List ℕ) → Holds s
     → Descriptor call c operands s (instruction_at l.section o) (instruction_at l.section (o + 4))
     (instruction_at l.section (o + 8)) (instruction_at l.section (o + 12))
     → DescriptorOf operands (instruction_at l.section o) (instruction_at l.section (o + 4))
@@ -194,21 +172,44 @@ LoadsOffset l i row =
     (four (instruction_at l.final o) (instruction_at l.final (o + 4)) (instruction_at l.final (o + 8))
     (instruction_at l.final (o + 12))) s
 
+-- of any descriptor's entry
+abbrev pub OffsetIsTheSame : Linked → ℕ → RelocationKindInfo → Type 0
+OffsetIsTheSame l i row =
+    let r = relocation_in l.relocations i in
+    (symbol : Symbol) → slice_get l.symbols r.symbol ≡ Some symbol → (entry : ℕ)
+    → OffsetIsAlike l i (operands_with AArch64 l.addresses row symbol r entry) (λ s. ⊤)
+
+-- The GOT's entry of the offset, at an address, holds it.
+abbrev pub HoldsOffset : ℕ → Operands → State → Type 0
+HoldsOffset entry operands s = load_64 s.memory entry ≡ thread_offset operands
+
+abbrev pub LoadsOffset : Linked → ℕ → RelocationKindInfo → Type 0
+LoadsOffset l i row =
+    let r = relocation_in l.relocations i in
+    (symbol : Symbol) → slice_get l.symbols r.symbol ≡ Some symbol
+    → symbol.thread_entry < 2 ^ 64 → (entry : ℕ)
+    → let operands = operands_with AArch64 l.addresses row symbol r entry in
+    OffsetIsAlike l i operands (HoldsOffset symbol.thread_entry operands)
+
 -- ---- branches to undefined weak symbols
 
--- A branch that goes on behind itself, by the value of its relocation, does so in the final bytes,
--- where no other relocation has a field in it. Registers may differ that are named.
+-- A branch that goes on behind itself, by the value of its relocation, does so in the final bytes.
+-- Registers may differ that are named.
+abbrev pub BranchIsAlike : AArch64Relocation → (ℕ → Bool) → Linked → ℕ → Operands → Type 0
+BranchIsAlike name differing l i operands =
+    let o = (relocation_in l.relocations i).offset in
+    (s : State) (branch : List ℕ)
+    → AreAddresses operands → s.pc ≡ operands.place → plt_address operands ≡ next_pc s
+    → IsRelocated name operands (instruction_at l.section o) branch
+    → RunAlikeBut differing (word_of branch ∷ []) (word_of (instruction_at l.final o) ∷ []) s
+
+-- where no other relocation has a field in it
 abbrev pub BranchDoesTheSame : AArch64Relocation → (ℕ → Bool) → Linked → ℕ → RelocationKindInfo → Type 0
 BranchDoesTheSame name differing l i row =
     let r = relocation_in l.relocations i in
     IsWrittenByNoOther l i r.offset
     → (symbol : Symbol) → slice_get l.symbols r.symbol ≡ Some symbol
-    → (s : State) (branch : List ℕ)
-    → let operands = operands_with AArch64 l.addresses row symbol r 0 in
-    AreAddresses operands → s.pc ≡ operands.place → plt_address operands ≡ next_pc s
-    → IsRelocated name operands (instruction_at l.section r.offset) branch
-    → RunAlikeBut differing (word_of branch ∷ [])
-    (word_of (instruction_at l.final r.offset) ∷ []) s
+    → BranchIsAlike name differing l i (operands_with AArch64 l.addresses row symbol r 0)
 
 -- ---- the laws
 
@@ -220,6 +221,13 @@ GotLoads =
     → (i j : ℕ) → AreOfLoad l i j → AreLeft l i j
     → IsRewrittenByNoOther l i (relocation_in l.relocations i).offset
     → IsSomeAnd (aarch64_row names.R_AARCH64_ADR_GOT_PAGE) (LoadsTheSame l i)
+
+-- It holds for the operands that a row's formula has for it, wherever a GOT entry is.
+abbrev pub ForOperands : (Linked → ℕ → Operands → Type 0) → Linked → ℕ → RelocationKindInfo → Type 0
+ForOperands Holds l i row =
+    let r = relocation_in l.relocations i in
+    (symbol : Symbol) → slice_get l.symbols r.symbol ≡ Some symbol → (entry : ℕ)
+    → Holds l i (operands_with AArch64 l.addresses row symbol r entry)
 
 -- of each relocation of a name whose instruction is rewritten, and later phases leave alone, with
 -- a row
@@ -236,12 +244,12 @@ EachRewritten name of_row Holds =
 abbrev pub HighHalves : Type 0
 HighHalves =
     EachRewritten names.R_AARCH64_TLSIE_ADR_GOTTPREL_PAGE21 names.R_AARCH64_TLSLE_MOVW_TPREL_G1
-    HighDoesTheSame
+    (ForOperands HighIsAlike)
 
 abbrev pub LowHalves : Type 0
 LowHalves =
     EachRewritten names.R_AARCH64_TLSIE_LD64_GOTTPREL_LO12_NC names.R_AARCH64_TLSLE_MOVW_TPREL_G1
-    LowDoesTheSame
+    (ForOperands LowIsAlike)
 
 -- of every branch to an undefined weak symbol: `bl` also writes X30
 abbrev pub Branches : Type 0

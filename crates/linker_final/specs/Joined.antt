@@ -1,8 +1,8 @@
 -- A section of code that is rewritten, in one phase or in several, then packed, and whose values
 -- are written last.
-use Rattle.std.specs.Prelude.{◌≡◌, ℕ, length}
-use Rattle.linker_final.specs.Final.{ArePhases, AreRewritten, Linked}
-use Rattle.linker_final.specs.Packed.{Packed, IsPacked, StayTogether, architecture_of}
+use Rattle.std.specs.Prelude.{◌≡◌, ℕ, List, length}
+use Rattle.linker_final.specs.Final.{ArePhases, AreRewritten, Linked, instruction_at}
+use Rattle.linker_final.specs.Packed.{Packed, IsPacked, StayTogether, architecture_of, place_of}
 use Rattle.linker_section.specs.Relocations.{relocation_in}
 use Rattle.linker_section.specs.Values.{offset_at}
 
@@ -22,3 +22,7 @@ pub record IsRewrittenAndPacked (l : Linked) (p : Packed) : Type 0 where
 pub record IsKeptInstruction (p : Packed) (i : ℕ) : Type 0 where
   pub bytes : StayTogether p (offset_at p.relocations i) 4
   pub code : (relocation_in p.relocations_after i).code ≡ (relocation_in p.relocations i).code
+
+-- the final bytes of an instruction at an offset of the section before
+abbrev pub final_instruction : Packed → ℕ → List ℕ
+final_instruction p o = instruction_at p.final (place_of p o)

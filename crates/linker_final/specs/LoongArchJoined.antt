@@ -1,55 +1,113 @@
 -- LoongArch: in the final bytes of a section that was rewritten and then packed, rewritten
--- instructions do what the object's do with the values of their relocations.
-use Rattle.std.specs.Prelude.{◌≡◌, ℕ, ◌/◌, ◌<◌, ◌^◌, Bool, List, Some, IsSomeAnd, slice_get}
-use Rattle.linker_elf.specs.Choices.{RowIsWithin}
+-- instructions do what the object's do with the values of their relocations. Each is at its
+-- translated place, and the object's in any layout of its own.
+use Rattle.std.specs.Prelude.{◌≡◌, ℕ, ◌<◌, List, Some, IsSomeAnd, slice_get}
 use Rattle.linker_elf.specs.ElfNames.{IsNameOf}
 use Rattle.linker_elf.specs.LoongArchRelocations.{loongarch_name, loongarch_row}
-use Rattle.linker_elf.specs.Value.{sum_64}
 use Rattle.linker_elf.specs.declared.elf.RelocationKindInfo.{RelocationKindInfo}
 use Rattle.linker_elf.specs.declared.elf.choice.Choice.{Choice}
 use Rattle.linker_elf.specs.declared.elf.value.Operands.{Operands}
+use Rattle.linker_elf.specs.declared.loongarch64.relocations.LoongArch64Relocation.{LoongArch64Relocation}
 use Rattle.linker_elf.specs.declared.loongarch64.relocations.LoongArch64Relocation.TheVariants as names
-use Rattle.linker_final.specs.Final.{InstructionIsLeft, Linked, count, instruction_at}
-use Rattle.linker_final.specs.Joined.{IsRewrittenAndPacked, IsKeptInstruction}
-use Rattle.linker_final.specs.Packed.{Packed, place_of}
-use Rattle.linker_laws.specs.LoongArchMachine.{State, AreAlikeBut, action_of, but_written, read}
-use Rattle.linker_laws.specs.LoongArchRewriteLaws.{HaveShortened, IsRelocated, StepSo}
-use Rattle.linker_laws.specs.LoongArchRewriteLaws.{StoresTheSame, thread_offset, word_of}
-use Rattle.linker_loongarch64.specs.LoongArchRewrites.{rd_of, rj_of, signed_12, tp}
+use Rattle.linker_final.specs.Final.{InstructionIsLeft, IsRewrittenByNoOther, Linked, count}
+use Rattle.linker_final.specs.Final.{instruction_at}
+use Rattle.linker_final.specs.Joined.{IsRewrittenAndPacked, IsKeptInstruction, final_instruction}
+use Rattle.linker_final.specs.LoongArchFinal.{CallDoesNothing, HasOffsetEntry, HighDoesTheSame}
+use Rattle.linker_final.specs.LoongArchFinal.{IsAny, IsKind, LoadDoesNothing, LowDoesTheSame}
+use Rattle.linker_final.specs.LoongArchFinal.{LowLoadsOffset, LowMakesOffset, LowPartDoesTheSame}
+use Rattle.linker_final.specs.LoongArchFinal.{PageDoesTheSame, with_entry}
+use Rattle.linker_final.specs.LoongArchPacked.{operands_at}
+use Rattle.linker_final.specs.Packed.{IsUnwritten, Packed, StayTogether, place_of}
+use Rattle.linker_loongarch64.specs.declared.rewrites.RelaxationKind.TheVariants as kinds
 use Rattle.linker_rewriting.specs.Decisions.{decision_at}
 use Rattle.linker_rewriting.specs.declared.decisions.Decision.TheVariants.{Rewritten}
 use Rattle.linker_runs.specs.declared.packing.Machine.TheVariants.{LoongArch64 as loongarch64}
 use Rattle.linker_section.specs.Relocations.{relocation_in}
-use Rattle.linker_section.specs.Values.{operands_with}
 use Rattle.linker_section.specs.declared.facts.Symbol.{Symbol}
 use Rattle.linker_utils.specs.declared.architecture.Relaxation.{Relaxation}
-use Rattle.linker_utils.specs.declared.elf.Architecture.TheVariants.{LoongArch64}
 
--- From a base with the thread pointer's number, the object's instruction with the value of its
--- relocation computes what the final bytes do, where the offset is the same, a number of 12 bits.
-abbrev pub FinalLowPartDoesTheSame : Linked → Packed → ℕ → RelocationKindInfo → Type 0
-FinalLowPartDoesTheSame l p i row =
+-- ---- where the other instruction is
+
+-- The other instruction is in the final bytes, and its operands are those of its relocation there.
+abbrev pub InFinalBytes : (List ℕ → List ℕ → Operands → Operands → Type 0) → Linked → Packed → ℕ
+    → RelocationKindInfo → Type 0
+InFinalBytes Holds l p i row =
     let o = (relocation_in l.relocations i).offset in
-    let word = word_of (instruction_at l.section o) in
-    let action = action_of (word / 2 ^ 22) in
-    let after = relocation_in p.relocations_after i in
-    (symbol : Symbol) → slice_get p.symbols after.symbol ≡ Some symbol
-    → let y = operands_with LoongArch64 p.addresses row symbol after 0 in
-    (x : Operands) (s t : State) (differing : ℕ → Bool) (low : List ℕ)
-    → thread_offset x ≡ thread_offset y
-    → RowIsWithin (loongarch_row names.R_LARCH_TLS_LE_LO12_R) signed_12 y
-    → AreAlikeBut differing s t → read (rj_of word) s ≡ read tp t
-    → StoresTheSame action differing (rd_of word)
-    → IsRelocated names.R_LARCH_TLS_LE_LO12_R x (instruction_at l.section o) low
-    → StepSo (word_of low) s (word_of (instruction_at p.final (place_of p o))) t
-    (HaveShortened (but_written differing action (rd_of word)) (sum_64 s.pc 4) (sum_64 t.pc 4))
+    (symbol : Symbol)
+    → slice_get p.symbols (relocation_in p.relocations_after i).symbol ≡ Some symbol
+    → (x : Operands)
+    → Holds (instruction_at l.section o) (final_instruction p o) x (operands_at p i row symbol)
 
--- of every low part of local-exec that is rewritten, which later phases leave alone, and whose
--- instruction then stays
-abbrev pub PackedLowParts : Type 0
-PackedLowParts =
+-- They have the symbol's entry of its offset in the GOT, which there is.
+abbrev pub InFinalBytesByEntry : (List ℕ → List ℕ → Operands → Operands → Type 0) → Linked
+    → Packed → ℕ → RelocationKindInfo → Type 0
+InFinalBytesByEntry Holds l p i row =
+    let o = (relocation_in l.relocations i).offset in
+    (symbol : Symbol)
+    → slice_get p.symbols (relocation_in p.relocations_after i).symbol ≡ Some symbol
+    → HasOffsetEntry p.addresses symbol → (x : Operands)
+    → Holds (instruction_at l.section o) (final_instruction p o) x
+    (with_entry symbol.thread_entry (operands_at p i row symbol))
+
+-- The same where the instruction isn't changed: no other rewrite has a byte of it.
+abbrev pub InFinalBytesUnchanged : (List ℕ → List ℕ → Operands → Operands → Type 0) → Linked
+    → Packed → ℕ → RelocationKindInfo → Type 0
+InFinalBytesUnchanged Holds l p i row =
+    IsRewrittenByNoOther l i (relocation_in l.relocations i).offset
+    → InFinalBytesByEntry Holds l p i row
+
+-- ---- the laws
+
+-- of each relocation of a name whose rewrite has P, and which later phases leave alone, whose
+-- instruction then stays, with a row
+abbrev pub EachKept : (Relaxation → Type 0) → LoongArch64Relocation → LoongArch64Relocation
+    → (Linked → Packed → ℕ → RelocationKindInfo → Type 0) → Type 0
+EachKept P name of_row Holds =
     (l : Linked) (p : Packed) → IsRewrittenAndPacked l p → p.machine ≡ loongarch64
     → (i : ℕ) (chosen : Choice Relaxation ℕ) → i < count l
-    → IsNameOf loongarch_name (relocation_in l.relocations i).code names.R_LARCH_TLS_LE_LO12_R
-    → decision_at l.decisions i ≡ Rewritten chosen → IsKeptInstruction p i → InstructionIsLeft l i
-    → IsSomeAnd (loongarch_row names.R_LARCH_TLS_LE_LO12_R) (FinalLowPartDoesTheSame l p i)
+    → IsNameOf loongarch_name (relocation_in l.relocations i).code name
+    → decision_at l.decisions i ≡ Rewritten chosen → P chosen.kind → IsKeptInstruction p i
+    → InstructionIsLeft l i → IsSomeAnd (loongarch_row of_row) (Holds l p i)
+
+-- of each relocation of a name, whose instruction became a nop and stays, where later phases leave
+-- it alone and no relocation has a field in it
+abbrev pub EachNop : LoongArch64Relocation → (List ℕ → List ℕ → Type 0) → Type 0
+EachNop name Holds =
+    (l : Linked) (p : Packed) → IsRewrittenAndPacked l p → p.machine ≡ loongarch64
+    → (i : ℕ) (chosen : Choice Relaxation ℕ) → i < count l
+    → IsNameOf loongarch_name (relocation_in l.relocations i).code name
+    → decision_at l.decisions i ≡ Rewritten chosen → InstructionIsLeft l i
+    → let o = (relocation_in l.relocations i).offset in
+    StayTogether p o 4 → IsUnwritten p (place_of p o) 4
+    → Holds (instruction_at l.section o) (final_instruction p o)
+
+-- of every low part of local-exec
+abbrev pub PackedLowParts : Type 0
+PackedLowParts =
+    EachKept IsAny names.R_LARCH_TLS_LE_LO12_R names.R_LARCH_TLS_LE_LO12_R
+    (InFinalBytes LowPartDoesTheSame)
+
+-- of every high half of initial-exec
+abbrev pub PackedHighHalves : Type 0
+PackedHighHalves =
+    EachKept IsAny names.R_LARCH_TLS_IE_PC_HI20 names.R_LARCH_TLS_LE_HI20
+    (InFinalBytes (HighDoesTheSame names.R_LARCH_TLS_IE_PC_HI20))
+
+-- of every low half
+abbrev pub PackedLowHalves : Type 0
+PackedLowHalves =
+    EachKept IsAny names.R_LARCH_TLS_IE_PC_LO12 names.R_LARCH_TLS_LE_HI20
+    (InFinalBytes LowDoesTheSame)
+
+-- of every instruction of a TLS descriptor, which became one of local-exec or of initial-exec
+pub record PackedDescriptors : Type 0 where
+  pub high : EachKept (IsKind kinds.PcalaToLu12i) names.R_LARCH_TLS_DESC_PC_HI20
+      names.R_LARCH_TLS_LE_HI20 (InFinalBytes (HighDoesTheSame names.R_LARCH_TLS_DESC_PC_HI20))
+  pub low : EachKept (IsKind kinds.LowToOri) names.R_LARCH_TLS_DESC_PC_LO12
+      names.R_LARCH_TLS_LE_HI20 (InFinalBytes LowMakesOffset)
+  pub page : EachKept (IsKind kinds.NoOp) names.R_LARCH_TLS_DESC_PC_HI20
+      names.R_LARCH_TLS_LE_HI20 (InFinalBytesUnchanged PageDoesTheSame)
+  pub entry : EachKept (IsKind kinds.AddiToLd) names.R_LARCH_TLS_DESC_PC_LO12
+      names.R_LARCH_TLS_LE_HI20 (InFinalBytesByEntry LowLoadsOffset)
+  pub load : EachNop names.R_LARCH_TLS_DESC_LD LoadDoesNothing
+  pub call : EachNop names.R_LARCH_TLS_DESC_CALL CallDoesNothing

@@ -78,16 +78,20 @@ EachRewritten len name Holds =
 
 -- ---- calls
 
--- The call is the object's with the value of its relocation. In place of the `nop` to which it
--- returns, where no other relocation has a field, register 2 gets the doubleword at r1 + 24.
-abbrev pub RestoresToc : Linked → ℕ → Operands → Type 0
-RestoresToc l i o =
+-- In place of the `nop` to which a call returns register 2 gets the doubleword at r1 + 24.
+abbrev pub NopRestoresToc : Linked → ℕ → Type 0
+NopRestoresToc l i =
     let behind = offset_of l i + 4 in
-    IsRelocated names.R_PPC64_REL24 o (object l i) (final l i)
-    × (IsWrittenByNoOther l i behind → (f : Formats) (s : State)
+    (f : Formats) (s : State)
     → (step f (word_of (instruction_at l.section behind)) s ≡ Some (go_on s))
     × (step f (word_of (instruction_at l.final behind)) s
-    ≡ Some (go_on (write 2 (loaded 8 s.memory (sum_64 (s.registers 1) 24)) s))))
+    ≡ Some (go_on (write 2 (loaded 8 s.memory (sum_64 (s.registers 1) 24)) s)))
+
+-- The call is the object's with the value of its relocation.
+abbrev pub RestoresToc : Linked → ℕ → Operands → Type 0
+RestoresToc l i o =
+    IsRelocated names.R_PPC64_REL24 o (object l i) (final l i)
+    × (IsWrittenByNoOther l i (offset_of l i + 4) → NopRestoresToc l i)
 
 -- of every call that is rewritten
 abbrev pub Calls : Type 0
@@ -97,13 +101,16 @@ Calls =
 
 -- ---- halves
 
+-- It holds where no other relocation has a field in the instruction.
+abbrev pub IfAlone : Linked → ℕ → Type 0 → Type 0
+IfAlone l i Holds = IsWrittenByNoOther l i (offset_of l i) → Holds
+
 -- A high half over a register became `nop`. In the object's run its register then has a number from
 -- which the low halves lead to the address.
 abbrev pub NopIsAlike : ℕ → Ppc64Relocation → (Operands → ℕ → ℕ) → (Operands → ℕ → ℕ → Type 0)
     → Linked → ℕ → Operands → Type 0
 NopIsAlike register high address LowHalvesLead l i o =
-    IsWrittenByNoOther l i (offset_of l i)
-    → (f : Formats) (s t : State) (c : Changes) (addis : List ℕ) → AgreeBut c s t
+    (f : Formats) (s t : State) (c : Changes) (addis : List ℕ) → AgreeBut c s t
     → IsRelocated high o (object l i) addis
     → let x = rt_of (word_of (object l i)) in
     StepSo f (word_of addis) s (word_of (final l i)) t
@@ -146,19 +153,27 @@ WordLowHalf register low address =
     OverBaseIsAlike register low Ds address (accesses is_ds_over_base ds_access) l i o
     × VectorIsAlike register low address l i o))
 
+-- the high half of an address near the TOC pointer, and of one near the thread pointer
+abbrev pub TocHighIsAlike : Linked → ℕ → Operands → Type 0
+TocHighIsAlike =
+    NopIsAlike 2 names.R_PPC64_TOC16_HA from_toc
+    (λ o n a. Leads names.R_PPC64_TOC16_LO D o n a × Leads names.R_PPC64_TOC16_LO_DS Ds o n a)
+
+abbrev pub ThreadHighIsAlike : Linked → ℕ → Operands → Type 0
+ThreadHighIsAlike = NopIsAlike 13 names.R_PPC64_TPREL16_HA from_thread LowHalfLeads
+
 -- of every half of an address near the TOC pointer
 abbrev pub TocHalves : Type 0
 TocHalves =
     EachRewritten 4 names.R_PPC64_TOC16_HA (λ l i chosen. ForOperands names.R_PPC64_TOC16_HA l i
-    (λ symbol. NopIsAlike 2 names.R_PPC64_TOC16_HA from_toc
-    (λ o n a. Leads names.R_PPC64_TOC16_LO D o n a × Leads names.R_PPC64_TOC16_LO_DS Ds o n a) l i))
+    (λ symbol o. IfAlone l i (TocHighIsAlike l i o)))
     × LowHalf 2 names.R_PPC64_TOC16_LO from_toc × WordLowHalf 2 names.R_PPC64_TOC16_LO_DS from_toc
 
 -- of every half of an address near the thread pointer
 abbrev pub ThreadHalves : Type 0
 ThreadHalves =
     EachRewritten 4 names.R_PPC64_TPREL16_HA (λ l i chosen. ForOperands names.R_PPC64_TPREL16_HA l i
-    (λ symbol. NopIsAlike 13 names.R_PPC64_TPREL16_HA from_thread LowHalfLeads l i))
+    (λ symbol o. IfAlone l i (ThreadHighIsAlike l i o)))
     × LowHalf 13 names.R_PPC64_TPREL16_LO from_thread
     × WordLowHalf 13 names.R_PPC64_TPREL16_LO_DS from_thread
 
@@ -215,7 +230,7 @@ VariableIsAlike l i chosen o =
 abbrev pub InitialExec : Type 0
 InitialExec =
     EachRewritten 4 names.R_PPC64_GOT_TPREL16_HA (λ l i chosen.
-    ForOperands names.R_PPC64_TPREL16_HA l i (λ symbol. HighIsAlike l i))
+    ForOperands names.R_PPC64_TPREL16_HA l i (λ symbol o. IfAlone l i (HighIsAlike l i o)))
     × EachRewritten 4 names.R_PPC64_GOT_TPREL16_LO_DS (λ l i chosen.
     ForOperands names.R_PPC64_TPREL16_HA l i (λ symbol. OffsetIsAlike l i))
     × EachRewritten 4 names.R_PPC64_GOT_TPREL16_DS (λ l i chosen.
@@ -237,14 +252,14 @@ ArgumentIsAlike low Is l i o f s t =
     → StepSo f (word_of addi) s (word_of (final l i)) t
     (λ u v. AgreeBut (with_register (rt_of word) c) u v × HasArgument (rt_of word) entry (Is t) u v)
 
--- The high half of the entry of general-dynamic became that of the offset's.
-abbrev pub EntryIsAlike : Linked → ℕ → Symbol → Operands → Type 0
-EntryIsAlike l i symbol o =
-    IsRewrittenByNoOther l i (offset_of l i) → symbol.thread_entry < 2 ^ 64
+-- The high half of the entry of general-dynamic became that of the offset's, at another address.
+abbrev pub EntryIsAlike : Linked → ℕ → ℕ → Operands → Type 0
+EntryIsAlike l i entry o =
+    IsRewrittenByNoOther l i (offset_of l i) → entry < 2 ^ 64
     → (f : Formats) (s t : State) (c : Changes) (addis : List ℕ) → AgreeBut c s t
     → IsRelocated names.R_PPC64_GOT_TLSGD16_HA o (object l i) addis
     → let x = rt_of (word_of (object l i)) in
-    let own = with_entry symbol.thread_entry o in
+    let own = with_entry entry o in
     StepSo f (word_of addis) s (word_of (final l i)) t
     (λ u v. AgreeBut (with_register x c) u v
     × Leads names.R_PPC64_GOT_TLSGD16_LO D o (u.registers x) (entry_from_toc o (s.registers 2))
@@ -259,11 +274,11 @@ HighArgumentIsAlike l i o =
     (λ t n. LowHalfLeads o n (from_thread o (t.registers 13))) l i o f s t
 
 -- `ld rT` of the entry of the offset, over a register that leads to that
-abbrev pub LoadedArgumentIsAlike : Linked → ℕ → Symbol → Operands → Type 0
-LoadedArgumentIsAlike l i symbol o =
-    let own = with_entry symbol.thread_entry o in
+abbrev pub LoadedArgumentIsAlike : Linked → ℕ → ℕ → Operands → Type 0
+LoadedArgumentIsAlike l i entry o =
+    let own = with_entry entry o in
     let ra = ra_of (word_of (object l i)) in
-    symbol.thread_entry < 2 ^ 64 → (f : Formats) (s t : State) (offset : ℕ)
+    entry < 2 ^ 64 → (f : Formats) (s t : State) (offset : ℕ)
     → Leads names.R_PPC64_GOT_TPREL16_LO_DS Ds own (t.registers ra) offset
     → loaded 8 t.memory offset ≡ thread_offset o
     → ArgumentIsAlike names.R_PPC64_GOT_TLSGD16_LO (λ t n. n ≡ thread_offset o) l i o f s t
@@ -271,7 +286,7 @@ LoadedArgumentIsAlike l i symbol o =
 -- `addis rT,13,0`
 abbrev pub ThreadArgumentIsAlike : Linked → ℕ → Operands → Type 0
 ThreadArgumentIsAlike l i o =
-    IsWrittenByNoOther l i (offset_of l i) → (f : Formats) (s t : State)
+    (f : Formats) (s t : State)
     → ArgumentIsAlike names.R_PPC64_GOT_TLSLD16_LO (λ t n. n ≡ sum_64 (t.registers 13) 0)
     l i o f s t
 
@@ -291,40 +306,46 @@ CallIsAlike number Is l i f s t =
 -- `nop` and `addi 3,3` with a low half: the address of the variable
 abbrev pub CallToLowHalfIsAlike : Linked → ℕ → Operands → Type 0
 CallToLowHalfIsAlike l i o =
-    IsWrittenByNoOther l i (offset_of l i) → (f : Formats) (s t : State)
+    (f : Formats) (s t : State)
     → let number = from_thread o (s.registers 13) in
     CallIsAlike number (λ n. LowHalfLeads o n number) l i f s t
 
 -- `nop` and `add 3,3,13`: the same
 abbrev pub CallToSumIsAlike : Linked → ℕ → Operands → Type 0
 CallToSumIsAlike l i o =
-    IsWrittenByNoOther l i (offset_of l i) → IsWrittenByNoOther l i (offset_of l i + 4)
-    → (f : Formats) (s t : State) → t.registers 13 ≡ s.registers 13
+    (f : Formats) (s t : State) → t.registers 13 ≡ s.registers 13
     → CallIsAlike (from_thread o (s.registers 13)) (λ n. n ≡ thread_offset o) l i f s t
 
 -- `nop` and `addi 3,3,4096`: 0x1000 above the thread pointer
 abbrev pub CallToBlockIsAlike : Linked → ℕ → Type 0
 CallToBlockIsAlike l i =
-    IsWrittenByNoOther l i (offset_of l i) → IsWrittenByNoOther l i (offset_of l i + 4)
-    → (f : Formats) (s t : State)
+    (f : Formats) (s t : State)
     → CallIsAlike (sum_64 (s.registers 13) 0x1000) (λ n. n ≡ sum_64 (s.registers 13) 0) l i f s t
+
+-- It holds where no other relocation has a field in the instruction behind the call.
+abbrev pub IfAloneBehind : Linked → ℕ → Type 0 → Type 0
+IfAloneBehind l i Holds = IsWrittenByNoOther l i (offset_of l i + 4) → Holds
+
+-- the high half of the entry
+abbrev pub NoEntryIsAlike : Linked → ℕ → Operands → Type 0
+NoEntryIsAlike =
+    NopIsAlike 2 names.R_PPC64_GOT_TLSGD16_HA entry_from_toc (Leads names.R_PPC64_GOT_TLSGD16_LO D)
 
 -- for local-exec, and for initial-exec
 abbrev pub GeneralHighIsAlike : Linked → ℕ → Choice Relaxation ℕ → Symbol → Operands → Type 0
 GeneralHighIsAlike l i chosen symbol o =
-    By kinds.AddisToNop chosen (NopIsAlike 2 names.R_PPC64_GOT_TLSGD16_HA entry_from_toc
-    (Leads names.R_PPC64_GOT_TLSGD16_LO D) l i o)
-    ⊎ By kinds.KeepAddis chosen (EntryIsAlike l i symbol o)
+    By kinds.AddisToNop chosen (IfAlone l i (NoEntryIsAlike l i o))
+    ⊎ By kinds.KeepAddis chosen (EntryIsAlike l i symbol.thread_entry o)
 
 abbrev pub GeneralArgumentIsAlike : Linked → ℕ → Choice Relaxation ℕ → Symbol → Operands → Type 0
 GeneralArgumentIsAlike l i chosen symbol o =
     By kinds.AddiToAddisThread chosen (HighArgumentIsAlike l i o)
-    ⊎ By kinds.AddiToLd chosen (LoadedArgumentIsAlike l i symbol o)
+    ⊎ By kinds.AddiToLd chosen (LoadedArgumentIsAlike l i symbol.thread_entry o)
 
 abbrev pub GeneralCallIsAlike : Linked → ℕ → Choice Relaxation ℕ → Operands → Type 0
 GeneralCallIsAlike l i chosen o =
-    By kinds.CallToAddi chosen (CallToLowHalfIsAlike l i o)
-    ⊎ By kinds.CallToAdd chosen (CallToSumIsAlike l i o)
+    By kinds.CallToAddi chosen (IfAlone l i (CallToLowHalfIsAlike l i o))
+    ⊎ By kinds.CallToAdd chosen (IfAlone l i (IfAloneBehind l i (CallToSumIsAlike l i o)))
 
 -- of every instruction of general-dynamic whose argument has two halves
 abbrev pub GeneralDynamic : Type 0
@@ -336,16 +357,21 @@ GeneralDynamic =
     × EachRewritten 8 names.R_PPC64_TLSGD (λ l i chosen.
     ForOperands names.R_PPC64_TPREL16_HA l i (λ symbol. GeneralCallIsAlike l i chosen))
 
+-- the high half of the module's entry
+abbrev pub NoModuleIsAlike : Linked → ℕ → Operands → Type 0
+NoModuleIsAlike =
+    NopIsAlike 2 names.R_PPC64_GOT_TLSLD16_HA entry_from_toc (Leads names.R_PPC64_GOT_TLSLD16_LO D)
+
 -- of every such instruction of local-dynamic
 abbrev pub LocalDynamic : Type 0
 LocalDynamic =
     EachRewritten 4 names.R_PPC64_GOT_TLSLD16_HA (λ l i chosen.
-    ForOperands names.R_PPC64_GOT_TLSLD16_HA l i (λ symbol.
-    NopIsAlike 2 names.R_PPC64_GOT_TLSLD16_HA entry_from_toc (Leads names.R_PPC64_GOT_TLSLD16_LO D)
-    l i))
+    ForOperands names.R_PPC64_GOT_TLSLD16_HA l i (λ symbol o. IfAlone l i (NoModuleIsAlike l i o)))
     × EachRewritten 4 names.R_PPC64_GOT_TLSLD16_LO (λ l i chosen.
-    ForOperands names.R_PPC64_GOT_TLSLD16_HA l i (λ symbol. ThreadArgumentIsAlike l i))
-    × EachRewritten 8 names.R_PPC64_TLSLD (λ l i chosen. CallToBlockIsAlike l i)
+    ForOperands names.R_PPC64_GOT_TLSLD16_HA l i (λ symbol o.
+    IfAlone l i (ThreadArgumentIsAlike l i o)))
+    × EachRewritten 8 names.R_PPC64_TLSLD (λ l i chosen.
+    IfAlone l i (IfAloneBehind l i (CallToBlockIsAlike l i)))
 
 -- ---- arguments near the TOC pointer
 
@@ -357,8 +383,7 @@ LeavesEntry name l i o =
     → ra_of (word_of (object l i)) ≡ 2 → IsRelocated name o (object l i) addi
     → Leaves f (only rt) (one addi) s rt (λ n. n ≡ o.got_entry)
 
--- The relocation at an index is the mark of a call, which is rewritten so, and no other relocation
--- has a field in the call. Later phases leave it and the instruction behind it alone.
+-- The relocation at an index is the mark of a call, which is rewritten so.
 pub record IsCallBy (l : Linked) (mark : Ppc64Relocation) (kind : RelaxationKind) (j : ℕ) : Type 0
   where
     pub below : j < count l
@@ -366,8 +391,6 @@ pub record IsCallBy (l : Linked) (mark : Ppc64Relocation) (kind : RelaxationKind
     pub chosen : Choice Relaxation ℕ
     pub decided : decision_at l.decisions j ≡ Rewritten chosen
     pub kind_is : chosen.kind ≡ relaxations.Ppc64 kind
-    pub alone : IsWrittenByNoOther l j (offset_of l j)
-    pub left : IsLeftAlone l j (offset_of l j) 8
 
 -- The relocations at two indexes are of one S + A.
 pub record AreOfOne (l : Linked) (i j : ℕ) : Type 0 where
@@ -375,44 +398,45 @@ pub record AreOfOne (l : Linked) (i j : ℕ) : Type 0 where
   pub same_addend : (relocation_in l.relocations j).addend ≡ (relocation_in l.relocations i).addend
 
 -- `addis rT,13` leaves a number of which the final words at a call make the variable's address.
-abbrev pub NearToLocalExec : Linked → ℕ → Operands → Type 0
-NearToLocalExec l i o =
+abbrev pub NearToLocalExec : Linked → ℕ → ℕ → Operands → Type 0
+NearToLocalExec l i j o =
     let rt = rt_of (word_of (object l i)) in
-    (j : ℕ) → IsCallBy l names.R_PPC64_TLSGD kinds.CallToAddi j → AreOfOne l i j
-    → (f : Formats) (s : State)
+    (f : Formats) (s : State)
     → Leaves f (only rt) (one (final l i)) s rt
     (λ n. CallLeaves f (final_call l j) n (from_thread o (s.registers 13)))
 
 -- So does `ld rT,x(2)` of the entry of the offset, where r13 stays.
-abbrev pub NearToInitialExec : Linked → ℕ → Symbol → Operands → Type 0
-NearToInitialExec l i symbol o =
+abbrev pub NearToInitialExec : Linked → ℕ → ℕ → ℕ → Operands → Type 0
+NearToInitialExec l i j entry o =
     let rt = rt_of (word_of (object l i)) in
-    symbol.thread_entry < 2 ^ 64
-    → (j : ℕ) → IsCallBy l names.R_PPC64_TLSGD kinds.CallToAdd j
-    → IsWrittenByNoOther l j (offset_of l j + 4)
-    → (f : Formats) (s : State) → s.registers 2 ≡ o.got_base → ra_of (word_of (object l i)) ≡ 2
-    → loaded 8 s.memory symbol.thread_entry ≡ thread_offset o
+    entry < 2 ^ 64 → (f : Formats) (s : State) → s.registers 2 ≡ o.got_base
+    → ra_of (word_of (object l i)) ≡ 2 → loaded 8 s.memory entry ≡ thread_offset o
     → Leaves f (only rt) (one (final l i)) s rt
     (λ n. (t : State) → t.registers 3 ≡ n → t.registers 13 ≡ s.registers 13
     → Leaves f (only 3) (final_call l j) t 3 (λ m. m ≡ from_thread o (s.registers 13)))
 
 -- `addis rT,13,0` leaves one of which they make the address 0x1000 above the thread pointer.
-abbrev pub NearToModule : Linked → ℕ → Type 0
-NearToModule l i =
+abbrev pub NearToModule : Linked → ℕ → ℕ → Type 0
+NearToModule l i j =
     let rt = rt_of (word_of (object l i)) in
-    IsWrittenByNoOther l i (offset_of l i)
-    → (j : ℕ) → IsCallBy l names.R_PPC64_TLSLD kinds.CallToAddi4096 j
-    → IsWrittenByNoOther l j (offset_of l j + 4)
-    → (f : Formats) (s : State)
+    (f : Formats) (s : State)
     → Leaves f (only rt) (one (final l i)) s rt
     (λ n. CallLeaves f (final_call l j) n (sum_64 (s.registers 13) 0x1000))
 
--- for local-exec, and for initial-exec
+-- It holds where later phases leave the call of the relocation at an index alone.
+abbrev pub IfCallIsLeft : Linked → ℕ → Type 0 → Type 0
+IfCallIsLeft l j Holds = IsLeftAlone l j (offset_of l j) 8 → Holds
+
+-- for local-exec, and for initial-exec, where no other relocation has a field in the call
 abbrev pub NearIsAlike : Linked → ℕ → Choice Relaxation ℕ → Symbol → Operands → Type 0
 NearIsAlike l i chosen symbol o =
     LeavesEntry names.R_PPC64_GOT_TLSGD16 l i o
-    × (By kinds.AddiToAddisThread chosen (NearToLocalExec l i o)
-    ⊎ By kinds.AddiToLd chosen (NearToInitialExec l i symbol o))
+    × (By kinds.AddiToAddisThread chosen ((j : ℕ)
+    → IsCallBy l names.R_PPC64_TLSGD kinds.CallToAddi j → AreOfOne l i j
+    → IfCallIsLeft l j (IfAlone l j (NearToLocalExec l i j o)))
+    ⊎ By kinds.AddiToLd chosen ((j : ℕ) → IsCallBy l names.R_PPC64_TLSGD kinds.CallToAdd j
+    → IfCallIsLeft l j
+    (IfAlone l j (IfAloneBehind l j (NearToInitialExec l i j symbol.thread_entry o)))))
 
 -- of every argument of `__tls_get_addr` near the TOC pointer
 abbrev pub NearArguments : Type 0
@@ -421,7 +445,9 @@ NearArguments =
     ForOperands names.R_PPC64_TPREL16_HA l i (NearIsAlike l i chosen))
     × EachRewritten 4 names.R_PPC64_GOT_TLSLD16 (λ l i chosen.
     ForOperands names.R_PPC64_GOT_TLSLD16 l i (λ symbol o.
-    LeavesEntry names.R_PPC64_GOT_TLSLD16 l i o × NearToModule l i))
+    LeavesEntry names.R_PPC64_GOT_TLSLD16 l i o
+    × ((j : ℕ) → IsCallBy l names.R_PPC64_TLSLD kinds.CallToAddi4096 j
+    → IfCallIsLeft l j (IfAlone l i (IfAlone l j (IfAloneBehind l j (NearToModule l i j)))))))
 
 -- ---- loads of addresses
 

@@ -12,7 +12,7 @@ use Rattle.linker_elf.specs.declared.riscv64.relocations.RiscVRelocation.{RiscVR
 use Rattle.linker_elf.specs.declared.riscv64.relocations.RiscVRelocation.TheVariants as names
 use Rattle.linker_final.specs.Final.{AreLeft, InstructionIsLeft, IsRewrittenByNoOther, Linked}
 use Rattle.linker_final.specs.Final.{count, instruction_at}
-use Rattle.linker_final.specs.Joined.{IsRewrittenAndPacked, IsKeptInstruction}
+use Rattle.linker_final.specs.Joined.{IsRewrittenAndPacked, IsKeptInstruction, final_instruction}
 use Rattle.linker_final.specs.Packed.{Packed, IsUnwritten, StayTogether, place_of}
 use Rattle.linker_final.specs.RiscVFinal.{AreOfPair, EndsAsReturned, IsOfDescriptor, RunsToCall}
 use Rattle.linker_laws.specs.Machine.{Relocated, loaded}
@@ -40,10 +40,6 @@ use Rattle.linker_utils.specs.declared.elf.Architecture.TheVariants.{RiscV}
 abbrev pub final_operands : Packed → ℕ → RelocationKindInfo → Symbol → Operands
 final_operands p i row symbol =
     operands_with RiscV p.addresses row symbol (relocation_in p.relocations_after i) 0
-
--- the final bytes of an instruction at an offset of the section before
-abbrev pub final_instruction : Packed → ℕ → List ℕ
-final_instruction p o = instruction_at p.final (place_of p o)
 
 -- ---- loads of addresses from the GOT
 

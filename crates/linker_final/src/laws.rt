@@ -3,10 +3,14 @@
 //! Each joins what `rewrite_section` and `relocate_section` leave with the laws of single rewrites
 //! of `linker_laws`.
 
+ghost use Rattle.linker_final.specs.AArch64Anywhere as aarch64_anywhere;
 ghost use Rattle.linker_final.specs.AArch64Final as aarch64_final;
+ghost use Rattle.linker_final.specs.AArch64Twice as aarch64_twice;
 ghost use Rattle.linker_final.specs.Final as final_bytes;
 ghost use Rattle.linker_final.specs.LoongArchFinal as loongarch64_final;
+ghost use Rattle.linker_final.specs.Ppc64Anywhere as ppc64_anywhere;
 ghost use Rattle.linker_final.specs.Ppc64Final as ppc64_final;
+ghost use Rattle.linker_final.specs.Ppc64Twice as ppc64_twice;
 ghost use Rattle.linker_final.specs.RiscVFinal as riscv64_final;
 ghost use Rattle.linker_final.specs.X86Final as x86_64_final;
 ghost use Rattle.linker_final.specs.X86ThreadFinal as x86_64_threads;
@@ -50,7 +54,10 @@ pub fn x86_64()
 /// address by two instructions that became one, each load of an address from the GOT that became a
 /// sum of its page and the rest, each half of initial-exec that became a move, each sequence of a
 /// TLS descriptor that became one of local-exec or of initial-exec, and each branch to an undefined
-/// weak symbol that became `nop`.
+/// weak symbol that became `nop`. The clauses named `anywhere` are of a call of rewriting alone: what
+/// each relocation became, and that the rewritten instructions do what the object's do once it is
+/// applied to them, whatever applies it. So another phase may come between: a load that became a sum,
+/// and then an `adr`, does what the object's does, also in the final bytes.
 pub fn aarch64()
     ensures addresses { aarch64_final.Addresses }
     ensures got_loads { aarch64_final.GotLoads }
@@ -58,6 +65,15 @@ pub fn aarch64()
     ensures low_halves { aarch64_final.LowHalves }
     ensures branches { aarch64_final.Branches }
     ensures descriptors { aarch64_final.Descriptors }
+    ensures addresses_anywhere { aarch64_anywhere.AddressesAnywhere }
+    ensures got_loads_anywhere { aarch64_anywhere.GotLoadsAnywhere }
+    ensures high_halves_anywhere { aarch64_anywhere.HighHalvesAnywhere }
+    ensures low_halves_anywhere { aarch64_anywhere.LowHalvesAnywhere }
+    ensures branches_anywhere { aarch64_anywhere.BranchesAnywhere }
+    ensures descriptors_anywhere { aarch64_anywhere.DescriptorsAnywhere }
+    ensures loads_twice { aarch64_twice.LoadsTwice }
+    ensures final_loads_twice { aarch64_twice.FinalLoadsTwice }
+    ensures runs_compose { aarch64_twice.RunsCompose }
 {
     linker_laws::rewrites::aarch64();
 }
@@ -90,7 +106,8 @@ pub fn riscv64()
 /// of an address from the GOT that became a sum of its page and the rest, each half of initial-exec
 /// that became a half of local-exec, each instruction of a TLS descriptor that became one of
 /// local-exec or of initial-exec, and each low part of local-exec over the thread pointer, also
-/// where instructions before it are deleted then.
+/// where instructions before it are deleted then. All but the loads do the same wherever a linker
+/// applies their relocations, as in a section that it packs first.
 pub fn loongarch64()
     ensures got_loads { loongarch64_final.GotLoads }
     ensures high_halves { loongarch64_final.HighHalves }
@@ -98,6 +115,9 @@ pub fn loongarch64()
     ensures descriptors { loongarch64_final.Descriptors }
     ensures low_parts { loongarch64_final.LowParts }
     ensures moved_low_parts { loongarch64_final.MovedLowParts }
+    ensures high_halves_anywhere { loongarch64_final.HighHalvesAnywhere }
+    ensures low_halves_anywhere { loongarch64_final.LowHalvesAnywhere }
+    ensures descriptors_anywhere { loongarch64_final.DescriptorsAnywhere }
 {
     linker_laws::rewrites::loongarch64();
 }
@@ -105,7 +125,9 @@ pub fn loongarch64()
 /// PowerPC64: rewritten instructions do in the final bytes what the object's do. They are each
 /// `nop` behind a call that restores the TOC pointer, each high and low half of an address near the
 /// TOC pointer and near the thread pointer, each instruction of initial-exec, of general-dynamic
-/// and of local-dynamic TLS, and each load of an address from the GOT that became a sum.
+/// and of local-dynamic TLS, and each load of an address from the GOT that became a sum. The clauses
+/// named `anywhere` are of a call of rewriting alone, as those of AArch64 are. Those named `twice` are
+/// of instructions that two calls rewrite, also in the final bytes.
 pub fn ppc64()
     ensures calls { ppc64_final.Calls }
     ensures toc_halves { ppc64_final.TocHalves }
@@ -115,6 +137,19 @@ pub fn ppc64()
     ensures local_dynamic { ppc64_final.LocalDynamic }
     ensures near_arguments { ppc64_final.NearArguments }
     ensures loads { ppc64_final.Loads }
+    ensures calls_anywhere { ppc64_anywhere.CallsAnywhere }
+    ensures toc_halves_anywhere { ppc64_anywhere.TocHalvesAnywhere }
+    ensures thread_halves_anywhere { ppc64_anywhere.ThreadHalvesAnywhere }
+    ensures initial_exec_anywhere { ppc64_anywhere.InitialExecAnywhere }
+    ensures general_dynamic_anywhere { ppc64_anywhere.GeneralDynamicAnywhere }
+    ensures local_dynamic_anywhere { ppc64_anywhere.LocalDynamicAnywhere }
+    ensures near_arguments_anywhere { ppc64_anywhere.NearArgumentsAnywhere }
+    ensures loads_anywhere { ppc64_anywhere.LoadsAnywhere }
+    ensures loads_twice { ppc64_twice.LoadsTwice }
+    ensures steps_compose { ppc64_twice.StepsCompose }
+    ensures initial_exec_twice { ppc64_twice.InitialExecTwice }
+    ensures final_loads_twice { ppc64_twice.FinalLoadsTwice }
+    ensures final_initial_exec_twice { ppc64_twice.FinalInitialExecTwice }
 {
     linker_laws::rewrites::ppc64();
 }

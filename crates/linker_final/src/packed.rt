@@ -259,9 +259,14 @@ pub fn shorter_loongarch64()
 
 /// LoongArch: what was rewritten before the section was packed, and stays, does in the final bytes
 /// what the object's instruction does, each with the value of its relocation in its own layout. It
-/// is each low part of local-exec that is over the thread pointer.
+/// is each low part of local-exec that is over the thread pointer, each half of initial-exec that
+/// became one of local-exec, and each instruction of a TLS descriptor that became one of local-exec
+/// or of initial-exec. What became `nop` does nothing.
 pub fn joined_loongarch64()
     ensures low_parts { loongarch_joined.PackedLowParts }
+    ensures high_halves { loongarch_joined.PackedHighHalves }
+    ensures low_halves { loongarch_joined.PackedLowHalves }
+    ensures descriptors { loongarch_joined.PackedDescriptors }
 {
     linker_laws::rewrites::loongarch64();
 }

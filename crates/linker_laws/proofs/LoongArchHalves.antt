@@ -34,7 +34,7 @@ use Rattle.linker_laws.proofs.Applied.{value_is, taken_bits}
 use Rattle.linker_laws.proofs.Instructions.{row_of, reads_bits, relative, unbiased}
 use Rattle.linker_laws.proofs.LoongArchAddresses.{page_distance}
 use Rattle.linker_laws.proofs.Sums.{sum_below, difference_below, page_halves_sum, taken_off, plus, cast_is, cast_low, euclid, lifted_is, signed_12}
-use Rattle.linker_laws.specs.LoongArchRewriteLaws.{word_of, thread_offset, high_offset, near_page, Has, AgreeBut, Changes, StepSo, IsRelocated, behind_call, with_entry}
+use Rattle.linker_laws.specs.LoongArchRewriteLaws.{word_of, thread_offset, high_offset, near_page, Has, AgreeBut, HaveGoneOn, Changes, StepSo, IsRelocated, behind_call}
 use Rattle.linker_laws.specs.LoongArchRewriteLaws as laws
 use Rattle.linker_laws.specs.LoongArchMachine.{State, step, execute, read, write, with_register, go_on, go_to, next_pc, page_address, high_part, sum_of, ored}
 use Rattle.linker_laws.specs.Machine.{wrapped, loaded, also, but}
@@ -94,14 +94,17 @@ stays n v s = stays_by (eqb n 0) n v s
 -- The registers are given.
 alike_after : (c : Changes) (after : ℕ → Bool) (s t u v : State) → AgreeBut c s t
     → Stays s u → Stays t v → ((m : ℕ) → after m ≡ false → read m u ≡ read m v)
-    → AgreeBut (record c { registers = after }) u v
+    → HaveGoneOn (record c { registers = after }) s t u v
 alike_after c after s t u v alike first second registers =
     record {
-      registers = registers;
-      floats = λ n kept. first.floats n ∙ alike.floats n kept ∙ sym (second.floats n);
-      widened = first.widened ∙ alike.widened ∙ sym second.widened;
-      memory = λ a kept. first.memory a ∙ alike.memory a kept ∙ sym (second.memory a);
-      pc = first.pc ∙ ap (λ p. sum_64 p 4) alike.pc ∙ sym second.pc;
+      agree = record {
+        registers = registers;
+        floats = λ n kept. first.floats n ∙ alike.floats n kept ∙ sym (second.floats n);
+        widened = first.widened ∙ alike.widened ∙ sym second.widened;
+        memory = λ a kept. first.memory a ∙ alike.memory a kept ∙ sym (second.memory a);
+      };
+      next = first.pc;
+      new_next = second.pc;
     }
 
 goes_on : (s : State) → Stays s (go_on s)
@@ -109,7 +112,7 @@ goes_on s = record { floats = λ m. refl; widened = refl; memory = λ a. refl; p
 
 -- One register is written in both, or in the first alone, and may differ then.
 alike_also : (n v w : ℕ) (c : Changes) (s t : State) → AgreeBut c s t
-    → AgreeBut (laws.with_register n c) (put n v s) (put n w t)
+    → HaveGoneOn (laws.with_register n c) s t (put n v s) (put n w t)
 alike_also n v w c s t alike =
     alike_after c (also n c.registers) s t (put n v s) (put n w t) alike (stays n v s) (stays n w t)
     (λ m kept.
@@ -117,7 +120,7 @@ alike_also n v w c s t alike =
     unwritten m n v s parts.0 ∙ alike.registers m parts.1 ∙ sym (unwritten m n w t parts.0))
 
 alike_first : (n v : ℕ) (c : Changes) (s t : State) → AgreeBut c s t
-    → AgreeBut (laws.with_register n c) (put n v s) (go_on t)
+    → HaveGoneOn (laws.with_register n c) s t (put n v s) (go_on t)
 alike_first n v c s t alike =
     alike_after c (also n c.registers) s t (put n v s) (go_on t) alike (stays n v s) (goes_on t)
     (λ m kept.
@@ -127,7 +130,7 @@ alike_first n v c s t alike =
 -- One register gets the same number in both.
 alike_but : (n v w : ℕ) (c : Changes) (s t : State) → v ≡ w
     → AgreeBut c s t
-    → AgreeBut (laws.without_register n c) (put n v s) (put n w t)
+    → HaveGoneOn (laws.without_register n c) s t (put n v s) (put n w t)
 alike_but n v w c s t same alike =
     alike_after c (but n c.registers) s t (put n v s) (put n w t) alike (stays n v s) (stays n w t)
     (λ m kept. elim (eqb_tells m n) [
@@ -311,41 +314,41 @@ has : (n u v : ℕ) (s t : State) → n ≢ 0 → Has n u v (put n u s) (put n v
 has n u v s t named = record { old_is = written_there n u s named; new_is = written_there n v t named }
 
 -- with a `pcalau12i` whose page is made
-to_lu12i : (o : Operands) (s t : State) (c : Changes) (pcala lu12i pcala1 lu12i1 : List ℕ)
-    → AreAddresses o → s.pc ≡ o.place → AgreeBut c s t
-    → laws.IsRewritten kinds.PcalaToLu12i pcala lu12i → laws.Fits32 names.R_LARCH_TLS_LE_HI20 o
-    → IsRelocated names.R_LARCH_TLS_LE_HI20 o lu12i lu12i1
+to_lu12i : (x y : Operands) (s t : State) (c : Changes) (pcala lu12i pcala1 lu12i1 : List ℕ)
+    → s.pc ≡ x.place → AgreeBut c s t
+    → laws.IsRewritten kinds.PcalaToLu12i pcala lu12i → laws.Fits32 names.R_LARCH_TLS_LE_HI20 y
+    → IsRelocated names.R_LARCH_TLS_LE_HI20 y lu12i lu12i1
     → IsHigh 0x0d (rd_of (word_of pcala)) (word_of pcala1)
-    → wrapped (pcalau12i o.place (word_of pcala1)) ≡ near_page (entry_and_addend o)
+    → wrapped (pcalau12i x.place (word_of pcala1)) ≡ near_page (entry_and_addend x)
     → StepSo (word_of pcala1) s (word_of lu12i1) t
-    (λ u v. AgreeBut (laws.with_register (rd_of (word_of pcala)) c) u v
-    × (rd_of (word_of pcala) ≢ 0 → Has (rd_of (word_of pcala)) (near_page (entry_and_addend o)) (high_offset o) u v))
-to_lu12i o s t c pcala lu12i pcala1 lu12i1 small at alike made fits b is there =
+    (λ u v. HaveGoneOn (laws.with_register (rd_of (word_of pcala)) c) s t u v
+    × (rd_of (word_of pcala) ≢ 0 → Has (rd_of (word_of pcala)) (near_page (entry_and_addend x)) (high_offset y) u v))
+to_lu12i x y s t c pcala lu12i pcala1 lu12i1 at alike made fits b is there =
     let n = rd_of (word_of pcala) in
-    let e = near_page (entry_and_addend o) in
-    let h = high_offset o in
+    let e = near_page (entry_and_addend x) in
+    let h = high_offset y in
     let word = word_made (λ x. 0x14000000 + rd_of x) pcala lu12i (omega arith) made in
     let op : word_of lu12i / 2 ^ 25 ≡ 0x0a = omega arith in
     let rd : rd_of (word_of lu12i) ≡ n = omega arith in
     let new = high_after 12 0x0a n _ lu12i lu12i1 b.written op rd in
     steps_so (word_of pcala1) (word_of lu12i1) s t (put n e s) (put n h t) _
-    (page_step o n (word_of pcala1) e s is at there)
+    (page_step x n (word_of pcala1) e s is at there)
     (high_step n (word_of lu12i1) h t new
-    (high_made o (relative symbol_address tls_base o) (difference_below _ _) refl lu12i lu12i1 b
-    (subst (ValueIsWithin signed_32) b.value_is fits) ∙ ap page (offset_is o)))
+    (high_made y (relative symbol_address tls_base y) (difference_below _ _) refl lu12i lu12i1 b
+    (subst (ValueIsWithin signed_32) b.value_is fits) ∙ ap page (offset_is y)))
     (alike_also n e h c s t alike, has n e h s t)
 
 pub initial_exec_high : laws.HighHalfToLu12i names.R_LARCH_TLS_IE_PC_HI20
-initial_exec_high o s t c pcala lu12i small at alike made pcala1 lu12i1 high fits b =
-    to_lu12i o s t c pcala lu12i pcala1 lu12i1 small at alike made fits b
+initial_exec_high x y s t c pcala lu12i small at alike made pcala1 lu12i1 high fits b =
+    to_lu12i x y s t c pcala lu12i pcala1 lu12i1 at alike made fits b
     (high_after 12 0x0d (rd_of (word_of pcala)) _ pcala pcala1 high.applied.written high.is refl)
-    (page_made o small refl pcala pcala1 high.applied (subst (ValueIsWithin signed_32) high.applied.value_is high.fits))
+    (page_made x small refl pcala pcala1 high.applied (subst (ValueIsWithin signed_32) high.applied.value_is high.fits))
 
 pub descriptor_high : laws.HighHalfToLu12i names.R_LARCH_TLS_DESC_PC_HI20
-descriptor_high o s t c pcala lu12i small at alike made pcala1 lu12i1 high fits b =
-    to_lu12i o s t c pcala lu12i pcala1 lu12i1 small at alike made fits b
+descriptor_high x y s t c pcala lu12i small at alike made pcala1 lu12i1 high fits b =
+    to_lu12i x y s t c pcala lu12i pcala1 lu12i1 at alike made fits b
     (high_after 12 0x0d (rd_of (word_of pcala)) _ pcala pcala1 high.applied.written high.is refl)
-    (page_made o small refl pcala pcala1 high.applied (subst (ValueIsWithin signed_32) high.applied.value_is high.fits))
+    (page_made x small refl pcala pcala1 high.applied (subst (ValueIsWithin signed_32) high.applied.value_is high.fits))
 
 pub initial_exec_short_high : laws.HighHalfToNop
 initial_exec_short_high o s t c pcala nop small at alike made pcala1 high =
@@ -388,69 +391,56 @@ or_value o j y t high low =
     ∙ or_low (thread_offset o)
 
 pub initial_exec_low : laws.LowHalfToOri
-initial_exec_low o s t c ld ori small is holds has alike made ld1 ori1 a b =
+initial_exec_low x y s t c ld ori small is same holds has alike made ld1 ori1 a b =
     let d = rd_of (word_of ld) in
     let j = rj_of (word_of ld) in
-    let e = entry_and_addend o in
+    let e = entry_and_addend x in
     let word = word_made (λ x. 0x03800000 + field x 0 10) ld ori (omega arith) made in
     let op : word_of ori / 2 ^ 22 ≡ 0x00e = omega arith in
     let rd : rd_of (word_of ori) ≡ d = omega arith in
     let rj : rj_of (word_of ori) ≡ j = omega arith in
-    steps_so (word_of ld1) (word_of ori1) s t (put d (loaded 8 s.memory e) s) (put d (thread_offset o) t) _
+    steps_so (word_of ld1) (word_of ori1) s t (put d (loaded 8 s.memory e) s) (put d (thread_offset y) t) _
     (load_step d j (word_of ld1) e s (low_after 0x0a3 d j _ ld ld1 a.written is refl refl)
-    (reached e (field (word_of ld1) 10 22) (read j s) (sum_below o.got_entry _) (load_bits o ld ld1 a) has.old_is))
-    (or_step d j (word_of ori1) (thread_offset o) t (low_after 0x00e d j _ ori ori1 b.written op rd rj)
-    (or_value o j (word_of ori1) t has.new_is (ori_bits o ori ori1 b)))
-    (alike_but d (loaded 8 s.memory e) (thread_offset o) c s t holds alike)
+    (reached e (field (word_of ld1) 10 22) (read j s) (sum_below x.got_entry _) (load_bits x ld ld1 a) has.old_is))
+    (or_step d j (word_of ori1) (thread_offset y) t (low_after 0x00e d j _ ori ori1 b.written op rd rj)
+    (or_value y j (word_of ori1) t has.new_is (ori_bits y ori ori1 b)))
+    (alike_but d (loaded 8 s.memory e) (thread_offset y) c s t (holds ∙ same) alike)
 
 pub initial_exec_short_low : laws.LowHalfToOriZero
-initial_exec_short_low o s t c ld ori small is holds page_is alike made ld1 ori1 a fits b =
+initial_exec_short_low x y s t c ld ori small is same holds page_is alike made ld1 ori1 a fits b =
     let d = rd_of (word_of ld) in
     let j = rj_of (word_of ld) in
-    let e = entry_and_addend o in
+    let e = entry_and_addend x in
     let word = word_made (λ x. 0x03800000 + rd_of x) ld ori (omega arith) made in
     let op : word_of ori / 2 ^ 22 ≡ 0x00e = omega arith in
     let rd : rd_of (word_of ori) ≡ d = omega arith in
     let rj : rj_of (word_of ori) ≡ 0 = omega arith in
-    let n = relative symbol_address tls_base o in
+    let n = relative symbol_address tls_base y in
     let few : n < 2 ^ 12 = small_number n (difference_below _ _) fits in
-    let value : bit_or (read 0 t) (field (word_of ori1) 10 22) ≡ thread_offset o =
+    let value : bit_or (read 0 t) (field (word_of ori1) 10 22) ≡ thread_offset y =
     or_shifted 0 12 (field (word_of ori1) 10 22) (omega arith)
     ∙ (let z : 0 * 2 ^ 12 + field (word_of ori1) 10 22 ≡ field (word_of ori1) 10 22 = omega arith in z)
-    ∙ ori_bits o ori ori1 b ∙ (let z : field n 0 12 ≡ n = omega arith in z) ∙ offset_is o in
-    steps_so (word_of ld1) (word_of ori1) s t (put d (loaded 8 s.memory e) s) (put d (thread_offset o) t) _
+    ∙ ori_bits y ori ori1 b ∙ (let z : field n 0 12 ≡ n = omega arith in z) ∙ offset_is y in
+    steps_so (word_of ld1) (word_of ori1) s t (put d (loaded 8 s.memory e) s) (put d (thread_offset y) t) _
     (load_step d j (word_of ld1) e s (low_after 0x0a3 d j _ ld ld1 a.written is refl refl)
-    (reached e (field (word_of ld1) 10 22) (read j s) (sum_below o.got_entry _) (load_bits o ld ld1 a) page_is))
-    (or_step d 0 (word_of ori1) (thread_offset o) t (low_after 0x00e d 0 _ ori ori1 b.written op rd rj) value)
-    (alike_but d (loaded 8 s.memory e) (thread_offset o) c s t holds alike)
+    (reached e (field (word_of ld1) 10 22) (read j s) (sum_below x.got_entry _) (load_bits x ld ld1 a) page_is))
+    (or_step d 0 (word_of ori1) (thread_offset y) t (low_after 0x00e d 0 _ ori ori1 b.written op rd rj) value)
+    (alike_but d (loaded 8 s.memory e) (thread_offset y) c s t (holds ∙ same) alike)
 
 -- ---- descriptors
 
 four_is_named : ◌≢◌ {A = ℕ} 4 0
 four_is_named e = omega arith
 
-small_entry : (entry : ℕ) (o : Operands) → entry < 2 ^ 64 → AreAddresses o → AreAddresses (with_entry entry o)
-small_entry entry o below small =
-    record {
-      symbol = small.symbol;
-      place = small.place;
-      got_entry = below;
-      got_base = small.got_base;
-      plt_entry = small.plt_entry;
-      tls_base = small.tls_base;
-    }
-
 pub descriptor_page : laws.PageOfDescriptor
-descriptor_page o entry s t c pcala small below at alike rd pcala1 pcala2 old new =
-    let e = near_page (entry_and_addend o) in
-    let o2 = with_entry entry o in
-    let f = near_page (entry_and_addend o2) in
+descriptor_page x y s t c pcala small new_small at new_at alike rd pcala1 pcala2 old new =
+    let e = near_page (entry_and_addend x) in
+    let f = near_page (entry_and_addend y) in
     steps_so (word_of pcala1) (word_of pcala2) s t (put 4 e s) (put 4 f t) _
-    (page_step o 4 (word_of pcala1) e s (high_after 12 0x0d 4 _ pcala pcala1 old.applied.written old.is rd) at
-    (page_made o small refl pcala pcala1 old.applied (subst (ValueIsWithin signed_32) old.applied.value_is old.fits)))
-    (page_step o2 4 (word_of pcala2) f t (high_after 12 0x0d 4 _ pcala pcala2 new.applied.written new.is rd) (sym alike.pc ∙ at)
-    (page_made o2 (small_entry entry o below small) refl pcala pcala2 new.applied
-    (subst (ValueIsWithin signed_32) new.applied.value_is new.fits)))
+    (page_step x 4 (word_of pcala1) e s (high_after 12 0x0d 4 _ pcala pcala1 old.applied.written old.is rd) at
+    (page_made x small refl pcala pcala1 old.applied (subst (ValueIsWithin signed_32) old.applied.value_is old.fits)))
+    (page_step y 4 (word_of pcala2) f t (high_after 12 0x0d 4 _ pcala pcala2 new.applied.written new.is rd) new_at
+    (page_made y new_small refl pcala pcala2 new.applied (subst (ValueIsWithin signed_32) new.applied.value_is new.fits)))
     (alike_also 4 e f c s t alike, has 4 e f s t four_is_named)
 
 -- the bits of the descriptor's address in `addi.d`
@@ -473,34 +463,35 @@ descriptor_low o s addi addi1 is page_is a =
     (reached (entry_and_addend o) (field (word_of addi1) 10 22) (read 4 s) (sum_below o.got_entry _) (addi_bits o addi addi1 a) page_is)
 
 pub descriptor_to_ori : laws.LowOfDescriptorToOri
-descriptor_to_ori o s t c addi ori small is had alike made addi1 ori1 a b =
-    let e = entry_and_addend o in
+descriptor_to_ori x y s t c addi ori small is same had alike made addi1 ori1 a b =
+    let e = entry_and_addend x in
+    let d = thread_offset x in
     let word = word_made (λ x. 0x03800000 + field x 0 10) addi ori (omega arith) made in
     let op : word_of ori / 2 ^ 22 ≡ 0x00e = omega arith in
     let rd : rd_of (word_of ori) ≡ rd_of (word_of addi) = omega arith in
     let rj : rj_of (word_of ori) ≡ rj_of (word_of addi) = omega arith in
-    steps_so (word_of addi1) (word_of ori1) s t (put 4 e s) (put 4 (thread_offset o) t) _
-    (descriptor_low o s addi addi1 is had.old_is a)
-    (or_step 4 4 (word_of ori1) (thread_offset o) t
+    steps_so (word_of addi1) (word_of ori1) s t (put 4 e s) (put 4 d t) _
+    (descriptor_low x s addi addi1 is had.old_is a)
+    (or_step 4 4 (word_of ori1) d t
     (low_after 0x00e 4 4 _ ori ori1 b.written op (rd ∙ is.1) (rj ∙ is.2))
-    (or_value o 4 (word_of ori1) t had.new_is (ori_bits o ori ori1 b)))
-    (alike_also 4 e (thread_offset o) c s t alike, has 4 e (thread_offset o) s t four_is_named)
+    (or_value y 4 (word_of ori1) t had.new_is (ori_bits y ori ori1 b) ∙ sym same))
+    (alike_also 4 e d c s t alike, has 4 e d s t four_is_named)
 
 pub descriptor_to_load : laws.LowOfDescriptorToLoad
-descriptor_to_load o entry s t c addi ld small below is holds had alike made addi1 ld1 a b =
-    let e = entry_and_addend o in
-    let o2 = with_entry entry o in
-    let f = entry_and_addend o2 in
+descriptor_to_load x y s t c addi ld small is holds had alike made addi1 ld1 a b =
+    let e = entry_and_addend x in
+    let f = entry_and_addend y in
+    let d = thread_offset x in
     let word = word_made (λ x. 0x28c00000 + field x 0 22) addi ld (omega arith) made in
     let op : word_of ld / 2 ^ 22 ≡ 0x0a3 = omega arith in
     let rd : rd_of (word_of ld) ≡ rd_of (word_of addi) = omega arith in
     let rj : rj_of (word_of ld) ≡ rj_of (word_of addi) = omega arith in
-    steps_so (word_of addi1) (word_of ld1) s t (put 4 e s) (put 4 (thread_offset o) t) _
-    (descriptor_low o s addi addi1 is had.old_is a)
+    steps_so (word_of addi1) (word_of ld1) s t (put 4 e s) (put 4 d t) _
+    (descriptor_low x s addi addi1 is had.old_is a)
     (load_step 4 4 (word_of ld1) f t (low_after 0x0a3 4 4 _ ld ld1 b.written op (rd ∙ is.1) (rj ∙ is.2))
-    (reached f (field (word_of ld1) 10 22) (read 4 t) (sum_below entry _) (load_bits o2 ld ld1 b) had.new_is)
+    (reached f (field (word_of ld1) 10 22) (read 4 t) (sum_below y.got_entry _) (load_bits y ld ld1 b) had.new_is)
     ∙ ap (λ v. Some (put 4 v t)) holds)
-    (alike_also 4 e (thread_offset o) c s t alike, has 4 e (thread_offset o) s t four_is_named)
+    (alike_also 4 e d c s t alike, has 4 e d s t four_is_named)
 
 pub descriptor_load : laws.LoadOfDescriptorToNop
 descriptor_load o s t c ld nop small is had alike made =
@@ -527,23 +518,26 @@ descriptor_call call c o s t d jirl nop premises is had function alike made =
     let u = go_to at (write 1 (next_pc s) s) in
     let there : at ≡ f = ap (λ n. wrapped (pos n +ℤ pos 0)) function ∙ whole f premises.function in
     subst (λ r. IsSomeAnd r (λ u. (v : State) → call u ≡ Some v
-    → IsSomeAnd (step (word_of nop) t) (AgreeBut after v))) (sym (ap (λ w. step w s) is))
+    → IsSomeAnd (step (word_of nop) t) (HaveGoneOn after s t v))) (sym (ap (λ w. step w s) is))
     (λ v returned.
     let r = premises.returns u v refl there had.old_is returned in
-    subst (λ k. IsSomeAnd k (AgreeBut after v)) (sym (nop_step (word_of nop) t word))
+    subst (λ k. IsSomeAnd k (HaveGoneOn after s t v)) (sym (nop_step (word_of nop) t word))
     (record {
-      registers = λ n kept. elim (eqb_tells n 4) [
-        | inl is_a0 ↦ ap (λ m. read m v) is_a0.1 ∙ r.offset_is ∙ sym had.new_is ∙ sym (ap (λ m. read m (go_on t)) is_a0.1)
-        | inr other ↦
-            let rest = sym (cond-false (eqb n 4) false _ other.0) ∙ kept in
-            let parts = or_parts (eqb n 1) (c.registers n || d.registers n) rest in
-            let more = or_parts (c.registers n) (d.registers n) parts.1 in
-            r.others n other.1 more.0 ∙ unwritten n 1 (next_pc s) s parts.0 ∙ alike.registers n more.1
-      ];
-      floats = λ n kept.
-          let parts = or_parts (c.floats n) (d.floats n) kept in r.floats n parts.0 ∙ alike.floats n parts.1;
-      widened = r.widened ∙ alike.widened;
-      memory = λ a kept.
-          let parts = or_parts (c.memory a) (d.memory a) kept in r.memory a parts.0 ∙ alike.memory a parts.1;
-      pc = r.back ∙ ap (λ p. sum_64 p 4) alike.pc;
+      agree = record {
+        registers = λ n kept. elim (eqb_tells n 4) [
+          | inl is_a0 ↦ ap (λ m. read m v) is_a0.1 ∙ r.offset_is ∙ sym had.new_is ∙ sym (ap (λ m. read m (go_on t)) is_a0.1)
+          | inr other ↦
+              let rest = sym (cond-false (eqb n 4) false _ other.0) ∙ kept in
+              let parts = or_parts (eqb n 1) (c.registers n || d.registers n) rest in
+              let more = or_parts (c.registers n) (d.registers n) parts.1 in
+              r.others n other.1 more.0 ∙ unwritten n 1 (next_pc s) s parts.0 ∙ alike.registers n more.1
+        ];
+        floats = λ n kept.
+            let parts = or_parts (c.floats n) (d.floats n) kept in r.floats n parts.0 ∙ alike.floats n parts.1;
+        widened = r.widened ∙ alike.widened;
+        memory = λ a kept.
+            let parts = or_parts (c.memory a) (d.memory a) kept in r.memory a parts.0 ∙ alike.memory a parts.1;
+      };
+      next = r.back;
+      new_next = refl;
     }))

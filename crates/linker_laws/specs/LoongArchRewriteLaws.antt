@@ -26,7 +26,7 @@ use Rattle.linker_laws.specs.Schemes.{AreAddresses, symbol_address, plt_address}
 use Rattle.linker_laws.specs.Schemes.{entry_and_addend}
 use Rattle.linker_laws.specs.Machine.{loaded, Relocated, also, but}
 use Rattle.linker_laws.specs.LoongArchMachine.{State, read, step, EndSo, AreAlikeBut, but_written}
-use Rattle.linker_laws.specs.LoongArchMachine.{Action, stores, action_of}
+use Rattle.linker_laws.specs.LoongArchMachine.{Action, stores, action_of, next_pc}
 
 -- ---- instructions as bytes
 
@@ -123,14 +123,19 @@ pub record Changes : Type 0 where
   pub floats : ℕ → Bool
   pub memory : ℕ → Bool
 
--- The states differ in no more than these. What loads leave above their bytes in a vector
--- register is the same.
+-- The states differ in no more than these and their addresses. What loads leave above their bytes
+-- in a vector register is the same.
 pub record AgreeBut (c : Changes) (s t : State) : Type 0 where
   pub registers : (n : ℕ) → c.registers n ≡ false → read n s ≡ read n t
   pub floats : (n : ℕ) → c.floats n ≡ false → s.floats.numbers n ≡ t.floats.numbers n
   pub widened : s.floats.widened ≡ t.floats.widened
   pub memory : (a : ℕ) → c.memory a ≡ false → s.memory a ≡ t.memory a
-  pub pc : s.pc ≡ t.pc
+
+-- From s and from t each run has gone on to its own next instruction, and they agree then.
+pub record HaveGoneOn (c : Changes) (s t u v : State) : Type 0 where
+  pub agree : AgreeBut c u v
+  pub next : u.pc ≡ next_pc s
+  pub new_next : v.pc ≡ next_pc t
 
 -- with register n too, and without it
 abbrev pub with_register : ℕ → Changes → Changes
@@ -142,7 +147,8 @@ without_register n c = record c { registers = but n c.registers }
 -- The instructions of initial-exec and of a descriptor are rewritten each by itself, wherever they
 -- are. So two runs are compared, of the object's code and of the new code, that agree but for what has
 -- a value that a high half made, and what a descriptor leaves. What else runs between them is the same
--- instruction in both.
+-- instruction in both. Each is at its own address, as where the new code was made shorter: `x` are the
+-- operands in the object's layout, and `y` those in the new one. Both may be of one layout.
 
 -- a register's number in the object's run, and in the new one
 pub record Has (n old new : ℕ) (s t : State) : Type 0 where
@@ -171,28 +177,29 @@ pub record HighHalf (name : LoongArch64Relocation) (o : Operands) (pcala pcala_o
 -- `pcalau12i rd` of initial-exec or of a descriptor, and `lu12i.w rd`
 abbrev pub HighHalfToLu12i : LoongArch64Relocation → Type 0
 HighHalfToLu12i name =
-    (o : Operands) (s t : State) (c : Changes) (pcala lu12i : List ℕ)
-    → AreAddresses o → s.pc ≡ o.place → AgreeBut c s t
+    (x y : Operands) (s t : State) (c : Changes) (pcala lu12i : List ℕ)
+    → AreAddresses x → s.pc ≡ x.place → AgreeBut c s t
     → IsRewritten kinds.PcalaToLu12i pcala lu12i → (pcala_of lu12i_of : List ℕ)
-    → HighHalf name o pcala pcala_of → Fits32 names.R_LARCH_TLS_LE_HI20 o
-    → IsRelocated names.R_LARCH_TLS_LE_HI20 o lu12i lu12i_of
+    → HighHalf name x pcala pcala_of → Fits32 names.R_LARCH_TLS_LE_HI20 y
+    → IsRelocated names.R_LARCH_TLS_LE_HI20 y lu12i lu12i_of
     → let n = rd_of (word_of pcala) in
     StepSo (word_of pcala_of) s (word_of lu12i_of) t
-    (λ u v. AgreeBut (with_register n c) u v
-    × (n ≢ 0 → Has n (near_page (entry_and_addend o)) (high_offset o) u v))
+    (λ u v. HaveGoneOn (with_register n c) s t u v
+    × (n ≢ 0 → Has n (near_page (entry_and_addend x)) (high_offset y) u v))
 
 -- `ld.d rd, rj` of the GOT entry, which the dynamic linker has set to the offset, and `ori rd, rj`,
 -- where rj has what a high half makes. Both leave the offset in rd.
 abbrev pub LowHalfToOri : Type 0
 LowHalfToOri =
-    (o : Operands) (s t : State) (c : Changes) (ld ori : List ℕ)
-    → AreAddresses o → IsLd (word_of ld) → loaded 8 s.memory (entry_and_addend o) ≡ thread_offset o
-    → Has (rj_of (word_of ld)) (near_page (entry_and_addend o)) (high_offset o) s t
+    (x y : Operands) (s t : State) (c : Changes) (ld ori : List ℕ)
+    → AreAddresses x → IsLd (word_of ld) → thread_offset x ≡ thread_offset y
+    → loaded 8 s.memory (entry_and_addend x) ≡ thread_offset x
+    → Has (rj_of (word_of ld)) (near_page (entry_and_addend x)) (high_offset y) s t
     → AgreeBut c s t → IsRewritten kinds.LowToOri ld ori
-    → (ld_of ori_of : List ℕ) → IsRelocated names.R_LARCH_TLS_IE_PC_LO12 o ld ld_of
-    → IsRelocated names.R_LARCH_TLS_LE_LO12 o ori ori_of
+    → (ld_of ori_of : List ℕ) → IsRelocated names.R_LARCH_TLS_IE_PC_LO12 x ld ld_of
+    → IsRelocated names.R_LARCH_TLS_LE_LO12 y ori ori_of
     → StepSo (word_of ld_of) s (word_of ori_of) t
-    (AgreeBut (without_register (rd_of (word_of ld)) c))
+    (HaveGoneOn (without_register (rd_of (word_of ld)) c) s t)
 
 -- The same by `nop` and `ori rd, zero`, where the offset has 12 bits.
 abbrev pub HighHalfToNop : Type 0
@@ -203,20 +210,21 @@ HighHalfToNop =
     → HighHalf names.R_LARCH_TLS_IE_PC_HI20 o pcala pcala_of
     → let n = rd_of (word_of pcala) in
     StepSo (word_of pcala_of) s (word_of nop) t
-    (λ u v. AgreeBut (with_register n c) u v
+    (λ u v. HaveGoneOn (with_register n c) s t u v
     × (n ≢ 0 → read n u ≡ near_page (entry_and_addend o)))
 
 abbrev pub LowHalfToOriZero : Type 0
 LowHalfToOriZero =
-    (o : Operands) (s t : State) (c : Changes) (ld ori : List ℕ)
-    → AreAddresses o → IsLd (word_of ld) → loaded 8 s.memory (entry_and_addend o) ≡ thread_offset o
-    → read (rj_of (word_of ld)) s ≡ near_page (entry_and_addend o)
+    (x y : Operands) (s t : State) (c : Changes) (ld ori : List ℕ)
+    → AreAddresses x → IsLd (word_of ld) → thread_offset x ≡ thread_offset y
+    → loaded 8 s.memory (entry_and_addend x) ≡ thread_offset x
+    → read (rj_of (word_of ld)) s ≡ near_page (entry_and_addend x)
     → AgreeBut c s t → IsRewritten kinds.LowToOriZero ld ori
-    → (ld_of ori_of : List ℕ) → IsRelocated names.R_LARCH_TLS_IE_PC_LO12 o ld ld_of
-    → RowIsWithin (loongarch_row names.R_LARCH_TLS_LE_LO12) unsigned_12 o
-    → IsRelocated names.R_LARCH_TLS_LE_LO12 o ori ori_of
+    → (ld_of ori_of : List ℕ) → IsRelocated names.R_LARCH_TLS_IE_PC_LO12 x ld ld_of
+    → RowIsWithin (loongarch_row names.R_LARCH_TLS_LE_LO12) unsigned_12 y
+    → IsRelocated names.R_LARCH_TLS_LE_LO12 y ori ori_of
     → StepSo (word_of ld_of) s (word_of ori_of) t
-    (AgreeBut (without_register (rd_of (word_of ld)) c))
+    (HaveGoneOn (without_register (rd_of (word_of ld)) c) s t)
 
 -- ---- an address by `pcaddi`
 
@@ -407,22 +415,18 @@ pub record ReturnsOffset (c : Changes) (offset : ℕ) (u v : State) : Type 0 whe
   pub back : v.pc ≡ read 1 u
   pub memory : (a : ℕ) → c.memory a ≡ false → v.memory a ≡ u.memory a
 
--- the operands with another GOT entry
-abbrev pub with_entry : ℕ → Operands → Operands
-with_entry entry o = record o { got_entry = entry }
-
--- `pcalau12i a0`, of the GOT entry of initial-exec in the new run, which is at another address
+-- `pcalau12i a0`, of the descriptor in the object's run, and in the new one of the GOT entry of
+-- initial-exec, which is at another address
 abbrev pub PageOfDescriptor : Type 0
 PageOfDescriptor =
-    (o : Operands) (entry : ℕ) (s t : State) (c : Changes) (pcala : List ℕ)
-    → AreAddresses o → entry < 2 ^ 64 → s.pc ≡ o.place → AgreeBut c s t
+    (x y : Operands) (s t : State) (c : Changes) (pcala : List ℕ)
+    → AreAddresses x → AreAddresses y → s.pc ≡ x.place → t.pc ≡ y.place → AgreeBut c s t
     → rd_of (word_of pcala) ≡ 4 → (pcala_of pcala_of_entry : List ℕ)
-    → HighHalf names.R_LARCH_TLS_DESC_PC_HI20 o pcala pcala_of
-    → HighHalf names.R_LARCH_TLS_IE_PC_HI20 (with_entry entry o) pcala pcala_of_entry
+    → HighHalf names.R_LARCH_TLS_DESC_PC_HI20 x pcala pcala_of
+    → HighHalf names.R_LARCH_TLS_IE_PC_HI20 y pcala pcala_of_entry
     → StepSo (word_of pcala_of) s (word_of pcala_of_entry) t
-    (λ u v. AgreeBut (with_register 4 c) u v
-    × Has 4 (near_page (entry_and_addend o)) (near_page (entry_and_addend (with_entry entry o)))
-    u v)
+    (λ u v. HaveGoneOn (with_register 4 c) s t u v
+    × Has 4 (near_page (entry_and_addend x)) (near_page (entry_and_addend y)) u v)
 
 -- In the object's run `a0` has the address of the descriptor, and in the new one the offset.
 abbrev pub HasDescriptor : Operands → State → State → Type 0
@@ -431,26 +435,26 @@ HasDescriptor o = Has 4 (entry_and_addend o) (thread_offset o)
 -- `addi.d a0, a0`, and `ori a0, a0` or the load of that entry
 abbrev pub LowOfDescriptorToOri : Type 0
 LowOfDescriptorToOri =
-    (o : Operands) (s t : State) (c : Changes) (addi ori : List ℕ)
-    → AreAddresses o → IsLowOfDescriptor (word_of addi)
-    → Has 4 (near_page (entry_and_addend o)) (high_offset o) s t
+    (x y : Operands) (s t : State) (c : Changes) (addi ori : List ℕ)
+    → AreAddresses x → IsLowOfDescriptor (word_of addi) → thread_offset x ≡ thread_offset y
+    → Has 4 (near_page (entry_and_addend x)) (high_offset y) s t
     → AgreeBut c s t → IsRewritten kinds.LowToOri addi ori
-    → (addi_of ori_of : List ℕ) → IsRelocated names.R_LARCH_TLS_DESC_PC_LO12 o addi addi_of
-    → IsRelocated names.R_LARCH_TLS_LE_LO12 o ori ori_of
+    → (addi_of ori_of : List ℕ) → IsRelocated names.R_LARCH_TLS_DESC_PC_LO12 x addi addi_of
+    → IsRelocated names.R_LARCH_TLS_LE_LO12 y ori ori_of
     → StepSo (word_of addi_of) s (word_of ori_of) t
-    (λ u v. AgreeBut (with_register 4 c) u v × HasDescriptor o u v)
+    (λ u v. HaveGoneOn (with_register 4 c) s t u v × HasDescriptor x u v)
 
 abbrev pub LowOfDescriptorToLoad : Type 0
 LowOfDescriptorToLoad =
-    (o : Operands) (entry : ℕ) (s t : State) (c : Changes) (addi ld : List ℕ)
-    → AreAddresses o → entry < 2 ^ 64 → IsLowOfDescriptor (word_of addi)
-    → loaded 8 t.memory (entry_and_addend (with_entry entry o)) ≡ thread_offset o
-    → Has 4 (near_page (entry_and_addend o)) (near_page (entry_and_addend (with_entry entry o))) s t
+    (x y : Operands) (s t : State) (c : Changes) (addi ld : List ℕ)
+    → AreAddresses x → IsLowOfDescriptor (word_of addi)
+    → loaded 8 t.memory (entry_and_addend y) ≡ thread_offset x
+    → Has 4 (near_page (entry_and_addend x)) (near_page (entry_and_addend y)) s t
     → AgreeBut c s t → IsRewritten kinds.AddiToLd addi ld
-    → (addi_of ld_of : List ℕ) → IsRelocated names.R_LARCH_TLS_DESC_PC_LO12 o addi addi_of
-    → IsRelocated names.R_LARCH_TLS_IE_PC_LO12 (with_entry entry o) ld ld_of
+    → (addi_of ld_of : List ℕ) → IsRelocated names.R_LARCH_TLS_DESC_PC_LO12 x addi addi_of
+    → IsRelocated names.R_LARCH_TLS_IE_PC_LO12 y ld ld_of
     → StepSo (word_of addi_of) s (word_of ld_of) t
-    (λ u v. AgreeBut (with_register 4 c) u v × HasDescriptor o u v)
+    (λ u v. HaveGoneOn (with_register 4 c) s t u v × HasDescriptor x u v)
 
 -- `ld.d ra, a0, 0`, which loads the function's address, and `nop`
 abbrev pub LoadOfDescriptorToNop : Type 0
@@ -459,7 +463,7 @@ LoadOfDescriptorToNop =
     → AreAddresses o → IsLoadOfDescriptor (word_of ld) → HasDescriptor o s t
     → AgreeBut c s t → IsRewritten kinds.ReplaceWithNop ld nop
     → StepSo (word_of ld) s (word_of nop) t
-    (λ u v. AgreeBut (with_register 1 c) u v × HasDescriptor o u v
+    (λ u v. HaveGoneOn (with_register 1 c) s t u v × HasDescriptor o u v
     × (read 1 u ≡ loaded 8 s.memory (entry_and_addend o)))
 
 -- `call` says in which state a called function returns, if it does. The first 8 bytes of the
@@ -499,7 +503,8 @@ CallOfDescriptorToNop =
     → HasDescriptor o s t → read 1 s ≡ loaded 8 s.memory (entry_and_addend o) → AgreeBut d s t
     → IsRewritten kinds.ReplaceWithNop jirl nop
     → IsSomeAnd (step (word_of jirl) s) (λ u.
-    (v : State) → call u ≡ Some v → IsSomeAnd (step (word_of nop) t) (AgreeBut (behind_call c d) v))
+    (v : State) → call u ≡ Some v
+    → IsSomeAnd (step (word_of nop) t) (HaveGoneOn (behind_call c d) s t v))
 
 -- ---- the laws
 

@@ -68,8 +68,8 @@ pub fn riscv64()
 /// instructions, in one of them, or by its GOT entry in place of a descriptor's function; loads,
 /// stores and additions over the thread pointer; a call by `b` or `bl`. Each instruction of
 /// initial-exec, of local-exec and of a descriptor has a law of its own, of two runs, whatever stands
-/// between them. Where an instruction is deleted, the code before and after the rewrite may stand at
-/// different addresses, each with its relocations applied.
+/// between them. There, and where an instruction is deleted, the code before and after the rewrite may
+/// stand at different addresses, each with its relocations applied.
 pub fn loongarch64()
     ensures laws { loongarch_laws.Laws }
 {

@@ -1,9 +1,10 @@
-use Rattle.linker_final.proofs.Ppc64Arguments.{general_dynamic, local_dynamic}
-use Rattle.linker_final.proofs.Ppc64Calls.{calls}
-use Rattle.linker_final.proofs.Ppc64Halves.{thread_halves, toc_halves}
-use Rattle.linker_final.proofs.Ppc64Loads.{loads}
-use Rattle.linker_final.proofs.Ppc64Near.{near_arguments}
-use Rattle.linker_final.proofs.Ppc64Offsets.{initial_exec}
+use Rattle.linker_final.proofs.Ppc64Arguments.{general_dynamic, general_dynamic_anywhere, local_dynamic, local_dynamic_anywhere}
+use Rattle.linker_final.proofs.Ppc64Calls.{calls, calls_anywhere}
+use Rattle.linker_final.proofs.Ppc64Halves.{thread_halves, thread_halves_anywhere, toc_halves, toc_halves_anywhere}
+use Rattle.linker_final.proofs.Ppc64Loads.{loads, loads_anywhere}
+use Rattle.linker_final.proofs.Ppc64Near.{near_arguments, near_arguments_anywhere}
+use Rattle.linker_final.proofs.Ppc64Offsets.{initial_exec, initial_exec_anywhere}
+use Rattle.linker_final.proofs.Ppc64Twice.{final_initial_exec_twice, final_loads_twice, initial_exec_twice, loads_twice, steps_compose}
 use Rattle.linker_final.proofs.laws.ppc64.Goals as goal
 
 pub returns : goal.returns
@@ -18,4 +19,17 @@ returns c =
       local_dynamic = local_dynamic laws;
       near_arguments = near_arguments laws;
       loads = loads laws;
+      calls_anywhere = calls_anywhere laws;
+      toc_halves_anywhere = toc_halves_anywhere laws;
+      thread_halves_anywhere = thread_halves_anywhere laws;
+      initial_exec_anywhere = initial_exec_anywhere laws;
+      general_dynamic_anywhere = general_dynamic_anywhere laws;
+      local_dynamic_anywhere = local_dynamic_anywhere laws;
+      near_arguments_anywhere = near_arguments_anywhere laws;
+      loads_anywhere = loads_anywhere laws;
+      loads_twice = loads_twice laws;
+      steps_compose = steps_compose;
+      initial_exec_twice = initial_exec_twice laws;
+      final_loads_twice = final_loads_twice laws;
+      final_initial_exec_twice = final_initial_exec_twice laws;
     }

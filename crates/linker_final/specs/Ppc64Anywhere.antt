@@ -1,0 +1,239 @@
+-- PowerPC64: rewritten instructions do what the object's do once the relocations that a call of
+-- rewriting left are applied to them, whatever applies them. So another phase may come between. The
+-- bytes after are `l.final`, of which nothing is known but what a premise says.
+use Rattle.std.specs.Prelude.{◌≡◌, ◌⊎◌, ℕ, ◌+◌, ◌<◌}
+use Rattle.linker_elf.specs.ElfNames.{IsNameOf, code_of}
+use Rattle.linker_elf.specs.Ppc64Relocations.{ppc64_name}
+use Rattle.linker_elf.specs.declared.elf.choice.Choice.{Choice}
+use Rattle.linker_elf.specs.declared.elf.value.Operands.{Operands}
+use Rattle.linker_elf.specs.declared.ppc64.forms.Ppc64Instruction.TheVariants.{D, Ds}
+use Rattle.linker_elf.specs.declared.ppc64.relocations.Ppc64Relocation.{Ppc64Relocation}
+use Rattle.linker_elf.specs.declared.ppc64.relocations.Ppc64Relocation.TheVariants as names
+use Rattle.linker_final.specs.Final.{AreBytes, AreRewritten, Linked, count, instruction_at, two_at}
+use Rattle.linker_final.specs.Ppc64Final.{By, CallToBlockIsAlike, CallToLowHalfIsAlike}
+use Rattle.linker_final.specs.Ppc64Final.{CallToSumIsAlike, EntryIsAlike, HighArgumentIsAlike}
+use Rattle.linker_final.specs.Ppc64Final.{HighIsAlike, IsCallBy, LoadIsAlike, LoadedArgumentIsAlike}
+use Rattle.linker_final.specs.Ppc64Final.{LeavesEntry, NearOffsetIsAlike, NearToInitialExec}
+use Rattle.linker_final.specs.Ppc64Final.{NearToLocalExec, NearToModule, NoEntryIsAlike}
+use Rattle.linker_final.specs.Ppc64Final.{NoModuleIsAlike}
+use Rattle.linker_final.specs.Ppc64Final.{NopRestoresToc, OffsetIsAlike, OverBaseIsAlike}
+use Rattle.linker_final.specs.Ppc64Final.{OverOffsetIsAlike, PrefixedIsAlike, SymbolIsAlike}
+use Rattle.linker_final.specs.Ppc64Final.{ThreadArgumentIsAlike, ThreadHighIsAlike, TocHighIsAlike}
+use Rattle.linker_final.specs.Ppc64Final.{VectorIsAlike, object, offset_of}
+use Rattle.linker_laws.specs.Ppc64Machine.{access_with, word_access_with}
+use Rattle.linker_laws.specs.Ppc64RewriteLaws.{IsRelocated, accesses, adds, at_place, ds_access}
+use Rattle.linker_laws.specs.Ppc64RewriteLaws.{from_thread, from_toc, is_d_over, is_ds_over_base}
+use Rattle.linker_laws.specs.Ppc64RewriteLaws.{with_entry}
+use Rattle.linker_laws.specs.Schemes.{AreAddresses}
+use Rattle.linker_ppc64.specs.Ppc64Rewrites.{access_of, is_add_of_thread, is_addi, is_indexed}
+use Rattle.linker_ppc64.specs.Ppc64Rewrites.{is_indexed_word}
+use Rattle.linker_ppc64.specs.declared.rewrites.RelaxationKind.TheVariants as kinds
+use Rattle.linker_rewriting.specs.Decisions.{decision_at}
+use Rattle.linker_rewriting.specs.declared.decisions.Decision.TheVariants.{Rewritten}
+use Rattle.linker_section.specs.Relocations.{relocation_in}
+use Rattle.linker_section.specs.declared.relocations.Rela.{Rela}
+use Rattle.linker_utils.specs.declared.architecture.Relaxation.{Relaxation}
+use Rattle.linker_utils.specs.declared.elf.Architecture.TheVariants.{Ppc64}
+
+-- ---- what follows
+
+-- a relocation that gets a name, and one that is then of the next instruction
+abbrev pub named_as : Ppc64Relocation → Rela → Rela
+named_as name r = record r { code = code_of (ppc64_name name) }
+
+abbrev pub named_behind : Ppc64Relocation → Rela → Rela
+named_behind name r = record (named_as name r) { offset = r.offset + 4 }
+
+-- The bytes after have the rewritten instruction at an offset.
+abbrev pub IsLeft : Linked → ℕ → Type 0
+IsLeft l at = instruction_at l.final at ≡ instruction_at l.rewritten at
+
+-- They have the rewritten instruction with a relocation applied: with some operands, wherever it is
+-- and wherever its GOT entry is.
+abbrev pub IsAppliedAt : Ppc64Relocation → ℕ → Operands → Linked → ℕ → Type 0
+IsAppliedAt name entry o l at =
+    (place : ℕ)
+    × IsRelocated name (at_place place (with_entry entry o)) (instruction_at l.rewritten at)
+    (instruction_at l.final at)
+
+-- The relocation at an index gets a name. It holds of an entry and of operands of the object's
+-- relocation where that is applied with the same S, A, TOC pointer and thread pointer.
+abbrev pub Becomes : Ppc64Relocation → Linked → ℕ → (ℕ → Operands → Type 0) → Type 0
+Becomes name l i Holds =
+    (relocation_in l.relocations_after i ≡ named_as name (relocation_in l.relocations i))
+    × ((o : Operands) (entry : ℕ) → AreAddresses o → IsAppliedAt name entry o l (offset_of l i)
+    → Holds entry o)
+
+-- The relocation goes. It holds where the rewritten instruction is left.
+abbrev pub Goes : Linked → ℕ → (Operands → Type 0) → Type 0
+Goes l i Holds =
+    (relocation_in l.relocations_after i
+    ≡ named_as names.R_PPC64_NONE (relocation_in l.relocations i))
+    × (IsLeft l (offset_of l i) → (o : Operands) → AreAddresses o → Holds o)
+
+-- each relocation of a name whose instruction is rewritten
+abbrev pub EachAnywhere : Ppc64Relocation → (Linked → ℕ → Choice Relaxation ℕ → Type 0) → Type 0
+EachAnywhere name Holds =
+    (l : Linked) → AreRewritten l → l.setting.architecture ≡ Ppc64
+    → (i : ℕ) (chosen : Choice Relaxation ℕ) → i < count l
+    → IsNameOf ppc64_name (relocation_in l.relocations i).code name
+    → decision_at l.decisions i ≡ Rewritten chosen → Holds l i chosen
+
+-- ---- calls
+
+-- The call and its relocation stay.
+abbrev pub RestoresTocAnywhere : Linked → ℕ → Type 0
+RestoresTocAnywhere l i =
+    AreBytes l.section
+    → (relocation_in l.relocations_after i
+    ≡ named_as names.R_PPC64_REL24 (relocation_in l.relocations i))
+    × (instruction_at l.rewritten (offset_of l i) ≡ object l i)
+    × (IsLeft l (offset_of l i + 4) → NopRestoresToc l i)
+
+abbrev pub CallsAnywhere : Type 0
+CallsAnywhere = EachAnywhere names.R_PPC64_REL24 (λ l i chosen. RestoresTocAnywhere l i)
+
+-- ---- halves
+
+-- low halves of D-form, which become one of a name
+abbrev pub LowHalfAnywhere : ℕ → Ppc64Relocation → Ppc64Relocation → (Operands → ℕ → ℕ) → Type 0
+LowHalfAnywhere register low whole address =
+    EachAnywhere low (λ l i chosen. Becomes whole l i (λ entry o.
+    OverBaseIsAlike register low D address (adds is_addi) l i o
+    × OverBaseIsAlike register low D address is_d_over l i o))
+
+-- and of DS-form
+abbrev pub WordLowHalfAnywhere : ℕ → Ppc64Relocation → Ppc64Relocation → (Operands → ℕ → ℕ) → Type 0
+WordLowHalfAnywhere register low whole address =
+    EachAnywhere low (λ l i chosen. Becomes whole l i (λ entry o.
+    OverBaseIsAlike register low Ds address (accesses is_ds_over_base ds_access) l i o
+    × VectorIsAlike register low address l i o))
+
+abbrev pub TocHalvesAnywhere : Type 0
+TocHalvesAnywhere =
+    EachAnywhere names.R_PPC64_TOC16_HA (λ l i chosen. Goes l i (TocHighIsAlike l i))
+    × LowHalfAnywhere 2 names.R_PPC64_TOC16_LO names.R_PPC64_TOC16 from_toc
+    × WordLowHalfAnywhere 2 names.R_PPC64_TOC16_LO_DS names.R_PPC64_TOC16_DS from_toc
+
+abbrev pub ThreadHalvesAnywhere : Type 0
+ThreadHalvesAnywhere =
+    EachAnywhere names.R_PPC64_TPREL16_HA (λ l i chosen. Goes l i (ThreadHighIsAlike l i))
+    × LowHalfAnywhere 13 names.R_PPC64_TPREL16_LO names.R_PPC64_TPREL16 from_thread
+    × WordLowHalfAnywhere 13 names.R_PPC64_TPREL16_LO_DS names.R_PPC64_TPREL16_DS from_thread
+
+-- ---- initial-exec
+
+-- an `add`, and loads and stores
+abbrev pub VariableAnywhere : Linked → ℕ → Choice Relaxation ℕ → Type 0
+VariableAnywhere l i chosen =
+    By kinds.AddToAddi chosen (Becomes names.R_PPC64_TPREL16_LO l i (λ entry.
+    OverOffsetIsAlike (adds is_add_of_thread) l i))
+    ⊎ By kinds.IndexedToD chosen (Becomes names.R_PPC64_TPREL16_LO l i (λ entry.
+    OverOffsetIsAlike (accesses is_indexed (λ word. access_with (access_of word))) l i))
+    ⊎ By kinds.IndexedToDs chosen (Becomes names.R_PPC64_TPREL16_LO_DS l i (λ entry.
+    OverOffsetIsAlike (accesses is_indexed_word (λ word. word_access_with (access_of word))) l i))
+
+abbrev pub InitialExecAnywhere : Type 0
+InitialExecAnywhere =
+    EachAnywhere names.R_PPC64_GOT_TPREL16_HA (λ l i chosen. Goes l i (HighIsAlike l i))
+    × EachAnywhere names.R_PPC64_GOT_TPREL16_LO_DS (λ l i chosen.
+    Becomes names.R_PPC64_TPREL16_HA l i (λ entry. OffsetIsAlike l i))
+    × EachAnywhere names.R_PPC64_GOT_TPREL16_DS (λ l i chosen.
+    Becomes names.R_PPC64_TPREL16_HA l i (λ entry. NearOffsetIsAlike l i))
+    × EachAnywhere names.R_PPC64_TLS (λ l i chosen. VariableAnywhere l i chosen)
+
+-- ---- arguments and calls of `__tls_get_addr`
+
+-- for local-exec, and for initial-exec
+abbrev pub GeneralHighAnywhere : Linked → ℕ → Choice Relaxation ℕ → Type 0
+GeneralHighAnywhere l i chosen =
+    By kinds.AddisToNop chosen (Goes l i (NoEntryIsAlike l i))
+    ⊎ By kinds.KeepAddis chosen (Becomes names.R_PPC64_GOT_TPREL16_HA l i (EntryIsAlike l i))
+
+abbrev pub GeneralArgumentAnywhere : Linked → ℕ → Choice Relaxation ℕ → Type 0
+GeneralArgumentAnywhere l i chosen =
+    By kinds.AddiToAddisThread chosen (Becomes names.R_PPC64_TPREL16_HA l i (λ entry.
+    HighArgumentIsAlike l i))
+    ⊎ By kinds.AddiToLd chosen (Becomes names.R_PPC64_GOT_TPREL16_LO_DS l i
+    (LoadedArgumentIsAlike l i))
+
+-- The relocation of a call becomes one of the instruction behind it, with a name.
+abbrev pub IsMarkAs : Ppc64Relocation → Linked → ℕ → Type 0
+IsMarkAs name l i =
+    relocation_in l.relocations_after i ≡ named_behind name (relocation_in l.relocations i)
+
+-- The bytes after have both rewritten instructions.
+abbrev pub IsCallLeft : Linked → ℕ → Type 0
+IsCallLeft l i = IsLeft l (offset_of l i) × IsLeft l (offset_of l i + 4)
+
+-- They have a `nop`, and behind it an instruction with a low half.
+abbrev pub IsCallApplied : Operands → Linked → ℕ → Type 0
+IsCallApplied o l i =
+    IsLeft l (offset_of l i)
+    × ((entry : ℕ) × IsAppliedAt names.R_PPC64_TPREL16_LO entry o l (offset_of l i + 4))
+
+abbrev pub GeneralCallAnywhere : Linked → ℕ → Choice Relaxation ℕ → Type 0
+GeneralCallAnywhere l i chosen =
+    By kinds.CallToAddi chosen (IsMarkAs names.R_PPC64_TPREL16_LO l i
+    × ((o : Operands) → IsCallApplied o l i → CallToLowHalfIsAlike l i o))
+    ⊎ By kinds.CallToAdd chosen (IsMarkAs names.R_PPC64_NONE l i
+    × (IsCallLeft l i → (o : Operands) → CallToSumIsAlike l i o))
+
+abbrev pub GeneralDynamicAnywhere : Type 0
+GeneralDynamicAnywhere =
+    EachAnywhere names.R_PPC64_GOT_TLSGD16_HA GeneralHighAnywhere
+    × EachAnywhere names.R_PPC64_GOT_TLSGD16_LO GeneralArgumentAnywhere
+    × EachAnywhere names.R_PPC64_TLSGD GeneralCallAnywhere
+
+abbrev pub LocalDynamicAnywhere : Type 0
+LocalDynamicAnywhere =
+    EachAnywhere names.R_PPC64_GOT_TLSLD16_HA (λ l i chosen. Goes l i (NoModuleIsAlike l i))
+    × EachAnywhere names.R_PPC64_GOT_TLSLD16_LO (λ l i chosen.
+    Goes l i (ThreadArgumentIsAlike l i))
+    × EachAnywhere names.R_PPC64_TLSLD (λ l i chosen. IsMarkAs names.R_PPC64_NONE l i
+    × (IsCallLeft l i → CallToBlockIsAlike l i))
+
+-- ---- arguments near the TOC pointer
+
+-- The object's instruction leaves the address of the entry.
+abbrev pub LeavesItsEntry : Ppc64Relocation → Linked → ℕ → Type 0
+LeavesItsEntry name l i = (o : Operands) → AreAddresses o → LeavesEntry name l i o
+
+-- for local-exec, and for initial-exec, with a call of the same S + A
+abbrev pub NearAnywhere : Linked → ℕ → Choice Relaxation ℕ → Type 0
+NearAnywhere l i chosen =
+    By kinds.AddiToAddisThread chosen (Becomes names.R_PPC64_TPREL16_HA l i (λ entry o.
+    (j : ℕ) → IsCallBy l names.R_PPC64_TLSGD kinds.CallToAddi j → IsCallApplied o l j
+    → NearToLocalExec l i j o))
+    ⊎ By kinds.AddiToLd chosen (Becomes names.R_PPC64_GOT_TPREL16_DS l i (λ entry o.
+    (j : ℕ) → IsCallBy l names.R_PPC64_TLSGD kinds.CallToAdd j → IsCallLeft l j
+    → NearToInitialExec l i j entry o))
+
+abbrev pub NearArgumentsAnywhere : Type 0
+NearArgumentsAnywhere =
+    EachAnywhere names.R_PPC64_GOT_TLSGD16 (λ l i chosen.
+    LeavesItsEntry names.R_PPC64_GOT_TLSGD16 l i × NearAnywhere l i chosen)
+    × EachAnywhere names.R_PPC64_GOT_TLSLD16 (λ l i chosen.
+    LeavesItsEntry names.R_PPC64_GOT_TLSLD16 l i × Goes l i (λ o.
+    (j : ℕ) → IsCallBy l names.R_PPC64_TLSLD kinds.CallToAddi4096 j → IsCallLeft l j
+    → NearToModule l i j))
+
+-- ---- loads of addresses
+
+-- of the 8 bytes of `pld`, at one place
+abbrev pub PrefixedAnywhere : Linked → ℕ → Type 0
+PrefixedAnywhere l i =
+    AreBytes l.section
+    → (relocation_in l.relocations_after i
+    ≡ named_as names.R_PPC64_PCREL34 (relocation_in l.relocations i))
+    × ((o : Operands) → AreAddresses o
+    → IsRelocated names.R_PPC64_PCREL34 o (two_at l.rewritten (offset_of l i))
+    (two_at l.final (offset_of l i)) → PrefixedIsAlike l i o)
+
+abbrev pub LoadsAnywhere : Type 0
+LoadsAnywhere =
+    EachAnywhere names.R_PPC64_GOT_PCREL34 (λ l i chosen. PrefixedAnywhere l i)
+    × EachAnywhere names.R_PPC64_GOT16_HA (λ l i chosen.
+    Becomes names.R_PPC64_TOC16_HA l i (λ entry. SymbolIsAlike l i))
+    × EachAnywhere names.R_PPC64_GOT16_LO_DS (λ l i chosen.
+    Becomes names.R_PPC64_TOC16_LO l i (λ entry. LoadIsAlike l i))
