@@ -385,8 +385,7 @@ pub(crate) fn end_behind(start: u64, own: u64, end: u64) -> Option<u64> {
 
 /// Decides what becomes of each relocation of a section and of its instruction, in the caller's
 /// memory. Nothing is rewritten. False if all stay as they are by their codes.
-#[inline(always)]
-fn decide_all<D: AsDecision>(
+pub(crate) fn decide_section<D: AsDecision>(
     architecture: Architecture,
     phase: Phase,
     output: &OutputFacts,
@@ -463,46 +462,4 @@ fn decide_all<D: AsDecision>(
         decisions[index] = D::from_decision(decision);
     }
     Ok(true)
-}
-
-/// A call for an architecture, which is compiled for each by itself.
-macro_rules! of_each {
-    ($architecture:ident, $call:ident($($given:ident),*)) => {
-        match $architecture {
-            Architecture::AArch64 => $call(Architecture::AArch64, $($given),*),
-            Architecture::RiscV => $call(Architecture::RiscV, $($given),*),
-            Architecture::LoongArch64 => $call(Architecture::LoongArch64, $($given),*),
-            Architecture::Ppc64 => $call(Architecture::Ppc64, $($given),*),
-            Architecture::X86_64 => $call(Architecture::X86_64, $($given),*),
-        }
-    };
-}
-
-/// The same, by code of the architecture's own.
-pub(crate) fn decide_section<D: AsDecision>(
-    architecture: Architecture,
-    phase: Phase,
-    output: &OutputFacts,
-    symbols: &[SymbolFacts],
-    addresses: &Addresses,
-    values: &[Symbol],
-    kept: &[KeptGroups],
-    relocations: &[u8],
-    section: &[u8],
-    decisions: &mut [D],
-) -> Result<bool, RewritingError> {
-    of_each!(
-        architecture,
-        decide_all(
-            phase,
-            output,
-            symbols,
-            addresses,
-            values,
-            kept,
-            relocations,
-            section,
-            decisions
-        )
-    )
 }
