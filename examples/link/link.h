@@ -55,8 +55,8 @@ enum { RANK_HEADERS, RANK_FIXED, RANK_CODE, RANK_TLS, RANK_TLS_BSS, RANK_ARRAYS,
 #define EACH_RELOCATION(s, r) \
     for (Elf64_Rela *r = s->relocations; r < s->relocations + s->relocations_len; r++)
 
-/* ends with an error; of a file, or where something doesn't hold of it; of a section of it; and of a
- * relocation of that */
+/* ends with an error; of a file, or where something doesn't hold of it; of a section of it; and of
+ * a relocation of that */
 #define fail(...) (fprintf(stderr, __VA_ARGS__), fputc('\n', stderr), exit(1))
 #define fail_of(o, ...) (fprintf(stderr, "%s: ", (o)->path), fail(__VA_ARGS__))
 #define demand(o, holds, otherwise) ((holds) ? (void)0 : fail_of(o, otherwise))
@@ -163,7 +163,6 @@ struct symbol {
     struct archive *archive; /* which can define it; null where none can */
     uint64_t stub;           /* to a function of another file, where `has_stub` */
     struct symbol *thunks;   /* to it */
-    struct symbol *same;     /* the next global one in its bucket */
     struct library *library; /* the first that defines it; null where none does */
     const Elf64_Sym *there;  /* as that has it */
 };
@@ -251,7 +250,8 @@ void read_file(const char *path), load_member(struct archive *a, uint64_t offset
 /* libraries.c */
 void read_library(struct object file);
 /* symbols.c */
-struct symbol *named(const char *name);
+uint32_t hash_of(const char *name);
+struct symbol *named(const char *name), *named_by(const char *name, uint32_t hash);
 void offer(const char *name, struct archive *a, uint64_t member), list_symbol(struct symbol *s);
 void resolve(struct symbol *known, struct symbol *s), define_symbols(void), place_symbols(void);
 int rank(const struct symbol *s);

@@ -99,17 +99,24 @@ static void check_symbol(const struct object *o, size_t i, bool is_local, const 
 }
 
 static void read_symbols(const struct section *table) {
+    static uint32_t *hashes; /* of the global ones of one object after another */
+    static size_t room;
     struct object *o = table->object;
     demand(o, !o->symbols, "two tables of symbols");
     o->mentions = table_of(o, table->head, sizeof *o->mentions, &o->mentions_len);
     size_t len = o->symbols_len = o->symbols_room = o->mentions_len, first = table->head->sh_info;
     struct symbol *local = take(first < len ? first : len, sizeof *local);
     o->symbols = zeros(len, sizeof *o->symbols);
+    hashes = grow(hashes, len, &room, sizeof *hashes);
     if (len) o->names = text_at(table, 0);
     for (size_t i = 0; i < len; i++) {
         const char *name = text_at(table, o->mentions[i].st_name);
         check_symbol(o, i, i < first, name);
-        o->symbols[i] = i < first ? memcpy(local++, mention(o, i), sizeof *local) : named(name);
+        if (i < first) o->symbols[i] = memcpy(local++, mention(o, i), sizeof *local);
+        else hashes[i] = hash_of(name);
+    }
+    for (size_t i = 0; i < len; i++) {
+        if (i >= first) o->symbols[i] = named_by(o->names + o->mentions[i].st_name, hashes[i]);
         list_symbol(o->symbols[i]);
     }
     for (size_t i = o->resolved_len = first; i < len; i++) resolve_mention(o, i, true);

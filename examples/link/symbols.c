@@ -2,11 +2,15 @@
  * the linker itself defines. */
 #include "link.h"
 
-#define BUCKETS 524287 /* a prime */
-
 struct symbol *symbols, *module_base;
 size_t symbols_len;
-static struct symbol *buckets[BUCKETS]; /* of global symbols, by their hashes */
+
+/* The global symbols by their names, in at most half of the cells. */
+static struct cell {
+    struct symbol *symbol;
+    uint32_t hash;
+} *cells;
+static size_t cells_len, named_len;
 
 bool is_ifunc(const struct symbol *s) {
     return stt_of(s) == STT_GNU_IFUNC && is_defined(s) && !s->is_imported;
@@ -23,25 +27,53 @@ bool is_here(const struct symbol *s) {
     return s->output || s == module_base || s->elf.st_shndx != SHN_ABS;
 }
 
-/* Where the global symbol of a name is, or is to be put, and its hash, which is `.gnu.hash`'s. */
-static struct symbol **find(const char *name, uint32_t *hash) {
-    *hash = 5381;
-    for (const char *c = name; *c; c++) *hash = *hash * 33 + (unsigned char)*c;
-    struct symbol **at = &buckets[*hash % BUCKETS];
-    while (*at && ((*at)->hash != *hash || strcmp((*at)->name, name))) at = &(*at)->same;
-    return at;
+/* Where the cell of a hash is, if no other is in its way. */
+static size_t first_of(uint32_t hash) {
+    uint32_t mixed = hash * 2654435769; /* 2^32 over the golden ratio */
+    return (mixed ^ mixed >> 15) & (cells_len - 1);
+}
+
+/* The hash of a name, as `.gnu.hash` has it. Its cell is read ahead. */
+uint32_t hash_of(const char *name) {
+    uint32_t hash = 5381;
+    for (; *name; name++) hash = hash * 33 + (unsigned char)*name;
+    if (cells) __builtin_prefetch(&cells[first_of(hash)]);
+    return hash;
+}
+
+/* The cell of a name, or an empty one for it. No name is as that of no symbol. */
+static struct cell *cell_of(const char *name, uint32_t hash) {
+    size_t at = first_of(hash);
+    while (cells[at].symbol && (!name || cells[at].hash != hash ||
+                                strcmp(cells[at].symbol->name, name)))
+        at = (at + 1) & (cells_len - 1);
+    return &cells[at];
+}
+
+/* The same, where there is room for one more. */
+static struct cell *find(const char *name, uint32_t hash) {
+    if (2 * named_len >= cells_len) {
+        struct cell *before = cells, *end = before + cells_len;
+        cells_len = cells_len ? 4 * cells_len : 1 << 12;
+        cells = zeros(cells_len, sizeof *cells);
+        for (struct cell *c = before; c < end; c++) if (c->symbol) *cell_of(NULL, c->hash) = *c;
+        free(before);
+    }
+    return cell_of(name, hash);
 }
 
 /* The global symbol of a name, whether an object mentions it or not. */
-struct symbol *named(const char *name) {
-    uint32_t hash;
-    struct symbol **at = find(name, &hash);
-    if (*at) return *at;
-    *at = take(1, sizeof **at);
-    (*at)->name = name;
-    (*at)->hash = hash;
-    return *at;
+struct symbol *named_by(const char *name, uint32_t hash) {
+    struct cell *cell = find(name, hash);
+    if (cell->symbol) return cell->symbol;
+    named_len++;
+    *cell = (struct cell){take(1, sizeof *cell->symbol), hash};
+    cell->symbol->name = name;
+    cell->symbol->hash = hash;
+    return cell->symbol;
 }
+
+struct symbol *named(const char *name) { return named_by(name, hash_of(name)); }
 
 /* Which of two mentions of a symbol counts: the higher, and else the first. A definition in a
  * discarded section counts less than any other, but no member is loaded for it. */
@@ -101,8 +133,7 @@ void list_symbol(struct symbol *s) {
 
 /* A symbol at an offset of a section, if an object refers to it and none defines it; else null. */
 static struct symbol *define(const char *name, struct output *output, uint64_t offset) {
-    uint32_t hash;
-    struct symbol *s = *find(name, &hash);
+    struct symbol *s = find(name, hash_of(name))->symbol;
     if (!s || !s->object || is_defined(s)) return NULL;
     s->elf.st_shndx = SHN_ABS;
     if (is_dynamic) s->elf.st_other = STV_HIDDEN;
