@@ -308,7 +308,7 @@ impl<'a> Walk<'a> {
             !site.is_alignment && !made::is_mark(architecture, self.it.relocations[*index].code)
         };
         let values = site.indices.clone().filter(is_value);
-        values.map(|index| Deletable::new(self.linked, self.it, index, site.is_relaxable)).collect()
+        values.map(|index| Deletable::new(self.linked, self.it, index)).collect()
     }
 
     /// Adds the states behind the relocations at an offset, and the offset behind deleted bytes with

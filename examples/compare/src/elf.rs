@@ -7,6 +7,7 @@ use object::LittleEndian;
 use object::elf::{self, FileHeader64, SectionHeader64};
 use object::read::archive::ArchiveFile;
 use object::read::elf::{FileHeader, ProgramHeader, Rela, SectionHeader, SectionTable, Sym};
+use std::borrow::Cow;
 
 /// Whether a name is that of a compiler's or an assembler's label.
 pub fn is_label(name: &str) -> bool {
@@ -34,7 +35,7 @@ pub struct Relocation {
 }
 
 pub struct Section<'a> {
-    pub name: String,
+    pub name: Cow<'a, str>,
     /// Empty where the file has no bytes for it.
     pub bytes: &'a [u8],
     pub size: u64,
@@ -54,8 +55,8 @@ pub enum Home {
     Section(usize),
 }
 
-pub struct Symbol {
-    pub name: String,
+pub struct Symbol<'a> {
+    pub name: Cow<'a, str>,
     pub home: Home,
     /// Of a symbol in a section its offset there.
     pub value: u64,
@@ -73,7 +74,7 @@ pub struct Object<'a> {
     pub is_member: bool,
     pub architecture: Architecture,
     pub sections: Vec<Section<'a>>,
-    pub symbols: Vec<Symbol>,
+    pub symbols: Vec<Symbol<'a>>,
 }
 
 pub struct Linked<'a> {
@@ -81,10 +82,10 @@ pub struct Linked<'a> {
     /// Address and bytes, by address.
     segments: Vec<(u64, &'a [u8])>,
     /// The addresses of each name of global symbols, and of local ones in the table's order.
-    pub globals: HashMap<String, Definition>,
-    pub locals: HashMap<String, Vec<Definition>>,
+    pub globals: HashMap<Cow<'a, str>, Definition>,
+    pub locals: HashMap<Cow<'a, str>, Vec<Definition>>,
     /// Address and name, by address.
-    pub by_address: Vec<(u64, String)>,
+    pub by_address: Vec<(u64, Cow<'a, str>)>,
     /// The words of the GOT: what each leads to, and its address.
     pub got: Vec<(u64, Entry)>,
     /// The entries of each content.
@@ -93,7 +94,7 @@ pub struct Linked<'a> {
     pub got_base: u64,
     pub stubs: Stubs,
     /// Names, addresses and bytes of the sections.
-    sections: Vec<(String, u64, &'a [u8])>,
+    sections: Vec<(Cow<'a, str>, u64, &'a [u8])>,
     /// What dynamic relocations put at addresses.
     moved: HashMap<u64, Entry>,
 }
@@ -110,13 +111,6 @@ pub enum Entry {
     Address(u64),
     /// By the name of a dynamic relocation's symbol.
     Symbol(String),
-}
-
-fn text(bytes: &[u8]) -> String {
-    match str::from_utf8(bytes) {
-        Ok(text) => text.into(),
-        Err(_) => String::from_utf8_lossy(bytes).into_owned(),
-    }
 }
 
 fn because(error: object::read::Error) -> Reason {
@@ -140,10 +134,10 @@ fn head(bytes: &[u8]) -> Result<(&Head, Architecture), Reason> {
 /// A section's name and bytes.
 fn name_and_bytes<'a>(
     table: &SectionTable<'a, Head>,
-    section: &SectionHeader64<LittleEndian>,
+    section: &'a SectionHeader64<LittleEndian>,
     bytes: &'a [u8],
-) -> Result<(String, &'a [u8]), Reason> {
-    let name = text(table.section_name(LE, section).map_err(because)?);
+) -> Result<(Cow<'a, str>, &'a [u8]), Reason> {
+    let name = String::from_utf8_lossy(table.section_name(LE, section).map_err(because)?);
     match section.data(LE, bytes) {
         _ if section.sh_type(LE) == elf::SHT_NULL => Ok((name, &[])),
         Ok(data) => Ok((name, data)),
@@ -151,11 +145,11 @@ fn name_and_bytes<'a>(
     }
 }
 
-fn symbols_of(
+fn symbols_of<'a>(
     head: &Head,
-    bytes: &[u8],
+    bytes: &'a [u8],
     table: u32,
-) -> Result<Vec<Symbol>, Reason> {
+) -> Result<Vec<Symbol<'a>>, Reason> {
     let sections = head.sections(LE, bytes).map_err(because)?;
     let symbols = sections.symbols(LE, bytes, table).map_err(because)?;
     let mut all = Vec::with_capacity(symbols.len());
@@ -171,7 +165,7 @@ fn symbols_of(
             },
         };
         all.push(Symbol {
-            name: text(symbol.name(LE, symbols.strings()).map_err(because)?),
+            name: String::from_utf8_lossy(symbol.name(LE, symbols.strings()).map_err(because)?),
             home,
             value: symbol.st_value(LE),
             size: symbol.st_size(LE),
@@ -254,7 +248,7 @@ pub fn read_objects<'a>(path: &str, bytes: &'a [u8]) -> Result<Vec<Object<'a>>, 
     let mut objects = Vec::new();
     for member in archive.members() {
         let member = member.map_err(because)?;
-        let name = text(member.name());
+        let name = String::from_utf8_lossy(member.name());
         let data = member.data(bytes).map_err(because)?;
         let object = read_object(format!("{path}({name})"), true, data);
         objects.push(object.map_err(|reason| format!("{name}: {reason}"))?);
@@ -270,8 +264,8 @@ fn words(address: u64, bytes: &[u8]) -> impl Iterator<Item = (u64, u64)> + '_ {
 
 /// A global symbol, or the first local one of a name.
 fn first_of(
-    globals: &HashMap<String, Definition>,
-    locals: &HashMap<String, Vec<Definition>>,
+    globals: &HashMap<Cow<str>, Definition>,
+    locals: &HashMap<Cow<str>, Vec<Definition>>,
     name: &str,
 ) -> Option<Definition> {
     globals.get(name).or_else(|| locals.get(name)?.first()).copied()
@@ -299,7 +293,7 @@ pub fn read_linked<'a>(bytes: &'a [u8]) -> Result<Linked<'a>, Reason> {
     if symbols.is_empty() {
         return Err("it has no symbol table".into());
     }
-    let (mut globals, mut locals) = (HashMap::default(), HashMap::<String, Vec<Definition>>::default());
+    let (mut globals, mut locals) = (HashMap::default(), HashMap::<Cow<'a, str>, Vec<Definition>>::default());
     let mut by_address = Vec::new();
     for symbol in symbols {
         let is_other = matches!(symbol.kind, elf::STT_SECTION | elf::STT_FILE);
@@ -331,7 +325,7 @@ pub fn read_linked<'a>(bytes: &'a [u8]) -> Result<Linked<'a>, Reason> {
                 (index, Some(names)) => {
                     let symbol = names.symbol(index).map_err(because)?;
                     let name = symbol.name(LE, names.strings()).map_err(because)?;
-                    Entry::Symbol(text(name))
+                    Entry::Symbol(String::from_utf8_lossy(name).into_owned())
                 }
                 _ => continue,
             };
@@ -363,7 +357,7 @@ pub fn read_linked<'a>(bytes: &'a [u8]) -> Result<Linked<'a>, Reason> {
     for (at, entry) in &got {
         let content = match entry {
             Entry::Address(address) => Some(*address),
-            Entry::Symbol(name) => globals.get(name).map(|one: &Definition| one.address),
+            Entry::Symbol(name) => globals.get(name.as_str()).map(|one: &Definition| one.address),
         };
         if let Some(content) = content {
             got_of.entry(content).or_default().push(*at);

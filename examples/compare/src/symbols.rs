@@ -68,7 +68,7 @@ impl<'a> Definers<'a> {
         let linked = objects.iter().zip(&self.is_linked).filter(|(_, is_linked)| **is_linked);
         let all = linked.flat_map(|(object, _)| &object.symbols);
         let all = all.filter(|one| one.is_local && matches!(one.home, Home::Section(_)));
-        all.map(|one| one.name.as_str())
+        all.map(|one| &*one.name)
     }
 
     /// Where a global symbol is, if the object is the one that defines it. It may have become a
@@ -80,7 +80,7 @@ impl<'a> Definers<'a> {
         }
         let hidden = linked.locals.get(&symbol.name).filter(|all| all.len() == 1)?[0].address;
         let it = &object.sections[section];
-        let is_it = !self.locals.contains(symbol.name.as_str())
+        let is_it = !self.locals.contains(&*symbol.name)
             && align::fits(linked, it, symbol.value, hidden).is_some();
         is_it.then_some(hidden)
     }
