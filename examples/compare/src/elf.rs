@@ -83,9 +83,10 @@ pub struct Linked<'a> {
     segments: Vec<(u64, &'a [u8])>,
     /// The addresses of each name of global symbols, and of local ones in the table's order.
     pub globals: HashMap<Cow<'a, str>, Definition>,
-    pub locals: HashMap<Cow<'a, str>, Vec<Definition>>,
-    /// Address and name, by address.
-    pub by_address: Vec<(u64, Cow<'a, str>)>,
+    pub locals: HashMap<Cow<'a, str>, Definitions>,
+    /// The symbols that have a place, and their indices by address.
+    symbols: Vec<Symbol<'a>>,
+    by_address: Vec<(u64, u32)>,
     /// The words of the GOT: what each leads to, and its address.
     pub got: Vec<(u64, Entry)>,
     /// The entries of each content.
@@ -105,12 +106,47 @@ pub struct Definition {
     pub other: u8,
 }
 
+/// Those of one name, of which most have one.
+pub enum Definitions {
+    One(Definition),
+    Several(Vec<Definition>),
+}
+
+impl Definitions {
+    pub fn all(&self) -> &[Definition] {
+        match self {
+            Definitions::One(one) => std::slice::from_ref(one),
+            Definitions::Several(all) => all,
+        }
+    }
+
+    /// The one, if there aren't others.
+    pub fn only(&self) -> Option<Definition> {
+        match self.all() {
+            [one] => Some(*one),
+            _ => None,
+        }
+    }
+
+    fn push(&mut self, next: Definition) {
+        match self {
+            Definitions::One(one) => *self = Definitions::Several(vec![*one, next]),
+            Definitions::Several(all) => all.push(next),
+        }
+    }
+}
+
 /// What a GOT entry leads to.
 #[derive(Clone, PartialEq)]
 pub enum Entry {
     Address(u64),
     /// By the name of a dynamic relocation's symbol.
     Symbol(String),
+}
+
+fn text(bytes: &[u8]) -> Cow<'_, str> {
+    // quicker than the other where it is UTF-8
+    str::from_utf8(bytes).map_or_else(|_| String::from_utf8_lossy(bytes), Cow::Borrowed)
 }
 
 fn because(error: object::read::Error) -> Reason {
@@ -137,7 +173,7 @@ fn name_and_bytes<'a>(
     section: &'a SectionHeader64<LittleEndian>,
     bytes: &'a [u8],
 ) -> Result<(Cow<'a, str>, &'a [u8]), Reason> {
-    let name = String::from_utf8_lossy(table.section_name(LE, section).map_err(because)?);
+    let name = text(table.section_name(LE, section).map_err(because)?);
     match section.data(LE, bytes) {
         _ if section.sh_type(LE) == elf::SHT_NULL => Ok((name, &[])),
         Ok(data) => Ok((name, data)),
@@ -165,7 +201,7 @@ fn symbols_of<'a>(
             },
         };
         all.push(Symbol {
-            name: String::from_utf8_lossy(symbol.name(LE, symbols.strings()).map_err(because)?),
+            name: text(symbol.name(LE, symbols.strings()).map_err(because)?),
             home,
             value: symbol.st_value(LE),
             size: symbol.st_size(LE),
@@ -248,7 +284,7 @@ pub fn read_objects<'a>(path: &str, bytes: &'a [u8]) -> Result<Vec<Object<'a>>, 
     let mut objects = Vec::new();
     for member in archive.members() {
         let member = member.map_err(because)?;
-        let name = String::from_utf8_lossy(member.name());
+        let name = text(member.name());
         let data = member.data(bytes).map_err(because)?;
         let object = read_object(format!("{path}({name})"), true, data);
         objects.push(object.map_err(|reason| format!("{name}: {reason}"))?);
@@ -265,10 +301,10 @@ fn words(address: u64, bytes: &[u8]) -> impl Iterator<Item = (u64, u64)> + '_ {
 /// A global symbol, or the first local one of a name.
 fn first_of(
     globals: &HashMap<Cow<str>, Definition>,
-    locals: &HashMap<Cow<str>, Vec<Definition>>,
+    locals: &HashMap<Cow<str>, Definitions>,
     name: &str,
 ) -> Option<Definition> {
-    globals.get(name).or_else(|| locals.get(name)?.first()).copied()
+    globals.get(name).or_else(|| locals.get(name)?.all().first()).copied()
 }
 
 pub fn read_linked<'a>(bytes: &'a [u8]) -> Result<Linked<'a>, Reason> {
@@ -293,26 +329,25 @@ pub fn read_linked<'a>(bytes: &'a [u8]) -> Result<Linked<'a>, Reason> {
     if symbols.is_empty() {
         return Err("it has no symbol table".into());
     }
-    let (mut globals, mut locals) = (HashMap::default(), HashMap::<Cow<'a, str>, Vec<Definition>>::default());
-    let mut by_address = Vec::new();
-    for symbol in symbols {
+    let (mut globals, mut locals) = (HashMap::default(), HashMap::default());
+    let mut by_address = Vec::with_capacity(symbols.len());
+    for (index, symbol) in (0..).zip(&symbols) {
         let is_other = matches!(symbol.kind, elf::STT_SECTION | elf::STT_FILE);
         if symbol.home == Home::Undefined || symbol.name.is_empty() || is_other {
             continue;
         }
         let definition = Definition { address: symbol.value, other: symbol.other };
-        if symbol.is_local {
-            locals.entry(symbol.name.clone()).or_default().push(definition);
-        } else {
-            globals.entry(symbol.name.clone()).or_insert(definition);
+        let name = symbol.name.clone();
+        match symbol.is_local {
+            false => _ = globals.entry(name).or_insert(definition),
+            true => _ = (locals.entry(name).and_modify(|all: &mut Definitions| all.push(definition)))
+                .or_insert(Definitions::One(definition)),
         }
         if symbol.kind != elf::STT_TLS {
-            by_address.push((symbol.value, is_label(&symbol.name), symbol.name));
+            by_address.push((symbol.value, index));
         }
     }
-    // of symbols at one address those come first whose names are no compiler's labels
     by_address.sort_unstable();
-    let by_address = by_address.into_iter().map(|(address, _, name)| (address, name)).collect();
     let (mut moved, mut resolvers) = (HashMap::default(), HashMap::default());
     for section in table.iter().filter(|section| section.sh_flags(LE) & 2 != 0) {
         let Some((all, link)) = section.rela(LE, bytes).map_err(because)? else {
@@ -325,7 +360,7 @@ pub fn read_linked<'a>(bytes: &'a [u8]) -> Result<Linked<'a>, Reason> {
                 (index, Some(names)) => {
                     let symbol = names.symbol(index).map_err(because)?;
                     let name = symbol.name(LE, names.strings()).map_err(because)?;
-                    Entry::Symbol(String::from_utf8_lossy(name).into_owned())
+                    Entry::Symbol(text(name).into_owned())
                 }
                 _ => continue,
             };
@@ -376,6 +411,7 @@ pub fn read_linked<'a>(bytes: &'a [u8]) -> Result<Linked<'a>, Reason> {
         segments,
         globals,
         locals,
+        symbols,
         by_address,
         got,
         got_of,
@@ -415,7 +451,10 @@ impl<'a> Linked<'a> {
     pub fn name_at(&self, address: u64) -> Option<(&str, u64)> {
         let after = self.by_address.partition_point(|(start, _)| *start <= address);
         let at = self.by_address[..after].last()?.0;
-        let first = self.by_address.partition_point(|(start, _)| *start < at);
-        Some((&self.by_address[first].1, address - at))
+        let same = self.by_address[..after].iter().rev().take_while(|(start, _)| *start == at);
+        // of symbols at one address rather one whose name is no compiler's label
+        let names = same.map(|(_, index)| &*self.symbols[*index as usize].name);
+        let name = names.min_by_key(|name| (is_label(name), *name))?;
+        Some((name, address - at))
     }
 }

@@ -211,10 +211,15 @@ pub fn is_narrow(architecture: Architecture, one: &Relocation, it: &Section) -> 
 }
 
 /// Of an alignment how many bytes of nops the object has, and how many stay at a place.
+#[inline]
 pub fn alignment(architecture: Architecture, one: &Relocation, place: u64) -> Option<(u64, u64)> {
-    if !properties(architecture, one.code).is_alignment {
-        return None;
+    match properties(architecture, one.code).is_alignment {
+        true => nops(architecture, one, place),
+        false => None,
     }
+}
+
+fn nops(architecture: Architecture, one: &Relocation, place: u64) -> Option<(u64, u64)> {
     let (nops, to, most) = match architecture.name(one.code)? {
         "R_LARCH_ALIGN" if one.symbol != 0 => {
             // the psABI: the power of two, and from bit 8 on how many bytes of nops may stay

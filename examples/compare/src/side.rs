@@ -216,8 +216,8 @@ impl<'a> Side<'a> {
         let symbol = &self.objects[object].symbols[index];
         let global = || self.globals[object][index].map(|one| (one.address, one.other));
         let local = || {
-            let found = self.linked.locals.get(&symbol.name)?;
-            (found.len() == 1).then(|| (found[0].address, found[0].other))
+            let found = self.linked.locals.get(&symbol.name)?.only()?;
+            Some((found.address, found.other))
         };
         match symbol.home {
             Home::Section(_) if !symbol.is_local && !symbol.name.is_empty() => {

@@ -78,7 +78,7 @@ impl<'a> Definers<'a> {
         if let Some(global) = linked.globals.get(&symbol.name) {
             return Some(global.address);
         }
-        let hidden = linked.locals.get(&symbol.name).filter(|all| all.len() == 1)?[0].address;
+        let hidden = linked.locals.get(&symbol.name)?.only()?.address;
         let it = &object.sections[section];
         let is_it = !self.locals.contains(&*symbol.name)
             && align::fits(linked, it, symbol.value, hidden).is_some();
@@ -118,7 +118,7 @@ impl LocalSymbols {
         let mut found = LocalSymbols { addresses: HashMap::default(), repeated: HashSet::default() };
         for (name, symbols) in by_name {
             let Some(there) = linked.locals.get(name) else { continue };
-            let there: Vec<u64> = there.iter().map(|one| one.address).collect();
+            let there: Vec<u64> = there.all().iter().map(|one| one.address).collect();
             let is_label = is_label(name);
             let fits = |(index, at): (usize, usize), address: u64| {
                 let symbol = &objects[index].symbols[at];

@@ -79,7 +79,7 @@ fn compare_way(way: &str, counts: &mut [usize; 2]) {
         .iter()
         .flat_map(|object| &object.symbols)
         .filter(|it| !it.is_local && it.home != Home::Undefined)
-        .map(|it| it.name.clone())
+        .map(|it| it.name.to_string())
         .collect();
     let output = OutputFacts { is_executable: true, is_fixed: true };
     for object in &objects {

@@ -11,7 +11,7 @@ use crate::elf::{
 };
 
 /// Why a relocation has no value.
-#[derive(Debug, Clone, Copy, PartialEq, Eq)]
+#[derive(Clone, Copy, Debug, PartialEq, Eq)]
 pub enum ValueError {
     /// Its code has no row: no object's relocation has it.
     UnknownType,
