@@ -28,7 +28,7 @@ use linker_base::utils::{self, Uleb128Error};
 use linker_utils::elf::{Architecture, RelocateError, RelocationKind, Row};
 
 /// Why a relocation's value isn't written.
-#[derive(Clone, Copy)]
+#[derive(Debug, Clone, Copy, PartialEq, Eq)]
 pub enum RelocationError {
     /// It has no value.
     Value(ValueError),
@@ -42,7 +42,7 @@ pub enum RelocationError {
 }
 
 /// The first relocation of a section whose value isn't written.
-#[derive(Clone, Copy)]
+#[derive(Debug, Clone, Copy, PartialEq, Eq)]
 pub struct SectionError {
     /// Its index.
     pub index: usize,

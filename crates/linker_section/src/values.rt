@@ -24,7 +24,7 @@ use linker_utils::elf::{
 };
 
 /// Why a relocation has no value.
-#[derive(Clone, Copy)]
+#[derive(Debug, Clone, Copy, PartialEq, Eq)]
 pub enum ValueError {
     /// Its code has no row: no object's relocation has it.
     UnknownType,

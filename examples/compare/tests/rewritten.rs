@@ -26,7 +26,7 @@ fn entries_of(section: &Section) -> Vec<u8> {
 /// The facts of an object's symbols in a static executable, by the names that its objects define.
 fn facts_of(object: &Object, defined: &HashSet<String>) -> Vec<SymbolFacts> {
     let facts = |it: &elf::Symbol| {
-        let is_local = it.home != Home::Undefined || defined.contains(&it.name);
+        let is_local = it.home != Home::Undefined || defined.contains(&*it.name);
         SymbolFacts {
             is_local,
             is_ifunc: false,

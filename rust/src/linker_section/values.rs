@@ -11,7 +11,7 @@ use crate::elf::{
 };
 
 /// Why a relocation has no value.
-#[derive(Clone, Copy, Debug, PartialEq, Eq)]
+#[derive(Debug, Clone, Copy, PartialEq, Eq)]
 pub enum ValueError {
     /// Its code has no row: no object's relocation has it.
     UnknownType,
