@@ -25,6 +25,12 @@ ROOT = Path(__file__).resolve().parent.parent
 KIT = Path(shutil.which("rt")).resolve().parent.parent
 
 
+def commit():
+    """The number of the commit, which chooses samples."""
+    hashed = subprocess.run(["git", "rev-parse", "HEAD"], cwd=ROOT, stdout=subprocess.PIPE, check=True, text=True)
+    return int(hashed.stdout, 16)
+
+
 def crates():
     """The lines of crates.txt: each crate, whether it is a static library, and its dependencies."""
     listed = {}

@@ -29,8 +29,8 @@ fn unlike(linked: &Linked, it: &Section, offset: u64, address: u64) -> (usize, u
     if it.bytes.is_empty() {
         return (0, 0);
     }
-    let architecture = linked.architecture;
-    let may_delete = |one: &&Relocation| {
+    let (architecture, relocations) = (linked.architecture, &it.relocations[..]);
+    let may_delete = |one: &Relocation| {
         made::may_delete(architecture, one.code) || made::is_mark(architecture, one.code)
     };
     // rewrites may change the instruction and the next one
@@ -39,11 +39,26 @@ fn unlike(linked: &Linked, it: &Section, offset: u64, address: u64) -> (usize, u
         None => one.offset + made::len(architecture, one.code).max(4) + 4,
     };
     let (first, last) = (offset.saturating_sub(BEFORE), offset.saturating_add(BEHIND));
-    let near = &it.relocations[between(it, first, last.min(it.bytes.len() as u64))];
-    let (before, after) = near.split_at(near.partition_point(|one| one.offset < offset));
-    let start = before.iter().rev().find(may_delete).map_or(first, past).min(offset);
-    let end = last.min(it.bytes.len() as u64);
-    let end = after.iter().find(may_delete).map_or(end, |one| one.offset);
+    let last = last.min(it.bytes.len() as u64);
+    // the bytes, and the relocations among them
+    let (mut start, mut end) = (first, last);
+    let here = relocations.partition_point(|one| one.offset < offset.min(last));
+    let (mut from, mut to) = (here, here);
+    while from > 0 && relocations[from - 1].offset >= start {
+        from -= 1;
+        if may_delete(&relocations[from]) {
+            start = past(&relocations[from]).min(offset);
+            from += relocations[from..here].partition_point(|one| one.offset < start);
+        }
+    }
+    while to < relocations.len() && relocations[to].offset < end {
+        if may_delete(&relocations[to]) {
+            end = relocations[to].offset;
+            to = here + relocations[here..to].partition_point(|one| one.offset < end);
+            break;
+        }
+        to += 1;
+    }
     let (mut all, mut others, mut at) = (0, 0, start);
     let mut compare = |from: u64, to: u64| {
         let Some(original) = it.bytes.get(from as usize..to as usize) else { return };
@@ -52,7 +67,7 @@ fn unlike(linked: &Linked, it: &Section, offset: u64, address: u64) -> (usize, u
         all += original.len();
         others += original.len() - same;
     };
-    for one in near.iter().filter(|one| one.offset >= start && one.offset < end) {
+    for one in &relocations[from..to] {
         compare(at, one.offset.saturating_sub(4).max(at));
         at = at.max(past(one));
     }
@@ -308,7 +323,7 @@ impl<'a> Walk<'a> {
             !site.is_alignment && !made::is_mark(architecture, self.it.relocations[*index].code)
         };
         let values = site.indices.clone().filter(is_value);
-        values.map(|index| Deletable::new(self.linked, self.it, index, site.is_relaxable)).collect()
+        values.map(|index| Deletable::new(self.linked, self.it, index)).collect()
     }
 
     /// Adds the states behind the relocations at an offset, and the offset behind deleted bytes with

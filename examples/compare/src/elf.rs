@@ -7,6 +7,7 @@ use object::LittleEndian;
 use object::elf::{self, FileHeader64, SectionHeader64};
 use object::read::archive::ArchiveFile;
 use object::read::elf::{FileHeader, ProgramHeader, Rela, SectionHeader, SectionTable, Sym};
+use std::borrow::Cow;
 
 /// Whether a name is that of a compiler's or an assembler's label.
 pub fn is_label(name: &str) -> bool {
@@ -34,7 +35,7 @@ pub struct Relocation {
 }
 
 pub struct Section<'a> {
-    pub name: String,
+    pub name: Cow<'a, str>,
     /// Empty where the file has no bytes for it.
     pub bytes: &'a [u8],
     pub size: u64,
@@ -54,8 +55,8 @@ pub enum Home {
     Section(usize),
 }
 
-pub struct Symbol {
-    pub name: String,
+pub struct Symbol<'a> {
+    pub name: Cow<'a, str>,
     pub home: Home,
     /// Of a symbol in a section its offset there.
     pub value: u64,
@@ -73,7 +74,7 @@ pub struct Object<'a> {
     pub is_member: bool,
     pub architecture: Architecture,
     pub sections: Vec<Section<'a>>,
-    pub symbols: Vec<Symbol>,
+    pub symbols: Vec<Symbol<'a>>,
 }
 
 pub struct Linked<'a> {
@@ -81,10 +82,11 @@ pub struct Linked<'a> {
     /// Address and bytes, by address.
     segments: Vec<(u64, &'a [u8])>,
     /// The addresses of each name of global symbols, and of local ones in the table's order.
-    pub globals: HashMap<String, Definition>,
-    pub locals: HashMap<String, Vec<Definition>>,
-    /// Address and name, by address.
-    pub by_address: Vec<(u64, String)>,
+    pub globals: HashMap<Cow<'a, str>, Definition>,
+    pub locals: HashMap<Cow<'a, str>, Definitions>,
+    /// The symbols that have a place, and their indices by address.
+    symbols: Vec<Symbol<'a>>,
+    by_address: Vec<(u64, u32)>,
     /// The words of the GOT: what each leads to, and its address.
     pub got: Vec<(u64, Entry)>,
     /// The entries of each content.
@@ -93,7 +95,7 @@ pub struct Linked<'a> {
     pub got_base: u64,
     pub stubs: Stubs,
     /// Names, addresses and bytes of the sections.
-    sections: Vec<(String, u64, &'a [u8])>,
+    sections: Vec<(Cow<'a, str>, u64, &'a [u8])>,
     /// What dynamic relocations put at addresses.
     moved: HashMap<u64, Entry>,
 }
@@ -104,6 +106,36 @@ pub struct Definition {
     pub other: u8,
 }
 
+/// Those of one name, of which most have one.
+pub enum Definitions {
+    One(Definition),
+    Several(Vec<Definition>),
+}
+
+impl Definitions {
+    pub fn all(&self) -> &[Definition] {
+        match self {
+            Definitions::One(one) => std::slice::from_ref(one),
+            Definitions::Several(all) => all,
+        }
+    }
+
+    /// The one, if there aren't others.
+    pub fn only(&self) -> Option<Definition> {
+        match self.all() {
+            [one] => Some(*one),
+            _ => None,
+        }
+    }
+
+    fn push(&mut self, next: Definition) {
+        match self {
+            Definitions::One(one) => *self = Definitions::Several(vec![*one, next]),
+            Definitions::Several(all) => all.push(next),
+        }
+    }
+}
+
 /// What a GOT entry leads to.
 #[derive(Clone, PartialEq)]
 pub enum Entry {
@@ -112,11 +144,9 @@ pub enum Entry {
     Symbol(String),
 }
 
-fn text(bytes: &[u8]) -> String {
-    match str::from_utf8(bytes) {
-        Ok(text) => text.into(),
-        Err(_) => String::from_utf8_lossy(bytes).into_owned(),
-    }
+fn text(bytes: &[u8]) -> Cow<'_, str> {
+    // quicker than the other where it is UTF-8
+    str::from_utf8(bytes).map_or_else(|_| String::from_utf8_lossy(bytes), Cow::Borrowed)
 }
 
 fn because(error: object::read::Error) -> Reason {
@@ -140,9 +170,9 @@ fn head(bytes: &[u8]) -> Result<(&Head, Architecture), Reason> {
 /// A section's name and bytes.
 fn name_and_bytes<'a>(
     table: &SectionTable<'a, Head>,
-    section: &SectionHeader64<LittleEndian>,
+    section: &'a SectionHeader64<LittleEndian>,
     bytes: &'a [u8],
-) -> Result<(String, &'a [u8]), Reason> {
+) -> Result<(Cow<'a, str>, &'a [u8]), Reason> {
     let name = text(table.section_name(LE, section).map_err(because)?);
     match section.data(LE, bytes) {
         _ if section.sh_type(LE) == elf::SHT_NULL => Ok((name, &[])),
@@ -151,11 +181,11 @@ fn name_and_bytes<'a>(
     }
 }
 
-fn symbols_of(
+fn symbols_of<'a>(
     head: &Head,
-    bytes: &[u8],
+    bytes: &'a [u8],
     table: u32,
-) -> Result<Vec<Symbol>, Reason> {
+) -> Result<Vec<Symbol<'a>>, Reason> {
     let sections = head.sections(LE, bytes).map_err(because)?;
     let symbols = sections.symbols(LE, bytes, table).map_err(because)?;
     let mut all = Vec::with_capacity(symbols.len());
@@ -270,11 +300,11 @@ fn words(address: u64, bytes: &[u8]) -> impl Iterator<Item = (u64, u64)> + '_ {
 
 /// A global symbol, or the first local one of a name.
 fn first_of(
-    globals: &HashMap<String, Definition>,
-    locals: &HashMap<String, Vec<Definition>>,
+    globals: &HashMap<Cow<str>, Definition>,
+    locals: &HashMap<Cow<str>, Definitions>,
     name: &str,
 ) -> Option<Definition> {
-    globals.get(name).or_else(|| locals.get(name)?.first()).copied()
+    globals.get(name).or_else(|| locals.get(name)?.all().first()).copied()
 }
 
 pub fn read_linked<'a>(bytes: &'a [u8]) -> Result<Linked<'a>, Reason> {
@@ -299,26 +329,25 @@ pub fn read_linked<'a>(bytes: &'a [u8]) -> Result<Linked<'a>, Reason> {
     if symbols.is_empty() {
         return Err("it has no symbol table".into());
     }
-    let (mut globals, mut locals) = (HashMap::default(), HashMap::<String, Vec<Definition>>::default());
-    let mut by_address = Vec::new();
-    for symbol in symbols {
+    let (mut globals, mut locals) = (HashMap::default(), HashMap::default());
+    let mut by_address = Vec::with_capacity(symbols.len());
+    for (index, symbol) in (0..).zip(&symbols) {
         let is_other = matches!(symbol.kind, elf::STT_SECTION | elf::STT_FILE);
         if symbol.home == Home::Undefined || symbol.name.is_empty() || is_other {
             continue;
         }
         let definition = Definition { address: symbol.value, other: symbol.other };
-        if symbol.is_local {
-            locals.entry(symbol.name.clone()).or_default().push(definition);
-        } else {
-            globals.entry(symbol.name.clone()).or_insert(definition);
+        let name = symbol.name.clone();
+        match symbol.is_local {
+            false => _ = globals.entry(name).or_insert(definition),
+            true => _ = (locals.entry(name).and_modify(|all: &mut Definitions| all.push(definition)))
+                .or_insert(Definitions::One(definition)),
         }
         if symbol.kind != elf::STT_TLS {
-            by_address.push((symbol.value, is_label(&symbol.name), symbol.name));
+            by_address.push((symbol.value, index));
         }
     }
-    // of symbols at one address those come first whose names are no compiler's labels
     by_address.sort_unstable();
-    let by_address = by_address.into_iter().map(|(address, _, name)| (address, name)).collect();
     let (mut moved, mut resolvers) = (HashMap::default(), HashMap::default());
     for section in table.iter().filter(|section| section.sh_flags(LE) & 2 != 0) {
         let Some((all, link)) = section.rela(LE, bytes).map_err(because)? else {
@@ -331,7 +360,7 @@ pub fn read_linked<'a>(bytes: &'a [u8]) -> Result<Linked<'a>, Reason> {
                 (index, Some(names)) => {
                     let symbol = names.symbol(index).map_err(because)?;
                     let name = symbol.name(LE, names.strings()).map_err(because)?;
-                    Entry::Symbol(text(name))
+                    Entry::Symbol(text(name).into_owned())
                 }
                 _ => continue,
             };
@@ -363,7 +392,7 @@ pub fn read_linked<'a>(bytes: &'a [u8]) -> Result<Linked<'a>, Reason> {
     for (at, entry) in &got {
         let content = match entry {
             Entry::Address(address) => Some(*address),
-            Entry::Symbol(name) => globals.get(name).map(|one: &Definition| one.address),
+            Entry::Symbol(name) => globals.get(name.as_str()).map(|one: &Definition| one.address),
         };
         if let Some(content) = content {
             got_of.entry(content).or_default().push(*at);
@@ -382,6 +411,7 @@ pub fn read_linked<'a>(bytes: &'a [u8]) -> Result<Linked<'a>, Reason> {
         segments,
         globals,
         locals,
+        symbols,
         by_address,
         got,
         got_of,
@@ -421,7 +451,10 @@ impl<'a> Linked<'a> {
     pub fn name_at(&self, address: u64) -> Option<(&str, u64)> {
         let after = self.by_address.partition_point(|(start, _)| *start <= address);
         let at = self.by_address[..after].last()?.0;
-        let first = self.by_address.partition_point(|(start, _)| *start < at);
-        Some((&self.by_address[first].1, address - at))
+        let same = self.by_address[..after].iter().rev().take_while(|(start, _)| *start == at);
+        // of symbols at one address rather one whose name is no compiler's label
+        let names = same.map(|(_, index)| &*self.symbols[*index as usize].name);
+        let name = names.min_by_key(|name| (is_label(name), *name))?;
+        Some((name, address - at))
     }
 }

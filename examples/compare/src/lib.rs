@@ -20,6 +20,7 @@ use elf::{Object, Relocation};
 use linker_utils::elf::Architecture;
 use map::Anchors;
 use side::{Made, Side};
+use std::mem::ManuallyDrop;
 use std::panic::resume_unwind;
 use std::sync::atomic::{AtomicU64, Ordering};
 use std::time::Duration;
@@ -113,7 +114,8 @@ pub fn compare<'a>(
         both.map(|one| one.join().unwrap_or_else(|panic| resume_unwind(panic)))
     });
     let [first, second] = sides;
-    let mut sides = [first?, second?];
+    // what is known of the files is large, and stays until the program ends
+    let mut sides = ManuallyDrop::new([first?, second?]);
     let mut counts = Counts::default();
     for (at, object) in objects.iter().enumerate() {
         let names = report::names_of(object);
@@ -122,7 +124,7 @@ pub fn compare<'a>(
             if !section.is_allocated || section.relocations.is_empty() {
                 continue;
             }
-            let [a, b] = &mut sides;
+            let [a, b] = &mut *sides;
             let both = a.take_made(at, index).into_iter().zip(b.take_made(at, index));
             let maps = [&a.maps[at][index], &b.maps[at][index]];
             for (relocation, (a, b)) in section.relocations.iter().zip(both) {

@@ -4,12 +4,17 @@
 use crate::elf::{Relocation, Section};
 use crate::forms::{self, Base, Form};
 use crate::map::Bytes;
+use linker_utils::aarch64::AArch64Relocation;
 use linker_utils::architecture::Relaxation;
 use linker_utils::elf::{Architecture, InstructionRewrite, Operands, Row};
-use linker_utils::ppc64;
+use linker_utils::loongarch64::LoongArch64Relocation;
+use linker_utils::ppc64::{self, Ppc64Relocation};
 use linker_utils::reading::{FieldValue, read, solve};
-use linker_utils::recognise::{self, FieldBits};
+use linker_utils::recognise::{self, FieldBits, RecognisedName};
 use linker_utils::relaxation::RelocationModifier;
+use linker_utils::riscv64::RiscVRelocation;
+use linker_utils::x86_64::X86_64Relocation;
+use std::ops::RangeInclusive;
 use std::sync::OnceLock;
 
 /// A rewrite.
@@ -28,6 +33,19 @@ pub struct Chosen {
 }
 
 impl Chosen {
+    /// What leaves a relocation and its instruction as they are.
+    pub fn nothing(architecture: Architecture, relocation: u32) -> Option<Chosen> {
+        let kind = match architecture {
+            Architecture::AArch64 => Relaxation::AArch64(Default::default()),
+            Architecture::LoongArch64 => Relaxation::LoongArch64(Default::default()),
+            Architecture::Ppc64 => Relaxation::Ppc64(Default::default()),
+            Architecture::RiscV => Relaxation::RiscV(Default::default()),
+            Architecture::X86_64 => Relaxation::X86_64(Default::default()),
+            _ => return None,
+        };
+        Some(Chosen { kind: Kind::Library(kind), relocation })
+    }
+
     /// Whether it changes instructions.
     pub fn is_rewrite(&self) -> bool {
         match self.kind {
@@ -76,6 +94,10 @@ impl Chosen {
 /// What a relocation's name and row say, which is asked for often.
 struct Properties {
     row: Option<Row>,
+    /// Of how many bytes it is.
+    len: u64,
+    /// Whether the library lists a rewrite of it.
+    is_rewritten: bool,
     is_mark: bool,
     is_uleb128: bool,
     may_delete: bool,
@@ -85,13 +107,39 @@ struct Properties {
 impl Properties {
     fn new(architecture: Architecture, code: u32) -> Properties {
         let name = architecture.name(code).unwrap_or("");
+        let row = architecture.row(code);
+        let is_mark = ["_NONE", "_RELAX", "_ALIGN"].iter().any(|end| name.ends_with(end));
+        let window = row.map_or(0, |row| row.window() as u64);
         Properties {
-            row: architecture.row(code),
-            is_mark: ["_NONE", "_RELAX", "_ALIGN"].iter().any(|end| name.ends_with(end)),
+            row,
+            len: match architecture {
+                Architecture::X86_64 => window,
+                _ if window > 0 || is_mark => window,
+                // some only say what an instruction is for
+                _ => 4,
+            },
+            is_rewritten: !name.is_empty() && has_rewrites(architecture, code),
+            is_mark,
             is_uleb128: name.ends_with("_ULEB128"),
             may_delete: name.ends_with("_RELAX") || name.starts_with("R_RISCV_TLSDESC_"),
             is_alignment: matches!(name, "R_LARCH_ALIGN" | "R_RISCV_ALIGN"),
         }
+    }
+}
+
+/// Whether the library lists a rewrite of a relocation.
+fn has_rewrites(architecture: Architecture, code: u32) -> bool {
+    // on x86-64 the byte of the opcode tells which
+    fn lists<N: RecognisedName>(name: N, mut opcodes: RangeInclusive<u8>) -> bool {
+        opcodes.any(|opcode| name.listed(&[opcode, 0], 2).1 > 1)
+    }
+    match architecture {
+        Architecture::AArch64 => lists(AArch64Relocation::from_elf(code), 0..=0),
+        Architecture::LoongArch64 => lists(LoongArch64Relocation::from_elf(code), 0..=0),
+        Architecture::Ppc64 => lists(Ppc64Relocation::from_elf(code), 0..=0),
+        Architecture::RiscV => lists(RiscVRelocation::from_elf(code), 0..=0),
+        Architecture::X86_64 => lists(X86_64Relocation::from_elf(code), 0..=u8::MAX),
+        _ => true,
     }
 }
 
@@ -100,28 +148,32 @@ const CODES: u32 = 2048;
 
 fn properties(architecture: Architecture, code: u32) -> &'static Properties {
     static TABLES: [OnceLock<Vec<Properties>>; 5] = [const { OnceLock::new() }; 5];
-    static NOTHING: Properties = Properties {
+    const NOTHING: Properties = Properties {
         row: None,
+        len: 4,
+        is_rewritten: true,
         is_mark: false,
         is_uleb128: false,
         may_delete: false,
         is_alignment: false,
     };
+    static OTHERS: [Properties; 2] = [NOTHING, Properties { len: 0, ..NOTHING }];
     let table = match architecture {
         Architecture::AArch64 => &TABLES[0],
         Architecture::LoongArch64 => &TABLES[1],
         Architecture::Ppc64 => &TABLES[2],
         Architecture::RiscV => &TABLES[3],
         Architecture::X86_64 => &TABLES[4],
-        _ => return &NOTHING,
+        _ => return &OTHERS[0],
     };
     let all = || (0..CODES).map(|code| Properties::new(architecture, code)).collect();
-    table.get_or_init(all).get(code as usize).unwrap_or(&NOTHING)
+    let is_x86_64 = architecture == Architecture::X86_64;
+    table.get_or_init(all).get(code as usize).unwrap_or(&OTHERS[usize::from(is_x86_64)])
 }
 
 /// The row of a relocation, as `Architecture::row`.
-pub fn row(architecture: Architecture, code: u32) -> Option<Row> {
-    properties(architecture, code).row
+pub fn row(architecture: Architecture, code: u32) -> Option<&'static Row> {
+    properties(architecture, code).row.as_ref()
 }
 
 /// Whether a relocation only marks or pads.
@@ -141,13 +193,12 @@ pub fn may_delete(architecture: Architecture, code: u32) -> bool {
 
 /// How many bytes of instructions or data a relocation is of.
 pub fn len(architecture: Architecture, code: u32) -> u64 {
-    let window = row(architecture, code).map_or(0, |row| row.window() as u64);
-    match architecture {
-        Architecture::X86_64 => window,
-        _ if window > 0 || is_mark(architecture, code) => window,
-        // some only say what an instruction is for
-        _ => 4,
-    }
+    properties(architecture, code).len
+}
+
+/// Whether the library lists a rewrite of a relocation, whatever its instruction is.
+pub fn is_rewritten(architecture: Architecture, code: u32) -> bool {
+    properties(architecture, code).is_rewritten
 }
 
 /// Whether no choice of the library for a relocation has bytes outside of the relocation's.
@@ -160,10 +211,15 @@ pub fn is_narrow(architecture: Architecture, one: &Relocation, it: &Section) -> 
 }
 
 /// Of an alignment how many bytes of nops the object has, and how many stay at a place.
+#[inline]
 pub fn alignment(architecture: Architecture, one: &Relocation, place: u64) -> Option<(u64, u64)> {
-    if !properties(architecture, one.code).is_alignment {
-        return None;
+    match properties(architecture, one.code).is_alignment {
+        true => nops(architecture, one, place),
+        false => None,
     }
+}
+
+fn nops(architecture: Architecture, one: &Relocation, place: u64) -> Option<(u64, u64)> {
     let (nops, to, most) = match architecture.name(one.code)? {
         "R_LARCH_ALIGN" if one.symbol != 0 => {
             // the psABI: the power of two, and from bit 8 on how many bytes of nops may stay
@@ -183,7 +239,7 @@ pub fn alignment(architecture: Architecture, one: &Relocation, place: u64) -> Op
 /// What stands in the field of a choice's relocation.
 #[derive(Clone, Copy)]
 pub struct Field {
-    pub row: Row,
+    pub row: &'static Row,
     pub value: FieldValue,
     /// Where it is, in the linked file.
     pub place: u64,
@@ -289,12 +345,17 @@ impl Before {
         }
         let row = row(self.architecture, chosen.relocation)?;
         let bytes = linked.get(usize::try_from(at).ok()?..)?;
-        let value = read(&row, bytes)?;
+        let value = read(row, bytes)?;
         Some(Field { row, value, place: address.wrapping_add(at), addend, base })
     }
 }
 
 impl Field {
+    /// What stands in the bytes of a relocation that is as it was.
+    pub fn of(row: &'static Row, bytes: &[u8], place: u64, addend: i64) -> Option<Field> {
+        Some(Field { row, value: read(row, bytes)?, place, addend, base: Base::Nothing })
+    }
+
     pub fn is_through_got(&self) -> bool {
         self.row.asks_for_got()
     }

@@ -19,6 +19,16 @@ fn address_at(map: &Anchors, after: usize, offset: u64) -> Option<u64> {
     (*address != NOWHERE).then(|| address.wrapping_add(offset).wrapping_sub(*start))
 }
 
+/// Where the bytes between two offsets are, if nothing is deleted between them.
+pub fn address_of_whole(map: &Anchors, (start, end): (u64, u64)) -> Option<u64> {
+    let after = map.partition_point(|(offset, _)| *offset <= start);
+    let address = address_at(map, after, start)?;
+    let is_whole = map.get(after).is_none_or(|(offset, there)| {
+        *offset >= end && there.wrapping_sub(address) == offset - start
+    });
+    is_whole.then_some(address)
+}
+
 /// The bytes of a window, at most 64 of them.
 #[derive(Clone, Copy)]
 pub struct Bytes {
@@ -76,16 +86,14 @@ pub fn window(
     (start, end): (u64, u64),
     own: (u64, u64),
 ) -> Option<Window> {
-    let after = map.partition_point(|(offset, _)| *offset <= start);
-    let (mut at, mut address) = (start, address_at(map, after, start)?);
     // mostly nothing is deleted up to the next offset that is known
-    let is_whole = map.get(after).is_none_or(|(offset, there)| {
-        *offset >= end && there.wrapping_sub(address) == offset - start
-    });
-    if is_whole && own.0 >= start && own.0 < end {
+    let whole = address_of_whole(map, (start, end)).filter(|_| own.0 >= start && own.0 < end);
+    if let Some(address) = whole {
         let bytes = linked.bytes_at(address)?.get(..(end - start) as usize)?;
         return Some(Window { bytes: Bytes::of(bytes)?, deleted: 0, address });
     }
+    let after = map.partition_point(|(offset, _)| *offset <= start);
+    let (mut at, mut address) = (start, address_at(map, after, start)?);
     let before = own.0.wrapping_sub(start);
     let place = address_in(map, own.0)?;
     let address_of_start = place.wrapping_sub(before);

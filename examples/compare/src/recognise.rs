@@ -2,7 +2,7 @@
 
 use crate::map::{self, Anchors, Bytes};
 use crate::elf::{Home, Linked, Relocation, Section};
-use crate::made::{self, Before, Chosen};
+use crate::made::{self, Before, Chosen, Field};
 use crate::side::{Side, Target};
 use crate::targets::Pending;
 use linker_utils::elf::Architecture;
@@ -10,7 +10,7 @@ use linker_utils::recognise::{FieldBits, field_bits};
 use object::elf::{
     R_PPC64_ADDR64, R_PPC64_GOT16_HA, R_PPC64_GOT16_LO_DS, R_PPC64_TOC16_HA, R_PPC64_TOC16_LO_DS,
 };
-use std::cell::RefCell;
+use std::cell::{Cell, OnceCell, RefCell};
 
 pub struct Found {
     /// A rewrite before this one.
@@ -105,9 +105,47 @@ impl Side<'_> {
         is_address.then_some(Relocation { offset, code, symbol, addend })
     }
 
+    /// The choice for a relocation of which the library lists no rewrite, where its field alone is
+    /// another, no other relocation is of its bytes, and it leads to its symbol.
+    fn unchanged(&self, at: At, one: &Relocation) -> Option<Found> {
+        let (architecture, linked) = (self.linked.architecture, self.linked);
+        if made::is_rewritten(architecture, one.code) {
+            return None;
+        }
+        let row = made::row(architecture, one.code)?;
+        let (start, end) = (one.offset, one.offset + made::len(architecture, one.code));
+        let original = at.it.bytes.get(start as usize..end as usize)?;
+        let is_other = |other: &Relocation| {
+            let row = made::row(architecture, other.code);
+            row.is_some_and(|row| other.offset + row.window() as u64 > start)
+        };
+        let before = at.it.relocations[..at.index].iter().rev();
+        let after = at.it.relocations[at.index + 1..].iter();
+        if before.take_while(|other| other.offset + 16 > start).any(is_other)
+            || after.take_while(|other| other.offset < end).any(is_other)
+        {
+            return None;
+        }
+        let address = map::address_of_whole(at.map, (start, end))?;
+        let there = linked.bytes_at(address)?.get(..original.len())?;
+        let kept = !field_bits(row, original);
+        if (number(original)? ^ number(there)?) & kept != 0 || !has_same_opcode(linked, at) {
+            return None;
+        }
+        let field = Field::of(row, there, address, one.addend)?;
+        let target = self.target_of(at, one, &field);
+        let is_through_got = field.is_through_got();
+        let chosen = Chosen::nothing(architecture, one.code)?;
+        let found = Found { first: None, chosen, other: None, is_through_got, target, start, end };
+        Some(found).filter(Found::is_sure)
+    }
+
     /// The choice for a relocation at a place, which may be another than the object has there.
     fn recognise_as(&self, at: At, one: &Relocation) -> Option<Found> {
         let architecture = self.linked.architecture;
+        if let Some(found) = self.unchanged(at, one) {
+            return Some(found);
+        }
         let len = made::len(architecture, one.code);
         let windows: &[(u64, u64)] = match architecture {
             Architecture::X86_64 => &[(6, 12), (4, 12), (6, len), (3, len), (0, len)],
@@ -202,6 +240,13 @@ impl Side<'_> {
     }
 }
 
+/// At most eight bytes as a number.
+fn number(bytes: &[u8]) -> Option<u64> {
+    let mut word = [0; 8];
+    word.get_mut(..bytes.len())?.copy_from_slice(bytes);
+    Some(u64::from_le_bytes(word))
+}
+
 /// Whether the opcode before a field of x86-64 is as it was.
 fn has_same_opcode(linked: &Linked, at: At) -> bool {
     let one = &at.it.relocations[at.index];
@@ -219,55 +264,68 @@ fn has_same_opcode(linked: &Linked, at: At) -> bool {
 /// A relocation of which bytes may be deleted, in one or two windows of its section.
 pub struct Deletable<'a> {
     linked: &'a Linked<'a>,
+    it: &'a Section<'a>,
+    index: usize,
     /// Its bytes.
     own: &'a [u8],
     /// Their bits that are as they were where nothing is rewritten.
     kept: u64,
-    /// A bit for each count of deleted bytes that choices of the library may have.
-    counts: u64,
-    /// Before a deletion, the fields of other relocations, and the bytes behind the relocation's.
-    windows: Vec<(Before, Vec<FieldBits>, &'a [u8])>,
+    windows: OnceCell<Vec<Around<'a>>>,
+    /// For each count of deleted bytes whether choices of the library may have it, once it was asked.
+    may_be: [Cell<Option<bool>>; 9],
 }
 
+/// What is before a deletion, the fields of other relocations, and the bytes behind the relocation's.
+type Around<'a> = (Before, Vec<FieldBits>, &'a [u8]);
+
 impl<'a> Deletable<'a> {
-    /// `may_delete`: whether bytes are deleted, or else `start` is asked for none alone.
-    pub fn new(
-        linked: &'a Linked<'a>,
-        it: &'a Section<'a>,
-        index: usize,
-        may_delete: bool,
-    ) -> Deletable<'a> {
+    pub fn new(linked: &'a Linked<'a>, it: &'a Section<'a>, index: usize) -> Deletable<'a> {
         let one = &it.relocations[index];
         let architecture = linked.architecture;
-        let len = made::len(architecture, one.code);
-        let past = one.offset + len;
-        let ends = [one.offset + 8, past].map(|end| end.max(past).min(it.bytes.len() as u64));
-        let window = |end: u64| {
-            let mut others = Vec::new();
-            let (start, end) = fields(architecture, it, index, (one.offset, end), &mut others)?;
-            if start != one.offset {
-                return None;
-            }
-            let behind = it.bytes.get(past as usize..end as usize)?;
-            Some((Before::new(architecture, one, it, (start, end))?, others, behind))
-        };
-        let ends = if ends[0] == ends[1] { &ends[..1] } else { &ends[..] };
-        let windows: Vec<_> = ends.iter().filter_map(|end| window(*end)).collect();
+        let past = one.offset + made::len(architecture, one.code);
         let own = it.bytes.get(one.offset as usize..past as usize).unwrap_or(&[]);
         let row = made::row(architecture, one.code);
-        let field = row.filter(|row| row.window() <= own.len()).map(|row| field_bits(&row, own));
-        let mut it = Deletable { linked, own, kept: !field.unwrap_or(0), counts: 0, windows };
-        // whatever bytes there are: all of them are other fields
-        let all = [0, 8, 16, 24, 32, 40, 48, 56].map(|offset| FieldBits { offset, bits: u64::MAX });
-        for count in (0..=len.min(8)).step_by(2).filter(|count| may_delete || *count == 0) {
-            let there = [0; 64];
-            let Some(there) = there.get(..(len - count) as usize) else { continue };
-            let may_be = it.find(there, |before, _, bytes| {
-                before.choices(&all, bytes).find(|one| one.deleted_count() == count)
-            });
-            it.counts |= u64::from(may_be.is_some()) << count;
+        let field = row.filter(|row| row.window() <= own.len()).map(|row| field_bits(row, own));
+        let kept = !field.unwrap_or(0);
+        let (windows, may_be) = (OnceCell::new(), Default::default());
+        Deletable { linked, it, index, own, kept, windows, may_be }
+    }
+
+    /// Those windows that can be looked at.
+    fn windows(&self) -> &[Around<'a>] {
+        self.windows.get_or_init(|| {
+            let (it, architecture) = (self.it, self.linked.architecture);
+            let one = &it.relocations[self.index];
+            let past = one.offset + made::len(architecture, one.code);
+            let ends = [one.offset + 8, past].map(|end| end.max(past).min(it.bytes.len() as u64));
+            let window = |end: u64| {
+                let mut others = Vec::new();
+                let within = fields(architecture, it, self.index, (one.offset, end), &mut others)?;
+                if within.0 != one.offset {
+                    return None;
+                }
+                let behind = it.bytes.get(past as usize..within.1 as usize)?;
+                Some((Before::new(architecture, one, it, within)?, others, behind))
+            };
+            let ends = if ends[0] == ends[1] { &ends[..1] } else { &ends[..] };
+            ends.iter().filter_map(|end| window(*end)).collect()
+        })
+    }
+
+    /// Whether choices of the library may delete so many bytes, whatever bytes are left.
+    fn may_be(&self, deleted: u64) -> bool {
+        let Some(known) = self.may_be.get(deleted as usize) else { return false };
+        if let Some(known) = known.get() {
+            return known;
         }
-        it
+        // all of them are other fields
+        let all = [0, 8, 16, 24, 32, 40, 48, 56].map(|offset| FieldBits { offset, bits: u64::MAX });
+        let there = &[0; 64][..self.own.len() - deleted as usize];
+        let found = self.find(there, |before, _, bytes| {
+            before.choices(&all, bytes).find(|one| one.deleted_count() == deleted)
+        });
+        known.set(Some(found.is_some()));
+        found.is_some()
     }
 
     /// What is found of one of the windows, of which these bytes are left of the relocation's.
@@ -276,7 +334,7 @@ impl<'a> Deletable<'a> {
         there: &[u8],
         find: impl Fn(&Before, &[FieldBits], &[u8]) -> Option<T>,
     ) -> Option<T> {
-        self.windows.iter().find_map(|(before, others, behind)| {
+        self.windows().iter().find_map(|(before, others, behind)| {
             let mut bytes = Bytes::of(there)?;
             bytes.push(behind)?;
             find(before, others, &bytes)
@@ -292,10 +350,10 @@ impl<'a> Deletable<'a> {
             0 => &[],
             _ => self.linked.bytes_at(place)?.get(..kept as usize)?,
         };
-        if deleted == 0 && !self.windows.is_empty() && self.is_as_it_was(there) {
+        if deleted == 0 && self.is_as_it_was(there) && !self.windows().is_empty() {
             return Some(0);
         }
-        let may_be = self.counts >> deleted & 1 == 1;
+        let may_be = self.may_be(deleted);
         self.find(there, |before, others, linked| {
             let found = may_be.then(|| before.choices(others, linked));
             let mut found = found.into_iter().flatten().chain(before.own_choice(linked));
@@ -306,12 +364,7 @@ impl<'a> Deletable<'a> {
 
     /// Whether bytes are the relocation's, but for its field.
     fn is_as_it_was(&self, there: &[u8]) -> bool {
-        let word = |bytes: &[u8]| {
-            let mut word = [0; 8];
-            word.get_mut(..bytes.len())?.copy_from_slice(bytes);
-            Some(u64::from_le_bytes(word))
-        };
-        match (word(self.own), word(there)) {
+        match (number(self.own), number(there)) {
             (Some(own), Some(there)) => (own ^ there) & self.kept == 0,
             _ => self.own == there,
         }
@@ -356,7 +409,7 @@ fn fields(
         let offset = other.offset - start;
         let bytes = &window[offset as usize..];
         if bytes.len() >= row.window() {
-            others.push(FieldBits { offset, bits: field_bits(&row, bytes) });
+            others.push(FieldBits { offset, bits: field_bits(row, bytes) });
         }
     };
     before.for_each(&mut add);

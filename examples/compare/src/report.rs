@@ -14,7 +14,7 @@ pub fn names_of<'a>(object: &'a Object<'a>) -> Vec<Vec<(u64, &'a str)>> {
         let Home::Section(section) = one.home else { continue };
         let is_other = matches!(one.kind, STT_SECTION | STT_FILE);
         if !is_other && !one.name.is_empty() && !is_label(&one.name) {
-            names[section].push((one.value, one.name.as_str()));
+            names[section].push((one.value, &*one.name));
         }
     }
     names.iter_mut().for_each(|names| names.sort_unstable());
@@ -34,7 +34,7 @@ pub fn symbol(object: &Object, one: &Relocation) -> String {
         _ => &symbol.name,
     };
     match one.addend {
-        0 => name.clone(),
+        0 => name.to_string(),
         addend if addend < 0 => format!("{name}-{:#x}", addend.unsigned_abs()),
         addend => format!("{name}+{addend:#x}"),
     }

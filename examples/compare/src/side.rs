@@ -66,7 +66,7 @@ impl<'a> Side<'a> {
             let mut firm = vec![Vec::new(); object.sections.len()];
             for (at, symbol) in object.symbols.iter().enumerate() {
                 let Home::Section(section) = symbol.home else { continue };
-                let name = symbol.name.as_str();
+                let name = &*symbol.name;
                 if !symbols::is_named(symbol) || !object.sections[section].is_allocated {
                     continue;
                 }
@@ -216,14 +216,14 @@ impl<'a> Side<'a> {
         let symbol = &self.objects[object].symbols[index];
         let global = || self.globals[object][index].map(|one| (one.address, one.other));
         let local = || {
-            let found = self.linked.locals.get(&symbol.name)?;
-            (found.len() == 1).then(|| (found[0].address, found[0].other))
+            let found = self.linked.locals.get(&symbol.name)?.only()?;
+            Some((found.address, found.other))
         };
         match symbol.home {
             Home::Section(_) if !symbol.is_local && !symbol.name.is_empty() => {
                 let Home::Section(section) = symbol.home else { return None };
-                let is_here = self.definers.of.get(symbol.name.as_str()) == Some(&object);
-                let inner = || self.address_in(object, section, symbol.value).filter(|_| is_here);
+                let is_here = || self.definers.of.get(&*symbol.name) == Some(&object);
+                let inner = || self.address_in(object, section, symbol.value).filter(|_| is_here());
                 global().or_else(local).or_else(|| Some((inner()?, symbol.other)))
             }
             Home::Section(section) => {
@@ -232,7 +232,7 @@ impl<'a> Side<'a> {
             Home::Absolute => Some((symbol.value, 0)),
             Home::Undefined if symbol.name == ".TOC." => Some((self.linked.got_base, 0)),
             Home::Undefined if symbol.is_weak => {
-                let is_hidden = self.definers.of.contains_key(symbol.name.as_str());
+                let is_hidden = self.definers.of.contains_key(&*symbol.name);
                 let hidden = || local().filter(|_| is_hidden);
                 Some(global().or_else(hidden).unwrap_or((0, 0)))
             }

@@ -68,7 +68,7 @@ impl<'a> Definers<'a> {
         let linked = objects.iter().zip(&self.is_linked).filter(|(_, is_linked)| **is_linked);
         let all = linked.flat_map(|(object, _)| &object.symbols);
         let all = all.filter(|one| one.is_local && matches!(one.home, Home::Section(_)));
-        all.map(|one| one.name.as_str())
+        all.map(|one| &*one.name)
     }
 
     /// Where a global symbol is, if the object is the one that defines it. It may have become a
@@ -78,9 +78,9 @@ impl<'a> Definers<'a> {
         if let Some(global) = linked.globals.get(&symbol.name) {
             return Some(global.address);
         }
-        let hidden = linked.locals.get(&symbol.name).filter(|all| all.len() == 1)?[0].address;
+        let hidden = linked.locals.get(&symbol.name)?.only()?.address;
         let it = &object.sections[section];
-        let is_it = !self.locals.contains(symbol.name.as_str())
+        let is_it = !self.locals.contains(&*symbol.name)
             && align::fits(linked, it, symbol.value, hidden).is_some();
         is_it.then_some(hidden)
     }
@@ -118,7 +118,7 @@ impl LocalSymbols {
         let mut found = LocalSymbols { addresses: HashMap::default(), repeated: HashSet::default() };
         for (name, symbols) in by_name {
             let Some(there) = linked.locals.get(name) else { continue };
-            let there: Vec<u64> = there.iter().map(|one| one.address).collect();
+            let there: Vec<u64> = there.all().iter().map(|one| one.address).collect();
             let is_label = is_label(name);
             let fits = |(index, at): (usize, usize), address: u64| {
                 let symbol = &objects[index].symbols[at];

@@ -26,7 +26,7 @@ fn entries_of(section: &Section) -> Vec<u8> {
 /// The facts of an object's symbols in a static executable, by the names that its objects define.
 fn facts_of(object: &Object, defined: &HashSet<String>) -> Vec<SymbolFacts> {
     let facts = |it: &elf::Symbol| {
-        let is_local = it.home != Home::Undefined || defined.contains(&it.name);
+        let is_local = it.home != Home::Undefined || defined.contains(&*it.name);
         SymbolFacts {
             is_local,
             is_ifunc: false,
@@ -79,7 +79,7 @@ fn compare_way(way: &str, counts: &mut [usize; 2]) {
         .iter()
         .flat_map(|object| &object.symbols)
         .filter(|it| !it.is_local && it.home != Home::Undefined)
-        .map(|it| it.name.clone())
+        .map(|it| it.name.to_string())
         .collect();
     let output = OutputFacts { is_executable: true, is_fixed: true };
     for object in &objects {
