@@ -8,7 +8,7 @@ use crate::description::Target;
 use linker_section::needed::EntryClass;
 
 /// A type of dynamic relocations.
-#[derive(Clone, Copy)]
+#[derive(Debug, Clone, Copy, PartialEq, Eq)]
 pub struct DynamicType {
     /// The code, `r_type` in ELF files.
     pub code: u32,
@@ -17,7 +17,7 @@ pub struct DynamicType {
 }
 
 /// The types of dynamic relocations that a linker emits.
-#[derive(Clone, Copy)]
+#[derive(Debug, Clone, Copy, PartialEq, Eq)]
 pub struct DynamicTypes {
     /// A word with S + A.
     pub word: DynamicType,

@@ -6,7 +6,7 @@ ghost use Rattle.linker_output.specs.Flags.{joined_flags, JoinsAlike, KeepsItsel
 use crate::description::Target;
 
 /// How `e_flags` of objects go together.
-#[derive(Clone, Copy)]
+#[derive(Debug, Clone, Copy, PartialEq, Eq)]
 pub struct FlagRules {
     /// The bits that are equal in all objects of an output.
     pub same: u32,

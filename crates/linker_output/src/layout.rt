@@ -9,7 +9,7 @@ ghost use Rattle.linker_output.specs.View.{view_paths, view_run};
 use crate::description::Target;
 
 /// How long the shortest instruction is, in bytes: what code is aligned to.
-#[derive(Clone, Copy)]
+#[derive(Debug, Clone, Copy, PartialEq, Eq)]
 pub struct CodeUnit {
     /// Without the flag.
     pub len: u64,
@@ -20,7 +20,7 @@ pub struct CodeUnit {
 }
 
 /// Where a symbol is that a linker defines.
-#[derive(Clone, Copy)]
+#[derive(Debug, Clone, Copy, PartialEq, Eq)]
 pub enum SymbolPlace {
     /// At the TLS image in a shared library; in an executable at the address that the thread
     /// pointer stands for. The symbol is thread-local.
@@ -32,7 +32,7 @@ pub enum SymbolPlace {
 }
 
 /// A symbol that a linker defines if an object refers to it.
-#[derive(Clone, Copy)]
+#[derive(Debug, Clone, Copy, PartialEq, Eq)]
 pub struct ProvidedSymbol {
     /// Its name.
     pub name: &'static str,
@@ -43,7 +43,7 @@ pub struct ProvidedSymbol {
 }
 
 /// A word of each function of a run.
-#[derive(Clone, Copy)]
+#[derive(Debug, Clone, Copy, PartialEq, Eq)]
 pub struct RunWord {
     /// That of the first function.
     pub word: u32,
@@ -54,7 +54,7 @@ pub struct RunWord {
 /// Functions that compilers call and linkers provide, which save or restore registers: one run of
 /// code, whose function with a number n begins 4 * `spacing` * (n - `first`) bytes behind the run's
 /// start.
-#[derive(Clone, Copy)]
+#[derive(Debug, Clone, Copy, PartialEq, Eq)]
 pub struct ProvidedRun {
     /// The functions' names without the number, which stands behind it in decimal.
     pub prefix: &'static str,
@@ -134,7 +134,7 @@ impl ProvidedRun {
 }
 
 /// The path of the dynamic linker in glibc.
-#[derive(Clone, Copy)]
+#[derive(Debug, Clone, Copy, PartialEq, Eq)]
 pub struct Interpreter {
     /// What the bits of `e_flags` are that `Target::interpreter_flags` has.
     pub flags: u32,

@@ -21,7 +21,7 @@ use std::alloc::Global;
 
 /// A branch that may need a stub.
 #[repr(C)]
-#[derive(Clone, Copy)]
+#[derive(Debug, Clone, Copy, PartialEq, Eq)]
 pub struct Branch {
     /// Its offset.
     pub offset: u64,
@@ -35,7 +35,7 @@ pub struct Branch {
 
 /// What a stub is like.
 #[repr(C)]
-#[derive(Clone, Copy)]
+#[derive(Debug, Clone, Copy, PartialEq, Eq)]
 pub struct StubShape {
     /// How many bytes it has.
     pub len: u64,
@@ -63,7 +63,7 @@ pub struct Code<'a> {
 }
 
 /// Which of the stubs at a boundary a stub is one of.
-#[derive(Clone, Copy)]
+#[derive(Debug, Clone, Copy, PartialEq, Eq)]
 pub enum Part {
     /// The first ones, which are counted from the first one on.
     Front,
@@ -74,7 +74,7 @@ pub enum Part {
 }
 
 /// A stub.
-#[derive(Clone, Copy)]
+#[derive(Debug, Clone, Copy, PartialEq, Eq)]
 pub struct StubAt {
     /// The index of the boundary at which it stands.
     pub boundary: usize,
@@ -98,7 +98,7 @@ pub struct Group {
 }
 
 /// By what a branch goes.
-#[derive(Clone, Copy)]
+#[derive(Debug, Clone, Copy, PartialEq, Eq)]
 enum Way {
     /// To its target.
     Direct,
@@ -109,7 +109,7 @@ enum Way {
 }
 
 /// Stubs between sections.
-#[derive(Drop)]
+#[derive(Debug, Drop)]
 pub struct Layout {
     /// The stubs.
     pub stubs: Vec<StubAt>,
@@ -123,7 +123,7 @@ pub struct Layout {
 }
 
 /// Stubs with which each branch reaches what it goes by.
-#[derive(Drop)]
+#[derive(Debug, Drop)]
 pub struct Placement {
     /// The stubs.
     pub layout: Layout,
@@ -132,7 +132,7 @@ pub struct Placement {
 }
 
 /// Why no stubs are placed.
-#[derive(Drop)]
+#[derive(Debug, Drop)]
 pub enum PlaceError {
     /// Out of memory.
     OutOfMemory,
@@ -183,7 +183,7 @@ const LIMIT: u64 = 1 << 62;
 const MOST_PASSES: u32 = 32;
 
 /// What became of a branch in a sweep.
-#[derive(Clone, Copy)]
+#[derive(Debug, Clone, Copy, PartialEq, Eq)]
 enum Visit {
     /// It reaches what it goes by.
     Served,
@@ -196,7 +196,7 @@ enum Visit {
 }
 
 /// What a sweep over the branches did.
-#[derive(Clone, Copy)]
+#[derive(Debug, Clone, Copy, PartialEq, Eq)]
 enum Sweep {
     /// Each branch reaches what it goes by.
     Settled,

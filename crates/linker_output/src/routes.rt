@@ -24,7 +24,7 @@ use linker_section::values::{ValueError, value};
 use linker_utils::elf::{Architecture, RelocateError, Row};
 
 /// How a branch goes.
-#[derive(Clone, Copy)]
+#[derive(Debug, Clone, Copy, PartialEq, Eq)]
 pub enum Route {
     /// To its target: the value of its relocation can be written, and on PowerPC64 the function
     /// gets, and the caller keeps, the TOC pointer.
@@ -43,7 +43,7 @@ pub enum Route {
 }
 
 /// Why a branch goes no way.
-#[derive(Clone, Copy)]
+#[derive(Debug, Clone, Copy, PartialEq, Eq)]
 pub enum RouteError {
     /// No stub may serve the relocation: it isn't that of a branch, and its formula has no L. Or
     /// its code has no row.

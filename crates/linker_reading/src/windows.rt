@@ -113,7 +113,7 @@ pub(crate) fn least_window<N: RecognisedName>(
 }
 
 /// Where a recognised relocation leads.
-#[derive(Clone, Copy)]
+#[derive(Debug, Clone, Copy, PartialEq, Eq)]
 pub struct Destination {
     /// Which address it is.
     pub reference: Reference,

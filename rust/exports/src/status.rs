@@ -2,7 +2,7 @@
 //! What a call returns.
 
 /// What a call returns: the sentences of `include/linker_utils.h`. 11 and 16 are unused.
-#[derive(Clone, Copy, PartialEq, Eq)]
+#[derive(Debug, Clone, Copy, PartialEq, Eq)]
 pub enum Status {
     /// Success.
     Success,

@@ -5,7 +5,7 @@
 use crate::linker_output::description::Target;
 
 /// How long the shortest instruction is, in bytes: what code is aligned to.
-#[derive(Clone, Copy, Debug, PartialEq, Eq)]
+#[derive(Debug, Clone, Copy, PartialEq, Eq)]
 pub struct CodeUnit {
     /// Without the flag.
     pub len: u64,
@@ -16,7 +16,7 @@ pub struct CodeUnit {
 }
 
 /// Where a symbol is that a linker defines.
-#[derive(Clone, Copy, Debug, PartialEq, Eq)]
+#[derive(Debug, Clone, Copy, PartialEq, Eq)]
 pub enum SymbolPlace {
     /// At the TLS image in a shared library; in an executable at the address that the thread
     /// pointer stands for. The symbol is thread-local.
@@ -28,7 +28,7 @@ pub enum SymbolPlace {
 }
 
 /// A symbol that a linker defines if an object refers to it.
-#[derive(Clone, Copy, Debug, PartialEq, Eq)]
+#[derive(Debug, Clone, Copy, PartialEq, Eq)]
 pub struct ProvidedSymbol {
     /// Its name.
     pub name: &'static str,
@@ -39,7 +39,7 @@ pub struct ProvidedSymbol {
 }
 
 /// A word of each function of a run.
-#[derive(Clone, Copy, Debug, PartialEq, Eq)]
+#[derive(Debug, Clone, Copy, PartialEq, Eq)]
 pub struct RunWord {
     /// That of the first function.
     pub word: u32,
@@ -50,7 +50,7 @@ pub struct RunWord {
 /// Functions that compilers call and linkers provide, which save or restore registers: one run of
 /// code, whose function with a number n begins 4 * `spacing` * (n - `first`) bytes behind the run's
 /// start.
-#[derive(Clone, Copy, Debug, PartialEq, Eq)]
+#[derive(Debug, Clone, Copy, PartialEq, Eq)]
 pub struct ProvidedRun {
     /// The functions' names without the number, which stands behind it in decimal.
     pub prefix: &'static str,
@@ -123,7 +123,7 @@ impl ProvidedRun {
 }
 
 /// The path of the dynamic linker in glibc.
-#[derive(Clone, Copy, Debug, PartialEq, Eq)]
+#[derive(Debug, Clone, Copy, PartialEq, Eq)]
 pub struct Interpreter {
     /// What the bits of `e_flags` are that `Target::interpreter_flags` has.
     pub flags: u32,

@@ -20,7 +20,7 @@ use crate::linker_base::relaxation::OutOfMemory;
 
 /// A branch that may need a stub.
 #[repr(C)]
-#[derive(Clone, Copy, Debug, PartialEq, Eq)]
+#[derive(Debug, Clone, Copy, PartialEq, Eq)]
 pub struct Branch {
     /// Its offset.
     pub offset: u64,
@@ -34,7 +34,7 @@ pub struct Branch {
 
 /// What a stub is like.
 #[repr(C)]
-#[derive(Clone, Copy, Debug, PartialEq, Eq)]
+#[derive(Debug, Clone, Copy, PartialEq, Eq)]
 pub struct StubShape {
     /// How many bytes it has.
     pub len: u64,
@@ -62,7 +62,7 @@ pub struct Code<'a> {
 }
 
 /// Which of the stubs at a boundary a stub is one of.
-#[derive(Clone, Copy, Debug, PartialEq, Eq)]
+#[derive(Debug, Clone, Copy, PartialEq, Eq)]
 pub enum Part {
     /// The first ones, which are counted from the first one on.
     Front,
@@ -73,7 +73,7 @@ pub enum Part {
 }
 
 /// A stub.
-#[derive(Clone, Copy, Debug, PartialEq, Eq)]
+#[derive(Debug, Clone, Copy, PartialEq, Eq)]
 pub struct StubAt {
     /// The index of the boundary at which it stands.
     pub boundary: usize,
@@ -97,7 +97,7 @@ pub struct Group {
 }
 
 /// By what a branch goes.
-#[derive(Clone, Copy)]
+#[derive(Debug, Clone, Copy, PartialEq, Eq)]
 enum Way {
     /// To its target.
     Direct,
@@ -177,7 +177,7 @@ const LIMIT: u64 = 1 << 62;
 const MOST_PASSES: u32 = 32;
 
 /// What became of a branch in a sweep.
-#[derive(Clone, Copy)]
+#[derive(Debug, Clone, Copy, PartialEq, Eq)]
 enum Visit {
     /// It reaches what it goes by.
     Served,
@@ -190,7 +190,7 @@ enum Visit {
 }
 
 /// What a sweep over the branches did.
-#[derive(Clone, Copy)]
+#[derive(Debug, Clone, Copy, PartialEq, Eq)]
 enum Sweep {
     /// Each branch reaches what it goes by.
     Settled,

@@ -12,7 +12,7 @@ use crate::linker_section::values::{ValueError, value};
 use crate::elf::{Architecture, RelocateError, Row};
 
 /// How a branch goes.
-#[derive(Clone, Copy, Debug, PartialEq, Eq)]
+#[derive(Debug, Clone, Copy, PartialEq, Eq)]
 pub enum Route {
     /// To its target: the value of its relocation can be written, and on PowerPC64 the function
     /// gets, and the caller keeps, the TOC pointer.
@@ -31,7 +31,7 @@ pub enum Route {
 }
 
 /// Why a branch goes no way.
-#[derive(Clone, Copy, Debug, PartialEq, Eq)]
+#[derive(Debug, Clone, Copy, PartialEq, Eq)]
 pub enum RouteError {
     /// No stub may serve the relocation: it isn't that of a branch, and its formula has no L. Or
     /// its code has no row.

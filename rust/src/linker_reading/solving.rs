@@ -8,7 +8,7 @@ use crate::linker_elf::elf::{
 };
 
 /// Which address a relocation's value is computed from.
-#[derive(Clone, Copy, Debug, PartialEq, Eq)]
+#[derive(Debug, Clone, Copy, PartialEq, Eq)]
 pub enum Reference {
     /// S + A.
     Symbol,
@@ -19,7 +19,7 @@ pub enum Reference {
 }
 
 /// What is taken off it.
-#[derive(Clone, Copy, Debug, PartialEq, Eq)]
+#[derive(Debug, Clone, Copy, PartialEq, Eq)]
 pub enum Origin {
     /// Nothing.
     Zero,
@@ -33,7 +33,7 @@ pub enum Origin {
 
 /// The terms of the formula of a value: the address, biased and cut to its page where the row says
 /// so, less the origin.
-#[derive(Clone, Copy, Debug, PartialEq, Eq)]
+#[derive(Debug, Clone, Copy, PartialEq, Eq)]
 pub struct Terms {
     /// The address.
     pub reference: Reference,

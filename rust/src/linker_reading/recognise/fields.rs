@@ -6,7 +6,7 @@ use crate::linker_elf::elf::{RelocationKind, RelocationSize, Row};
 
 /// Some of the bits of the eight bytes from an offset of a window on.
 #[repr(C)]
-#[derive(Clone, Copy, Debug, PartialEq, Eq)]
+#[derive(Debug, Clone, Copy, PartialEq, Eq)]
 pub struct FieldBits {
     /// The offset in bytes.
     pub offset: u64,
