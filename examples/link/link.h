@@ -184,8 +184,9 @@ struct tls {
 extern uint16_t machine;
 extern uint32_t machine_flags; /* `e_flags` of all objects */
 /* whether a dynamic linker loads the linked file, whether instructions are rewritten that need not
- * be, and whether PowerPC64's local-exec is, which ld.lld leaves */
-extern bool is_dynamic, relaxes, has_short_offsets;
+ * be, whether PowerPC64's local-exec is, which ld.lld leaves, and RISC-V's addresses near the global
+ * pointer */
+extern bool is_dynamic, relaxes, has_short_offsets, relaxes_near;
 extern struct linker_utils_output_facts linked;
 extern struct linker_utils_dynamic_types types;
 extern const char *own_name;         /* of a shared library, by `-soname`; null where it has none */
@@ -276,6 +277,7 @@ struct linker_utils_addresses addresses_of(uint64_t start);
 void relocate_object(struct object *o, const struct linker_utils_symbol *values);
 /* rewrite.c */
 void rewrite_object(struct object *o, uint32_t first, uint32_t last), relocate(void);
+void relax_near(int step, int last);
 bool is_of_addresses(const char *name);
 /* entries.c */
 void require_all(struct object *o), make_entries(void), write_entries(void), write_stubs(void);

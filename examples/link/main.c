@@ -1,4 +1,4 @@
-/* usage: link [-s] [--no-relax | --short-offsets] [-pie | -shared [-soname NAME]]
+/* usage: link [-s] [--no-relax | --short-offsets | --relax-gp] [-pie | -shared [-soname NAME]]
  *             [-z now | -z relro]... -o OUTPUT [--section-start=NAME=ADDRESS]... FILE...
  * A file is an object, an archive or a shared library. The output is a static executable; with
  * shared libraries an executable that they are loaded for, with `-pie` at any address; and with
@@ -10,7 +10,7 @@
 
 uint16_t machine;
 uint32_t machine_flags;
-bool relaxes = true, has_short_offsets = false;
+bool relaxes = true, has_short_offsets = false, relaxes_near = false;
 
 static const char *path; /* of the output */
 static bool has_symbols = true, is_placed = false;
@@ -93,6 +93,7 @@ static bool set_switch(const char *name) {
         bool *set, value;
     } switches[] = {{"-s", &has_symbols, false}, {"--no-relax", &relaxes, false},
                     {"--short-offsets", &has_short_offsets, true},
+                    {"--relax-gp", &relaxes_near, true},
                     {"-pie", &linked.is_fixed, false}, {"-shared", &linked.is_fixed, false},
                     {"-shared", &linked.is_executable, false}};
     bool is_found = false;

@@ -167,8 +167,10 @@ void relax(void) {
     EACH_OUTPUT(o) shrinks |= o->shrinks;
     uint32_t phase = LINKER_UTILS_PHASE_THREAD_OFFSETS;
     EACH_OBJECT(o) if (shrinks && o->is_threaded) rewrite_object(o, phase, phase);
+    relax_near(0, 1);
     EACH_OUTPUT(o) if (!o->run->deltas) relax_run(o->run);
     set_addresses();
+    relax_near(2, 2);
     EACH_OUTPUT(o) {
         uint64_t align = o->flags & SHF_TLS && o->address == tls.image ? tls.align : o->align;
         uint64_t wanted = o->is_placed ? o->place : o->address;

@@ -149,6 +149,57 @@ bool is_of_addresses(const char *name) {
     return *known && !strcmp(name, known);
 }
 
+static int by_offset(const void *left, const void *right) {
+    const struct linker_utils_deletion *a = left, *b = right;
+    return order(a->offset, b->offset);
+}
+
+/* Deletes the high parts of RISC-V's addresses near the global pointer in a section, all of a symbol or
+ * none, or notes which symbols of its object keep them; or at last gives low parts their base. */
+static uint32_t rewrite_near(struct section *s, uint64_t pointer, bool *stays, int step, size_t *at) {
+    size_t count = s->object->symbols_len, len = s->relocations_len, used = 0;
+    uint8_t *relocations = (uint8_t *)s->relocations, *bytes = s->output->bytes + s->offset;
+    size_t size = len * sizeof *s->relocations;
+    struct linker_utils_addresses addresses = addresses_of(s->output->address + s->offset);
+    if (step == 0)
+        return linker_utils_survey_global_pointer(machine, &linked, facts, count, &addresses, values,
+                                                  count, pointer, relocations, size, bytes, s->len,
+                                                  stays, count);
+    if (step == 2)
+        return linker_utils_from_global_pointer(&addresses, values, count, pointer, relocations, size,
+                                                bytes, s->len, at);
+    decisions = grow(decisions, len, &decisions_room, sizeof *decisions);
+    struct linker_utils_deletion *deleted = zeros(s->deleted_len + len, sizeof *deleted);
+    for (size_t i = 0; i < s->deleted_len; i++) deleted[i] = s->deleted[i];
+    uint32_t status = linker_utils_rewrite_global_pointer(
+        machine, &linked, facts, count, &addresses, values, count, pointer, stays, count,
+        relocations, size, bytes, s->len, decisions, len, deleted + s->deleted_len, len, &used, at);
+    s->deleted_len += (uint32_t)used;
+    s->deleted = deleted;
+    qsort(deleted, s->deleted_len, sizeof *deleted, by_offset);
+    return status;
+}
+
+/* The same in all code, from a step to another, if there is a global pointer. */
+void relax_near(int step, int last) {
+    const struct symbol *to = *global("__global_pointer$");
+    if (!relaxes || !relaxes_near || !to || !to->output) return;
+    EACH_OBJECT(o) {
+        bool *stays = zeros(o->symbols_len, 1), hides = note_symbols(o, true);
+        if (hides) hide(o, false);
+        for (int now = step; now <= last; now++)
+            EACH_SECTION_OF(o, s) {
+                size_t at = 0;
+                if (!is_code(s) || !s->output->shrinks) continue;
+                uint64_t pointer = address_of(to->output, to->offset);
+                uint32_t status = rewrite_near(s, pointer, stays, now, &at);
+                check(s, &s->relocations[at < s->relocations_len ? at : 0], status);
+            }
+        if (hides) hide(o, true);
+        free(stays);
+    }
+}
+
 /* Makes the rewrites of each object that wait for all addresses, and writes its values. */
 void relocate(void) {
     uint32_t last = LINKER_UTILS_PHASE_DISTANCES;
