@@ -257,9 +257,9 @@ static inline uint32_t linker_utils_rewrite_address_loads(
     size_t *faulty);
 
 /* Notes in `kept` which symbols of an object keep the high parts of their address, by one of its
- * sections of code. RISC-V's `lui` and `auipc` of an address within 2 KiB of the global pointer, from
- * 2,048 below it to 2,047 above it, or of 0, aren't needed: each low part takes x3 or x0 as its base
- * (RISC-V ELF psABI, "Global-pointer Relaxation" and "Zero-page Relaxation"). A symbol stays where a
+ * sections of code. RISC-V's `lui` and `auipc` aren't needed where an address is within 2 KiB of the
+ * global pointer, from 2,048 below it to 2,047 above it, or of 0. Each low part then takes x3 or x0 as
+ * its base (psABI, "Global-pointer Relaxation" and "Zero-page Relaxation"). A symbol stays where a
  * relocation of its high or low parts isn't marked by R_RISCV_RELAX, isn't in reach, or isn't of such
  * an instruction. All stay in an output that isn't an executable with a fixed address, and those of a
  * section whose relocations don't ascend by offset.
@@ -280,8 +280,9 @@ static inline uint32_t linker_utils_survey_global_pointer(
  * `linker_utils_survey_global_pointer` noted of all sections of code of the object with the same facts
  * and addresses. The bytes stay until what is listed in `deleted` is deleted, as for
  * `linker_utils_rewritten_items`. The relocation of a high part gets the type 0. That of a low part gets
- * the symbol and the addend of the address, and the type 47 or 48, which `elf.h` names R_RISCV_GPREL_I
- * and R_RISCV_GPREL_S: no other call takes these, so that it requires `linker_utils_from_global_pointer`.
+ * the symbol and the addend of the address. Its type becomes 47 or 48, which `elf.h` names
+ * R_RISCV_GPREL_I and R_RISCV_GPREL_S. No other call takes these: each requires
+ * `linker_utils_from_global_pointer`.
  *
  * It may only be called where x3 is `global_pointer` wherever this code runs, and never changes. What
  * sets x3 has to be without marks, as the C libraries have it. `decisions` needs an element for each
@@ -298,12 +299,12 @@ static inline uint32_t linker_utils_rewrite_global_pointer(
     size_t *faulty);
 
 /* Writes the base of each low part that `linker_utils_rewrite_global_pointer` left without one, once
- * addresses are final and before values are written: x0 where 12 bits hold the address, and else x3. The
- * relocation gets the type R_RISCV_LO12_I or R_RISCV_LO12_S, and an addend that is less by what the base
- * has. LINKER_UTILS_OUT_OF_REACH where neither reaches the address of the relocation with the index
- * `faulty`, its symbol isn't in the table, or its instruction isn't in the section: then nothing
- * changes. A low part comes into no such place where the symbol and the global pointer are in one run
- * (`linker_utils_relax`), where no distance gets longer. */
+ * addresses are final and before values are written. It is x0 where 12 bits hold the address, and else
+ * x3. The relocation gets the type R_RISCV_LO12_I or R_RISCV_LO12_S, and an addend that is less by what
+ * the base has. LINKER_UTILS_OUT_OF_REACH where neither reaches the address of the relocation with the
+ * index `faulty`, its symbol isn't in the table, or its instruction isn't in the section: then nothing
+ * changes. It never comes where the symbol and the global pointer are in one run
+ * (`linker_utils_relax`), since no distance gets longer there. */
 static inline uint32_t linker_utils_from_global_pointer(
     const struct linker_utils_addresses *addresses, const struct linker_utils_symbol *values,
     size_t values_len, uint64_t global_pointer, uint8_t *relocations, size_t relocations_len,

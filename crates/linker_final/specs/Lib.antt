@@ -8,6 +8,7 @@ pub mod Packed
 pub mod Ppc64Final
 pub mod RiscVFinal
 pub mod RiscVJoined
+pub mod RiscVNear
 pub mod RiscVPacked
 pub mod X86Final
 pub mod X86ThreadFinal

@@ -8,6 +8,7 @@ ghost use Rattle.linker_final.specs.Final as final_bytes;
 ghost use Rattle.linker_final.specs.LoongArchFinal as loongarch64_final;
 ghost use Rattle.linker_final.specs.Ppc64Final as ppc64_final;
 ghost use Rattle.linker_final.specs.RiscVFinal as riscv64_final;
+ghost use Rattle.linker_final.specs.RiscVNear as riscv64_near;
 ghost use Rattle.linker_final.specs.X86Final as x86_64_final;
 ghost use Rattle.linker_final.specs.X86ThreadFinal as x86_64_threads;
 
@@ -79,6 +80,13 @@ pub fn riscv64()
 {
     linker_laws::rewrites::riscv64();
 }
+
+/// RISC-V: each low part that `rewrite_global_pointer` takes does over x3 or x0, with the distance
+/// from it as its value, what the object's does over what its high part leaves, with S + A. What the
+/// high part leaves is a premise, as is what x3 has.
+pub fn riscv64_global_pointer()
+    ensures { riscv64_near.LowPartsFromBase }
+{}
 
 /// LoongArch: rewritten instructions do in the final bytes what the object's do. They are each load
 /// of an address from the GOT that became a sum of its page and the rest, each half of initial-exec

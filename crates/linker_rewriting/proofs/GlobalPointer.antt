@@ -1,12 +1,12 @@
 -- Parts of addresses near the global pointer: what is noted, decided and turned, relocation by
 -- relocation, and that all parts of a symbol are rewritten, or none is.
-use Rattle.std.proofs.Common.{◌≡◌, ◌≢◌, ℕ, suc, nat_le, is_some, ◌+◌, ◌<◌, ◌≤◌, ◌∙◌, ◌&&◌, inl, inr, List, length, ap, sym, subst, arith, refl, Bool, true, false, true≢false, Option, None, Some, IsTrue, slice_get, slice_set, if◌then◌else◌}
+use Rattle.std.proofs.Common.{◌≡◌, ◌≢◌, ℕ, suc, nat_le, is_some, ◌+◌, ◌<◌, ◌≤◌, ◌∙◌, ◌&&◌, inl, inr, List, length, ap, sym, subst, arith, refl, Bool, true, false, true≢false, Option, None, Some, slice_get, slice_set, if◌then◌else◌}
 use Rattle.std.proofs.lemmas.List.{get_or-set_same, get_or-set_other}
 use Rattle.linker_rewriting.proofs.LabelGroups.{one_high_from}
 use Rattle.linker_rewriting.proofs.WordsNoted.{AreWordsKeptToo, stays_on, stays_now}
 use Rattle.linker_rewriting.specs.Decisions.{CanBeMade, decision_at}
 use Rattle.linker_rewriting.specs.Facts.{Setting}
-use Rattle.linker_rewriting.specs.GlobalPointer.{relative_high, IsLabelled, IsSubject, IsMemberBy, IsMember, part_of, is_reached, is_expected, fits, kept_by, IsKeepingSymbol, IsSymbolNoted, AreSymbolsNoted, AreSymbolsSurveyed, part_decision, decided_by, IsPartDecided, ArePartsDecided, ArePartsRejected, MeansSymbolsUnsurveyed, ArePartsWhole, ArePartsWholeAcross, relocation_by, low_code, base_of, is_placed_by, is_placed, based_section, section_based}
+use Rattle.linker_rewriting.specs.GlobalPointer.{relative_high, IsLabelled, IsSubject, IsMemberBy, IsMember, part_of, is_reached, is_expected, fits, kept_by, IsKeepingSymbol, IsSymbolNoted, AreSymbolsSurveyed, part_decision, decided_by, IsPartDecided, ArePartsDecided, ArePartsRejected, MeansSymbolsUnsurveyed, ArePartsWhole, ArePartsWholeAcross, low_code, base_of, is_placed_by, is_placed, based_section, section_based}
 use Rattle.linker_rewriting.specs.Inner.Words.{IsThatWord}
 use Rattle.linker_rewriting.specs.Labels.{offset_of_label}
 use Rattle.linker_rewriting.specs.Rewritten.{IsRewritten}

@@ -1,7 +1,7 @@
 -- RISC-V's addresses within 2 KiB of the global pointer or of 0 (RISC-V ELF psABI, "Global-pointer
 -- Relaxation" and "Zero-page Relaxation"). Their `lui` and `auipc` are deleted, and each low part
 -- takes x3 or x0 as its base: all of a symbol, or none.
-use Rattle.std.specs.Prelude.{◌≡◌, ◌↔◌, ℕ, zero, suc, ◌+◌, ◌<◌, ◌≤◌, ◌/◌, ◌⊎◌, ◌==◌, ◌&&◌, ◌||◌}
+use Rattle.std.specs.Prelude.{◌≡◌, ◌↔◌, ℕ, zero, suc, ◌+◌, ◌<◌, ◌/◌, ◌⊎◌, ◌==◌, ◌&&◌, ◌||◌}
 use Rattle.std.specs.Prelude.{nat_le, nat_lt, not, if◌then◌else◌, Bool, true, false, IsTrue, List}
 use Rattle.std.specs.Prelude.{length, Option, None, Some, slice_get, is_some}
 use Rattle.std.specs.Int.{w64, cast_signed, cast_unsigned}
@@ -267,6 +267,7 @@ relocation_by (Redirected chosen subject) r =
       addend = subject.addend;
     }
 
+-- and of all relocations with an index below a limit
 abbrev pub AreRelocationsBy : List Decision → List ℕ → List ℕ → ℕ → Type 0
 AreRelocationsBy decisions before after limit =
     (n : ℕ) → n < limit
@@ -292,6 +293,7 @@ abbrev pub ArePartsWhole : Setting → List ℕ → List Decision → ℕ → Ty
 ArePartsWhole s bytes decisions limit =
     ArePartsWholeIn s s bytes bytes decisions decisions limit limit
 
+-- of any two sections that are
 abbrev pub ArePartsWholeAcross : Type 0
 ArePartsWholeAcross =
     (s other : Setting) (gp : ℕ) (kept : List Bool)
@@ -351,6 +353,7 @@ abbrev pub is_placed_by : List ℕ → Rela → Option ℕ → Option (ℕ × �
 is_placed_by section r None base = true
 is_placed_by section r (Some code) base = has_word section r.offset && is_some base
 
+-- by what is known of symbols
 abbrev pub is_placed : Addresses → List Symbol → ℕ → List ℕ → Rela → Bool
 is_placed addresses values gp section r =
     is_placed_by section r (low_code r.code) (base_of addresses values gp r)
@@ -387,6 +390,7 @@ section_based addresses values gp bytes section (suc n) =
     based_section addresses values gp (section_based addresses values gp bytes section n)
     (relocation_in bytes n)
 
+-- what relocations become
 abbrev pub AreBased : Addresses → List Symbol → ℕ → List ℕ → List ℕ → ℕ → Type 0
 AreBased addresses values gp before after limit =
     (n : ℕ) → n < limit

@@ -1,5 +1,5 @@
 use Rattle.std.proofs.Common.{subst}
-use Rattle.linker_rewriting.proofs.GlobalPointer.{more_symbols, no_symbols}
+use Rattle.linker_rewriting.proofs.GlobalPointer.{more_symbols}
 use Rattle.linker_rewriting.specs.Facts.{setting}
 use Rattle.linker_rewriting.specs.GlobalPointer.{IsKeepingSymbol}
 use Rattle.linker_rewriting.specs.declared.phases.Phase.TheVariants.{Distances}

@@ -1,5 +1,5 @@
-use Rattle.std.proofs.Common.{◌≡◌, ◌<◌, ◌≤◌, ◌/◌, ◌∙◌, List, length, map, sym, subst, arith, rules}
-use Rattle.std.proofs.lemmas.List.{length-map, get_or-map}
+use Rattle.std.proofs.Common.{◌≡◌, ◌<◌, ◌/◌, ◌∙◌, List, length, map, sym, subst, arith, rules}
+use Rattle.std.proofs.lemmas.List.{get_or-map}
 use Rattle.linker_rewriting.proofs.GlobalPointer.{turned_next}
 use Rattle.linker_rewriting.specs.Decisions.{decision_at}
 use Rattle.linker_rewriting.specs.GlobalPointer.{relocation_by}

@@ -1,0 +1,49 @@
+-- RISC-V: a low part over x3 or x0 does what the object's does over what its high part leaves
+-- (RISC-V ELF psABI, "Global-pointer Relaxation" and "Zero-page Relaxation").
+use Rattle.std.specs.Prelude.{◌≡◌, ℕ, ◌+◌, ◌≤◌, ◌<◌, ◌^◌, true, List, drop, length, Some, IsSomeAnd}
+use Rattle.std.specs.Prelude.{Bool}
+use Rattle.linker_base.specs.Rewrite.{rewritten}
+use Rattle.linker_elf.specs.Value.{sum_64, difference_64}
+use Rattle.linker_elf.specs.declared.elf.value.Operands.{Operands}
+use Rattle.linker_laws.specs.Machine.{Relocated, moved}
+use Rattle.linker_laws.specs.RiscVMachine.{Action, Hart, register, rs1_of, rs2_of}
+use Rattle.linker_laws.specs.RiscVRelocationLaws.{even}
+use Rattle.linker_laws.specs.RiscVRewriteLaws.{AreAlike, EndSo, GoOn, StoresTheSame, action_at}
+use Rattle.linker_laws.specs.RiscVRewriteLaws.{differs_after, low_row}
+use Rattle.linker_laws.specs.Schemes.{symbol_address}
+use Rattle.linker_rewriting.specs.GlobalPointer.{base_for, is_low_word}
+use Rattle.linker_riscv64.specs.RiscVCalls.{word_at}
+use Rattle.linker_riscv64.specs.RiscVRewrites.{lo12, rd_of, rewrites_word, with_rs1}
+
+-- A register has what the high part of an address leaves: with the low part it is the address.
+abbrev pub HasHighPart : Hart → ℕ → ℕ → Type 0
+HasHighPart h r address = moved (register h r) (lo12 address) ≡ address
+
+-- the section with another base register in the instruction at an offset
+abbrev pub after_base : ℕ → List ℕ → ℕ → List ℕ
+after_base register section o = rewritten (Some (rewrites_word (with_rs1 register))) section o
+
+-- Two harts are alike but for some registers. In one the base of a low part has what the high part
+-- leaves, and the value of its relocation is S + A. In the other the new base has its address, and
+-- the value is the distance from it. Both end alike.
+abbrev pub FromBase : List ℕ → ℕ → ℕ → Action → Type 0
+FromBase section o gp action =
+    let word = word_at section o in
+    let rd = rd_of word in
+    (x y : Operands) (base : ℕ × ℕ) → base_for gp (symbol_address x) ≡ Some base
+    → symbol_address y ≡ difference_64 (symbol_address x) (base.1)
+    → (original new : List ℕ)
+    → Relocated (low_row action) x (drop o section) original
+    → Relocated (low_row action) y (drop o (after_base (base.0) section o)) new
+    → (h k : Hart) (differs : ℕ → Bool) → h.pc < 2 ^ 64 → k.pc < 2 ^ 64 → AreAlike differs h k
+    → HasHighPart h (rs1_of word) (symbol_address x) → register k (base.0) ≡ base.1
+    → StoresTheSame action (rs2_of word) h k
+    → EndSo 1 original h 1 new k (λ a b. AreAlike (differs_after action differs rd) a b
+    × GoOn action rd (even symbol_address x) (sum_64 h.pc 4) (sum_64 k.pc 4) a b)
+
+-- of every instruction that `rewrite_global_pointer` takes for a low part
+abbrev pub LowPartsFromBase : Type 0
+LowPartsFromBase =
+    (section : List ℕ) (o gp : ℕ) → gp < 2 ^ 64 → o + 4 ≤ length section
+    → is_low_word (word_at section o) ≡ true
+    → IsSomeAnd (action_at section o) (FromBase section o gp)
