@@ -2,7 +2,8 @@
 use Rattle.std.proofs.Common.{◌≡◌, ℕ, ◌+◌, ◌-◌, ◌%◌, ◌^◌, ◌<◌, ◌≤◌, ◌⊎◌, Bool, true, false, true≢false, refl, sym, ◌∙◌, ap, subst, arith, List, length, drop, ℤ, Some, None, if◌then◌else◌}
 use Rattle.std.specs.Prelude.{◌&&◌, IsTrue}
 use Rattle.std.specs.Option.{IsSomeAnd}
-use Rattle.std.specs.Int.{w32, from_le_bytes}
+use Rattle.std.specs.Int.{w32, w64, cast_unsigned, from_le_bytes}
+use Rattle.std.proofs.lemmas.Int.{of_z-to_z}
 use Rattle.std.proofs.lemmas.Bool.{ltb-true}
 use Rattle.std.proofs.lemmas.List.{length-drop}
 use Rattle.linker_base.specs.Bits.{field, signed}
@@ -15,7 +16,8 @@ use Rattle.linker_elf.specs.declared.riscv64.forms.RiscVInstruction.TheVariants.
 use Rattle.linker_elf.specs.declared.riscv64.relocations.RiscVRelocation.TheVariants as names
 use Rattle.linker_riscv64.specs.RiscVCalls.{word_at}
 use Rattle.linker_riscv64.specs.RiscVRewrites.{opcode_of, funct3_of, rd_of, adds_low12, with_rs1}
-use Rattle.linker_rewriting.specs.GlobalPointer.{base_for, is_near}
+use Rattle.linker_rewriting.specs.Facts.{address_in}
+use Rattle.linker_rewriting.specs.GlobalPointer.{address_of, base_by, base_for, base_of, based_relocation, is_near, relocation_over}
 use Rattle.linker_laws.specs.Machine.{AreBytes, Relocated, moved}
 use Rattle.linker_laws.specs.RiscVMachine.{Action, Hart, register, adds, adds_word, jumps, loads, stores, loads_float, stores_float, sums, rs1_of, rs2_of, action_of, with_action, of_word, used, executed, i_type, s_type}
 use Rattle.linker_laws.specs.RiscVRewriteLaws.{AreAlike, EndSo, GoOn, StoresTheSame, differs_after, low_row}
@@ -26,7 +28,7 @@ use Rattle.linker_laws.proofs.RiscVLowParts.{alike_used, is_action, some_action,
 use Rattle.linker_laws.proofs.RiscVMachine.{at_start, fetched_word, steps}
 use Rattle.linker_laws.proofs.Sums.{sum_below}
 use Rattle.linker_laws.proofs.Words.{word_below}
-use Rattle.linker_final.specs.RiscVNear.{FromBase, LowPartsFromBase, after_base}
+use Rattle.linker_final.specs.RiscVNear.{FromBase, LowPartsFromBase, after_base, ValuesAreDistances}
 
 -- ---- the instruction of a low part once its relocation is applied
 
@@ -332,3 +334,27 @@ low_parts section o gp small inside is =
     let has = some_action (opcode_of word) (funct3_of word) (first_of_and (adds_low12 (opcode_of word) (funct3_of word)) _ is) in
     subst (λ r. IsSomeAnd r (FromBase section o gp)) (sym (has.1))
     (law section o gp small inside (has.0) (has.1) (has.2))
+
+-- ---- values
+
+distance : (s a b : ℕ) → b < 2 ^ 64
+    → sum_64 s (difference_64 a b) ≡ difference_64 (sum_64 s a) b
+distance s a b below = omega arith
+
+pub values_are_distances : ValuesAreDistances
+values_are_distances addresses values gp r value code base small symbol is_low based =
+    let b = base.1 in
+    let a = cast_unsigned w64 r.addend in
+    let base_is = is_base gp (address_of addresses r value) base small based in
+    let of_symbol : base_of addresses values gp r ≡ Some base =
+    ap (base_by addresses gp r) symbol ∙ based in
+    let after : based_relocation addresses values gp r ≡ relocation_over r (Some code) (Some base) =
+    ap (λ c. relocation_over r c (base_of addresses values gp r)) is_low
+    ∙ ap (relocation_over r (Some code)) of_symbol in
+    let n : ℕ = difference_64 a b in (
+      ap (λ x. x.code) after,
+      ap (λ x. x.symbol) after,
+      ap (λ x. address_of addresses x value) after
+          ∙ (ap (sum_64 (address_in addresses value)) (of_z-to_z w64 n (omega arith))
+          ∙ distance (address_in addresses value) a b base_is.below),
+    )

@@ -1,7 +1,7 @@
 -- RISC-V: a low part over x3 or x0 does what the object's does over what its high part leaves
 -- (RISC-V ELF psABI, "Global-pointer Relaxation" and "Zero-page Relaxation").
 use Rattle.std.specs.Prelude.{◌≡◌, ℕ, ◌+◌, ◌≤◌, ◌<◌, ◌^◌, true, List, drop, length, Some, IsSomeAnd}
-use Rattle.std.specs.Prelude.{Bool}
+use Rattle.std.specs.Prelude.{Bool, slice_get}
 use Rattle.linker_base.specs.Rewrite.{rewritten}
 use Rattle.linker_elf.specs.Value.{sum_64, difference_64}
 use Rattle.linker_elf.specs.declared.elf.value.Operands.{Operands}
@@ -11,9 +11,13 @@ use Rattle.linker_laws.specs.RiscVRelocationLaws.{even}
 use Rattle.linker_laws.specs.RiscVRewriteLaws.{AreAlike, EndSo, GoOn, StoresTheSame, action_at}
 use Rattle.linker_laws.specs.RiscVRewriteLaws.{differs_after, low_row}
 use Rattle.linker_laws.specs.Schemes.{symbol_address}
-use Rattle.linker_rewriting.specs.GlobalPointer.{base_for, is_low_word}
+use Rattle.linker_rewriting.specs.GlobalPointer.{address_of, base_for, based_relocation}
+use Rattle.linker_rewriting.specs.GlobalPointer.{is_low_word, low_code}
 use Rattle.linker_riscv64.specs.RiscVCalls.{word_at}
 use Rattle.linker_riscv64.specs.RiscVRewrites.{lo12, rd_of, rewrites_word, with_rs1}
+use Rattle.linker_section.specs.declared.facts.Addresses.{Addresses}
+use Rattle.linker_section.specs.declared.facts.Symbol.{Symbol}
+use Rattle.linker_section.specs.declared.relocations.Rela.{Rela}
 
 -- A register has what the high part of an address leaves: with the low part it is the address.
 abbrev pub HasHighPart : Hart → ℕ → ℕ → Type 0
@@ -47,3 +51,14 @@ LowPartsFromBase =
     (section : List ℕ) (o gp : ℕ) → gp < 2 ^ 64 → o + 4 ≤ length section
     → is_low_word (word_at section o) ≡ true
     → IsSomeAnd (action_at section o) (FromBase section o gp)
+
+-- The relocation that `from_global_pointer` leaves of such a low part has the distance of S + A from
+-- its base as its own S + A.
+abbrev pub ValuesAreDistances : Type 0
+ValuesAreDistances =
+    (addresses : Addresses) (values : List Symbol) (gp : ℕ) (r : Rela) (value : Symbol) (code : ℕ)
+    (base : ℕ × ℕ) → gp < 2 ^ 64 → slice_get values r.symbol ≡ Some value
+    → low_code r.code ≡ Some code → base_for gp (address_of addresses r value) ≡ Some base
+    → let after = based_relocation addresses values gp r in
+    (after.code ≡ code) × (after.symbol ≡ r.symbol)
+    × (address_of addresses after value ≡ difference_64 (address_of addresses r value) (base.1))

@@ -83,9 +83,11 @@ pub fn riscv64()
 
 /// RISC-V: each low part that `rewrite_global_pointer` takes does over x3 or x0, with the distance
 /// from it as its value, what the object's does over what its high part leaves, with S + A. What the
-/// high part leaves is a premise, as is what x3 has.
+/// high part leaves is a premise, as is what x3 has. The relocations that `from_global_pointer`
+/// leaves have these distances as their values.
 pub fn riscv64_global_pointer()
-    ensures { riscv64_near.LowPartsFromBase }
+    ensures low_parts { riscv64_near.LowPartsFromBase }
+    ensures values { riscv64_near.ValuesAreDistances }
 {}
 
 /// LoongArch: rewritten instructions do in the final bytes what the object's do. They are each load
