@@ -1,97 +1,107 @@
 -- RISC-V: low parts over x3 and x0 do what the object's do.
-use Rattle.std.proofs.Common.{◌≡◌, ℕ, ◌+◌, ◌-◌, ◌%◌, ◌^◌, ◌<◌, ◌≤◌, ◌⊎◌, Bool, true, false, true≢false, refl, sym, ◌∙◌, ap, subst, arith, List, length, drop, ℤ, Some, None, if◌then◌else◌}
+use Rattle.std.proofs.Common.{◌≡◌, ℕ, ◌+◌, ◌-◌, ◌%◌, ◌^◌, ◌<◌, ◌≤◌, ◌⊎◌, Bool, true, false, true≢false, refl, sym, ◌∙◌, ap, subst, arith, List, length, drop, ℤ, Option, Some, None, if◌then◌else◌}
 use Rattle.std.specs.Prelude.{◌&&◌, IsTrue}
 use Rattle.std.specs.Option.{IsSomeAnd}
-use Rattle.std.specs.Int.{w32, w64, cast_unsigned, from_le_bytes}
+use Rattle.std.specs.Int.{w32, w64, cast_signed, cast_unsigned, from_le_bytes}
 use Rattle.std.proofs.lemmas.Int.{of_z-to_z}
 use Rattle.std.proofs.lemmas.Bool.{ltb-true}
 use Rattle.std.proofs.lemmas.List.{length-drop}
 use Rattle.linker_base.specs.Bits.{field, signed}
 use Rattle.linker_elf.specs.RiscV.{riscv_form}
-use Rattle.linker_elf.specs.RiscVRelocations.{riscv_row}
+use Rattle.linker_elf.specs.RiscVRelocations.{pair_row}
 use Rattle.linker_elf.specs.Value.{sum_64, difference_64}
-use Rattle.linker_elf.specs.declared.elf.RelocationKind.TheVariants.{Absolute}
+use Rattle.linker_elf.specs.declared.elf.RelocationKind.{RelocationKind}
+use Rattle.linker_elf.specs.declared.elf.RelocationKind.TheVariants.{Absolute, RelativeRiscVLow12}
+use Rattle.linker_elf.specs.declared.elf.RelocationKindInfo.{RelocationKindInfo}
 use Rattle.linker_elf.specs.declared.elf.value.Operands.{Operands}
 use Rattle.linker_elf.specs.declared.riscv64.forms.RiscVInstruction.TheVariants.{IType, SType}
-use Rattle.linker_elf.specs.declared.riscv64.relocations.RiscVRelocation.TheVariants as names
 use Rattle.linker_riscv64.specs.RiscVCalls.{word_at}
 use Rattle.linker_riscv64.specs.RiscVRewrites.{opcode_of, funct3_of, rd_of, adds_low12, with_rs1}
 use Rattle.linker_rewriting.specs.Facts.{address_in}
-use Rattle.linker_rewriting.specs.GlobalPointer.{address_of, base_by, base_for, base_of, based_relocation, is_near, relocation_over}
+use Rattle.linker_rewriting.specs.GlobalPointer.{address_of, base_by, base_for, base_of, based_relocation, is_low_word, is_near, relocation_over}
 use Rattle.linker_laws.specs.Machine.{AreBytes, Relocated, moved}
 use Rattle.linker_laws.specs.RiscVMachine.{Action, Hart, register, adds, adds_word, jumps, loads, stores, loads_float, stores_float, sums, rs1_of, rs2_of, action_of, with_action, of_word, used, executed, i_type, s_type}
-use Rattle.linker_laws.specs.RiscVRewriteLaws.{AreAlike, EndSo, GoOn, StoresTheSame, differs_after, low_row}
+use Rattle.linker_laws.specs.RiscVRewriteLaws.{AreAlike, EndSo, GoOn, StoresTheSame, differs_after, low_row, action_at}
 use Rattle.linker_laws.specs.RiscVRelocationLaws.{even}
 use Rattle.linker_laws.specs.Schemes.{symbol_address}
-use Rattle.linker_laws.proofs.RiscVHighParts.{of_address}
+use Rattle.linker_laws.proofs.RiscVHighParts.{IsOf, of_address}
+use Rattle.linker_laws.proofs.Instructions.{unbiased}
 use Rattle.linker_laws.proofs.RiscVLowParts.{alike_used, is_action, some_action, low_sum, i_stands, i_kept, s_stands, s_kept, word_there}
 use Rattle.linker_laws.proofs.RiscVMachine.{at_start, fetched_word, steps}
 use Rattle.linker_laws.proofs.Sums.{sum_below}
 use Rattle.linker_laws.proofs.Words.{word_below}
-use Rattle.linker_final.specs.RiscVNear.{FromBase, LowPartsFromBase, after_base, ValuesAreDistances}
+use Rattle.linker_final.specs.RiscVNear.{FromBase, LowPartsFromBase, ValuesAreDistances, after_base, distance, labelled_row}
 
 -- ---- the instruction of a low part once its relocation is applied
 
-i_decoded : (a : Action) → ((w : ℕ) → with_action w (Some a) ≡ i_type a w) → (x : Operands)
-    (before code : List ℕ) → Relocated (riscv_row names.R_RISCV_LO12_I) x before code
-    → action_of (opcode_of (from_le_bytes w32 before)) (funct3_of (from_le_bytes w32 before)) ≡ Some a
-    → of_word (from_le_bytes w32 code)
-    ≡ Some (sums a (rd_of (from_le_bytes w32 before)) (rs1_of (from_le_bytes w32 before)) 0
-    (signed 12 (symbol_address x % 2 ^ 32 % 4096)))
-i_decoded a form x before code is action =
-    let word = from_le_bytes w32 before in
-    let w = from_le_bytes w32 code in
-    let kept = i_kept Absolute x (symbol_address x) before code is.applied (of_address.1 x) (of_address.0 IType x) in
-    let opcode : field w 0 7 ≡ field word 0 7 = kept 0 7 refl in
-    let function : field w 12 15 ≡ field word 12 15 = kept 12 3 refl in
-    let rd : field w 7 12 ≡ field word 7 12 = kept 7 5 refl in
-    let rs1 : field w 15 20 ≡ field word 15 20 = kept 15 5 refl in
-    is_action w a (ap (λ n. action_of n (funct3_of w)) opcode
-    ∙ (ap (action_of (opcode_of word)) function ∙ action))
-    ∙ (form w
-    ∙ (ap (λ v. Some (sums a v (rs1_of w) 0 ((riscv_form IType).machine w))) rd
-    ∙ (ap (λ v. Some (sums a (rd_of word) v 0 ((riscv_form IType).machine w))) rs1
-    ∙ ap (λ v. Some (sums a (rd_of word) (rs1_of word) 0 (signed 12 v)))
-    (i_stands Absolute x (symbol_address x) before code is.applied (of_address.1 x) (of_address.0 IType x)))))
+module _ (kind : RelocationKind) (number : Operands → ℕ) (of : IsOf kind number) where
+  i_decoded : (a : Action) → ((w : ℕ) → with_action w (Some a) ≡ i_type a w) → (x : Operands)
+      (before code : List ℕ) → Relocated (Some (pair_row kind 32 IType)) x before code
+      → action_of (opcode_of (from_le_bytes w32 before)) (funct3_of (from_le_bytes w32 before)) ≡ Some a
+      → of_word (from_le_bytes w32 code)
+      ≡ Some (sums a (rd_of (from_le_bytes w32 before)) (rs1_of (from_le_bytes w32 before)) 0
+      (signed 12 (number x % 2 ^ 32 % 4096)))
+  i_decoded a form x before code is action =
+      let word = from_le_bytes w32 before in
+      let w = from_le_bytes w32 code in
+      let kept = i_kept kind x (number x) before code is.applied (of.1 x) (of.0 IType x) in
+      let opcode : field w 0 7 ≡ field word 0 7 = kept 0 7 refl in
+      let function : field w 12 15 ≡ field word 12 15 = kept 12 3 refl in
+      let rd : field w 7 12 ≡ field word 7 12 = kept 7 5 refl in
+      let rs1 : field w 15 20 ≡ field word 15 20 = kept 15 5 refl in
+      is_action w a (ap (λ n. action_of n (funct3_of w)) opcode
+      ∙ (ap (action_of (opcode_of word)) function ∙ action))
+      ∙ (form w
+      ∙ (ap (λ v. Some (sums a v (rs1_of w) 0 ((riscv_form IType).machine w))) rd
+      ∙ (ap (λ v. Some (sums a (rd_of word) v 0 ((riscv_form IType).machine w))) rs1
+      ∙ ap (λ v. Some (sums a (rd_of word) (rs1_of word) 0 (signed 12 v)))
+      (i_stands kind x (number x) before code is.applied (of.1 x) (of.0 IType x)))))
 
-s_decoded : (a : Action) → ((w : ℕ) → with_action w (Some a) ≡ s_type a w) → (x : Operands)
-    (before code : List ℕ) → Relocated (riscv_row names.R_RISCV_LO12_S) x before code
-    → action_of (opcode_of (from_le_bytes w32 before)) (funct3_of (from_le_bytes w32 before)) ≡ Some a
-    → of_word (from_le_bytes w32 code)
-    ≡ Some (sums a 0 (rs1_of (from_le_bytes w32 before)) (rs2_of (from_le_bytes w32 before))
-    (signed 12 (symbol_address x % 2 ^ 32 % 4096)))
-s_decoded a form x before code is action =
-    let word = from_le_bytes w32 before in
-    let w = from_le_bytes w32 code in
-    let kept = s_kept Absolute x (symbol_address x) before code is.applied (of_address.1 x) (of_address.0 SType x) in
-    let opcode : field w 0 7 ≡ field word 0 7 = kept 0 7 refl in
-    let function : field w 12 15 ≡ field word 12 15 = kept 12 3 refl in
-    let rs1 : field w 15 20 ≡ field word 15 20 = kept 15 5 refl in
-    let rs2 : field w 20 25 ≡ field word 20 25 = kept 20 5 refl in
-    is_action w a (ap (λ n. action_of n (funct3_of w)) opcode
-    ∙ (ap (action_of (opcode_of word)) function ∙ action))
-    ∙ (form w
-    ∙ (ap (λ v. Some (sums a 0 v (rs2_of w) ((riscv_form SType).machine w))) rs1
-    ∙ (ap (λ v. Some (sums a 0 (rs1_of word) v ((riscv_form SType).machine w))) rs2
-    ∙ ap (λ v. Some (sums a 0 (rs1_of word) (rs2_of word) (signed 12 v)))
-    (s_stands Absolute x (symbol_address x) before code is.applied (of_address.1 x) (of_address.0 SType x)))))
+  s_decoded : (a : Action) → ((w : ℕ) → with_action w (Some a) ≡ s_type a w) → (x : Operands)
+      (before code : List ℕ) → Relocated (Some (pair_row kind 32 SType)) x before code
+      → action_of (opcode_of (from_le_bytes w32 before)) (funct3_of (from_le_bytes w32 before)) ≡ Some a
+      → of_word (from_le_bytes w32 code)
+      ≡ Some (sums a 0 (rs1_of (from_le_bytes w32 before)) (rs2_of (from_le_bytes w32 before))
+      (signed 12 (number x % 2 ^ 32 % 4096)))
+  s_decoded a form x before code is action =
+      let word = from_le_bytes w32 before in
+      let w = from_le_bytes w32 code in
+      let kept = s_kept kind x (number x) before code is.applied (of.1 x) (of.0 SType x) in
+      let opcode : field w 0 7 ≡ field word 0 7 = kept 0 7 refl in
+      let function : field w 12 15 ≡ field word 12 15 = kept 12 3 refl in
+      let rs1 : field w 15 20 ≡ field word 15 20 = kept 15 5 refl in
+      let rs2 : field w 20 25 ≡ field word 20 25 = kept 20 5 refl in
+      is_action w a (ap (λ n. action_of n (funct3_of w)) opcode
+      ∙ (ap (action_of (opcode_of word)) function ∙ action))
+      ∙ (form w
+      ∙ (ap (λ v. Some (sums a 0 v (rs2_of w) ((riscv_form SType).machine w))) rs1
+      ∙ (ap (λ v. Some (sums a 0 (rs1_of word) v ((riscv_form SType).machine w))) rs2
+      ∙ ap (λ v. Some (sums a 0 (rs1_of word) (rs2_of word) (signed 12 v)))
+      (s_stands kind x (number x) before code is.applied (of.1 x) (of.0 SType x)))))
 
--- the low bits of an applied word are those of one of 32 bits
-i_long : (x : Operands) (before code : List ℕ)
-    → Relocated (riscv_row names.R_RISCV_LO12_I) x before code
-    → opcode_of (from_le_bytes w32 before) % 4 ≡ 3 → field (from_le_bytes w32 code) 0 2 ≡ 3
-i_long x before code is long =
-    let same : field (from_le_bytes w32 code) 0 7 ≡ field (from_le_bytes w32 before) 0 7 =
-    i_kept Absolute x (symbol_address x) before code is.applied (of_address.1 x) (of_address.0 IType x) 0 7 refl in
-    omega (arith, same, long)
+  -- the low bits of an applied word are those of one of 32 bits
+  i_long : (x : Operands) (before code : List ℕ)
+      → Relocated (Some (pair_row kind 32 IType)) x before code
+      → opcode_of (from_le_bytes w32 before) % 4 ≡ 3 → field (from_le_bytes w32 code) 0 2 ≡ 3
+  i_long x before code is long =
+      let same : field (from_le_bytes w32 code) 0 7 ≡ field (from_le_bytes w32 before) 0 7 =
+      i_kept kind x (number x) before code is.applied (of.1 x) (of.0 IType x) 0 7 refl in
+      omega (arith, same, long)
 
-s_long : (x : Operands) (before code : List ℕ)
-    → Relocated (riscv_row names.R_RISCV_LO12_S) x before code
-    → opcode_of (from_le_bytes w32 before) % 4 ≡ 3 → field (from_le_bytes w32 code) 0 2 ≡ 3
-s_long x before code is long =
-    let same : field (from_le_bytes w32 code) 0 7 ≡ field (from_le_bytes w32 before) 0 7 =
-    s_kept Absolute x (symbol_address x) before code is.applied (of_address.1 x) (of_address.0 SType x) 0 7 refl in
-    omega (arith, same, long)
+  s_long : (x : Operands) (before code : List ℕ)
+      → Relocated (Some (pair_row kind 32 SType)) x before code
+      → opcode_of (from_le_bytes w32 before) % 4 ≡ 3 → field (from_le_bytes w32 code) 0 2 ≡ 3
+  s_long x before code is long =
+      let same : field (from_le_bytes w32 code) 0 7 ≡ field (from_le_bytes w32 before) 0 7 =
+      s_kept kind x (number x) before code is.applied (of.1 x) (of.0 SType x) 0 7 refl in
+      omega (arith, same, long)
+
+of_distance : IsOf RelativeRiscVLow12 distance
+of_distance = (
+  λ form x. ap (λ n. Some (cast_signed w64 (difference_64 n x.place)))
+      (unbiased (symbol_address x) (sum_below x.symbol _)),
+  λ x. omega arith,
+)
 
 -- ---- the word with another base
 
@@ -215,7 +225,9 @@ both_end a differs rd rs1 b rs2 i i' sum code code' long long' low low' is is' h
           (used 4 a rd rs2 v k)) (sym second) (alike_used a differs rd rs2 sum h k apart alike));
     }
 
-module _ (a : Action) (section : List ℕ) (o gp : ℕ) (gp_small : gp < 2 ^ 64)
+module _ (kind : RelocationKind) (number : Operands → ℕ) (of : IsOf kind number)
+    (row : Action → Option RelocationKindInfo)
+    (a : Action) (section : List ℕ) (o gp : ℕ) (gp_small : gp < 2 ^ 64)
     (inside : o + 4 ≤ length section)
     (is : action_of (opcode_of (word_at section o)) (funct3_of (word_at section o)) ≡ Some a)
     (long : opcode_of (word_at section o) % 4 ≡ 3) where
@@ -237,16 +249,16 @@ module _ (a : Action) (section : List ℕ) (o gp : ℕ) (gp_small : gp < 2 ^ 64)
       ∙ (ap (λ n. n % 4) (clear_0 (word_at section o) b) ∙ long)
 
   pub i_law : ((w : ℕ) → with_action w (Some a) ≡ i_type a w)
-      → low_row a ≡ riscv_row names.R_RISCV_LO12_I
+      → row a ≡ Some (pair_row kind 32 IType) → low_row a ≡ Some (pair_row Absolute 32 IType)
       → ((h k : Hart) → StoresTheSame a (rs2_of (word_at section o)) h k → StoresTheSame a 0 h k)
-      → FromBase section o gp a
-  i_law form row apart_is x y base based value original new old_code new_code h k differs small small' alike high there apart =
+      → FromBase row number section o gp a
+  i_law form old_row new_row apart_is x y base based value original new old_code new_code h k differs small small' alike high there apart =
       let word = word_at section o in
       let b = base.0 in
       let base_is = is_base gp (symbol_address x) base gp_small based in
       let bytes = old_code.old_bytes in
-      let old_i = subst (λ r. Relocated r x (drop o section) original) row old_code in
-      let new_i = subst (λ r. Relocated r y (drop o (after_base b section o)) new) row new_code in
+      let old_i = subst (λ r. Relocated r x (drop o section) original) old_row old_code in
+      let new_i = subst (λ r. Relocated r y (drop o (after_base b section o)) new) new_row new_code in
       let words = based_there section o b base_is.small inside bytes in
       let long_before : 4 ≤ length (drop o section) = omega (arith, length-drop o section) in
       let old_len = old_code.len in
@@ -254,30 +266,30 @@ module _ (a : Action) (section : List ℕ) (o gp : ℕ) (gp_small : gp < 2 ^ 64)
       let new_len = new_code.len in
       both_end a differs (rd_of word) (rs1_of word) b 0 _ _ (symbol_address x) original new
       (omega (arith, long_before, old_len)) (omega (arith, new_long, new_len))
-      (i_long x (drop o section) original old_i long)
-      (i_long y (drop o (after_base b section o)) new new_i (based_long b bytes base_is.small))
-      (i_decoded a form x (drop o section) original old_i is)
-      (i_decoded a form y (drop o (after_base b section o)) new new_i (based_action b bytes base_is.small)
+      (i_long kind number of x (drop o section) original old_i long)
+      (i_long Absolute symbol_address of_address y (drop o (after_base b section o)) new new_i (based_long b bytes base_is.small))
+      (i_decoded kind number of a form x (drop o section) original old_i is)
+      (i_decoded Absolute symbol_address of_address a form y (drop o (after_base b section o)) new new_i (based_action b bytes base_is.small)
       ∙ (ap (λ v. Some (sums a (rd_of v) (rs1_of v) 0 (signed 12 (symbol_address y % 2 ^ 32 % 4096)))) words
       ∙ (ap (λ v. Some (sums a v (rs1_of (with_rs1 b word)) 0 (signed 12 (symbol_address y % 2 ^ 32 % 4096)))) (clear_7 word b)
       ∙ ap (λ v. Some (sums a (rd_of word) v 0 (signed 12 (symbol_address y % 2 ^ 32 % 4096)))) (clear_15 word b base_is.small))))
       h k small small' alike
-      (ap (λ v. moved (register h (rs1_of word)) (signed 12 v)) (same_low (symbol_address x)) ∙ high)
+      (ap (λ v. moved (register h (rs1_of word)) (signed 12 v)) (same_low (number x)) ∙ high)
       (based_sum gp x y base (register k b) base_is value there)
       (apart_is h k apart)
 
   pub s_law : ((w : ℕ) → with_action w (Some a) ≡ s_type a w)
-      → low_row a ≡ riscv_row names.R_RISCV_LO12_S
+      → row a ≡ Some (pair_row kind 32 SType) → low_row a ≡ Some (pair_row Absolute 32 SType)
       → ((rd : ℕ) (differs : ℕ → Bool) → differs_after a differs rd ≡ differs_after a differs 0)
       → ((rd target at new_at : ℕ) (e e' : Hart) → GoOn a 0 target at new_at e e' → GoOn a rd target at new_at e e')
-      → FromBase section o gp a
-  s_law form row differs_is on_is x y base based value original new old_code new_code h k differs small small' alike high there apart =
+      → FromBase row number section o gp a
+  s_law form old_row new_row differs_is on_is x y base based value original new old_code new_code h k differs small small' alike high there apart =
       let word = word_at section o in
       let b = base.0 in
       let base_is = is_base gp (symbol_address x) base gp_small based in
       let bytes = old_code.old_bytes in
-      let old_s = subst (λ r. Relocated r x (drop o section) original) row old_code in
-      let new_s = subst (λ r. Relocated r y (drop o (after_base b section o)) new) row new_code in
+      let old_s = subst (λ r. Relocated r x (drop o section) original) old_row old_code in
+      let new_s = subst (λ r. Relocated r y (drop o (after_base b section o)) new) new_row new_code in
       let words = based_there section o b base_is.small inside bytes in
       let long_before : 4 ≤ length (drop o section) = omega (arith, length-drop o section) in
       let old_len = old_code.len in
@@ -285,15 +297,15 @@ module _ (a : Action) (section : List ℕ) (o gp : ℕ) (gp_small : gp < 2 ^ 64)
       let new_len = new_code.len in
       let ended = both_end a differs 0 (rs1_of word) b (rs2_of word) _ _ (symbol_address x) original new
       (omega (arith, long_before, old_len)) (omega (arith, new_long, new_len))
-      (s_long x (drop o section) original old_s long)
-      (s_long y (drop o (after_base b section o)) new new_s (based_long b bytes base_is.small))
-      (s_decoded a form x (drop o section) original old_s is)
-      (s_decoded a form y (drop o (after_base b section o)) new new_s (based_action b bytes base_is.small)
+      (s_long kind number of x (drop o section) original old_s long)
+      (s_long Absolute symbol_address of_address y (drop o (after_base b section o)) new new_s (based_long b bytes base_is.small))
+      (s_decoded kind number of a form x (drop o section) original old_s is)
+      (s_decoded Absolute symbol_address of_address a form y (drop o (after_base b section o)) new new_s (based_action b bytes base_is.small)
       ∙ (ap (λ v. Some (sums a 0 (rs1_of v) (rs2_of v) (signed 12 (symbol_address y % 2 ^ 32 % 4096)))) words
       ∙ (ap (λ v. Some (sums a 0 v (rs2_of (with_rs1 b word)) (signed 12 (symbol_address y % 2 ^ 32 % 4096)))) (clear_15 word b base_is.small)
       ∙ ap (λ v. Some (sums a 0 b v (signed 12 (symbol_address y % 2 ^ 32 % 4096)))) (clear_20 word b base_is.small))))
       h k small small' alike
-      (ap (λ v. moved (register h (rs1_of word)) (signed 12 v)) (same_low (symbol_address x)) ∙ high)
+      (ap (λ v. moved (register h (rs1_of word)) (signed 12 v)) (same_low (number x)) ∙ high)
       (based_sum gp x y base (register k b) base_is value there) apart in
       record {
         end = ended.end;
@@ -306,40 +318,72 @@ module _ (a : Action) (section : List ℕ) (o gp : ℕ) (gp_small : gp < 2 ^ 64)
         );
       }
 
-law : (section : List ℕ) (o gp : ℕ) → gp < 2 ^ 64 → o + 4 ≤ length section → (a : Action)
-    → action_of (opcode_of (word_at section o)) (funct3_of (word_at section o)) ≡ Some a
-    → opcode_of (word_at section o) % 4 ≡ 3 → FromBase section o gp a
-law section o gp small inside adds is long =
-    i_law adds section o gp small inside is long (λ w. refl) refl (λ h k same. same)
-law section o gp small inside adds_word is long =
-    i_law adds_word section o gp small inside is long (λ w. refl) refl (λ h k same. same)
-law section o gp small inside jumps is long =
-    i_law jumps section o gp small inside is long (λ w. refl) refl (λ h k same. same)
-law section o gp small inside (loads f) is long =
-    i_law (loads f) section o gp small inside is long (λ w. refl) refl (λ h k same. same)
-law section o gp small inside (loads_float f) is long =
-    i_law (loads_float f) section o gp small inside is long (λ w. refl) refl (λ h k same. same)
-law section o gp small inside (stores f) is long =
-    s_law (stores f) section o gp small inside is long (λ w. refl) refl (λ rd differs. refl) (λ rd target at new_at e e' on. on)
-law section o gp small inside (stores_float f) is long =
-    s_law (stores_float f) section o gp small inside is long (λ w. refl) refl (λ rd differs. refl) (λ rd target at new_at e e' on. on)
+module _ (section : List ℕ) (o gp : ℕ) (small : gp < 2 ^ 64) (inside : o + 4 ≤ length section) where
+  absolute_law : (a : Action)
+      → action_of (opcode_of (word_at section o)) (funct3_of (word_at section o)) ≡ Some a
+      → opcode_of (word_at section o) % 4 ≡ 3 → FromBase low_row symbol_address section o gp a
+  absolute_law adds is long =
+      i_law Absolute symbol_address of_address low_row adds section o gp small inside is long (λ w. refl) refl refl (λ h k same. same)
+  absolute_law adds_word is long =
+      i_law Absolute symbol_address of_address low_row adds_word section o gp small inside is long (λ w. refl) refl refl (λ h k same. same)
+  absolute_law jumps is long =
+      i_law Absolute symbol_address of_address low_row jumps section o gp small inside is long (λ w. refl) refl refl (λ h k same. same)
+  absolute_law (loads f) is long =
+      i_law Absolute symbol_address of_address low_row (loads f) section o gp small inside is long (λ w. refl) refl refl (λ h k same. same)
+  absolute_law (loads_float f) is long =
+      i_law Absolute symbol_address of_address low_row (loads_float f) section o gp small inside is long (λ w. refl) refl refl (λ h k same. same)
+  absolute_law (stores f) is long =
+      s_law Absolute symbol_address of_address low_row (stores f) section o gp small inside is long (λ w. refl) refl refl (λ rd differs. refl) (λ rd target at new_at e e' on. on)
+  absolute_law (stores_float f) is long =
+      s_law Absolute symbol_address of_address low_row (stores_float f) section o gp small inside is long (λ w. refl) refl refl (λ rd differs. refl) (λ rd target at new_at e e' on. on)
+
+  labelled_law : (a : Action)
+      → action_of (opcode_of (word_at section o)) (funct3_of (word_at section o)) ≡ Some a
+      → opcode_of (word_at section o) % 4 ≡ 3 → FromBase labelled_row distance section o gp a
+  labelled_law adds is long =
+      i_law RelativeRiscVLow12 distance of_distance labelled_row adds section o gp small inside is long (λ w. refl) refl refl (λ h k same. same)
+  labelled_law adds_word is long =
+      i_law RelativeRiscVLow12 distance of_distance labelled_row adds_word section o gp small inside is long (λ w. refl) refl refl (λ h k same. same)
+  labelled_law jumps is long =
+      i_law RelativeRiscVLow12 distance of_distance labelled_row jumps section o gp small inside is long (λ w. refl) refl refl (λ h k same. same)
+  labelled_law (loads f) is long =
+      i_law RelativeRiscVLow12 distance of_distance labelled_row (loads f) section o gp small inside is long (λ w. refl) refl refl (λ h k same. same)
+  labelled_law (loads_float f) is long =
+      i_law RelativeRiscVLow12 distance of_distance labelled_row (loads_float f) section o gp small inside is long (λ w. refl) refl refl (λ h k same. same)
+  labelled_law (stores f) is long =
+      s_law RelativeRiscVLow12 distance of_distance labelled_row (stores f) section o gp small inside is long (λ w. refl) refl refl (λ rd differs. refl) (λ rd target at new_at e e' on. on)
+  labelled_law (stores_float f) is long =
+      s_law RelativeRiscVLow12 distance of_distance labelled_row (stores_float f) section o gp small inside is long (λ w. refl) refl refl (λ rd differs. refl) (λ rd target at new_at e e' on. on)
 
 first_of_and : (a b : Bool) → (a && b) ≡ true → IsTrue a
 first_of_and true b is = refl
 first_of_and false b is = absurd (true≢false (sym is))
 
-pub low_parts : LowPartsFromBase
-low_parts section o gp small inside is =
+parts : (row : Action → Option RelocationKindInfo) (number : Operands → ℕ) (section : List ℕ)
+    (o gp : ℕ) → is_low_word (word_at section o) ≡ true
+    → ((a : Action)
+    → action_of (opcode_of (word_at section o)) (funct3_of (word_at section o)) ≡ Some a
+    → opcode_of (word_at section o) % 4 ≡ 3 → FromBase row number section o gp a)
+    → IsSomeAnd (action_at section o) (FromBase row number section o gp)
+parts row number section o gp is each =
     let word = word_at section o in
     let has = some_action (opcode_of word) (funct3_of word) (first_of_and (adds_low12 (opcode_of word) (funct3_of word)) _ is) in
-    subst (λ r. IsSomeAnd r (FromBase section o gp)) (sym (has.1))
-    (law section o gp small inside (has.0) (has.1) (has.2))
+    subst (λ r. IsSomeAnd r (FromBase row number section o gp)) (sym (has.1))
+    (each (has.0) (has.1) (has.2))
+
+pub low_parts : LowPartsFromBase
+low_parts = (
+  λ section o gp small inside is. parts low_row symbol_address section o gp is
+      (absolute_law section o gp small inside),
+  λ section o gp small inside is. parts labelled_row distance section o gp is
+      (labelled_law section o gp small inside),
+)
 
 -- ---- values
 
-distance : (s a b : ℕ) → b < 2 ^ 64
+moved_by : (s a b : ℕ) → b < 2 ^ 64
     → sum_64 s (difference_64 a b) ≡ difference_64 (sum_64 s a) b
-distance s a b below = omega arith
+moved_by s a b below = omega arith
 
 pub values_are_distances : ValuesAreDistances
 values_are_distances addresses values gp r value code base small symbol is_low based =
@@ -356,5 +400,5 @@ values_are_distances addresses values gp r value code base small symbol is_low b
       ap (λ x. x.symbol) after,
       ap (λ x. address_of addresses x value) after
           ∙ (ap (sum_64 (address_in addresses value)) (of_z-to_z w64 n (omega arith))
-          ∙ distance (address_in addresses value) a b base_is.below),
+          ∙ moved_by (address_in addresses value) a b base_is.below),
     )
