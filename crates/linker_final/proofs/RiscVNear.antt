@@ -1,9 +1,9 @@
 -- RISC-V: low parts over x3 and x0 do what the object's do.
-use Rattle.std.proofs.Common.{◌≡◌, ℕ, ◌+◌, ◌-◌, ◌%◌, ◌^◌, ◌<◌, ◌≤◌, ◌⊎◌, Bool, true, false, true≢false, refl, sym, ◌∙◌, ap, subst, arith, List, length, drop, ℤ, Option, Some, None, if◌then◌else◌}
-use Rattle.std.specs.Prelude.{◌&&◌, IsTrue}
+use Rattle.std.proofs.Common.{◌≡◌, ℕ, pos, ◌+ℤ◌, ◌+◌, ◌-◌, ◌%◌, ◌^◌, ◌<◌, ◌≤◌, ◌⊎◌, Bool, true, false, true≢false, refl, sym, ◌∙◌, ap, subst, arith, List, length, drop, ℤ, Option, Some, None, if◌then◌else◌}
+use Rattle.std.specs.Prelude.{◌&&◌, IsTrue, unsigned_abs}
 use Rattle.std.specs.Option.{IsSomeAnd}
 use Rattle.std.specs.Int.{w32, w64, cast_signed, cast_unsigned, from_le_bytes}
-use Rattle.std.proofs.lemmas.Int.{of_z-to_z}
+use Rattle.std.proofs.lemmas.Int.{ints, of_z-to_z}
 use Rattle.std.proofs.lemmas.Bool.{ltb-true}
 use Rattle.std.proofs.lemmas.List.{length-drop}
 use Rattle.linker_base.specs.Bits.{field, signed}
@@ -16,21 +16,21 @@ use Rattle.linker_elf.specs.declared.elf.RelocationKindInfo.{RelocationKindInfo}
 use Rattle.linker_elf.specs.declared.elf.value.Operands.{Operands}
 use Rattle.linker_elf.specs.declared.riscv64.forms.RiscVInstruction.TheVariants.{IType, SType}
 use Rattle.linker_riscv64.specs.RiscVCalls.{word_at}
-use Rattle.linker_riscv64.specs.RiscVRewrites.{opcode_of, funct3_of, rd_of, adds_low12, with_rs1}
+use Rattle.linker_riscv64.specs.RiscVRewrites.{opcode_of, funct3_of, rd_of, adds_low12, with_rs1, lo12}
 use Rattle.linker_rewriting.specs.Facts.{address_in}
 use Rattle.linker_rewriting.specs.GlobalPointer.{address_of, base_by, base_for, base_of, based_relocation, is_low_word, is_near, relocation_over}
-use Rattle.linker_laws.specs.Machine.{AreBytes, Relocated, moved}
+use Rattle.linker_laws.specs.Machine.{AreBytes, Relocated, moved, wrapped}
 use Rattle.linker_laws.specs.RiscVMachine.{Action, Hart, register, adds, adds_word, jumps, loads, stores, loads_float, stores_float, sums, rs1_of, rs2_of, action_of, with_action, of_word, used, executed, i_type, s_type}
 use Rattle.linker_laws.specs.RiscVRewriteLaws.{AreAlike, EndSo, GoOn, StoresTheSame, differs_after, low_row, action_at}
-use Rattle.linker_laws.specs.RiscVRelocationLaws.{even}
-use Rattle.linker_laws.specs.Schemes.{symbol_address}
+use Rattle.linker_laws.specs.RiscVRelocationLaws.{even, AbsoluteAddresses, RelativeAddresses}
+use Rattle.linker_laws.specs.Schemes.{symbol_address, IsAddress}
 use Rattle.linker_laws.proofs.RiscVHighParts.{IsOf, of_address}
 use Rattle.linker_laws.proofs.Instructions.{unbiased}
 use Rattle.linker_laws.proofs.RiscVLowParts.{alike_used, is_action, some_action, low_sum, i_stands, i_kept, s_stands, s_kept, word_there}
-use Rattle.linker_laws.proofs.RiscVMachine.{at_start, fetched_word, steps}
+use Rattle.linker_laws.proofs.RiscVMachine.{at_start, fetched_word, moved_twice, steps, written}
 use Rattle.linker_laws.proofs.Sums.{sum_below}
 use Rattle.linker_laws.proofs.Words.{word_below}
-use Rattle.linker_final.specs.RiscVNear.{FromBase, LowPartsFromBase, ValuesAreDistances, after_base, distance, labelled_row}
+use Rattle.linker_final.specs.RiscVNear.{FromBase, LowPartsFromBase, ValuesAreDistances, AuipcLeaves, LuiLeaves, after_base, distance, labelled_row, upper_of}
 
 -- ---- the instruction of a low part once its relocation is applied
 
@@ -402,3 +402,41 @@ values_are_distances addresses values gp r value code base small symbol is_low b
           ∙ (ap (sum_64 (address_in addresses value)) (of_z-to_z w64 n (omega arith))
           ∙ moved_by (address_in addresses value) a b base_is.below),
     )
+
+-- ---- high parts
+
+-- from what begins with a number, what an upper immediate adds, and the low part
+with_low : (b s : ℕ) (upper low : ℤ) → IsAddress (pos b +ℤ (upper +ℤ low)) s
+    → moved (moved b upper) low ≡ s
+with_low b s upper low is = moved_twice b upper low ∙ ap unsigned_abs is
+
+from_zero : (z : ℤ) → wrapped z ≡ moved 0 z
+from_zero z = ap wrapped (let e : z ≡ pos 0 +ℤ z = omega (arith, ints) in e)
+
+-- what a low part of the I format holds
+holds_low : (kind : RelocationKind) (number : Operands → ℕ) → IsOf kind number → (x : Operands)
+    (before code : List ℕ) → Relocated (Some (pair_row kind 32 IType)) x before code
+    → (riscv_form IType).machine (from_le_bytes w32 code) ≡ lo12 (number x)
+holds_low kind number of x before code is =
+    ap (signed 12) (i_stands kind x (number x) before code is.applied (of.1 x) (of.0 IType x)
+    ∙ same_low (number x))
+
+pub lui_leaves : AbsoluteAddresses → LuiLeaves
+lui_leaves laws x addresses before high before_low low is is_low h rd some =
+    let u = upper_of high in
+    let l = (riscv_form IType).machine (from_le_bytes w32 low) in
+    let sum : moved (moved 0 u) l ≡ symbol_address x =
+    with_low 0 (symbol_address x) u l
+    (laws.0.0 x addresses 0 before high is.applied tt 0 before_low low is_low.applied tt) in
+    ap (λ v. moved v (lo12 (symbol_address x))) (written rd (wrapped u) h some ∙ from_zero u)
+    ∙ (ap (moved (moved 0 u)) (sym (holds_low Absolute symbol_address of_address x before_low low is_low)) ∙ sum)
+
+pub auipc_leaves : RelativeAddresses → AuipcLeaves
+auipc_leaves laws x addresses before high before_low low is is_low h rd some at =
+    let u = upper_of high in
+    let l = (riscv_form IType).machine (from_le_bytes w32 low) in
+    let sum : moved (moved x.place u) l ≡ symbol_address x =
+    with_low x.place (symbol_address x) u l
+    (laws.0 x addresses 0 before high is.applied tt 0 before_low low is_low.applied tt) in
+    ap (λ v. moved v (lo12 (distance x))) (written rd (moved h.pc u) h some ∙ ap (λ p. moved p u) at)
+    ∙ (ap (moved (moved x.place u)) (sym (holds_low RelativeRiscVLow12 distance of_distance x before_low low is_low)) ∙ sum)

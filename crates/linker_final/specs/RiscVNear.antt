@@ -1,20 +1,23 @@
 -- RISC-V: a low part over x3 or x0 does what the object's does over what its high part leaves
 -- (RISC-V ELF psABI, "Global-pointer Relaxation" and "Zero-page Relaxation").
 use Rattle.std.specs.Prelude.{◌≡◌, ℕ, ◌+◌, ◌≤◌, ◌<◌, ◌^◌, true, List, drop, length, Some, IsSomeAnd}
-use Rattle.std.specs.Prelude.{Bool, Option, slice_get}
+use Rattle.std.specs.Prelude.{Bool, Option, slice_get, ◌≢◌, ℤ}
+use Rattle.std.specs.Int.{w32, from_le_bytes}
 use Rattle.linker_base.specs.Rewrite.{rewritten}
+use Rattle.linker_elf.specs.RiscV.{riscv_form}
 use Rattle.linker_elf.specs.RiscVRelocations.{riscv_row}
 use Rattle.linker_elf.specs.Value.{sum_64, difference_64}
 use Rattle.linker_elf.specs.declared.elf.RelocationKindInfo.{RelocationKindInfo}
 use Rattle.linker_elf.specs.declared.elf.value.Operands.{Operands}
+use Rattle.linker_elf.specs.declared.riscv64.forms.RiscVInstruction.TheVariants.{UType}
 use Rattle.linker_elf.specs.declared.riscv64.relocations.RiscVRelocation.TheVariants as names
 use Rattle.linker_laws.specs.Machine.{Relocated, moved}
 use Rattle.linker_laws.specs.RiscVMachine.{Action, Hart, register, rs1_of, rs2_of, stores}
-use Rattle.linker_laws.specs.RiscVMachine.{stores_float}
+use Rattle.linker_laws.specs.RiscVMachine.{auipc, executed, lui, stores_float}
 use Rattle.linker_laws.specs.RiscVRelocationLaws.{even}
 use Rattle.linker_laws.specs.RiscVRewriteLaws.{AreAlike, EndSo, GoOn, StoresTheSame, action_at}
 use Rattle.linker_laws.specs.RiscVRewriteLaws.{differs_after, low_row}
-use Rattle.linker_laws.specs.Schemes.{symbol_address}
+use Rattle.linker_laws.specs.Schemes.{AreAddresses, symbol_address}
 use Rattle.linker_rewriting.specs.GlobalPointer.{address_of, base_for, based_relocation}
 use Rattle.linker_rewriting.specs.GlobalPointer.{is_low_word, low_code}
 use Rattle.linker_riscv64.specs.RiscVCalls.{word_at}
@@ -83,3 +86,27 @@ ValuesAreDistances =
     → let after = based_relocation addresses values gp r in
     (after.code ≡ code) × (after.symbol ≡ r.symbol)
     × (address_of addresses after value ≡ difference_64 (address_of addresses r value) (base.1))
+
+-- ---- high parts
+
+-- the upper immediate of an instruction
+abbrev pub upper_of : List ℕ → ℤ
+upper_of code = (riscv_form UType).machine (from_le_bytes w32 code)
+
+-- a `lui` with the value of its relocation, where a low part holds that of the same operands
+abbrev pub LuiLeaves : Type 0
+LuiLeaves =
+    (x : Operands) → AreAddresses x → (before high before_low low : List ℕ)
+    → Relocated (riscv_row names.R_RISCV_HI20) x before high
+    → Relocated (riscv_row names.R_RISCV_LO12_I) x before_low low
+    → (h : Hart) (rd : ℕ) → rd ≢ 0
+    → HasHighPart (executed 4 (lui rd (upper_of high)) h) rd (symbol_address x) (symbol_address x)
+
+-- and an `auipc` at its place
+abbrev pub AuipcLeaves : Type 0
+AuipcLeaves =
+    (x : Operands) → AreAddresses x → (before high before_low low : List ℕ)
+    → Relocated (riscv_row names.R_RISCV_PCREL_HI20) x before high
+    → Relocated (riscv_row names.R_RISCV_PCREL_LO12_I) x before_low low
+    → (h : Hart) (rd : ℕ) → rd ≢ 0 → h.pc ≡ x.place
+    → HasHighPart (executed 4 (auipc rd (upper_of high)) h) rd (distance x) (symbol_address x)

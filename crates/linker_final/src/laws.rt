@@ -82,13 +82,17 @@ pub fn riscv64()
 }
 
 /// RISC-V: each low part that `rewrite_global_pointer` takes does over x3 or x0, with the distance
-/// from it as its value, what the object's does over what its high part leaves, with S + A. What the
-/// high part leaves is a premise, as is what x3 has. The relocations that `from_global_pointer`
-/// leaves have these distances as their values.
+/// from it as its value, what the object's does over what its high part leaves. That its `lui` or
+/// `auipc` leaves this is a law too; what x3 has is a premise. The relocations that
+/// `from_global_pointer` leaves have these distances as their values.
 pub fn riscv64_global_pointer()
     ensures low_parts { riscv64_near.LowPartsFromBase }
     ensures values { riscv64_near.ValuesAreDistances }
-{}
+    ensures lui { riscv64_near.LuiLeaves }
+    ensures auipc { riscv64_near.AuipcLeaves }
+{
+    linker_laws::relocations::riscv64();
+}
 
 /// LoongArch: rewritten instructions do in the final bytes what the object's do. They are each load
 /// of an address from the GOT that became a sum of its page and the rest, each half of initial-exec
