@@ -256,6 +256,60 @@ static inline uint32_t linker_utils_rewrite_address_loads(
     size_t section_len, struct linker_utils_decision *decisions, size_t decisions_len,
     size_t *faulty);
 
+/* Notes in `kept` which symbols of an object keep the high parts of their address, by one of its
+ * sections of code. RISC-V's `lui` and `auipc` aren't needed where an address is within 2 KiB of the
+ * global pointer, from 2,048 below it to 2,047 above it, or of 0. Each low part then takes x3 or x0 as
+ * its base (psABI, "Global-pointer Relaxation" and "Zero-page Relaxation"). A symbol stays where a
+ * relocation of its high or low parts isn't marked by R_RISCV_RELAX, isn't in reach, or isn't of such
+ * an instruction. All stay in an output that isn't an executable with a fixed address, and those of a
+ * section whose relocations don't ascend by offset.
+ *
+ * So survey all sections of code of an object, once addresses are known and before code gets shorter,
+ * and before one of them is rewritten. `global_pointer` is the address of `__global_pointer$`. `symbols`
+ * and `values` are those of `linker_utils_survey_placed_section`. `kept` has an element for each symbol,
+ * which is false at first; what stays there already stays, and so does a symbol without an element. For
+ * other machines nothing is noted. LINKER_UTILS_UNKNOWN_ARCHITECTURE. */
+static inline uint32_t linker_utils_survey_global_pointer(
+    uint16_t machine, const struct linker_utils_output_facts *output,
+    const struct linker_utils_symbol_facts *symbols, size_t symbols_len,
+    const struct linker_utils_addresses *addresses, const struct linker_utils_symbol *values,
+    size_t values_len, uint64_t global_pointer, const uint8_t *relocations, size_t relocations_len,
+    const uint8_t *section, size_t section_len, bool *kept, size_t kept_len);
+
+/* Has the high parts go of the symbols that don't stay by `kept`, which
+ * `linker_utils_survey_global_pointer` noted of all sections of code of the object with the same facts
+ * and addresses. The bytes stay until what is listed in `deleted` is deleted, as for
+ * `linker_utils_rewritten_items`. The relocation of a high part gets the type 0. That of a low part gets
+ * the symbol and the addend of the address. Its type becomes 47 or 48, which `elf.h` names
+ * R_RISCV_GPREL_I and R_RISCV_GPREL_S. No other call takes these: each requires
+ * `linker_utils_from_global_pointer`.
+ *
+ * It may only be called where x3 is `global_pointer` wherever this code runs, and never changes. What
+ * sets x3 has to be without marks, as the C libraries have it. `decisions` needs an element for each
+ * relocation, and `deleted` one for each high part. The statuses, and what an error leaves, are those of
+ * `linker_utils_rewrite_placed_section` but for LINKER_UTILS_OVERLAPS. */
+static inline uint32_t linker_utils_rewrite_global_pointer(
+    uint16_t machine, const struct linker_utils_output_facts *output,
+    const struct linker_utils_symbol_facts *symbols, size_t symbols_len,
+    const struct linker_utils_addresses *addresses, const struct linker_utils_symbol *values,
+    size_t values_len, uint64_t global_pointer, const bool *kept, size_t kept_len,
+    uint8_t *relocations, size_t relocations_len, const uint8_t *section, size_t section_len,
+    struct linker_utils_decision *decisions, size_t decisions_len,
+    struct linker_utils_deletion *deleted, size_t deleted_len, size_t *deleted_used,
+    size_t *faulty);
+
+/* Writes the base of each low part that `linker_utils_rewrite_global_pointer` left without one, once
+ * addresses are final and before values are written. It is x0 where 12 bits hold the address, and else
+ * x3. The relocation gets the type R_RISCV_LO12_I or R_RISCV_LO12_S, and an addend that is less by what
+ * the base has. LINKER_UTILS_OUT_OF_REACH where neither reaches the address of the relocation with the
+ * index `faulty`, its symbol isn't in the table, or its instruction isn't in the section: then nothing
+ * changes. It never comes where the symbol and the global pointer are in one run
+ * (`linker_utils_relax`), since no distance gets longer there. */
+static inline uint32_t linker_utils_from_global_pointer(
+    const struct linker_utils_addresses *addresses, const struct linker_utils_symbol *values,
+    size_t values_len, uint64_t global_pointer, uint8_t *relocations, size_t relocations_len,
+    uint8_t *section, size_t section_len, size_t *faulty);
+
 /* A symbol that a linker defines if an object refers to it. */
 struct linker_utils_provided_symbol {
     uint64_t offset; /* how many bytes above its place */

@@ -367,6 +367,71 @@ static inline uint32_t linker_utils_rewrite_address_loads(
         faulty ? faulty : &ignored);
 }
 
+uint32_t linker_utils_survey_global_pointer_nonnull(
+    uint16_t machine, const struct linker_utils_output_facts *output,
+    const struct linker_utils_symbol_facts *symbols, size_t symbols_len,
+    const struct linker_utils_addresses *addresses, const struct linker_utils_symbol *values,
+    size_t values_len, uint64_t global_pointer, const uint8_t *relocations, size_t relocations_len,
+    const uint8_t *section, size_t section_len, bool *kept, size_t kept_len);
+static inline uint32_t linker_utils_survey_global_pointer(
+    uint16_t machine, const struct linker_utils_output_facts *output,
+    const struct linker_utils_symbol_facts *symbols, size_t symbols_len,
+    const struct linker_utils_addresses *addresses, const struct linker_utils_symbol *values,
+    size_t values_len, uint64_t global_pointer, const uint8_t *relocations, size_t relocations_len,
+    const uint8_t *section, size_t section_len, bool *kept, size_t kept_len) {
+    return linker_utils_survey_global_pointer_nonnull(
+        machine, output, LINKER_UTILS_SLICE(const struct linker_utils_symbol_facts, symbols),
+        symbols_len, addresses, LINKER_UTILS_SLICE(const struct linker_utils_symbol, values),
+        values_len, global_pointer, LINKER_UTILS_SLICE(const uint8_t, relocations), relocations_len,
+        LINKER_UTILS_SLICE(const uint8_t, section), section_len, LINKER_UTILS_SLICE(bool, kept),
+        kept_len);
+}
+
+uint32_t linker_utils_rewrite_global_pointer_nonnull(
+    uint16_t machine, const struct linker_utils_output_facts *output,
+    const struct linker_utils_symbol_facts *symbols, size_t symbols_len,
+    const struct linker_utils_addresses *addresses, const struct linker_utils_symbol *values,
+    size_t values_len, uint64_t global_pointer, const bool *kept, size_t kept_len,
+    uint8_t *relocations, size_t relocations_len, const uint8_t *section, size_t section_len,
+    struct linker_utils_decision *decisions, size_t decisions_len,
+    struct linker_utils_deletion *deleted, size_t deleted_len, size_t *deleted_used,
+    size_t *faulty);
+static inline uint32_t linker_utils_rewrite_global_pointer(
+    uint16_t machine, const struct linker_utils_output_facts *output,
+    const struct linker_utils_symbol_facts *symbols, size_t symbols_len,
+    const struct linker_utils_addresses *addresses, const struct linker_utils_symbol *values,
+    size_t values_len, uint64_t global_pointer, const bool *kept, size_t kept_len,
+    uint8_t *relocations, size_t relocations_len, const uint8_t *section, size_t section_len,
+    struct linker_utils_decision *decisions, size_t decisions_len,
+    struct linker_utils_deletion *deleted, size_t deleted_len, size_t *deleted_used,
+    size_t *faulty) {
+    size_t ignored;
+    return linker_utils_rewrite_global_pointer_nonnull(
+        machine, output, LINKER_UTILS_SLICE(const struct linker_utils_symbol_facts, symbols),
+        symbols_len, addresses, LINKER_UTILS_SLICE(const struct linker_utils_symbol, values),
+        values_len, global_pointer, LINKER_UTILS_SLICE(const bool, kept), kept_len,
+        LINKER_UTILS_SLICE(uint8_t, relocations), relocations_len,
+        LINKER_UTILS_SLICE(const uint8_t, section), section_len,
+        LINKER_UTILS_SLICE(struct linker_utils_decision, decisions), decisions_len,
+        LINKER_UTILS_SLICE(struct linker_utils_deletion, deleted), deleted_len, deleted_used,
+        faulty ? faulty : &ignored);
+}
+
+uint32_t linker_utils_from_global_pointer_nonnull(
+    const struct linker_utils_addresses *addresses, const struct linker_utils_symbol *values,
+    size_t values_len, uint64_t global_pointer, uint8_t *relocations, size_t relocations_len,
+    uint8_t *section, size_t section_len, size_t *faulty);
+static inline uint32_t linker_utils_from_global_pointer(
+    const struct linker_utils_addresses *addresses, const struct linker_utils_symbol *values,
+    size_t values_len, uint64_t global_pointer, uint8_t *relocations, size_t relocations_len,
+    uint8_t *section, size_t section_len, size_t *faulty) {
+    size_t ignored;
+    return linker_utils_from_global_pointer_nonnull(
+        addresses, LINKER_UTILS_SLICE(const struct linker_utils_symbol, values), values_len,
+        global_pointer, LINKER_UTILS_SLICE(uint8_t, relocations), relocations_len,
+        LINKER_UTILS_SLICE(uint8_t, section), section_len, faulty ? faulty : &ignored);
+}
+
 uint32_t linker_utils_address_section_nonnull(
     uint16_t machine, uint8_t *name, size_t name_len, size_t *name_used);
 static inline uint32_t linker_utils_address_section(

@@ -4,7 +4,7 @@
 use crate::inputs::Random;
 use crate::library::added;
 use crate::measure::{Beside, Report, Side};
-use crate::table::{AARCH64, PPC64, X86_64, name_of};
+use crate::table::{AARCH64, PPC64, RISCV, X86_64, name_of};
 use erased_crate::elf::Architecture;
 use erased_crate::{output, placement, rewriting, section};
 use sathunne::raw::*;
@@ -449,6 +449,105 @@ fn address_loads(report: &mut Report, loads: &Loads) {
     report.line(name, loads.count(), true, [Some(exports), None, None, None]);
 }
 
+/// An address by its distance from the global pointer: lui a0 and lw a0, 0(a0), both marked.
+const NEAR_OF_RISCV: [Sequence; 1] = [(
+    &[0x37, 0x05, 0, 0, 0x03, 0x25, 0x05, 0],
+    &[(0, 26), (0, 51), (4, 27), (4, 51)],
+)];
+
+fn near_addresses(report: &mut Report, input: &Input) {
+    let (is_executable, is_fixed) = EXECUTABLE;
+    let output = sathunne::OutputFacts { is_executable, is_fixed };
+    let values = vec![Symbol { address: 0x60_0010, ..Symbol::default() }; SYMBOLS];
+    let (section, relocations) = input.bytes.split_at(LEN);
+    let exports = Side::over(
+        vec![false; SYMBOLS],
+        |kept: &mut Vec<bool>| kept.fill(false),
+        |kept: &mut Vec<bool>| {
+            // SAFETY: a slice's pointer and length are its own, and a reference is of one value.
+            let status = unsafe {
+                linker_utils_survey_global_pointer_nonnull(
+                    input.machine,
+                    &output,
+                    input.symbols.as_ptr(),
+                    input.symbols.len(),
+                    &PLACED,
+                    values.as_ptr(),
+                    values.len(),
+                    PLACED.got_base,
+                    relocations.as_ptr(),
+                    relocations.len(),
+                    section.as_ptr(),
+                    section.len(),
+                    kept.as_mut_ptr(),
+                    kept.len(),
+                )
+            };
+            assert_eq!(status, 0);
+        },
+        |kept: &Vec<bool>| kept.iter().filter(|it| **it).count(),
+    );
+    let name = "`linker_utils_survey_global_pointer`";
+    report.line(name, input.count(), true, [Some(exports), None, None, None]);
+    let mut decisions = vec![sathunne::raw::Decision::default(); input.count()];
+    let mut deleted = vec![sathunne::Deletion::default(); input.count()];
+    let rewrite = |bytes: &mut [u8]| {
+        let (section, relocations) = bytes.split_at_mut(LEN);
+        let (kept, mut used) = ([false; SYMBOLS], 0);
+        // SAFETY: a slice's pointer and length are its own, and a reference is of one value.
+        let status = unsafe {
+            linker_utils_rewrite_global_pointer_nonnull(
+                input.machine,
+                &output,
+                input.symbols.as_ptr(),
+                input.symbols.len(),
+                &PLACED,
+                values.as_ptr(),
+                values.len(),
+                PLACED.got_base,
+                kept.as_ptr(),
+                kept.len(),
+                relocations.as_mut_ptr(),
+                relocations.len(),
+                section.as_ptr(),
+                section.len(),
+                decisions.as_mut_ptr(),
+                decisions.len(),
+                deleted.as_mut_ptr(),
+                deleted.len(),
+                &mut used,
+                &mut 0,
+            )
+        };
+        assert_eq!(status, 0);
+    };
+    let name = "`linker_utils_rewrite_global_pointer`";
+    report.line(name, input.count(), true, [Some(anew(input, rewrite)), None, None, None]);
+    let base = |bytes: &mut [u8]| {
+        let (section, relocations) = bytes.split_at_mut(LEN);
+        for relocation in relocations.chunks_exact_mut(24).skip(2).step_by(4) {
+            relocation[8] = 47;
+        }
+        // SAFETY: a slice's pointer and length are its own, and a reference is of one value.
+        let status = unsafe {
+            linker_utils_from_global_pointer_nonnull(
+                &PLACED,
+                values.as_ptr(),
+                values.len(),
+                PLACED.got_base,
+                relocations.as_mut_ptr(),
+                relocations.len(),
+                section.as_mut_ptr(),
+                section.len(),
+                &mut 0,
+            )
+        };
+        assert_eq!(status, 0);
+    };
+    let name = "`linker_utils_from_global_pointer`";
+    report.line(name, input.count(), true, [Some(anew(input, base)), None, None, None]);
+}
+
 /// Stubs that go to words in reach.
 fn stubs(report: &mut Report, machine: u16) {
     const COUNT: u64 = 1000;
@@ -710,6 +809,8 @@ pub fn rewriting(report: &mut Report) {
     let loads = Loads::of(random);
     report.heading("Loads of addresses from PowerPC64's `.toc`, a relocation", Beside::Nothing);
     address_loads(report, &loads);
+    report.heading("Addresses near RISC-V's global pointer, a relocation", Beside::Nothing);
+    near_addresses(report, &input(random, RISCV, &NEAR_OF_RISCV));
     report.heading("Stubs", Beside::Nothing);
     for input in &inputs {
         stubs(report, input.machine);

@@ -194,9 +194,9 @@ struct tls {
 extern uint16_t machine;
 extern uint32_t machine_flags; /* `e_flags` of all objects */
 /* whether a dynamic linker loads the linked file, whether the machine's code may become shorter,
- * whether instructions are rewritten that need not be, and whether PowerPC64's local-exec is, which
- * ld.lld leaves */
-extern bool is_dynamic, shrinks, relaxes, has_short_offsets;
+ * whether instructions are rewritten that need not be, whether PowerPC64's local-exec is, which
+ * ld.lld leaves, and RISC-V's addresses near the global pointer */
+extern bool is_dynamic, shrinks, relaxes, has_short_offsets, relaxes_near;
 extern struct linker_utils_output_facts linked;
 extern struct linker_utils_dynamic_types types;
 extern struct linker_utils_got known_got; /* by addresses, so far as these are known */
@@ -282,6 +282,7 @@ struct linker_utils_addresses addresses_of(const struct section *s);
 void relocate_section(struct section *s, const struct linker_utils_symbol *values);
 /* rewrite.c */
 void rewrite_object(struct object *o, uint32_t first, uint32_t last), relocate(void);
+void relax_near(bool is_final);
 bool is_of_addresses(const char *name);
 /* entries.c */
 void require(struct object *o), make_entries(void), write_entries(void), write_stubs(void);

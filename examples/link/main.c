@@ -1,4 +1,4 @@
-/* usage: link [-s] [--no-relax | --short-offsets] [-pie | -shared [-soname NAME]]
+/* usage: link [-s] [--no-relax | --short-offsets | --relax-gp] [-pie | -shared [-soname NAME]]
  *             [-z now | -z relro]... -o OUTPUT [--section-start=NAME=ADDRESS]... FILE...
  * A file is an object, an archive or a shared library. The output is a static executable; with
  * shared libraries an executable that they are loaded for, with `-pie` at any address; and with
@@ -10,7 +10,7 @@
 
 uint16_t machine;
 uint32_t machine_flags;
-bool is_dynamic, shrinks, relaxes = true, has_short_offsets = false;
+bool is_dynamic, shrinks, relaxes = true, has_short_offsets = false, relaxes_near = false;
 struct output *headers, *got, *stubs, *slots, *rela, *frames, *index_of, *interpreter, *dynamic;
 struct output *dynsym, *dynstr, *hash_table, *versym, *verneed;
 
@@ -102,6 +102,7 @@ static void read_arguments(char **argument) {
         if (!strcmp(it, "-s")) has_symbols = false;
         else if (!strcmp(it, "--no-relax")) relaxes = false;
         else if (!strcmp(it, "--short-offsets")) has_short_offsets = true;
+        else if (!strcmp(it, "--relax-gp")) relaxes_near = true;
         else if (!strcmp(it, "-pie")) linked.is_fixed = false;
         else if (!strcmp(it, "-shared")) linked.is_fixed = linked.is_executable = false;
         else if (!strcmp(it, "-z") && protects) argument++;

@@ -156,8 +156,10 @@ void relax(void) {
     EACH_OBJECT(o)
         if (o->is_threaded && (shrinks || (has_short_offsets && relaxes)))
             rewrite_object(o, phase, phase);
+    relax_near(false);
     EACH_OUTPUT(o) if (shrinks && !o->run->deltas) relax_run(o->run);
     set_addresses();
+    relax_near(true);
     EACH_OUTPUT(o) {
         uint64_t align = o->flags & SHF_TLS && o->address == tls.image ? tls.align : o->align;
         uint64_t wanted = o->is_placed ? o->place : o->address;

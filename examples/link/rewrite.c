@@ -128,6 +128,57 @@ bool is_of_addresses(const char *name) {
     return *known && !strcmp(name, known);
 }
 
+static int by_offset(const void *left, const void *right) {
+    const struct linker_utils_deletion *a = left, *b = right;
+    return order(a->offset, b->offset);
+}
+
+/* Deletes the high parts of addresses near a pointer in a section, all of a symbol or none. */
+static uint32_t rewrite_near(struct section *s, uint64_t pointer, const bool *stays, size_t *at) {
+    size_t count = s->object->symbols_len, len = s->relocations_len, used = 0;
+    struct linker_utils_addresses here = addresses_of(s);
+    struct linker_utils_decision *decisions = zeros(len, sizeof *decisions);
+    struct linker_utils_deletion *deleted = take(s->deleted_len + len, sizeof *deleted);
+    if (s->deleted_len) memcpy(deleted, s->deleted, s->deleted_len * sizeof *deleted);
+    uint32_t status = linker_utils_rewrite_global_pointer(
+        machine, &linked, facts, count, &here, values, count, pointer, stays, count, TABLE_OF(s),
+        BYTES_OF(s), decisions, len, deleted + s->deleted_len, len, &used, at);
+    free(decisions);
+    s->deleted_len += (uint32_t)used;
+    s->deleted = deleted;
+    qsort(deleted, s->deleted_len, sizeof *deleted, by_offset);
+    return status;
+}
+
+/* The same in all code, if there is a global pointer. Once all addresses are final: gives the low
+ * parts that stay their base. */
+void relax_near(bool is_final) {
+    const struct symbol *to = named("__global_pointer$");
+    if (!relaxes || !relaxes_near || !to || !to->output) return;
+    uint64_t pointer = address_of(to->output, to->offset);
+    EACH_OBJECT(o) {
+        size_t count = o->symbols_len, at = 0;
+        bool *stays = zeros(count, 1), hides = note_symbols(o, true);
+        if (hides) hide(o);
+        for (int step = is_final ? 2 : 0; step < (is_final ? 3 : 2); step++)
+            EACH_SECTION_OF(o, s) {
+                if (!is_code(s) || !s->output->shrinks) continue;
+                struct linker_utils_addresses here = addresses_of(s);
+                uint32_t status =
+                    step == 1 ? rewrite_near(s, pointer, stays, &at)
+                    : is_final
+                        ? linker_utils_from_global_pointer(&here, values, count, pointer,
+                                                           TABLE_OF(s), BYTES_OF(s), &at)
+                        : linker_utils_survey_global_pointer(machine, &linked, facts, count, &here,
+                                                             values, count, pointer, TABLE_OF(s),
+                                                             BYTES_OF(s), stays, count);
+                check(s, &s->relocations[at < s->relocations_len ? at : 0], status);
+            }
+        if (hides) hide(o);
+        free(stays);
+    }
+}
+
 /* Makes the rewrites of each object that wait for all addresses, and writes its values. */
 void relocate(void) {
     uint32_t last = LINKER_UTILS_PHASE_DISTANCES;

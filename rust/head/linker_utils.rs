@@ -75,6 +75,9 @@ pub mod rewriting {
         AsDecision, Decision, FromDeletion, RewritingError, Subject,
     };
     pub use crate::linker_rewriting::facts::{OutputFacts, SymbolFacts};
+    pub use crate::linker_rewriting::global_pointer::{
+        GPREL_I, GPREL_S, from_global_pointer, rewrite_global_pointer, survey_global_pointer,
+    };
     pub use crate::linker_rewriting::groups::{
         Group, KeptGroups, Scope, has_rewrites, scope_in, scope_of,
     };

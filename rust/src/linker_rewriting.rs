@@ -7,6 +7,7 @@ pub mod candidates;
 mod codes;
 pub mod decisions;
 pub mod facts;
+pub mod global_pointer;
 pub mod groups;
 pub mod kept;
 mod labels;

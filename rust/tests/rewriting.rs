@@ -4,10 +4,11 @@
 use linker_utils::elf::Architecture::{self, AArch64, LoongArch64, Ppc64, RiscV, X86_64};
 use linker_utils::relaxation::AsDeletion;
 use linker_utils::rewriting::{
-    first_changed, has_rewrites, keep_facts, relocate_rewritten_section, rewrite_address_loads,
-    rewrite_placed_section, rewrite_section, scope_in, scope_of, survey, survey_address_loads,
+    first_changed, from_global_pointer, has_rewrites, keep_facts, relocate_rewritten_section,
+    rewrite_address_loads, rewrite_global_pointer, rewrite_placed_section, rewrite_section,
+    scope_in, scope_of, survey, survey_address_loads, survey_global_pointer,
     survey_placed_section, AsDecision, Decision, FromDeletion, Group, KeptFacts, KeptGroups,
-    OutputFacts, Phase, RewritingError, Scope, SymbolFacts, WritingError,
+    OutputFacts, Phase, RewritingError, Scope, SymbolFacts, WritingError, GPREL_I, GPREL_S,
 };
 use linker_utils::section::{relocate_section, relocation_at, Addresses, Rela, Symbol};
 
@@ -1480,4 +1481,126 @@ fn loads_that_were_not_surveyed_are_an_error() {
     assert_eq!(rewrite(&mut [Decision::Kept; 4]), Err(RewritingError::TooShort));
     assert_eq!(entries, given);
     assert_eq!(bytes, section.bytes);
+}
+
+const RELAX: u32 = 51;
+const GLOBAL_POINTER: u64 = 0x1_2800;
+const LABEL: u32 = 3;
+
+/// No symbol, one near the global pointer, one 2,048 above it, and the label of the section's start.
+fn near_symbols() -> [Symbol; 4] {
+    [0, GLOBAL_POINTER + 5, GLOBAL_POINTER + 0x800, 0x1_1000].map(|address| Symbol {
+        address,
+        ..Symbol::default()
+    })
+}
+
+/// The relocations, each marked where it says so.
+fn marked(listed: &[(u64, u32, u32, bool)]) -> Vec<u8> {
+    let with_mark = |(offset, code, symbol, is_marked): &(u64, u32, u32, bool)| {
+        let mark = is_marked.then(|| rela(*offset, RELAX, 0, 0));
+        std::iter::once(rela(*offset, *code, *symbol, 0)).chain(mark)
+    };
+    bytes_of(&listed.iter().flat_map(with_mark).collect::<Vec<_>>())
+}
+
+/// Which symbols stay by a section, its relocations after it, and what is deleted.
+fn near(bytes: &[u8], mut entries: Vec<u8>) -> ([bool; 4], Vec<u8>, Vec<(u64, u32)>) {
+    let known = [SymbolFacts {
+        is_local: true,
+        ..SymbolFacts::default()
+    }; 4];
+    let addresses = Addresses {
+        section: 0x1_1000,
+        ..Addresses::default()
+    };
+    let (values, mut kept) = (near_symbols(), [false; 4]);
+    survey_global_pointer(
+        RiscV,
+        &EXECUTABLE,
+        &known,
+        &addresses,
+        &values,
+        GLOBAL_POINTER,
+        &entries,
+        bytes,
+        &mut kept,
+    );
+    let count = entries.len() / 24;
+    let mut deleted = vec![(0, 0); count];
+    let len = rewrite_global_pointer(
+        RiscV,
+        &EXECUTABLE,
+        &known,
+        &addresses,
+        &values,
+        GLOBAL_POINTER,
+        &kept,
+        &mut entries,
+        bytes,
+        &mut vec![Decision::Kept; count],
+        &mut deleted,
+    )
+    .unwrap();
+    deleted.truncate(len);
+    (kept, entries, deleted)
+}
+
+#[test]
+fn high_parts_near_the_global_pointer_go() {
+    // lui a0; lw a1, 0(a0); auipc a2; addi a2, a2, 0, whose label is at 8
+    let code = words(&[0x0000_0537, 0x0005_2583, 0x0000_0617, 0x0006_0613]);
+    let mut values = near_symbols();
+    values[LABEL as usize].address += 8;
+    let entries = marked(&[(0, 26, 1, true), (4, 27, 1, true)]);
+    let (kept, after, deleted) = near(&code, entries);
+    assert_eq!((kept, &*deleted), ([false; 4], &[(0, 4)][..]));
+    let mut low = bytes_of(&[rela(0, GPREL_I, 1, 0)]);
+    assert_eq!(after[56..72], low[8..]);
+    // lw a1, 5(gp), with a value of 5, as ld.lld --relax-gp writes it
+    let mut bytes = code[4..8].to_vec();
+    let none = Addresses::default();
+    from_global_pointer(&none, &values, GLOBAL_POINTER, &mut low, &mut bytes).unwrap();
+    assert_eq!(bytes, words(&[0x0001_a583]));
+    let addend = GLOBAL_POINTER.wrapping_neg().cast_signed();
+    assert_eq!(low, bytes_of(&[rela(0, 27, 1, addend)]));
+}
+
+#[test]
+fn a_symbol_stays_where_one_of_its_parts_does() {
+    let code = words(&[0x0000_0537, 0x0005_2583]);
+    let stays = |entries: Vec<u8>, code: &[u8], symbol: usize| {
+        let (kept, after, deleted) = near(code, entries.clone());
+        assert!(kept[symbol] && deleted.is_empty() && after == entries);
+    };
+    // no mark of either part; and 2,048 above the global pointer
+    stays(marked(&[(0, 26, 1, false), (4, 27, 1, true)]), &code, 1);
+    stays(marked(&[(0, 26, 1, true), (4, 27, 1, false)]), &code, 1);
+    stays(marked(&[(0, 26, 2, true), (4, 27, 2, true)]), &code, 2);
+    // lui gp and addi gp, gp, 0 set the global pointer; lw a1, 0(x0) has no base; sw a0, 0(a0) stores it
+    stays(
+        marked(&[(0, 26, 1, true), (4, 27, 1, true)]),
+        &words(&[0x0000_01b7, 0x0001_8193]),
+        1,
+    );
+    stays(marked(&[(0, 27, 1, true)]), &words(&[0x0000_2583]), 1);
+    stays(marked(&[(0, 28, 1, true)]), &words(&[0x00a5_2023]), 1);
+    // auipc a0 and lw a1, 0(a2), which has another base
+    stays(
+        marked(&[(0, 23, 1, true), (4, 24, LABEL, true)]),
+        &words(&[0x0000_0517, 0x0006_2583]),
+        1,
+    );
+}
+
+#[test]
+fn parts_with_a_label_go_with_it() {
+    // auipc a0; lw a1, 0(a0); sw a1, 0(a0)
+    let code = words(&[0x0000_0517, 0x0005_2583, 0x00b5_2023]);
+    let parts = [(0, 23, 1, true), (4, 24, LABEL, true), (8, 25, LABEL, true)];
+    let (kept, after, deleted) = near(&code, marked(&parts));
+    assert_eq!((kept, &*deleted), ([false; 4], &[(0, 4)][..]));
+    let turned = [rela(4, GPREL_I, 1, 0), rela(8, GPREL_S, 1, 0)];
+    assert_eq!(relocation_at(&after, 0), Some(rela(0, 0, 1, 0)));
+    assert_eq!([2, 4].map(|at| relocation_at(&after, at).unwrap()), turned);
 }

@@ -53,6 +53,11 @@ int main(void) {
                                     0, NULL, 0, NULL, 0));
     EXPECT(OK, rewrite_address_loads(machine, &output, NULL, 0, &addresses, NULL, 0, 0, NULL, 0, NULL,
                                      0, NULL, 0, NULL, 0, NULL, 0, NULL));
+    EXPECT(OK, survey_global_pointer(machine, &output, NULL, 0, &addresses, NULL, 0, 0, NULL, 0, NULL,
+                                     0, NULL, 0));
+    EXPECT(OK, rewrite_global_pointer(machine, &output, NULL, 0, &addresses, NULL, 0, 0, NULL, 0,
+                                      NULL, 0, NULL, 0, NULL, 0, NULL, 0, &count, NULL));
+    EXPECT(OK, from_global_pointer(&addresses, NULL, 0, 0, NULL, 0, NULL, 0, NULL));
     struct linker_utils_provided_symbol symbol;
     struct linker_utils_provided_run run;
     EXPECT(TOO_SHORT, dynamic_name(LINKER_UTILS_X86_64, 8, NULL, 0, &count));

@@ -1130,6 +1130,86 @@ static void call_rewrite_address_loads(void) {
     finish(status == LINKER_UTILS_OK);
 }
 
+/* Mostly RISC-V, of which alone addresses are near the global pointer. */
+static uint16_t mostly_riscv(void) {
+    return once_in(4) ? any_machine() : LINKER_UTILS_RISCV;
+}
+
+static void call_survey_global_pointer(void) {
+    uint16_t machine = mostly_riscv();
+    struct buffer *section = bytes(READ, any_section_len());
+    struct buffer *facts = output_facts(), *known = symbol_facts(any_len(8));
+    struct buffer *values = symbols(any_len(8)), *where = addresses();
+    size_t symbols_len = LEN(known, struct linker_utils_symbol_facts);
+    struct buffer *kept = kept_words(WRITTEN, any_len(8));
+    struct buffer *given = relocations(READ, machine, section->len, symbols_len);
+    uint32_t status = CALL(survey_global_pointer, machine, facts->given, FACTS(known), where->given,
+                           SYMBOLS(values), any_number(), given->given, given->len, section->given,
+                           section->len, kept->given, kept->len);
+    const uint8_t *now = filled(kept);
+    for (size_t i = 0; i < kept->len; i++) expect(now[i] <= 1 && now[i] >= kept->was[i], "no flags");
+    finish_with(status, 0 OR(UNKNOWN_ARCHITECTURE));
+}
+
+static void call_rewrite_global_pointer(void) {
+    uint16_t machine = mostly_riscv();
+    struct buffer *section = bytes(READ, any_section_len());
+    struct buffer *facts = output_facts(), *known = symbol_facts(any_len(8));
+    struct buffer *values = symbols(any_len(8)), *where = addresses();
+    struct buffer *kept = kept_words(READ, any_len(8));
+    size_t symbols_len = LEN(known, struct linker_utils_symbol_facts);
+    struct buffer *given = relocations(WRITTEN, machine, section->len, symbols_len);
+    size_t needed = given->len / 24;
+    bool is_short, has_little_room;
+    size_t count = any_room(needed, &is_short), room = any_room(needed, &has_little_room);
+    struct buffer *decisions = place(WRITTEN, count, sizeof(struct linker_utils_decision));
+    struct buffer *deleted = place(WRITTEN, room, sizeof(struct linker_utils_deletion));
+    size_t *deleted_used = output(sizeof *deleted_used);
+    changes(given, 0, 24 * needed);
+    changes(decisions, 0, needed * sizeof(struct linker_utils_decision));
+    size_t *faulty = any_faulty();
+    uint32_t status = CALL(rewrite_global_pointer, machine, facts->given, FACTS(known), where->given,
+                           SYMBOLS(values), any_number(), kept->given, kept->len, given->given,
+                           given->len, section->given, section->len, decisions->given, count,
+                           deleted->given, room, deleted_used, faulty);
+    expect_status(status, 0 OR(UNKNOWN_ARCHITECTURE) OR(SHORT_MEMORY) OR(NOT_SURVEYED));
+    expect((status == LINKER_UTILS_SHORT_MEMORY) <= (is_short || has_little_room),
+           "the memory is long enough");
+    if (status == LINKER_UTILS_OK) {
+        const struct linker_utils_deletion *at = filled(deleted);
+        expect_decisions(filled(decisions), needed, machine);
+        expect(*deleted_used <= room && *deleted_used <= needed, "more than there is room for");
+        for (size_t i = 0; i < *deleted_used && i < room; i++)
+            expect(at[i].bytes == 4 && at[i].offset + 4 <= section->len, "deletes what isn't there");
+        changes(deleted, 0, *deleted_used * sizeof *at);
+    }
+    finish_faulty(faulty, status == LINKER_UTILS_NOT_SURVEYED, needed);
+    if (status == LINKER_UTILS_NOT_SURVEYED) keep_decisions(decisions, needed);
+    if (status == LINKER_UTILS_SHORT_MEMORY && !is_short) {
+        keep_decisions(decisions, needed);
+        keep_written(deleted, deleted->len);
+    }
+    finish(status == LINKER_UTILS_OK);
+}
+
+static void call_from_global_pointer(void) {
+    struct buffer *section = bytes(WRITTEN, any_section_len());
+    struct buffer *values = symbols(any_len(8)), *where = addresses();
+    size_t symbols_len = LEN(values, struct linker_utils_symbol);
+    struct buffer *given = relocations(WRITTEN, LINKER_UTILS_RISCV, section->len, symbols_len);
+    size_t needed = given->len / 24;
+    uint8_t *listed = filled(given);
+    for (size_t i = 0; i < needed; i++)
+        if (once_in(4)) memcpy(listed + 24 * i + 8, &(uint32_t){(uint32_t)(47 + below(2))}, 4);
+    changes(given, 0, 24 * needed);
+    size_t *faulty = any_faulty();
+    uint32_t status = CALL(from_global_pointer, where->given, SYMBOLS(values), any_number(),
+                           given->given, given->len, section->given, section->len, faulty);
+    expect_status(status, 0 OR(OUT_OF_REACH));
+    finish_faulty(faulty, status == LINKER_UTILS_OUT_OF_REACH, needed);
+    finish(status == LINKER_UTILS_OK);
+}
+
 #define UNKNOWN OR(UNKNOWN_ARCHITECTURE)
 
 /* The class of an entry of the GOT, or another number. */
@@ -2305,6 +2385,7 @@ static void (*const all[])(void) = {
     call_rewrite_section, call_has_rewrites, call_survey_placed_section, call_keep_facts,
     call_relocate_rewritten_section,
     call_survey_address_loads, call_rewrite_address_loads,
+    call_survey_global_pointer, call_rewrite_global_pointer, call_from_global_pointer,
     call_rewrite_placed_section, call_dynamic_types, call_dynamic_name, call_dynamic_words,
     call_entry_words, call_origins, call_static_words, call_got, call_join_flags,
     call_output_facts, call_interpreter, call_address_section, call_entry_relocation,

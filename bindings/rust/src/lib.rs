@@ -1290,12 +1290,7 @@ pub fn rewrite_placed_section(
     section: &mut [u8],
 ) -> Result<(Vec<Decision>, Vec<Deletion>), ArrayError> {
     let mut decisions = decisions_of(relocations)?;
-    let (mut deleted, mut used) = (Vec::new(), 0);
-    let refused = |_| ArrayError::from(Status::OutOfMemory);
-    deleted
-        .try_reserve_exact(decisions.len())
-        .map_err(refused)?;
-    deleted.resize(decisions.len(), Deletion::default());
+    let (mut deleted, mut used) = (deletions_for(&decisions)?, 0);
     result_over(|faulty| unsafe {
         raw::linker_utils_rewrite_placed_section_nonnull(
             architecture.machine(),
@@ -1328,6 +1323,115 @@ pub fn rewrite_placed_section(
             .collect(),
         deleted,
     ))
+}
+
+/// Notes in `kept` which symbols of an object keep the high parts of their address, by one of its sections
+/// of code, before RISC-V's `lui` and `auipc` of addresses near `global_pointer` or 0 are deleted. `kept`
+/// has an element for each symbol, false at first.
+pub fn survey_global_pointer(
+    architecture: Architecture,
+    placed: Placed<'_>,
+    global_pointer: u64,
+    relocations: &[u8],
+    section: &[u8],
+    kept: &mut [bool],
+) {
+    let status = unsafe {
+        raw::linker_utils_survey_global_pointer_nonnull(
+            architecture.machine(),
+            placed.output,
+            placed.symbols.as_ptr(),
+            placed.symbols.len(),
+            placed.addresses,
+            placed.values.as_ptr(),
+            placed.values.len(),
+            global_pointer,
+            relocations.as_ptr(),
+            relocations.len(),
+            section.as_ptr(),
+            section.len(),
+            kept.as_mut_ptr(),
+            kept.len(),
+        )
+    };
+    debug_assert_eq!(status, 0);
+}
+
+/// Has the high parts go of the symbols that don't stay by `kept`, as `survey_global_pointer` noted. What
+/// became of each relocation is returned, and what is to be deleted. The entry at fault is the first
+/// relocation that isn't accepted.
+pub fn rewrite_global_pointer(
+    architecture: Architecture,
+    placed: Placed<'_>,
+    global_pointer: u64,
+    kept: &[bool],
+    relocations: &mut [u8],
+    section: &[u8],
+) -> Result<(Vec<Decision>, Vec<Deletion>), ArrayError> {
+    let mut decisions = decisions_of(relocations)?;
+    let (mut deleted, mut used) = (deletions_for(&decisions)?, 0);
+    result_over(|faulty| unsafe {
+        raw::linker_utils_rewrite_global_pointer_nonnull(
+            architecture.machine(),
+            placed.output,
+            placed.symbols.as_ptr(),
+            placed.symbols.len(),
+            placed.addresses,
+            placed.values.as_ptr(),
+            placed.values.len(),
+            global_pointer,
+            kept.as_ptr(),
+            kept.len(),
+            relocations.as_mut_ptr(),
+            relocations.len(),
+            section.as_ptr(),
+            section.len(),
+            decisions.as_mut_ptr(),
+            decisions.len(),
+            deleted.as_mut_ptr(),
+            deleted.len(),
+            &mut used,
+            faulty,
+        )
+    })?;
+    deleted.truncate(used);
+    let made = decisions.iter().map(|made| decided(architecture, made));
+    Ok((made.collect(), deleted))
+}
+
+/// Writes the base of each low part that `rewrite_global_pointer` left without one, once addresses are
+/// final. The entry at fault is the first relocation that no base reaches.
+pub fn from_global_pointer(
+    addresses: &Addresses,
+    values: &[Symbol],
+    global_pointer: u64,
+    relocations: &mut [u8],
+    section: &mut [u8],
+) -> Result<(), ArrayError> {
+    result_over(|faulty| unsafe {
+        raw::linker_utils_from_global_pointer_nonnull(
+            addresses,
+            values.as_ptr(),
+            values.len(),
+            global_pointer,
+            relocations.as_mut_ptr(),
+            relocations.len(),
+            section.as_mut_ptr(),
+            section.len(),
+            faulty,
+        )
+    })
+}
+
+/// An element for each deletion that there may be.
+fn deletions_for(decisions: &[raw::Decision]) -> Result<Vec<Deletion>, ArrayError> {
+    let mut deleted = Vec::new();
+    let refused = |_| ArrayError::from(Status::OutOfMemory);
+    deleted
+        .try_reserve_exact(decisions.len())
+        .map_err(refused)?;
+    deleted.resize(decisions.len(), Deletion::default());
+    Ok(deleted)
 }
 
 /// What choices of rewrites read of an object's symbols and of the output. The error is

@@ -314,3 +314,51 @@ fn loads_from_words_compute_the_address() {
     survey_address_loads(machine, placed, start, &table, &relocations, &section, &mut kept);
     assert_eq!(kept, [true]);
 }
+
+#[test]
+fn high_parts_near_the_global_pointer_go() {
+    // lui a0, %hi(x) and lw a1, %lo(x)(a0), whose words are as GNU as writes them, and the lw as ld.lld
+    // --relax-gp writes it where x is 5 above the global pointer: lw a1, 5(gp)
+    let words = |listed: [u32; 2]| listed.map(u32::to_le_bytes).concat();
+    let (machine, global_pointer) = (Architecture::RiscV, 0x1_2800);
+    let values = [0, 0x1_2805].map(|address| Symbol {
+        address,
+        ..Symbol::default()
+    });
+    let known = SymbolFacts {
+        is_local: true,
+        ..SymbolFacts::default()
+    };
+    let addresses = Addresses {
+        section: 0x1_1000,
+        ..Addresses::default()
+    };
+    let placed = Placed {
+        output: &EXECUTABLE,
+        symbols: &[known; 2],
+        addresses: &addresses,
+        values: &values,
+    };
+    let marked = [(0, 26, 1, 0), (0, 51, 0, 0), (4, 27, 1, 0), (4, 51, 0, 0)];
+    let mut relocations = relas(&marked);
+    let section = words([0x0000_0537, 0x0005_2583]);
+    let mut kept = [false; 2];
+    survey_global_pointer(machine, placed, global_pointer, &relocations, &section, &mut kept);
+    assert_eq!(kept, [false; 2]);
+    let given = &mut relocations;
+    let (_, deleted) =
+        rewrite_global_pointer(machine, placed, global_pointer, &kept, given, &section).unwrap();
+    assert_eq!(deleted, [Deletion { offset: 0, bytes: 4, ..Deletion::default() }]);
+    // what is left once they are deleted
+    let mut section = section[4..].to_vec();
+    let mut low = relas(&[(0, 47, 1, 0)]);
+    assert_eq!(relocations[56..72], low[8..24]);
+    from_global_pointer(&addresses, &values, global_pointer, &mut low, &mut section).unwrap();
+    assert_eq!(section, 0x0001_a583u32.to_le_bytes());
+    // R_RISCV_LO12_I, whose value is x less the global pointer
+    assert_eq!(low, relas(&[(0, 27, 1, -0x1_2800)]));
+    // 2,048 above the global pointer no base reaches it
+    let far = [Symbol::default(), Symbol { address: 0x1_3000, ..Symbol::default() }];
+    let mut low = relas(&[(0, 47, 1, 0)]);
+    assert!(from_global_pointer(&addresses, &far, global_pointer, &mut low, &mut section).is_err());
+}

@@ -44,6 +44,7 @@ pub mod RiscVChosen
 pub mod RiscVDescriptors
 pub mod RiscVJoined
 pub mod RiscVLoads
+pub mod RiscVNear
 pub mod RiscVNops
 pub mod RiscVOffsets
 pub mod RiscVPackedCalls

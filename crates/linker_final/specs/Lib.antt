@@ -12,6 +12,7 @@ pub mod Ppc64Final
 pub mod Ppc64Twice
 pub mod RiscVFinal
 pub mod RiscVJoined
+pub mod RiscVNear
 pub mod RiscVPacked
 pub mod Twice
 pub mod X86Final

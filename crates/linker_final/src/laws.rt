@@ -12,6 +12,7 @@ ghost use Rattle.linker_final.specs.Ppc64Anywhere as ppc64_anywhere;
 ghost use Rattle.linker_final.specs.Ppc64Final as ppc64_final;
 ghost use Rattle.linker_final.specs.Ppc64Twice as ppc64_twice;
 ghost use Rattle.linker_final.specs.RiscVFinal as riscv64_final;
+ghost use Rattle.linker_final.specs.RiscVNear as riscv64_near;
 ghost use Rattle.linker_final.specs.X86Final as x86_64_final;
 ghost use Rattle.linker_final.specs.X86ThreadFinal as x86_64_threads;
 
@@ -100,6 +101,19 @@ pub fn riscv64()
     ensures short_descriptors_anywhere { riscv64_final.ShortDescriptorsAnywhere }
 {
     linker_laws::rewrites::riscv64();
+}
+
+/// RISC-V: each low part that `rewrite_global_pointer` takes does over x3 or x0, with the distance
+/// from it as its value, what the object's does over what its high part leaves. That its `lui` or
+/// `auipc` leaves this is a law too; what x3 has is a premise. The relocations that
+/// `from_global_pointer` leaves have these distances as their values.
+pub fn riscv64_global_pointer()
+    ensures low_parts { riscv64_near.LowPartsFromBase }
+    ensures values { riscv64_near.ValuesAreDistances }
+    ensures lui { riscv64_near.LuiLeaves }
+    ensures auipc { riscv64_near.AuipcLeaves }
+{
+    linker_laws::relocations::riscv64();
 }
 
 /// LoongArch: rewritten instructions do in the final bytes what the object's do. They are each load

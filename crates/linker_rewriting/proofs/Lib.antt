@@ -1,5 +1,6 @@
 pub mod CodeNumbers
 pub mod Deciding
+pub mod GlobalPointer
 pub mod Keeping
 pub mod KeptBits
 pub mod KeptCalls

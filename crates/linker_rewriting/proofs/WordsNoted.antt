@@ -11,13 +11,13 @@ abbrev pub AreWordsKeptToo : List Bool → List Bool → Option ℕ → Type 0
 AreWordsKeptToo before after word =
     (w : ℕ) → (word_stays after w ≡ true) ↔ ((word_stays before w ≡ true) ⊎ IsThatWord word w)
 
-stays_on : (before after : List Bool) (word : Option ℕ)
+pub stays_on : (before after : List Bool) (word : Option ℕ)
     → ((w : ℕ) → word_stays before w ≡ true → word_stays after w ≡ true)
     → StaysBy before word → StaysBy after word
 stays_on before after None on stays = tt
 stays_on before after (Some word) on stays = on word stays
 
-stays_now : (before after : List Bool) (word : Option ℕ) → AreWordsKeptToo before after word
+pub stays_now : (before after : List Bool) (word : Option ℕ) → AreWordsKeptToo before after word
     → StaysBy after word
 stays_now before after None same = tt
 stays_now before after (Some word) same = (same word).1 (inr refl)

@@ -1,6 +1,7 @@
 pub mod Candidates
 pub mod Decisions
 pub mod Facts
+pub mod GlobalPointer
 pub mod Groups
 pub mod Inner
 pub mod Kept

@@ -1,6 +1,7 @@
 //! Laws of surveys and of sections that are rewritten by them. The functions do nothing.
 
 ghost use Rattle.linker_rewriting.specs.Decisions.{DecisionsFollow};
+ghost use Rattle.linker_rewriting.specs.GlobalPointer.{ArePartsWholeAcross};
 ghost use Rattle.linker_rewriting.specs.Kept.{KeptFactsTell};
 ghost use Rattle.linker_rewriting.specs.Rewritten.{GroupsAreWholeAcross, LoadsAreWhole};
 ghost use Rattle.linker_rewriting.specs.Surveys.{NotesStay, SurveysCommute};
@@ -44,4 +45,10 @@ pub fn kept_facts_tell()
 /// rewritten too, or none is.
 pub fn words_are_whole_across()
     ensures { WordsAreWholeAcross }
+{}
+
+/// Of two sections of an object whose addresses are decided by one table all parts of a symbol are
+/// rewritten too, or none is, where the relocations of both ascend.
+pub fn parts_are_whole_across()
+    ensures { ArePartsWholeAcross }
 {}

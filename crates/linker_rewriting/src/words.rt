@@ -168,7 +168,7 @@ fn load_candidate(
 
 /// Whether a word stays, by the index of its relocation.
 #[inline(always)]
-fn word_stays(kept: &[bool], word: usize) -> bool
+pub(crate) fn word_stays(kept: &[bool], word: usize) -> bool
     ensures { result ≡ word_stays kept.now word }
 {
     match kept.get(word) {
@@ -179,7 +179,7 @@ fn word_stays(kept: &[bool], word: usize) -> bool
 
 /// Notes that a word, if any, stays.
 #[inline(always)]
-fn keep_word(kept: &mut [bool], word: Option<usize>)
+pub(crate) fn keep_word(kept: &mut [bool], word: Option<usize>)
     ensures { (w : ℕ) → (word_stays kept.new w ≡ true)
         ↔ ((word_stays kept.old w ≡ true) ⊎ IsThatWord word w) }
 {
@@ -322,7 +322,7 @@ pub fn survey_address_loads(
 
 /// What a rewritten load's relocation is of: the symbol and the addend of the word's.
 #[inline(always)]
-fn subject_of(word: &Rela) -> Subject
+pub(crate) fn subject_of(word: &Rela) -> Subject
     ensures { result ≡ subject_of word.now }
 {
     Subject {

@@ -2,6 +2,7 @@ pub mod AddressLoads
 pub mod Choices
 pub mod Deltas
 pub mod Forms
+pub mod GlobalPointer
 pub mod Kept
 pub mod LazyPlt
 pub mod Output

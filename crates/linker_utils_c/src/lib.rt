@@ -5,6 +5,7 @@ mod calls;
 mod choices;
 mod deltas;
 mod forms;
+mod global_pointer;
 mod heads;
 mod kept;
 mod lazy_plt;

@@ -270,7 +270,7 @@ pub extern "C" fn linker_utils_survey_placed_section_nonnull(
 
 /// The status of an error. The index of the relocation at fault is written, if one is.
 #[inline(always)]
-fn put_error(error: RewritingError, faulty: &mut usize) -> u32
+pub(crate) fn put_error(error: RewritingError, faulty: &mut usize) -> u32
     ensures status { result ≡ code (rewriting_status error) }
     ensures faulty { faulty.new ≡ faulty_after error faulty.old }
 {

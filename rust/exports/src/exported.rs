@@ -419,6 +419,107 @@ unsafe extern "C" fn linker_utils_read_nonnull(
 }
 
 #[unsafe(no_mangle)]
+unsafe extern "C" fn linker_utils_survey_global_pointer_nonnull(
+    machine: u16,
+    output: *const OutputFacts,
+    symbols: *const SymbolFacts,
+    symbols_len: usize,
+    addresses: *const Addresses,
+    values: *const Symbol,
+    values_len: usize,
+    global_pointer: u64,
+    relocations: *const u8,
+    relocations_len: usize,
+    section: *const u8,
+    section_len: usize,
+    kept: *mut bool,
+    kept_len: usize,
+) -> u32 {
+    // SAFETY: the arguments are as the head of the header says.
+    unsafe {
+        crate::global_pointer::linker_utils_survey_global_pointer_nonnull(
+            machine,
+            &*output,
+            from_raw_parts(symbols, symbols_len),
+            &*addresses,
+            from_raw_parts(values, values_len),
+            global_pointer,
+            from_raw_parts(relocations, relocations_len),
+            from_raw_parts(section, section_len),
+            from_raw_parts_mut(kept, kept_len),
+        )
+    }
+}
+
+#[unsafe(no_mangle)]
+unsafe extern "C" fn linker_utils_rewrite_global_pointer_nonnull(
+    machine: u16,
+    output: *const OutputFacts,
+    symbols: *const SymbolFacts,
+    symbols_len: usize,
+    addresses: *const Addresses,
+    values: *const Symbol,
+    values_len: usize,
+    global_pointer: u64,
+    kept: *const bool,
+    kept_len: usize,
+    relocations: *mut u8,
+    relocations_len: usize,
+    section: *const u8,
+    section_len: usize,
+    decisions: *mut DecisionNumbers,
+    decisions_len: usize,
+    deleted: *mut Deletion,
+    deleted_len: usize,
+    deleted_used: *mut usize,
+    faulty: *mut usize,
+) -> u32 {
+    // SAFETY: the arguments are as the head of the header says.
+    unsafe {
+        crate::global_pointer::linker_utils_rewrite_global_pointer_nonnull(
+            machine,
+            &*output,
+            from_raw_parts(symbols, symbols_len),
+            &*addresses,
+            from_raw_parts(values, values_len),
+            global_pointer,
+            from_raw_parts(kept, kept_len),
+            from_raw_parts_mut(relocations, relocations_len),
+            from_raw_parts(section, section_len),
+            from_raw_parts_mut(decisions, decisions_len),
+            from_raw_parts_mut(deleted, deleted_len),
+            &mut *deleted_used,
+            &mut *faulty,
+        )
+    }
+}
+
+#[unsafe(no_mangle)]
+unsafe extern "C" fn linker_utils_from_global_pointer_nonnull(
+    addresses: *const Addresses,
+    values: *const Symbol,
+    values_len: usize,
+    global_pointer: u64,
+    relocations: *mut u8,
+    relocations_len: usize,
+    section: *mut u8,
+    section_len: usize,
+    faulty: *mut usize,
+) -> u32 {
+    // SAFETY: the arguments are as the head of the header says.
+    unsafe {
+        crate::global_pointer::linker_utils_from_global_pointer_nonnull(
+            &*addresses,
+            from_raw_parts(values, values_len),
+            global_pointer,
+            from_raw_parts_mut(relocations, relocations_len),
+            from_raw_parts_mut(section, section_len),
+            &mut *faulty,
+        )
+    }
+}
+
+#[unsafe(no_mangle)]
 unsafe extern "C" fn linker_utils_deltas_block_count_nonnull(
     deltas: *const RelaxDelta,
     deltas_len: usize,

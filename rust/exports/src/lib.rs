@@ -23,6 +23,7 @@ pub mod calls;
 pub mod choices;
 pub mod deltas;
 pub mod forms;
+pub mod global_pointer;
 pub mod heads;
 pub mod kept;
 pub mod lazy_plt;

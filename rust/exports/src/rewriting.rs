@@ -215,7 +215,7 @@ pub fn linker_utils_survey_placed_section_nonnull(
 
 /// The status of an error. The index of the relocation at fault is written, if one is.
 #[inline(always)]
-fn put_error(error: RewritingError, faulty: &mut usize) -> u32 {
+pub(crate) fn put_error(error: RewritingError, faulty: &mut usize) -> u32 {
     match error {
         RewritingError::TooShort => Status::ShortMemory.number(),
         RewritingError::NotSurveyed(index) => {

@@ -139,7 +139,7 @@ pub fn rewrite_section<D: AsDecision>(
 
 /// Lists what decisions delete, in the caller's memory. Returns how many there are; none where
 /// there is less room.
-fn list_deletions<D: AsDecision, L: FromDeletion>(
+pub(crate) fn list_deletions<D: AsDecision, L: FromDeletion>(
     relocations: &[u8],
     decisions: &[D],
     deleted: &mut [L],

@@ -131,7 +131,7 @@ fn load_candidate(
 
 /// Whether a word stays, by the index of its relocation.
 #[inline(always)]
-fn word_stays(kept: &[bool], word: usize) -> bool {
+pub(crate) fn word_stays(kept: &[bool], word: usize) -> bool {
     match kept.get(word) {
         Some(stays) => *stays,
         None => true,
@@ -140,7 +140,7 @@ fn word_stays(kept: &[bool], word: usize) -> bool {
 
 /// Notes that a word, if any, stays.
 #[inline(always)]
-fn keep_word(kept: &mut [bool], word: Option<usize>) {
+pub(crate) fn keep_word(kept: &mut [bool], word: Option<usize>) {
     if let Some(word) = word {
         if word < kept.len() {
             kept[word] = true;
@@ -272,7 +272,7 @@ pub fn survey_address_loads(
 
 /// What a rewritten load's relocation is of: the symbol and the addend of the word's.
 #[inline(always)]
-fn subject_of(word: &Rela) -> Subject {
+pub(crate) fn subject_of(word: &Rela) -> Subject {
     Subject {
         symbol: word.symbol,
         addend: word.addend,

@@ -1,0 +1,303 @@
+-- Parts of addresses near the global pointer: what is noted, decided and turned, relocation by
+-- relocation, and that all parts of a symbol are rewritten, or none is.
+use Rattle.std.proofs.Common.{◌≡◌, ◌≢◌, ℕ, suc, nat_le, is_some, ◌+◌, ◌<◌, ◌≤◌, ◌∙◌, ◌&&◌, inl, inr, List, length, ap, sym, subst, arith, refl, Bool, true, false, true≢false, Option, None, Some, slice_get, slice_set, if◌then◌else◌}
+use Rattle.std.proofs.lemmas.List.{get_or-set_same, get_or-set_other}
+use Rattle.linker_rewriting.proofs.LabelGroups.{one_high_from}
+use Rattle.linker_rewriting.proofs.WordsNoted.{AreWordsKeptToo, stays_on, stays_now}
+use Rattle.linker_rewriting.specs.Decisions.{CanBeMade, decision_at}
+use Rattle.linker_rewriting.specs.Facts.{Setting}
+use Rattle.linker_rewriting.specs.GlobalPointer.{relative_high, IsLabelled, IsSubject, IsMemberBy, IsMember, part_of, is_reached, is_expected, fits, kept_by, IsKeepingSymbol, IsSymbolNoted, AreSymbolsSurveyed, part_decision, decided_by, IsPartDecided, ArePartsDecided, ArePartsRejected, MeansSymbolsUnsurveyed, ArePartsWhole, ArePartsWholeAcross, low_code, base_of, is_placed_by, is_placed, based_section, section_based}
+use Rattle.linker_rewriting.specs.Inner.Words.{IsThatWord}
+use Rattle.linker_rewriting.specs.Labels.{offset_of_label}
+use Rattle.linker_rewriting.specs.Rewritten.{IsRewritten}
+use Rattle.linker_rewriting.specs.Sequences.{is_marked_at}
+use Rattle.linker_rewriting.specs.Words.{StaysBy, word_stays}
+use Rattle.linker_rewriting.specs.declared.decisions.Decision.{Decision}
+use Rattle.linker_rewriting.specs.declared.decisions.Decision.TheVariants.{Kept}
+use Rattle.linker_rewriting.specs.declared.decisions.RewritingError.{RewritingError}
+use Rattle.linker_rewriting.specs.declared.decisions.RewritingError.TheVariants.{TooShort, NotSurveyed, Overlaps}
+use Rattle.linker_rewriting.specs.declared.global_pointer.Part.{Part}
+use Rattle.linker_rewriting.specs.declared.global_pointer.Part.TheVariants.{High, Low, Labelled}
+use Rattle.linker_section.specs.Relocations.{relocation_in}
+use Rattle.linker_section.specs.Values.{IsAscending}
+use Rattle.linker_section.specs.declared.facts.Addresses.{Addresses}
+use Rattle.linker_section.specs.declared.facts.Symbol.{Symbol}
+use Rattle.linker_section.specs.declared.relocations.Rela.{Rela}
+use borrow.Author.Count.{below_more}
+
+-- ---- noted
+
+that_symbol : (s : Setting) (gp : ℕ) (bytes section : List ℕ) (n : ℕ) (symbol : Option ℕ) (w : ℕ)
+    → IsKeepingSymbol s gp bytes section n (relocation_in bytes n) symbol → IsThatWord symbol w
+    → IsKeepingSymbol s gp bytes section n (relocation_in bytes n) (Some w)
+that_symbol s gp bytes section n None w keeping is = absurd is
+that_symbol s gp bytes section n (Some symbol) w keeping is =
+    subst (λ x. IsKeepingSymbol s gp bytes section n (relocation_in bytes n) (Some x)) (sym is) keeping
+
+pub no_symbols : (s : Setting) (gp : ℕ) (bytes section : List ℕ) (before : List Bool)
+    → AreSymbolsSurveyed s gp bytes section before before 0
+no_symbols s gp bytes section before =
+    record {
+      noted = λ n less. absurd (omega (arith, less));
+      stayed = λ w stays. stays;
+      caused = λ w stays. inl stays;
+    }
+
+pub more_symbols : (s : Setting) (gp : ℕ) (bytes section : List ℕ) (before mid after : List Bool)
+    (k : ℕ) (symbol : Option ℕ) → AreSymbolsSurveyed s gp bytes section before mid k
+    → IsKeepingSymbol s gp bytes section k (relocation_in bytes k) symbol
+    → AreWordsKeptToo mid after symbol
+    → AreSymbolsSurveyed s gp bytes section before after (k + 1)
+more_symbols s gp bytes section before mid after k symbol surveyed keeping same =
+    let on : (w : ℕ) → word_stays mid w ≡ true → word_stays after w ≡ true =
+    λ w stays. (same w).1 (inl stays) in
+    record {
+      noted = below_more (λ n. IsSymbolNoted s gp bytes section after n) k
+          (λ n less. let was = surveyed.noted n less in record {
+            symbol = was.symbol;
+            is_keeping = was.is_keeping;
+            stays = stays_on mid after was.symbol on was.stays;
+          })
+          (record { symbol = symbol; is_keeping = keeping; stays = stays_now mid after symbol same });
+      stayed = λ w stays. on w (surveyed.stayed w stays);
+      caused = λ w stays. elim ((same w).0 stays) [
+        | inl in_mid ↦ elim (surveyed.caused w in_mid) [
+          | inl in_before ↦ inl in_before
+          | inr cause ↦ inr (cause.0, omega (arith, cause.1), cause.2)
+        ]
+        | inr is ↦ inr (k, omega arith, that_symbol s gp bytes section k symbol w keeping is)
+      ];
+    }
+
+-- ---- one member
+
+one_labelled : (addresses : Addresses) (values : List Symbol) (bytes : List ℕ) (r : Rela)
+    (x y : Option Rela) → IsAscending bytes → IsLabelled addresses values bytes r x
+    → IsLabelled addresses values bytes r y → x ≡ y
+one_labelled addresses values bytes r None None up a b = refl
+one_labelled addresses values bytes r None (Some y) up a b =
+    let there = b up in
+    absurd (let e : None ≡ Some (there.0) = one_high_from bytes relative_high (offset_of_label addresses (slice_get values r.symbol)) None (Some (there.0)) (a up) (there.1) in cc)
+one_labelled addresses values bytes r (Some x) None up a b =
+    let there = a up in
+    absurd (let e : None ≡ Some (there.0) = one_high_from bytes relative_high (offset_of_label addresses (slice_get values r.symbol)) None (Some (there.0)) (b up) (there.1) in cc)
+one_labelled addresses values bytes r (Some x) (Some y) up a b =
+    let one = a up in
+    let other = b up in
+    let same : Some (one.0) ≡ Some (other.0) = one_high_from bytes relative_high (offset_of_label addresses (slice_get values r.symbol)) (Some (one.0)) (Some (other.0)) (one.1) (other.1) in
+    let index : one.0 ≡ other.0 = cc in
+    ap (λ z. Some z) (one.2 ∙ (ap (λ n. relocation_in bytes n) index ∙ sym (other.2)))
+
+one_subject : (addresses : Addresses) (values : List Symbol) (bytes : List ℕ) (r : Rela)
+    (part : Part) (x y : Option Rela) → IsAscending bytes
+    → IsSubject addresses values bytes r part x → IsSubject addresses values bytes r part y → x ≡ y
+one_subject addresses values bytes r (High opcode) x y up a b = a ∙ sym b
+one_subject addresses values bytes r (Low code) x y up a b = a ∙ sym b
+one_subject addresses values bytes r (Labelled code) x y up a b =
+    one_labelled addresses values bytes r x y up a b
+
+some_subject : (x y : Rela) → Some x ≡ Some y → x ≡ y
+some_subject x y is = cc
+
+same_member : (x y : Part × Rela) → x.0 ≡ y.0 → x.1 ≡ y.1 → Some x ≡ Some y
+same_member (a, b) (c, d) first second = ap (λ p. Some (p, b)) first ∙ ap (λ p. Some (c, p)) second
+
+one_member_by : (addresses : Addresses) (values : List Symbol) (bytes : List ℕ) (r : Rela)
+    (part : Option Part) (x y : Option (Part × Rela)) → IsAscending bytes
+    → IsMemberBy addresses values bytes r part x → IsMemberBy addresses values bytes r part y → x ≡ y
+one_member_by addresses values bytes r None x y up a b = a ∙ sym b
+one_member_by addresses values bytes r (Some part) None None up a b = refl
+one_member_by addresses values bytes r (Some part) None (Some y) up a b =
+    absurd (let e : None ≡ Some (y.1) = one_subject addresses values bytes r part None (Some (y.1)) up a (b.1) in cc)
+one_member_by addresses values bytes r (Some part) (Some x) None up a b =
+    absurd (let e : None ≡ Some (x.1) = one_subject addresses values bytes r part None (Some (x.1)) up b (a.1) in cc)
+one_member_by addresses values bytes r (Some part) (Some x) (Some y) up a b =
+    same_member x y (a.0 ∙ sym (b.0))
+    (some_subject (x.1) (y.1) (one_subject addresses values bytes r part (Some (x.1)) (Some (y.1)) up (a.1) (b.1)))
+
+one_member : (s : Setting) (bytes : List ℕ) (r : Rela) (x y : Option (Part × Rela))
+    → IsAscending bytes → IsMember s bytes r x → IsMember s bytes r y → x ≡ y
+one_member s bytes r x y up a b =
+    one_member_by s.addresses s.values bytes r (part_of s.architecture r.code) x y up a b
+
+-- ---- tests
+
+and_first : (a b : Bool) → (a && b) ≡ true → a ≡ true
+and_first true b is = refl
+and_first false b is = absurd (true≢false (sym is))
+
+and_second : (a b : Bool) → (a && b) ≡ true → b ≡ true
+and_second true b is = is
+and_second false b is = absurd (true≢false (sym is))
+
+expected : (s : Setting) (gp : ℕ) (a : Bool) (bytes section : List ℕ) (n : ℕ) (r : Rela)
+    (part : Part) (subject : Rela) → fits s gp a bytes section n r (part, subject) ≡ true
+    → is_expected section r part subject ≡ true
+expected s gp a bytes section n r part subject is =
+    and_second (is_reached s gp subject) _
+    (and_second (is_marked_at s.architecture bytes n r) _
+    (and_second s.output.is_fixed _ (and_second s.output.is_executable _ (and_second a _ is))))
+
+-- what fits can be made
+pub part_made : (s : Setting) (gp : ℕ) (a : Bool) (bytes section : List ℕ) (n : ℕ) (r : Rela)
+    (part : Part) (subject : Rela) → fits s gp a bytes section n r (part, subject) ≡ true
+    → CanBeMade (part_decision part subject) section r.offset
+part_made s gp a bytes section n r (High opcode) subject is =
+    (tt, and_first _ _ (expected s gp a bytes section n r (High opcode) subject is))
+part_made s gp a bytes section n r (Low code) subject is = (tt, refl)
+part_made s gp a bytes section n r (Labelled code) subject is = (tt, refl)
+
+-- ---- decided
+
+pub more_by : (P : ℕ → Decision → Type 0) (old : List Decision) (k : ℕ) (d : Decision)
+    → ((n : ℕ) → n < k → P n (decision_at old n)) → k < length old → P k d
+    → (n : ℕ) → n < k + 1 → P n (decision_at (slice_set old k d) n)
+more_by P old k d before within is =
+    let new : List Decision = slice_set old k d in
+    below_more (λ n. P n (decision_at new n)) k
+    (λ n less. subst (P n) (sym (get_or-set_other old k n d Kept (λ e. absurd (omega (arith, e, less))))) (before n less))
+    (subst (P k) (sym (get_or-set_same old k d Kept within)) is)
+
+-- ---- turned
+
+-- those of the relocations with an index below k are what they become
+pub record AreTurned (F : ℕ → Rela → Rela) (first now : List ℕ) (limit k : ℕ) : Type 0 where
+  pub below : (n : ℕ) → n < k → relocation_in now n ≡ F n (relocation_in first n)
+  pub above : (n : ℕ) → k ≤ n → n < limit → relocation_in now n ≡ relocation_in first n
+  pub same_len : length now ≡ length first
+
+pub turned_none : (F : ℕ → Rela → Rela) (first : List ℕ) (limit : ℕ) → AreTurned F first first limit 0
+turned_none F first limit =
+    record {
+      below = λ n less. absurd (omega (arith, less));
+      above = λ n from less. refl;
+      same_len = refl;
+    }
+
+pub turned_next : (F : ℕ → Rela → Rela) (first before after : List ℕ) (limit k : ℕ) (r turned : Rela)
+    → AreTurned F first before limit k → k < limit → r ≡ relocation_in before k
+    → turned ≡ F k r → relocation_in after k ≡ turned
+    → ((n : ℕ) → n < limit → n ≢ k → relocation_in after n ≡ relocation_in before n)
+    → length after ≡ length before → AreTurned F first after limit (k + 1)
+turned_next F first before after limit k r turned are less r_is turned_is set others same =
+    record {
+      below = below_more (λ n. relocation_in after n ≡ F n (relocation_in first n)) k
+          (λ n below. others n (omega (arith, less, below)) (λ e. absurd (omega (arith, e, below))) ∙ are.below n below)
+          (set ∙ (turned_is ∙ ap (F k) (r_is ∙ are.above k (omega arith) less)));
+      above = λ n from below. others n below (λ e. absurd (omega (arith, e, from))) ∙ are.above n (omega (arith, from)) below;
+      same_len = same ∙ are.same_len;
+    }
+
+-- ---- whole symbols
+
+some_decision : (x y : Decision) → Some x ≡ Some y → x ≡ y
+some_decision x y is = cc
+
+not_stayed : (stays fit : Bool) (made d : Decision)
+    → Some d ≡ (if stays then Some Kept else (if fit then Some made else None))
+    → IsRewritten d → stays ≡ false
+not_stayed true fit made d is rewritten =
+    absurd (subst IsRewritten (some_decision d Kept is) rewritten)
+not_stayed false fit made d is rewritten = refl
+
+made_too : (stays fit : Bool) (made d : Decision)
+    → Some d ≡ (if stays then Some Kept else (if fit then Some made else None))
+    → stays ≡ false → IsRewritten made → IsRewritten d
+made_too true fit made d is unkept rewritten = absurd (true≢false unkept)
+made_too false true made d is unkept rewritten =
+    subst IsRewritten (sym (some_decision d made is)) rewritten
+made_too false false made d is unkept rewritten = absurd (let e : Some d ≡ None = is in cc)
+
+part_rewritten : (part : Part) (subject : Rela) → IsRewritten (part_decision part subject)
+part_rewritten (High opcode) subject = tt
+part_rewritten (Low code) subject = tt
+part_rewritten (Labelled code) subject = tt
+
+decided_as : (s : Setting) (gp : ℕ) (kept : List Bool) (bytes section : List ℕ) (n : ℕ) (r : Rela)
+    (decision : Option Decision) (member : Option (Part × Rela)) → IsAscending bytes
+    → (is : IsPartDecided s gp kept bytes section n r decision) → IsMember s bytes r member
+    → decision ≡ decided_by s gp is.ascends kept bytes section n r member
+decided_as s gp kept bytes section n r decision member up is is_member =
+    subst (λ m. decision ≡ decided_by s gp is.ascends kept bytes section n r m)
+    (one_member s bytes r is.member member up is.is_member is_member) is.decided
+
+pub whole_across : ArePartsWholeAcross
+whole_across s other gp kept bytes section others_bytes others_section decisions others limit others_limit decided others_decided up others_up i j part other_part subject other_subject li lj is other_is same rewritten =
+    let ri = relocation_in bytes i in
+    let rj = relocation_in others_bytes j in
+    let one = decided i li in
+    let two = others_decided j lj in
+    let unkept : word_stays kept subject.symbol ≡ false =
+    not_stayed (word_stays kept subject.symbol) (fits s gp one.ascends bytes section i ri (part, subject))
+    (part_decision part subject) (decision_at decisions i)
+    (decided_as s gp kept bytes section i ri (Some (decision_at decisions i)) (Some (part, subject)) up one is) rewritten in
+    made_too (word_stays kept other_subject.symbol) (fits other gp two.ascends others_bytes others_section j rj (other_part, other_subject))
+    (part_decision other_part other_subject) (decision_at others j)
+    (decided_as other gp kept others_bytes others_section j rj (Some (decision_at others j)) (Some (other_part, other_subject)) others_up two other_is)
+    (subst (λ n. word_stays kept n ≡ false) same unkept) (part_rewritten other_part other_subject)
+
+pub whole : (s : Setting) (gp : ℕ) (kept : List Bool) (bytes section : List ℕ)
+    (decisions : List Decision) (limit : ℕ)
+    → ArePartsDecided s gp kept bytes section decisions limit → ArePartsWhole s bytes decisions limit
+whole s gp kept bytes section decisions limit decided =
+    whole_across s s gp kept bytes section bytes section decisions decisions limit limit decided decided
+
+-- ---- surveyed sections
+
+undecided : (stays fit : Bool) (made : Decision)
+    → None ≡ (if stays then Some Kept else (if fit then Some made else None))
+    → (stays ≡ false) × (fit ≡ false)
+undecided true fit made is = absurd (let e : None ≡ Some Kept = is in cc)
+undecided false true made is = absurd (let e : None ≡ Some made = is in cc)
+undecided false false made is = (refl, refl)
+
+not_noted : (s : Setting) (gp : ℕ) (kept : List Bool) (bytes section : List ℕ) (n : ℕ) (r : Rela)
+    (a : Bool) (member : Option (Part × Rela)) (symbol : Option ℕ)
+    → None ≡ decided_by s gp a kept bytes section n r member
+    → symbol ≡ kept_by s gp a bytes section n r member → StaysBy kept symbol → ⊥
+not_noted s gp kept bytes section n r a None symbol undecided_is keeps stays =
+    absurd (let e : None ≡ Some Kept = undecided_is in cc)
+not_noted s gp kept bytes section n r a (Some member) symbol undecided_is keeps stays =
+    let fit = fits s gp a bytes section n r member in
+    let is = undecided (word_stays kept (member.1).symbol) fit (part_decision (member.0) (member.1)) undecided_is in
+    let that : symbol ≡ Some (member.1).symbol =
+    subst (λ f. symbol ≡ (if f then None else Some (member.1).symbol)) (is.1) keeps in
+    let noted : word_stays kept (member.1).symbol ≡ true = subst (StaysBy kept) that stays in
+    true≢false (sym noted ∙ is.0)
+
+pub means_unsurveyed : (s : Setting) (gp : ℕ) (kept : List Bool) (bytes section : List ℕ)
+    (decisions : List Decision) (room : ℕ) (error : RewritingError)
+    → ArePartsRejected s gp kept bytes section decisions room error
+    → MeansSymbolsUnsurveyed s gp bytes section kept error
+means_unsurveyed s gp kept bytes section decisions room TooShort is = tt
+means_unsurveyed s gp kept bytes section decisions room (NotSurveyed n) is =
+    λ up noted. let r = relocation_in bytes n in let this = is.2 in let here = noted n (is.0) in
+    let keeping = here.is_keeping in
+    let flag : keeping.ascends ≡ this.ascends =
+    keeping.is_ascending.1 up ∙ sym (this.is_ascending.1 up) in
+    not_noted s gp kept bytes section n r this.ascends this.member here.symbol this.decided
+    (subst (λ m. here.symbol ≡ kept_by s gp this.ascends bytes section n r m)
+    (one_member s bytes r keeping.member this.member up keeping.is_member this.is_member)
+    (subst (λ a. here.symbol ≡ kept_by s gp a bytes section n r keeping.member) flag keeping.keeps))
+    here.stays
+means_unsurveyed s gp kept bytes section decisions room (Overlaps n) is = absurd is
+
+-- ---- bases
+
+same_placed_by : (s t : List ℕ) (r : Rela) (code : Option ℕ) (base : Option (ℕ × ℕ))
+    → length s ≡ length t → is_placed_by s r code base ≡ is_placed_by t r code base
+same_placed_by s t r None base same = refl
+same_placed_by s t r (Some code) base same = ap (λ n. nat_le (r.offset + 4) n && is_some base) same
+
+pub same_placed : (addresses : Addresses) (values : List Symbol) (gp : ℕ) (s t : List ℕ) (r : Rela)
+    → length s ≡ length t → is_placed addresses values gp s r ≡ is_placed addresses values gp t r
+same_placed addresses values gp s t r same =
+    same_placed_by s t r (low_code r.code) (base_of addresses values gp r) same
+
+pub based_next : (addresses : Addresses) (values : List Symbol) (gp : ℕ) (bytes section : List ℕ)
+    (k : ℕ) → section_based addresses values gp bytes section (k + 1)
+    ≡ based_section addresses values gp (section_based addresses values gp bytes section k)
+    (relocation_in bytes k)
+based_next addresses values gp bytes section k =
+    let e : suc k ≡ k + 1 = omega arith in
+    subst (λ n. section_based addresses values gp bytes section n ≡ based_section addresses values gp (section_based addresses values gp bytes section k) (relocation_in bytes k)) e refl

@@ -1,0 +1,24 @@
+use Rattle.std.proofs.Common.{◌∙◌, None, Some, sym, subst}
+use Rattle.linker_rewriting.specs.GlobalPointer.{relative_high}
+use Rattle.linker_rewriting.specs.Labels.{IsHighAt, IsHighFrom}
+use Rattle.linker_rewriting.proofs.global_pointer.labelled.Goals as goal
+
+pub returns-in-Some-high_at : goal.returns-in-Some-high_at
+returns-in-Some-high_at c =
+    let bytes = c.args.relocations.now in
+    λ up. (
+      c.in-Some-high_at.high,
+      subst (λ offset. IsHighFrom bytes relative_high offset (Some c.in-Some-high_at.high))
+          (sym (sym c.label_at.ensures ∙ c.in-Some.is))
+          (subst (λ code. IsHighAt bytes code c.in-Some.at (Some c.in-Some-high_at.high)) c.relative_high.ensures
+          (c.in-Some-high_at.ensures.high up)),
+      c.relocation_in.ensures,
+    )
+
+pub returns-in-None : goal.returns-in-None
+returns-in-None c =
+    let bytes = c.args.relocations.now in
+    λ up. subst (λ offset. IsHighFrom bytes relative_high offset None)
+    (sym (sym c.label_at.ensures ∙ c.in-Some.is))
+    (subst (λ code. IsHighAt bytes code c.in-Some.at None) c.relative_high.ensures
+    (c.in-None.ensures.high up))

@@ -1,0 +1,405 @@
+-- RISC-V's addresses within 2 KiB of the global pointer or of 0 (RISC-V ELF psABI, "Global-pointer
+-- Relaxation" and "Zero-page Relaxation"). Their `lui` and `auipc` are deleted, and each low part
+-- takes x3 or x0 as its base: all of a symbol, or none.
+use Rattle.std.specs.Prelude.{◌≡◌, ◌↔◌, ℕ, zero, suc, ◌+◌, ◌<◌, ◌/◌, ◌⊎◌, ◌==◌, ◌&&◌, ◌||◌}
+use Rattle.std.specs.Prelude.{nat_le, nat_lt, not, if◌then◌else◌, Bool, true, false, IsTrue, List}
+use Rattle.std.specs.Prelude.{length, Option, None, Some, slice_get, is_some}
+use Rattle.std.specs.Int.{w64, cast_signed, cast_unsigned}
+use Rattle.linker_base.specs.Bits.{field}
+use Rattle.linker_base.specs.Rewrite.{rewritten}
+use Rattle.linker_elf.specs.Choices.{choice}
+use Rattle.linker_elf.specs.ElfNames.{code_of}
+use Rattle.linker_elf.specs.RiscVRelocations.{riscv_name}
+use Rattle.linker_elf.specs.Value.{sum_64, difference_64}
+use Rattle.linker_elf.specs.declared.riscv64.relocations.RiscVRelocation.TheVariants as riscv64
+use Rattle.linker_riscv64.specs.RiscVCalls.{word_at}
+use Rattle.linker_riscv64.specs.RiscVRewrites.{opcode_of, funct3_of, rd_of, adds_low12, with_rs1}
+use Rattle.linker_riscv64.specs.RiscVRewrites.{rewrites_word}
+use Rattle.linker_riscv64.specs.declared.rewrites.RelaxationKind.TheVariants as kinds
+use Rattle.linker_rewriting.specs.Decisions.{decision_at, deletions_by}
+use Rattle.linker_rewriting.specs.Facts.{Setting, address_in}
+use Rattle.linker_rewriting.specs.Labels.{IsHighFrom, offset_of_label}
+use Rattle.linker_rewriting.specs.Rewritten.{IsRewritten}
+use Rattle.linker_rewriting.specs.Sequences.{is_marked_at}
+use Rattle.linker_rewriting.specs.Words.{StaysBy, subject_of, word_stays}
+use Rattle.linker_rewriting.specs.declared.decisions.Decision.{Decision}
+use Rattle.linker_rewriting.specs.declared.decisions.Decision.TheVariants.{Kept, Redirected}
+use Rattle.linker_rewriting.specs.declared.decisions.Decision.TheVariants.{Rewritten, TakenAlong}
+use Rattle.linker_rewriting.specs.declared.decisions.RewritingError.{RewritingError}
+use Rattle.linker_rewriting.specs.declared.decisions.RewritingError.TheVariants.{TooShort}
+use Rattle.linker_rewriting.specs.declared.decisions.RewritingError.TheVariants.{NotSurveyed}
+use Rattle.linker_rewriting.specs.declared.decisions.RewritingError.TheVariants.{Overlaps}
+use Rattle.linker_rewriting.specs.declared.facts.SymbolFacts.{SymbolFacts}
+use Rattle.linker_rewriting.specs.declared.global_pointer.Part.{Part}
+use Rattle.linker_rewriting.specs.declared.global_pointer.Part.TheVariants.{High, Low, Labelled}
+use Rattle.linker_section.specs.Relocations.{relocation_in}
+use Rattle.linker_section.specs.Values.{IsAscending}
+use Rattle.linker_section.specs.declared.facts.Addresses.{Addresses}
+use Rattle.linker_section.specs.declared.facts.Symbol.{Symbol}
+use Rattle.linker_section.specs.declared.relocations.Rela.{Rela}
+use Rattle.linker_utils.specs.declared.architecture.Relaxation.TheVariants as relaxations
+use Rattle.linker_utils.specs.declared.elf.Architecture.{Architecture}
+use Rattle.linker_utils.specs.declared.elf.Architecture.TheVariants.{RiscV}
+
+-- ---- parts of an address
+
+-- What a low part has until addresses are final, for which the psABI has no name: 47 and 48, which
+-- `elf.h` names R_RISCV_GPREL_I and R_RISCV_GPREL_S.
+abbrev pub gprel_i : ℕ
+gprel_i = 47
+
+abbrev pub gprel_s : ℕ
+gprel_s = 48
+
+abbrev pub relative_high : ℕ
+relative_high = code_of (riscv_name riscv64.R_RISCV_PCREL_HI20)
+
+-- What the instruction of a relocation is of an address: a high part with its opcode, `lui` or
+-- `auipc`, or a low part with the type that its relocation gets.
+abbrev pub part_of : Architecture → ℕ → Option Part
+part_of RiscV code =
+    if code_of (riscv_name riscv64.R_RISCV_HI20) == code then Some (High 0x37)
+    else (if relative_high == code then Some (High 0x17)
+    else (if code_of (riscv_name riscv64.R_RISCV_LO12_I) == code then Some (Low gprel_i)
+    else (if code_of (riscv_name riscv64.R_RISCV_LO12_S) == code then Some (Low gprel_s)
+    else (if code_of (riscv_name riscv64.R_RISCV_PCREL_LO12_I) == code
+    then Some (Labelled gprel_i)
+    else (if code_of (riscv_name riscv64.R_RISCV_PCREL_LO12_S) == code
+    then Some (Labelled gprel_s)
+    else None)))))
+part_of architecture code = None
+
+-- the high part at the label of a low part
+abbrev pub IsLabelled : Addresses → List Symbol → List ℕ → Rela → Option Rela → Type 0
+IsLabelled addresses values bytes r None =
+    IsAscending bytes
+    → IsHighFrom bytes relative_high (offset_of_label addresses (slice_get values r.symbol)) None
+IsLabelled addresses values bytes r (Some part) =
+    IsAscending bytes → (high : ℕ)
+    × IsHighFrom bytes relative_high (offset_of_label addresses (slice_get values r.symbol))
+    (Some high)
+    × (part ≡ relocation_in bytes high)
+
+-- the relocation whose symbol and addend are those of a part
+abbrev pub IsSubject : Addresses → List Symbol → List ℕ → Rela → Part → Option Rela → Type 0
+IsSubject addresses values bytes r (High opcode) subject = subject ≡ Some r
+IsSubject addresses values bytes r (Low code) subject = subject ≡ Some r
+IsSubject addresses values bytes r (Labelled code) subject =
+    IsLabelled addresses values bytes r subject
+
+-- a part with its subject; none where the relocation is of no address
+abbrev pub IsMemberBy : Addresses → List Symbol → List ℕ → Rela → Option Part
+    → Option (Part × Rela) → Type 0
+IsMemberBy addresses values bytes r None member = member ≡ None
+IsMemberBy addresses values bytes r (Some part) None = IsSubject addresses values bytes r part None
+IsMemberBy addresses values bytes r (Some part) (Some member) =
+    (member.0 ≡ part) × IsSubject addresses values bytes r part (Some (member.1))
+
+abbrev pub IsMember : Setting → List ℕ → Rela → Option (Part × Rela) → Type 0
+IsMember s bytes r =
+    IsMemberBy s.addresses s.values bytes r (part_of s.architecture r.code)
+
+-- ---- what is required of a part
+
+-- 12 signed bits hold the distance of an address from another one
+abbrev pub is_near : ℕ → ℕ → Bool
+is_near base address = nat_lt (sum_64 (difference_64 address base) 0x800) 0x1000
+
+-- nothing replaces the symbol at run time, and its address is that of data or of code
+abbrev pub is_bound : SymbolFacts → Symbol → Bool
+is_bound symbol value =
+    (symbol.is_local || symbol.is_undefined_weak)
+    && (not symbol.is_ifunc && not value.is_thread_local)
+
+-- S + A
+abbrev pub address_of : Addresses → Rela → Symbol → ℕ
+address_of addresses r value =
+    sum_64 (address_in addresses value) (cast_unsigned w64 r.addend)
+
+abbrev pub is_reached_by : Addresses → ℕ → Rela → Option SymbolFacts → Option Symbol → Bool
+is_reached_by addresses gp r None value = false
+is_reached_by addresses gp r (Some symbol) None = false
+is_reached_by addresses gp r (Some symbol) (Some value) =
+    is_bound symbol value
+    && (is_near gp (address_of addresses r value) || is_near 0 (address_of addresses r value))
+
+-- x3 or x0 reaches S + A
+abbrev pub is_reached : Setting → ℕ → Rela → Bool
+is_reached s gp r =
+    is_reached_by s.addresses gp r (slice_get s.symbols r.symbol) (slice_get s.values r.symbol)
+
+-- four bytes from an offset on are in the section
+abbrev pub has_word : List ℕ → ℕ → Bool
+has_word section o = nat_le (o + 4) (length section)
+
+-- the source registers
+abbrev pub rs1_of : ℕ → ℕ
+rs1_of word = field word 15 20
+
+abbrev pub rs2_of : ℕ → ℕ
+rs2_of word = field word 20 25
+
+-- an instruction with an opcode, of another register than x0 and x3
+abbrev pub is_high_word : ℕ → ℕ → Bool
+is_high_word opcode word =
+    (opcode_of word == opcode) && (not (rd_of word == 0) && not (rd_of word == 3))
+
+-- Its bits 7 to 11 are no integer register that it writes: it is a store, or loads a number of
+-- floating point.
+abbrev pub writes_none : ℕ → Bool
+writes_none word =
+    (opcode_of word == 0x23) || ((opcode_of word == 0x27) || (opcode_of word == 0x07))
+
+-- a store of what its own base holds
+abbrev pub stores_base : ℕ → Bool
+stores_base word = (opcode_of word == 0x23) && (rs2_of word == rs1_of word)
+
+-- an instruction that adds 12 bits to another register than x0, doesn't store what that holds, and
+-- doesn't write x3
+abbrev pub is_low_word : ℕ → Bool
+is_low_word word =
+    adds_low12 (opcode_of word) (funct3_of word)
+    && (not (rs1_of word == 0) && (not (stores_base word)
+    && (writes_none word || not (rd_of word == 3))))
+
+-- The instruction is one of such a part. The base of a low part with a label is what its high part
+-- writes.
+abbrev pub is_expected : List ℕ → Rela → Part → Rela → Bool
+is_expected section r (High opcode) subject =
+    has_word section r.offset && is_high_word opcode (word_at section r.offset)
+is_expected section r (Low code) subject =
+    has_word section r.offset && is_low_word (word_at section r.offset)
+is_expected section r (Labelled code) subject =
+    has_word section r.offset && (is_low_word (word_at section r.offset)
+    && (has_word section subject.offset
+    && (rs1_of (word_at section r.offset) == rd_of (word_at section subject.offset))))
+
+-- It can be rewritten, if all of its symbol can: in an executable with fixed addresses it is
+-- marked, in reach, and of an expected instruction, in a section whose relocations ascend.
+abbrev pub fits : Setting → ℕ → Bool → List ℕ → List ℕ → ℕ → Rela → Part × Rela → Bool
+fits s gp ascends bytes section n r member =
+    ascends && (s.output.is_executable && (s.output.is_fixed
+    && (is_marked_at s.architecture bytes n r && (is_reached s gp (member.1)
+    && is_expected section r (member.0) (member.1)))))
+
+-- ---- symbols that stay
+
+-- the symbol that a part keeps, since it doesn't fit
+abbrev pub kept_by : Setting → ℕ → Bool → List ℕ → List ℕ → ℕ → Rela → Option (Part × Rela)
+    → Option ℕ
+kept_by s gp ascends bytes section n r None = None
+kept_by s gp ascends bytes section n r (Some member) =
+    if fits s gp ascends bytes section n r member then None else Some (member.1).symbol
+
+pub record IsKeepingSymbol (s : Setting) (gp : ℕ) (bytes section : List ℕ) (n : ℕ) (r : Rela)
+    (symbol : Option ℕ) : Type 0 where
+  pub ascends : Bool
+  pub is_ascending : IsTrue ascends ↔ IsAscending bytes
+  pub member : Option (Part × Rela)
+  pub is_member : IsMember s bytes r member
+  pub keeps : symbol ≡ kept_by s gp ascends bytes section n r member
+
+pub record IsSymbolNoted (s : Setting) (gp : ℕ) (bytes section : List ℕ) (after : List Bool)
+    (n : ℕ) : Type 0 where
+  pub symbol : Option ℕ
+  pub is_keeping : IsKeepingSymbol s gp bytes section n (relocation_in bytes n) symbol
+  pub stays : StaysBy after symbol
+
+-- of the relocations with an index below a limit each that keeps its symbol is noted
+abbrev pub AreSymbolsNoted : Setting → ℕ → List ℕ → List ℕ → List Bool → ℕ → Type 0
+AreSymbolsNoted s gp bytes section after limit =
+    (n : ℕ) → n < limit → IsSymbolNoted s gp bytes section after n
+
+-- They are noted. What stayed before stays, and what else stays has a cause.
+pub record AreSymbolsSurveyed (s : Setting) (gp : ℕ) (bytes section : List ℕ)
+    (before after : List Bool) (limit : ℕ) : Type 0 where
+  pub noted : AreSymbolsNoted s gp bytes section after limit
+  pub stayed : (symbol : ℕ) → word_stays before symbol ≡ true → word_stays after symbol ≡ true
+  pub caused : (symbol : ℕ) → word_stays after symbol ≡ true
+      → (word_stays before symbol ≡ true)
+      ⊎ ((n : ℕ) × (n < limit)
+      × IsKeepingSymbol s gp bytes section n (relocation_in bytes n) (Some symbol))
+
+-- ---- decisions
+
+-- A high part goes. A low part is of the symbol and the addend of its subject.
+abbrev pub part_decision : Part → Rela → Decision
+part_decision (High opcode) subject = Rewritten (choice (relaxations.RiscV kinds.Delete) 0)
+part_decision (Low code) subject =
+    Redirected (choice (relaxations.RiscV kinds.NoOp) code) (subject_of subject)
+part_decision (Labelled code) subject =
+    Redirected (choice (relaxations.RiscV kinds.NoOp) code) (subject_of subject)
+
+-- none if its symbol doesn't stay, but it doesn't fit
+abbrev pub decided_by : Setting → ℕ → Bool → List Bool → List ℕ → List ℕ → ℕ → Rela
+    → Option (Part × Rela) → Option Decision
+decided_by s gp ascends kept bytes section n r None = Some Kept
+decided_by s gp ascends kept bytes section n r (Some member) =
+    if word_stays kept (member.1).symbol then Some Kept
+    else (if fits s gp ascends bytes section n r member
+    then Some (part_decision (member.0) (member.1)) else None)
+
+pub record IsPartDecided (s : Setting) (gp : ℕ) (kept : List Bool) (bytes section : List ℕ) (n : ℕ)
+    (r : Rela) (decision : Option Decision) : Type 0 where
+  pub ascends : Bool
+  pub is_ascending : IsTrue ascends ↔ IsAscending bytes
+  pub member : Option (Part × Rela)
+  pub is_member : IsMember s bytes r member
+  pub decided : decision ≡ decided_by s gp ascends kept bytes section n r member
+
+-- those of the relocations with an index below a limit
+abbrev pub ArePartsDecided : Setting → ℕ → List Bool → List ℕ → List ℕ → List Decision → ℕ → Type 0
+ArePartsDecided s gp kept bytes section decisions limit =
+    (n : ℕ) → n < limit
+    → IsPartDecided s gp kept bytes section n (relocation_in bytes n)
+    (Some (decision_at decisions n))
+
+-- a relocation after what became of it, where no bytes are rewritten
+abbrev pub relocation_by : Decision → Rela → Rela
+relocation_by Kept r = r
+relocation_by TakenAlong r = record r { code = 0 }
+relocation_by (Rewritten chosen) r = record r { code = chosen.relocation }
+relocation_by (Redirected chosen subject) r =
+    record {
+      offset = r.offset;
+      code = chosen.relocation;
+      symbol = subject.symbol;
+      addend = subject.addend;
+    }
+
+-- and of all relocations with an index below a limit
+abbrev pub AreRelocationsBy : List Decision → List ℕ → List ℕ → ℕ → Type 0
+AreRelocationsBy decisions before after limit =
+    (n : ℕ) → n < limit
+    → relocation_in after n ≡ relocation_by (decision_at decisions n) (relocation_in before n)
+
+-- ---- whole symbols
+
+-- of two sections that are decided by one table, each at its address, all parts of a symbol are
+-- rewritten, or none is
+abbrev pub ArePartsWholeIn : Setting → Setting → List ℕ → List ℕ → List Decision → List Decision
+    → ℕ → ℕ → Type 0
+ArePartsWholeIn s other bytes others_bytes decisions others limit others_limit =
+    IsAscending bytes → IsAscending others_bytes
+    → (i j : ℕ) (part other_part : Part) (subject other_subject : Rela)
+    → i < limit → j < others_limit
+    → IsMember s bytes (relocation_in bytes i) (Some (part, subject))
+    → IsMember other others_bytes (relocation_in others_bytes j) (Some (other_part, other_subject))
+    → subject.symbol ≡ other_subject.symbol
+    → IsRewritten (decision_at decisions i) → IsRewritten (decision_at others j)
+
+-- and of one section
+abbrev pub ArePartsWhole : Setting → List ℕ → List Decision → ℕ → Type 0
+ArePartsWhole s bytes decisions limit =
+    ArePartsWholeIn s s bytes bytes decisions decisions limit limit
+
+-- of any two sections that are
+abbrev pub ArePartsWholeAcross : Type 0
+ArePartsWholeAcross =
+    (s other : Setting) (gp : ℕ) (kept : List Bool)
+    (bytes section others_bytes others_section : List ℕ) (decisions others : List Decision)
+    (limit others_limit : ℕ)
+    → ArePartsDecided s gp kept bytes section decisions limit
+    → ArePartsDecided other gp kept others_bytes others_section others others_limit
+    → ArePartsWholeIn s other bytes others_bytes decisions others limit others_limit
+
+-- ---- errors
+
+-- Those below the index are decided. That at the index isn't. There may also be less room for
+-- deletions than there are.
+abbrev pub ArePartsRejected : Setting → ℕ → List Bool → List ℕ → List ℕ → List Decision → ℕ
+    → RewritingError → Type 0
+ArePartsRejected s gp kept bytes section decisions room TooShort =
+    (length decisions < length bytes / 24)
+    ⊎ (ArePartsDecided s gp kept bytes section decisions (length bytes / 24)
+    × (room < length (deletions_by bytes decisions (length bytes / 24))))
+ArePartsRejected s gp kept bytes section decisions room (NotSurveyed n) =
+    (n < length bytes / 24) × ArePartsDecided s gp kept bytes section decisions n
+    × IsPartDecided s gp kept bytes section n (relocation_in bytes n) None
+ArePartsRejected s gp kept bytes section decisions room (Overlaps n) = ⊥
+
+-- an error that a section wasn't surveyed comes only where what it keeps isn't all noted
+abbrev pub MeansSymbolsUnsurveyed : Setting → ℕ → List ℕ → List ℕ → List Bool → RewritingError
+    → Type 0
+MeansSymbolsUnsurveyed s gp bytes section kept (NotSurveyed n) =
+    IsAscending bytes → ¬ AreSymbolsNoted s gp bytes section kept (length bytes / 24)
+MeansSymbolsUnsurveyed s gp bytes section kept error = Unit {0}
+
+-- ---- bases
+
+-- the type that the relocation of a low part without a base gets
+abbrev pub low_code : ℕ → Option ℕ
+low_code code =
+    if code == gprel_i then Some (code_of (riscv_name riscv64.R_RISCV_LO12_I))
+    else (if code == gprel_s then Some (code_of (riscv_name riscv64.R_RISCV_LO12_S)) else None)
+
+-- A base register, and the address that it has: x0 where 12 bits hold the address, else x3 where
+-- they hold the distance from it.
+abbrev pub base_for : ℕ → ℕ → Option (ℕ × ℕ)
+base_for gp address =
+    if is_near 0 address then Some (0, 0)
+    else (if is_near gp address then Some (3, gp) else None)
+
+abbrev pub base_by : Addresses → ℕ → Rela → Option Symbol → Option (ℕ × ℕ)
+base_by addresses gp r None = None
+base_by addresses gp r (Some value) = base_for gp (address_of addresses r value)
+
+abbrev pub base_of : Addresses → List Symbol → ℕ → Rela → Option (ℕ × ℕ)
+base_of addresses values gp r = base_by addresses gp r (slice_get values r.symbol)
+
+-- a relocation is of no such low part, or its instruction is in the section and a base reaches
+-- S + A
+abbrev pub is_placed_by : List ℕ → Rela → Option ℕ → Option (ℕ × ℕ) → Bool
+is_placed_by section r None base = true
+is_placed_by section r (Some code) base = has_word section r.offset && is_some base
+
+-- by what is known of symbols
+abbrev pub is_placed : Addresses → List Symbol → ℕ → List ℕ → Rela → Bool
+is_placed addresses values gp section r =
+    is_placed_by section r (low_code r.code) (base_of addresses values gp r)
+
+-- The relocation after it: its value is the distance from the base.
+abbrev pub relocation_over : Rela → Option ℕ → Option (ℕ × ℕ) → Rela
+relocation_over r None base = r
+relocation_over r (Some code) None = r
+relocation_over r (Some code) (Some base) =
+    record r {
+      code = code;
+      addend = cast_signed w64 (difference_64 (cast_unsigned w64 r.addend) (base.1));
+    }
+
+abbrev pub based_relocation : Addresses → List Symbol → ℕ → Rela → Rela
+based_relocation addresses values gp r =
+    relocation_over r (low_code r.code) (base_of addresses values gp r)
+
+-- the section with the base in the instruction of one relocation
+abbrev pub section_over : List ℕ → Rela → Option ℕ → Option (ℕ × ℕ) → List ℕ
+section_over section r None base = section
+section_over section r (Some code) None = section
+section_over section r (Some code) (Some base) =
+    rewritten (Some (rewrites_word (with_rs1 (base.0)))) section r.offset
+
+abbrev pub based_section : Addresses → List Symbol → ℕ → List ℕ → Rela → List ℕ
+based_section addresses values gp section r =
+    section_over section r (low_code r.code) (base_of addresses values gp r)
+
+-- and of all relocations with an index below a limit
+abbrev pub section_based : Addresses → List Symbol → ℕ → List ℕ → List ℕ → ℕ → List ℕ
+section_based addresses values gp bytes section zero = section
+section_based addresses values gp bytes section (suc n) =
+    based_section addresses values gp (section_based addresses values gp bytes section n)
+    (relocation_in bytes n)
+
+-- what relocations become
+abbrev pub AreBased : Addresses → List Symbol → ℕ → List ℕ → List ℕ → ℕ → Type 0
+AreBased addresses values gp before after limit =
+    (n : ℕ) → n < limit
+    → relocation_in after n ≡ based_relocation addresses values gp (relocation_in before n)
+
+-- the relocation with an index is the first that isn't placed
+pub record IsFirstUnplaced (addresses : Addresses) (values : List Symbol) (gp : ℕ)
+    (bytes section : List ℕ) (n : ℕ) : Type 0 where
+  pub within : n < length bytes / 24
+  pub here : is_placed addresses values gp section (relocation_in bytes n) ≡ false
+  pub before : (k : ℕ) → k < n
+      → is_placed addresses values gp section (relocation_in bytes k) ≡ true

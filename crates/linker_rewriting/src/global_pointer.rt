@@ -1,0 +1,1082 @@
+//! RISC-V's addresses within 2 KiB of the global pointer or of 0. They need no `lui` and no
+//! `auipc`: each low part takes x3 or x0 as its base, all of a symbol or none.
+
+ghost use Rattle.std.specs.Prelude.{◌≡◌, ◌↔◌, ◌+◌, ◌<◌, ◌≤◌, ◌/◌, ℕ, length, map, take, drop};
+ghost use Rattle.std.specs.Prelude.{IfSome, IfErr, IfOk, OnOk, OnErr, All, IsTrue, slice_get};
+ghost use Rattle.std.specs.Prelude.{◌&&◌, ◌==◌, true, MatchOption};
+ghost use Rattle.std.specs.Int.{w32, from_le_bytes};
+ghost use Rattle.linker_rewriting.specs.Decisions.{CanBeMade, AllCanBeMade, deletions_by};
+ghost use Rattle.linker_rewriting.specs.Facts.{setting};
+ghost use Rattle.linker_rewriting.specs.GlobalPointer.{part_of, IsLabelled, IsSubject, IsMember};
+ghost use Rattle.linker_rewriting.specs.GlobalPointer.{relative_high};
+ghost use Rattle.linker_rewriting.specs.Labels.{offset_of_label};
+ghost use Rattle.linker_rewriting.specs.GlobalPointer.{is_near, is_bound, address_of, has_word};
+ghost use Rattle.linker_rewriting.specs.GlobalPointer.{is_reached_by, rs1_of, is_high_word};
+ghost use Rattle.linker_rewriting.specs.GlobalPointer.{writes_none, is_low_word, is_expected};
+ghost use Rattle.linker_rewriting.specs.GlobalPointer.{rs2_of, stores_base, kept_by, decided_by};
+ghost use Rattle.linker_rewriting.specs.GlobalPointer.{fits, IsKeepingSymbol, part_decision};
+ghost use Rattle.linker_rewriting.specs.GlobalPointer.{AreSymbolsSurveyed, IsPartDecided};
+ghost use Rattle.linker_rewriting.specs.GlobalPointer.{ArePartsDecided, ArePartsRejected};
+ghost use Rattle.linker_rewriting.specs.GlobalPointer.{MeansSymbolsUnsurveyed, relocation_by};
+ghost use Rattle.linker_rewriting.specs.GlobalPointer.{AreRelocationsBy, ArePartsWhole};
+ghost use Rattle.linker_rewriting.specs.GlobalPointer.{low_code, base_for, base_of, is_placed};
+ghost use Rattle.linker_rewriting.specs.GlobalPointer.{based_relocation, based_section};
+ghost use Rattle.linker_rewriting.specs.GlobalPointer.{section_based, AreBased, IsFirstUnplaced};
+ghost use Rattle.linker_riscv64.specs.RiscVCalls.{word_at};
+ghost use Rattle.linker_riscv64.specs.RiscVRewrites.{opcode_of, funct3_of, rd_of, adds_low12};
+ghost use Rattle.linker_riscv64.specs.RiscVRewrites.{with_rs1};
+ghost use Rattle.linker_section.specs.Relocations.{relocation_in};
+ghost use Rattle.linker_section.specs.Values.{IsAscending};
+
+use crate::decisions::{AsDecision, Decision, FromDeletion, RewritingError};
+use crate::facts::{OutputFacts, SymbolFacts, address_in};
+use crate::labels::high_at;
+use crate::phases::Phase;
+use crate::relocations::{relocation_in, set_relocation};
+use crate::sections::list_deletions;
+use crate::sequences::is_marked_at;
+use crate::words::{keep_word, subject_of, word_stays};
+use linker_base::rewrite::overwrite;
+use linker_section::facts::{Addresses, Symbol};
+use linker_section::relocations::{Rela, is_ascending, relocations_len};
+use linker_utils::architecture::Relaxation;
+use linker_utils::bit_misc::BitExtraction;
+use linker_utils::elf::{Architecture, Choice};
+use linker_utils::riscv64::{RelaxationKind, RiscVRelocation};
+use linker_utils::utils::u32_from_slice;
+
+/// What the instruction of a relocation is of an address.
+#[derive(Debug, Clone, Copy, PartialEq, Eq)]
+pub(crate) enum Part {
+    /// A high part, with its opcode.
+    High(u64),
+    /// A low part whose relocation is of the symbol, with the type that it gets.
+    Low(u32),
+    /// A low part whose relocation is of the label of its high part, with the type that it gets.
+    Labelled(u32),
+}
+
+/// The type of a low part of the I format until its base is known, `R_RISCV_GPREL_I` of `elf.h`.
+pub const GPREL_I: u32 = 47;
+
+/// That of the S format, `R_RISCV_GPREL_S`.
+pub const GPREL_S: u32 = 48;
+
+/// What the instruction of a relocation is of an address.
+#[inline(always)]
+fn part_of(architecture: Architecture, code: u32) -> Option<Part>
+    ensures { result ≡ part_of architecture code }
+{
+    match architecture {
+        Architecture::RiscV => {
+            if RiscVRelocation::R_RISCV_HI20.elf_code() == code {
+                Some(Part::High(0x37))
+            } else if RiscVRelocation::R_RISCV_PCREL_HI20.elf_code() == code {
+                Some(Part::High(0x17))
+            } else if RiscVRelocation::R_RISCV_LO12_I.elf_code() == code {
+                Some(Part::Low(GPREL_I))
+            } else if RiscVRelocation::R_RISCV_LO12_S.elf_code() == code {
+                Some(Part::Low(GPREL_S))
+            } else if RiscVRelocation::R_RISCV_PCREL_LO12_I.elf_code() == code {
+                Some(Part::Labelled(GPREL_I))
+            } else if RiscVRelocation::R_RISCV_PCREL_LO12_S.elf_code() == code {
+                Some(Part::Labelled(GPREL_S))
+            } else {
+                None
+            }
+        }
+        _ => None,
+    }
+}
+
+/// Where the label of a low part is in the section.
+#[inline(always)]
+fn label_at(addresses: &Addresses, values: &[Symbol], relocation: &Rela) -> Option<u64>
+    ensures { result ≡ offset_of_label addresses.now
+        (slice_get values.now relocation.now.symbol) }
+{
+    match values.get(relocation.symbol as usize) {
+        Some(label) => Some(label.address.wrapping_sub(addresses.section)),
+        None => None,
+    }
+}
+
+/// The code of an `auipc` of an address.
+#[inline(always)]
+fn relative_high() -> u32
+    ensures { result ≡ relative_high }
+{
+    RiscVRelocation::R_RISCV_PCREL_HI20.elf_code()
+}
+
+/// The high part at the label of a low part.
+fn labelled(
+    addresses: &Addresses,
+    values: &[Symbol],
+    relocations: &[u8],
+    relocation: &Rela,
+) -> Option<Rela>
+    ensures { IsLabelled addresses.now values.now relocations.now relocation.now result }
+{
+    let Some(at) = label_at(addresses, values, relocation) else {
+        return None;
+    };
+    match high_at(relocations, relative_high(), at) {
+        Some(high) => Some(relocation_in(relocations, high)),
+        None => None,
+    }
+}
+
+/// The relocation whose symbol and addend are those of a part.
+#[inline(always)]
+fn part_subject(
+    addresses: &Addresses,
+    values: &[Symbol],
+    relocations: &[u8],
+    relocation: &Rela,
+    part: Part,
+) -> Option<Rela>
+    ensures { IsSubject addresses.now values.now relocations.now relocation.now part result }
+{
+    match part {
+        Part::Labelled(_) => labelled(addresses, values, relocations, relocation),
+        Part::High(_) | Part::Low(_) => Some(*relocation),
+    }
+}
+
+/// What a relocation is of an address, and the relocation whose symbol and addend are its own.
+fn member_of(
+    architecture: Architecture,
+    phase: Phase,
+    output: &OutputFacts,
+    symbols: &[SymbolFacts],
+    addresses: &Addresses,
+    values: &[Symbol],
+    relocations: &[u8],
+    relocation: &Rela,
+) -> Option<(Part, Rela)>
+    ensures { IsMember (setting architecture phase output.now symbols.now addresses.now values.now)
+        relocations.now relocation.now result }
+{
+    let Some(part) = part_of(architecture, relocation.code) else {
+        return None;
+    };
+    match part_subject(addresses, values, relocations, relocation, part) {
+        Some(subject) => Some((part, subject)),
+        None => None,
+    }
+}
+
+/// Whether 12 signed bits hold the distance of an address from another one.
+#[inline(always)]
+fn is_near(base: u64, address: u64) -> bool
+    ensures { result ≡ is_near base address }
+{
+    address.wrapping_sub(base).wrapping_add(0x800) < 0x1000
+}
+
+/// Whether nothing replaces a symbol at run time, and its address is that of data or of code.
+#[inline(always)]
+fn is_bound(symbol: &SymbolFacts, value: &Symbol) -> bool
+    ensures { result ≡ is_bound symbol.now value.now }
+{
+    (symbol.is_local || symbol.is_undefined_weak) && !symbol.is_ifunc && !value.is_thread_local
+}
+
+/// S + A.
+#[inline(always)]
+fn address_of(addresses: &Addresses, relocation: &Rela, value: &Symbol) -> u64
+    ensures { result ≡ address_of addresses.now relocation.now value.now }
+{
+    let addend = relocation.addend.cast_unsigned();
+    address_in(addresses, value).wrapping_add(addend)
+}
+
+/// Whether x3 or x0 reaches what a relocation refers to.
+fn is_reached(
+    symbols: &[SymbolFacts],
+    addresses: &Addresses,
+    values: &[Symbol],
+    gp: u64,
+    relocation: &Rela,
+) -> bool
+    ensures { result ≡ is_reached_by addresses.now gp relocation.now
+        (slice_get symbols.now relocation.now.symbol) (slice_get values.now relocation.now.symbol) }
+{
+    let Some(symbol) = symbols.get(relocation.symbol as usize) else {
+        return false;
+    };
+    let Some(value) = values.get(relocation.symbol as usize) else {
+        return false;
+    };
+    let address = address_of(addresses, relocation, value);
+    is_bound(symbol, value) && (is_near(gp, address) || is_near(0, address))
+}
+
+/// Whether four bytes from an offset on are in the section.
+#[inline(always)]
+fn has_word(section: &[u8], offset: u64) -> bool
+    ensures { result ≡ has_word section.now offset }
+{
+    let section_len = section.len() as u64;
+    4 <= section_len && offset <= section_len - 4
+}
+
+/// The instruction at an offset of the section.
+#[inline(always)]
+fn word_at(section: &[u8], offset: u64) -> u32
+    requires { offset + 4 ≤ length section.now }
+    ensures { result ≡ word_at section.now offset }
+{
+    u32_from_slice(&section[offset as usize..])
+}
+
+/// That of the four bytes alone.
+#[inline(always)]
+fn window_at(section: &[u8], offset: u64) -> u32
+    requires { offset + 4 ≤ length section.now }
+    ensures { result ≡ from_le_bytes w32 (take 4 (drop offset section.now)) }
+{
+    u32_from_slice(&section[offset as usize..])
+}
+
+/// The opcode of an instruction.
+#[inline(always)]
+fn opcode(word: u32) -> u64
+    ensures { result ≡ opcode_of word }
+{
+    u64::from(word).extract_bit_range(0..7)
+}
+
+/// The register that it writes.
+#[inline(always)]
+fn destination(word: u32) -> u64
+    ensures { result ≡ rd_of word }
+{
+    u64::from(word).extract_bit_range(7..12)
+}
+
+/// Its base register.
+#[inline(always)]
+fn base(word: u32) -> u64
+    ensures { result ≡ rs1_of word }
+{
+    u64::from(word).extract_bit_range(15..20)
+}
+
+/// The register that it stores.
+#[inline(always)]
+fn source(word: u32) -> u64
+    ensures { result ≡ rs2_of word }
+{
+    u64::from(word).extract_bit_range(20..25)
+}
+
+/// Whether an instruction stores what its own base holds.
+#[inline(always)]
+fn stores_base(word: u32) -> bool
+    ensures { result ≡ stores_base word }
+{
+    opcode(word) == 0x23 && source(word) == base(word)
+}
+
+/// Whether an instruction has an opcode, and is of another register than x0 and x3.
+#[inline(always)]
+fn is_high_word(code: u64, word: u32) -> bool
+    ensures { result ≡ is_high_word code word }
+{
+    opcode(word) == code && destination(word) != 0 && destination(word) != 3
+}
+
+/// Whether an instruction writes no integer register: it is a store, or loads a number of floating
+/// point.
+#[inline(always)]
+fn writes_none(word: u32) -> bool
+    ensures { result ≡ writes_none word }
+{
+    opcode(word) == 0x23 || opcode(word) == 0x27 || opcode(word) == 0x07
+}
+
+/// Whether an instruction adds 12 bits to a register.
+#[inline(always)]
+fn adds_low(section: &[u8], offset: u64) -> bool
+    requires { offset + 4 ≤ length section.now }
+    ensures { result ≡ adds_low12 (opcode_of (word_at section.now offset))
+        (funct3_of (word_at section.now offset)) }
+{
+    RelaxationKind::Lo12Rs1ToZero.matches(section, offset)
+}
+
+/// Whether an instruction adds 12 bits to another register than x0, doesn't store what that holds,
+/// and doesn't write x3.
+#[inline(always)]
+fn is_low_at(section: &[u8], offset: u64) -> bool
+    requires { offset + 4 ≤ length section.now }
+    ensures { result ≡ is_low_word (word_at section.now offset) }
+{
+    let word = word_at(section, offset);
+    adds_low(section, offset)
+        && base(word) != 0
+        && !stores_base(word)
+        && (writes_none(word) || destination(word) != 3)
+}
+
+/// Whether the base of an instruction is what that of its high part writes.
+#[inline(always)]
+fn has_base(section: &[u8], offset: u64, high: u64) -> bool
+    requires { offset + 4 ≤ length section.now }
+    ensures { result ≡ (has_word section.now high
+        && (rs1_of (word_at section.now offset) == rd_of (word_at section.now high))) }
+{
+    has_word(section, high) && base(word_at(section, offset)) == destination(word_at(section, high))
+}
+
+/// Whether the instruction of a relocation is one of such a part.
+fn is_expected(section: &[u8], relocation: &Rela, part: Part, subject: &Rela) -> bool
+    ensures { result ≡ is_expected section.now relocation.now part subject.now }
+{
+    let offset = relocation.offset;
+    if !has_word(section, offset) {
+        return false;
+    }
+    match part {
+        Part::High(code) => is_high_word(code, word_at(section, offset)),
+        Part::Low(_) => is_low_at(section, offset),
+        Part::Labelled(_) => {
+            is_low_at(section, offset) && has_base(section, offset, subject.offset)
+        }
+    }
+}
+
+/// Whether a part can be rewritten, if all of its symbol can.
+fn fits(
+    ascends: bool,
+    architecture: Architecture,
+    phase: Phase,
+    output: &OutputFacts,
+    symbols: &[SymbolFacts],
+    addresses: &Addresses,
+    values: &[Symbol],
+    gp: u64,
+    relocations: &[u8],
+    section: &[u8],
+    index: usize,
+    relocation: &Rela,
+    member: &(Part, Rela),
+) -> bool
+    requires { index + 1 ≤ usize.MAX }
+    ensures { result ≡ fits (setting architecture phase output.now symbols.now addresses.now
+        values.now) gp ascends relocations.now section.now index relocation.now member.now }
+{
+    ascends
+        && output.is_executable
+        && output.is_fixed
+        && is_marked_at(architecture, relocations, index, relocation)
+        && is_reached(symbols, addresses, values, gp, &member.1)
+        && is_expected(section, relocation, member.0, &member.1)
+}
+
+/// The symbol that a part keeps, since it doesn't fit.
+#[inline(always)]
+fn kept_by(
+    ascends: bool,
+    architecture: Architecture,
+    phase: Phase,
+    output: &OutputFacts,
+    symbols: &[SymbolFacts],
+    addresses: &Addresses,
+    values: &[Symbol],
+    gp: u64,
+    relocations: &[u8],
+    section: &[u8],
+    index: usize,
+    relocation: &Rela,
+    member: Option<(Part, Rela)>,
+) -> Option<usize>
+    requires { index + 1 ≤ usize.MAX }
+    ensures { result ≡ kept_by (setting architecture phase output.now symbols.now addresses.now
+        values.now) gp ascends relocations.now section.now index relocation.now member }
+{
+    let Some(member) = member else {
+        return None;
+    };
+    if fits(
+        ascends,
+        architecture,
+        phase,
+        output,
+        symbols,
+        addresses,
+        values,
+        gp,
+        relocations,
+        section,
+        index,
+        relocation,
+        &member,
+    ) {
+        None
+    } else {
+        Some(member.1.symbol as usize)
+    }
+}
+
+/// The symbol that a relocation keeps, since it is of an address and doesn't fit.
+fn keeping_symbol(
+    ascends: bool,
+    architecture: Architecture,
+    phase: Phase,
+    output: &OutputFacts,
+    symbols: &[SymbolFacts],
+    addresses: &Addresses,
+    values: &[Symbol],
+    gp: u64,
+    relocations: &[u8],
+    section: &[u8],
+    index: usize,
+    relocation: &Rela,
+) -> Option<usize>
+    requires index { index + 1 ≤ usize.MAX }
+    requires ascending { IsTrue ascends ↔ IsAscending relocations.now }
+    ensures { IsKeepingSymbol (setting architecture phase output.now symbols.now addresses.now
+        values.now) gp relocations.now section.now index relocation.now result }
+{
+    let member = member_of(
+        architecture,
+        phase,
+        output,
+        symbols,
+        addresses,
+        values,
+        relocations,
+        relocation,
+    );
+    kept_by(
+        ascends,
+        architecture,
+        phase,
+        output,
+        symbols,
+        addresses,
+        values,
+        gp,
+        relocations,
+        section,
+        index,
+        relocation,
+        member,
+    )
+}
+
+/// Notes which symbols of an object keep the `lui` and `auipc` of their address, since a relocation
+/// of this section of code is of such an instruction, or of a low part, and can't be rewritten: it
+/// isn't marked by `R_RISCV_RELAX`, its instruction is another one, or S + A is neither within
+/// 2 KiB of the global pointer, from 2,048 below it to 2,047 above it, nor of 0 (RISC-V ELF psABI,
+/// "Global-pointer Relaxation" and "Zero-page Relaxation"). All symbols of a section stay whose
+/// relocations don't ascend, and all where the output isn't an executable that is always loaded at
+/// the address that it is linked for.
+///
+/// `rewrite_global_pointer` rewrites all of a symbol or none by these notes, so survey each section
+/// of code of the object before one of them is rewritten, with one table, all of whose elements are
+/// false at first. What stays there already stays. A symbol without an element stays.
+///
+/// `gp` is the address of `__global_pointer$`. `symbols` and `values` both have an object's symbols
+/// at the indexes that its relocations name, and `kept` has an element for each. For other
+/// architectures than RISC-V nothing is noted.
+///
+/// ```
+/// use linker_rewriting::facts::{OutputFacts, SymbolFacts};
+/// use linker_rewriting::global_pointer::survey_global_pointer;
+/// use linker_section::facts::{Addresses, Symbol};
+/// use linker_utils::elf::Architecture;
+///
+/// // lui a0, %hi(x), with R_RISCV_HI20 of symbol 1 and R_RISCV_RELAX, where x is 2,048 above gp
+/// let mut relocations = [0; 48];
+/// (relocations[8], relocations[12], relocations[32]) = (26, 1, 51);
+/// let mut kept = [false; 2];
+/// survey_global_pointer(
+///     Architecture::RiscV,
+///     &OutputFacts { is_executable: true, is_fixed: true },
+///     &[SymbolFacts { is_local: true, ..SymbolFacts::default() }; 2],
+///     &Addresses { section: 0x1_0000, ..Addresses::default() },
+///     &[0, 0x2_1000].map(|address| Symbol { address, ..Symbol::default() }),
+///     0x2_0800,
+///     &relocations,
+///     &[0x37, 0x05, 0, 0],
+///     &mut kept,
+/// );
+/// assert_eq!(kept, [false, true]);
+/// ```
+pub fn survey_global_pointer(
+    architecture: Architecture,
+    output: &OutputFacts,
+    symbols: &[SymbolFacts],
+    addresses: &Addresses,
+    values: &[Symbol],
+    gp: u64,
+    relocations: &[u8],
+    section: &[u8],
+    kept: &mut [bool],
+)
+    ensures { AreSymbolsSurveyed (setting architecture Phase.Distances output.now symbols.now
+        addresses.now values.now) gp relocations.now section.now kept.old kept.new
+        (length relocations.now / 24) }
+{
+    let ascends = is_ascending(relocations);
+    for index in 0..relocations_len(relocations) {
+        let relocation = relocation_in(relocations, index);
+        let symbol = keeping_symbol(
+            ascends,
+            architecture,
+            Phase::Distances,
+            output,
+            symbols,
+            addresses,
+            values,
+            gp,
+            relocations,
+            section,
+            index,
+            &relocation,
+        );
+        keep_word(kept, symbol);
+    }
+}
+
+/// What becomes of a part that is rewritten.
+#[inline(always)]
+fn part_decision(part: Part, subject: &Rela) -> Decision
+    ensures { result ≡ part_decision part subject.now }
+{
+    match part {
+        Part::High(_) => Decision::Rewritten(Choice {
+            kind: Relaxation::RiscV(RelaxationKind::Delete),
+            relocation: 0,
+        }),
+        Part::Low(relocation) | Part::Labelled(relocation) => Decision::Redirected(
+            Choice {
+                kind: Relaxation::RiscV(RelaxationKind::NoOp),
+                relocation,
+            },
+            subject_of(subject),
+        ),
+    }
+}
+
+/// What becomes of a part. None if its symbol doesn't stay, but it doesn't fit.
+#[inline(always)]
+fn decided_by(
+    ascends: bool,
+    architecture: Architecture,
+    phase: Phase,
+    output: &OutputFacts,
+    symbols: &[SymbolFacts],
+    addresses: &Addresses,
+    values: &[Symbol],
+    gp: u64,
+    kept: &[bool],
+    relocations: &[u8],
+    section: &[u8],
+    index: usize,
+    relocation: &Rela,
+    member: Option<(Part, Rela)>,
+) -> Option<Decision>
+    requires { index + 1 ≤ usize.MAX }
+    ensures decision { result ≡ decided_by (setting architecture phase output.now symbols.now
+        addresses.now values.now) gp ascends kept.now relocations.now section.now index
+        relocation.now member }
+    ensures made { IfSome result (λ d. CanBeMade d section.now relocation.now.offset) }
+{
+    let Some(member) = member else {
+        return Some(Decision::Kept);
+    };
+    if word_stays(kept, member.1.symbol as usize) {
+        return Some(Decision::Kept);
+    }
+    if fits(
+        ascends,
+        architecture,
+        phase,
+        output,
+        symbols,
+        addresses,
+        values,
+        gp,
+        relocations,
+        section,
+        index,
+        relocation,
+        &member,
+    ) {
+        Some(part_decision(member.0, &member.1))
+    } else {
+        None
+    }
+}
+
+/// What becomes of a relocation. None if its symbol doesn't stay, but it can't be rewritten.
+fn decide_part(
+    ascends: bool,
+    architecture: Architecture,
+    phase: Phase,
+    output: &OutputFacts,
+    symbols: &[SymbolFacts],
+    addresses: &Addresses,
+    values: &[Symbol],
+    gp: u64,
+    kept: &[bool],
+    relocations: &[u8],
+    section: &[u8],
+    index: usize,
+    relocation: &Rela,
+) -> Option<Decision>
+    requires index { index + 1 ≤ usize.MAX }
+    requires ascending { IsTrue ascends ↔ IsAscending relocations.now }
+    ensures decision { IsPartDecided (setting architecture phase output.now symbols.now
+        addresses.now values.now) gp kept.now relocations.now section.now index relocation.now
+        result }
+    ensures made { IfSome result (λ d. CanBeMade d section.now relocation.now.offset) }
+{
+    let member = member_of(
+        architecture,
+        phase,
+        output,
+        symbols,
+        addresses,
+        values,
+        relocations,
+        relocation,
+    );
+    decided_by(
+        ascends,
+        architecture,
+        phase,
+        output,
+        symbols,
+        addresses,
+        values,
+        gp,
+        kept,
+        relocations,
+        section,
+        index,
+        relocation,
+        member,
+    )
+}
+
+/// Decides what becomes of each relocation of a section, in the caller's memory.
+fn decide_parts<D: AsDecision>(
+    architecture: Architecture,
+    phase: Phase,
+    output: &OutputFacts,
+    symbols: &[SymbolFacts],
+    addresses: &Addresses,
+    values: &[Symbol],
+    gp: u64,
+    kept: &[bool],
+    relocations: &[u8],
+    section: &[u8],
+    decisions: &mut [D],
+) -> Result<(), RewritingError>
+    ensures enough { OnOk result (length relocations.now / 24 ≤ length decisions.old) }
+    ensures decided { OnOk result (ArePartsDecided (setting architecture phase output.now
+        symbols.now addresses.now values.now) gp kept.now relocations.now section.now
+        (map D.decision decisions.new) (length relocations.now / 24)) }
+    ensures made { OnOk result (AllCanBeMade relocations.now section.now
+        (map D.decision decisions.new) (length relocations.now / 24)) }
+    ensures form { OnOk result
+        (All D.is_written (take (length relocations.now / 24) decisions.new)) }
+    ensures others_stay { drop (length relocations.now / 24) decisions.new
+        ≡ drop (length relocations.now / 24) decisions.old }
+    ensures rejected { IfErr result (λ e. (room : ℕ) → ArePartsRejected (setting architecture phase
+        output.now symbols.now addresses.now values.now) gp kept.now relocations.now section.now
+        (map D.decision decisions.new) room e) }
+{
+    let len = relocations_len(relocations);
+    if decisions.len() < len {
+        return Err(RewritingError::TooShort);
+    }
+    let ascends = is_ascending(relocations);
+    for index in 0..len {
+        let relocation = relocation_in(relocations, index);
+        let Some(decision) = decide_part(
+            ascends,
+            architecture,
+            phase,
+            output,
+            symbols,
+            addresses,
+            values,
+            gp,
+            kept,
+            relocations,
+            section,
+            index,
+            &relocation,
+        ) else {
+            return Err(RewritingError::NotSurveyed(index));
+        };
+        decisions[index] = D::from_decision(decision);
+    }
+    Ok(())
+}
+
+/// A relocation after what became of it, where no bytes are rewritten.
+#[inline(always)]
+fn relocation_by(decision: &Decision, relocation: &Rela) -> Rela
+    ensures { result ≡ relocation_by decision.now relocation.now }
+{
+    match decision {
+        Decision::Kept => *relocation,
+        Decision::TakenAlong => Rela {
+            code: 0,
+            ..*relocation
+        },
+        Decision::Rewritten(choice) => Rela {
+            code: choice.relocation,
+            ..*relocation
+        },
+        Decision::Redirected(choice, subject) => Rela {
+            offset: relocation.offset,
+            code: choice.relocation,
+            symbol: subject.symbol,
+            addend: subject.addend,
+        },
+    }
+}
+
+/// Turns the relocations of a section into those after what became of them, where no bytes are
+/// rewritten.
+fn turn_all<D: AsDecision>(decisions: &[D], relocations: &mut [u8])
+    requires { length relocations.old / 24 ≤ length decisions.now }
+    ensures { AreRelocationsBy (map D.decision decisions.now) relocations.old relocations.new
+        (length relocations.old / 24) }
+{
+    for index in 0..relocations_len(relocations) {
+        let decision = decisions[index].as_decision();
+        let relocation = relocation_by(&decision, &relocation_in(relocations, index));
+        set_relocation(relocations, index, &relocation);
+    }
+}
+
+/// Has each `lui` and `auipc` of an address go whose symbol doesn't stay by `kept`, once addresses
+/// are known and before code gets shorter: `survey_global_pointer` made it of all sections of code
+/// of the object with the same facts and addresses. The bytes stay as they are until what is listed
+/// in `deleted`, each instruction of four bytes, is deleted: by their offset in the section and how
+/// many they are, in the order of their relocations, which ascend. Returns how many there are.
+///
+/// The relocation of such an instruction gets the type 0. Those of the low parts of these symbols
+/// get the symbol and the addend of the address and the type `GPREL_I` or `GPREL_S`, which no other
+/// call knows: `from_global_pointer` writes the base of their instruction once all addresses are
+/// final, and gives them the type whose value is then written. What became of each relocation is in
+/// `decisions`, which needs room for each of them.
+///
+/// The premise is that x3 is the address of `__global_pointer$` wherever the code of the section
+/// runs, and never changes: what sets it isn't marked. An instruction that is deleted leaves its
+/// register as it was, so that only low parts of the same symbol may read what it wrote.
+///
+/// # Errors
+///
+/// The relocations are as before. `TooShort`: there are more relocations than `decisions`, or
+/// `deleted` has less room than there are deletions. `NotSurveyed`: a relocation of a symbol that
+/// doesn't stay can't be rewritten; it never comes where the section was surveyed into the table
+/// with the same facts.
+///
+/// ```
+/// use linker_rewriting::decisions::Decision;
+/// use linker_rewriting::facts::{OutputFacts, SymbolFacts};
+/// use linker_rewriting::global_pointer::{GPREL_I, rewrite_global_pointer};
+/// use linker_section::facts::{Addresses, Symbol};
+/// use linker_utils::elf::Architecture;
+///
+/// // lui a0, %hi(x) and lw a0, %lo(x)(a0), both marked, where x is 2,047 above gp
+/// let mut relocations = [0; 96];
+/// for (at, offset, code) in [(0, 0, 26), (24, 0, 51), (48, 4, 27), (72, 4, 51)] {
+///     (relocations[at], relocations[at + 8]) = (offset, code);
+///     relocations[at + 12] = u8::from(code < 51);
+/// }
+/// let mut deleted = [(0, 0)];
+/// let rewritten = rewrite_global_pointer(
+///     Architecture::RiscV,
+///     &OutputFacts { is_executable: true, is_fixed: true },
+///     &[SymbolFacts { is_local: true, ..SymbolFacts::default() }; 2],
+///     &Addresses { section: 0x1_0000, ..Addresses::default() },
+///     &[0, 0x2_0fff].map(|address| Symbol { address, ..Symbol::default() }),
+///     0x2_0800,
+///     &[false; 2],
+///     &mut relocations,
+///     &[0x37, 0x05, 0, 0, 0x03, 0x25, 0x05, 0],
+///     &mut [Decision::Kept; 4],
+///     &mut deleted,
+/// );
+/// assert_eq!((rewritten, deleted), (Ok(1), [(0, 4)]));
+/// assert_eq!((relocations[8], u32::from(relocations[56])), (0, GPREL_I));
+/// ```
+pub fn rewrite_global_pointer<D: AsDecision, L: FromDeletion>(
+    architecture: Architecture,
+    output: &OutputFacts,
+    symbols: &[SymbolFacts],
+    addresses: &Addresses,
+    values: &[Symbol],
+    gp: u64,
+    kept: &[bool],
+    relocations: &mut [u8],
+    section: &[u8],
+    decisions: &mut [D],
+    deleted: &mut [L],
+) -> Result<usize, RewritingError>
+    ensures decided { OnOk result (ArePartsDecided (setting architecture Phase.Distances output.now
+        symbols.now addresses.now values.now) gp kept.now relocations.old section.now
+        (map D.decision decisions.new) (length relocations.old / 24)) }
+    ensures symbols { OnOk result (ArePartsWhole (setting architecture Phase.Distances output.now
+        symbols.now addresses.now values.now) relocations.old (map D.decision decisions.new)
+        (length relocations.old / 24)) }
+    ensures within { OnOk result (AllCanBeMade relocations.old section.now
+        (map D.decision decisions.new) (length relocations.old / 24)) }
+    ensures relocations { OnOk result (AreRelocationsBy (map D.decision decisions.new)
+        relocations.old relocations.new (length relocations.old / 24)) }
+    ensures listed { IfOk result (λ len. take len (map L.deletion deleted.new)
+        ≡ deletions_by relocations.old (map D.decision decisions.new)
+        (length relocations.old / 24)) }
+    ensures form { OnOk result
+        (All D.is_written (take (length relocations.old / 24) decisions.new)) }
+    ensures others_stay { drop (length relocations.old / 24) decisions.new
+        ≡ drop (length relocations.old / 24) decisions.old }
+    ensures deletions_stay { IfOk result (λ len. drop len deleted.new ≡ drop len deleted.old) }
+    ensures rejected { IfErr result (ArePartsRejected (setting architecture Phase.Distances
+        output.now symbols.now addresses.now values.now) gp kept.now relocations.old section.now
+        (map D.decision decisions.new) (length deleted.old)) }
+    ensures surveyed { IfErr result (MeansSymbolsUnsurveyed (setting architecture Phase.Distances
+        output.now symbols.now addresses.now values.now) gp relocations.old section.now kept.now) }
+    ensures entries { OnErr result (relocations.new ≡ relocations.old) }
+{
+    match decide_parts(
+        architecture,
+        Phase::Distances,
+        output,
+        symbols,
+        addresses,
+        values,
+        gp,
+        kept,
+        relocations,
+        section,
+        decisions,
+    ) {
+        Ok(()) => match list_deletions(relocations, decisions, deleted) {
+            Some(len) => {
+                turn_all(decisions, relocations);
+                Ok(len)
+            }
+            None => Err(RewritingError::TooShort),
+        },
+        Err(error) => Err(error),
+    }
+}
+
+/// The type that the relocation of a low part without a base gets.
+#[inline(always)]
+fn low_code(code: u32) -> Option<u32>
+    ensures { result ≡ low_code code }
+{
+    if code == GPREL_I {
+        Some(RiscVRelocation::R_RISCV_LO12_I.elf_code())
+    } else if code == GPREL_S {
+        Some(RiscVRelocation::R_RISCV_LO12_S.elf_code())
+    } else {
+        None
+    }
+}
+
+/// The base register that reaches an address, x0 or x3, and the address that it has.
+#[inline(always)]
+fn base_for(gp: u64, address: u64) -> Option<(u32, u64)>
+    ensures base { result ≡ base_for gp address }
+    ensures register { IfSome result (λ base. base.0 ≤ 3) }
+{
+    if is_near(0, address) {
+        Some((0, 0))
+    } else if is_near(gp, address) {
+        Some((3, gp))
+    } else {
+        None
+    }
+}
+
+/// That of what a relocation refers to.
+#[inline(always)]
+fn base_of(
+    addresses: &Addresses,
+    values: &[Symbol],
+    gp: u64,
+    relocation: &Rela,
+) -> Option<(u32, u64)>
+    ensures base { result ≡ base_of addresses.now values.now gp relocation.now }
+    ensures register { IfSome result (λ base. base.0 ≤ 3) }
+{
+    match values.get(relocation.symbol as usize) {
+        Some(value) => base_for(gp, address_of(addresses, relocation, value)),
+        None => None,
+    }
+}
+
+/// Whether a relocation is of no low part without a base, or its instruction is in the section and
+/// a base reaches what it refers to.
+fn is_placed(
+    addresses: &Addresses,
+    values: &[Symbol],
+    gp: u64,
+    section: &[u8],
+    relocation: &Rela,
+) -> bool
+    ensures { result ≡ is_placed addresses.now values.now gp section.now relocation.now }
+{
+    match low_code(relocation.code) {
+        Some(_) => {
+            has_word(section, relocation.offset)
+                && base_of(addresses, values, gp, relocation).is_some()
+        }
+        None => true,
+    }
+}
+
+/// The index of the first relocation that isn't placed.
+fn first_unplaced(
+    addresses: &Addresses,
+    values: &[Symbol],
+    gp: u64,
+    relocations: &[u8],
+    section: &[u8],
+) -> Option<usize>
+    ensures { MatchOption result ((n : ℕ) → n < length relocations.now / 24
+        → is_placed addresses.now values.now gp section.now (relocation_in relocations.now n)
+        ≡ true)
+        (IsFirstUnplaced addresses.now values.now gp relocations.now section.now) }
+{
+    for index in 0..relocations_len(relocations) {
+        let relocation = relocation_in(relocations, index);
+        if !is_placed(addresses, values, gp, section, &relocation) {
+            return Some(index);
+        }
+    }
+    None
+}
+
+/// An instruction with another base register.
+#[inline(always)]
+fn with_base(register: u32, word: u32) -> u32
+    requires { register ≤ 3 }
+    ensures { result ≡ with_rs1 register word }
+{
+    let base = (word >> 15) % 32;
+    word - base * 0x8000 + register * 0x8000
+}
+
+/// Writes the base of a low part. Returns its relocation after it.
+#[inline(always)]
+fn set_base(
+    addresses: &Addresses,
+    values: &[Symbol],
+    gp: u64,
+    section: &mut [u8],
+    relocation: &Rela,
+) -> Rela
+    requires { is_placed addresses.now values.now gp section.old relocation.now ≡ true }
+    ensures section { section.new
+        ≡ based_section addresses.now values.now gp section.old relocation.now }
+    ensures relocation { result ≡ based_relocation addresses.now values.now gp relocation.now }
+{
+    let Some(code) = low_code(relocation.code) else {
+        return *relocation;
+    };
+    let Some((register, address)) = base_of(addresses, values, gp, relocation) else {
+        return *relocation;
+    };
+    let word = with_base(register, window_at(section, relocation.offset));
+    overwrite(section, relocation.offset, &word.to_le_bytes());
+    let addend = relocation.addend.cast_unsigned().wrapping_sub(address);
+    Rela {
+        code,
+        addend: addend.cast_signed(),
+        ..*relocation
+    }
+}
+
+/// Writes the base of each low part of a section.
+fn set_bases(
+    addresses: &Addresses,
+    values: &[Symbol],
+    gp: u64,
+    relocations: &mut [u8],
+    section: &mut [u8],
+)
+    requires { (n : ℕ) → n < length relocations.old / 24
+        → is_placed addresses.now values.now gp section.old (relocation_in relocations.old n)
+        ≡ true }
+    ensures relocations { AreBased addresses.now values.now gp relocations.old relocations.new
+        (length relocations.old / 24) }
+    ensures section { section.new ≡ section_based addresses.now values.now gp relocations.old
+        section.old (length relocations.old / 24) }
+{
+    for index in 0..relocations_len(relocations) {
+        let relocation = relocation_in(relocations, index);
+        let based = set_base(addresses, values, gp, section, &relocation);
+        set_relocation(relocations, index, &based);
+    }
+}
+
+/// Writes the base of each low part that `rewrite_global_pointer` left without one, once all
+/// addresses are final and nothing else of the section will be deleted, and before its values are
+/// written: x0 where 12 bits hold S + A, and else x3. The relocation gets the type `R_RISCV_LO12_I`
+/// or `R_RISCV_LO12_S`, and an addend that is less by what the base has, so that its value is the
+/// distance from the base. Other relocations and other bytes stay.
+///
+/// # Errors
+///
+/// The section and its relocations are as before. The index of the first relocation whose S + A is
+/// neither within 2 KiB of `gp`, from 2,048 below it to 2,047 above it, nor of 0; whose symbol
+/// isn't in the table; or whose instruction isn't in the section.
+///
+/// ```
+/// use linker_rewriting::global_pointer::{GPREL_I, from_global_pointer};
+/// use linker_section::facts::{Addresses, Symbol};
+///
+/// // lw a0, %lo(x)(a0), whose lui was deleted, becomes lw a0, 5(gp), where x is 5 above gp
+/// let mut section = [0x03, 0x25, 0x05, 0];
+/// let mut relocations = [0; 24];
+/// relocations[8] = u8::try_from(GPREL_I).unwrap();
+/// let values = [Symbol { address: 0x2_0805, ..Symbol::default() }];
+/// let addresses = Addresses::default();
+/// from_global_pointer(&addresses, &values, 0x2_0800, &mut relocations, &mut section).unwrap();
+/// assert_eq!(section, [0x03, 0xa5, 0x01, 0]);
+/// // R_RISCV_LO12_I, whose value is x - 0x20800
+/// assert_eq!((relocations[8], &relocations[16..]), (27, &(-0x2_0800i64).to_le_bytes()[..]));
+/// ```
+pub fn from_global_pointer(
+    addresses: &Addresses,
+    values: &[Symbol],
+    gp: u64,
+    relocations: &mut [u8],
+    section: &mut [u8],
+) -> Result<(), usize>
+    ensures relocations { OnOk result (AreBased addresses.now values.now gp relocations.old
+        relocations.new (length relocations.old / 24)) }
+    ensures section { OnOk result (section.new ≡ section_based addresses.now values.now gp
+        relocations.old section.old (length relocations.old / 24)) }
+    ensures placed { OnOk result ((n : ℕ) → n < length relocations.old / 24
+        → is_placed addresses.now values.now gp section.old (relocation_in relocations.old n)
+        ≡ true) }
+    ensures first { IfErr result
+        (IsFirstUnplaced addresses.now values.now gp relocations.old section.old) }
+    ensures bytes { OnErr result (section.new ≡ section.old) }
+    ensures entries { OnErr result (relocations.new ≡ relocations.old) }
+{
+    match first_unplaced(addresses, values, gp, relocations, section) {
+        Some(index) => Err(index),
+        None => {
+            set_bases(addresses, values, gp, relocations, section);
+            Ok(())
+        }
+    }
+}

@@ -1,0 +1,143 @@
+//! RISC-V's addresses near the global pointer or 0, without their high part.
+
+ghost use Rattle.std.specs.Prelude.{◌≡◌, ◌/◌, length, IfSome, IfNone};
+ghost use Rattle.linker_rewriting.specs.Facts.{setting};
+ghost use Rattle.linker_rewriting.specs.GlobalPointer.{AreSymbolsSurveyed};
+ghost use Rattle.linker_utils.specs.Machines.{architecture_of};
+ghost use Rattle.linker_utils_c.specs.GlobalPointer.{ArePartsReturned, AreBasesReturned};
+ghost use Rattle.linker_utils_c.specs.Status.{code};
+
+use crate::deltas::Deletion;
+use crate::rewriting::{DecisionNumbers, put_error};
+use crate::status::Status;
+use linker_rewriting::facts::{OutputFacts, SymbolFacts};
+use linker_rewriting::global_pointer::{
+    from_global_pointer, rewrite_global_pointer, survey_global_pointer,
+};
+use linker_rewriting::phases::Phase;
+use linker_section::facts::{Addresses, Symbol};
+use linker_utils::elf::Architecture;
+
+/// Notes which symbols of an object keep the high part of their address, by one of its sections of
+/// code, as `survey_global_pointer` of `linker_rewriting`. `UnknownArchitecture`.
+#[unsafe(no_mangle)]
+pub extern "C" fn linker_utils_survey_global_pointer_nonnull(
+    machine: u16,
+    output: &OutputFacts,
+    symbols: &[SymbolFacts],
+    addresses: &Addresses,
+    values: &[Symbol],
+    global_pointer: u64,
+    relocations: &[u8],
+    section: &[u8],
+    kept: &mut [bool],
+) -> u32
+    ensures known { IfSome (architecture_of machine) (λ architecture. (result ≡ code Status.Success)
+        × AreSymbolsSurveyed (setting architecture Phase.Distances output.now symbols.now
+        addresses.now values.now) global_pointer relocations.now section.now kept.old kept.new
+        (length relocations.now / 24)) }
+    ensures unknown { IfNone (architecture_of machine)
+        ((result ≡ code Status.UnknownArchitecture) × (kept.new ≡ kept.old)) }
+{
+    let Some(architecture) = Architecture::from_machine(machine) else {
+        return Status::UnknownArchitecture.number();
+    };
+    survey_global_pointer(
+        architecture,
+        output,
+        symbols,
+        addresses,
+        values,
+        global_pointer,
+        relocations,
+        section,
+        kept,
+    );
+    Status::Success.number()
+}
+
+/// Has the high parts of addresses near the global pointer or 0 go, and turns the relocations of a
+/// section of code into those without them, as `rewrite_global_pointer` of `linker_rewriting`. What
+/// became of each relocation is in `decisions`, and what is to be deleted in the first
+/// `deleted_used` elements of `deleted`; the elements behind these are unchanged.
+///
+/// The first that applies of `UnknownArchitecture`; `ShortMemory`, where there are fewer decisions
+/// than relocations; `NotSurveyed`, of the relocation at `faulty`; and `ShortMemory`, where there
+/// are fewer elements of `deleted` than deletions. Then the relocations and `deleted_used` are
+/// unchanged.
+#[unsafe(no_mangle)]
+pub extern "C" fn linker_utils_rewrite_global_pointer_nonnull(
+    machine: u16,
+    output: &OutputFacts,
+    symbols: &[SymbolFacts],
+    addresses: &Addresses,
+    values: &[Symbol],
+    global_pointer: u64,
+    kept: &[bool],
+    relocations: &mut [u8],
+    section: &[u8],
+    decisions: &mut [DecisionNumbers],
+    deleted: &mut [Deletion],
+    deleted_used: &mut usize,
+    faulty: &mut usize,
+) -> u32
+    ensures known { IfSome (architecture_of machine) (λ architecture.
+        ArePartsReturned (setting architecture Phase.Distances output.now symbols.now addresses.now
+        values.now) global_pointer kept.now relocations.old relocations.new section.now
+        decisions.old decisions.new deleted.old deleted.new deleted_used.old deleted_used.new
+        faulty.old faulty.new result) }
+    ensures unknown { IfNone (architecture_of machine)
+        ((result ≡ code Status.UnknownArchitecture) × (relocations.new ≡ relocations.old)
+        × (decisions.new ≡ decisions.old) × (deleted.new ≡ deleted.old)
+        × (deleted_used.new ≡ deleted_used.old) × (faulty.new ≡ faulty.old)) }
+{
+    let Some(architecture) = Architecture::from_machine(machine) else {
+        return Status::UnknownArchitecture.number();
+    };
+    match rewrite_global_pointer(
+        architecture,
+        output,
+        symbols,
+        addresses,
+        values,
+        global_pointer,
+        kept,
+        relocations,
+        section,
+        decisions,
+        deleted,
+    ) {
+        Ok(len) => {
+            *deleted_used = len;
+            Status::Success.number()
+        }
+        Err(error) => put_error(error, faulty),
+    }
+}
+
+/// Writes the base of each low part of a section that has none, as `from_global_pointer` of
+/// `linker_rewriting`.
+///
+/// `OutOfReach`, where no base reaches what the relocation at `faulty` refers to, its symbol isn't
+/// in the table, or its instruction isn't in the section. Then the section and its relocations are
+/// unchanged.
+#[unsafe(no_mangle)]
+pub extern "C" fn linker_utils_from_global_pointer_nonnull(
+    addresses: &Addresses,
+    values: &[Symbol],
+    global_pointer: u64,
+    relocations: &mut [u8],
+    section: &mut [u8],
+    faulty: &mut usize,
+) -> u32
+    ensures { AreBasesReturned addresses.now values.now global_pointer relocations.old
+        relocations.new section.old section.new faulty.old faulty.new result }
+{
+    match from_global_pointer(addresses, values, global_pointer, relocations, section) {
+        Ok(()) => Status::Success.number(),
+        Err(index) => {
+            *faulty = index;
+            Status::OutOfReach.number()
+        }
+    }
+}

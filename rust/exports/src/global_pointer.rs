@@ -1,0 +1,114 @@
+// Made by tools/erase of crates/linker_utils_c/src/global_pointer.rt.
+//! RISC-V's addresses near the global pointer or 0, without their high part.
+
+use crate::deltas::Deletion;
+use crate::rewriting::{DecisionNumbers, put_error};
+use crate::status::Status;
+use linker_utils::rewriting::{OutputFacts, SymbolFacts};
+use linker_utils::rewriting::{
+    from_global_pointer, rewrite_global_pointer, survey_global_pointer,
+};
+use linker_utils::rewriting::Phase;
+use linker_utils::section::{Addresses, Symbol};
+use linker_utils::elf::Architecture;
+
+/// Notes which symbols of an object keep the high part of their address, by one of its sections of
+/// code, as `survey_global_pointer` of `linker_rewriting`. `UnknownArchitecture`.
+pub fn linker_utils_survey_global_pointer_nonnull(
+    machine: u16,
+    output: &OutputFacts,
+    symbols: &[SymbolFacts],
+    addresses: &Addresses,
+    values: &[Symbol],
+    global_pointer: u64,
+    relocations: &[u8],
+    section: &[u8],
+    kept: &mut [bool],
+) -> u32 {
+    let Some(architecture) = Architecture::from_machine(machine) else {
+        return Status::UnknownArchitecture.number();
+    };
+    survey_global_pointer(
+        architecture,
+        output,
+        symbols,
+        addresses,
+        values,
+        global_pointer,
+        relocations,
+        section,
+        kept,
+    );
+    Status::Success.number()
+}
+
+/// Has the high parts of addresses near the global pointer or 0 go, and turns the relocations of a
+/// section of code into those without them, as `rewrite_global_pointer` of `linker_rewriting`. What
+/// became of each relocation is in `decisions`, and what is to be deleted in the first
+/// `deleted_used` elements of `deleted`; the elements behind these are unchanged.
+///
+/// The first that applies of `UnknownArchitecture`; `ShortMemory`, where there are fewer decisions
+/// than relocations; `NotSurveyed`, of the relocation at `faulty`; and `ShortMemory`, where there
+/// are fewer elements of `deleted` than deletions. Then the relocations and `deleted_used` are
+/// unchanged.
+pub fn linker_utils_rewrite_global_pointer_nonnull(
+    machine: u16,
+    output: &OutputFacts,
+    symbols: &[SymbolFacts],
+    addresses: &Addresses,
+    values: &[Symbol],
+    global_pointer: u64,
+    kept: &[bool],
+    relocations: &mut [u8],
+    section: &[u8],
+    decisions: &mut [DecisionNumbers],
+    deleted: &mut [Deletion],
+    deleted_used: &mut usize,
+    faulty: &mut usize,
+) -> u32 {
+    let Some(architecture) = Architecture::from_machine(machine) else {
+        return Status::UnknownArchitecture.number();
+    };
+    match rewrite_global_pointer(
+        architecture,
+        output,
+        symbols,
+        addresses,
+        values,
+        global_pointer,
+        kept,
+        relocations,
+        section,
+        decisions,
+        deleted,
+    ) {
+        Ok(len) => {
+            *deleted_used = len;
+            Status::Success.number()
+        }
+        Err(error) => put_error(error, faulty),
+    }
+}
+
+/// Writes the base of each low part of a section that has none, as `from_global_pointer` of
+/// `linker_rewriting`.
+///
+/// `OutOfReach`, where no base reaches what the relocation at `faulty` refers to, its symbol isn't
+/// in the table, or its instruction isn't in the section. Then the section and its relocations are
+/// unchanged.
+pub fn linker_utils_from_global_pointer_nonnull(
+    addresses: &Addresses,
+    values: &[Symbol],
+    global_pointer: u64,
+    relocations: &mut [u8],
+    section: &mut [u8],
+    faulty: &mut usize,
+) -> u32 {
+    match from_global_pointer(addresses, values, global_pointer, relocations, section) {
+        Ok(()) => Status::Success.number(),
+        Err(index) => {
+            *faulty = index;
+            Status::OutOfReach.number()
+        }
+    }
+}
