@@ -251,15 +251,16 @@ pub fn choose(
 /// ```
 pub fn fits(name: AArch64Relocation, section: &[u8], offset: u64, facts: &LinkFacts) -> bool
     ensures { IsTrue result
-        ↔ Fits (rewrites.IsAArch64Choice name section.now offset) (choice kinds.NoOp name) facts.now }
+        ↔ Fits (rewrites.IsAArch64Choice name section.now offset)
+        (choice kinds.NoOp name) facts.now }
 {
     RelaxationKind::fits(name, section, offset, facts)
 }
 
 /// With the same facts, except that each has its own place, both relocations of a load of a GOT
 /// entry are rewritten or neither is; so are a high and a low half of initial-exec, wherever they
-/// are, at instructions that their rewrites are meant for; and of the four of a TLS descriptor all are
-/// rewritten for local-exec, all for initial-exec, or none is.
+/// are, at instructions that their rewrites are meant for; and of the four of a TLS descriptor all
+/// are rewritten for local-exec, all for initial-exec, or none is.
 pub fn relocations_are_chosen_alike()
     ensures got { rewrites.GotPairIsChosenAlike }
     ensures initial_exec { rewrites.InitialExecIsChosenAlike }

@@ -1,4 +1,5 @@
-//! What is packed by deltas that anyone owns: the positions of input offsets, and the bytes that stay.
+//! What is packed by deltas that anyone owns: the positions of input offsets,
+//! and the bytes that stay.
 
 ghost use Rattle.std.specs.Prelude.{◌≡◌, ◌+◌, ◌-◌, ◌≤◌, ◌<◌, ◌^◌, ◌++◌, length, min};
 ghost use Rattle.std.specs.Prelude.{take, drop};
@@ -130,8 +131,8 @@ fn position_at(deltas: &[RelaxDelta], begun: usize, input_offset: u64) -> Positi
 
 /// The position of an input offset, by a search.
 ///
-/// The deltas are as `SectionRelaxDeltas::deltas` lists them; of others nothing is promised but that
-/// the call is safe.
+/// The deltas are as `SectionRelaxDeltas::deltas` lists them; of others nothing is promised but
+/// that the call is safe.
 pub fn position_of(deltas: &[RelaxDelta], input_offset: u64) -> Position
     ensures offset { result.input_offset ≡ input_offset }
     ensures position { AreValidDeltas deltas.now → IsPosition deltas.now result }

@@ -74,8 +74,8 @@ immediate n ps =
 abbrev pub distance : ℕ → List ImmediateBit → Field
 distance n ps = record (immediate n ps) { read = twos_complement; flags = true }
 
--- A `Shift10` has an immediate of 16 bits where more than 12 bits of a value are taken, and else one
--- of 12.
+-- A `Shift10` has an immediate of 16 bits where more than 12 bits of a value are taken, and else
+-- one of 12.
 abbrev pub has_16_bits : BitRange → Bool
 has_16_bits bits = nat_lt 12 (bits.end - bits.start)
 

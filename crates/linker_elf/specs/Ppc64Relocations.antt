@@ -215,7 +215,8 @@ ppc64_relocation r.R_PPC64_D34_LO =
 ppc64_relocation r.R_PPC64_D34_HI30 =
     with_row 130 (codes "R_PPC64_D34_HI30") (bits_row Absolute 34 64 (Ppc64 Prefixed))
 ppc64_relocation r.R_PPC64_D34_HA30 =
-    with_row 131 (codes "R_PPC64_D34_HA30") (biased_row 0x200000000 (bits_row Absolute 34 64 (Ppc64 Prefixed)))
+    with_row 131 (codes "R_PPC64_D34_HA30")
+    (biased_row 0x200000000 (bits_row Absolute 34 64 (Ppc64 Prefixed)))
 ppc64_relocation r.R_PPC64_PCREL34 = with_row 132 (codes "R_PPC64_PCREL34") (prefixed_row Relative)
 ppc64_relocation r.R_PPC64_GOT_PCREL34 =
     with_row 133 (codes "R_PPC64_GOT_PCREL34") (prefixed_row GotRelative)

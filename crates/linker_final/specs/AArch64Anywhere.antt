@@ -42,8 +42,8 @@ IsAppliedAt name operands l at =
 
 -- Relocations of two names are applied to an instruction and to the one behind it, wherever a GOT
 -- entry is.
-pub record AreAppliedAt (first second : AArch64Relocation) (operands : Operands) (l : Linked) (at : ℕ)
-    : Type 0 where
+pub record AreAppliedAt (first second : AArch64Relocation) (operands : Operands) (l : Linked)
+    (at : ℕ) : Type 0 where
   pub entry : ℕ
   pub first_is : IsAppliedAt first (with_entry entry operands) l at
   pub second_is : IsAppliedAt second (behind 4 (with_entry entry operands)) l (at + 4)
@@ -131,8 +131,8 @@ EachDescriptorAnywhere high low first second Holds =
 abbrev pub OffsetIsAlikeAnywhere : Linked → ℕ → Type 0
 OffsetIsAlikeAnywhere l i =
     (operands : Operands)
-    → AreAppliedAt names.R_AARCH64_TLSLE_MOVW_TPREL_G1 names.R_AARCH64_TLSLE_MOVW_TPREL_G0_NC operands
-    l (relocation_in l.relocations i).offset
+    → AreAppliedAt names.R_AARCH64_TLSLE_MOVW_TPREL_G1 names.R_AARCH64_TLSLE_MOVW_TPREL_G0_NC
+    operands l (relocation_in l.relocations i).offset
     → OffsetIsAlike l i operands (λ s. ⊤)
 
 abbrev pub LoadedOffsetIsAlikeAnywhere : Linked → ℕ → Type 0

@@ -72,7 +72,8 @@ LoadIsAlike l i operands =
 abbrev pub LoadsTheSame : Linked → ℕ → RelocationKindInfo → Type 0
 LoadsTheSame l i row =
     let r = relocation_in l.relocations i in
-    (symbol : Symbol) → slice_get l.symbols r.symbol ≡ Some symbol → symbol.is_undefined_weak ≡ false
+    (symbol : Symbol) → slice_get l.symbols r.symbol ≡ Some symbol
+    → symbol.is_undefined_weak ≡ false
     → (entry : ℕ) → LoadIsAlike l i (operands_with AArch64 l.addresses row symbol r entry)
 
 -- ---- addresses by `adr`
@@ -102,7 +103,8 @@ AddressIsAlike l i operands =
 abbrev pub MakesTheSame : Linked → ℕ → RelocationKindInfo → Type 0
 MakesTheSame l i row =
     let r = relocation_in l.relocations i in
-    (symbol : Symbol) → slice_get l.symbols r.symbol ≡ Some symbol → symbol.is_undefined_weak ≡ false
+    (symbol : Symbol) → slice_get l.symbols r.symbol ≡ Some symbol
+    → symbol.is_undefined_weak ≡ false
     → AddressIsAlike l i (operands_with AArch64 l.addresses row symbol r 0)
 
 -- ---- the halves of initial-exec
@@ -117,7 +119,8 @@ HighIsAlike l i operands =
     let n = rd_of (word_of (instruction_at l.section o)) in
     (s t : State) (c : Changes) (adrp : List ℕ)
     → AreAddresses operands → s.pc ≡ operands.place → AgreeBut c s t → n ≢ 31
-    → IsRelocated names.R_AARCH64_TLSIE_ADR_GOTTPREL_PAGE21 operands (instruction_at l.section o) adrp
+    → IsRelocated names.R_AARCH64_TLSIE_ADR_GOTTPREL_PAGE21 operands
+    (instruction_at l.section o) adrp
     → StepSo (word_of adrp) s (word_of (instruction_at l.final o)) t
     (λ u v. AgreeBut (with_register n c) u v × HasHigh n operands u v)
 
@@ -132,7 +135,8 @@ LowIsAlike l i operands =
     → HasHigh n operands s t → AgreeBut c s t
     → IsRelocated names.R_AARCH64_TLSIE_LD64_GOTTPREL_LO12_NC operands (instruction_at l.section o)
     ldr
-    → StepSo (word_of ldr) s (word_of (instruction_at l.final o)) t (AgreeBut (without_register n c))
+    → StepSo (word_of ldr) s (word_of (instruction_at l.final o)) t
+    (AgreeBut (without_register n c))
 
 -- ---- TLS descriptors
 
@@ -142,9 +146,12 @@ pub record AreOfDescriptor (l : Linked) (high low : RelaxationKind) (i j k m : �
   pub first : AreNext l i j
   pub second : AreNext l j k
   pub third : AreNext l k m
-  pub page : IsNameOf aarch64_name (relocation_in l.relocations i).code names.R_AARCH64_TLSDESC_ADR_PAGE21
-  pub load : IsNameOf aarch64_name (relocation_in l.relocations j).code names.R_AARCH64_TLSDESC_LD64_LO12
-  pub add : IsNameOf aarch64_name (relocation_in l.relocations k).code names.R_AARCH64_TLSDESC_ADD_LO12
+  pub page : IsNameOf aarch64_name (relocation_in l.relocations i).code
+      names.R_AARCH64_TLSDESC_ADR_PAGE21
+  pub load : IsNameOf aarch64_name (relocation_in l.relocations j).code
+      names.R_AARCH64_TLSDESC_LD64_LO12
+  pub add : IsNameOf aarch64_name (relocation_in l.relocations k).code
+      names.R_AARCH64_TLSDESC_ADD_LO12
   pub call : IsNameOf aarch64_name (relocation_in l.relocations m).code names.R_AARCH64_TLSDESC_CALL
   pub page_chosen : Choice Relaxation ℕ
   pub page_decided : decision_at l.decisions i ≡ Rewritten page_chosen
@@ -169,8 +176,8 @@ OffsetIsAlike l i operands Holds =
     (instruction_at l.section (o + 8)) adrp ldr add
     → RunAlikeBehindCall call (scratch (rd_of (word_of (instruction_at l.section (o + 4)))) c)
     (four adrp ldr add (instruction_at l.section (o + 12)))
-    (four (instruction_at l.final o) (instruction_at l.final (o + 4)) (instruction_at l.final (o + 8))
-    (instruction_at l.final (o + 12))) s
+    (four (instruction_at l.final o) (instruction_at l.final (o + 4))
+    (instruction_at l.final (o + 8)) (instruction_at l.final (o + 12))) s
 
 -- of any descriptor's entry
 abbrev pub OffsetIsTheSame : Linked → ℕ → RelocationKindInfo → Type 0
@@ -204,7 +211,8 @@ BranchIsAlike name differing l i operands =
     → RunAlikeBut differing (word_of branch ∷ []) (word_of (instruction_at l.final o) ∷ []) s
 
 -- where no other relocation has a field in it
-abbrev pub BranchDoesTheSame : AArch64Relocation → (ℕ → Bool) → Linked → ℕ → RelocationKindInfo → Type 0
+abbrev pub BranchDoesTheSame : AArch64Relocation → (ℕ → Bool) → Linked → ℕ
+    → RelocationKindInfo → Type 0
 BranchDoesTheSame name differing l i row =
     let r = relocation_in l.relocations i in
     IsWrittenByNoOther l i r.offset

@@ -50,9 +50,11 @@ LoadsTwice =
 abbrev pub FinalBytesLoadTheSame : Linked → Linked → ℕ → RelocationKindInfo → Type 0
 FinalBytesLoadTheSame l m i row =
     let r = relocation_in l.relocations i in
-    (symbol : Symbol) → slice_get m.symbols r.symbol ≡ Some symbol → symbol.is_undefined_weak ≡ false
+    (symbol : Symbol) → slice_get m.symbols r.symbol ≡ Some symbol
+    → symbol.is_undefined_weak ≡ false
     → (entry : ℕ) → let operands = operands_with AArch64 m.addresses row symbol r entry in
-    AreAppliedAt names.R_AARCH64_ADR_PREL_PG_HI21 names.R_AARCH64_ADD_ABS_LO12_NC operands l r.offset
+    AreAppliedAt names.R_AARCH64_ADR_PREL_PG_HI21 names.R_AARCH64_ADD_ABS_LO12_NC
+    operands l r.offset
     → LoadIsAlike (record l { final = m.final }) i operands
 
 abbrev pub FinalLoadsTwice : Type 0
@@ -61,8 +63,8 @@ FinalLoadsTwice =
     → IsWrittenByNoOther m i (relocation_in m.relocations i).offset
     → IsSomeAnd (aarch64_row names.R_AARCH64_ADR_GOT_PAGE) (FinalBytesLoadTheSame l m i)
 
--- Instructions do what others do, but for registers, and those what others again do. So the first do
--- what the last do.
+-- Instructions do what others do, but for registers, and those what others again do. So the first
+-- do what the last do.
 abbrev pub RunsCompose : Type 0
 RunsCompose =
     (differing : ℕ → Bool) (old between new : List ℕ) (s : State)

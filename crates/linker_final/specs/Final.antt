@@ -184,7 +184,8 @@ linked_by first later relocations_last last addresses symbols final =
 -- of one phase and that call
 abbrev pub linked : Setting → List KeptGroups → List ℕ → List ℕ → List Decision → List ℕ → List ℕ
     → Addresses → List Symbol → List ℕ → Linked
-linked setting kept relocations section decisions relocations_after rewritten addresses symbols final =
+linked setting kept relocations section decisions relocations_after rewritten
+    addresses symbols final =
     linked_by
     (rewriting_phase setting kept relocations section decisions relocations_after rewritten) []
     relocations_after rewritten addresses symbols final

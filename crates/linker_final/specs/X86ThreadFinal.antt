@@ -137,10 +137,12 @@ BlockIsReplaced l i q row =
 -- The field of n bytes of the relocation at an index leads from the block's address, in the
 -- object's bytes with the relocation's value, to where it leads in the final ones from the thread
 -- pointer. The symbol isn't an undefined weak one.
-abbrev pub LeadsToTheSame : ℕ → (ℕ → ℕ) → X86_64Relocation → Linked → ℕ → RelocationKindInfo → Type 0
+abbrev pub LeadsToTheSame : ℕ → (ℕ → ℕ) → X86_64Relocation → Linked → ℕ
+    → RelocationKindInfo → Type 0
 LeadsToTheSame n read name l i row =
     let r = relocation_in l.relocations i in
-    (symbol : Symbol) → slice_get l.symbols r.symbol ≡ Some symbol → symbol.is_undefined_weak ≡ false
+    (symbol : Symbol)
+    → slice_get l.symbols r.symbol ≡ Some symbol → symbol.is_undefined_weak ≡ false
     → (entry block pointer : ℕ) (original : List ℕ)
     → let operands = operands_with X86_64 l.addresses row symbol r entry in
     AreAddresses operands → l.addresses.thread_origin < 2 ^ 64

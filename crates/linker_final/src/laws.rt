@@ -55,10 +55,10 @@ pub fn x86_64()
 /// address by two instructions that became one, each load of an address from the GOT that became a
 /// sum of its page and the rest, each half of initial-exec that became a move, each sequence of a
 /// TLS descriptor that became one of local-exec or of initial-exec, and each branch to an undefined
-/// weak symbol that became `nop`. The clauses named `anywhere` are of a call of rewriting alone: what
-/// each relocation became, and that the rewritten instructions do what the object's do once it is
-/// applied to them, whatever applies it. So another phase may come between: a load that became a sum,
-/// and then an `adr`, does what the object's does, also in the final bytes.
+/// weak symbol that became `nop`. The clauses named `anywhere` are of a call of rewriting alone:
+/// what each relocation became, and that the rewritten instructions do what the object's do once it
+/// is applied to them, whatever applies it. So another phase may come between: a load that became a
+/// sum, and then an `adr`, does what the object's does, also in the final bytes.
 pub fn aarch64()
     ensures addresses { aarch64_final.Addresses }
     ensures got_loads { aarch64_final.GotLoads }
@@ -139,9 +139,9 @@ pub fn loongarch64()
 /// PowerPC64: rewritten instructions do in the final bytes what the object's do. They are each
 /// `nop` behind a call that restores the TOC pointer, each high and low half of an address near the
 /// TOC pointer and near the thread pointer, each instruction of initial-exec, of general-dynamic
-/// and of local-dynamic TLS, and each load of an address from the GOT that became a sum. The clauses
-/// named `anywhere` are of a call of rewriting alone, as those of AArch64 are. Those named `twice` are
-/// of instructions that two calls rewrite, also in the final bytes.
+/// and of local-dynamic TLS, and each load of an address from the GOT that became a sum. The
+/// clauses named `anywhere` are of a call of rewriting alone, as those of AArch64 are. Those named
+/// `twice` are of instructions that two calls rewrite, also in the final bytes.
 pub fn ppc64()
     ensures calls { ppc64_final.Calls }
     ensures toc_halves { ppc64_final.TocHalves }

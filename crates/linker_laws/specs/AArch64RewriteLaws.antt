@@ -123,8 +123,8 @@ abbrev pub without_register : ℕ → Changes → Changes
 without_register n c = record c { registers = but n c.registers }
 
 -- The halves of initial-exec are rewritten each by itself, wherever they are. So two runs are
--- compared, of the object's code and of the new code, that agree but for what has a value that a high
--- half made. What else runs between the halves is the same instruction in both.
+-- compared, of the object's code and of the new code, that agree but for what has a value that a
+-- high half made. What else runs between the halves is the same instruction in both.
 
 -- Register n has what a high half of the variable makes: in the object's run the page of the GOT
 -- entry, and in the new one a number that has the offset's bits from 16 up.
@@ -149,8 +149,8 @@ HighHalfToMovz =
     (λ u v. AgreeBut (with_register (rd_of (word_of adrp)) c) u v
     × HasHigh (rd_of (word_of adrp)) o u v)
 
--- `ldr xN, [xN]` of the GOT entry, which the dynamic linker has set to the offset, where xN has what
--- a high half makes. Both leave the offset in xN.
+-- `ldr xN, [xN]` of the GOT entry, which the dynamic linker has set to the offset, where xN has
+-- what a high half makes. Both leave the offset in xN.
 abbrev pub LowHalfToMovk : Type 0
 LowHalfToMovk =
     (o : Operands) (s t : State) (c : Changes) (ldr movk : List ℕ)
@@ -239,11 +239,11 @@ LdrMadeAdr =
 
 -- ---- the offset of a variable from the thread pointer, by a TLS descriptor
 
--- What a descriptor's function may change is a parameter of the laws, which hold for any. By the ABI it
--- changes no register but X0, which has the offset, X30 and the flags (XT is the sequence's own). It
--- saves others below the stack pointer, and every function may write there. Where the thread has no
--- block yet, the function makes one: it writes that block, and what the dynamic linker and the
--- allocator keep for themselves.
+-- What a descriptor's function may change is a parameter of the laws, which hold for any. By the
+-- ABI it changes no register but X0, which has the offset, X30 and the flags (XT is the sequence's
+-- own). It saves others below the stack pointer, and every function may write there. Where the
+-- thread has no block yet, the function makes one: it writes that block, and what the dynamic
+-- linker and the allocator keep for themselves.
 
 -- The registers that the sequence of a descriptor leaves with no value that code may use: XT has
 -- the function's address, X30 that of the instruction behind the call, and the function may change

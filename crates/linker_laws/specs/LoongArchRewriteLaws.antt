@@ -1,5 +1,5 @@
--- LoongArch: rewritten sequences compute what the original ones do (LoongArch ELF psABI, relaxation and
--- the sequences of thread-local storage).
+-- LoongArch: rewritten sequences compute what the original ones do (LoongArch ELF psABI, relaxation
+-- and the sequences of thread-local storage).
 use Rattle.std.specs.Prelude.{◌≡◌, ◌≢◌, ℕ, Bool, false, ◌==◌, ◌||◌, List, [], ◌∷◌, take, drop, ◌<◌}
 use Rattle.std.specs.Prelude.{IsSomeAnd, IsTrue, ⊤, ◌/◌, ◌^◌, Option, Some, if◌then◌else◌}
 use Rattle.std.specs.Int.{w32, from_le_bytes}
@@ -144,11 +144,12 @@ with_register n c = record c { registers = also n c.registers }
 abbrev pub without_register : ℕ → Changes → Changes
 without_register n c = record c { registers = but n c.registers }
 
--- The instructions of initial-exec and of a descriptor are rewritten each by itself, wherever they
--- are. So two runs are compared, of the object's code and of the new code, that agree but for what has
--- a value that a high half made, and what a descriptor leaves. What else runs between them is the same
--- instruction in both. Each is at its own address, as where the new code was made shorter: `x` are the
--- operands in the object's layout, and `y` those in the new one. Both may be of one layout.
+-- The instructions of initial-exec and of a descriptor are rewritten each by itself, wherever
+-- they are. So two runs are compared, of the object's code and of the new code, that agree but
+-- for what has a value that a high half made, and what a descriptor leaves. What else runs
+-- between them is the same instruction in both. Each is at its own address, as where the new code
+-- was made shorter: `x` are the operands in the object's layout, and `y` those in the new one.
+-- Both may be of one layout.
 
 -- a register's number in the object's run, and in the new one
 pub record Has (n old new : ℕ) (s t : State) : Type 0 where
@@ -228,8 +229,8 @@ LowHalfToOriZero =
 
 -- ---- an address by `pcaddi`
 
--- Where the second instruction is deleted, the code behind it and the symbol may be elsewhere: `x` are
--- the operands in the old layout, and `y` those in the new one.
+-- Where the second instruction is deleted, the code behind it and the symbol may be elsewhere: `x`
+-- are the operands in the old layout, and `y` those in the new one.
 abbrev pub AddressToPcaddi : Type 0
 AddressToPcaddi =
     (x y : Operands) (s t : State) (pcala addi pcaddi : List ℕ) → IsPair IsAddi x s pcala addi
@@ -280,8 +281,8 @@ EntriesToPcaddi =
 
 -- ---- calls
 
--- Each state is at the target of its layout. They are alike but for the register of the `pcaddu18i` and
--- the link register, which has the address behind the call.
+-- Each state is at the target of its layout. They are alike but for the register of the `pcaddu18i`
+-- and the link register, which has the address behind the call.
 pub record HaveCalled (link base back new_back target new_target : ℕ) (s t : State) : Type 0 where
   pub alike : AreAlikeBut (λ m. m == link || m == base) s t
   pub links : link ≢ 0 → read link s ≡ back
@@ -336,12 +337,12 @@ pub record HaveShortened (differing : ℕ → Bool) (at new_at : ℕ) (s t : Sta
   pub new_next : t.pc ≡ new_at
 
 -- The three are also rewritten each by itself, wherever they are. So two runs are compared, of the
--- object's code and of the new code, that are alike but for some registers, each at its own address.
--- What else runs between them is the same instruction in both. The number of a register that differs
--- is known in the object's run, and is any in the new one.
+-- object's code and of the new code, that are alike but for some registers, each at its own
+-- address. What else runs between them is the same instruction in both. The number of a register
+-- that differs is known in the object's run, and is any in the new one.
 
--- The object's run has put a number in a register, and is behind its instruction. The other state is
--- that of the new run, in which the instruction is deleted.
+-- The object's run has put a number in a register, and is behind its instruction. The other state
+-- is that of the new run, in which the instruction is deleted.
 pub record HasPut (differing : ℕ → Bool) (n number behind : ℕ) (u t : State) : Type 0 where
   pub alike : AreAlikeBut (also n differing) u t
   pub number_there : n ≢ 0 → read n u ≡ number
@@ -477,8 +478,8 @@ pub record Descriptor (call : State → Option State) (c : Changes) (o : Operand
       → u.pc ≡ loaded 8 s.memory (entry_and_addend o) → read 4 u ≡ entry_and_addend o
       → call u ≡ Some v → ReturnsOffset c (thread_offset o) u v
 
--- What differs behind the call of a function that may change c, where d differed before it: not `a0`,
--- which has the offset, but `ra`, which has the address behind the call.
+-- What differs behind the call of a function that may change c, where d differed before it: not
+-- `a0`, which has the offset, but `ra`, which has the address behind the call.
 abbrev pub is_scratch : Changes → Changes → ℕ → Bool
 is_scratch c d n =
     if n == 4 then false else (n == 1 || (c.registers n || d.registers n))
@@ -491,11 +492,11 @@ behind_call c d =
       memory = λ a. c.memory a || d.memory a;
     }
 
--- `jirl ra, ra, 0`, where `ra` has the function's address, and `nop`: the new run is as the function
--- returns. By the psABI ("TLS Descriptors") the function changes no register but `a0`, and returns by
--- `ra`. It saves others below the stack pointer, and every function may write there. Where the thread
--- has no block yet, it makes one: it writes that block, and what the dynamic linker and the allocator
--- keep for themselves.
+-- `jirl ra, ra, 0`, where `ra` has the function's address, and `nop`: the new run is as the
+-- function returns. By the psABI ("TLS Descriptors") the function changes no register but `a0`, and
+-- returns by `ra`. It saves others below the stack pointer, and every function may write there.
+-- Where the thread has no block yet, it makes one: it writes that block, and what the dynamic
+-- linker and the allocator keep for themselves.
 abbrev pub CallOfDescriptorToNop : Type 0
 CallOfDescriptorToNop =
     (call : State → Option State) (c : Changes) (o : Operands) (s t : State) (d : Changes)

@@ -82,8 +82,8 @@ CallBecomesJal name =
     (AreCalled (rd_of (word_at section o)) (even plt_address x) (sum_64 x.place 8)
     (symbol_address y) (sum_64 y.place 4))
 
--- Shrinking and runs also make a `jal` of a call that links another register than that of its `auipc`,
--- in which the `auipc` leaves a part of the address.
+-- Shrinking and runs also make a `jal` of a call that links another register than that of its
+-- `auipc`, in which the `auipc` leaves a part of the address.
 pub record AreCalledOver (base rd target back new_target new_back : ℕ) (a b : Hart) : Type 0 where
   pub alike : AreAlike (λ r. r == base || r == rd) a b
   pub at_target : a.pc ≡ target
@@ -310,8 +310,8 @@ OffsetLuiIsDeleted =
     → EndSo 1 original h 0 new k
     (λ a b. HasZero differs (rd_of (word_at section o)) (sum_64 h.pc 4) a b × (b.pc ≡ k.pc))
 
--- An `add` that is deleted would put the thread pointer's number in its register, and change nothing
--- else.
+-- An `add` that is deleted would put the thread pointer's number in its
+-- register, and change nothing else.
 pub record HasThreadPointer (differs : ℕ → Bool) (rd number behind : ℕ) (a b : Hart) : Type 0 where
   pub alike : AreAlike (λ r. differs r || r == rd) a b
   pub number_there : rd ≢ 0 → register a rd ≡ number
@@ -431,11 +431,12 @@ pub record AreOfDescriptor (auipc ld addi jalr : ℕ) : Type 0 where
   pub apart : rd_of ld ≢ rd_of auipc
   pub function_not_a0 : rd_of ld ≢ a0
 
--- What a descriptor's function may change: registers, floating-point registers, and bytes of memory by
--- their addresses. The laws hold for any. By the psABI ("TLS Descriptors") it changes no register but
--- `a0`, which has the offset, and returns by `t0`. It saves others below the stack pointer, and every
--- function may write there. Where the thread has no block yet, the function makes one: it writes that
--- block, and what the dynamic linker and the allocator keep for themselves.
+-- What a descriptor's function may change: registers, floating-point registers, and bytes of
+-- memory by their addresses. The laws hold for any. By the psABI ("TLS Descriptors") it
+-- changes no register but `a0`, which has the offset, and returns by `t0`. It saves others
+-- below the stack pointer, and every function may write there. Where the thread has no block
+-- yet, the function makes one: it writes that block, and what the dynamic linker and the
+-- allocator keep for themselves.
 pub record Changes : Type 0 where
   pub registers : ℕ → Bool
   pub floats : ℕ → Bool
@@ -447,8 +448,8 @@ pub record AgreeBut (c : Changes) (a b : Hart) : Type 0 where
   pub floats : (r : ℕ) → c.floats r ≡ false → a.floats r ≡ b.floats r
   pub memory : (address : ℕ) → c.memory address ≡ false → a.memory address ≡ b.memory address
 
--- A descriptor's function, called in hart u, returns as v. It leaves the offset in `a0`, and keeps all
--- else, except what c names.
+-- A descriptor's function, called in hart u, returns as v. It leaves the offset in `a0`, and keeps
+-- all else, except what c names.
 pub record ReturnsOffset (c : Changes) (offset : ℕ) (u v : Hart) : Type 0 where
   pub offset_is : register v a0 ≡ offset
   pub others : (r : ℕ) → r ≢ a0 → c.registers r ≡ false → register v r ≡ register u r
@@ -456,9 +457,9 @@ pub record ReturnsOffset (c : Changes) (offset : ℕ) (u v : Hart) : Type 0 wher
   pub memory : (address : ℕ) → c.memory address ≡ false → v.memory address ≡ u.memory address
   pub back : v.pc ≡ register u t0
 
--- The four instructions are executed next. `call` says as which hart a called function returns, if it
--- does. The first 8 bytes of the descriptor have the address of a function that returns the offset
--- whenever `a0` has the descriptor's address.
+-- The four instructions are executed next. `call` says as which hart a called function returns, if
+-- it does. The first 8 bytes of the descriptor have the address of a function that returns the
+-- offset whenever `a0` has the descriptor's address.
 pub record Descriptor (call : Hart → Option Hart) (c : Changes) (x : Operands) (h : Hart)
     (auipc ld addi jalr : List ℕ) : Type 0 where
   pub small : AreAddresses x
@@ -482,8 +483,8 @@ pub record DescriptorOf (x : Operands) (auipc ld addi auipc_of ld_of addi_of : L
   pub third :
       Relocated ((riscv_relocation names.R_RISCV_TLSDESC_ADD_LO12).row) x addi addi_of
 
--- The registers that the sequence leaves with no value that code may use: rX and rY, `t0`, which has
--- the address behind the call, and those that the function may change. `a0` has the offset.
+-- The registers that the sequence leaves with no value that code may use: rX and rY, `t0`, which
+-- has the address behind the call, and those that the function may change. `a0` has the offset.
 abbrev pub is_scratch : ℕ → ℕ → (ℕ → Bool) → ℕ → Bool
 is_scratch x y changed r = if r == a0 then false else (r == t0 || r == x || r == y || changed r)
 
@@ -551,7 +552,8 @@ DescriptorToInitialExec =
     → EndAsReturned call (scratch_of auipc ld c) (auipc_of ++ ld_of ++ addi_of ++ jalr) h 2
     (high ++ low) k
 
--- ---- the address of a symbol, by its GOT entry or by the distance to it (psABI, linker relaxation)
+-- ---- the address of a symbol, by its GOT entry or by the distance to it
+-- (psABI, linker relaxation)
 
 -- `auipc rX`, and `ld rY` over rX
 pub record IsLoadFromGot (auipc ld : ℕ) : Type 0 where

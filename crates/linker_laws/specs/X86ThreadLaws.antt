@@ -166,16 +166,17 @@ LocalDynamic =
 
 -- ---- descriptors
 
--- registers and bytes of memory by their numbers and addresses, and whether the flags, that may differ
+-- registers and bytes of memory by their numbers and addresses, and whether
+-- the flags, that may differ
 pub record Changes : Type 0 where
   pub registers : ℕ → Bool
   pub memory : ℕ → Bool
   pub flags : Bool
 
--- What a call through a descriptor does ("TLS Descriptors"): it takes and returns rax, and keeps the
--- stack pointer. Flags may change, memory below the stack pointer, and what `changed` names, whichever
--- registers and bytes these are. By the ABI the function changes no other register. Where the thread
--- has no block yet, it makes one, as `__tls_get_addr` does.
+-- What a call through a descriptor does ("TLS Descriptors"): it takes and returns rax, and keeps
+-- the stack pointer. Flags may change, memory below the stack pointer, and what `changed` names,
+-- whichever registers and bytes these are. By the ABI the function changes no other register. Where
+-- the thread has no block yet, it makes one, as `__tls_get_addr` does.
 pub record IsDescriptorCall (size : ℕ) (changed : Changes) (returned : ℕ → ℕ) (s t : State) : Type 0
   where
     pub ip : t.ip ≡ sum_64 s.ip size
@@ -220,7 +221,8 @@ ReplacesDescriptor lea_code name kind after relocated Premise =
     IsSomeAnd (step (drop at (rewritten (x86_64_rewrite kinds.SkipTlsDescCall) calls at)) middle)
     (λ after.
     WritesNothing s after
-    × ((t : State) → IsDescriptorCall 2 changed returned before t → AgreeInRegisters changed t after))))
+    × ((t : State) → IsDescriptorCall 2 changed returned before t
+    → AgreeInRegisters changed t after))))
 
 abbrev pub DescriptorToLocalExec : Original → X86_64Relocation → Type 0
 DescriptorToLocalExec lea_code name =
@@ -243,10 +245,10 @@ Descriptors =
 
 -- ---- descriptors, each instruction by itself
 
--- The `lea` and the call are also rewritten each by itself, wherever they are and whatever register the
--- `lea` is into, from which code may copy the descriptor's address. So two runs are compared, of the
--- object's code and of the new code, that agree but for registers and bytes of memory, and maybe for
--- the flags. What else runs between them is the same instruction in both.
+-- The `lea` and the call are also rewritten each by itself, wherever they are and whatever register
+-- the `lea` is into, from which code may copy the descriptor's address. So two runs are compared,
+-- of the object's code and of the new code, that agree but for registers and bytes of memory, and
+-- maybe for the flags. What else runs between them is the same instruction in both.
 
 -- The states differ in no more than these.
 pub record AgreeBut (c : Changes) (s t : State) : Type 0 where
@@ -256,14 +258,14 @@ pub record AgreeBut (c : Changes) (s t : State) : Type 0 where
   pub memory : (a : ℕ) → c.memory a ≡ false → s.memory a ≡ t.memory a
   pub flags : c.flags ≡ false → s.flags ≡ t.flags
 
--- A register has the descriptor's address in the object's run, and the symbol's offset from the thread
--- pointer in the new one.
+-- A register has the descriptor's address in the object's run, and the symbol's offset from the
+-- thread pointer in the new one.
 pub record HasDescriptor (r : ℕ) (o : Operands) (s t : State) : Type 0 where
   pub old_is : s.register r ≡ o.got_entry
   pub new_is : t.register r ≡ thread_offset o
 
--- the register that the reg field of an instruction with an opcode of one byte names, behind REX, and
--- behind d5 and the byte of REX2
+-- the register that the reg field of an instruction with an opcode of one byte names, behind REX,
+-- and behind d5 and the byte of REX2
 abbrev pub reg_after_rex : List ℕ → ℕ
 reg_after_rex (p ∷ opcode ∷ m ∷ rest) = reg_of m + (rex_prefix p).reg
 reg_after_rex bytes = 0
@@ -315,8 +317,9 @@ LeaOfDescriptor =
     × LeaToOffset 4 names.R_X86_64_CODE_4_GOTPC32_TLSDESC reg_after_rex2
     × LeaToEntry 4 names.R_X86_64_CODE_4_GOTPC32_TLSDESC reg_after_rex2
 
--- What differs behind the call in state s of a descriptor's function, where c differed before it: not
--- rax, which has the offset, but memory below the stack pointer and what the function may change.
+-- What differs behind the call in state s of a descriptor's function, where c differed
+-- before it: not rax, which has the offset, but memory below the stack pointer and
+-- what the function may change.
 abbrev pub behind_call : Changes → State → Changes → Changes
 behind_call changed s c =
     record {
@@ -325,8 +328,8 @@ behind_call changed s c =
       flags = true;
     }
 
--- `call *x@tlscall(%rax)`, where rax has the descriptor's address in the object's run, and the `nop`,
--- which writes no memory
+-- `call *x@tlscall(%rax)`, where rax has the descriptor's address in the object's run, and the
+-- `nop`, which writes no memory
 abbrev pub CallOfDescriptor : Type 0
 CallOfDescriptor =
     (o : Operands) (s t : State) (c : Changes) (changed : Changes) (returned : ℕ → ℕ)

@@ -1,5 +1,5 @@
-//! Laws of relocations and of rewrites. The functions do nothing, and the contract of each has the laws
-//! of one architecture.
+//! Laws of relocations and of rewrites. The functions do nothing, and the contract of each has the
+//! laws of one architecture.
 #![tactic(auto)]
 
 pub mod relocations;

@@ -33,10 +33,10 @@ pub fn aarch64()
     ensures fields { aarch64_laws.Fields }
 {}
 
-/// LoongArch: `pcalau12i` with an instruction that adds 12 bits, or with a `jirl`, and the five instructions for 64
-/// bits, also through the GOT and for each model of TLS; numbers of 32 and of 64 bits by parts;
-/// branches, `pcaddi` and calls; differences of labels. In pairs the value of the high part, which
-/// nothing else checks, is a number of 32 bits.
+/// LoongArch: `pcalau12i` with an instruction that adds 12 bits, or with a `jirl`, and the five
+/// instructions for 64 bits, also through the GOT and for each model of TLS; numbers of 32 and of
+/// 64 bits by parts; branches, `pcaddi` and calls; differences of labels. In pairs the value of the
+/// high part, which nothing else checks, is a number of 32 bits.
 pub fn loongarch64()
     ensures relative { loongarch_laws.RelativeAddresses }
     ensures page_jumps { loongarch_laws.PageJumps }

@@ -1,10 +1,10 @@
 //! Laws of rewrites: the instructions after a rewrite compute what those before it do.
 //!
-//! The functions do nothing, and the contract of each has the laws of one architecture, which are the
-//! fields of `Laws` in `specs/`. They are over a machine that executes the instructions that rewrites
-//! read or write: from the same state the instructions before a rewrite and those after it, each with
-//! their relocations applied, end in states that are alike. Further clauses are examples of what the
-//! machine does.
+//! The functions do nothing, and the contract of each has the laws of one architecture, which are
+//! the fields of `Laws` in `specs/`. They are over a machine that executes the instructions that
+//! rewrites read or write: from the same state the instructions before a rewrite and those after
+//! it, each with their relocations applied, end in states that are alike. Further clauses are
+//! examples of what the machine does.
 
 ghost use Rattle.linker_laws.specs.AArch64RewriteLaws as aarch64_laws;
 ghost use Rattle.linker_laws.specs.AArch64Worked as aarch64_worked;
@@ -19,8 +19,8 @@ ghost use Rattle.linker_laws.specs.X86ThreadLaws as x86_thread_laws;
 /// AArch64: the address of a symbol without its GOT entry, or by `adr`; the offset of a variable
 /// from the thread pointer by moves, or by its GOT entry in place of a descriptor's function; `nop`
 /// in place of a branch to an undefined weak symbol. The halves of initial-exec have a law each
-/// (`high_half`, `low_half`), of two runs, whatever stands between them. The bytes of instructions may
-/// be a section's, from the instruction on (`sections`).
+/// (`high_half`, `low_half`), of two runs, whatever stands between them. The bytes of instructions
+/// may be a section's, from the instruction on (`sections`).
 pub fn aarch64()
     ensures laws { aarch64_laws.Laws }
     ensures steps { aarch64_worked.WorkedSteps }
@@ -29,30 +29,32 @@ pub fn aarch64()
     crate::relocations::aarch64();
 }
 
-/// PowerPC64: the address of a symbol by its distance from the TOC pointer or from the instruction and
-/// not by its GOT entry, and by one instruction where the distance from the TOC pointer has no high part;
-/// the address of a variable, and loads and stores of it, by its offset from the thread pointer and not
-/// by a GOT entry or a call of `__tls_get_addr`; what is left in a register by one instruction of such a
-/// sequence, in the small code model and where the argument of `__tls_get_addr` is copied; the TOC
-/// pointer at the entry of a function, by its address, and restored behind a call. The high and the low
-/// halves, the arguments of `__tls_get_addr` and its calls have a law each (from `high_half` to
-/// `call_block`), of two runs, whatever stands between them.
+/// PowerPC64: the address of a symbol by its distance from the TOC pointer or from the
+/// instruction and not by its GOT entry, and by one instruction where the distance from the TOC
+/// pointer has no high part; the address of a variable, and loads and stores of it, by its offset
+/// from the thread pointer and not by a GOT entry or a call of `__tls_get_addr`; what is left in
+/// a register by one instruction of such a sequence, in the small code model and where the
+/// argument of `__tls_get_addr` is copied; the TOC pointer at the entry of a function, by its
+/// address, and restored behind a call. The high and the low halves, the arguments of
+/// `__tls_get_addr` and its calls have a law each (from `high_half` to `call_block`), of two
+/// runs, whatever stands between them.
 pub fn ppc64()
     ensures laws { ppc64_laws.Laws }
 {
     crate::relocations::ppc64();
 }
 
-/// RISC-V: a call that becomes `jal`, and a tail call that becomes `jal` or `c.j`, go to the target
-/// of their layout, and a call links the address behind it, also in another register than that of its
-/// `auipc`; `c.lui` puts in its register what `lui` does; so does `c.li` of 0 where the high part is
-/// 0, in place of a `c.lui` that can't have that; a `lui` that is deleted would put 0 there, so that
-/// x0 can be the base of the instructions that add its low part. All else that a program sees is the
-/// same, but for the register of the `auipc` of a call that doesn't link it and that of a deleted
-/// `lui`. Where the offset of a variable has 12 bits, the thread pointer is the base in place of a
-/// register that would have its number, and the instruction over it does alone what it does behind
-/// `lui` and `add`. The offset of a variable is in the instructions, or in its GOT entry, in place of
-/// a descriptor; a symbol's address is computed in place of a load from the GOT.
+/// RISC-V: a call that becomes `jal`, and a tail call that becomes `jal` or `c.j`, go to the
+/// target of their layout, and a call links the address behind it, also in another register than
+/// that of its `auipc`; `c.lui` puts in its register what `lui` does; so does `c.li` of 0 where
+/// the high part is 0, in place of a `c.lui` that can't have that; a `lui` that is deleted would
+/// put 0 there, so that x0 can be the base of the instructions that add its low part. All else
+/// that a program sees is the same, but for the register of the `auipc` of a call that doesn't
+/// link it and that of a deleted `lui`. Where the offset of a variable has 12 bits, the thread
+/// pointer is the base in place of a register that would have its number, and the instruction over
+/// it does alone what it does behind `lui` and `add`. The offset of a variable is in the
+/// instructions, or in its GOT entry, in place of a descriptor; a symbol's address is computed in
+/// place of a load from the GOT.
 pub fn riscv64()
     ensures laws { riscv_laws.Laws }
     ensures words { riscv_examples.Words }
@@ -67,9 +69,9 @@ pub fn riscv64()
 /// entry for general- or local-dynamic; the offset of a variable from the thread pointer in the
 /// instructions, in one of them, or by its GOT entry in place of a descriptor's function; loads,
 /// stores and additions over the thread pointer; a call by `b` or `bl`. Each instruction of
-/// initial-exec, of local-exec and of a descriptor has a law of its own, of two runs, whatever stands
-/// between them. There, and where an instruction is deleted, the code before and after the rewrite may
-/// stand at different addresses, each with its relocations applied.
+/// initial-exec, of local-exec and of a descriptor has a law of its own, of two runs, whatever
+/// stands between them. There, and where an instruction is deleted, the code before and after the
+/// rewrite may stand at different addresses, each with its relocations applied.
 pub fn loongarch64()
     ensures laws { loongarch_laws.Laws }
 {
@@ -78,11 +80,11 @@ pub fn loongarch64()
 
 /// x86-64: with no prefix, with REX, REX2 and EVEX, an instruction that takes an address or an
 /// offset from the GOT, and what a rewrite leaves of it, take every state to the same state. The
-/// sequences of general-dynamic, initial-exec and local-exec TLS have the same result in rax, also in
-/// the large code model, and so have descriptors, whose `lea`, into any register, and call have a law
-/// each too, of two runs, whatever stands between them. Where local-dynamic TLS becomes local-exec, rax
-/// and the offset that is added to it have the same sum. The examples are bytes of assemblers and
-/// results of a processor; those of EVEX are of the decoding alone.
+/// sequences of general-dynamic, initial-exec and local-exec TLS have the same result in rax, also
+/// in the large code model, and so have descriptors, whose `lea`, into any register, and call have
+/// a law each too, of two runs, whatever stands between them. Where local-dynamic TLS becomes
+/// local-exec, rax and the offset that is added to it have the same sum. The examples are bytes of
+/// assemblers and results of a processor; those of EVEX are of the decoding alone.
 pub fn x86_64()
     ensures laws { x86_laws.Laws }
     ensures thread_laws { x86_thread_laws.Laws }

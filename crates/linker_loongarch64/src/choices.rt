@@ -19,8 +19,8 @@ use linker_elf::elf::choice_table::{
 use linker_elf::elf::{Choice, LinkFacts, Operands};
 use linker_elf::loongarch64::{LoongArch64Relocation, LoongArch64Relocation as Names};
 
-/// Whether `pcalau12i rd`, at an offset, and an instruction of an opcode from rd into rd stand next to
-/// each other.
+/// Whether `pcalau12i rd`, at an offset, and an instruction of an opcode from rd into rd stand next
+/// to each other.
 #[inline]
 fn is_pair(section: &[u8], offset: u64, opcode: u32) -> bool
     ensures { IsTrue result
@@ -289,7 +289,8 @@ pub fn choose(
 /// ```
 pub fn fits(name: LoongArch64Relocation, section: &[u8], offset: u64, facts: &LinkFacts) -> bool
     ensures { IsTrue result
-        ↔ Fits (rewrites.IsLoongArchChoice name section.now offset) (choice kinds.NoOp name) facts.now }
+        ↔ Fits (rewrites.IsLoongArchChoice name section.now offset)
+        (choice kinds.NoOp name) facts.now }
 {
     RelaxationKind::fits(name, section, offset, facts)
 }

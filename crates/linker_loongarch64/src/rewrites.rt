@@ -302,7 +302,8 @@ impl RelaxationKind {
     #[inline]
     pub fn matches(self, section: &[u8], offset: u64) -> bool
         ensures exactly { IsTrue result ↔ loongarch_matches self section.now offset }
-        ensures rewritable { IsTrue result → CanRewrite (loongarch_rewrite self) section.now offset }
+        ensures rewritable { IsTrue result
+            → CanRewrite (loongarch_rewrite self) section.now offset }
     {
         if let RelaxationKind::NoOp = self {
             return true;

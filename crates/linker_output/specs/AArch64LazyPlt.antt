@@ -24,7 +24,8 @@ is_stp word = word / 2 ^ 22 == 0x2a6
 
 -- the immediate is in units of 8 bytes
 abbrev pub pair_address : ℕ → State → ℕ
-pair_address word s = in_64_bits (pos (s.registers (rn_of word)) +ℤ (signed 7 (field word 15 22) *ℤ pos 8))
+pair_address word s =
+    in_64_bits (pos (s.registers (rn_of word)) +ℤ (signed 7 (field word 15 22) *ℤ pos 8))
 
 -- Both registers are stored, one behind the other, and the base becomes their address.
 abbrev pub pair_stored : ℕ → State → State

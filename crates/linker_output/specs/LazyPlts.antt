@@ -45,11 +45,14 @@ aarch64_header =
     -- `stp x16, x30, [sp, -16]!`
     fixed (code_of_words (0xa9bf7bf0 ∷ []))
     -- `adrp x16, 0`
-    ∷ with_field (code_of_words (0x90000010 ∷ [])) (field_of 0 (aarch64_name aarch64.R_AARCH64_ADR_PREL_PG_HI21)) Word 4 (pos 16)
+    ∷ with_field (code_of_words (0x90000010 ∷ []))
+    (field_of 0 (aarch64_name aarch64.R_AARCH64_ADR_PREL_PG_HI21)) Word 4 (pos 16)
     -- `ldr x17, [x16, 0]`
-    ∷ with_field (code_of_words (0xf9400211 ∷ [])) (field_of 0 (aarch64_name aarch64.R_AARCH64_LDST64_ABS_LO12_NC)) Word 4 (pos 16)
+    ∷ with_field (code_of_words (0xf9400211 ∷ []))
+    (field_of 0 (aarch64_name aarch64.R_AARCH64_LDST64_ABS_LO12_NC)) Word 4 (pos 16)
     -- `add x16, x16, 0`
-    ∷ with_field (code_of_words (0x91000210 ∷ [])) (field_of 0 (aarch64_name aarch64.R_AARCH64_ADD_ABS_LO12_NC)) Word 4 (pos 16)
+    ∷ with_field (code_of_words (0x91000210 ∷ []))
+    (field_of 0 (aarch64_name aarch64.R_AARCH64_ADD_ABS_LO12_NC)) Word 4 (pos 16)
     -- `br x17`, `nop`
     ∷ fixed (code_of_words (0xd61f0220 ∷ 0xd503201f ∷ []))
     -- `nop`, `nop`
@@ -58,11 +61,14 @@ aarch64_header =
 abbrev pub aarch64_entry : List LazyPiece
 aarch64_entry =
     -- `adrp x16, 0`
-    with_field (code_of_words (0x90000010 ∷ [])) (field_of 0 (aarch64_name aarch64.R_AARCH64_ADR_PREL_PG_HI21)) Word 0 (pos 0)
+    with_field (code_of_words (0x90000010 ∷ []))
+    (field_of 0 (aarch64_name aarch64.R_AARCH64_ADR_PREL_PG_HI21)) Word 0 (pos 0)
     -- `ldr x17, [x16, 0]`
-    ∷ with_field (code_of_words (0xf9400211 ∷ [])) (field_of 0 (aarch64_name aarch64.R_AARCH64_LDST64_ABS_LO12_NC)) Word 0 (pos 0)
+    ∷ with_field (code_of_words (0xf9400211 ∷ []))
+    (field_of 0 (aarch64_name aarch64.R_AARCH64_LDST64_ABS_LO12_NC)) Word 0 (pos 0)
     -- `add x16, x16, 0`
-    ∷ with_field (code_of_words (0x91000210 ∷ [])) (field_of 0 (aarch64_name aarch64.R_AARCH64_ADD_ABS_LO12_NC)) Word 0 (pos 0)
+    ∷ with_field (code_of_words (0x91000210 ∷ []))
+    (field_of 0 (aarch64_name aarch64.R_AARCH64_ADD_ABS_LO12_NC)) Word 0 (pos 0)
     -- `br x17`
     ∷ fixed (code_of_words (0xd61f0220 ∷ [])) ∷ []
 
@@ -80,15 +86,18 @@ aarch64_lazy_plt =
 abbrev pub loongarch_header : List LazyPiece
 loongarch_header =
     -- `pcaddu12i $t2, 0`
-    with_field (code_of_words (0x1c00000e ∷ [])) (field_of_32 0 (loongarch_name loongarch.R_LARCH_TLS_LE_HI20_R)) Word 0 (pos 0)
+    with_field (code_of_words (0x1c00000e ∷ []))
+    (field_of_32 0 (loongarch_name loongarch.R_LARCH_TLS_LE_HI20_R)) Word 0 (pos 0)
     -- `sub.d $t1, $t1, $t3`
     ∷ fixed (code_of_words (0x0011bdad ∷ []))
     -- `ld.d $t3, $t2, 0`
-    ∷ with_field (code_of_words (0x28c001cf ∷ [])) (field_of 0 (loongarch_name loongarch.R_LARCH_TLS_LE_LO12_R)) Word 0 (pos 0)
+    ∷ with_field (code_of_words (0x28c001cf ∷ []))
+    (field_of 0 (loongarch_name loongarch.R_LARCH_TLS_LE_LO12_R)) Word 0 (pos 0)
     -- `addi.d $t1, $t1, -44`
     ∷ fixed (code_of_words (0x02ff51ad ∷ []))
     -- `addi.d $t0, $t2, 0`
-    ∷ with_field (code_of_words (0x02c001cc ∷ [])) (field_of 0 (loongarch_name loongarch.R_LARCH_TLS_LE_LO12_R)) Word 0 (pos 0)
+    ∷ with_field (code_of_words (0x02c001cc ∷ []))
+    (field_of 0 (loongarch_name loongarch.R_LARCH_TLS_LE_LO12_R)) Word 0 (pos 0)
     -- `srli.d $t1, $t1, 1`, `ld.d $t0, $t0, 8`
     ∷ fixed (code_of_words (0x004505ad ∷ 0x28c0218c ∷ []))
     -- `jr $t3`
@@ -97,9 +106,11 @@ loongarch_header =
 abbrev pub loongarch_entry : List LazyPiece
 loongarch_entry =
     -- `pcaddu12i $t3, 0`
-    with_field (code_of_words (0x1c00000f ∷ [])) (field_of_32 0 (loongarch_name loongarch.R_LARCH_TLS_LE_HI20_R)) Word 0 (pos 0)
+    with_field (code_of_words (0x1c00000f ∷ []))
+    (field_of_32 0 (loongarch_name loongarch.R_LARCH_TLS_LE_HI20_R)) Word 0 (pos 0)
     -- `ld.d $t3, $t3, 0`
-    ∷ with_field (code_of_words (0x28c001ef ∷ [])) (field_of 0 (loongarch_name loongarch.R_LARCH_TLS_LE_LO12_R)) Word 0 (pos 0)
+    ∷ with_field (code_of_words (0x28c001ef ∷ []))
+    (field_of 0 (loongarch_name loongarch.R_LARCH_TLS_LE_LO12_R)) Word 0 (pos 0)
     -- `jirl $t1, $t3, 0`, `nop`
     ∷ fixed (code_of_words (0x4c0001ed ∷ 0x03400000 ∷ [])) ∷ []
 
@@ -131,12 +142,14 @@ ppc64_header =
     -- `bctr`
     ∷ fixed (code_of_words (0x4e800420 ∷ []))
     -- how far `.plt` is above the third instruction
-    ∷ with_field (0 ∷ 0 ∷ 0 ∷ 0 ∷ 0 ∷ 0 ∷ 0 ∷ 0 ∷ []) (field_of 0 (ppc64_name ppc64.R_PPC64_REL64)) Word 8 (pos 0) ∷ []
+    ∷ with_field (0 ∷ 0 ∷ 0 ∷ 0 ∷ 0 ∷ 0 ∷ 0 ∷ 0 ∷ [])
+    (field_of 0 (ppc64_name ppc64.R_PPC64_REL64)) Word 8 (pos 0) ∷ []
 
 abbrev pub ppc64_entry : List LazyPiece
 ppc64_entry =
     -- `b header`
-    with_field (code_of_words (0x48000000 ∷ [])) (field_of 0 (ppc64_name ppc64.R_PPC64_REL24)) Header 0 (pos 0) ∷ []
+    with_field (code_of_words (0x48000000 ∷ []))
+    (field_of 0 (ppc64_name ppc64.R_PPC64_REL24)) Header 0 (pos 0) ∷ []
 
 abbrev pub ppc64_lazy_plt : PltCode
 ppc64_lazy_plt =
@@ -152,15 +165,18 @@ ppc64_lazy_plt =
 abbrev pub riscv_header : List LazyPiece
 riscv_header =
     -- `auipc t2, 0`
-    with_field (code_of_words (0x00000397 ∷ [])) (field_of 0 (riscv_name riscv.R_RISCV_PCREL_HI20)) Word 0 (pos 0)
+    with_field (code_of_words (0x00000397 ∷ []))
+    (field_of 0 (riscv_name riscv.R_RISCV_PCREL_HI20)) Word 0 (pos 0)
     -- `sub t1, t1, t3`
     ∷ fixed (code_of_words (0x41c30333 ∷ []))
     -- `ld t3, 0(t2)`
-    ∷ with_field (code_of_words (0x0003be03 ∷ [])) (field_of 0 (riscv_name riscv.R_RISCV_PCREL_LO12_I)) Word 0 (pos 0)
+    ∷ with_field (code_of_words (0x0003be03 ∷ []))
+    (field_of 0 (riscv_name riscv.R_RISCV_PCREL_LO12_I)) Word 0 (pos 0)
     -- `addi t1, t1, -44`
     ∷ fixed (code_of_words (0xfd430313 ∷ []))
     -- `addi t0, t2, 0`
-    ∷ with_field (code_of_words (0x00038293 ∷ [])) (field_of 0 (riscv_name riscv.R_RISCV_PCREL_LO12_I)) Word 0 (pos 0)
+    ∷ with_field (code_of_words (0x00038293 ∷ []))
+    (field_of 0 (riscv_name riscv.R_RISCV_PCREL_LO12_I)) Word 0 (pos 0)
     -- `srli t1, t1, 1`, `ld t0, 8(t0)`
     ∷ fixed (code_of_words (0x00135313 ∷ 0x0082b283 ∷ []))
     -- `jr t3`
@@ -169,9 +185,11 @@ riscv_header =
 abbrev pub riscv_entry : List LazyPiece
 riscv_entry =
     -- `auipc t3, 0`
-    with_field (code_of_words (0x00000e17 ∷ [])) (field_of 0 (riscv_name riscv.R_RISCV_PCREL_HI20)) Word 0 (pos 0)
+    with_field (code_of_words (0x00000e17 ∷ []))
+    (field_of 0 (riscv_name riscv.R_RISCV_PCREL_HI20)) Word 0 (pos 0)
     -- `ld t3, 0(t3)`
-    ∷ with_field (code_of_words (0x000e3e03 ∷ [])) (field_of 0 (riscv_name riscv.R_RISCV_PCREL_LO12_I)) Word 0 (pos 0)
+    ∷ with_field (code_of_words (0x000e3e03 ∷ []))
+    (field_of 0 (riscv_name riscv.R_RISCV_PCREL_LO12_I)) Word 0 (pos 0)
     -- `jalr t1, t3`, `nop`
     ∷ fixed (code_of_words (0x000e0367 ∷ 0x00000013 ∷ [])) ∷ []
 
@@ -189,20 +207,25 @@ riscv_lazy_plt =
 abbrev pub x86_64_header : List LazyPiece
 x86_64_header =
     -- `push 8+words(%rip)`
-    with_field (0xff ∷ 0x35 ∷ 0 ∷ 0 ∷ 0 ∷ 0 ∷ []) (field_of 2 (x86_64_name x86_64.R_X86_64_PC32)) Word 2 (pos 4)
+    with_field (0xff ∷ 0x35 ∷ 0 ∷ 0 ∷ 0 ∷ 0 ∷ [])
+    (field_of 2 (x86_64_name x86_64.R_X86_64_PC32)) Word 2 (pos 4)
     -- `jmp *16+words(%rip)`
-    ∷ with_field (0xff ∷ 0x25 ∷ 0 ∷ 0 ∷ 0 ∷ 0 ∷ []) (field_of 2 (x86_64_name x86_64.R_X86_64_PC32)) Word 8 (pos 12)
+    ∷ with_field (0xff ∷ 0x25 ∷ 0 ∷ 0 ∷ 0 ∷ 0 ∷ [])
+    (field_of 2 (x86_64_name x86_64.R_X86_64_PC32)) Word 8 (pos 12)
     -- `nopl 0(%rax)`
     ∷ fixed (0x0f ∷ 0x1f ∷ 0x40 ∷ 0 ∷ []) ∷ []
 
 abbrev pub x86_64_entry : List LazyPiece
 x86_64_entry =
     -- `jmp *word(%rip)`
-    with_field (0xff ∷ 0x25 ∷ 0 ∷ 0 ∷ 0 ∷ 0 ∷ []) (field_of 2 (x86_64_name x86_64.R_X86_64_PC32)) Word 2 (negsuc 3)
+    with_field (0xff ∷ 0x25 ∷ 0 ∷ 0 ∷ 0 ∷ 0 ∷ [])
+    (field_of 2 (x86_64_name x86_64.R_X86_64_PC32)) Word 2 (negsuc 3)
     -- `push index`
-    ∷ with_field (0x68 ∷ 0 ∷ 0 ∷ 0 ∷ 0 ∷ []) (field_of 1 (x86_64_name x86_64.R_X86_64_32S)) Index 0 (pos 0)
+    ∷ with_field (0x68 ∷ 0 ∷ 0 ∷ 0 ∷ 0 ∷ [])
+    (field_of 1 (x86_64_name x86_64.R_X86_64_32S)) Index 0 (pos 0)
     -- `jmp header`
-    ∷ with_field (0xe9 ∷ 0 ∷ 0 ∷ 0 ∷ 0 ∷ []) (field_of 1 (x86_64_name x86_64.R_X86_64_PC32)) Header 12 (negsuc 3) ∷ []
+    ∷ with_field (0xe9 ∷ 0 ∷ 0 ∷ 0 ∷ 0 ∷ [])
+    (field_of 1 (x86_64_name x86_64.R_X86_64_PC32)) Header 12 (negsuc 3) ∷ []
 
 abbrev pub x86_64_lazy_plt : PltCode
 x86_64_lazy_plt =

@@ -24,4 +24,5 @@ continue_by pc next rest (Some s) = if pc s == next then rest s else None
 abbrev pub run_by : {S : Type 0} → (S → ℕ) → (ℕ → S → Option S) → List ℕ → S → Option S
 run_by pc step [] s = Some s
 run_by pc step (word ∷ []) s = step word s
-run_by pc step (word ∷ words) s = continue_by pc (sum_64 (pc s) 4) (run_by pc step words) (step word s)
+run_by pc step (word ∷ words) s =
+    continue_by pc (sum_64 (pc s) 4) (run_by pc step words) (step word s)

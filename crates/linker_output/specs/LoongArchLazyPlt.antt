@@ -80,7 +80,8 @@ Resolves =
     → entry.header < 2 ^ 64 → entry.index < 2 ^ 59
     → entry.address ≡ sum_64 entry.header (32 + 16 * entry.index)
     → (code : List ℕ) → IsCode LoongArch64 loongarch_entry entry code
-    → (header : List ℕ) → IsCode LoongArch64 loongarch_header (header_places entry.header first) header
+    → (header : List ℕ)
+    → IsCode LoongArch64 loongarch_header (header_places entry.header first) header
     → (resolver object : ℕ) → resolver < 2 ^ 64
     → (s : State) → s.pc ≡ entry.address → loaded 8 s.memory entry.word ≡ entry.header
     → loaded 8 s.memory first ≡ resolver → loaded 8 s.memory (sum_64 first 8) ≡ object

@@ -94,7 +94,8 @@ ppc64_output =
             loads =
                 load_of (ppc64_name r.R_PPC64_TOC16_HA) (ppc64_name r.R_PPC64_GOT16_HA)
                 ∷ load_of (ppc64_name r.R_PPC64_TOC16_LO) (ppc64_name r.R_PPC64_GOT16_LO)
-                ∷ load_of (ppc64_name r.R_PPC64_TOC16_LO_DS) (ppc64_name r.R_PPC64_GOT16_LO_DS) ∷ [];
+                ∷ load_of (ppc64_name r.R_PPC64_TOC16_LO_DS) (ppc64_name r.R_PPC64_GOT16_LO_DS)
+                ∷ [];
           });
       page = 0x10000;
       code_unit = units_of 4;

@@ -78,8 +78,8 @@ pub record Returns (c d : Counted) : Type 0 where
   pub count : d.count ≡ c.count
 
 -- Registers from n on are below the base, and the number of r0 is behind r1 if that is saved too.
-pub record Saves (base : ℕ) (values : State → ℕ → ℕ) (finish : State → Memory → Memory) (n : ℕ) (c d : Counted)
-    : Type 0 where
+pub record Saves (base : ℕ) (values : State → ℕ → ℕ) (finish : State → Memory → Memory)
+    (n : ℕ) (c d : Counted) : Type 0 where
   pub returns : Returns c d
   pub registers : (m : ℕ) → d.state.registers m ≡ c.state.registers m
   pub floats : (m : ℕ) → d.state.floats m ≡ c.state.floats m

@@ -110,7 +110,8 @@ Loads =
 abbrev pub Jumps : Type 0
 Jumps =
     (place target : ℕ) → place < 2 ^ 64 → target < 2 ^ 64 → target % 4 ≡ 0
-    → (code : List ℕ) → IsSomeAnd ppc64_output.jump_stub (λ stub. IsStub Ppc64 stub place target code)
+    → (code : List ℕ)
+    → IsSomeAnd ppc64_output.jump_stub (λ stub. IsStub Ppc64 stub place target code)
     → (f : Formats) (c : Counted) → c.state.pc ≡ sum_64 place 4
     → IsSomeAnd (run f (entered code) c) (GoesTo target c)
 

@@ -40,7 +40,11 @@ vector_address word s = quadword (indexed_address word s)
 abbrev pub vector_stored : ℕ → Vectored → Vectored
 vector_stored word v =
     let s = v.counted.state in
-    record v { counted = with_state (go_on (store 16 (v.vectors (rt_of word)) (vector_address word s) s)) v.counted }
+    record v {
+      counted =
+          with_state (go_on (store 16 (v.vectors (rt_of word)) (vector_address word s) s))
+          v.counted;
+    }
 
 abbrev pub vector_loaded : ℕ → Vectored → Vectored
 vector_loaded word v =
@@ -99,7 +103,8 @@ EachVector index Leaves =
 -- they were
 pub record ReturnsVectored (v w : Vectored) : Type 0 where
   pub returns : Returns v.counted w.counted
-  pub registers : (m : ℕ) → (m == 12) ≡ false → w.counted.state.registers m ≡ v.counted.state.registers m
+  pub registers : (m : ℕ) → (m == 12) ≡ false
+      → w.counted.state.registers m ≡ v.counted.state.registers m
   pub floats : (m : ℕ) → w.counted.state.floats m ≡ v.counted.state.floats m
 
 -- `_savevr_N`: the vector registers from n on are below the address in r0.

@@ -128,9 +128,11 @@ by_reach target symbol r (Some OutOfReach) =
 by_reach target symbol r (Some error) = Err (errors.Write error)
 
 -- by a stub also where the callee wouldn't get, or the caller wouldn't keep, the TOC pointer
-abbrev pub route_by : Description → Symbol → Rela → Bool → Option RelocateError → Result Route RouteError
+abbrev pub route_by : Description → Symbol → Rela → Bool → Option RelocateError
+    → Result Route RouteError
 route_by target symbol r has_room obstacle =
-    if loses_toc target.instructions r.code symbol || lacks_toc target.instructions r.code symbol then
+    if loses_toc target.instructions r.code symbol
+    || lacks_toc target.instructions r.code symbol then
     by_jump target.jump_stub (loses_toc target.instructions r.code symbol) has_room
     (stub_target target.instructions symbol r)
     else by_reach target symbol r obstacle
@@ -138,7 +140,8 @@ route_by target symbol r has_room obstacle =
 -- ---- routes of relocations
 
 -- the value of a relocation of a symbol
-abbrev pub IsValueOf : Architecture → Addresses → Symbol → Rela → Result (Option ℤ) ValueError → Type 0
+abbrev pub IsValueOf : Architecture → Addresses → Symbol → Rela
+    → Result (Option ℤ) ValueError → Type 0
 IsValueOf architecture addresses symbol r result =
     IsValue architecture addresses [] (symbol ∷ []) (record r { symbol = 0 }) result
 
@@ -166,7 +169,8 @@ IsRouteIn target addresses symbol r section None result = result ≡ Err errors.
 IsRouteIn target addresses symbol r section (Some row) result =
     IsRouteBy (may_use_stub row.size row.kind) target addresses symbol r section row result
 
-abbrev pub IsRoute : Description → Addresses → Symbol → Rela → List ℕ → Result Route RouteError → Type 0
+abbrev pub IsRoute : Description → Addresses → Symbol → Rela → List ℕ
+    → Result Route RouteError → Type 0
 IsRoute target addresses symbol r section result =
     (row : Option RelocationKindInfo) × IsRow target.instructions r.code row
     × IsRouteIn target addresses symbol r section row result

@@ -93,7 +93,8 @@ RejectsField architecture field o before error =
 
 abbrev pub WritesSecond : Architecture → Option StubField → Operands → List ℕ → List ℕ → Type 0
 WritesSecond architecture None o before after = after ≡ before
-WritesSecond architecture (Some field) o before after = WritesField architecture field o before after
+WritesSecond architecture (Some field) o before after =
+    WritesField architecture field o before after
 
 abbrev pub RejectsSecond : Architecture → Option StubField → Operands → List ℕ → RelocateError
     → Type 0
@@ -118,7 +119,8 @@ RejectsPair architecture stub o error =
 -- the code of a stub at an address, to a target
 abbrev pub IsStub : Architecture → StubCode → ℕ → ℕ → List ℕ → Type 0
 IsStub architecture stub place target code =
-    (pair : List ℕ) × (length pair ≡ 8) × WritesPair architecture stub (operands_of stub place target) pair
+    (pair : List ℕ) × (length pair ≡ 8)
+    × WritesPair architecture stub (operands_of stub place target) pair
     × (code ≡ stub.head ++ (pair ++ stub.tail))
 
 -- bytes begin with the code, and those behind it are left

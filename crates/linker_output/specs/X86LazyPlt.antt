@@ -33,7 +33,8 @@ further (opcode ∷ m ∷ rest) s =
     if opcode == 0x68
     then Some (pushed (extended (number_of_bytes 4 (m ∷ rest))) (sum_64 s.ip 5) s)
     else (if (opcode == 0xff) && (is_relative m && (reg_of m == 6))
-    then Some (pushed (load 8 s (sum_64 (sum_64 s.ip 6) (extended (number_of_bytes 4 rest)))) (sum_64 s.ip 6) s)
+    then Some (pushed (load 8 s (sum_64 (sum_64 s.ip 6) (extended (number_of_bytes 4 rest))))
+    (sum_64 s.ip 6) s)
     else None)
 further bytes s = None
 

@@ -129,7 +129,8 @@ impl Target {
         is_bound: bool,
         is_executable: bool,
     ) -> [Option<u32>; 2]
-        ensures { result ≡ dynamic_words (view_types self.now.dynamic) class is_bound is_executable }
+        ensures { result
+            ≡ dynamic_words (view_types self.now.dynamic) class is_bound is_executable }
     {
         let types = &self.dynamic;
         match class {

@@ -235,7 +235,8 @@ impl State {
         requires state { IsState code.now self.now }
         requires one_more { length before.now ≡ length code.now.boundaries.now + 1 }
         requires fits { (k : ℕ) → at before.now k < 2 ^ 62 }
-        ensures { IfOk result (λ stubs. AreStubsOf code.now before.now self.now.ways.items stubs.items) }
+        ensures { IfOk result
+            (λ stubs. AreStubsOf code.now before.now self.now.ways.items stubs.items) }
     {
         let mut stubs = Vec::with_capacity(alloc, code.branches.len())?;
         for index in 0..code.branches.len() {

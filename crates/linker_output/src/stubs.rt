@@ -199,7 +199,8 @@ impl Target {
         out: &mut [u8],
     ) -> Result<(), StubError>
         ensures ok { OnOk result
-            (WritesStub self.now.instructions (stub_of self.now kind) place target out.old out.new) }
+            (WritesStub self.now.instructions (stub_of self.now kind) place target
+            out.old out.new) }
         ensures err { IfErr result
             (RejectsStub self.now.instructions (stub_of self.now kind) place target out.old) }
         ensures unchanged { IfErr result (λ _. out.new ≡ out.old) }

@@ -1,5 +1,6 @@
--- Which forms the immediate of an instruction of AArch64 has, by the bits of its opcode, and the number
--- that the machine makes of it (Arm Architecture Reference Manual for A-profile, DDI 0487, C4.1).
+-- Which forms the immediate of an instruction of AArch64 has, by the bits of its opcode,
+-- and the number that the machine makes of it (Arm Architecture Reference Manual for
+-- A-profile, DDI 0487, C4.1).
 use Rattle.std.specs.Prelude.{ℕ, ◌*◌, ◌==◌, List, [], ◌∷◌, ℤ}
 use Rattle.std.specs.Int.{bit_at}
 use Rattle.linker_base.specs.Bits.{field}

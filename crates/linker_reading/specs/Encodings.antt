@@ -1,5 +1,5 @@
--- Which forms the immediate of an instruction has, by the bits of its opcode in the manuals; and the
--- number that the machine makes of the immediate.
+-- Which forms the immediate of an instruction has, by the bits of its opcode in the manuals; and
+-- the number that the machine makes of the immediate.
 use Rattle.std.specs.Prelude.{ℕ, ◌*◌, ◌%◌, ◌^◌, List, [], length, ◌≤◌, min}
 use Rattle.std.specs.Prelude.{Option, Some, None, ℤ, ◌≡◌}
 use Rattle.std.specs.Int.{w64, byte_len, cast_unsigned, cast_signed}
@@ -10,7 +10,8 @@ use Rattle.linker_elf.specs.declared.elf.RelocationInstruction.{RelocationInstru
 use Rattle.linker_elf.specs.declared.elf.RelocationInstruction.TheVariants.{RiscV, Ppc64}
 use Rattle.linker_elf.specs.declared.elf.RelocationInstruction.TheVariants.{LoongArch64, AArch64}
 use Rattle.linker_reading.specs.AArch64Encodings.{aarch64_encodings, aarch64_number, aarch64_scale}
-use Rattle.linker_reading.specs.LoongArchEncodings.{loongarch_encodings, loongarch_number, loongarch_scale}
+use Rattle.linker_reading.specs.LoongArchEncodings.{loongarch_encodings}
+use Rattle.linker_reading.specs.LoongArchEncodings.{loongarch_number, loongarch_scale}
 use Rattle.linker_reading.specs.Opcodes.{Encoding, first_forms}
 use Rattle.linker_reading.specs.Ppc64Encodings.{ppc64_encodings, ppc64_scale}
 use Rattle.linker_reading.specs.Reading.{number_held}

@@ -1,7 +1,8 @@
--- Which forms the immediate of an instruction of LoongArch has, by the bits of its opcode, and the number
--- that the machine makes of it (LoongArch Reference Manual, volume 1, "Table of Instruction Encoding";
--- volume 2, for VLD, VST, XVLD and XVST).
-use Rattle.std.specs.Prelude.{ℕ, ◌==◌, Bool, ◌&&◌, ◌||◌, nat_lt, if◌then◌else◌, List, [], ◌∷◌, ℤ, pos}
+-- Which forms the immediate of an instruction of LoongArch has, by the bits of its opcode, and the
+-- number that the machine makes of it (LoongArch Reference Manual, volume 1, "Table of Instruction
+-- Encoding"; volume 2, for VLD, VST, XVLD and XVST).
+use Rattle.std.specs.Prelude.{ℕ, ◌==◌, Bool, ◌&&◌, ◌||◌, nat_lt}
+use Rattle.std.specs.Prelude.{if◌then◌else◌, List, [], ◌∷◌, ℤ, pos}
 use Rattle.linker_base.specs.Bits.{field, signed}
 use Rattle.linker_elf.specs.declared.elf.RelocationInstruction.{RelocationInstruction}
 use Rattle.linker_elf.specs.declared.elf.RelocationInstruction.TheVariants.{LoongArch64}

@@ -1,5 +1,6 @@
--- Which forms the immediate of an instruction of PowerPC64 has, by the bits of its opcode, and what the
--- number there counts (Power ISA 3.1, Book I, "Instruction Formats" and the pages of the instructions).
+-- Which forms the immediate of an instruction of PowerPC64 has, by the bits of its opcode,
+-- and what the number there counts (Power ISA 3.1, Book I, "Instruction Formats" and the
+-- pages of the instructions).
 use Rattle.std.specs.Prelude.{ℕ, ◌+◌, ◌*◌, ◌^◌, ◌==◌, if◌then◌else◌, List, [], ◌∷◌}
 use Rattle.std.specs.Int.{bit_at}
 use Rattle.linker_base.specs.Bits.{field}

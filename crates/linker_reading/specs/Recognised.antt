@@ -75,8 +75,8 @@ pub record IsRead (kind : Relaxation) (row : Option RelocationKindInfo) (o : ℕ
 
 -- ---- what an architecture brings
 
--- What is recognised of an architecture: its tables and relocations. K are its rewrites, R the names
--- of its relocations.
+-- What is recognised of an architecture: its tables and relocations. K are its rewrites, R the
+-- names of its relocations.
 pub record Recogniser (K R : Type 0) : Type 1 where
   -- the entries of the table at a relocation at an offset of bytes, and whether one of them applies
   -- by what a linker knows
@@ -124,7 +124,8 @@ pub record IsMade {K R : Type 0} (it : Recogniser K R) (original : List ℕ) (o 
   pub reads :
       IsRead (it.relaxation m.choice.kind) (it.row m.choice.relocation) o linked m.offset m.value
 
--- It is one of the choices at a relocation, its rewrite is meant for what is there, and it was made.
+-- It is one of the choices at a relocation, its rewrite is meant for what is
+-- there, and it was made.
 pub record IsFound {K R : Type 0} (it : Recogniser K R) (name : R) (original : List ℕ) (o : ℕ)
     (others : List FieldBits) (linked : List ℕ) (m : Recognised K R) : Type 0 where
   pub listed : IsOneOf m.choice (choices_at it name original o)
@@ -144,7 +145,8 @@ pub record IsFirstPlace {A : Type 0} (a : A) (list : List A) (i : ℕ) : Type 0 
 -- Each of those that were found has the first place of its choice.
 abbrev pub ArePlaced : {K R : Type 0} → List (Choice K R) → List (Option (Recognised K R)) → Type 0
 ArePlaced {K} {R} choices found =
-    (i : ℕ) (m : Recognised K R) → slice_index_or found i None ≡ Some m → IsFirstPlace m.choice choices i
+    (i : ℕ) (m : Recognised K R) → slice_index_or found i None ≡ Some m
+    → IsFirstPlace m.choice choices i
 
 -- No two of those that were found have the same choice.
 abbrev pub AreDistinct : {K R : Type 0} → List (Option (Recognised K R)) → Type 0

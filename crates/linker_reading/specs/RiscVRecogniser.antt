@@ -2,7 +2,8 @@
 use Rattle.linker_elf.specs.RiscVRelocations.{riscv_name}
 use Rattle.linker_elf.specs.declared.riscv64.relocations.RiscVRelocation.{RiscVRelocation}
 use Rattle.linker_reading.specs.Recognised.{Recogniser}
-use Rattle.linker_riscv64.specs.RiscVRewrites.{AppliesToRiscV, IsAskedFor, riscv_entries, riscv_row_of}
+use Rattle.linker_riscv64.specs.RiscVRewrites.{AppliesToRiscV, IsAskedFor}
+use Rattle.linker_riscv64.specs.RiscVRewrites.{riscv_entries, riscv_row_of}
 use Rattle.linker_riscv64.specs.declared.rewrites.RelaxationKind.TheVariants as of_riscv
 use Rattle.linker_riscv64.specs.declared.rewrites.RelaxationKind.{RelaxationKind as RiscVKind}
 use Rattle.linker_utils.specs.declared.architecture.Relaxation.TheVariants as relaxations

@@ -1,6 +1,6 @@
 -- Which bytes of a window recognising a relocation compares, and where a recognised one leads.
-use Rattle.std.specs.Prelude.{◌≡◌, ◌⊎◌, ◌≤◌, ◌+◌, ◌-◌, ℕ, List, length, min, max, Option, Some, None}
-use Rattle.std.specs.Prelude.{IfSome, IfNone, Bool, true, false, if◌then◌else◌}
+use Rattle.std.specs.Prelude.{◌≡◌, ◌⊎◌, ◌≤◌, ◌+◌, ◌-◌, ℕ, List, length, min, max, Option}
+use Rattle.std.specs.Prelude.{Some, None, IfSome, IfNone, Bool, true, false, if◌then◌else◌}
 use Rattle.std.specs.Int.{w64, cast_unsigned}
 use Rattle.linker_base.specs.Rewrite.{offset_after, addend_after}
 use Rattle.linker_base.specs.RewriteWindow.{window_of_rewrite}
@@ -64,8 +64,8 @@ pub record IsThere {K R : Type 0} (it : Recogniser K R) (original : List ℕ) (o
   pub matches : relaxation_matches (it.relaxation c.kind) original o
   pub ends : end_byte it o c ≤ length original
 
--- The least window that has the offset, or ends there, and the bytes of each of some choices that is
--- there.
+-- The least window that has the offset, or ends there, and the bytes of each of
+-- some choices that is there.
 pub record IsLeastWindow {K R : Type 0} (it : Recogniser K R) (choices : List (Choice K R))
     (original : List ℕ) (o : ℕ) (window : RewriteWindow) : Type 0 where
   pub back : window.back ≤ o
@@ -111,7 +111,8 @@ IsDestination None value kind original o operands d = d ≡ None
 IsDestination (Some row) None kind original o operands d = d ≡ None
 IsDestination (Some row) (Some value) kind original o operands d =
     IfSome d (LeadsTo row value kind original o operands)
-    × IfNone d (IsProper value → (e : Destination) → LeadsTo row value kind original o operands e → ⊥)
+    × IfNone d (IsProper value
+    → (e : Destination) → LeadsTo row value kind original o operands e → ⊥)
 
 -- S, or L, of the symbol: the address less the addend, if all bits of it are known
 abbrev pub is_of_symbol : Reference → Bool

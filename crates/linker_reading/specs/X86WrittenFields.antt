@@ -22,8 +22,8 @@ WritesField row =
 -- at the offset after it, the choice leaves these bytes, whatever else is ignored.
 abbrev pub X86WrittenIsLeft : Type 0
 X86WrittenIsLeft =
-    (c : Choice RelaxationKind X86_64Relocation) (row : RelocationKindInfo) (original : List ℕ) (o : ℕ) (v : ℤ)
-    (written : List ℕ) (others : List FieldBits)
+    (c : Choice RelaxationKind X86_64Relocation) (row : RelocationKindInfo) (original : List ℕ)
+    (o : ℕ) (v : ℤ) (written : List ℕ) (others : List FieldBits)
     → x86_64_row c.relocation ≡ Some row
     → CanRewrite (x86_64_rewrite c.kind) original o
     → offset_after (x86_64_rewrite c.kind) o ≤ length (rewritten (x86_64_rewrite c.kind) original o)

@@ -1,6 +1,6 @@
-//! Linked bytes read back: which forms an instruction has and the number in its immediate, the bits of
-//! a value that stand in a relocation's field, the addresses that have such a value, and what a linker
-//! made of a relocation.
+//! Linked bytes read back: which forms an instruction has and the number in its immediate, the bits
+//! of a value that stand in a relocation's field, the addresses that have such a value, and what a
+//! linker made of a relocation.
 #![tactic(auto)]
 
 pub mod fields;

@@ -66,7 +66,8 @@ IsCandidateWith s bytes section n r (Some facts) candidate =
     IsCandidateBy s.architecture s.symbols bytes section n r facts candidate
 
 -- of the relocation with an index among those in bytes
-abbrev pub IsCandidate : Setting → List ℕ → List ℕ → ℕ → Rela → Option (Choice Relaxation ℕ) → Type 0
+abbrev pub IsCandidate : Setting → List ℕ → List ℕ → ℕ → Rela
+    → Option (Choice Relaxation ℕ) → Type 0
 IsCandidate s bytes section n r candidate =
     IsCandidateWith s bytes section n r
     (link_facts s.phase s.output s.symbols s.addresses s.values r r

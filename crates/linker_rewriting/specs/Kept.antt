@@ -55,8 +55,8 @@ AreAsKept output symbols kept bytes limit =
     (n : ℕ) → n < limit → IsAsKept output symbols kept (relocation_in bytes n)
 
 -- the first of which something else is kept
-pub record IsFirstChanged (output : OutputFacts) (symbols : List SymbolFacts) (kept : List KeptFacts)
-    (bytes : List ℕ) (n : ℕ) : Type 0 where
+pub record IsFirstChanged (output : OutputFacts) (symbols : List SymbolFacts)
+    (kept : List KeptFacts) (bytes : List ℕ) (n : ℕ) : Type 0 where
   pub within : n < length bytes / 24
   pub same_before : AreAsKept output symbols kept bytes n
   pub changed : ¬ IsAsKept output symbols kept (relocation_in bytes n)

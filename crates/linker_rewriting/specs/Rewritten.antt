@@ -113,7 +113,8 @@ GroupsAreWhole architecture = GroupsAreWholeIn architecture Early
 -- are rewritten too, or none is.
 abbrev pub GroupsAreWholeAcross : Type 0
 GroupsAreWholeAcross =
-    (s other : Setting) (kept : List KeptGroups) (bytes section others_bytes others_section : List ℕ)
+    (s other : Setting) (kept : List KeptGroups)
+    (bytes section others_bytes others_section : List ℕ)
     (decisions others : List Decision) (limit others_limit : ℕ)
     → AreDecidedIn s kept bytes section decisions limit
     → AreDecidedIn other kept others_bytes others_section others others_limit

@@ -78,8 +78,8 @@ abbrev pub IsLoadCandidate : Setting → List ℕ → List ℕ → List ℕ → 
     → Option (Choice Relaxation ℕ) → Type 0
 IsLoadCandidate s words bytes section n r load candidate =
     IsCandidateWith s bytes section n (record r { code = load.0 })
-    (link_facts s.phase s.output s.symbols s.addresses s.values r (relocation_in words (load.1)) false)
-    candidate
+    (link_facts s.phase s.output s.symbols s.addresses s.values r
+    (relocation_in words (load.1)) false) candidate
 
 -- ---- words that stay
 
@@ -158,7 +158,8 @@ IsLoadDecision s start words kept bytes section n r decision =
     × IsDecisionBy s words kept bytes section n r load decision
 
 -- its word doesn't stay, but it has no rewrite
-abbrev pub IsLoadNotSurveyed : Setting → ℕ → List ℕ → List Bool → List ℕ → List ℕ → ℕ → Rela → Type 0
+abbrev pub IsLoadNotSurveyed : Setting → ℕ → List ℕ → List Bool → List ℕ → List ℕ
+    → ℕ → Rela → Type 0
 IsLoadNotSurveyed s start words kept bytes section n r =
     (load : ℕ × ℕ) × IsLoad s start words r (Some load)
     × (word_stays kept (load.1) ≡ false)
@@ -207,8 +208,8 @@ AreLoadsRejected s start words kept bytes section decisions (Overlaps n) =
     × IsLoadOverlapping s start words kept bytes section decisions n
 
 -- an error that a section wasn't surveyed comes only where what it keeps isn't all noted
-abbrev pub MeansWordsUnsurveyed : Setting → ℕ → List ℕ → List ℕ → List ℕ → List Bool → RewritingError
-    → Type 0
+abbrev pub MeansWordsUnsurveyed : Setting → ℕ → List ℕ → List ℕ → List ℕ → List Bool
+    → RewritingError → Type 0
 MeansWordsUnsurveyed s start words bytes section kept (NotSurveyed n) =
     IsAscending words → ¬ AreWordsNoted s start words bytes section kept (length bytes / 24)
 MeansWordsUnsurveyed s start words bytes section kept error = Unit {0}

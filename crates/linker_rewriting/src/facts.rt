@@ -141,8 +141,8 @@ fn placed_facts(
     addend: i64,
     marked: bool,
 ) -> LinkFacts
-    ensures { result ≡ placed_facts phase output.now addresses.now symbol.now value.now offset addend
-        marked }
+    ensures { result ≡ placed_facts phase output.now addresses.now symbol.now value.now
+        offset addend marked }
 {
     let has_own_address = has_own_address(symbol);
     let is_near = output.is_fixed || !has_own_address;

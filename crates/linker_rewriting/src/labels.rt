@@ -122,7 +122,8 @@ fn is_label_marked(
 ) -> bool
     requires index { index + 3 ≤ usize.MAX }
     requires high { high < length relocations.now / 24 }
-    ensures { result ≡ is_label_marked architecture phase relocations.now index relocation.now high }
+    ensures { result
+        ≡ is_label_marked architecture phase relocations.now index relocation.now high }
 {
     match phase {
         Phase::ThreadOffsets => {

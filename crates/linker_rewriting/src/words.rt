@@ -262,8 +262,8 @@ fn keeping_word(
 /// use linker_section::facts::{Addresses, Symbol};
 /// use linker_utils::elf::Architecture;
 ///
-/// // lwz 3,.toc@toc@l(3), with R_PPC64_TOC16_LO_DS of `.toc`, whose word is that of symbol 2: no load
-/// // of an address
+/// // lwz 3,.toc@toc@l(3), with R_PPC64_TOC16_LO_DS of `.toc`, whose word is that of symbol 2: no
+/// // load of an address
 /// let relocation = |code: u8, symbol: u8| {
 ///     let mut bytes = [0; 24];
 ///     (bytes[8], bytes[12]) = (code, symbol);
@@ -297,8 +297,8 @@ pub fn survey_address_loads(
     kept: &mut [bool],
 )
     ensures { AreLoadsSurveyed (setting architecture Phase.Distances output.now symbols.now
-        addresses.now values.now) words_start words.now relocations.now section.now kept.old kept.new
-        (length relocations.now / 24) }
+        addresses.now values.now) words_start words.now relocations.now section.now
+        kept.old kept.new (length relocations.now / 24) }
 {
     for index in 0..relocations_len(relocations) {
         let relocation = relocation_in(relocations, index);
@@ -481,8 +481,8 @@ fn decide_loads<D: AsDecision>(
 /// use linker_section::facts::{Addresses, Symbol};
 /// use linker_utils::elf::Architecture;
 ///
-/// // addis 3,2,.toc@toc@ha and ld 3,.toc@toc@l(3), where the word at the start of `.toc` is that of
-/// // symbol 2, become addis 3,2,x@toc@ha and addi 3,3,x@toc@l
+/// // addis 3,2,.toc@toc@ha and ld 3,.toc@toc@l(3), where the word at the start of `.toc` is that
+/// // of symbol 2, become addis 3,2,x@toc@ha and addi 3,3,x@toc@l
 /// let relocation = |offset: u8, code: u8, symbol: u8| {
 ///     let mut bytes = [0; 24];
 ///     (bytes[0], bytes[8], bytes[12]) = (offset, code, symbol);

@@ -475,9 +475,9 @@ GotPairIsChosenAlike =
       choice kinds.LdToAddi r.R_RISCV_PCREL_LO12_I,
     ) ∷ []) facts
 
--- A `lui` and what reads it, wherever both are, with the same facts but for the place: where each is
--- an instruction that its relocation requires with the rewrites of the first line, both choices are
--- those of one line, or both relocations are left.
+-- A `lui` and what reads it, wherever both are, with the same facts but for the place: where each
+-- is an instruction that its relocation requires with the rewrites of the first line, both choices
+-- are those of one line, or both relocations are left.
 abbrev pub OfLuiAreChosenAlike : RiscVRelocation → RiscVRelocation → RiscVChoice × RiscVChoice
     → List (RiscVChoice × RiscVChoice) → Type 0
 OfLuiAreChosenAlike first second line lines =

@@ -59,8 +59,8 @@ impl ChosenKind for RelaxationKind {
     }
 }
 
-/// The conditions of entries, by the names that the definition has for them. Behind some a further fact
-/// stands that has to hold.
+/// The conditions of entries, by the names that the definition has for them. Behind some a further
+/// fact stands that has to hold.
 macro_rules! when {
     // a `jal` reaches the symbol
     (by_jump) => {
@@ -189,7 +189,12 @@ impl ChosenByTable for RelaxationKind {
 ///     has_fixed_distance: true,
 ///     is_relaxable: true,
 ///     has_addresses: true,
-///     operands: Operands { plt_entry: 0x2000, symbol: 0x2000, place: 0x1000, ..Operands::default() },
+///     operands: Operands {
+///         plt_entry: 0x2000,
+///         symbol: 0x2000,
+///         place: 0x1000,
+///         ..Operands::default()
+///     },
 ///     ..LinkFacts::default()
 /// };
 /// let chosen = choose(RiscVRelocation::R_RISCV_CALL_PLT, &call, 0, &facts);

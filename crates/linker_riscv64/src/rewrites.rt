@@ -80,8 +80,9 @@ pub enum RelaxationKind {
     CallToLd,
     /// Turns `ld` into `addi`, with both of its registers and its immediate.
     LdToAddi,
-    /// Turns `c.lui` into `c.li` of 0, with its destination register: the ISA reserves the immediate
-    /// 0 of `c.lui`, which a high part of 0 would need ("Integer Constant-Generation Instructions").
+    /// Turns `c.lui` into `c.li` of 0, with its destination register: the ISA
+    /// reserves the immediate 0 of `c.lui`, which a high part of 0 would need
+    /// ("Integer Constant-Generation Instructions").
     CLuiToCLi,
 }
 

@@ -163,8 +163,8 @@ impl Runs {
     }
 }
 
-/// How many of the counted calls between a call's site and its target have to be dropped before it is
-/// out of reach.
+/// How many of the counted calls between a call's site and its target have to be dropped before it
+/// is out of reach.
 fn drops_left(from: u64, to: u64, count: usize) -> i32 {
     let freed = (count as u64).saturating_mul(4);
     let distance = from.abs_diff(to).saturating_sub(freed);
@@ -358,8 +358,8 @@ fn watched<C: AsCall, A: AsChoice>(
     Watch::of(ends)
 }
 
-/// Drops calls that are out of reach, one after the other, until there is none, if there is memory to
-/// know which.
+/// Drops calls that are out of reach, one after the other, until there is none, if there is memory
+/// to know which.
 fn drop_due<C: AsCall, A: AsChoice>(
     alloc: Global,
     deltas: &[RelaxDelta],
@@ -434,7 +434,8 @@ fn shrinkable_sites_len<C: AsCall>(deltas: &[RelaxDelta], calls: &[C]) -> usize
     ensures sites { AreValidDeltas deltas.now
         → HaveShrinkableSites (deletions_of deltas.now) (take result (map C.call calls.now)) }
     ensures next { AreValidDeltas deltas.now → result < length calls.now
-        → ¬ HaveShrinkableSites (deletions_of deltas.now) (take (result + 1) (map C.call calls.now)) }
+        → ¬ HaveShrinkableSites (deletions_of deltas.now)
+        (take (result + 1) (map C.call calls.now)) }
 {
     for index in 0..calls.len() {
         let (site, _) = calls[index].as_call();
@@ -525,12 +526,12 @@ pub fn calls_shrinkable(deltas: &SectionRelaxDeltas, calls: &[(u64, u64)]) -> bo
 /// its target are counted by runs of k / 1024 calls, and only where the call is in reach with all
 /// of them and out of reach with none.
 ///
-/// A sweep that drops none is the last. After one that drops a call it is known of each other call how
-/// many drops between its site and its target it stands, and it is tested again when there were so
-/// many. So two sweeps do, however the calls depend on each other. What lies between them takes
-/// O(k log k log k), and a test for each call that it drops. For this it allocates at most 120 bytes for
-/// each call that is in reach only with others. Refused memory is no error: then sweeps do it, of which
-/// there may be as many as calls.
+/// A sweep that drops none is the last. After one that drops a call it is known of each other call
+/// how many drops between its site and its target it stands, and it is tested again when there were
+/// so many. So two sweeps do, however the calls depend on each other. What lies between them takes
+/// O(k log k log k), and a test for each call that it drops. For this it allocates at most 120
+/// bytes for each call that is in reach only with others. Refused memory is no error: then sweeps
+/// do it, of which there may be as many as calls.
 pub fn shrink_calls_into<C: AsCall, A: AsChoice>(
     alloc: Global,
     deltas: &[RelaxDelta],

@@ -11,7 +11,8 @@ use Rattle.linker_riscv64.specs.Shrinking.{IsChosen, IsGreatest}
 -- `jal`, and the call as it stands
 abbrev pub call_shapes : Shapes
 call_shapes = record {
-  short = record { kept = 4; max_backward = 1048576; max_forward = 1048576; granularity = 2 } ∷ no_shape ∷ [];
+  short = record { kept = 4; max_backward = 1048576; max_forward = 1048576; granularity = 2 }
+      ∷ no_shape ∷ [];
   count = 1;
   longest = 8;
 }
@@ -33,7 +34,8 @@ abbrev pub pair_at : List (ℕ × ℕ) → ℕ → ℕ × ℕ
 pair_at pairs i = slice_index_or pairs i (0, 0)
 
 -- The items of the run are the calls, each at the index that is given, and the deletions.
-pub record IsRunOf (deletions calls : List (ℕ × ℕ)) (items : List Item) (place : ℕ → ℕ) : Type 0 where
+pub record IsRunOf (deletions calls : List (ℕ × ℕ)) (items : List Item) (place : ℕ → ℕ)
+    : Type 0 where
   pub calls_in : (i : ℕ) → i < length calls
       → (place i < length items) × IsCallItem (pair_at calls i) (item_at items (place i))
   pub once : (i j : ℕ) → i < length calls → j < length calls → place i ≡ place j → i ≡ j

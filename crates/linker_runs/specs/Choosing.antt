@@ -1,7 +1,7 @@
--- Which runs keep every distance a multiple of its granularity, and what the choice for these is compared
--- with.
-use Rattle.std.specs.Prelude.{◌≡◌, ℕ, zero, suc, ◌+◌, ◌-◌, ◌%◌, ◌<◌, ◌≤◌, ◌⊎◌, List, length}
-use Rattle.std.specs.Prelude.{true, if◌then◌else◌, nat_lt, max, MatchOption, None, ⊤, slice_index_or}
+-- Which runs keep every distance a multiple of its granularity, and what the choice
+-- for these is compared with.
+use Rattle.std.specs.Prelude.{◌≡◌, ℕ, zero, suc, ◌+◌, ◌-◌, ◌%◌, ◌<◌, ◌≤◌, ◌⊎◌, List, length, true}
+use Rattle.std.specs.Prelude.{if◌then◌else◌, nat_lt, max, MatchOption, None, ⊤, slice_index_or}
 use Rattle.std.specs.Int.{IsPowerOfTwo, IsNextPowerOfTwo}
 use Rattle.std.specs.List.{fold}
 use Rattle.linker_runs.specs.declared.relaxation.Shape.{Shape}
@@ -34,7 +34,8 @@ pub record HasUnit (shape : Shape) : Type 0 where
   pub power : IsPowerOfTwo shape.granularity
 
 -- Short shapes by themselves. Each keeps fewer bytes than the next, reaches its own offset, and its
--- granularity is a power of two. It reaches no farther than the next short one, and its granularity is no less.
+-- granularity is a power of two. It reaches no farther than the next short one, and its granularity
+-- is no less.
 pub record AreNested (shapes : Shapes) : Type 0 where
   pub ascending : (k : ℕ) → k < shapes.count → shape_len shapes k < shape_len shapes (k + 1)
   pub powers : (k : ℕ) → k < shapes.count → HasUnit (short_shape shapes k)
@@ -63,8 +64,8 @@ pub record AlignmentFits (u start : ℕ) (alignment : Alignment) : Type 0 where
   pub limited : MatchOption alignment.max_skip ⊤ (λ most. (alignment.nops % u ≡ 0)
       × ((alignment.alignment ≤ alignment.nops + u) ⊎ (most ≤ alignment.nops)))
 
--- An alignment that divides u keeps the same nops in each layout, since no address changes modulo u:
--- those that its input address needs. It has these, and the others are a multiple of u.
+-- An alignment that divides u keeps the same nops in each layout, since no address changes modulo
+-- u: those that its input address needs. It has these, and the others are a multiple of u.
 pub record IsStill (u start : ℕ) (alignment : Alignment) : Type 0 where
   pub divides : u % alignment.alignment ≡ 0
   pub unlimited : alignment.max_skip ≡ None
@@ -89,8 +90,9 @@ FreesMultiples w o (Site site) = ShapesFit w site.len site.shapes
 FreesMultiples w o (Aligned alignment) = ((o - alignment.offset) % w ≡ 0)
     × (alignment.alignment % w ≡ 0) × (alignment.nops % w ≡ 0)
 
--- In each layout w divides the output address of the offset o. The last items before it tell: it is
--- aligned by one of them, or is what the run's address makes it, and no item in between changes that.
+-- In each layout w divides the output address of the offset o. The last items before it
+-- tell: it is aligned by one of them, or is what the run's address makes it, and no
+-- item in between changes that.
 abbrev pub IsAlwaysMultiple : ℕ → ℕ → ℕ → List Item → ℕ → Type 0
 IsAlwaysMultiple w start o items zero = (start + o) % w ≡ 0
 IsAlwaysMultiple w start o items (suc i) = IsAnchor w o (item_at items i)
@@ -176,8 +178,8 @@ IsSite (Aligned alignment) = ⊥
 abbrev pub HaveNoAlignment : List Item → Type 0
 HaveNoAlignment items = (i : ℕ) → i < length items → IsSite (item_at items i)
 
--- The shapes are in reach where each alignment keeps all, and no longer than in any other choice that
--- is.
+-- The shapes are in reach where each alignment keeps all, and no longer than in
+-- any other choice that is.
 pub record IsGreatestCautious (items : List Item) (shapes : List ℕ) : Type 0 where
   pub reached : IsInReachCautiously items (choice_of shapes)
   pub greatest : (other : ℕ → ℕ) → IsInReachCautiously items other
@@ -188,8 +190,8 @@ abbrev pub AreTooFewRounds : ℕ → List Item → Type 0
 AreTooFewRounds start items = (r : ℕ) → r ≤ most_rounds
     → ¬ IsInReachExactly start items (after_rounds start items r)
 
--- The shapes are those of the first round after which every site is in reach, or, where there are too
--- few rounds, those of the greatest choice where each alignment keeps all.
+-- The shapes are those of the first round after which every site is in reach, or, where there are
+-- too few rounds, those of the greatest choice where each alignment keeps all.
 abbrev pub AreChosen : ℕ → List Item → List ℕ → Type 0
 AreChosen start items shapes = AreRelaxed start items shapes
     ⊎ (AreTooFewRounds start items × IsGreatestCautious items shapes)

@@ -12,7 +12,8 @@ use Rattle.linker_runs.specs.declared.relaxation.faults.Fault.TheVariants.{TooMa
 use Rattle.linker_runs.specs.declared.relaxation.faults.Fault.TheVariants.{ShapeTooLong}
 use Rattle.linker_runs.specs.declared.relaxation.faults.Fault.TheVariants.{ShapesNotAscending}
 use Rattle.linker_runs.specs.declared.relaxation.faults.Fault.TheVariants.{BadGranularity, BadReach}
-use Rattle.linker_runs.specs.declared.relaxation.faults.Fault.TheVariants.{BadAlignment, UnevenShape}
+use Rattle.linker_runs.specs.declared.relaxation.faults.Fault.TheVariants.{BadAlignment}
+use Rattle.linker_runs.specs.declared.relaxation.faults.Fault.TheVariants.{UnevenShape}
 use Rattle.linker_runs.specs.declared.relaxation.faults.Fault.TheVariants.{AlignmentBelowGranularity}
 use Rattle.linker_runs.specs.declared.relaxation.faults.Fault.TheVariants.{UnevenEnd, TooFewNops}
 use Rattle.linker_runs.specs.declared.relaxation.faults.Fault.TheVariants.{UnevenNops}

@@ -1,4 +1,5 @@
--- What stays of the items of a relaxed run, where it is packed with the deletions of its relaxation.
+-- What stays of the items of a relaxed run, where it is packed with the
+-- deletions of its relaxation.
 use Rattle.std.specs.Prelude.{◌≡◌, ℕ, ◌<◌, List, length, slice_index_or}
 use Rattle.linker_runs.specs.declared.relaxation.Item.{Item}
 use Rattle.linker_runs.specs.Relaxing.{item_at}

@@ -24,16 +24,16 @@ HasLoongArchName name relocation = relocation.code ≡ code_of (loongarch_name n
 
 -- ---- alignments
 
--- How many bytes of nops an `R_LARCH_ALIGN` with an addend stands for, and what they align to. With a
--- symbol the addend's lowest 8 bits are the exponent of two of what they align to, and the nops are
--- one instruction fewer. Without one the addend is the nops, and they align to the next power of two
--- above it.
+-- How many bytes of nops an `R_LARCH_ALIGN` with an addend stands for, and what they align to. With
+-- a symbol the addend's lowest 8 bits are the exponent of two of what they align to, and the nops
+-- are one instruction fewer. Without one the addend is the nops, and they align to the next power
+-- of two above it.
 abbrev pub AreStated : Bool → ℕ → ℕ → ℕ → Type 0
 AreStated true addend nops power = (power ≡ 2 ^ field addend 0 8) × (nops + 4 ≡ power)
 AreStated false addend nops power = (nops ≡ addend) × IsNextPowerOfTwo (nops + 1) power
 
--- How many bytes may be skipped at most: with a symbol the addend's other bits, if they aren't 0. As
--- many as all nops, or more, are no limit, since all instructions have four bytes.
+-- How many bytes may be skipped at most: with a symbol the addend's other bits, if they aren't 0.
+-- As many as all nops, or more, are no limit, since all instructions have four bytes.
 abbrev pub stated_limit : Bool → ℕ → ℕ → Option ℕ
 stated_limit has_symbol addend nops =
     if has_symbol && nat_lt 0 (addend / 2 ^ 8) && nat_lt (addend / 2 ^ 8) nops

@@ -21,8 +21,8 @@ pub record IsOfRow (shape : Shape) (row : RelocationKindInfo) : Type 0 where
   pub reach : (from to : ℕ)
       → (is_reached shape from to ≡ true) ↔ IsInReach row (pos to -ℤ pos from)
 
--- The short shapes are those of the rows, in this order. The longest one is two instructions of four
--- bytes.
+-- The short shapes are those of the rows, in this order. The longest one is two
+-- instructions of four bytes.
 pub record AreOfRows (shapes : Shapes) (rows : List (Option RelocationKindInfo)) : Type 0 where
   pub count : shapes.count ≡ length rows
   pub each : (k : ℕ) → k < length rows

@@ -85,8 +85,8 @@ place_of items offset = count_by (λ item. nat_le (end_of item) offset) items
 abbrev pub is_multiple : ℕ → ℕ → Bool
 is_multiple granularity distance = nat_eq (distance % granularity) 0
 
--- whether a shape at an output offset reaches another: it lies at most `max_backward` below, or less than
--- `max_forward` above, and the distance is a multiple of the granularity
+-- whether a shape at an output offset reaches another: it lies at most `max_backward` below, or
+-- less than `max_forward` above, and the distance is a multiple of the granularity
 abbrev pub is_reached : Shape → ℕ → ℕ → Bool
 is_reached shape from to =
     if nat_le from to

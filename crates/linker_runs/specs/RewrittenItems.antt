@@ -51,8 +51,8 @@ IsDeleted base d (Aligned alignment) = ⊥
 
 -- ---- items
 
--- The items that the relocations below an index i make, each at most one, and the deletions below an
--- index g. They ascend: none begins below the end of the one before it, and the last one ends at
+-- The items that the relocations below an index i make, each at most one, and the deletions below
+-- an index g. They ascend: none begins below the end of the one before it, and the last one ends at
 -- `end`. The makers are the indexes of the relocations and, above all n of these, of the deletions.
 pub data AreListed (Makes : ℕ → Item → Type 0) (base n : ℕ) (deletions : List (ℕ × ℕ))
     : ℕ → ℕ → ℕ → List Item → List ℕ → Type 0 where
@@ -81,8 +81,8 @@ AreRewrittenItems machine section base relocations deletions items makers = (end
 
 -- ---- why none are listed
 
--- The relocation at an index makes an item that begins below the end of one of an earlier relocation,
--- or of which bytes are deleted, or one that has deleted bytes inside.
+-- The relocation at an index makes an item that begins below the end of one of an earlier
+-- relocation, or of which bytes are deleted, or one that has deleted bytes inside.
 pub record IsOverlapping (Makes : ℕ → Item → Type 0) (base : ℕ) (deletions : List (ℕ × ℕ))
     (i : ℕ) : Type 0 where
   pub item : Item

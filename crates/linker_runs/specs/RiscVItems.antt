@@ -66,8 +66,8 @@ pub record AreEnoughAt (nops w : ℕ) : Type 0 where
   pub aligned : IsNextPowerOfTwo (nops + 1) power
   pub least : IsNextPowerOfTwo (power - nops) w
 
--- The relocation at an index may free so many bytes, and the next alignment has its nops wherever it
--- had them: w divides them.
+-- The relocation at an index may free so many bytes, and the next alignment has its nops wherever
+-- it had them: w divides them.
 abbrev pub MayFree : ℕ → List Relocation → ℕ → Type 0
 MayFree freed relocations i = (j nops w : ℕ) → IsNextAlignment relocations i j
     → j < length relocations → (relocation_at relocations j).addend ≡ pos nops
@@ -80,8 +80,8 @@ pub record IsCallAt (section : List ℕ) (o : ℕ) : Type 0 where
   pub pair : IsCallPair (word_at section o) (word_at section (o + 4))
   pub not_zero : field (word_at section o) 7 12 ≢ 0
 
--- Only `c.j` is short enough for two bytes. It needs the C extension, links no register and frees six
--- bytes.
+-- Only `c.j` is short enough for two bytes. It needs the C extension, links no
+-- register and frees six bytes.
 pub record MayBeCJ (section : List ℕ) (relocations : List Relocation) (i : ℕ) : Type 0 where
   pub c_extension : (relocation_at relocations i).may_compress ≡ true
   pub links_none : link_register OfJalr section (relocation_at relocations i).offset ≡ 0

@@ -73,9 +73,9 @@ NearCalls36AreWritable = (start base : ℕ) (items : List Item) (shapes kept fre
     → ¬ IsUnwritable LoongArch64 (section_of bytes base (deletions_of_run items kept) start)
     (item_at items i) error
 
--- The site is a pair of LoongArch that computes an address. It and its target lie in the first
--- 2 ^ 31 - 2 ^ 13 bytes of the run: the pages of `pcalau12i` reach from one to the other, whatever is
--- deleted.
+-- The site is a pair of LoongArch that computes an address. It and its target lie in the
+-- first 2 ^ 31 - 2 ^ 13 bytes of the run: the pages of `pcalau12i` reach from one to the
+-- other, whatever is deleted.
 pub record IsNearAddress (item : Item) : Type 0 where
   pub shapes : HasShapesOf PCALA item
   pub offset : offset_of item < 2 ^ 31 - 2 ^ 13
@@ -111,7 +111,8 @@ pub record IsOfRun (machine : Machine) (bytes : List ℕ) (base : ℕ) (items : 
   pub is : item_at items index ≡ item
   pub may_be : MayBePacked machine bytes base item (choice_of shapes index)
 
--- `pack_run` rejects none of such items of a relaxed run for its reach, with the deletions of the run.
+-- `pack_run` rejects none of such items of a relaxed run for its reach, with
+-- the deletions of the run.
 abbrev pub NoneIsOutOfReach : Type 0
 NoneIsOutOfReach = (machine : Machine) (start base : ℕ) (items : List Item)
     (shapes kept freed bytes : List ℕ) → AreItems start items

@@ -24,22 +24,23 @@ pub fn calls_are_shrunk_alike()
     ensures { CallsAreShrunkAlike }
 {}
 
-/// As many bytes of each item stay as `relax` says, where a run is packed with the deletions that it
-/// returns, and they are the item's first ones. So `pack_run` never returns `NotItsFirstBytes` then.
+/// As many bytes of each item stay as `relax` says, where a run is packed with the
+/// deletions that it returns, and they are the item's first ones. So `pack_run` never
+/// returns `NotItsFirstBytes` then.
 pub fn first_bytes_are_kept()
     ensures { FirstBytesAreKept }
 {}
 
 /// What `relax` made shorter, `pack_run` can write with the deletions that it returns: the written
 /// instruction reaches the target. So where the bytes of a site are those that it was made of
-/// (`has_its_instructions` of `linker_runs`), and the site has a short shape, `pack_run` never returns
-/// `OutOfReach` for it, nor any other error that is about the site alone.
+/// (`has_its_instructions` of `linker_runs`), and the site has a short shape, `pack_run` never
+/// returns `OutOfReach` for it, nor any other error that is about the site alone.
 pub fn short_sites_are_writable()
     ensures { ShortSitesAreWritable }
 {}
 
-/// Each call of RISC-V that has its instructions, `pack_run` can write where it and its target lie in
-/// the first 2 GiB less 2 KiB of the run, also where it stays long. So `pack_run` never returns
+/// Each call of RISC-V that has its instructions, `pack_run` can write where it and its target lie
+/// in the first 2 GiB less 2 KiB of the run, also where it stays long. So `pack_run` never returns
 /// `OutOfReach` for such a run.
 pub fn near_calls_are_writable()
     ensures { NearCallsAreWritable }
@@ -51,15 +52,16 @@ pub fn near_calls_36_are_writable()
     ensures { NearCalls36AreWritable }
 {}
 
-/// The same of each `R_LARCH_PCALA_HI20` and `R_LARCH_PCALA_LO12` that have their instructions, where
-/// they and their target lie in the first 2 GiB less 8 KiB of the run.
+/// The same of each `R_LARCH_PCALA_HI20` and `R_LARCH_PCALA_LO12` that have their instructions,
+/// where they and their target lie in the first 2 GiB less 8 KiB of the run.
 pub fn near_addresses_are_writable()
     ensures { NearAddressesAreWritable }
 {}
 
-/// With the deletions that `relax` returns, `pack_run` never returns `OutOfReach` where the items that
-/// it is given are of the run and each of their sites that has short shapes has its instructions
-/// (`has_its_instructions` of `linker_runs`), and where the site stays long, is near its target:
+/// With the deletions that `relax` returns, `pack_run` never returns `OutOfReach` where the
+/// items that it is given are of the run and each of their sites that has short shapes has
+/// its instructions (`has_its_instructions` of `linker_runs`), and where the site stays
+/// long, is near its target:
 /// - of RISC-V both lie in the first 2 GiB less 2 KiB of the run;
 /// - of `R_LARCH_CALL36` at multiples of 4 in the first 128 GiB less 128 KiB;
 /// - of `R_LARCH_PCALA_HI20` and `R_LARCH_PCALA_LO12` in the first 2 GiB less 8 KiB.
@@ -79,8 +81,8 @@ pub fn rewritten_sites_have_instructions()
     ensures { RewrittenSitesHaveInstructions }
 {}
 
-/// Of what rewrites delete, as `rewritten_items_into` lists it, no byte stays where a run is packed with
-/// the deletions that `relax` returns.
+/// Of what rewrites delete, as `rewritten_items_into` lists it, no byte stays where a run is packed
+/// with the deletions that `relax` returns.
 pub fn deleted_bytes_go()
     ensures { DeletedBytesGo }
 {}

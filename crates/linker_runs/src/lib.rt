@@ -1,5 +1,6 @@
-//! Runs of code that become shorter: the items that a section's relocations make, which instructions
-//! become shorter and how many nops each alignment keeps, and sections without the bytes that they lose.
+//! Runs of code that become shorter: the items that a section's relocations make, which
+//! instructions become shorter and how many nops each alignment keeps, and sections without the
+//! bytes that they lose.
 #![tactic(auto)]
 
 mod guesses;

@@ -132,7 +132,8 @@ pub(crate) fn is_call(section: &[u8], offset: u64) -> bool
         || RelaxationKind::CallToB.matches(section, offset)
 }
 
-/// Whether a pair that can become `pcaddi` is at an offset: `pcalau12i` and `addi.d` of one register.
+/// Whether a pair that can become `pcaddi` is at an offset: `pcalau12i` and
+/// `addi.d` of one register.
 #[inline]
 pub(crate) fn is_address(section: &[u8], offset: u64) -> bool
     ensures { IsTrue result ↔ IsPcalaAt section.now offset }
@@ -156,8 +157,8 @@ fn is_call36<R: AsRelocation>(section: &[u8], relocations: &[R], index: usize) -
 #[inline]
 fn has_low_part<R: AsRelocation>(relocations: &[R], index: usize) -> bool
     requires { index + 2 < length relocations.now }
-    ensures { IsTrue result ↔ (IsRelaxable LoongArch64Relocation.R_LARCH_PCALA_LO12 (map R.relocation relocations.now)
-        (index + 2)
+    ensures { IsTrue result ↔ (IsRelaxable LoongArch64Relocation.R_LARCH_PCALA_LO12
+        (map R.relocation relocations.now) (index + 2)
         × ((relocation_at (map R.relocation relocations.now) (index + 2)).offset
         ≡ (relocation_at (map R.relocation relocations.now) index).offset + 4)
         × ((relocation_at (map R.relocation relocations.now) (index + 2)).target
@@ -219,9 +220,11 @@ fn site_at<R: AsRelocation>(
 ) -> Option<Site>
     requires index { index < length relocations.now }
     requires base { base + length section.now < 2 ^ 64 }
-    requires inside { (relocation_at (map R.relocation relocations.now) index).offset ≤ length section.now }
+    requires inside { (relocation_at (map R.relocation relocations.now) index).offset
+        ≤ length section.now }
     ensures { MatchOption result
-        ((here : sites) → ¬ IsLoongArchSite section.now base (map R.relocation relocations.now) index here)
+        ((here : sites)
+        → ¬ IsLoongArchSite section.now base (map R.relocation relocations.now) index here)
         (IsLoongArchSite section.now base (map R.relocation relocations.now) index) }
 {
     let relocation = relocation_at(relocations, index);

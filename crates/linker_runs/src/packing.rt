@@ -1,7 +1,7 @@
 //! A section of a relaxed run, packed.
 
-ghost use Rattle.std.specs.Prelude.{◌≡◌, ◌+◌, ◌-◌, ◌≤◌, ◌<◌, ◌^◌, ◌++◌, ◌↔◌, ◌*◌, ◌%◌, ℕ, length, map};
-ghost use Rattle.std.specs.Prelude.{take, drop, true, false};
+ghost use Rattle.std.specs.Prelude.{◌≡◌, ◌+◌, ◌-◌, ◌≤◌, ◌<◌, ◌^◌, ◌++◌, ◌↔◌, ◌*◌};
+ghost use Rattle.std.specs.Prelude.{◌%◌, ℕ, length, map, take, drop, true, false};
 ghost use Rattle.std.specs.Prelude.{List, IsTrue, IfOk, IfErr, OnOk, OnErr, IfSome, IfNone};
 ghost use Rattle.linker_base.specs.Deletions.{rank};
 ghost use Rattle.linker_base.specs.Deltas.{deletions_of};
@@ -63,9 +63,9 @@ pub enum ItemError {
     Overlaps,
     /// It doesn't lie in the section.
     OutOfSection,
-    /// Bytes between the item before it, or the section's begin, and it are deleted, so that an item
-    /// is missing. The index is that behind the last item where bytes between that and the section's
-    /// end are.
+    /// Bytes between the item before it, or the section's begin, and it are deleted, so that an
+    /// item is missing. The index is that behind the last item where bytes between that and the
+    /// section's end are.
     DeletedOutside,
     /// So many bytes of it stay, but they aren't its first ones.
     NotItsFirstBytes,
@@ -547,10 +547,10 @@ pub fn packed_run_len(base: u64, len: usize, deltas: &[RelaxDelta]) -> usize
 }
 
 /// Whether a site is eight bytes of a section, of instructions that can have its shapes: of RISC-V
-/// `auipc` and `jalr` with `CALL`, or with `TAIL_C` where they link x0; of LoongArch `pcaddu18i` and
-/// `jirl` with `CALL36`, or `pcalau12i` and `addi.d` of one register with `PCALA`. The section begins
-/// at the input offset `base` of the run. A site of which the linker has decided has none of these
-/// shapes; an alignment has no instructions to be tested.
+/// `auipc` and `jalr` with `CALL`, or with `TAIL_C` where they link x0; of LoongArch `pcaddu18i`
+/// and `jirl` with `CALL36`, or `pcalau12i` and `addi.d` of one register with `PCALA`. The section
+/// begins at the input offset `base` of the run. A site of which the linker has decided has none of
+/// these shapes; an alignment has no instructions to be tested.
 ///
 /// Where this is so of a site that `relax` made shorter, `pack_run` can write it: the instruction
 /// reaches its target.

@@ -92,8 +92,8 @@ pub(crate) fn next_alignment<R: AsRelocation>(relocations: &[R], index: usize) -
     relocations.len()
 }
 
-/// What has to divide the address of the first of so many bytes of nops, so that they are enough: the
-/// least power of two that leaves no more to fill.
+/// What has to divide the address of the first of so many bytes of nops, so that they are enough:
+/// the least power of two that leaves no more to fill.
 #[inline]
 fn enough_at(nops: u64) -> u64
     requires { nops < 2 ^ 63 }
@@ -143,7 +143,8 @@ fn shapes_of<R: AsRelocation>(
     next: usize,
 ) -> Shapes
     requires index { index < length relocations.now }
-    requires link { link ≡ link_register OfJalr section.now (relocation_at (map R.relocation relocations.now) index).offset }
+    requires link { link ≡ link_register OfJalr section.now
+        (relocation_at (map R.relocation relocations.now) index).offset }
     requires next { IsNextAlignment (map R.relocation relocations.now) index next }
     ensures { IsShapesOf section.now (map R.relocation relocations.now) index result }
 {
@@ -167,9 +168,11 @@ fn site_at<R: AsRelocation>(
     requires index { index < length relocations.now }
     requires base { base + length section.now < 2 ^ 64 }
     requires called { IsOfCall (relocation_at (map R.relocation relocations.now) index) }
-    requires inside { (relocation_at (map R.relocation relocations.now) index).offset + 8 ≤ length section.now }
+    requires inside { (relocation_at (map R.relocation relocations.now) index).offset + 8
+        ≤ length section.now }
     requires next { IsNextAlignment (map R.relocation relocations.now) index next }
-    ensures some { IfSome result (IsRiscVSite section.now base (map R.relocation relocations.now) index) }
+    ensures some { IfSome result
+        (IsRiscVSite section.now base (map R.relocation relocations.now) index) }
     ensures none { IfNone result ((item : items)
         → ¬ RiscVMakes section.now base (map R.relocation relocations.now) index item) }
 {

@@ -92,8 +92,8 @@ is_offset kind = false
 
 -- What an undefined weak symbol counts for. AArch64's branches go to the next instruction, and what
 -- else is relative to the place is 0 (ELF for the Arm 64-bit Architecture, "Weak References").
--- Branches of RISC-V and PowerPC64 go to themselves, as linkers make them: their psABIs say nothing.
--- Elsewhere its address is 0.
+-- Branches of RISC-V and PowerPC64 go to themselves, as linkers make them: their psABIs say
+-- nothing. Elsewhere its address is 0.
 abbrev pub weak_address : Architecture → RelocationKindInfo → ℕ → ℕ
 weak_address architectures.AArch64 row place =
     if is_branch row.size then sum_64 place 4 else (if is_relative row.kind then place else 0)

@@ -1,5 +1,5 @@
-//! What codes of relocations mean, kept once it is looked up, since a section has relocations of few
-//! types.
+//! What codes of relocations mean, kept once it is looked up, since a section has
+//! relocations of few types.
 
 ghost use Rattle.std.specs.Prelude.{◌≡◌, ◌%◌, None};
 ghost use Rattle.linker_section.specs.Inner.Quick.{AreKnown, IsKnown, IsThere};

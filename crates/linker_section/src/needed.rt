@@ -3,7 +3,8 @@
 ghost use Rattle.std.specs.Prelude.{◌≡◌, ◌%◌, Option};
 ghost use Rattle.linker_elf.specs.declared.elf.RelocationKindInfo.{RelocationKindInfo};
 ghost use Rattle.linker_section.specs.Inner.Codes.{class_by, entry_by, requirements_by};
-ghost use Rattle.linker_section.specs.Needed.{class_of_kind, may_use_stub, loads_plt_word, needs_in};
+ghost use Rattle.linker_section.specs.Needed.{class_of_kind, may_use_stub};
+ghost use Rattle.linker_section.specs.Needed.{loads_plt_word, needs_in};
 ghost use Rattle.linker_utils.specs.Architectures.{IsRow};
 
 use crate::codes::{NO_ROW, number_of};

@@ -5,7 +5,8 @@ ghost use Rattle.std.specs.Prelude.{true, false, length};
 ghost use Rattle.linker_elf.specs.declared.elf.RelocationKindInfo.{RelocationKindInfo};
 ghost use Rattle.linker_section.specs.Fields.{IsField, AreApart};
 ghost use Rattle.linker_section.specs.Inner.Claims.{HasField};
-ghost use Rattle.linker_section.specs.Inner.Order.{place_of, AreIndexes, IsOrder, IsOverlappedBelow};
+ghost use Rattle.linker_section.specs.Inner.Order.{place_of, AreIndexes};
+ghost use Rattle.linker_section.specs.Inner.Order.{IsOrder, IsOverlappedBelow};
 ghost use Rattle.linker_section.specs.Inner.Steps.{IsLimit};
 ghost use Rattle.linker_section.specs.Sections.{BeginsPair};
 

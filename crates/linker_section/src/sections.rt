@@ -6,9 +6,10 @@ ghost use Rattle.linker_base.specs.Uleb.{Uleb};
 ghost use Rattle.linker_section.specs.Fields.{uleb_len, begins_pair};
 ghost use Rattle.linker_section.specs.Relocations.{relocation_in};
 ghost use Rattle.linker_section.specs.Sections.{IsWrittenAt, IsRowValue, IsNumberOfPair};
-ghost use Rattle.linker_section.specs.Sections.{IsNumberWrittenAt, AreAllRelocated, IsFirstRejected};
-ghost use Rattle.linker_section.specs.Sections.{BeginsPair, HasValue};
-ghost use Rattle.linker_section.specs.Inner.Steps.{IsLimit, IsStopped, IsSecond, clear_in, field_of_row};
+ghost use Rattle.linker_section.specs.Sections.{IsNumberWrittenAt, AreAllRelocated};
+ghost use Rattle.linker_section.specs.Sections.{IsFirstRejected, BeginsPair, HasValue};
+ghost use Rattle.linker_section.specs.Inner.Steps.{IsLimit, IsStopped, IsSecond};
+ghost use Rattle.linker_section.specs.Inner.Steps.{clear_in, field_of_row};
 ghost use Rattle.linker_section.specs.Inner.Saved.{Restores};
 ghost use Rattle.linker_section.specs.Inner.Steps.{IsPairOutcome, Reached, IsStep};
 ghost use Rattle.linker_section.specs.Values.{has_value, offset_at, IsAscending};
@@ -292,9 +293,9 @@ pub(crate) struct Step {
     pub(crate) last: Field,
 }
 
-/// Writes the value of the relocation at an index, and where it is the first of a pair the number of
-/// both, and keeps the bytes that were there before. By itself, since most values are written by
-/// `write_quickly`.
+/// Writes the value of the relocation at an index, and where it is the first of a pair the
+/// number of both, and keeps the bytes that were there before. By itself, since most values are
+/// written by `write_quickly`.
 #[inline(never)]
 pub(crate) fn write_one(
     architecture: Architecture,
@@ -422,8 +423,8 @@ fn write_in_any_order(
     Ok(())
 }
 
-/// The same as `write_in_any_order`, where the values of the relocations below a count are written: they
-/// are put back first.
+/// The same as `write_in_any_order`, where the values of the relocations below a count are written:
+/// they are put back first.
 fn write_again(
     architecture: Architecture,
     addresses: &Addresses,

@@ -1,5 +1,6 @@
--- What two relocations make of the ULEB128 number that they are at (RISC-V and LoongArch ELF psABIs:
--- `R_RISCV_SET_ULEB128` and `R_RISCV_SUB_ULEB128`, `R_LARCH_ADD_ULEB128` and `R_LARCH_SUB_ULEB128`).
+-- What two relocations make of the ULEB128 number that they are at (RISC-V and
+-- LoongArch ELF psABIs: `R_RISCV_SET_ULEB128` and `R_RISCV_SUB_ULEB128`,
+-- `R_LARCH_ADD_ULEB128` and `R_LARCH_SUB_ULEB128`).
 use Rattle.std.specs.Prelude.{◌≡◌, ℕ, List, Option, Some, Result, Ok, Err}
 use Rattle.linker_base.specs.Uleb.{Uleb, IsUlebWritten, IsUlebCause}
 use Rattle.linker_elf.specs.Value.{sum_64, difference_64}

@@ -8,8 +8,8 @@ use Rattle.linker_elf.specs.declared.elf.RelocationKindInfo.{RelocationKindInfo}
 use Rattle.linker_elf.specs.declared.elf.relocate.RelocateError.{RelocateError}
 use Rattle.linker_utils.specs.declared.elf.WriteError.{WriteError}
 
--- the least number within bounds, and the last one, which is before their end; of no bounds those of
--- 64 bits
+-- the least number within bounds, and the last one, which is before their end; of no bounds those
+-- of 64 bits
 abbrev pub least_within : Bounds → ℤ
 least_within None = neg_ℤ (pos (2 ^ 63))
 least_within (Some b) = b.0

@@ -1,7 +1,8 @@
 //! What the codes and numbers of an ELF file's architecture name: relocations by `r_type`, and
 //! forms and rewrites by their places in their enums.
 
-ghost use Rattle.std.specs.Prelude.{◌≡◌, ◌≤◌, ◌↔◌, ℕ, IsTrue, List, Option, Some, IfSome, IfNone, length};
+ghost use Rattle.std.specs.Prelude.{◌≡◌, ◌≤◌, ◌↔◌, ℕ, IsTrue, List};
+ghost use Rattle.std.specs.Prelude.{Option, Some, IfSome, IfNone, length};
 ghost use Rattle.linker_base.specs.Rewrite.{CanRewrite};
 ghost use Rattle.linker_utils.specs.Architectures.{IsRow, IsElfName, IsRole, form_of_number};
 ghost use Rattle.linker_utils.specs.Architectures.{rewrite_of_number, relaxation_rewrite};
@@ -57,8 +58,8 @@ macro_rules! of_kind {
     };
 }
 
-/// What a macro makes of an architecture's module, of the enum of its relocations, of its variant of
-/// `Relaxation`, and of what it is given.
+/// What a macro makes of an architecture's module, of the enum of its relocations, of its variant
+/// of `Relaxation`, and of what it is given.
 macro_rules! by_architecture {
     ($architecture:expr, $make:ident $given:tt) => {
         match $architecture {
@@ -74,7 +75,8 @@ macro_rules! by_architecture {
 }
 
 macro_rules! chosen {
-    ($module:ident $names:ident $of:ident ($code:expr, $section:expr, $offset:expr, $facts:expr)) => {{
+    ($module:ident $names:ident $of:ident
+        ($code:expr, $section:expr, $offset:expr, $facts:expr)) => {{
         let name = $names::from_elf($code);
         let chosen = $module::choose(name, $section, $offset, $facts);
         Choice {
@@ -277,11 +279,11 @@ impl Architecture {
         by_architecture!(self, chosen(code, section, offset, facts))
     }
 
-    /// Whether the relocation with a code, `r_type` in ELF files, can be rewritten if each other one
-    /// of its sequence can: whether `choose` changes something with `group_fits`. A linker calls it
-    /// for each relocation of the sequence before it chooses, with the facts that it chooses by, and
-    /// sets `group_fits` for all of them if all fit, as `fits` of `aarch64`, `riscv64`, `loongarch64`,
-    /// `ppc64` and `x86_64` says.
+    /// Whether the relocation with a code, `r_type` in ELF files, can be rewritten if each other
+    /// one of its sequence can: whether `choose` changes something with `group_fits`. A linker
+    /// calls it for each relocation of the sequence before it chooses, with the facts that it
+    /// chooses by, and sets `group_fits` for all of them if all fit, as `fits` of `aarch64`,
+    /// `riscv64`, `loongarch64`, `ppc64` and `x86_64` says.
     ///
     /// ```
     /// use linker_utils::elf::{Architecture, LinkFacts};
@@ -392,8 +394,8 @@ impl Architecture {
         }
     }
 
-    /// What a relocation of a ULEB128 number does; `None` for all others. There are two of them at one
-    /// number: `write_uleb128_pair` writes what both make of it.
+    /// What a relocation of a ULEB128 number does; `None` for all others. There are two of them at
+    /// one number: `write_uleb128_pair` writes what both make of it.
     pub fn uleb128_role(self, code: u32) -> Option<Uleb128Role>
         ensures { IsRole self code result }
     {
@@ -421,9 +423,9 @@ impl Architecture {
     ///
     /// # Errors
     ///
-    /// `NotFirst` if the relocation with the code is neither of those that set or add. Else `Number`
-    /// with the error of `utils::write_uleb128`: a difference below 0 is one of 64 bits, which fits
-    /// ten bytes alone. Nothing is written then.
+    /// `NotFirst` if the relocation with the code is neither of those that set or add. Else
+    /// `Number` with the error of `utils::write_uleb128`: a difference below 0 is one of 64 bits,
+    /// which fits ten bytes alone. Nothing is written then.
     pub fn write_uleb128_pair(
         self,
         code: u32,
@@ -494,7 +496,8 @@ fn number_or_zero(bytes: &[u8]) -> u64
     utils::read_uleb128(&mut content).unwrap_or(0)
 }
 
-/// The number that the values of a pair make of the existing one, by the role of its first relocation.
+/// The number that the values of a pair make of the existing one, by the role
+/// of its first relocation.
 fn pair_number(role: Uleb128Role, bytes: &[u8], first: u64, second: u64) -> u64
     ensures { IsPairNumber role bytes.now first second result }
 {

@@ -22,8 +22,8 @@ pub record AreLoadsRewrittenAs (s : Setting) (start : ℕ) (words : List ℕ) (k
 
 abbrev pub AreLoadsReturned : Setting → ℕ → List ℕ → List Bool → List ℕ → List ℕ → List ℕ → List ℕ
     → List DecisionNumbers → List DecisionNumbers → ℕ → ℕ → ℕ → Type 0
-AreLoadsReturned s start words kept bytes bytes_after section section_after old new old_faulty faulty
-    status =
+AreLoadsReturned s start words kept bytes bytes_after section section_after old new
+    old_faulty faulty status =
     (drop (length bytes / 24) new ≡ drop (length bytes / 24) old)
     × (((status ≡ code Success) × (faulty ≡ old_faulty)
     × AreLoadsRewrittenAs s start words kept bytes bytes_after section section_after

@@ -35,9 +35,11 @@ pub record AreMerged (all : List (ℕ × ℕ)) (deltas : List RelaxDelta) : Type
 -- why the additional deletions aren't merged: out of memory although they can be, the first of the
 -- old ones that isn't valid, or the first of the additional ones that overlaps others
 abbrev pub IsMergeError : List (ℕ × ℕ) → List (ℕ × ℕ) → MergeError → Type 0
-IsMergeError deletions additional OutOfMemory = IsValid deletions × AreDisjoint (deletions ++ additional)
+IsMergeError deletions additional OutOfMemory = IsValid deletions
+    × AreDisjoint (deletions ++ additional)
 IsMergeError deletions additional (Invalid at) = IsFirstInvalid deletions at
-IsMergeError deletions additional (Overlapping at) = IsValid deletions × IsFirstOverlapping deletions additional at
+IsMergeError deletions additional (Overlapping at) = IsValid deletions
+    × IsFirstOverlapping deletions additional at
 
 -- the query at the index is the first that is less than the one before it
 pub record IsFirstDecrease (queries : List ℕ) (at : ℕ) : Type 0 where

@@ -148,8 +148,8 @@ IsRunReturned None before after used_before used old new status =
     (status ≡ code NotProvided) × (after ≡ before) × (used ≡ used_before) × (new ≡ old)
 IsRunReturned (Some run) before after used_before used old new status =
     AreBothCopied run.prefix before after used_before used
-    (record { len = run_len run; first = run.first; count = run.count; spacing = run_spacing run }) old new
-    status
+    (record { len = run_len run; first = run.first; count = run.count; spacing = run_spacing run })
+    old new status
 
 abbrev pub IsFoundWord : Option ℕ → ℕ → ℕ → ℕ → Type 0
 IsFoundWord None old new status = (status ≡ code NotProvided) × (new ≡ old)

@@ -104,7 +104,8 @@ IsPlacing code_of old new old_faulty faulty status =
 
 -- ---- a call
 
-pub record HaveLengths (branches : List Branch) (boundaries : List ℕ) (arrays : Arrays) : Type 0 where
+pub record HaveLengths (branches : List Branch) (boundaries : List ℕ) (arrays : Arrays)
+    : Type 0 where
   pub ways : length arrays.ways ≡ length branches
   pub before : length arrays.before ≡ length boundaries + 1
 

@@ -52,7 +52,8 @@ abbrev pub field_or_none : Option FieldValue → FieldValue
 field_or_none None = record { known = record { start = 0; end = 0 }; bits = 0; rounding = 0 }
 field_or_none (Some f) = f
 
-pub record IsMadeInNumbers (m : Recognised Relaxation ℕ) (numbers : RecognisedNumbers) : Type 0 where
+pub record IsMadeInNumbers (m : Recognised Relaxation ℕ) (numbers : RecognisedNumbers)
+    : Type 0 where
   pub choice :
       IsChoiceInNumbers (relaxation_architecture m.choice.kind) m.choice numbers.choice
   pub offset : numbers.offset ≡ m.offset
@@ -100,8 +101,8 @@ pub record IsWindowGiven (architecture : Architecture) (r_type : ℕ) (original 
       → (status ≡ code Success) × IsWindowOf architecture r_type original o new
 
 -- what was found of the choice, or that it leaves other bytes
-abbrev pub IsChosenInNumbers : Option (Recognised Relaxation ℕ) → RecognisedNumbers → RecognisedNumbers
-    → ℕ → Type 0
+abbrev pub IsChosenInNumbers : Option (Recognised Relaxation ℕ) → RecognisedNumbers
+    → RecognisedNumbers → ℕ → Type 0
 IsChosenInNumbers None old new status = (status ≡ code LeavesOtherBytes) × (new ≡ old)
 IsChosenInNumbers (Some m) old new status = (status ≡ code Success) × IsMadeInNumbers m new
 

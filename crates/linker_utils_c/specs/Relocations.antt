@@ -41,7 +41,8 @@ pub record InNumbers (info : RelocationKindInfo) (numbers : RelocationNumbers) :
   pub implicit_addend : numbers.implicit_addend ≡ flag_number info.implicit_addend
 
 -- a meaning is returned in numbers with the status, and nothing is written where there is none
-abbrev pub IsReturned : Option RelocationKindInfo → ℕ → RelocationNumbers → RelocationNumbers → Type 0
+abbrev pub IsReturned : Option RelocationKindInfo → ℕ → RelocationNumbers
+    → RelocationNumbers → Type 0
 IsReturned None status before after = (status ≡ code UnknownRelocation) × (after ≡ before)
 IsReturned (Some info) status before after = (status ≡ code Success) × InNumbers info after
 

@@ -166,8 +166,8 @@ pub record AreDeletionsTo (bytes section : List ℕ) (decisions : List Decision)
 abbrev pub IsPlacedReturned : Setting → List KeptGroups → List ℕ → List ℕ → List ℕ → List ℕ
     → List DecisionNumbers → List DecisionNumbers → List Deletion → List Deletion → ℕ → ℕ → ℕ → ℕ
     → ℕ → Type 0
-IsPlacedReturned s kept bytes bytes_after section section_after old new deleted deleted_after old_len
-    len old_faulty faulty status =
+IsPlacedReturned s kept bytes bytes_after section section_after old new deleted deleted_after
+    old_len len old_faulty faulty status =
     (drop (length bytes / 24) new ≡ drop (length bytes / 24) old)
     × (((status ≡ code Success) × (faulty ≡ old_faulty)
     × IsRewrittenAs s kept bytes bytes_after section section_after (decisions_in new)

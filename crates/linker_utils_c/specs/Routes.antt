@@ -48,8 +48,8 @@ IsRouteTo target addresses (Some symbol) r section status old new =
     × IsRouteReturned route status old new
 
 -- that of the relocation at an index, if there is one there, and its symbol in the table
-abbrev pub IsRouteAt : Description → Addresses → List Symbol → Option Rela → List ℕ → ℕ → RouteNumbers
-    → RouteNumbers → Type 0
+abbrev pub IsRouteAt : Description → Addresses → List Symbol → Option Rela → List ℕ → ℕ
+    → RouteNumbers → RouteNumbers → Type 0
 IsRouteAt target addresses symbols None section status old new =
     (status ≡ code TooShort) × (new ≡ old)
 IsRouteAt target addresses symbols (Some r) section status old new =

@@ -122,5 +122,5 @@ pub record IsSectionReturned (architecture : Architecture) (addresses : Addresse
     pub short : length memory < room_of bytes → (status ≡ code ShortMemory) × (after ≡ before)
         × (faulty ≡ old_faulty)
     pub long : room_of bytes ≤ length memory → (outcome : Result Unit SectionError)
-        × IsSectionOutcome architecture addresses bytes symbols before after old_faulty faulty status
-        outcome
+        × IsSectionOutcome architecture addresses bytes symbols before after
+        old_faulty faulty status outcome

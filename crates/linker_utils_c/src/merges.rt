@@ -190,8 +190,8 @@ fn why_not(alloc: Global, deltas: &[RelaxDelta], additional: &[Deletion]) -> Opt
     }
 }
 
-// A deletion in 64 bits: 40 of its offset, above 24 of how many bytes it is. Such numbers are sorted
-// sooner than pairs.
+// A deletion in 64 bits: 40 of its offset, above 24 of how many bytes it is. Such numbers are
+// sorted sooner than pairs.
 #[derive(Clone, Copy)]
 struct Key {
     bits: u64,

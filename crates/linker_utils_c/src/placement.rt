@@ -111,8 +111,18 @@ fn place(
     requires ways { length ways.old ≡ length code.now.branches.now }
     requires before { length before.old ≡ length code.now.boundaries.now + 1 }
     ensures { IsPlacing code.now
-        (record { stubs = stubs.old; stubs_used = stubs_used.old; ways = ways.old; before = before.old })
-        (record { stubs = stubs.new; stubs_used = stubs_used.new; ways = ways.new; before = before.new })
+        (record {
+          stubs = stubs.old;
+          stubs_used = stubs_used.old;
+          ways = ways.old;
+          before = before.old;
+        })
+        (record {
+          stubs = stubs.new;
+          stubs_used = stubs_used.new;
+          ways = ways.new;
+          before = before.new;
+        })
         faulty.old faulty.new result }
 {
     match place_stubs(alloc, code) {
@@ -171,8 +181,18 @@ pub extern "C" fn linker_utils_place_stubs_nonnull(
     faulty: &mut usize,
 ) -> u32
     ensures { IsPlacingOf branches.now targets.now boundaries.now shape.now
-        (record { stubs = stubs.old; stubs_used = stubs_used.old; ways = ways.old; before = before.old })
-        (record { stubs = stubs.new; stubs_used = stubs_used.new; ways = ways.new; before = before.new })
+        (record {
+          stubs = stubs.old;
+          stubs_used = stubs_used.old;
+          ways = ways.old;
+          before = before.old;
+        })
+        (record {
+          stubs = stubs.new;
+          stubs_used = stubs_used.new;
+          ways = ways.new;
+          before = before.new;
+        })
         faulty.old faulty.new result }
 {
     if !have_lengths(branches.len(), boundaries.len(), ways.len(), before.len()) {

@@ -24,8 +24,10 @@ pub extern "C" fn linker_utils_value(
     operands: &Operands,
     value: &mut i64,
 ) -> u32
-    ensures known { IfSome (architecture_of machine) (λ architecture. (meaning : Option RelocationKindInfo)
-        × IsRow architecture r_type meaning × IsValueOf meaning operands.now result value.old value.new) }
+    ensures known { IfSome (architecture_of machine)
+        (λ architecture. (meaning : Option RelocationKindInfo)
+        × IsRow architecture r_type meaning
+        × IsValueOf meaning operands.now result value.old value.new) }
     ensures unknown { IfNone (architecture_of machine)
         ((result ≡ code Status.UnknownArchitecture) × (value.new ≡ value.old)) }
 {
@@ -60,7 +62,8 @@ pub struct Reach {
 /// `UnknownRelocation`.
 #[unsafe(no_mangle)]
 pub extern "C" fn linker_utils_reach(machine: u16, r_type: u32, reach: &mut Reach) -> u32
-    ensures known { IfSome (architecture_of machine) (λ architecture. (meaning : Option RelocationKindInfo)
+    ensures known { IfSome (architecture_of machine)
+        (λ architecture. (meaning : Option RelocationKindInfo)
         × IsRow architecture r_type meaning × IsReachOf meaning result reach.old reach.new) }
     ensures unknown { IfNone (architecture_of machine)
         ((result ≡ code Status.UnknownArchitecture) × (reach.new ≡ reach.old)) }
@@ -167,7 +170,8 @@ fn relocate_all(
     relocations: &[Relocation],
     faulty: &mut usize,
 ) -> u32
-    ensures { AreRelocatedOrRejected architecture relocations.now section.old section.new faulty.old faulty.new result }
+    ensures { AreRelocatedOrRejected architecture relocations.now section.old section.new
+        faulty.old faulty.new result }
 {
     let mut at = 0;
     while at < relocations.len() {
@@ -203,7 +207,8 @@ pub extern "C" fn linker_utils_relocate_all_nonnull(
         AreRelocatedOrRejected architecture relocations.now section.old section.new
         faulty.old faulty.new result) }
     ensures unknown { IfNone (architecture_of machine)
-        ((result ≡ code Status.UnknownArchitecture) × (section.new ≡ section.old) × (faulty.new ≡ faulty.old)) }
+        ((result ≡ code Status.UnknownArchitecture) × (section.new ≡ section.old)
+        × (faulty.new ≡ faulty.old)) }
 {
     let Some(architecture) = Architecture::from_machine(machine) else {
         return Status::UnknownArchitecture.number();

@@ -226,7 +226,8 @@ pub extern "C" fn linker_utils_can_apply_nonnull(
 ) -> u32
     ensures known { IfOk (named_rewrite machine rewrite opcode_len)
         (λ named. TakesRewrite (relaxation_rewrite named) section.now offset result) }
-    ensures unknown { IfErr (named_rewrite machine rewrite opcode_len) (λ status. result ≡ code status) }
+    ensures unknown { IfErr (named_rewrite machine rewrite opcode_len)
+        (λ status. result ≡ code status) }
 {
     let Some(architecture) = Architecture::from_machine(machine) else {
         return Status::UnknownArchitecture.number();
@@ -274,9 +275,11 @@ pub extern "C" fn linker_utils_matches_nonnull(
 ) -> u32
     ensures known { IfOk (named_rewrite machine rewrite opcode_len)
         (λ named. MatchesRewrite named section.now offset result) }
-    ensures rewritable { IfOk (named_rewrite machine rewrite opcode_len) (λ named. result ≡ code Status.Success
+    ensures rewritable { IfOk (named_rewrite machine rewrite opcode_len)
+        (λ named. result ≡ code Status.Success
         → CanRewrite (relaxation_rewrite named) section.now offset) }
-    ensures unknown { IfErr (named_rewrite machine rewrite opcode_len) (λ status. result ≡ code status) }
+    ensures unknown { IfErr (named_rewrite machine rewrite opcode_len)
+        (λ status. result ≡ code status) }
 {
     let Some(architecture) = Architecture::from_machine(machine) else {
         return Status::UnknownArchitecture.number();
@@ -308,7 +311,8 @@ pub extern "C" fn linker_utils_apply_nonnull(
         (λ named. result ≡ code Status.Success
         → IsRewritten (relaxation_rewrite named) section.old section.new
         offset.old offset.new addend.old addend.new) }
-    ensures unknown { IfErr (named_rewrite machine rewrite opcode_len) (λ status. result ≡ code status) }
+    ensures unknown { IfErr (named_rewrite machine rewrite opcode_len)
+        (λ status. result ≡ code status) }
     ensures section_stays { result ≢ code Status.Success → section.new ≡ section.old }
     ensures offset_stays { result ≢ code Status.Success → offset.new ≡ offset.old }
     ensures addend_stays { result ≢ code Status.Success → addend.new ≡ addend.old }
@@ -333,7 +337,8 @@ pub extern "C" fn linker_utils_rewrite_window(
     opcode_len: u8,
     window: &mut RewriteWindow,
 ) -> u32
-    ensures found { IfOk (named_rewrite machine rewrite opcode_len) (λ named. (result ≡ code Status.Success)
+    ensures found { IfOk (named_rewrite machine rewrite opcode_len)
+        (λ named. (result ≡ code Status.Success)
         × (window.new ≡ window_of_rewrite (relaxation_rewrite named))) }
     ensures unknown { IfErr (named_rewrite machine rewrite opcode_len)
         (λ status. (result ≡ code status) × (window.new ≡ window.old)) }
@@ -358,7 +363,8 @@ pub extern "C" fn linker_utils_next_modifier(
     opcode_len: u8,
     modifier: &mut u32,
 ) -> u32
-    ensures found { IfOk (named_rewrite machine rewrite opcode_len) (λ named. (result ≡ code Status.Success)
+    ensures found { IfOk (named_rewrite machine rewrite opcode_len)
+        (λ named. (result ≡ code Status.Success)
         × (modifier.new ≡ modifier_number (relaxation_modifier named))) }
     ensures unknown { IfErr (named_rewrite machine rewrite opcode_len)
         (λ status. (result ≡ code status) × (modifier.new ≡ modifier.old)) }

@@ -360,8 +360,8 @@ pub extern "C" fn linker_utils_rewrite_placed_section_nonnull(
     ensures known { IfSome (architecture_of machine) (λ architecture. IfSome (phase_of phase)
         (λ when. IsPlacedReturned (setting architecture when output.now symbols.now addresses.now
         values.now) kept.now relocations.old relocations.new section.old section.new decisions.old
-        decisions.new deleted.old deleted.new deleted_used.old deleted_used.new faulty.old faulty.new
-        result)) }
+        decisions.new deleted.old deleted.new deleted_used.old deleted_used.new
+        faulty.old faulty.new result)) }
     ensures unknown_phase { IfSome (architecture_of machine) (λ _. IfNone (phase_of phase)
         ((result ≡ code Status.UnknownPhase) × (relocations.new ≡ relocations.old)
         × (section.new ≡ section.old) × (decisions.new ≡ decisions.old)
@@ -417,8 +417,8 @@ pub extern "C" fn linker_utils_survey_address_loads_nonnull(
 ) -> u32
     ensures known { IfSome (architecture_of machine) (λ architecture. (result ≡ code Status.Success)
         × AreLoadsSurveyed (setting architecture Phase.Distances output.now symbols.now
-        addresses.now values.now) words_start words.now relocations.now section.now kept.old kept.new
-        (length relocations.now / 24)) }
+        addresses.now values.now) words_start words.now relocations.now section.now
+        kept.old kept.new (length relocations.now / 24)) }
     ensures unknown { IfNone (architecture_of machine)
         ((result ≡ code Status.UnknownArchitecture) × (kept.new ≡ kept.old)) }
 {

@@ -135,19 +135,23 @@ macro_rules! choices {
             R_X86_64_DTPOFF32: [NoOp => R_X86_64_TPOFF32, from_thread_pointer(R_X86_64_TPOFF32)]
             R_X86_64_DTPOFF64: [NoOp => R_X86_64_TPOFF64, from_thread_pointer(R_X86_64_TPOFF64)]
             R_X86_64_GOTPC32_TLSDESC: [
-                TlsDescToLocalExec(3) at LeaOfDescriptor(3) => R_X86_64_TPOFF32, local_exec(GROUP_FITS);
+                TlsDescToLocalExec(3) at LeaOfDescriptor(3)
+                    => R_X86_64_TPOFF32, local_exec(GROUP_FITS);
                 TlsDescToInitialExec at LeaOfDescriptor(3) => R_X86_64_GOTTPOFF, to_initial_exec;
             ]
             R_X86_64_CODE_4_GOTPC32_TLSDESC: [
-                TlsDescToLocalExec(4) at LeaOfDescriptor(4) => R_X86_64_TPOFF32, local_exec(GROUP_FITS);
+                TlsDescToLocalExec(4) at LeaOfDescriptor(4)
+                    => R_X86_64_TPOFF32, local_exec(GROUP_FITS);
                 TlsDescToInitialExec at LeaOfDescriptor(4) => R_X86_64_GOTTPOFF, to_initial_exec;
             ]
             R_X86_64_CODE_5_GOTPC32_TLSDESC: [
-                TlsDescToLocalExec(5) at LeaOfDescriptor(5) => R_X86_64_TPOFF32, local_exec(GROUP_FITS);
+                TlsDescToLocalExec(5) at LeaOfDescriptor(5)
+                    => R_X86_64_TPOFF32, local_exec(GROUP_FITS);
                 TlsDescToInitialExec at LeaOfDescriptor(5) => R_X86_64_GOTTPOFF, to_initial_exec;
             ]
             R_X86_64_CODE_6_GOTPC32_TLSDESC: [
-                TlsDescToLocalExec(6) at LeaOfDescriptor(6) => R_X86_64_TPOFF32, local_exec(GROUP_FITS);
+                TlsDescToLocalExec(6) at LeaOfDescriptor(6)
+                    => R_X86_64_TPOFF32, local_exec(GROUP_FITS);
                 TlsDescToInitialExec at LeaOfDescriptor(6) => R_X86_64_GOTTPOFF, to_initial_exec;
             ]
             R_X86_64_TLSDESC_CALL: [SkipTlsDescCall => R_X86_64_NONE, unrelocated]
@@ -173,8 +177,8 @@ macro_rules! operation {
     };
 }
 
-/// Those of a `mov`, by the count of the bytes before the field, its rewrite and the relocation of an
-/// immediate. It takes only an address that is known, since it also takes a distance.
+/// Those of a `mov`, by the count of the bytes before the field, its rewrite and the relocation of
+/// an immediate. It takes only an address that is known, since it also takes a distance.
 macro_rules! moves {
     ($n:literal, $mov:ident $(($m:literal))? => $name:ident) => {
         table_of!(when [
@@ -185,8 +189,8 @@ macro_rules! moves {
     };
 }
 
-/// What the table of an opcode is used for: that of an operation, by the same as for a `mov`, or with
-/// `access` that of an initial-exec access.
+/// What the table of an opcode is used for: that of an operation, by the same as for a `mov`, or
+/// with `access` that of an initial-exec access.
 macro_rules! by_opcode {
     ($n:literal; $($use:tt)*) => {
         by_opcode!($n, RexMovIndirectToAbsolute($n) => R_X86_64_32S; $($use)*)
@@ -246,7 +250,8 @@ macro_rules! by_name {
 /// The entries of a relocation, by the opcode, which is two bytes before the field.
 #[inline(always)]
 fn entries_by(name: Names, opcode: u8) -> Table<RelaxationKind>
-    ensures table { IsTableOf StandAt (rewrites.IsAskedFor (rewrites.x86_64_table name opcode).instructions)
+    ensures table { IsTableOf StandAt
+        (rewrites.IsAskedFor (rewrites.x86_64_table name opcode).instructions)
         result.now (rewrites.x86_64_table name opcode).entries }
     ensures few { length result.now ≤ 5 }
 {
@@ -263,7 +268,8 @@ fn choice_by_opcode(
     offset: u64,
     facts: &LinkFacts,
 ) -> Chosen<RelaxationKind>
-    requires table { IsTableOf StandAt (rewrites.IsAskedFor (rewrites.x86_64_table name opcode).instructions)
+    requires table { IsTableOf StandAt
+        (rewrites.IsAskedFor (rewrites.x86_64_table name opcode).instructions)
         table.now (rewrites.x86_64_table name opcode).entries }
     requires few { length table.now ≤ 5 }
     requires opcode { opcode ≡ slice_index section.now (offset - 2) }

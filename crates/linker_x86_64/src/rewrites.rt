@@ -7,13 +7,14 @@ ghost use Rattle.std.specs.Prelude.{◌<◌, length, IfSome, IfNone};
 ghost use Rattle.linker_base.specs.Rewrite.{IsRewritable, CanRewrite, rewritten, offset_after};
 ghost use Rattle.linker_base.specs.Rewrite.{addend_after};
 ghost use Rattle.linker_base.specs.RewriteWindow.{window_of_rewrite};
-ghost use Rattle.linker_x86_64.specs.X86Rewrites.{rex_reg_to_rm, evex_reg_to_rm, modrm_reg_to_rm, operand};
-ghost use Rattle.linker_x86_64.specs.X86Rewrites.{prefixed_operand, evex_operand, absolute, by_immediate};
+ghost use Rattle.linker_x86_64.specs.X86Rewrites.{rex_reg_to_rm, evex_reg_to_rm};
+ghost use Rattle.linker_x86_64.specs.X86Rewrites.{modrm_reg_to_rm, operand, prefixed_operand};
+ghost use Rattle.linker_x86_64.specs.X86Rewrites.{evex_operand, absolute, by_immediate};
 ghost use Rattle.linker_x86_64.specs.X86Rewrites.{x86_64_rewrite, x86_64_modifier, KeepsRegister};
 ghost use Rattle.linker_x86_64.specs.X86Rewrites.{original, begins, is_at, is_one_at, legacy};
 ghost use Rattle.linker_x86_64.specs.X86Rewrites.{legacy_or_evex, lea_of_descriptor};
-ghost use Rattle.linker_x86_64.specs.X86Rewrites.{x86_64_originals, x86_64_matches};
-ghost use Rattle.linker_x86_64.specs.X86Rewrites.{x86_64_skipped, HaveFieldAt, x86_64_may_be_skipped};
+ghost use Rattle.linker_x86_64.specs.X86Rewrites.{x86_64_originals, x86_64_matches, x86_64_skipped};
+ghost use Rattle.linker_x86_64.specs.X86Rewrites.{HaveFieldAt, x86_64_may_be_skipped};
 ghost use Rattle.linker_base.specs.declared.relaxation.RelocationModifier.TheVariants.{Normal};
 ghost use Rattle.linker_base.specs.declared.relaxation.RelocationModifier.TheVariants.{SkipNextRelocation};
 ghost use Rattle.linker_x86_64.specs.declared.rewrites.RelaxationKind.TheVariants.{NoOp};
@@ -222,8 +223,8 @@ fn put_immediate(section: &mut [u8], offset: u64, n: u8, opcode: u8, others: u8)
     }
 }
 
-/// The same, as a call of its own. With `put_immediate` inlined for each operation the kit's compiler
-/// doesn't inline `rewrite`, which is then too large.
+/// The same, as a call of its own. With `put_immediate` inlined for each operation the kit's
+/// compiler doesn't inline `rewrite`, which is then too large.
 #[inline]
 fn call_put_immediate(section: &mut [u8], offset: u64, n: u8, opcode: u8, others: u8)
     requires inside { IsRewritable (by_immediate n opcode others) section.old offset }

@@ -1,6 +1,7 @@
 //! The calls that were made jumps.
 
-ghost use Rattle.std.specs.Prelude.{◌≡◌, ◌↔◌, ◌++◌, ◌∷◌, [], ℕ, List, All, IsTrue, IfOk, OnOk, OnErr};
+ghost use Rattle.std.specs.Prelude.{◌≡◌, ◌↔◌, ◌++◌, ◌∷◌, [], ℕ, List};
+ghost use Rattle.std.specs.Prelude.{All, IsTrue, IfOk, OnOk, OnErr};
 ghost use Rattle.linker_riscv64.specs.Packing.{AreApart};
 ghost use Rattle.linkfix.specs.AcceptedCalls.{AreBySite, IsFarFrom};
 ghost use Rattle.linkfix.specs.ByOffset.{placed};

@@ -1,5 +1,5 @@
--- LoongArch: the instructions of `linker_laws`, and those of lazy PLTs in `linker_output`, compared with
--- an emulator. Registers 32 to 63 are those of vectors.
+-- LoongArch: the instructions of `linker_laws`, and those of lazy PLTs in `linker_output`, compared
+-- with an emulator. Registers 32 to 63 are those of vectors.
 use Rattle.std.specs.Prelude.{ℕ, ◌≡◌, ◌+◌, ◌-◌, ◌*◌, ◌/◌, ◌^◌, ◌==◌, ◌&&◌, nat_le, nat_lt}
 use Rattle.std.specs.Prelude.{if◌then◌else◌, Bool, true, false, Option, Some, None}
 use Rattle.std.specs.List.{list_all}

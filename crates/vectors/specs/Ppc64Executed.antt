@@ -1,6 +1,6 @@
--- PowerPC64: the instructions of `linker_laws`, and those of stubs of `linker_output`, compared with
--- an emulator. Registers 32 to 63 are those of floating-point numbers, 64 is the link register, and
--- 65 the count register.
+-- PowerPC64: the instructions of `linker_laws`, and those of stubs of `linker_output`, compared
+-- with an emulator. Registers 32 to 63 are those of floating-point numbers, 64 is the link
+-- register, and 65 the count register.
 use Rattle.std.specs.Prelude.{ℕ, ◌≡◌, ◌+◌, ◌-◌, ◌*◌, ◌/◌, ◌^◌, ◌==◌, nat_lt, if◌then◌else◌}
 use Rattle.std.specs.Prelude.{Bool, true, false, Option, Some, None}
 use Rattle.std.specs.List.{list_all}

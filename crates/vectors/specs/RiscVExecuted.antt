@@ -1,5 +1,6 @@
--- RISC-V: the instructions of `linker_laws`, and those of lazy PLTs in `linker_output`, compared with an
--- emulator. Registers 32 to 63 are those of floating-point numbers, which have 64 bits in the emulator.
+-- RISC-V: the instructions of `linker_laws`, and those of lazy PLTs in `linker_output`,
+-- compared with an emulator. Registers 32 to 63 are those of floating-point numbers, which
+-- have 64 bits in the emulator.
 use Rattle.std.specs.Prelude.{ℕ, ◌≡◌, ◌+◌, ◌-◌, ◌%◌, ◌^◌, ◌==◌, nat_lt, if◌then◌else◌, List, take}
 use Rattle.std.specs.Prelude.{Bool, true, false, Option, Some, None}
 use Rattle.std.specs.Int.{w32, to_le_bytes}

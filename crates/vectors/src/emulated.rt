@@ -17,24 +17,25 @@ ghost use Rattle.vectors.specs.RiscVExecuted as riscv_executed;
 ghost use Rattle.vectors.specs.RiscVTable as riscv_table;
 ghost use Rattle.vectors.specs.X86Executed as x86_executed;
 
-/// AArch64: offsets of loads and stores, `adr` and `adrp`, moves, additions, branches, a number by
-/// four moves, and `adrp` with `add`; and what the instructions of `linker_laws`, and BR and STP, do.
+/// AArch64: offsets of loads and stores, `adr` and `adrp`, moves, additions, branches, a
+/// number by four moves, and `adrp` with `add`; and what the instructions of
+/// `linker_laws`, and BR and STP, do.
 pub fn aarch64()
     ensures agrees { aarch64_table.Agrees }
     ensures steps { aarch64_executed.Agrees }
 {}
 
 /// RISC-V: the forms of 32 bits and of 16, pairs with `lui` or `auipc`, and calls; and what the
-/// instructions of `linker_laws` do, but for the loads and stores of floating-point numbers of 2 and
-/// 16 bytes; and SUB and SRLI.
+/// instructions of `linker_laws` do, but for the loads and stores of floating-point numbers of 2
+/// and 16 bytes; and SUB and SRLI.
 pub fn riscv64()
     ensures agrees { riscv_table.Agrees }
     ensures steps { riscv_executed.Agrees }
 {}
 
-/// LoongArch: immediates of 20, 16 and 12 bits, branches, `pcaddu18i` with `jirl`, numbers by two to
-/// four instructions, and addresses by two and by five; and what the instructions of `linker_laws`
-/// and of lazy PLTs do.
+/// LoongArch: immediates of 20, 16 and 12 bits, branches, `pcaddu18i` with `jirl`, numbers by two
+/// to four instructions, and addresses by two and by five; and what the instructions of
+/// `linker_laws` and of lazy PLTs do.
 pub fn loongarch64()
     ensures agrees { loongarch_table.Agrees }
     ensures steps { loongarch_executed.Agrees }

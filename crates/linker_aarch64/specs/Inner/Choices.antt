@@ -24,7 +24,8 @@ abbrev pub aarch64_tables : Tables RelaxationKind AArch64Relocation
 aarch64_tables =
     record {
       entries = λ name section o. aarch64_entries name;
-      required = λ name at p kind section o. aarch64_matches kind section o × IsAskedFor name section o;
+      required = λ name at p kind section o. aarch64_matches kind section o
+          × IsAskedFor name section o;
       after = λ kind o operands. operands;
       no_op = kinds.NoOp;
     }

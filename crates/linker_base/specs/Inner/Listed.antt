@@ -1,7 +1,7 @@
 -- What holds of the fields of deltas and of a cursor, and of what searches and tests in them find.
 use Rattle.std.specs.Prelude.{◌≡◌, ℕ, ◌+◌, ◌-◌, ◌<◌, ◌≤◌, List, length, map, take, slice_index_or}
-use Rattle.std.specs.Prelude.{slice_index, All, AllPairs, Any, Bool, true, false, ◌++◌, drop, IsPermutation}
-use Rattle.std.specs.Prelude.{◌%◌, ◌^◌}
+use Rattle.std.specs.Prelude.{slice_index, All, AllPairs, Any, Bool, true}
+use Rattle.std.specs.Prelude.{false, ◌++◌, drop, IsPermutation, ◌%◌, ◌^◌}
 use Rattle.std.specs.List.Sorted.{IsNonDecreasing}
 use Rattle.linker_base.specs.declared.relaxation.RelaxDelta.{RelaxDelta}
 use Rattle.linker_base.specs.declared.relaxation.blocks.BlockHead.{BlockHead}
@@ -93,8 +93,8 @@ pub record IsWalked (deletions : List (ℕ × ℕ)) (reached : Reached) : Type 0
   pub sum : reached.deleted ≡ bytes_of (take reached.passed deletions)
   pub end : IsEndOf deletions reached.passed reached.end
 
--- from the first query on, those up to an index lie below an end and have this output, and the query
--- at the index is the last or lies at the end or above
+-- from the first query on, those up to an index lie below an end and have this output, and the
+-- query at the index is the last or lies at the end or above
 pub record IsWrittenInside (queries : List ℕ) (first end output : ℕ) (old : List ℕ) (next : ℕ)
     (out : List ℕ) : Type 0 where
   pub from : first ≤ next

@@ -5,7 +5,8 @@
 
 ghost use Rattle.std.specs.Prelude.{◌≡◌, ◌+◌, ◌-◌, ◌<◌, ◌≤◌, ◌↔◌, ℕ, Bool, true, false, IsTrue};
 
-/// Elements of a list and a test. In an ordered list the first elements pass it and the others don't.
+/// Elements of a list and a test. In an ordered list the first elements pass
+/// it and the others don't.
 pub trait Tested {
     /// How many elements there are, in a contract.
     ghost size: { Self → ℕ };

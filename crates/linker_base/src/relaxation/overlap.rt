@@ -80,8 +80,8 @@ pub fn first_invalid<D: AsDeletion>(deletions: &[D]) -> Option<usize>
     None
 }
 
-// How many of the first deletions lie each below the next. So all of them but the last fit. Four are
-// tested in a turn.
+// How many of the first deletions lie each below the next. So all of them but the last fit. Four
+// are tested in a turn.
 #[inline]
 fn count_rising<D: AsDeletion>(deletions: &[D]) -> usize
     ensures within { result ≤ length deletions.now }

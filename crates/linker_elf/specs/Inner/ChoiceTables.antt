@@ -117,8 +117,8 @@ IsFirstOf A (e ∷ es) otherwise chosen =
     (A e × (chosen ≡ choice e.kind e.relocation)) ⊎ (¬ A e × IsFirstOf A es otherwise chosen)
 
 -- the choice of the entry with an index, or none if there isn't one that applies
-abbrev pub IsChoiceAt : {O K R : Type 0} → (ChoiceEntry O K R → Type 0) → List (ChoiceEntry O K R) → ℕ
-    → Option (Choice K R) → Type 0
+abbrev pub IsChoiceAt : {O K R : Type 0} → (ChoiceEntry O K R → Type 0) → List (ChoiceEntry O K R)
+    → ℕ → Option (Choice K R) → Type 0
 IsChoiceAt A [] i chosen = chosen ≡ None
 IsChoiceAt A (e ∷ es) zero chosen =
     (A e × (chosen ≡ Some (choice e.kind e.relocation))) ⊎ (¬ A e × (chosen ≡ None))
@@ -168,8 +168,8 @@ IsChoice it row name section o facts chosen =
     IsFirst (Applies (it.required name section o) row it.after section o facts)
     (it.entries name section o) (choice it.no_op name) chosen
 
--- what changes nothing is equal to one rewrite, which is the default, and `==` of relocations' names is
--- equality
+-- what changes nothing is equal to one rewrite, which is the default, and `==` of relocations'
+-- names is equality
 pub record AreEqualities {K R : Type 0} (no_op : K) (IsNoOp IsDefault : K → Type 0)
     (equal : R → R → Bool) : Type 0 where
   pub kinds : (kind : K) → IsNoOp kind ↔ (kind ≡ no_op)

@@ -33,11 +33,25 @@ is_ored_alone f = true
 -- the lowest n bits of the value, from bit w of the instruction up
 abbrev pub lowest_bits : ℕ → ℕ → ℕ → Immediate
 lowest_bits sign n w =
-    record { width = n; sign_bits = sign; sign = 2 ^ (sign - 1); low = 0; shift = w; mask = (2 ^ n - 1) * 2 ^ w }
+    record {
+      width = n;
+      sign_bits = sign;
+      sign = 2 ^ (sign - 1);
+      low = 0;
+      shift = w;
+      mask = (2 ^ n - 1) * 2 ^ w;
+    }
 
 abbrev pub aarch64_immediate : AArch64Instruction → Immediate
 aarch64_immediate Adr =
-    record { width = 21; sign_bits = 21; sign = 2 ^ 20; low = 3; shift = 3; mask = (2 ^ 19 - 1) * 2 ^ 5 }
+    record {
+      width = 21;
+      sign_bits = 21;
+      sign = 2 ^ 20;
+      low = 3;
+      shift = 3;
+      mask = (2 ^ 19 - 1) * 2 ^ 5;
+    }
 aarch64_immediate Movkz = lowest_bits 16 16 5
 aarch64_immediate Movnz = lowest_bits 63 0 0
 aarch64_immediate Ldr = lowest_bits 19 19 5
@@ -58,13 +72,40 @@ is_one_word Call36 = false
 is_one_word f = true
 
 abbrev pub pair_bits : WordBits
-pair_bits = record { end = 0; sign_bits = 63; sign = 2 ^ 62; kept = 0xffffffff; up_5 = 0; up_10 = 0; ored_10 = 0; down_16 = 0 }
+pair_bits =
+    record {
+      end = 0;
+      sign_bits = 63;
+      sign = 2 ^ 62;
+      kept = 0xffffffff;
+      up_5 = 0;
+      up_10 = 0;
+      ored_10 = 0;
+      down_16 = 0;
+    }
 
 abbrev pub loongarch_bits : LoongArch64Instruction → WordBits
 loongarch_bits Shift5 = record pair_bits { end = 2 ^ 20; kept = 0xfe00001f; up_5 = 0x1ffffe0 }
-loongarch_bits Shift10 = record pair_bits { end = 2 ^ 16; kept = 0xffc003ff; up_10 = 0x3ffc00; ored_10 = 0x3c00000 }
-loongarch_bits Branch26 = record pair_bits { end = 2 ^ 26; sign_bits = 26; sign = 2 ^ 25; kept = 0xfc000000; up_10 = 0x3fffc00; down_16 = 0x3ff }
-loongarch_bits Branch21 = record pair_bits { end = 2 ^ 21; sign_bits = 21; sign = 2 ^ 20; kept = 0xfc0003e0; up_10 = 0x3fffc00; down_16 = 0x1f }
+loongarch_bits Shift10 =
+    record pair_bits { end = 2 ^ 16; kept = 0xffc003ff; up_10 = 0x3ffc00; ored_10 = 0x3c00000 }
+loongarch_bits Branch26 =
+    record pair_bits {
+      end = 2 ^ 26;
+      sign_bits = 26;
+      sign = 2 ^ 25;
+      kept = 0xfc000000;
+      up_10 = 0x3fffc00;
+      down_16 = 0x3ff;
+    }
+loongarch_bits Branch21 =
+    record pair_bits {
+      end = 2 ^ 21;
+      sign_bits = 21;
+      sign = 2 ^ 20;
+      kept = 0xfc0003e0;
+      up_10 = 0x3fffc00;
+      down_16 = 0x1f;
+    }
 loongarch_bits Call30 = record pair_bits { end = 2 ^ 20 }
 loongarch_bits Call36 = record pair_bits { end = 2 ^ 36 }
 

@@ -24,7 +24,8 @@ impl RelocationInstruction {
     #[inline]
     pub fn field_mask(self, range: BitRange, bytes: &[u8]) -> u64
         requires { byte_len (relocation_form self).window ≤ length bytes.now }
-        ensures { result ≡ instruction_mask self range (window_of (relocation_form self) bytes.now) }
+        ensures { result
+            ≡ instruction_mask self range (window_of (relocation_form self) bytes.now) }
     {
         match self {
             RelocationInstruction::AArch64(insn) => insn.field_mask(),

@@ -251,7 +251,8 @@ impl RelocationInstruction {
         }
     }
 
-    /// The bits of a value that a row's write places: a `jirl` at the low part of an address gets 16.
+    /// The bits of a value that a row's write places: a `jirl` at the low part
+    /// of an address gets 16.
     #[inline(always)]
     pub fn placed_bits(self, kind: RelocationKind, bits: BitRange, dest: &[u8]) -> BitRange
         requires { byte_len (relocation_form self).window ≤ length dest.now }
@@ -497,8 +498,8 @@ impl RelocationKindInfo {
         Ok(())
     }
 
-    /// Computes the relocation's value from a linker's numbers and writes it. Returns true if it has a
-    /// value and `write` accepts it, and else writes nothing.
+    /// Computes the relocation's value from a linker's numbers and writes it. Returns true if it
+    /// has a value and `write` accepts it, and else writes nothing.
     pub fn apply(&self, operands: &Operands, dest: &mut [u8]) -> bool
         ensures applied { result ≡ true → IsApplied self.now operands.now dest.old dest.new }
         ensures rejected { result ≡ false → IsRejected self.now operands.now dest.old }

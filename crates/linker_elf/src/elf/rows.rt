@@ -547,7 +547,9 @@ macro_rules! number {
         $crate::elf::Ppc64Instruction::$form as u32
     };
     (machine ($bytes:literal bytes)) => { 0 };
-    (machine ($start:literal .. $end:literal AArch64 :: $form:ident)) => { $crate::elf::EM_AARCH64 };
+    (machine ($start:literal .. $end:literal AArch64 :: $form:ident)) => {
+        $crate::elf::EM_AARCH64
+    };
     (machine ($start:literal .. $end:literal RiscV :: $form:ident)) => { $crate::elf::EM_RISCV };
     (machine ($start:literal .. $end:literal LoongArch64 :: $form:ident)) => {
         $crate::elf::EM_LOONGARCH
@@ -608,7 +610,9 @@ macro_rules! window {
 macro_rules! mask {
     () => { None };
     (PLACE_PAGES) => {
-        Some($crate::elf::PageMask::SymbolPlusAddendAndPosition($crate::elf::PageMaskPattern::Size4KB))
+        Some($crate::elf::PageMask::SymbolPlusAddendAndPosition(
+            $crate::elf::PageMaskPattern::Size4KB,
+        ))
     };
     (ENTRY_PAGES) => {
         Some($crate::elf::PageMask::GotEntryAndPosition($crate::elf::PageMaskPattern::Size4KB))

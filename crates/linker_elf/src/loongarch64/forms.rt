@@ -255,8 +255,8 @@ pub(crate) fn is_jirl(word: u64) -> bool
 
 /// What other modules use of a form.
 impl LoongArch64Instruction {
-    /// The bits of an instruction, or of a pair, that a write of the form may change, where those of
-    /// a range are taken.
+    /// The bits of an instruction, or of a pair, that a write of the form may change, where those
+    /// of a range are taken.
     #[inline]
     pub fn field_mask(self, range: BitRange) -> u64
         ensures { result ≡ loongarch_mask self range }
@@ -328,7 +328,8 @@ impl LoongArch64Instruction {
         ensures clears { BitsWritten
             (places_cleared (RelocationInstruction.LoongArch64 self) range
             (window_of (loongarch_form self) dest.old))
-            0 (window_of (loongarch_form self) dest.old) (window_of (loongarch_form self) dest.new) }
+            0 (window_of (loongarch_form self) dest.old)
+            (window_of (loongarch_form self) dest.new) }
         ensures rest { drop (byte_len (loongarch_form self).window) dest.new
             ≡ drop (byte_len (loongarch_form self).window) dest.old }
     {

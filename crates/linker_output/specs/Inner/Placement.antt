@@ -118,7 +118,8 @@ IsOutOf code before places branch (Far s) =
 IsOutOf code before places branch (Near s) =
     (s < length places) × ¬ ReachesAt code before branch (at places s)
 
-pub record IsLostBy (code : Code) (before places : List ℕ) (branch : Branch) (way : Way) : Type 0 where
+pub record IsLostBy (code : Code) (before places : List ℕ) (branch : Branch) (way : Way)
+    : Type 0 where
   pub target : ¬ ReachesAt code before branch (target_place code before branch.target)
   pub stub : IsOutOf code before places branch way
 
@@ -151,7 +152,8 @@ pub record IsUnreached (code : Code) (state : State) (branch : Branch) : Type 0 
   pub ahead : passed code.boundaries.now branch.offset < length code.boundaries.now
       → ¬ Reaches branch.max_backward branch.max_forward branch.offset
       (at code.boundaries.now (passed code.boundaries.now branch.offset)
-      + code.shape.len * (group_at state.groups.items (passed code.boundaries.now branch.offset)).front)
+      + code.shape.len
+      * (group_at state.groups.items (passed code.boundaries.now branch.offset)).front)
   pub behind : (b : ℕ) → b + 1 ≡ passed code.boundaries.now branch.offset
       → ¬ Reaches branch.max_backward branch.max_forward
       (branch.offset + code.shape.len * ((group_at state.groups.items b).back + 1))
@@ -194,7 +196,8 @@ IsStubOf code before branch way stub =
     ⊎ ((stub ≡ stub_of_way way)
     × ¬ ReachesAt code before branch (target_place code before branch.target))
 
-pub record AreStubsOf (code : Code) (before : List ℕ) (ways : List Way) (stubs : List (Option ℕ)) : Type 0 where
+pub record AreStubsOf (code : Code) (before : List ℕ) (ways : List Way) (stubs : List (Option ℕ))
+    : Type 0 where
   pub len : length stubs ≡ length code.branches.now
   pub each : (i : ℕ) → i < length stubs
       → IsStubOf code before (branch_at code.branches.now i) (way_at ways i)

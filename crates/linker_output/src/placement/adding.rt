@@ -73,7 +73,8 @@ impl State {
         ensures higher { IfOk result
             (λ _. sum_by level self.old.ways.items < sum_by level self.new.ways.items) }
         ensures others { IfOk result
-            (λ _. (k : ℕ) → k ≢ index → way_at self.new.ways.items k ≡ way_at self.old.ways.items k) }
+            (λ _. (k : ℕ) → k ≢ index
+            → way_at self.new.ways.items k ≡ way_at self.old.ways.items k) }
     {
         let target = code.branches[index].target;
         let stub = self.stubs.len();
@@ -94,7 +95,8 @@ impl State {
     fn take(&mut self, code: &Code<'_>, index: usize, way: Way)
         requires state { IsState code.now self.old }
         requires within { index < length code.now.branches.now }
-        requires way { IsWay code.now self.old.stubs.items (branch_at code.now.branches.now index) way }
+        requires way { IsWay code.now self.old.stubs.items
+            (branch_at code.now.branches.now index) way }
         requires higher { level (way_at self.old.ways.items index) < level way }
         ensures state { IsState code.now self.new }
         ensures higher { sum_by level self.old.ways.items < sum_by level self.new.ways.items }

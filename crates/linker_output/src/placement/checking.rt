@@ -39,7 +39,8 @@ fn first_descent(boundaries: &[u64]) -> Option<usize>
 impl Code<'_> {
     /// Whether the offsets of branches are below 2^62.
     fn has_low_branches(&self) -> bool
-        ensures low { result ≡ true → (i : ℕ) → (branch_at self.now.branches.now i).offset < 2 ^ 62 }
+        ensures low { result ≡ true
+            → (i : ℕ) → (branch_at self.now.branches.now i).offset < 2 ^ 62 }
         ensures high { result ≡ false
             → (i : ℕ) × (2 ^ 62 ≤ (branch_at self.now.branches.now i).offset) }
     {

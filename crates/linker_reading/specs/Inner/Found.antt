@@ -23,8 +23,8 @@ abbrev pub IsRepeated : {A : Type 0} → List A → ℕ → Type 0
 IsRepeated list n = (i : ℕ) × (i < n) × (slice_get list i ≡ slice_get list n)
 
 -- The rewrite is meant for what is at the offset, and the choice was made.
-abbrev pub IsMeant : {K R : Type 0} → Recogniser K R → List ℕ → ℕ → List FieldBits → List ℕ → Recognised K R
-    → Type 0
+abbrev pub IsMeant : {K R : Type 0} → Recogniser K R → List ℕ → ℕ → List FieldBits → List ℕ
+    → Recognised K R → Type 0
 IsMeant it original o others linked m =
     relaxation_matches (it.relaxation m.choice.kind) original o
     × IsMade it original o others linked m

@@ -50,7 +50,8 @@ pub(super) static ENCODINGS: &[Encoding] = &[
 
 /// What MOVN or MOVZ moves, modulo 2^64.
 pub(super) fn moved_number(word: u64) -> u64
-    ensures { result ≡ cast_unsigned w64 (moved_value (bit_at word 30 == 0) (field word 5 21) (shift_of word)) }
+    ensures { result
+        ≡ cast_unsigned w64 (moved_value (bit_at word 30 == 0) (field word 5 21) (shift_of word)) }
 {
     let moved = word.extract_bit_range(5..21) << (16 * word.extract_bit_range(21..23));
     if word.extract_bit(30) == 0 {

@@ -1,9 +1,11 @@
-//! The instructions of LoongArch with an immediate, the numbers that these are, and what they count.
+//! The instructions of LoongArch with an immediate, the numbers that these
+//! are, and what they count.
 
 ghost use Rattle.std.specs.Prelude.{◌≡◌, ◌<◌};
 ghost use Rattle.std.specs.Int.{cast_unsigned, w64};
-ghost use Rattle.linker_reading.specs.LoongArchEncodings.{has_si16, is_logical, loongarch_scale};
-ghost use Rattle.linker_reading.specs.LoongArchEncodings.{shift10_number, shift5_scale, shift10_scale};
+ghost use Rattle.linker_reading.specs.LoongArchEncodings.{has_si16, is_logical};
+ghost use Rattle.linker_reading.specs.LoongArchEncodings.{loongarch_scale, shift10_number};
+ghost use Rattle.linker_reading.specs.LoongArchEncodings.{shift5_scale, shift10_scale};
 
 use crate::operands::{Base, Encoding, encoding};
 use linker_base::bit_misc::BitExtraction;

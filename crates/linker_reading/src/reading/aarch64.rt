@@ -14,7 +14,8 @@ use linker_elf::elf::{AArch64Instruction, InstructionForm, RelocationInstruction
 pub(super) fn number(insn: AArch64Instruction, bytes: &[u8]) -> u64
     requires { byte_len (aarch64_form insn).window ≤ length bytes.now }
     ensures { result ≡ cast_unsigned w64
-        (number_held (RelocationInstruction.AArch64 insn) (window_of (aarch64_form insn) bytes.now)) }
+        (number_held (RelocationInstruction.AArch64 insn)
+        (window_of (aarch64_form insn) bytes.now)) }
 {
     let (number, _) = insn.read(bytes);
     match insn {

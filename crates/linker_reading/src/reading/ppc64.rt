@@ -14,7 +14,8 @@ use linker_elf::ppc64::DQ_UNIT;
 #[inline(always)]
 pub(super) fn number(insn: Ppc64Instruction, bytes: &[u8]) -> u64
     requires { byte_len (ppc64_form insn).window ≤ length bytes.now }
-    ensures { result ≡ cast_unsigned w64 (ppc64_reads insn (window_of (ppc64_form insn) bytes.now)) }
+    ensures { result ≡ cast_unsigned w64
+        (ppc64_reads insn (window_of (ppc64_form insn) bytes.now)) }
 {
     let (number, _) = insn.read(bytes);
     match insn {

@@ -1,7 +1,7 @@
 //! RISC-V: what a call becomes.
 
-ghost use Rattle.std.specs.Prelude.{◌≡◌, ◌↔◌, ◌+◌, ◌≤◌, ◌<◌, ◌*◌, ◌^◌, Some, None, IfOk, IfErr, OnOk};
-ghost use Rattle.std.specs.Prelude.{length, IsTrue, ◌⊎◌};
+ghost use Rattle.std.specs.Prelude.{◌≡◌, ◌↔◌, ◌+◌, ◌≤◌, ◌<◌, ◌*◌, ◌^◌, Some};
+ghost use Rattle.std.specs.Prelude.{None, IfOk, IfErr, OnOk, length, IsTrue, ◌⊎◌};
 ghost use Rattle.std.specs.Prelude.{IsSomeAnd, IfSome, IfNone, ⊤};
 ghost use Rattle.std.specs.Int.{w32, to_le_bytes};
 ghost use Rattle.linker_elf.specs.RiscVRelocations.{riscv_row};

@@ -11,8 +11,8 @@ ghost use Rattle.linker_runs.specs.Inner.Relaxing.{ArePlaces, AreForced};
 
 use crate::items::{AsItem, ItemList};
 
-/// For each item the place of its target, or `usize::MAX` where its shortest shape reaches that while
-/// nothing is freed: then it is always in reach.
+/// For each item the place of its target, or `usize::MAX` where its shortest shape reaches that
+/// while nothing is freed: then it is always in reach.
 pub(super) fn find_places<I: AsItem>(items: &ItemList<'_, I>, start: u64, places: &mut [usize])
     requires items { AreItems start items.now }
     requires fewer { length items.now + 1 < 2 ^ 64 }

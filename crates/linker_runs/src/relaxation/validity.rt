@@ -10,7 +10,8 @@ ghost use Rattle.linker_runs.specs.declared.relaxation.faults.Fault.TheVariants.
 ghost use Rattle.linker_runs.specs.declared.relaxation.faults.Fault.TheVariants.{UnevenNops};
 ghost use Rattle.linker_runs.specs.Relaxing.{end_of, short_shape, IsSound, AreInOrder};
 ghost use Rattle.linker_runs.specs.Relaxing.{item_at, offset_of};
-ghost use Rattle.linker_runs.specs.Choosing.{item_granularity, run_granularity, least_len, shapes_granularity};
+ghost use Rattle.linker_runs.specs.Choosing.{item_granularity, run_granularity};
+ghost use Rattle.linker_runs.specs.Choosing.{least_len, shapes_granularity};
 ghost use Rattle.linker_runs.specs.Choosing.{HasUnit, ShapesFit, IsStill, IsFormed};
 ghost use Rattle.linker_runs.specs.Choosing.{IsAnchor};
 ghost use Rattle.linker_runs.specs.Choosing.{FreesMultiples, IsAlwaysMultiple, AreAlwaysEnough};
@@ -144,7 +145,8 @@ impl Alignment {
         is_power_of_two(self.alignment)
     }
 
-    /// Whether it keeps the nops that its input address needs in each layout of a run of a granularity.
+    /// Whether it keeps the nops that its input address needs in each layout
+    /// of a run of a granularity.
     #[inline]
     pub(super) fn is_still(&self, granularity: u64, start: u64) -> bool
         requires granularity { 0 < granularity }
@@ -163,7 +165,8 @@ impl Alignment {
     /// Whether it has as many nops as it may need in a run of a granularity, if it has a limit.
     #[inline]
     pub(super) fn has_nops(&self, granularity: u64) -> bool
-        ensures { (start : ℕ) → IsTrue result ↔ AlignmentMeets granularity start self.now TooFewNops }
+        ensures { (start : ℕ) → IsTrue result
+            ↔ AlignmentMeets granularity start self.now TooFewNops }
     {
         let nops = u64::from(self.nops);
         match self.max_skip {
@@ -176,7 +179,8 @@ impl Alignment {
     #[inline]
     pub(super) fn has_even_nops(&self, granularity: u64) -> bool
         requires { 0 < granularity }
-        ensures { (start : ℕ) → IsTrue result ↔ AlignmentMeets granularity start self.now UnevenNops }
+        ensures { (start : ℕ) → IsTrue result
+            ↔ AlignmentMeets granularity start self.now UnevenNops }
     {
         match self.max_skip {
             None => true,
@@ -314,8 +318,8 @@ fn is_always_multiple<I: AsItem>(
     (start + offset) % number == 0
 }
 
-/// Whether an alignment, the item at an index, has as many nops as it needs in every layout of a run
-/// of a granularity.
+/// Whether an alignment, the item at an index, has as many nops as it needs in every layout of a
+/// run of a granularity.
 fn are_always_enough<I: AsItem>(
     items: &ItemList<'_, I>,
     start: u64,
@@ -335,8 +339,8 @@ fn are_always_enough<I: AsItem>(
     unfilled <= granularity || is_always_multiple(items, start, unfilled.next_power_of_two(), index)
 }
 
-/// Whether the item at an index has as many nops as it needs in every layout of a run of a granularity, if
-/// it is an alignment without a limit.
+/// Whether the item at an index has as many nops as it needs in every layout of a run of a
+/// granularity, if it is an alignment without a limit.
 pub(super) fn has_its_nops<I: AsItem>(
     items: &ItemList<'_, I>,
     start: u64,
@@ -346,7 +350,8 @@ pub(super) fn has_its_nops<I: AsItem>(
     requires in_order { AreInOrder start items.now }
     requires within { index < length items.now }
     requires formed { IsFormed (item_at items.now index) }
-    ensures { IsTrue result ↔ HasItsNops granularity start items.now index (item_at items.now index) }
+    ensures { IsTrue result
+        ↔ HasItsNops granularity start items.now index (item_at items.now index) }
 {
     match items.at(index) {
         Item::Site(_) => true,

@@ -10,8 +10,8 @@ use Rattle.linker_elf.specs.declared.elf.RelocationKindInfo.{RelocationKindInfo}
 use Rattle.linker_elf.specs.declared.elf.value.Operands.{Operands}
 use Rattle.linker_section.specs.Fields.{is_of_pair}
 use Rattle.linker_section.specs.Needed.{loads_plt_word, needs_of, needs_in}
-use Rattle.linker_section.specs.Values.{has_value, names_label, is_of_got, is_ppc64_branch, origin_of}
-use Rattle.linker_section.specs.Values.{is_high_part, low_operands}
+use Rattle.linker_section.specs.Values.{has_value, names_label, is_of_got, is_ppc64_branch}
+use Rattle.linker_section.specs.Values.{origin_of, is_high_part, low_operands}
 use Rattle.linker_section.specs.declared.facts.Addresses.{Addresses}
 use Rattle.linker_section.specs.declared.needed.Entry.{Entry}
 use Rattle.linker_section.specs.declared.needed.EntryClass.{EntryClass}

@@ -1,5 +1,6 @@
 -- Values that are found by the numbers of codes, with few tests.
-use Rattle.std.specs.Prelude.{◌≡◌, ℕ, ◌%◌, ◌<◌, slice_index_or, true, false, ℤ, List, slice_get, Option, Some, IfSome, Ok}
+use Rattle.std.specs.Prelude.{◌≡◌, ℕ, ◌%◌, ◌<◌, slice_index_or, true, false}
+use Rattle.std.specs.Prelude.{ℤ, List, slice_get, Option, Some, IfSome, Ok}
 use Rattle.std.specs.List.{All}
 use Rattle.linker_elf.specs.Relocate.{window_len}
 use Rattle.linker_elf.specs.Value.{difference_64, value_of}

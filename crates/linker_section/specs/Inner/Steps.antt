@@ -1,6 +1,6 @@
 -- What is known of a section while values are written to it.
-use Rattle.std.specs.Prelude.{◌≡◌, ℕ, ◌≢◌, ◌+◌, ◌/◌, ◌<◌, ◌≤◌, ◌==◌, ◌||◌, Bool, not, List, length, drop}
-use Rattle.std.specs.Prelude.{◌⊎◌, ⊤, true, false, Option, Some, None, Result, Ok, Err}
+use Rattle.std.specs.Prelude.{◌≡◌, ℕ, ◌≢◌, ◌+◌, ◌/◌, ◌<◌, ◌≤◌, ◌==◌, ◌||◌, Bool, not, List, length}
+use Rattle.std.specs.Prelude.{drop, ◌⊎◌, ⊤, true, false, Option, Some, None, Result, Ok, Err}
 use Rattle.linker_base.specs.declared.utils.Uleb128Error.{Uleb128Error}
 use Rattle.linker_elf.specs.Relocate.{window_len}
 use Rattle.linker_elf.specs.declared.elf.RelocationKindInfo.{RelocationKindInfo}
@@ -118,7 +118,8 @@ pub record IsOwnField (architecture : Architecture) (bytes : List ℕ) (i : ℕ)
     : Type 0 where
   pub row : RelocationKindInfo
   pub is_row : IsRow architecture (relocation_in bytes i).code (Some row)
-  pub is_field : field ≡ record { offset = offset_at bytes i; len = window_len row; kind = row.kind }
+  pub is_field : field
+      ≡ record { offset = offset_at bytes i; len = window_len row; kind = row.kind }
 
 -- one more value is written, whose field ends at an offset, or nothing is changed
 abbrev pub IsQuickStep : Architecture → Addresses → List ℕ → List Symbol → List ℕ → ℕ → Field

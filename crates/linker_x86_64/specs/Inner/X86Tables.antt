@@ -43,7 +43,8 @@ some_entry : {A : Type 0} → (x : A) (xs : List A) → x ∷ xs ≡ [] → ⊥
 some_entry x xs none = subst IsListed none tt
 
 -- a relocation that has none with the opcode of `mov` has none with any
-pub no_entries : (name : X86_64Relocation) (opcode : ℕ) → (x86_64_table name 0x8b).entries ≡ [] → (x86_64_table name opcode).entries ≡ []
+pub no_entries : (name : X86_64Relocation) (opcode : ℕ) → (x86_64_table name 0x8b).entries ≡ []
+    → (x86_64_table name opcode).entries ≡ []
 no_entries r.R_X86_64_NONE opcode none = none
 no_entries r.R_X86_64_64 opcode none = none
 no_entries r.R_X86_64_PC32 opcode none = none

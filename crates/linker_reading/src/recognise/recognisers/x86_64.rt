@@ -19,7 +19,8 @@ impl RecognisedName for X86_64Relocation {
 
     ghost laws = { laws refl (λ name s o. refl) (λ name s o facts c is. is)
         (enum_is_equality x86_64_kind.enum _ refl (numbers 11))
-        (enum_is_equality x86_64_name.enum _ refl (numbers 1)) (λ name s o. x86_64_chosen (x86_64_table_at name s o) name s o) };
+        (enum_is_equality x86_64_name.enum _ refl (numbers 1))
+        (λ name s o. x86_64_chosen (x86_64_table_at name s o) name s o) };
 
     fn code(self) -> u32 {
         self.elf_code()
