@@ -131,8 +131,8 @@ fn position_at(deltas: &[RelaxDelta], begun: usize, input_offset: u64) -> Positi
 
 /// The position of an input offset, by a search.
 ///
-/// The deltas are as `SectionRelaxDeltas::deltas` lists them; of others nothing is promised but
-/// that the call is safe.
+/// The deltas are as `SectionRelaxDeltas::deltas` lists them. With others the call is safe, but
+/// what it returns isn't specified.
 pub fn position_of(deltas: &[RelaxDelta], input_offset: u64) -> Position
     ensures offset { result.input_offset ≡ input_offset }
     ensures position { AreValidDeltas deltas.now → IsPosition deltas.now result }

@@ -110,7 +110,7 @@ MayUsePlt row = (is_branch row.size ≡ true) ⊎ DependsOn with_plt_entry row
 abbrev pub MayUseNoPlt : RelocationKindInfo → Type 0
 MayUseNoPlt row = (is_branch row.size ≡ false) × Ignores with_plt_entry row
 
--- ---- what the tests answer
+-- ---- what the tests return
 
 abbrev pub IsGotAnswer : RelocationKindInfo → Bool → Type 0
 IsGotAnswer row true = AsksForGot row

@@ -252,7 +252,7 @@ fn put_jal(section: &mut [u8], site: u64, register: u32, distance: i64) -> Resul
 }
 
 /// Turns the `auipc` at a site of a section into a `jal` by a distance in bytes, with the `auipc`'s
-/// destination register: `CallToJal` and then the J-immediate. `is_plain_call` tells whether the
+/// destination register: `CallToJal` and then the J-immediate. `is_plain_call` returns whether the
 /// call links that register; `jal_site_with` takes the `jalr`'s.
 ///
 /// On an error the section is unchanged. The errors are `OutOfSection`, `OddDistance` and `TooFar`,
@@ -330,7 +330,7 @@ pub fn jal_site_with(
 /// `OddDistance` and `TooFar`, the first of them that applies.
 ///
 /// The jump links the register of the `auipc`, which for a plain call is the `jalr`'s too:
-/// `is_plain_call` tells these from others, as `tail f`.
+/// `is_plain_call` distinguishes these from others, as `tail f`.
 pub fn relax_call(
     section: &mut [u8],
     deltas: &SectionRelaxDeltas,

@@ -23,8 +23,8 @@ use linker_base::relaxation::{DeltaSlice, OutOfMemory, RelaxDelta, SectionRelaxD
 use std::alloc::Global;
 use watch::{Watch, add_ends};
 
-/// An element of an answer, which tells whether a call is chosen: a `bool`, or a byte that is 0 or
-/// 1.
+/// An element of a list of choices, which says whether a call is chosen: a `bool`, or a byte that
+/// is 0 or 1.
 pub trait AsChoice: Copy {
     /// Whether the call is chosen, in a contract.
     ghost choice: { Self → Bool };
@@ -36,7 +36,7 @@ pub trait AsChoice: Copy {
     fn as_choice(self) -> bool
         ensures { result ≡ choice self };
 
-    /// The value that tells it.
+    /// The value that says it.
     fn from_choice(chosen: bool) -> Self
         ensures tells { choice result ≡ chosen }
         ensures written { is_written result };
@@ -517,8 +517,8 @@ pub fn calls_shrinkable(deltas: &SectionRelaxDeltas, calls: &[(u64, u64)]) -> bo
 /// chosen, and else `false` or 0.
 ///
 /// Requires calls that `first_not_shrinkable` accepts, and as many elements as calls. The deltas
-/// are as `SectionRelaxDeltas::deltas` lists them (`DeltaSlice::has_valid_deltas`); of others
-/// nothing is promised but that the call is safe. It takes 9 KiB of the stack.
+/// are as `SectionRelaxDeltas::deltas` lists them (`DeltaSlice::has_valid_deltas`). With others the
+/// call is safe, but what it writes isn't specified. It takes 9 KiB of the stack.
 ///
 /// All calls are chosen at first, and sweeps over them drop those out of reach until none is. Their
 /// order doesn't matter, since more deletions never take a call out of reach. For k calls and n
@@ -530,8 +530,8 @@ pub fn calls_shrinkable(deltas: &SectionRelaxDeltas, calls: &[(u64, u64)]) -> bo
 /// how many drops between its site and its target it stands, and it is tested again when there were
 /// so many. So two sweeps do, however the calls depend on each other. What lies between them takes
 /// O(k log k log k), and a test for each call that it drops. For this it allocates at most 120
-/// bytes for each call that is in reach only with others. Refused memory is no error: then sweeps
-/// do it, of which there may be as many as calls.
+/// bytes for each call that is in reach only with others. To run out of memory is no error: then
+/// sweeps do it, of which there may be as many as calls.
 pub fn shrink_calls_into<C: AsCall, A: AsChoice>(
     alloc: Global,
     deltas: &[RelaxDelta],

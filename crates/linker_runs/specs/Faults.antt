@@ -24,7 +24,8 @@ use Rattle.linker_runs.specs.Relaxing.{offset_of, end_of, target_of, item_at, sh
 use Rattle.linker_runs.specs.Relaxing.{short_shape}
 use Rattle.linker_runs.specs.Choosing.{run_granularity, HasUnit, IsClear, HasItsNops, IsStill}
 
--- the order in which faults are told: of an item that has several, the one with the least number
+-- the order in which faults are returned: of an item that has several, the one with the least
+-- number
 abbrev pub number_of : Fault → ℕ
 number_of Overlaps = 0
 number_of TooHigh = 1

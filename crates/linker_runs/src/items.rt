@@ -290,7 +290,7 @@ pub struct SectionItems {
 /// the nops (LoongArch ELF psABI, "Relocations").
 ///
 /// `Malformed` names the relocation that `first_malformed` returns. The vectors grow as items are
-/// added. `are_items` tells whether the run can be relaxed.
+/// added. `are_items` returns whether the run can be relaxed.
 pub fn section_items<R: AsRelocation>(
     alloc: Global,
     machine: Machine,

@@ -592,9 +592,9 @@ pub fn has_its_instructions(machine: Machine, section: &[u8], base: u64, item: &
 /// A site without short shapes, as `fixed` has it, is left as it is.
 ///
 /// Requires an output of `packed_run_len` bytes. The deltas are as `SectionRelaxDeltas::deltas`
-/// lists them (`DeltaSlice::has_valid_deltas`); of others nothing is promised but that the call is
-/// safe. The error tells the first item that can't be written, or before which bytes are deleted
-/// that are of no item, and nothing is written then.
+/// lists them (`DeltaSlice::has_valid_deltas`). With others the call is safe, but what it writes
+/// isn't specified. The error names the first item that can't be written, or before which bytes are
+/// deleted that are of no item, and nothing is written then.
 ///
 /// It doesn't allocate. It takes O(section + deltas + items log deltas).
 pub fn pack_run<I: AsItem>(

@@ -1,6 +1,6 @@
-//! Calls that are refused memory. `tools/test_refused_growth` refuses each growth of each test in
-//! turn, one a run. So what is refused once succeeds when it is tried again, and each test holds
-//! whichever growth is refused.
+//! Calls that run out of memory. `tools/test_refused_growth` lets each allocation of each test fail
+//! in turn, one a run. So a call that has failed once succeeds when it is tried again, and each
+//! test passes whichever allocation fails.
 
 use crate::rows::expect_eq;
 use linker_runs::items::{Relocation, section_items};
@@ -68,7 +68,7 @@ fn expect_listing(rt: &impl Abort, deltas: &SectionRelaxDeltas, listing: Listing
     }
 }
 
-/// Merges pairs into the deltas of `ONE`. A refused merge leaves them.
+/// Merges pairs into the deltas of `ONE`. A merge that has failed leaves them.
 fn merge_into_one(
     rt: &impl Abort,
     alloc: Global,
@@ -105,7 +105,7 @@ fn expect_many(rt: &impl Abort, deltas: &SectionRelaxDeltas) {
 }
 
 #[test]
-fn a_refused_merge_leaves_the_deltas(rt: HostRuntime) -> Result<(), Fail> {
+fn a_failed_merge_leaves_the_deltas(rt: HostRuntime) -> Result<(), Fail> {
     let pairs: [&[(u64, u32)]; 2] = [&[(8, 4), (16, 4)], &[(16, 4), (8, 4)]];
     for more in pairs {
         let merged = merge_into_one(&rt, rt.alloc(), more)?;
@@ -122,7 +122,7 @@ fn batches(alloc: Global) -> Result<Vec<Vec<(u64, u32)>>, OutOfMemory> {
 }
 
 #[test]
-fn refused_batches_leave_the_deltas(rt: HostRuntime) -> Result<(), Fail> {
+fn failed_batches_leave_the_deltas(rt: HostRuntime) -> Result<(), Fail> {
     let batches = batches(rt.alloc()).or_else(|_| batches(rt.alloc()))?;
     let mut deltas = deltas_of(&rt, rt.alloc(), ONE.deletions)?;
     assert!(rt; deltas.are_mergeable(&batches));
@@ -136,7 +136,7 @@ fn refused_batches_leave_the_deltas(rt: HostRuntime) -> Result<(), Fail> {
 }
 
 #[test]
-fn a_refused_copy_leaves_the_deltas(rt: HostRuntime) -> Result<(), Fail> {
+fn a_failed_copy_leaves_the_deltas(rt: HostRuntime) -> Result<(), Fail> {
     let few = deltas_of(&rt, rt.alloc(), THREE.deletions)?;
     let many = deltas_of(&rt, rt.alloc(), &many())?;
     let (few_copied, many_copied) = (few.clone(), many.clone());
@@ -161,7 +161,7 @@ fn expect_sections(rt: &impl Abort, map: &RelaxDeltaMap, sections: &[usize]) {
 }
 
 #[test]
-fn a_refused_section_is_handed_back(rt: HostRuntime) -> Result<(), Fail> {
+fn a_failed_insertion_hands_the_section_back(rt: HostRuntime) -> Result<(), Fail> {
     let order = [9, 7, 5, 3, 1];
     let mut map = RelaxDeltaMap::new(rt.alloc());
     for (at, &index) in order.iter().enumerate() {
@@ -195,7 +195,7 @@ const CALL: [u8; 12] = [
 ];
 
 #[test]
-fn a_refused_section_is_packed_when_tried_again(rt: HostRuntime) -> Result<(), Fail> {
+fn a_section_is_packed_when_tried_again(rt: HostRuntime) -> Result<(), Fail> {
     let deltas = deltas_of(&rt, rt.alloc(), &[(4, 4)])?;
     let packed = [0xef, 0x00, 0x40, 0x00, 0x13, 0x00, 0x00, 0x00];
     let deleted = PackError::Call {
@@ -218,7 +218,7 @@ fn a_refused_section_is_packed_when_tried_again(rt: HostRuntime) -> Result<(), F
 }
 
 #[test]
-fn a_refused_choice_is_made_when_tried_again(rt: HostRuntime) -> Result<(), Fail> {
+fn a_choice_is_made_when_tried_again(rt: HostRuntime) -> Result<(), Fail> {
     let none = deltas_of(&rt, rt.alloc(), &[])?;
     let calls = [(0, 1048578), (8, 1048600)];
     assert!(rt; calls_shrinkable(&none, &calls));
@@ -284,7 +284,7 @@ fn call_at(offset: u64) -> Item {
 }
 
 #[test]
-fn a_refused_run_is_relaxed_when_tried_again(rt: HostRuntime) -> Result<(), Fail> {
+fn a_run_is_relaxed_when_tried_again(rt: HostRuntime) -> Result<(), Fail> {
     let alloc = rt.alloc();
     let items = many_calls();
     assert!(rt; are_items(&items, 0));
@@ -330,7 +330,7 @@ pub(crate) const NOPS: [Relocation; 1] = [Relocation {
 }];
 
 #[test]
-fn refused_items_are_made_when_tried_again(rt: HostRuntime) -> Result<(), Fail> {
+fn items_are_made_when_tried_again(rt: HostRuntime) -> Result<(), Fail> {
     let alloc = rt.alloc();
     let calls = section_items(alloc, Machine::RiscV64, &CALL, 0, &MARKED_CALL);
     let calls = calls.or_else(|_| section_items(alloc, Machine::RiscV64, &CALL, 0, &MARKED_CALL))?;

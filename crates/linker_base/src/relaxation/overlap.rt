@@ -1,7 +1,7 @@
 //! Tests of lists of deletions. None allocates but those that sort a copy.
 //!
 //! Deletions in any order are tested in parts: each part is one that ascends or descends, or a few
-//! that are sorted on the stack, and a search in it tells what it overlaps.
+//! that are sorted on the stack, and a search in it finds what it overlaps.
 
 ghost use Rattle.std.specs.Prelude.{◌≡◌, ◌≤◌, ◌<◌, ◌+◌, ◌-◌, ◌++◌, ◌↔◌, ℕ, max, IsTrue};
 ghost use Rattle.std.specs.Prelude.{MatchOption, All, AllPairs, map, length, take, slice_index_or};

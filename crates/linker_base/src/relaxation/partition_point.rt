@@ -25,7 +25,7 @@ pub(super) const AT_ONCE: usize = 1023;
 const HALVED: usize = 65535;
 
 /// A test that the first deltas of a valid list pass, and the others fail. A search is compiled
-/// for each kind of test, so that no probe asks for the kind.
+/// for each kind of test, so that no probe tests the kind.
 pub(super) trait Test: Copy {
     /// Whether a head passes.
     ghost test: { Self → HeadTest };
@@ -82,7 +82,7 @@ pub(super) enum Level {
     Deltas,
 }
 
-/// Deltas and heads that are read one at a time. Nothing is promised of their contents.
+/// Deltas and heads that are read one at a time. Their contents may be any.
 pub(super) trait Probe {
     /// What is searched, and how many probes were taken.
     ghost state: { Self → Probed };

@@ -308,7 +308,7 @@ fn list_items<R: AsRelocation, L: AsDeletion, I: AsItem>(
 /// relocation, or that of its deletion and as many more as there are relocations. Returns how many
 /// items there are; the elements from there on are unchanged.
 ///
-/// Whether code may be compressed is asked of `may_compress`, so of the `e_flags` of the
+/// Whether code may be compressed is taken from `may_compress`, so from the `e_flags` of the
 /// relocation's object: those of an output say that of all code.
 ///
 /// # Errors

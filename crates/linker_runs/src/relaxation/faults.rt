@@ -11,9 +11,9 @@ use super::validity::{has_its_nops, is_clear, run_granularity};
 use super::{Alignment, Item, Shapes};
 use crate::items::{AsItem, ItemList};
 
-/// Why a run can't be relaxed: what is wrong with one of its items. Of an item that
-/// has several faults, the one that comes first here is told. u is the greatest
-/// granularity of all short shapes.
+/// Why a run can't be relaxed: what is wrong with one of its items. Of an item that has several
+/// faults, the one that comes first here is returned. u is the greatest granularity of all short
+/// shapes.
 ///
 /// An alignment is *still* if it divides u, has no limit, and has the nops that its input address
 /// needs, and beside these a multiple of u. It keeps the same nops in each layout.
