@@ -191,6 +191,14 @@ funct3_of word = field word 12 15
 abbrev pub rd_of : ℕ → ℕ
 rd_of word = field word 7 12
 
+-- the first source register, bits 15 to 19
+abbrev pub rs1_of : ℕ → ℕ
+rs1_of word = field word 15 20
+
+-- the second source register, bits 20 to 24
+abbrev pub rs2_of : ℕ → ℕ
+rs2_of word = field word 20 25
+
 -- The instruction adds a signed immediate of 12 bits to its first source register, by its opcode
 -- and function: `addi`, `addiw` and `jalr`; `lb`, `lh`, `lw`, `ld`, `lbu`, `lhu` and `lwu`; `sb`,
 -- `sh`, `sw` and `sd`; `flh`, `flw`, `fld` and `flq`, and `fsh`, `fsw`, `fsd` and `fsq`.

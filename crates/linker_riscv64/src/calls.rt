@@ -2,7 +2,6 @@
 
 ghost use Rattle.std.specs.Prelude.{◌≡◌, ◌≤◌, ◌<◌, ◌+◌, ◌^◌, ◌↔◌, ◌⊎◌, ℕ, IsTrue, IsOk, OnOk};
 ghost use Rattle.std.specs.Prelude.{OnErr, IfErr, IsNone, IfSome, length, pos, ◌-ℤ◌};
-ghost use Rattle.linker_base.specs.Bits.{field};
 ghost use Rattle.linker_base.specs.Deltas.{deletions_of};
 ghost use Rattle.linker_base.specs.Blocks.{IsValidView};
 ghost use Rattle.linker_riscv64.specs.RiscVCalls.{IsEven, IsJalDistance, JumpsAndLinks, JumpsAt};
@@ -11,7 +10,7 @@ ghost use Rattle.linker_riscv64.specs.RiscVCalls.{IsCallPair};
 ghost use Rattle.linker_riscv64.specs.RiscVCalls.{IsPlainCall, call_len, NamesRegister};
 ghost use Rattle.linker_riscv64.specs.RiscVCalls.{link_register};
 
-use linker_base::bit_misc::BitExtraction;
+use super::fields::{base, destination, function, opcode};
 use linker_base::relaxation::{DeltaSlice, SectionRelaxDeltas};
 use linker_base::rewrite::{has_window, overwrite};
 use linker_base::utils::u32_from_slice;
@@ -40,15 +39,6 @@ fn is_even(distance: i64) -> bool
     distance.cast_unsigned() % 2 == 0
 }
 
-/// The register that an instruction writes: its bits 7 to 11.
-#[inline(always)]
-#[tactic(auto, using(crate::proofs::Jumps::destination_bits))]
-pub(super) fn destination(word: u32) -> u32
-    ensures { result ≡ field word 7 12 }
-{
-    word >> 7 & 0x1f
-}
-
 /// Whether the eight bytes at a site of a section are a call that `CallToJal` makes a jump
 /// that links the same register: `auipc` and then `jalr` with the same register as base and as
 /// both destinations. (RISC-V ELF psABI, "Function Call Relaxation"; linkers take the register of
@@ -71,11 +61,10 @@ pub fn is_plain_call(section: &[u8], site: u64) -> bool
 pub(super) fn is_call_pair(auipc: u32, jalr: u32) -> bool
     ensures { IsTrue result ↔ IsCallPair auipc jalr }
 {
-    let (auipc, jalr) = (u64::from(auipc), u64::from(jalr));
-    auipc.extract_bit_range(0..7) == 0x17
-        && jalr.extract_bit_range(0..7) == 0x67
-        && jalr.extract_bit_range(12..15) == 0
-        && jalr.extract_bit_range(15..20) == auipc.extract_bit_range(7..12)
+    opcode(auipc) == 0x17
+        && opcode(jalr) == 0x67
+        && function(jalr) == 0
+        && base(jalr) == destination(auipc)
 }
 
 /// A call in a section, as C has it.

@@ -11,7 +11,8 @@ ghost use Rattle.linker_riscv64.specs.Inner.Choices.{IsThere, riscv_tables};
 ghost use Rattle.linker_riscv64.specs.RiscVRewrites as rewrites;
 ghost use Rattle.linker_riscv64.specs.declared.rewrites.RelaxationKind.TheVariants as kinds;
 
-use super::rewrites::{is_add_tp, is_addi_to_a0, is_auipc, is_ld, is_lui, word_at};
+use super::fields::word_at;
+use super::rewrites::{is_add_tp, is_addi_to_a0, is_auipc, is_ld, is_lui};
 use super::{RelaxationKind, RiscVRelocation, RiscVRelocation as Names};
 use linker_base::rewrite::has_window;
 use linker_elf::elf::choice_table::{

@@ -1,9 +1,10 @@
-//! RISC-V: instruction forms, relaxation rewrites, what relocations mean, and calls that become
-//! jumps.
+//! RISC-V: instruction forms, fields of instructions, relaxation rewrites, what relocations mean,
+//! and calls that become jumps.
 #![tactic(auto)]
 
 mod calls;
 mod choices;
+pub mod fields;
 mod packing;
 mod rewrites;
 mod shrinking;

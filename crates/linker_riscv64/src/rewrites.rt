@@ -24,7 +24,8 @@ ghost use Rattle.linker_riscv64.specs.declared.rewrites.RelaxationKind.TheVarian
 ghost use Rattle.linker_base.specs.declared.relaxation.RelocationModifier.TheVariants.{Normal};
 ghost use Rattle.linker_base.specs.declared.relaxation.RelocationModifier.TheVariants.{SkipNextRelocation};
 
-use super::calls::{destination, is_call_pair, is_plain_call};
+use super::calls::{is_call_pair, is_plain_call};
+use super::fields::{base, destination, function, opcode, word_at};
 use linker_base::bit_misc::BitExtraction;
 use linker_base::relaxation::RelocationModifier;
 use linker_base::rewrite::{DeletedBytes, RewriteWindow, has_window, overwrite, window_is_in};
@@ -86,16 +87,7 @@ pub enum RelaxationKind {
     CLuiToCLi,
 }
 
-/// The instruction at an offset of the section.
-#[inline(always)]
-pub(super) fn word_at(section: &[u8], offset: u64) -> u32
-    requires { offset + 4 ≤ length section.now }
-    ensures { result ≡ from_le_bytes w32 (drop offset section.now) }
-{
-    u32_from_slice(&section[offset as usize..])
-}
-
-/// That of the four bytes alone.
+/// The instruction at an offset of the section, by its four bytes alone.
 #[inline(always)]
 fn window_at(section: &[u8], offset: u64) -> u32
     requires { offset + 4 ≤ length section.now }
@@ -134,23 +126,7 @@ fn put_half(section: &mut [u8], offset: u64, half: u16)
     overwrite(section, offset, &half.to_le_bytes());
 }
 
-/// The opcode of an instruction.
-#[inline(always)]
-fn opcode(word: u32) -> u64
-    ensures { result ≡ opcode_of word }
-{
-    u64::from(word).extract_bit_range(0..7)
-}
-
-/// Its function: bits 12 to 14.
-#[inline(always)]
-fn function(word: u32) -> u64
-    ensures { result ≡ funct3_of word }
-{
-    u64::from(word).extract_bit_range(12..15)
-}
-
-/// Its bits 20 to 31, which are an immediate, or a register and a further function.
+/// Bits 20 to 31 of an instruction, which are an immediate, or a register and a further function.
 #[inline(always)]
 fn upper_bits(word: u32) -> u64
     ensures { result ≡ field word 20 32 }
@@ -220,8 +196,7 @@ fn is_c_lui(half: u16) -> bool
 fn over_tp(word: u32) -> u32
     ensures { result ≡ with_rs1 tp word }
 {
-    let base = (word >> 15) % 32;
-    word - base * 0x8000 + 4 * 0x8000
+    word - base(word) * 0x8000 + 4 * 0x8000
 }
 
 /// Whether an instruction adds a signed immediate of 12 bits to its source register.
@@ -229,12 +204,12 @@ fn over_tp(word: u32) -> u32
 fn adds_immediate(word: u32) -> bool
     ensures { result ≡ adds_low12 (opcode_of word) (funct3_of word) }
 {
-    let function = u64::from(word).extract_bit_range(12..15);
+    let funct3 = function(word);
     match opcode(word) {
-        0x13 | 0x1b | 0x67 => function == 0,
-        0x03 => function < 7,
-        0x23 => function < 4,
-        0x07 | 0x27 => 0 < function && function < 5,
+        0x13 | 0x1b | 0x67 => funct3 == 0,
+        0x03 => funct3 < 7,
+        0x23 => funct3 < 4,
+        0x07 | 0x27 => 0 < funct3 && funct3 < 5,
         _ => false,
     }
 }
