@@ -5,7 +5,6 @@ use Rattle.std.specs.Prelude.{◌≡◌, ◌↔◌, ℕ, zero, suc, ◌+◌, ◌
 use Rattle.std.specs.Prelude.{nat_le, nat_lt, not, if◌then◌else◌, Bool, true, false, IsTrue, List}
 use Rattle.std.specs.Prelude.{length, Option, None, Some, slice_get, is_some}
 use Rattle.std.specs.Int.{w64, cast_signed, cast_unsigned}
-use Rattle.linker_base.specs.Bits.{field}
 use Rattle.linker_base.specs.Rewrite.{rewritten}
 use Rattle.linker_elf.specs.Choices.{choice}
 use Rattle.linker_elf.specs.ElfNames.{code_of}
@@ -14,7 +13,7 @@ use Rattle.linker_elf.specs.Value.{sum_64, difference_64}
 use Rattle.linker_elf.specs.declared.riscv64.relocations.RiscVRelocation.TheVariants as riscv64
 use Rattle.linker_riscv64.specs.RiscVCalls.{word_at}
 use Rattle.linker_riscv64.specs.RiscVRewrites.{opcode_of, funct3_of, rd_of, adds_low12, with_rs1}
-use Rattle.linker_riscv64.specs.RiscVRewrites.{rewrites_word}
+use Rattle.linker_riscv64.specs.RiscVRewrites.{rewrites_word, rs1_of, rs2_of}
 use Rattle.linker_riscv64.specs.declared.rewrites.RelaxationKind.TheVariants as kinds
 use Rattle.linker_rewriting.specs.Decisions.{decision_at, deletions_by}
 use Rattle.linker_rewriting.specs.Facts.{Setting, address_in}
@@ -131,13 +130,6 @@ is_reached s gp r =
 -- four bytes from an offset on are in the section
 abbrev pub has_word : List ℕ → ℕ → Bool
 has_word section o = nat_le (o + 4) (length section)
-
--- the source registers
-abbrev pub rs1_of : ℕ → ℕ
-rs1_of word = field word 15 20
-
-abbrev pub rs2_of : ℕ → ℕ
-rs2_of word = field word 20 25
 
 -- an instruction with an opcode, of another register than x0 and x3
 abbrev pub is_high_word : ℕ → ℕ → Bool

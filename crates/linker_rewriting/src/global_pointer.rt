@@ -11,9 +11,9 @@ ghost use Rattle.linker_rewriting.specs.GlobalPointer.{part_of, IsLabelled, IsSu
 ghost use Rattle.linker_rewriting.specs.GlobalPointer.{relative_high};
 ghost use Rattle.linker_rewriting.specs.Labels.{offset_of_label};
 ghost use Rattle.linker_rewriting.specs.GlobalPointer.{is_near, is_bound, address_of, has_word};
-ghost use Rattle.linker_rewriting.specs.GlobalPointer.{is_reached_by, rs1_of, is_high_word};
+ghost use Rattle.linker_rewriting.specs.GlobalPointer.{is_reached_by, is_high_word};
 ghost use Rattle.linker_rewriting.specs.GlobalPointer.{writes_none, is_low_word, is_expected};
-ghost use Rattle.linker_rewriting.specs.GlobalPointer.{rs2_of, stores_base, kept_by, decided_by};
+ghost use Rattle.linker_rewriting.specs.GlobalPointer.{stores_base, kept_by, decided_by};
 ghost use Rattle.linker_rewriting.specs.GlobalPointer.{fits, IsKeepingSymbol, part_decision};
 ghost use Rattle.linker_rewriting.specs.GlobalPointer.{AreSymbolsSurveyed, IsPartDecided};
 ghost use Rattle.linker_rewriting.specs.GlobalPointer.{ArePartsDecided, ArePartsRejected};
@@ -24,7 +24,7 @@ ghost use Rattle.linker_rewriting.specs.GlobalPointer.{based_relocation, based_s
 ghost use Rattle.linker_rewriting.specs.GlobalPointer.{section_based, AreBased, IsFirstUnplaced};
 ghost use Rattle.linker_riscv64.specs.RiscVCalls.{word_at};
 ghost use Rattle.linker_riscv64.specs.RiscVRewrites.{opcode_of, funct3_of, rd_of, adds_low12};
-ghost use Rattle.linker_riscv64.specs.RiscVRewrites.{with_rs1};
+ghost use Rattle.linker_riscv64.specs.RiscVRewrites.{rs1_of, with_rs1};
 ghost use Rattle.linker_section.specs.Relocations.{relocation_in};
 ghost use Rattle.linker_section.specs.Values.{IsAscending};
 
@@ -40,8 +40,8 @@ use linker_base::rewrite::overwrite;
 use linker_section::facts::{Addresses, Symbol};
 use linker_section::relocations::{Rela, is_ascending, relocations_len};
 use linker_utils::architecture::Relaxation;
-use linker_utils::bit_misc::BitExtraction;
 use linker_utils::elf::{Architecture, Choice};
+use linker_utils::riscv64::fields::{base, destination, opcode, source, word_at};
 use linker_utils::riscv64::{RelaxationKind, RiscVRelocation};
 use linker_utils::utils::u32_from_slice;
 
@@ -49,7 +49,7 @@ use linker_utils::utils::u32_from_slice;
 #[derive(Debug, Clone, Copy, PartialEq, Eq)]
 pub(crate) enum Part {
     /// A high part, with its opcode.
-    High(u64),
+    High(u32),
     /// A low part whose relocation is of the symbol, with the type that it gets.
     Low(u32),
     /// A low part whose relocation is of the label of its high part, with the type that it gets.
@@ -222,54 +222,13 @@ fn has_word(section: &[u8], offset: u64) -> bool
     4 <= section_len && offset <= section_len - 4
 }
 
-/// The instruction at an offset of the section.
-#[inline(always)]
-fn word_at(section: &[u8], offset: u64) -> u32
-    requires { offset + 4 ≤ length section.now }
-    ensures { result ≡ word_at section.now offset }
-{
-    u32_from_slice(&section[offset as usize..])
-}
-
-/// That of the four bytes alone.
+/// The instruction at an offset of the section, by its four bytes alone.
 #[inline(always)]
 fn window_at(section: &[u8], offset: u64) -> u32
     requires { offset + 4 ≤ length section.now }
     ensures { result ≡ from_le_bytes w32 (take 4 (drop offset section.now)) }
 {
     u32_from_slice(&section[offset as usize..])
-}
-
-/// The opcode of an instruction.
-#[inline(always)]
-fn opcode(word: u32) -> u64
-    ensures { result ≡ opcode_of word }
-{
-    u64::from(word).extract_bit_range(0..7)
-}
-
-/// The register that it writes.
-#[inline(always)]
-fn destination(word: u32) -> u64
-    ensures { result ≡ rd_of word }
-{
-    u64::from(word).extract_bit_range(7..12)
-}
-
-/// Its base register.
-#[inline(always)]
-fn base(word: u32) -> u64
-    ensures { result ≡ rs1_of word }
-{
-    u64::from(word).extract_bit_range(15..20)
-}
-
-/// The register that it stores.
-#[inline(always)]
-fn source(word: u32) -> u64
-    ensures { result ≡ rs2_of word }
-{
-    u64::from(word).extract_bit_range(20..25)
 }
 
 /// Whether an instruction stores what its own base holds.
@@ -282,7 +241,7 @@ fn stores_base(word: u32) -> bool
 
 /// Whether an instruction has an opcode, and is of another register than x0 and x3.
 #[inline(always)]
-fn is_high_word(code: u64, word: u32) -> bool
+fn is_high_word(code: u32, word: u32) -> bool
     ensures { result ≡ is_high_word code word }
 {
     opcode(word) == code && destination(word) != 0 && destination(word) != 3
@@ -969,8 +928,7 @@ fn with_base(register: u32, word: u32) -> u32
     requires { register ≤ 3 }
     ensures { result ≡ with_rs1 register word }
 {
-    let base = (word >> 15) % 32;
-    word - base * 0x8000 + register * 0x8000
+    word - base(word) * 0x8000 + register * 0x8000
 }
 
 /// Writes the base of a low part. Returns its relocation after it.
