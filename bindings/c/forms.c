@@ -1,4 +1,4 @@
-/* Forms: puts a distance into an AArch64 branch, reads it back, and is told what doesn't fit. */
+/* Forms: puts a distance into an AArch64 branch, reads it back, and tests what doesn't fit. */
 #include <stdio.h>
 
 #include "linker_utils.h"

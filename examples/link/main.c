@@ -119,8 +119,8 @@ int main(int argc, char **argv) {
     if (is_dynamic && is_placed) fail("--section-start is for static executables");
     make_sections();
     if (!path || !objects)
-        fail("usage: link [-s] [--no-relax | --short-offsets] [-pie | -shared [-soname NAME]] "
-             "-o OUTPUT [--section-start=NAME=ADDRESS]... FILE...");
+        fail("usage: link [-s] [--no-relax | --short-offsets | --relax-gp] [-pie | -shared [-soname "
+             "NAME]] -o OUTPUT [--section-start=NAME=ADDRESS]... FILE...");
     if (!is_placed) make_room(headers, 8, HEADERS);
     shrinks = !linker_utils_section_items(machine, NULL, 0, 0, NULL, 0, NULL, 0, NULL, 0, &none,
                                           NULL);

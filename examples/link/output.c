@@ -3,7 +3,7 @@
 
 #include "link.h"
 
-static Elf64_Phdr loads[MOST_OUTPUTS + 7], *load = loads - 1;
+static Elf64_Phdr all_loads[MOST_OUTPUTS + 8], *const loads = all_loads + 1, *load = all_loads;
 static Elf64_Shdr heads[MOST_OUTPUTS + 3]; /* of sections; the first is empty */
 static size_t heads_len = 1;
 
@@ -121,8 +121,8 @@ static void add_dynamic_parts(void) {
     loads[1] = part(PT_INTERP, PF_R, interpreter->address, interpreter->len, 1);
 }
 
-/* Puts the sections, in segments by what is allowed there, and returns where they end in the file.
- *  */
+/* Puts the sections, in segments by what is allowed there, and returns where they end in the
+ * file. */
 static uint64_t put_sections(void) {
     uint64_t end = 0, offset = headers->len ? 0 : MOST_ALIGN, image = 0;
     uint64_t align = headers->len ? linker_utils_page(machine) : MOST_ALIGN;

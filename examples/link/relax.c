@@ -10,7 +10,7 @@ static struct linker_utils_item *items;
 static uint64_t *stay;
 static size_t *makers, items_len;
 
-/* What the library is told of a relocation: its target, if that is in the same run. Between a
+/* What the library reads of a relocation: its target, if that is in the same run. Between a
  * symbol in code and what is some bytes behind it code may become shorter. */
 static struct linker_utils_rela seen(const struct section *s, const Elf64_Rela *r) {
     const struct symbol *to = symbol_at(s, r);

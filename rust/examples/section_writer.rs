@@ -17,7 +17,7 @@ fn main() {
     let (machine, at) = (Architecture::RiscV, &addresses);
     relocate_section(machine, at, &rela, &symbols, &mut section, &mut memory).unwrap();
     assert_eq!(section, [0xef, 0x10, 0, 0, 0xc5, 0x06, 0x40, 0x23, 0x40, 0, 0, 0, 0, 0]);
-    // out of reach of the `jal`: the first relocation is told, and nothing is written
+    // out of reach of the `jal`: the error names the first relocation, and nothing is written
     let far = Addresses { section: 0x1000, ..addresses };
     let error = relocate_section(machine, &far, &rela, &symbols, &mut section, &mut memory).unwrap_err();
     println!("{error}: {:?}", error);

@@ -35,7 +35,7 @@ pub enum RelocationSize {
 }
 
 /// What a relocation means. How it is applied is said at `struct linker_utils_relocation_info` in
-/// `include/linker_utils.h`.
+/// `include/linker_utils_further.h`.
 #[derive(Debug, Clone, PartialEq, Eq)]
 pub struct RelocationInfo {
     pub kind: RelocationKind,
@@ -448,7 +448,7 @@ pub struct KeptFacts {
 }
 
 /// What becomes of a relocation and of its instruction, as `enum linker_utils_fate` in
-/// `include/linker_utils.h` explains.
+/// `include/linker_utils_lists.h` explains.
 #[derive(Debug, Clone, Copy, PartialEq, Eq)]
 pub enum Decision {
     Kept,
@@ -468,7 +468,7 @@ pub enum Decision {
 }
 
 /// The types of the dynamic relocations that a linker emits. Each field is explained at
-/// `struct linker_utils_dynamic_types` in `include/linker_utils.h`.
+/// `struct linker_utils_dynamic_types` in `include/linker_utils_further.h`.
 #[repr(C)]
 #[derive(Debug, Clone, Copy, Default, PartialEq, Eq)]
 pub struct DynamicTypes {

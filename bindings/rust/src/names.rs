@@ -1,5 +1,5 @@
-//! Enums of the library's numbers. `build.rs` reads their constants from `include/linker_utils.h`. The
-//! variants have the names of the proved library's own enums.
+//! Enums of the library's numbers. `build.rs` reads their constants from the headers in `include/`.
+//! The variants have the names of the proved library's own enums.
 
 #![deny(unused_macros)] // each enum of the header is here
 
@@ -190,7 +190,7 @@ linker_utils_role! { numbered_or_none
 }
 
 linker_utils_relocation_kind! { numbered
-    /// What a relocation's value is computed from, in the letters that `include/linker_utils.h`
+    /// What a relocation's value is computed from, in the letters that `include/linker_utils_lists.h`
     /// explains at `enum linker_utils_relocation_kind`.
     RelocationKind: u32
 }
@@ -227,7 +227,7 @@ linker_utils_fate! { numbered
 
 linker_utils_reference! { numbered
     /// Which address a relocation's value is computed from, in the letters that
-    /// `include/linker_utils.h` explains at `enum linker_utils_relocation_kind`.
+    /// `include/linker_utils_lists.h` explains at `enum linker_utils_relocation_kind`.
     Reference: u32
 }
 

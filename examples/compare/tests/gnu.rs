@@ -303,9 +303,9 @@ fn address(bytes: &[u8], name: &str) -> u64 {
     it.symbols().find(|symbol| symbol.name() == Ok(name)).unwrap().address()
 }
 
-/// A call of an indirect function goes to a stub, whose word another function tells now.
+/// A call of an indirect function goes to a stub, whose word is another function's now.
 #[test]
-fn a_stub_of_another_function_is_told() {
+fn a_stub_of_another_function_is_reported() {
     for (folder, _, _) in &PROGRAMS[..5] {
         let gnu = file(folder, "gnu");
         let (from, to) = (address(&gnu, "indirect"), address(&gnu, "constructor"));

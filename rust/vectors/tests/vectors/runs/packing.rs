@@ -172,7 +172,7 @@ fn items_that_lose_bytes_are_not_left_out() {
     expect(machine, &RISC_V, &items[2..], deltas, missing(0), &[0xee; 34]);
     expect(machine, &RISC_V, &[items[1], items[3]], deltas, missing(1), &[0xee; 34]);
     expect(machine, &RISC_V, &items[1..2], deltas, missing(1), &[0xee; 34]);
-    // the call that stays and the nops, which all stay, needn't be told
+    // the call that stays and the nops, which all stay, needn't be listed
     let without = [items[1], items[2]];
     let mut packed = RISC_V_PACKED;
     packed[10..18].copy_from_slice(&RISC_V[20..28]);
