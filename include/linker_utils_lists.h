@@ -29,7 +29,7 @@
     STATUS(NOT_MERGEABLE, 15, \
            "Two deletions overlap or begin at one offset, or one ends past 2^64 - 1.") \
     STATUS(TOO_LARGE, 17, "The input offset would be past 2^64 - 1.") \
-    STATUS(NOT_ASCENDING, 18, "The queries decrease somewhere.") \
+    STATUS(NOT_ASCENDING, 18, "The queries, or the boundaries, decrease somewhere.") \
     STATUS(DIFFERENT_LENGTHS, 19, "An output array does not have the length that the call takes.") \
     STATUS(OUT_OF_MEMORY, 20, "`malloc` or `realloc` returned null.") \
     STATUS(ULEB128_ENDED, 21, "The bytes end before the ULEB128 number does.") \

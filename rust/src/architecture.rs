@@ -41,8 +41,8 @@ macro_rules! of_kind {
     };
 }
 
-/// What a macro makes of an architecture's module, of the enum of its relocations, of its variant of
-/// `Relaxation`, and of what it is given.
+/// What a macro makes of an architecture's module, of the enum of its relocations, of its variant
+/// of `Relaxation`, and of what it is given.
 macro_rules! by_architecture {
     ($architecture:expr, $make:ident $given:tt) => {
         match $architecture {
@@ -58,7 +58,8 @@ macro_rules! by_architecture {
 }
 
 macro_rules! chosen {
-    ($module:ident $names:ident $of:ident ($code:expr, $section:expr, $offset:expr, $facts:expr)) => {{
+    ($module:ident $names:ident $of:ident
+        ($code:expr, $section:expr, $offset:expr, $facts:expr)) => {{
         let name = $names::from_elf($code);
         let chosen = $module::choose(name, $section, $offset, $facts);
         Choice {
@@ -240,11 +241,11 @@ impl Architecture {
         by_architecture!(self, chosen(code, section, offset, facts))
     }
 
-    /// Whether the relocation with a code, `r_type` in ELF files, can be rewritten if each other one
-    /// of its sequence can: whether `choose` changes something with `group_fits`. A linker calls it
-    /// for each relocation of the sequence before it chooses, with the facts that it chooses by, and
-    /// sets `group_fits` for all of them if all fit, as `fits` of `aarch64`, `riscv64`, `loongarch64`,
-    /// `ppc64` and `x86_64` says.
+    /// Whether the relocation with a code, `r_type` in ELF files, can be rewritten if each other
+    /// one of its sequence can: whether `choose` changes something with `group_fits`. A linker
+    /// calls it for each relocation of the sequence before it chooses, with the facts that it
+    /// chooses by, and sets `group_fits` for all of them if all fit, as `fits` of `aarch64`,
+    /// `riscv64`, `loongarch64`, `ppc64` and `x86_64` says.
     ///
     /// ```
     /// use linker_utils::elf::{Architecture, LinkFacts};
@@ -345,8 +346,8 @@ impl Architecture {
         }
     }
 
-    /// What a relocation of a ULEB128 number does; `None` for all others. There are two of them at one
-    /// number: `write_uleb128_pair` writes what both make of it.
+    /// What a relocation of a ULEB128 number does; `None` for all others. There are two of them at
+    /// one number: `write_uleb128_pair` writes what both make of it.
     #[must_use]
     pub fn uleb128_role(self, code: u32) -> Option<Uleb128Role> {
         match self {
@@ -373,9 +374,9 @@ impl Architecture {
     ///
     /// # Errors
     ///
-    /// `NotFirst` if the relocation with the code is neither of those that set or add. Else `Number`
-    /// with the error of `utils::write_uleb128`: a difference below 0 is one of 64 bits, which fits
-    /// ten bytes alone. Nothing is written then.
+    /// `NotFirst` if the relocation with the code is neither of those that set or add. Else
+    /// `Number` with the error of `utils::write_uleb128`: a difference below 0 is one of 64 bits,
+    /// which fits ten bytes alone. Nothing is written then.
     pub fn write_uleb128_pair(
         self,
         code: u32,
@@ -439,7 +440,8 @@ fn number_or_zero(bytes: &[u8]) -> u64 {
     crate::readers::read_uleb128(&mut content).unwrap_or(0)
 }
 
-/// The number that the values of a pair make of the existing one, by the role of its first relocation.
+/// The number that the values of a pair make of the existing one, by the role
+/// of its first relocation.
 fn pair_number(role: Uleb128Role, bytes: &[u8], first: u64, second: u64) -> u64 {
     let difference = first.wrapping_sub(second);
     match role {

@@ -1,6 +1,7 @@
 // Made by tools/erase of crates/linker_runs/src/lib.rt.
-//! Runs of code that become shorter: the items that a section's relocations make, which instructions
-//! become shorter and how many nops each alignment keeps, and sections without the bytes that they lose.
+//! Runs of code that become shorter: the items that a section's relocations make, which
+//! instructions become shorter and how many nops each alignment keeps, and sections without the
+//! bytes that they lose.
 
 mod guesses;
 pub mod items;

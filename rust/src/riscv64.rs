@@ -1,11 +1,12 @@
 // Made by tools/erase of crates/linker_riscv64/src/lib.rt.
-//! RISC-V: instruction forms, relaxation rewrites, what relocations mean, and calls that become
-//! jumps.
+//! RISC-V: instruction forms, fields of instructions, relaxation rewrites, what relocations mean,
+//! and calls that become jumps.
 //!
 #![doc = include_str!("../doc/riscv64.md")]
 
 mod calls;
 mod choices;
+pub mod fields;
 mod packing;
 mod rewrites;
 mod shrinking;

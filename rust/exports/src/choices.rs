@@ -115,7 +115,8 @@ pub(crate) fn in_numbers(chosen: Choice<Relaxation, u32>) -> ChoiceNumbers {
 
 /// The choice of an architecture's rewrites, in numbers.
 macro_rules! chosen_in_numbers {
-    ($module:ident $names:ident $of:ident ($code:expr, $section:expr, $offset:expr, $facts:expr)) => {{
+    ($module:ident $names:ident $of:ident
+        ($code:expr, $section:expr, $offset:expr, $facts:expr)) => {{
         let name = $names::from_elf($code);
         let chosen = $module::choose(name, $section, $offset, $facts);
         in_numbers(Choice {

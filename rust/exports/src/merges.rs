@@ -122,8 +122,8 @@ fn why_not(deltas: &[RelaxDelta], additional: &[Deletion]) -> Option<MergeError>
     }
 }
 
-// A deletion in 64 bits: 40 of its offset, above 24 of how many bytes it is. Such numbers are sorted
-// sooner than pairs.
+// A deletion in 64 bits: 40 of its offset, above 24 of how many bytes it is. Such numbers are
+// sorted sooner than pairs.
 #[derive(Clone, Copy)]
 struct Key {
     bits: u64,

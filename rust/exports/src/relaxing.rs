@@ -206,8 +206,8 @@ fn have_lengths(len: usize, shapes: usize, kept: usize, places: usize, freed: us
 /// unchanged.
 ///
 /// The error is `DifferentLengths`, where `kept` or `deltas` has not as many elements as there are
-/// items. Nothing is written then. The contract of what is written requires items in order, as those of a
-/// run that `linker_utils_items_relaxable` accepts are.
+/// items. Nothing is written then. The contract of what is written requires items in order, as
+/// those of a run that `linker_utils_items_relaxable` accepts are.
 pub fn linker_utils_run_deltas_nonnull(
     items: &[ItemNumbers],
     kept: &[u64],

@@ -38,7 +38,7 @@ pub enum Status {
     NotMergeable,
     /// The input offset would be past 2^64 - 1.
     TooLarge = 17,
-    /// The queries decrease somewhere.
+    /// The queries, or the boundaries, decrease somewhere.
     NotAscending,
     /// An output array does not have the length that the call takes.
     DifferentLengths,

@@ -232,7 +232,7 @@ pub fn fits(name: AArch64Relocation, section: &[u8], offset: u64, facts: &LinkFa
 
 /// With the same facts, except that each has its own place, both relocations of a load of a GOT
 /// entry are rewritten or neither is; so are a high and a low half of initial-exec, wherever they
-/// are, at instructions that their rewrites are meant for; and of the four of a TLS descriptor all are
-/// rewritten for local-exec, all for initial-exec, or none is.
+/// are, at instructions that their rewrites are meant for; and of the four of a TLS descriptor all
+/// are rewritten for local-exec, all for initial-exec, or none is.
 #[doc(hidden)]
 pub fn relocations_are_chosen_alike() {}

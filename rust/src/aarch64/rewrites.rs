@@ -243,8 +243,8 @@ impl RelaxationKind {
         }
     }
 
-    /// The bytes that `apply` writes: the instruction's 4. For `AdrpAddToNopAdr` they are the pair's
-    /// 8, which begin 4 bytes before the offset, and for `NoOp` none.
+    /// The bytes that `apply` writes: the instruction's 4. For `AdrpAddToNopAdr` they are the
+    /// pair's 8, which begin 4 bytes before the offset, and for `NoOp` none.
     #[must_use]
     #[inline]
     pub fn window(self) -> RewriteWindow {

@@ -1,5 +1,6 @@
 // Made by tools/erase of crates/linker_base/src/packing.rt.
-//! What is packed by deltas that anyone owns: the positions of input offsets, and the bytes that stay.
+//! What is packed by deltas that anyone owns: the positions of input offsets,
+//! and the bytes that stay.
 
 pub mod search;
 
@@ -104,8 +105,8 @@ fn position_at(deltas: &[RelaxDelta], begun: usize, input_offset: u64) -> Positi
 
 /// The position of an input offset, by a search.
 ///
-/// The deltas are as `SectionRelaxDeltas::deltas` lists them; of others nothing is promised but that
-/// the call is safe.
+/// The deltas are as `SectionRelaxDeltas::deltas` lists them. With others the call is safe, but
+/// what it returns isn't specified.
 #[must_use]
 pub fn position_of(deltas: &[RelaxDelta], input_offset: u64) -> Position {
     position_at(deltas, begun_near(deltas, 0, input_offset), input_offset)

@@ -124,7 +124,7 @@ impl SectionRelaxDeltas {
     ///
     /// What is listed is then as `new` makes it of the old and the additional pairs, sorted. Before
     /// anything changes the list grows, and its heads where it has more than 1,024 deltas then, and
-    /// pairs that don't ascend are copied, to be sorted: memory is asked for at most once for each,
+    /// pairs that don't ascend are copied, to be sorted: memory is allocated at most once for each,
     /// and not at all where `additional` is empty. But for that growth, which is O(1) for each pair
     /// of many merges, the work is O(k + m) for k pairs and the m deltas after the first of them,
     /// and O(k log k) more where the pairs don't ascend. `is_mergeable` tests what it requires.
@@ -173,7 +173,7 @@ impl SectionRelaxDeltas {
     ///
     /// What is listed is then as `new` makes it of the old and all additional pairs, sorted. Before
     /// anything changes the list grows, and its heads where it has more than 1,024 deltas then, and
-    /// all pairs are copied: memory is asked for at most once for each, and not at all where no
+    /// all pairs are copied: memory is allocated at most once for each, and not at all where no
     /// batch has a pair. But for that growth the work is O(k + m) for k pairs in all batches and
     /// the m deltas after the first of them, and O(k log k) more where the pairs don't ascend, from
     /// each batch to the next too. `are_mergeable` tests what it requires.

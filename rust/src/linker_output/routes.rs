@@ -322,15 +322,16 @@ impl Target {
     /// `relocation` is one of a section that is at `addresses.section`, and `symbol` is what is
     /// known of its symbol.
     ///
-    /// - `Direct` where its value can be written, and on PowerPC64 the TOC pointer is as the function
-    ///   and the caller expect. It goes to `Symbol::stub`, if that isn't 0, else to the symbol, on
-    ///   PowerPC64 to its local entry point.
-    /// - A stub of the kind `Jump` where it doesn't reach, and may go by one: `R_AARCH64_CALL26` and
-    ///   `R_AARCH64_JUMP26`, `R_LARCH_B26`, `R_PPC64_REL24` and `R_PPC64_REL24_NOTOC`. RISC-V's and
-    ///   x86-64's calls reach as far as a stub would.
-    /// - On PowerPC64 such a stub also for `R_PPC64_REL24` to a function that may leave another TOC
-    ///   pointer (the high three bits of `st_other` are 1), and for `R_PPC64_REL24_NOTOC` to one that has
-    ///   a local entry point (they are above 1). `R_PPC64_REL14` to the former is `NoRoom`.
+    /// - `Direct` where its value can be written, and on PowerPC64 the TOC pointer is as the
+    ///   function and the caller expect. It goes to `Symbol::stub`, if that isn't 0, else to the
+    ///   symbol, on PowerPC64 to its local entry point.
+    /// - A stub of the kind `Jump` where it doesn't reach, and may go by one: `R_AARCH64_CALL26`
+    ///   and `R_AARCH64_JUMP26`, `R_LARCH_B26`, `R_PPC64_REL24` and `R_PPC64_REL24_NOTOC`. RISC-V's
+    ///   and x86-64's calls reach as far as a stub would.
+    /// - On PowerPC64 such a stub also for `R_PPC64_REL24` to a function that may leave
+    ///   another TOC pointer (the high three bits of `st_other` are 1), and for
+    ///   `R_PPC64_REL24_NOTOC` to one that has a local entry point (they are above 1).
+    ///   `R_PPC64_REL14` to the former is `NoRoom`.
     ///
     /// With the address of its entry in the stub as `Symbol::stub`, and an addend of 0, the branch
     /// is `Direct` if it reaches that. A branch to an undefined weak symbol goes as

@@ -38,8 +38,8 @@ pub(crate) fn power_of_two(exponent: u8) -> u64 {
 }
 
 impl FieldValue {
-    /// Whether some bits are known, none above bit 63, and `bits` has no others. What `read`, `solve`
-    /// and `join` return is so, and the latter two require it.
+    /// Whether some bits are known, none above bit 63, and `bits` has no others. What `read`,
+    /// `solve` and `join` return is so, and the latter two require it.
     #[must_use]
     pub fn is_proper(&self) -> bool {
         if self.known.start >= self.known.end || self.known.end > 64 {

@@ -15,8 +15,8 @@ use crate::linker_elf::elf::{
 };
 use crate::elf::Architecture;
 
-/// Which registers of two instructions have to be the same: the destination of the first, and the base
-/// of the second. Each has 5 bits.
+/// Which registers of two instructions have to be the same: the destination of the first, and the
+/// base of the second. Each has 5 bits.
 #[derive(Clone, Copy)]
 enum Base {
     /// None.
@@ -106,9 +106,9 @@ fn first_forms(
 /// where the instruction has no immediate that a form holds, where there are too few bytes, and for
 /// x86-64, whose values are whole bytes.
 ///
-/// `LdSt`, `LdrRegister` and `MachOLow12` of AArch64 share their instructions, and so do `Movkz` and
-/// `Movnz`, and `Add` and `MachOLow12`: `operand` of each is the same. `R_LARCH_CALL30`'s pair isn't
-/// in the manual, so `Call30` is never returned.
+/// `LdSt`, `LdrRegister` and `MachOLow12` of AArch64 share their instructions, and so do `Movkz`
+/// and `Movnz`, and `Add` and `MachOLow12`: `operand` of each is the same. `R_LARCH_CALL30`'s pair
+/// isn't in the manual, so `Call30` is never returned.
 ///
 /// ```
 /// use linker_utils::reading::{forms_of, operand};

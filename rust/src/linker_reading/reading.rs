@@ -132,7 +132,8 @@ pub(crate) fn number_of_bytes(len: usize, bytes: &[u8]) -> u64 {
     u64::from_le_bytes(word)
 }
 
-/// What stands in a `jirl` at the low part of an address: bits 2 to 11 of the value, of which bits 0 and 1 are 0.
+/// What stands in a `jirl` at the low part of an address: bits 2 to 11 of the value, of which bits
+/// 0 and 1 are 0.
 #[inline(always)]
 fn jump_read(bytes: &[u8]) -> FieldValue {
     let word = u32_from_slice(bytes) as u64;

@@ -157,10 +157,10 @@ fn without_rounding(field: FieldValue) -> FieldValue {
 /// of TLS are read, whichever the formula takes off.
 ///
 /// With these, an address has the bits of the result exactly if its value has those of `field`. The
-/// same bits are known of both. Where bit 0 is known the rounding is 0, and else it is the row's bias
-/// and what is left of the rounding of `field` less what the formula takes off. Of a row that takes the
-/// page of the address, bits 12 and up are known, and the page of that rest counts: of what `read`
-/// returns, the rounding is the bias less the page of the place or of the GOT.
+/// same bits are known of both. Where bit 0 is known the rounding is 0, and else it is the row's
+/// bias and what is left of the rounding of `field` less what the formula takes off. Of a row that
+/// takes the page of the address, bits 12 and up are known, and the page of that rest counts: of
+/// what `read` returns, the rounding is the bias less the page of the place or of the GOT.
 ///
 /// `None` of rows without an inverse, as `terms_of` says; and of a row of pages if `field` begins
 /// below bit 12.
@@ -197,9 +197,9 @@ pub fn solve(
 
 /// What is known of an address from both halves of a pair, as `solve` returns them: `adrp` and
 /// `add`, `auipc` and `addi`, `addis` and `addi`, `pcalau12i` and `addi.d`. A number has the bits
-/// of the result exactly if it has those of both. The bits are known from bit 0 up to the last of the
-/// high half, without rounding. If that is bit 63, as `reach` makes it, `number` of the result is the
-/// address.
+/// of the result exactly if it has those of both. The bits are known from bit 0 up to the last of
+/// the high half, without rounding. If that is bit 63, as `reach` makes it, `number` of the result
+/// is the address.
 ///
 /// `None` unless the low half has all bits below the high half's, from bit 0 up, without rounding.
 ///

@@ -28,8 +28,8 @@ fn field_len(row: &Option<Row>) -> u64 {
     }
 }
 
-/// The bytes of a choice, from the first one to below the end, if its rewrite is meant for what is at
-/// the offset and they are there.
+/// The bytes of a choice, from the first one to below the end, if its rewrite is meant for what is
+/// at the offset and they are there.
 fn bytes_of<N: RecognisedName>(
     choice: Choice<N::Kind, N>,
     original: &[u8],
@@ -66,8 +66,8 @@ fn choice_at<N: RecognisedName>(
     choices[index]
 }
 
-/// The least window around an offset with the bytes of each of some choices that is meant for what is
-/// there.
+/// The least window around an offset with the bytes of each of some choices that
+/// is meant for what is there.
 pub(crate) fn least_window<N: RecognisedName>(
     choices: &Choices<N::Kind, N>,
     original: &[u8],

@@ -14,8 +14,8 @@ use crate::linker_base::rewrite::overwrite;
 use crate::linker_section::facts::{Addresses, Symbol};
 use crate::linker_section::relocations::{Rela, is_ascending, relocations_len};
 use crate::architecture::Relaxation;
-use crate::bit_misc::BitExtraction;
 use crate::elf::{Architecture, Choice};
+use crate::riscv64::fields::{base, destination, opcode, source, word_at};
 use crate::riscv64::{RelaxationKind, RiscVRelocation};
 use crate::utils::u32_from_slice;
 
@@ -23,7 +23,7 @@ use crate::utils::u32_from_slice;
 #[derive(Debug, Clone, Copy, PartialEq, Eq)]
 pub(crate) enum Part {
     /// A high part, with its opcode.
-    High(u64),
+    High(u32),
     /// A low part whose relocation is of the symbol, with the type that it gets.
     Low(u32),
     /// A low part whose relocation is of the label of its high part, with the type that it gets.
@@ -171,40 +171,10 @@ fn has_word(section: &[u8], offset: u64) -> bool {
     4 <= section_len && offset <= section_len - 4
 }
 
-/// The instruction at an offset of the section.
-#[inline(always)]
-fn word_at(section: &[u8], offset: u64) -> u32 {
-    u32_from_slice(&section[offset as usize..])
-}
-
-/// That of the four bytes alone.
+/// The instruction at an offset of the section, by its four bytes alone.
 #[inline(always)]
 fn window_at(section: &[u8], offset: u64) -> u32 {
     u32_from_slice(&section[offset as usize..])
-}
-
-/// The opcode of an instruction.
-#[inline(always)]
-fn opcode(word: u32) -> u64 {
-    u64::from(word).extract_bit_range(0..7)
-}
-
-/// The register that it writes.
-#[inline(always)]
-fn destination(word: u32) -> u64 {
-    u64::from(word).extract_bit_range(7..12)
-}
-
-/// Its base register.
-#[inline(always)]
-fn base(word: u32) -> u64 {
-    u64::from(word).extract_bit_range(15..20)
-}
-
-/// The register that it stores.
-#[inline(always)]
-fn source(word: u32) -> u64 {
-    u64::from(word).extract_bit_range(20..25)
 }
 
 /// Whether an instruction stores what its own base holds.
@@ -215,7 +185,7 @@ fn stores_base(word: u32) -> bool {
 
 /// Whether an instruction has an opcode, and is of another register than x0 and x3.
 #[inline(always)]
-fn is_high_word(code: u64, word: u32) -> bool {
+fn is_high_word(code: u32, word: u32) -> bool {
     opcode(word) == code && destination(word) != 0 && destination(word) != 3
 }
 
@@ -790,8 +760,7 @@ fn first_unplaced(
 /// An instruction with another base register.
 #[inline(always)]
 fn with_base(register: u32, word: u32) -> u32 {
-    let base = (word >> 15) % 32;
-    word - base * 0x8000 + register * 0x8000
+    word - base(word) * 0x8000 + register * 0x8000
 }
 
 /// Writes the base of a low part. Returns its relocation after it.

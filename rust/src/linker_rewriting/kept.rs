@@ -127,7 +127,10 @@ pub fn first_changed(
 /// (relocations[0], relocations[8], relocations[12]) = (2, 2, 1);
 /// relocations[16..].copy_from_slice(&(-4i64).to_le_bytes());
 /// let output = OutputFacts { is_executable: true, is_fixed: false };
-/// let mut facts = [SymbolFacts::default(), SymbolFacts { is_local: true, ..SymbolFacts::default() }];
+/// let mut facts = [
+///     SymbolFacts::default(),
+///     SymbolFacts { is_local: true, ..SymbolFacts::default() },
+/// ];
 /// let mut kept = [KeptFacts::default(); 2];
 /// keep_facts(&output, &facts, &mut kept);
 /// // another definition replaces f

@@ -92,7 +92,10 @@ fn make_changes<D: AsDecision>(
 /// (relocations[0], relocations[8], relocations[12]) = (2, 41, 1);
 /// relocations[16..].copy_from_slice(&(-4i64).to_le_bytes());
 /// let output = OutputFacts { is_executable: true, is_fixed: false };
-/// let symbols = [SymbolFacts::default(), SymbolFacts { is_local: true, ..SymbolFacts::default() }];
+/// let symbols = [
+///     SymbolFacts::default(),
+///     SymbolFacts { is_local: true, ..SymbolFacts::default() },
+/// ];
 /// let mut decisions = [Decision::Kept];
 /// rewrite_section(
 ///     Architecture::X86_64,
@@ -191,17 +194,17 @@ fn list_changes<D: AsDecision, L: FromDeletion>(
 /// its instruction or without, gets the type 0.
 ///
 /// - `ThreadOffsets`: where an offset from the thread pointer has 12 bits, RISC-V's and LoongArch's
-///   `lui` and `add` of it are deleted, and loads and stores are over the thread pointer; where it has
-///   16 bits, PowerPC64's `addis` becomes a `nop`. An instruction of RISC-V and LoongArch has to be
-///   marked for that. RISC-V's TLS descriptors become such offsets too, all of a label or none: what is
-///   left out is deleted where the high part is marked, and a `nop` elsewhere. Their relocations are then
-///   of the symbol and the addend of the high part (`Decision::Redirected`).
+///   `lui` and `add` of it are deleted, and loads and stores are over the thread pointer; where it
+///   has 16 bits, PowerPC64's `addis` becomes a `nop`. An instruction of RISC-V and LoongArch has
+///   to be marked for that. RISC-V's TLS descriptors become such offsets too, all of a label or
+///   none: what is left out is deleted where the high part is marked, and a `nop` elsewhere. Their
+///   relocations are then of the symbol and the addend of the high part (`Decision::Redirected`).
 /// - `GotLoads`: AArch64's loads of an address from the GOT become `adrp` and `add`, where both
-///   relocations are next to each other and have no addend. RISC-V's become `auipc` and `addi`, where all
-///   of a label are marked.
-/// - `Distances`: AArch64's `adrp` and `add` next to each other become `nop` and `adr`. Where a distance
-///   from the TOC pointer has 16 bits, PowerPC64's `addis` becomes a `nop`, and what reads it is over the
-///   TOC pointer.
+///   relocations are next to each other and have no addend. RISC-V's become `auipc` and `addi`,
+///   where all of a label are marked.
+/// - `Distances`: AArch64's `adrp` and `add` next to each other become `nop` and `adr`. Where a
+///   distance from the TOC pointer has 16 bits, PowerPC64's `addis` becomes a `nop`, and what reads
+///   it is over the TOC pointer.
 ///
 /// # Errors
 ///

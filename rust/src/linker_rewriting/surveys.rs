@@ -258,7 +258,10 @@ fn survey_in(
 /// let symbols = [SymbolFacts::default(); 2];
 /// let mut kept = [KeptGroups::default(); 2];
 /// survey(Architecture::X86_64, &output, &symbols, &relocations, &[0x90], &mut kept);
-/// assert_eq!(kept, [KeptGroups::default(), KeptGroups { descriptor: true, ..KeptGroups::default() }]);
+/// assert_eq!(
+///     kept,
+///     [KeptGroups::default(), KeptGroups { descriptor: true, ..KeptGroups::default() }],
+/// );
 /// ```
 pub fn survey(
     architecture: Architecture,

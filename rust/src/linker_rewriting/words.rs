@@ -216,8 +216,8 @@ fn keeping_word(
 /// use linker_utils::section::{Addresses, Symbol};
 /// use linker_utils::elf::Architecture;
 ///
-/// // lwz 3,.toc@toc@l(3), with R_PPC64_TOC16_LO_DS of `.toc`, whose word is that of symbol 2: no load
-/// // of an address
+/// // lwz 3,.toc@toc@l(3), with R_PPC64_TOC16_LO_DS of `.toc`, whose word is that of symbol 2: no
+/// // load of an address
 /// let relocation = |code: u8, symbol: u8| {
 ///     let mut bytes = [0; 24];
 ///     (bytes[8], bytes[12]) = (code, symbol);
@@ -407,8 +407,8 @@ fn decide_loads<D: AsDecision>(
 /// use linker_utils::section::{Addresses, Symbol};
 /// use linker_utils::elf::Architecture;
 ///
-/// // addis 3,2,.toc@toc@ha and ld 3,.toc@toc@l(3), where the word at the start of `.toc` is that of
-/// // symbol 2, become addis 3,2,x@toc@ha and addi 3,3,x@toc@l
+/// // addis 3,2,.toc@toc@ha and ld 3,.toc@toc@l(3), where the word at the start of `.toc` is that
+/// // of symbol 2, become addis 3,2,x@toc@ha and addi 3,3,x@toc@l
 /// let relocation = |offset: u8, code: u8, symbol: u8| {
 ///     let mut bytes = [0; 24];
 ///     (bytes[0], bytes[8], bytes[12]) = (offset, code, symbol);

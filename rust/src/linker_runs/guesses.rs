@@ -8,8 +8,8 @@ pub(crate) fn density(count: usize, from: u64, to: u64) -> u64 {
     (count as u64).saturating_mul(1 << 32) / to.saturating_sub(from).max(1)
 }
 
-/// The indexes between which a list's density is measured: the middle half, since a run's code may be
-/// among data, where nothing becomes shorter.
+/// The indexes between which a list's density is measured: the middle half, since a run's code may
+/// be among data, where nothing becomes shorter.
 #[inline(always)]
 pub(crate) fn middle(len: usize) -> (usize, usize) {
     let quarter = len / 4;

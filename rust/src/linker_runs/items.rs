@@ -134,13 +134,14 @@ fn is_formed(machine: Machine, section: &[u8], relocation: &Relocation) -> bool 
     }
 }
 
-/// The index of the first relocation that isn't what the psABI allows: one that lies behind the
-/// section's end, one of a call where less than eight bytes are there (`R_RISCV_CALL`,
-/// `R_RISCV_CALL_PLT`, `R_LARCH_CALL36`), or one of an alignment whose nops the addend doesn't tell.
+/// The index of the first relocation that isn't what the psABI allows: one that lies
+/// behind the section's end, one of a call where less than eight bytes are there
+/// (`R_RISCV_CALL`, `R_RISCV_CALL_PLT`, `R_LARCH_CALL36`), or one of an alignment whose
+/// nops the addend doesn't tell.
 ///
 /// The addend of `R_RISCV_ALIGN` is a multiple of 2 from 0 up, below 2^32, of bytes in the section.
-/// That of `R_LARCH_ALIGN` isn't below 0, its exponent is from 2 to 32, and its nops are a multiple of
-/// 4 below 2^32, of bytes in the section.
+/// That of `R_LARCH_ALIGN` isn't below 0, its exponent is from 2 to 32, and its nops are a multiple
+/// of 4 below 2^32, of bytes in the section.
 #[must_use]
 pub fn first_malformed<R: AsRelocation>(
     machine: Machine,
@@ -155,8 +156,8 @@ pub fn first_malformed<R: AsRelocation>(
     None
 }
 
-/// What a walk that stands at a relocation has to know of those behind it: on RISC-V the index of the
-/// next alignment. `known` is what it knew before.
+/// What a walk that stands at a relocation has to know of those behind it: on RISC-V the index of
+/// the next alignment. `known` is what it knew before.
 #[inline(always)]
 fn ahead<R: AsRelocation>(machine: Machine, relocations: &[R], index: usize, known: usize) -> usize {
     match machine {
@@ -196,25 +197,25 @@ pub struct SectionItems {
     pub makers: Vec<usize>,
 }
 
-/// The items that the relocations of a section make, in the relocations' order, and the index of the
-/// relocation that makes each. The section begins at the input offset `base` of the run. The other
-/// relocations make none.
+/// The items that the relocations of a section make, in the relocations' order, and the index of
+/// the relocation that makes each. The section begins at the input offset `base` of the run. The
+/// other relocations make none.
 ///
 /// **RISC-V.** `R_RISCV_CALL` and `R_RISCV_CALL_PLT` make a site where `R_RISCV_RELAX` is the next
-/// relocation, at the same offset, the target is in the run, and the bytes are `auipc` and `jalr` of one
-/// register. Its shapes are `TAIL_C` where the `jalr` links x0 and the relocation's `may_compress` is
-/// set, and else `CALL`. `R_RISCV_ALIGN` makes an alignment without a limit, if there are nops: the
-/// addend is how many bytes they have, and the next power of two above it what they align to (RISC-V
-/// ELF psABI, "Linker Relaxation").
+/// relocation, at the same offset, the target is in the run, and the bytes are `auipc` and `jalr`
+/// of one register. Its shapes are `TAIL_C` where the `jalr` links x0 and the relocation's
+/// `may_compress` is set, and else `CALL`. `R_RISCV_ALIGN` makes an alignment without a limit, if
+/// there are nops: the addend is how many bytes they have, and the next power of two above it what
+/// they align to (RISC-V ELF psABI, "Linker Relaxation").
 ///
 /// Where fewer nops stand before an alignment than it may need at any even address, as the 12 bytes
-/// that assemblers write for `.balign 16` in code without the C extension, the calls between it and the
-/// alignment before it free only multiples of what has to divide its address: then no call there has
-/// `TAIL_C`, and none is a site if that is more than 4.
+/// that assemblers write for `.balign 16` in code without the C extension, the calls between it and
+/// the alignment before it free only multiples of what has to divide its address: then no call
+/// there has `TAIL_C`, and none is a site if that is more than 4.
 ///
-/// **LoongArch.** Where `R_LARCH_RELAX` is the next relocation, at the same offset, and the target is
-/// in the run, `R_LARCH_CALL36` makes a `CALL36` if the bytes are `pcaddu18i` and `jirl` of one register
-/// and the `jirl` links `ra` or none. `R_LARCH_PCALA_HI20` makes a `PCALA` if behind its
+/// **LoongArch.** Where `R_LARCH_RELAX` is the next relocation, at the same offset, and the target
+/// is in the run, `R_LARCH_CALL36` makes a `CALL36` if the bytes are `pcaddu18i` and `jirl` of one
+/// register and the `jirl` links `ra` or none. `R_LARCH_PCALA_HI20` makes a `PCALA` if behind its
 /// `R_LARCH_RELAX` are `R_LARCH_PCALA_LO12` of the next instruction, with the same target, and an
 /// `R_LARCH_RELAX` there, and the bytes are `pcalau12i` and `addi.d` of one register.
 ///
@@ -225,7 +226,7 @@ pub struct SectionItems {
 /// the nops (LoongArch ELF psABI, "Relocations").
 ///
 /// `Malformed` names the relocation that `first_malformed` returns. The vectors grow as items are
-/// added. `are_items` tells whether the run can be relaxed.
+/// added. `are_items` returns whether the run can be relaxed.
 ///
 /// # Requires
 ///
@@ -254,9 +255,9 @@ pub fn section_items<R: AsRelocation>(
     Ok(SectionItems { items, makers })
 }
 
-/// `section_items` into memory of the caller's, which has an element of `out` and of `makers` for each
-/// relocation, since each makes one item at most. It returns how many items there are; the elements
-/// from there on are unchanged.
+/// `section_items` into memory of the caller's, which has an element of `out` and of `makers` for
+/// each relocation, since each makes one item at most. It returns how many items there are; the
+/// elements from there on are unchanged.
 ///
 /// The error is the index that `first_malformed` returns, and nothing is written then. It doesn't
 /// allocate.

@@ -91,7 +91,8 @@ pub(crate) fn is_call(section: &[u8], offset: u64) -> bool {
         || RelaxationKind::CallToB.matches(section, offset)
 }
 
-/// Whether a pair that can become `pcaddi` is at an offset: `pcalau12i` and `addi.d` of one register.
+/// Whether a pair that can become `pcaddi` is at an offset: `pcalau12i` and
+/// `addi.d` of one register.
 #[inline]
 pub(crate) fn is_address(section: &[u8], offset: u64) -> bool {
     RelaxationKind::PcalaToPcaddi.matches(section, offset)

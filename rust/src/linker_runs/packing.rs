@@ -42,9 +42,9 @@ pub enum ItemError {
     Overlaps,
     /// It doesn't lie in the section.
     OutOfSection,
-    /// Bytes between the item before it, or the section's begin, and it are deleted, so that an item
-    /// is missing. The index is that behind the last item where bytes between that and the section's
-    /// end are.
+    /// Bytes between the item before it, or the section's begin, and it are deleted, so that an
+    /// item is missing. The index is that behind the last item where bytes between that and the
+    /// section's end are.
     DeletedOutside,
     /// So many bytes of it stay, but they aren't its first ones.
     NotItsFirstBytes,
@@ -408,10 +408,10 @@ pub fn packed_run_len(base: u64, len: usize, deltas: &[RelaxDelta]) -> usize {
 }
 
 /// Whether a site is eight bytes of a section, of instructions that can have its shapes: of RISC-V
-/// `auipc` and `jalr` with `CALL`, or with `TAIL_C` where they link x0; of LoongArch `pcaddu18i` and
-/// `jirl` with `CALL36`, or `pcalau12i` and `addi.d` of one register with `PCALA`. The section begins
-/// at the input offset `base` of the run. A site of which the linker has decided has none of these
-/// shapes; an alignment has no instructions to be tested.
+/// `auipc` and `jalr` with `CALL`, or with `TAIL_C` where they link x0; of LoongArch `pcaddu18i`
+/// and `jirl` with `CALL36`, or `pcalau12i` and `addi.d` of one register with `PCALA`. The section
+/// begins at the input offset `base` of the run. A site of which the linker has decided has none of
+/// these shapes; an alignment has no instructions to be tested.
 ///
 /// Where this is so of a site that `relax` made shorter, `pack_run` can write it: the instruction
 /// reaches its target.
@@ -452,9 +452,9 @@ pub fn has_its_instructions(machine: Machine, section: &[u8], base: u64, item: &
 /// A site without short shapes, as `fixed` has it, is left as it is.
 ///
 /// Requires an output of `packed_run_len` bytes. The deltas are as `SectionRelaxDeltas::deltas`
-/// lists them (`DeltaSlice::has_valid_deltas`); of others nothing is promised but that the call is
-/// safe. The error tells the first item that can't be written, or before which bytes are deleted
-/// that are of no item, and nothing is written then.
+/// lists them (`DeltaSlice::has_valid_deltas`). With others the call is safe, but what it writes
+/// isn't specified. The error names the first item that can't be written, or before which bytes are
+/// deleted that are of no item, and nothing is written then.
 ///
 /// It doesn't allocate. It takes O(section + deltas + items log deltas).
 ///

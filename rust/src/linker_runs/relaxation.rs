@@ -225,17 +225,18 @@ impl Shapes {
 ///
 /// Each site has its shortest shape at first. Then the run is laid out, and each site that is out
 /// of reach by that layout has its next shape; again, until none is. Where one still is after 64
-/// such rounds, each site has the shortest shapes that are in reach where each alignment keeps all of
-/// its nops.
+/// such rounds, each site has the shortest shapes that are in reach where each alignment keeps all
+/// of its nops.
 ///
 /// `shapes` and `kept` have an element for each item: the index of the shape that a site has, and
 /// how many of the item's bytes stay. `places` and `freed` are room for the work: `places` has an
 /// element for each item too, and `freed` one more. Then `freed` has for each item how many bytes
 /// those before it free, and at the end how many all do. What the arrays had before means nothing.
 ///
-/// It doesn't allocate. A round is two passes over the items and takes O(n) for n items, and so does
-/// a sweep, of which there are only after 64 rounds: one in each direction finds all sites that
-/// become long one because of another in one direction. The places of targets take O(n log n) once.
+/// It doesn't allocate. A round is two passes over the items and takes O(n) for n items,
+/// and so does a sweep, of which there are only after 64 rounds: one in each direction
+/// finds all sites that become long one because of another in one direction. The places of
+/// targets take O(n log n) once.
 ///
 /// # Requires
 ///

@@ -64,8 +64,8 @@ pub(crate) fn next_alignment<R: AsRelocation>(relocations: &[R], index: usize) -
     relocations.len()
 }
 
-/// What has to divide the address of the first of so many bytes of nops, so that they are enough: the
-/// least power of two that leaves no more to fill.
+/// What has to divide the address of the first of so many bytes of nops, so that they are enough:
+/// the least power of two that leaves no more to fill.
 #[inline]
 fn enough_at(nops: u64) -> u64 {
     ((nops + 1).next_power_of_two() - nops).next_power_of_two()

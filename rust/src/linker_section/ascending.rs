@@ -12,10 +12,10 @@ use crate::linker_section::saved::whole_word_at;
 use crate::linker_section::sections::{FIRST_STEP, NO_FIELD, SectionError, Step, Stopped, write_at, write_one};
 use crate::elf::Architecture;
 
-/// Writes the value of the relocation at an index, if it is found and accepted with few tests, and
-/// keeps the bytes that were there before. Its offset has to be `end` at least, where the fields
-/// before it end. Returns where its own ends, and the last high part; and else changes no byte of the
-/// section.
+/// Writes the value of the relocation at an index, if it is found and accepted with few
+/// tests, and keeps the bytes that were there before. Its offset has to be `end` at least,
+/// where the fields before it end. Returns where its own ends, and the last high part; and
+/// else changes no byte of the section.
 #[inline(always)]
 fn write_quickly(
     architecture: Architecture,
@@ -72,8 +72,8 @@ fn write_quickly(
     Some((offset + row.window() as u64, high))
 }
 
-/// The last field before a relocation: that of a step, or where others were written quickly since, that
-/// of the relocation before.
+/// The last field before a relocation: that of a step, or where others were written quickly since,
+/// that of the relocation before.
 fn last_field(architecture: Architecture, relocations: &[u8], index: usize, step: &Step) -> Field {
     if step.index == index {
         return step.last;
@@ -89,8 +89,8 @@ fn last_field(architecture: Architecture, relocations: &[u8], index: usize, step
     }
 }
 
-/// The same as `write_one`, of the relocation behind those that were written quickly since a step. None
-/// where it is before the last field.
+/// The same as `write_one`, of the relocation behind those that were written quickly since a step.
+/// None where it is before the last field.
 #[inline(never)]
 fn write_slowly(
     architecture: Architecture,

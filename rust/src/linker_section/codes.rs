@@ -2,14 +2,14 @@
 //! A number for each code of a relocation, from which it is read what the relocation requires and
 //! how its value is found.
 //!
-//! The low three bits are the class of the entry of the GOT: the number of an `EntryClass`, 5 for no
-//! entry, and 6 for `ModuleOffset` where the symbol is thread-local and `Address` where it isn't. The
-//! bits above say whether the entry's addend is the relocation's, whether the value goes into a
-//! branch, whether a stub may serve, whether it is a word of 8 bytes with S + A, and whether it depends
-//! on the load address. 7 is the number of a code without a row.
+//! The low three bits are the class of the entry of the GOT: the number of an `EntryClass`, 5 for
+//! no entry, and 6 for `ModuleOffset` where the symbol is thread-local and `Address` where it
+//! isn't. The bits above say whether the entry's addend is the relocation's, whether the value goes
+//! into a branch, whether a stub may serve, whether it is a word of 8 bytes with S + A, and whether
+//! it depends on the load address. 7 is the number of a code without a row.
 //!
-//! Bits 8 and 9 are the way to the value: `PLAIN`, `HIGH`, `LOW`, or 0 for any other relocation. Each
-//! number is proved to say what the row requires, and what its way requires of the row.
+//! Bits 8 and 9 are the way to the value: `PLAIN`, `HIGH`, `LOW`, or 0 for any other relocation.
+//! Each number is proved to say what the row requires, and what its way requires of the row.
 
 use crate::elf::Architecture;
 

@@ -26,8 +26,8 @@ pub struct Symbol {
     /// That of the class `Descriptor`.
     pub descriptor: u64,
     /// The addend of these four entries: they are of S + `entry_addend`. 0 but for AArch64 and
-    /// PowerPC64, where a relocation may require an entry of S + A. A linker with entries of a symbol
-    /// for other addends has a further symbol in the table for each.
+    /// PowerPC64, where a relocation may require an entry of S + A. A linker with entries of a
+    /// symbol for other addends has a further symbol in the table for each.
     pub entry_addend: i64,
     /// `st_other`, of which PowerPC64's branches take the local entry point.
     pub other: u8,

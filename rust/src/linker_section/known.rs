@@ -1,6 +1,6 @@
 // Made by tools/erase of crates/linker_section/src/known.rt.
-//! What codes of relocations mean, kept once it is looked up, since a section has relocations of few
-//! types.
+//! What codes of relocations mean, kept once it is looked up, since a section has
+//! relocations of few types.
 
 use crate::linker_section::codes::{NO_ROW, number_of};
 use crate::elf::{Architecture, Row};

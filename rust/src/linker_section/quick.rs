@@ -20,8 +20,8 @@ pub(crate) struct HighPart {
     pub(crate) value: i64,
 }
 
-/// The address of a symbol's entry that the number of a code says. By itself, since most relocations
-/// have none.
+/// The address of a symbol's entry that the number of a code says. By itself, since most
+/// relocations have none.
 #[inline(never)]
 fn address_of_entry(addresses: &Addresses, symbol: &Symbol, number: u16, addend: i64) -> Option<u64> {
     entry_address(
@@ -190,8 +190,9 @@ fn new_high(offset: u64, value: i64) -> HighPart {
     HighPart { offset, value }
 }
 
-/// The last high part behind a relocation among those of its section, with the value that
-/// `quick_value` returns. Only the contract uses `_relocations`, `_symbols`, `_addresses` and `_row`.
+/// The last high part behind a relocation among those of its section, with the
+/// value that `quick_value` returns. Only the contract uses `_relocations`,
+/// `_symbols`, `_addresses` and `_row`.
 #[inline(always)]
 pub(crate) fn high_behind(
     architecture: Architecture,

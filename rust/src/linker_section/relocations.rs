@@ -127,8 +127,8 @@ pub fn is_ascending(relocations: &[u8]) -> bool {
     true
 }
 
-/// The index of the first relocation from an offset on, among relocations that ascend by offset; as many
-/// as there are if all are before it. It is found by a search in log n steps.
+/// The index of the first relocation from an offset on, among relocations that ascend by offset; as
+/// many as there are if all are before it. It is found by a search in log n steps.
 ///
 /// ```
 /// use linker_utils::section::first_from;

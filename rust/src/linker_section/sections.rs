@@ -236,9 +236,9 @@ pub(crate) struct Step {
     pub(crate) last: Field,
 }
 
-/// Writes the value of the relocation at an index, and where it is the first of a pair the number of
-/// both, and keeps the bytes that were there before. By itself, since most values are written by
-/// `write_quickly`.
+/// Writes the value of the relocation at an index, and where it is the first of a pair the
+/// number of both, and keeps the bytes that were there before. By itself, since most values are
+/// written by `write_quickly`.
 #[inline(never)]
 pub(crate) fn write_one(
     architecture: Architecture,
@@ -348,8 +348,8 @@ fn write_in_any_order(
     Ok(())
 }
 
-/// The same as `write_in_any_order`, where the values of the relocations below a count are written: they
-/// are put back first.
+/// The same as `write_in_any_order`, where the values of the relocations below a count are written:
+/// they are put back first.
 fn write_again(
     architecture: Architecture,
     addresses: &Addresses,

@@ -168,8 +168,8 @@ fn defined_or_weak(
     }
 }
 
-/// Whether a stub may serve as the target of a relocation, by the number of its code. Only the contract
-/// uses `_info`.
+/// Whether a stub may serve as the target of a relocation, by the number of its code. Only the
+/// contract uses `_info`.
 #[inline(always)]
 fn serves_stub(number: u16, _info: &RelocationKindInfo) -> bool {
     number / 32 % 2 == 1
@@ -222,8 +222,8 @@ fn operands_with(
     }
 }
 
-/// The entry that a relocation of a symbol requires, by the number of its code. Only the contract uses
-/// `_info`.
+/// The entry that a relocation of a symbol requires, by the number of its code. Only
+/// the contract uses `_info`.
 #[inline(always)]
 fn required(
     number: u16,

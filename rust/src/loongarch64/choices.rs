@@ -11,8 +11,8 @@ use crate::linker_elf::elf::choice_table::{
 use crate::linker_elf::elf::{Choice, LinkFacts, Operands};
 use crate::linker_elf::loongarch64::{LoongArch64Relocation, LoongArch64Relocation as Names};
 
-/// Whether `pcalau12i rd`, at an offset, and an instruction of an opcode from rd into rd stand next to
-/// each other.
+/// Whether `pcalau12i rd`, at an offset, and an instruction of an opcode from rd into rd stand next
+/// to each other.
 #[inline]
 fn is_pair(section: &[u8], offset: u64, opcode: u32) -> bool {
     if !has_window(section, offset, 0, 8) {

@@ -1,7 +1,7 @@
 // Made by tools/erase of crates/linker_riscv64/src/calls.rt.
 //! RISC-V: calls that become jumps.
 
-use crate::linker_base::bit_misc::BitExtraction;
+use super::fields::{base, destination, function, opcode};
 use crate::linker_base::relaxation::{DeltaSlice, SectionRelaxDeltas};
 use crate::linker_base::rewrite::{has_window, overwrite};
 use crate::linker_base::utils::u32_from_slice;
@@ -27,12 +27,6 @@ fn is_even(distance: i64) -> bool {
     distance.cast_unsigned() % 2 == 0
 }
 
-/// The register that an instruction writes: its bits 7 to 11.
-#[inline(always)]
-pub(super) fn destination(word: u32) -> u32 {
-    word >> 7 & 0x1f
-}
-
 /// Whether the eight bytes at a site of a section are a call that `CallToJal` makes a jump
 /// that links the same register: `auipc` and then `jalr` with the same register as base and as
 /// both destinations. (RISC-V ELF psABI, "Function Call Relaxation"; linkers take the register of
@@ -52,11 +46,10 @@ pub fn is_plain_call(section: &[u8], site: u64) -> bool {
 /// Whether the words are an `auipc` and a `jalr` whose base is the register of the `auipc`.
 #[inline(always)]
 pub(super) fn is_call_pair(auipc: u32, jalr: u32) -> bool {
-    let (auipc, jalr) = (u64::from(auipc), u64::from(jalr));
-    auipc.extract_bit_range(0..7) == 0x17
-        && jalr.extract_bit_range(0..7) == 0x67
-        && jalr.extract_bit_range(12..15) == 0
-        && jalr.extract_bit_range(15..20) == auipc.extract_bit_range(7..12)
+    opcode(auipc) == 0x17
+        && opcode(jalr) == 0x67
+        && function(jalr) == 0
+        && base(jalr) == destination(auipc)
 }
 
 /// A call in a section, as C has it.
@@ -204,7 +197,7 @@ fn put_jal(section: &mut [u8], site: u64, register: u32, distance: i64) -> Resul
 }
 
 /// Turns the `auipc` at a site of a section into a `jal` by a distance in bytes, with the `auipc`'s
-/// destination register: `CallToJal` and then the J-immediate. `is_plain_call` tells whether the
+/// destination register: `CallToJal` and then the J-immediate. `is_plain_call` returns whether the
 /// call links that register; `jal_site_with` takes the `jalr`'s.
 ///
 /// On an error the section is unchanged. The errors are `OutOfSection`, `OddDistance` and `TooFar`,
@@ -250,7 +243,7 @@ pub fn jal_site_with(
 /// `OddDistance` and `TooFar`, the first of them that applies.
 ///
 /// The jump links the register of the `auipc`, which for a plain call is the `jalr`'s too:
-/// `is_plain_call` tells these from others, as `tail f`.
+/// `is_plain_call` distinguishes these from others, as `tail f`.
 pub fn relax_call(
     section: &mut [u8],
     deltas: &SectionRelaxDeltas,

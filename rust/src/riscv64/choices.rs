@@ -1,7 +1,8 @@
 // Made by tools/erase of crates/linker_riscv64/src/choices.rt.
 //! RISC-V: which rewrite a linker chooses for a relocation.
 
-use super::rewrites::{is_add_tp, is_addi_to_a0, is_auipc, is_ld, is_lui, word_at};
+use super::fields::word_at;
+use super::rewrites::{is_add_tp, is_addi_to_a0, is_auipc, is_ld, is_lui};
 use super::{RelaxationKind, RiscVRelocation, RiscVRelocation as Names};
 use crate::linker_base::rewrite::has_window;
 use crate::linker_elf::elf::choice_table::{
@@ -44,8 +45,8 @@ impl ChosenKind for RelaxationKind {
     }
 }
 
-/// The conditions of entries, by the names that the definition has for them. Behind some a further fact
-/// stands that has to hold.
+/// The conditions of entries, by the names that the definition has for them. Behind some a further
+/// fact stands that has to hold.
 macro_rules! when {
     // a `jal` reaches the symbol
     (by_jump) => {
@@ -172,7 +173,12 @@ impl ChosenByTable for RelaxationKind {
 ///     has_fixed_distance: true,
 ///     is_relaxable: true,
 ///     has_addresses: true,
-///     operands: Operands { plt_entry: 0x2000, symbol: 0x2000, place: 0x1000, ..Operands::default() },
+///     operands: Operands {
+///         plt_entry: 0x2000,
+///         symbol: 0x2000,
+///         place: 0x1000,
+///         ..Operands::default()
+///     },
 ///     ..LinkFacts::default()
 /// };
 /// let chosen = choose(RiscVRelocation::R_RISCV_CALL_PLT, &call, 0, &facts);

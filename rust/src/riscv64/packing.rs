@@ -193,9 +193,10 @@ pub fn packed_len(section: &[u8], deltas: &[RelaxDelta]) -> usize {
 /// nothing.
 ///
 /// Requires sites that ascend by at least 4 (`calls_apart`), and an output of `packed_len` bytes.
-/// The deltas are as `SectionRelaxDeltas::deltas` lists them (`DeltaSlice::has_valid_deltas`); of
-/// others nothing is promised but that the call is safe. The error tells the first call that can't
-/// become a jump, and nothing is written then. It takes O(section + deltas + calls log deltas).
+/// The deltas are as `SectionRelaxDeltas::deltas` lists them (`DeltaSlice::has_valid_deltas`). With
+/// others the call is safe, but what it writes isn't specified. The error names the first call that
+/// can't become a jump, and nothing is written then. It takes O(section + deltas + calls log
+/// deltas).
 ///
 /// # Requires
 ///

@@ -1,7 +1,8 @@
 // Made by tools/erase of crates/linker_riscv64/src/rewrites.rt.
 //! RISC-V: relaxation rewrites.
 
-use super::calls::{destination, is_call_pair, is_plain_call};
+use super::calls::{is_call_pair, is_plain_call};
+use super::fields::{base, destination, function, opcode, word_at};
 use crate::linker_base::bit_misc::BitExtraction;
 use crate::linker_base::relaxation::RelocationModifier;
 use crate::linker_base::rewrite::{DeletedBytes, RewriteWindow, has_window, overwrite, window_is_in};
@@ -57,18 +58,13 @@ pub enum RelaxationKind {
     CallToLd,
     /// Turns `ld` into `addi`, with both of its registers and its immediate.
     LdToAddi,
-    /// Turns `c.lui` into `c.li` of 0, with its destination register: the ISA reserves the immediate
-    /// 0 of `c.lui`, which a high part of 0 would need ("Integer Constant-Generation Instructions").
+    /// Turns `c.lui` into `c.li` of 0, with its destination register: the ISA
+    /// reserves the immediate 0 of `c.lui`, which a high part of 0 would need
+    /// ("Integer Constant-Generation Instructions").
     CLuiToCLi,
 }
 
-/// The instruction at an offset of the section.
-#[inline(always)]
-pub(super) fn word_at(section: &[u8], offset: u64) -> u32 {
-    u32_from_slice(&section[offset as usize..])
-}
-
-/// That of the four bytes alone.
+/// The instruction at an offset of the section, by its four bytes alone.
 #[inline(always)]
 fn window_at(section: &[u8], offset: u64) -> u32 {
     u32_from_slice(&section[offset as usize..])
@@ -92,19 +88,7 @@ fn put_half(section: &mut [u8], offset: u64, half: u16) {
     overwrite(section, offset, &half.to_le_bytes());
 }
 
-/// The opcode of an instruction.
-#[inline(always)]
-fn opcode(word: u32) -> u64 {
-    u64::from(word).extract_bit_range(0..7)
-}
-
-/// Its function: bits 12 to 14.
-#[inline(always)]
-fn function(word: u32) -> u64 {
-    u64::from(word).extract_bit_range(12..15)
-}
-
-/// Its bits 20 to 31, which are an immediate, or a register and a further function.
+/// Bits 20 to 31 of an instruction, which are an immediate, or a register and a further function.
 #[inline(always)]
 fn upper_bits(word: u32) -> u64 {
     u64::from(word).extract_bit_range(20..32)
@@ -156,19 +140,18 @@ fn is_c_lui(half: u16) -> bool {
 /// The instruction with x4, the thread pointer, as its first source register.
 #[inline(always)]
 fn over_tp(word: u32) -> u32 {
-    let base = (word >> 15) % 32;
-    word - base * 0x8000 + 4 * 0x8000
+    word - base(word) * 0x8000 + 4 * 0x8000
 }
 
 /// Whether an instruction adds a signed immediate of 12 bits to its source register.
 #[inline]
 fn adds_immediate(word: u32) -> bool {
-    let function = u64::from(word).extract_bit_range(12..15);
+    let funct3 = function(word);
     match opcode(word) {
-        0x13 | 0x1b | 0x67 => function == 0,
-        0x03 => function < 7,
-        0x23 => function < 4,
-        0x07 | 0x27 => 0 < function && function < 5,
+        0x13 | 0x1b | 0x67 => funct3 == 0,
+        0x03 => funct3 < 7,
+        0x23 => funct3 < 4,
+        0x07 | 0x27 => 0 < funct3 && funct3 < 5,
         _ => false,
     }
 }

@@ -9,14 +9,14 @@ use super::packing::to_output_offset;
 use crate::linker_base::relaxation::{DeltaSlice, OutOfMemory, RelaxDelta, SectionRelaxDeltas};
 use watch::{Watch, add_ends};
 
-/// An element of an answer, which tells whether a call is chosen: a `bool`, or a byte that is 0 or
-/// 1.
+/// An element of a list of choices, which says whether a call is chosen: a `bool`, or a byte that
+/// is 0 or 1.
 pub trait AsChoice: Copy {
     /// Whether the call is chosen.
     #[must_use]
     fn as_choice(self) -> bool;
 
-    /// The value that tells it.
+    /// The value that says it.
     #[must_use]
     fn from_choice(chosen: bool) -> Self;
 }
@@ -108,8 +108,8 @@ impl Runs {
     }
 }
 
-/// How many of the counted calls between a call's site and its target have to be dropped before it is
-/// out of reach.
+/// How many of the counted calls between a call's site and its target have to be dropped before it
+/// is out of reach.
 fn drops_left(from: u64, to: u64, count: usize) -> i32 {
     let freed = (count as u64).saturating_mul(4);
     let distance = from.abs_diff(to).saturating_sub(freed);
@@ -240,8 +240,8 @@ fn watched<C: AsCall, A: AsChoice>(
     Watch::of(ends)
 }
 
-/// Drops calls that are out of reach, one after the other, until there is none, if there is memory to
-/// know which.
+/// Drops calls that are out of reach, one after the other, until there is none, if there is memory
+/// to know which.
 fn drop_due<C: AsCall, A: AsChoice>(
     deltas: &[RelaxDelta],
     calls: &[C],
@@ -354,8 +354,8 @@ pub fn calls_shrinkable(deltas: &SectionRelaxDeltas, calls: &[(u64, u64)]) -> bo
 /// chosen, and else `false` or 0.
 ///
 /// Requires calls that `first_not_shrinkable` accepts, and as many elements as calls. The deltas
-/// are as `SectionRelaxDeltas::deltas` lists them (`DeltaSlice::has_valid_deltas`); of others
-/// nothing is promised but that the call is safe. It takes 9 KiB of the stack.
+/// are as `SectionRelaxDeltas::deltas` lists them (`DeltaSlice::has_valid_deltas`). With others the
+/// call is safe, but what it writes isn't specified. It takes 9 KiB of the stack.
 ///
 /// All calls are chosen at first, and sweeps over them drop those out of reach until none is. Their
 /// order doesn't matter, since more deletions never take a call out of reach. For k calls and n
@@ -363,12 +363,12 @@ pub fn calls_shrinkable(deltas: &SectionRelaxDeltas, calls: &[(u64, u64)]) -> bo
 /// its target are counted by runs of k / 1024 calls, and only where the call is in reach with all
 /// of them and out of reach with none.
 ///
-/// A sweep that drops none is the last. After one that drops a call it is known of each other call how
-/// many drops between its site and its target it stands, and it is tested again when there were so
-/// many. So two sweeps do, however the calls depend on each other. What lies between them takes
-/// O(k log k log k), and a test for each call that it drops. For this it allocates at most 120 bytes for
-/// each call that is in reach only with others. Refused memory is no error: then sweeps do it, of which
-/// there may be as many as calls.
+/// A sweep that drops none is the last. After one that drops a call it is known of each other call
+/// how many drops between its site and its target it stands, and it is tested again when there were
+/// so many. So two sweeps do, however the calls depend on each other. What lies between them takes
+/// O(k log k log k), and a test for each call that it drops. For this it allocates at most 120
+/// bytes for each call that is in reach only with others. To run out of memory is no error: then
+/// sweeps do it, of which there may be as many as calls.
 ///
 /// # Requires
 ///

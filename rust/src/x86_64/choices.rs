@@ -122,19 +122,23 @@ macro_rules! choices {
             R_X86_64_DTPOFF32: [NoOp => R_X86_64_TPOFF32, from_thread_pointer(R_X86_64_TPOFF32)]
             R_X86_64_DTPOFF64: [NoOp => R_X86_64_TPOFF64, from_thread_pointer(R_X86_64_TPOFF64)]
             R_X86_64_GOTPC32_TLSDESC: [
-                TlsDescToLocalExec(3) at LeaOfDescriptor(3) => R_X86_64_TPOFF32, local_exec(GROUP_FITS);
+                TlsDescToLocalExec(3) at LeaOfDescriptor(3)
+                    => R_X86_64_TPOFF32, local_exec(GROUP_FITS);
                 TlsDescToInitialExec at LeaOfDescriptor(3) => R_X86_64_GOTTPOFF, to_initial_exec;
             ]
             R_X86_64_CODE_4_GOTPC32_TLSDESC: [
-                TlsDescToLocalExec(4) at LeaOfDescriptor(4) => R_X86_64_TPOFF32, local_exec(GROUP_FITS);
+                TlsDescToLocalExec(4) at LeaOfDescriptor(4)
+                    => R_X86_64_TPOFF32, local_exec(GROUP_FITS);
                 TlsDescToInitialExec at LeaOfDescriptor(4) => R_X86_64_GOTTPOFF, to_initial_exec;
             ]
             R_X86_64_CODE_5_GOTPC32_TLSDESC: [
-                TlsDescToLocalExec(5) at LeaOfDescriptor(5) => R_X86_64_TPOFF32, local_exec(GROUP_FITS);
+                TlsDescToLocalExec(5) at LeaOfDescriptor(5)
+                    => R_X86_64_TPOFF32, local_exec(GROUP_FITS);
                 TlsDescToInitialExec at LeaOfDescriptor(5) => R_X86_64_GOTTPOFF, to_initial_exec;
             ]
             R_X86_64_CODE_6_GOTPC32_TLSDESC: [
-                TlsDescToLocalExec(6) at LeaOfDescriptor(6) => R_X86_64_TPOFF32, local_exec(GROUP_FITS);
+                TlsDescToLocalExec(6) at LeaOfDescriptor(6)
+                    => R_X86_64_TPOFF32, local_exec(GROUP_FITS);
                 TlsDescToInitialExec at LeaOfDescriptor(6) => R_X86_64_GOTTPOFF, to_initial_exec;
             ]
             R_X86_64_TLSDESC_CALL: [SkipTlsDescCall => R_X86_64_NONE, unrelocated]
@@ -160,8 +164,8 @@ macro_rules! operation {
     };
 }
 
-/// Those of a `mov`, by the count of the bytes before the field, its rewrite and the relocation of an
-/// immediate. It takes only an address that is known, since it also takes a distance.
+/// Those of a `mov`, by the count of the bytes before the field, its rewrite and the relocation of
+/// an immediate. It takes only an address that is known, since it also takes a distance.
 macro_rules! moves {
     ($n:literal, $mov:ident $(($m:literal))? => $name:ident) => {
         table_of!(when [
@@ -172,8 +176,8 @@ macro_rules! moves {
     };
 }
 
-/// What the table of an opcode is used for: that of an operation, by the same as for a `mov`, or with
-/// `access` that of an initial-exec access.
+/// What the table of an opcode is used for: that of an operation, by the same as for a `mov`, or
+/// with `access` that of an initial-exec access.
 macro_rules! by_opcode {
     ($n:literal; $($use:tt)*) => {
         by_opcode!($n, RexMovIndirectToAbsolute($n) => R_X86_64_32S; $($use)*)

@@ -178,8 +178,8 @@ fn put_immediate(section: &mut [u8], offset: u64, n: u8, opcode: u8, others: u8)
     }
 }
 
-/// The same, as a call of its own. With `put_immediate` inlined for each operation the kit's compiler
-/// doesn't inline `rewrite`, which is then too large.
+/// The same, as a call of its own. With `put_immediate` inlined for each operation the kit's
+/// compiler doesn't inline `rewrite`, which is then too large.
 #[inline]
 fn call_put_immediate(section: &mut [u8], offset: u64, n: u8, opcode: u8, others: u8) {
     put_immediate(section, offset, n, opcode, others);

@@ -1,7 +1,7 @@
 // Made by tools/erase of crates/vectors/src/refused_growth.rt.
-//! Calls that are refused memory. `tools/test_refused_growth` refuses each growth of each test in
-//! turn, one a run. So what is refused once succeeds when it is tried again, and each test holds
-//! whichever growth is refused.
+//! Calls that run out of memory. `tools/test_refused_growth` lets each allocation of each test fail
+//! in turn, one a run. So a call that has failed once succeeds when it is tried again, and each
+//! test passes whichever allocation fails.
 
 use crate::support::*;
 use crate::rows::expect_eq;
@@ -64,7 +64,7 @@ fn expect_listing(deltas: &SectionRelaxDeltas, listing: Listing) {
     }
 }
 
-/// Merges pairs into the deltas of `ONE`. A refused merge leaves them.
+/// Merges pairs into the deltas of `ONE`. A merge that has failed leaves them.
 fn merge_into_one(
     more: &[(u64, u32)],
 ) -> Result<SectionRelaxDeltas, OutOfMemory> {
@@ -99,7 +99,7 @@ fn expect_many(deltas: &SectionRelaxDeltas) {
 }
 
 #[test]
-fn a_refused_merge_leaves_the_deltas() -> Result<(), Fail> {
+fn a_failed_merge_leaves_the_deltas() -> Result<(), Fail> {
     let pairs: [&[(u64, u32)]; 2] = [&[(8, 4), (16, 4)], &[(16, 4), (8, 4)]];
     for more in pairs {
         let merged = merge_into_one(more)?;
@@ -116,7 +116,7 @@ fn batches() -> Result<Vec<Vec<(u64, u32)>>, OutOfMemory> {
 }
 
 #[test]
-fn refused_batches_leave_the_deltas() -> Result<(), Fail> {
+fn failed_batches_leave_the_deltas() -> Result<(), Fail> {
     let batches = batches().or_else(|_| batches())?;
     let mut deltas = deltas_of(ONE.deletions)?;
     assert!(deltas.are_mergeable(&batches));
@@ -130,7 +130,7 @@ fn refused_batches_leave_the_deltas() -> Result<(), Fail> {
 }
 
 #[test]
-fn a_refused_copy_leaves_the_deltas() -> Result<(), Fail> {
+fn a_failed_copy_leaves_the_deltas() -> Result<(), Fail> {
     let few = deltas_of(THREE.deletions)?;
     let many = deltas_of(&many())?;
     let (few_copied, many_copied) = (few.try_clone(), many.try_clone());
@@ -155,7 +155,7 @@ fn expect_sections(map: &RelaxDeltaMap, sections: &[usize]) {
 }
 
 #[test]
-fn a_refused_section_is_handed_back() -> Result<(), Fail> {
+fn a_failed_insertion_hands_the_section_back() -> Result<(), Fail> {
     let order = [9, 7, 5, 3, 1];
     let mut map = RelaxDeltaMap::new();
     for (at, &index) in order.iter().enumerate() {
@@ -189,7 +189,7 @@ const CALL: [u8; 12] = [
 ];
 
 #[test]
-fn a_refused_section_is_packed_when_tried_again() -> Result<(), Fail> {
+fn a_section_is_packed_when_tried_again() -> Result<(), Fail> {
     let deltas = deltas_of(&[(4, 4)])?;
     let packed = [0xef, 0x00, 0x40, 0x00, 0x13, 0x00, 0x00, 0x00];
     let deleted = PackError::Call {
@@ -212,7 +212,7 @@ fn a_refused_section_is_packed_when_tried_again() -> Result<(), Fail> {
 }
 
 #[test]
-fn a_refused_choice_is_made_when_tried_again() -> Result<(), Fail> {
+fn a_choice_is_made_when_tried_again() -> Result<(), Fail> {
     let none = deltas_of(&[])?;
     let calls = [(0, 1048578), (8, 1048600)];
     assert!(calls_shrinkable(&none, &calls));
@@ -275,7 +275,7 @@ fn call_at(offset: u64) -> Item {
 }
 
 #[test]
-fn a_refused_run_is_relaxed_when_tried_again() -> Result<(), Fail> {
+fn a_run_is_relaxed_when_tried_again() -> Result<(), Fail> {
     let items = many_calls();
     assert!(are_items(&items, 0));
     let plan = relax(&items, 0).or_else(|_| relax(&items, 0))?;
@@ -320,7 +320,7 @@ pub(crate) const NOPS: [Relocation; 1] = [Relocation {
 }];
 
 #[test]
-fn refused_items_are_made_when_tried_again() -> Result<(), Fail> {
+fn items_are_made_when_tried_again() -> Result<(), Fail> {
     let calls = section_items(Machine::RiscV64, &CALL, 0, &MARKED_CALL);
     let calls = calls.or_else(|_| section_items(Machine::RiscV64, &CALL, 0, &MARKED_CALL))?;
     assert_eq!(calls.items.as_slice(), [call_at(0)].as_slice());

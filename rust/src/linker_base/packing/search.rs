@@ -4,7 +4,8 @@
 //! Most of what a run refers to is near. There the search reads neighbours of what was read before,
 //! and elsewhere as much of the list as any search by halves.
 
-/// Elements of a list and a test. In an ordered list the first elements pass it and the others don't.
+/// Elements of a list and a test. In an ordered list the first elements pass
+/// it and the others don't.
 pub trait Tested {
     /// How many elements there are.
     #[must_use]

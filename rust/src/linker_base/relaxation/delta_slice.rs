@@ -13,7 +13,7 @@ use super::walk::{Reached, ascend, walk};
 
 /// A borrowed list of deltas, of any contents, and the heads of their blocks, or none.
 ///
-/// Each call is safe for any deltas and heads. What it returns is promised where the deltas are
+/// Each call is safe for any deltas and heads. What it returns is specified where the deltas are
 /// valid: they list deletions as `SectionRelaxDeltas::new` requires them, each with the sum of the
 /// bytes up to it. Searches also need the heads to be those that `write_heads` writes, if there
 /// are any.
@@ -271,7 +271,7 @@ impl<'a> DeltaSlice<'a> {
     }
 
     /// Writes the output offset of each of the queries, in order, in one walk through the deltas:
-    /// O(n + q). Promised where `can_translate_all` accepts the queries.
+    /// O(n + q). What is written is specified where `can_translate_all` accepts the queries.
     ///
     /// # Requires
     ///

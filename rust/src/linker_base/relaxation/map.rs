@@ -41,7 +41,7 @@ impl RelaxDeltaMap {
         debug_assert!(self.last_index().is_none_or(|last| last < section_index));
         self.entries
             .fallible_push((section_index, deltas))
-            .map_err(|refused| refused.value.1)
+            .map_err(|failed| failed.value.1)
     }
 
     /// Adds a section in order. Requires that `get` finds no such section. The sections above it
@@ -64,7 +64,7 @@ impl RelaxDeltaMap {
         let (Ok(at) | Err(at)) = search(&self.entries, section_index);
         self.entries
             .fallible_insert(at, (section_index, deltas))
-            .map_err(|refused| refused.value.1)
+            .map_err(|failed| failed.value.1)
     }
 
     /// The deltas of the section, if it is there. The search takes O(log n).

@@ -2,7 +2,7 @@
 //! Tests of lists of deletions. None allocates but those that sort a copy.
 //!
 //! Deletions in any order are tested in parts: each part is one that ascends or descends, or a few
-//! that are sorted on the stack, and a search in it tells what it overlaps.
+//! that are sorted on the stack, and a search in it finds what it overlaps.
 
 use alloc::vec::Vec;
 use super::RelaxDelta;
@@ -58,8 +58,8 @@ pub fn first_invalid<D: AsDeletion>(deletions: &[D]) -> Option<usize> {
     None
 }
 
-// How many of the first deletions lie each below the next. So all of them but the last fit. Four are
-// tested in a turn.
+// How many of the first deletions lie each below the next. So all of them but the last fit. Four
+// are tested in a turn.
 #[inline]
 fn count_rising<D: AsDeletion>(deletions: &[D]) -> usize {
     if deletions.is_empty() {

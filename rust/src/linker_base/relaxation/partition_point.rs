@@ -14,7 +14,7 @@ pub(super) const AT_ONCE: usize = 1023;
 const HALVED: usize = 65535;
 
 /// A test that the first deltas of a valid list pass, and the others fail. A search is compiled
-/// for each kind of test, so that no probe asks for the kind.
+/// for each kind of test, so that no probe tests the kind.
 pub(super) trait Test: Copy {
     /// Whether the delta passes: where the head of a block that begins with it does.
     fn passes(self, delta: &RelaxDelta) -> bool;
@@ -62,7 +62,7 @@ pub(super) enum Level {
     Deltas,
 }
 
-/// Deltas and heads that are read one at a time. Nothing is promised of their contents.
+/// Deltas and heads that are read one at a time. Their contents may be any.
 pub(super) trait Probe {
     fn len(&self, level: Level) -> usize;
 

@@ -32,12 +32,13 @@ pub struct LinkFacts {
     /// The high part whose label an `R_RISCV_PCREL_LO12_I` names has `R_RISCV_GOT_HI20`.
     pub has_got_high_part: bool,
     /// The load from the GOT may be relaxed: `R_RISCV_RELAX` is at the offset of the
-    /// `R_RISCV_GOT_HI20` and at that of every `R_RISCV_PCREL_LO12_I` that names its label. Compilers
-    /// mark the low parts only, so that it doesn't hold in what they make.
+    /// `R_RISCV_GOT_HI20` and at that of every `R_RISCV_PCREL_LO12_I` that names its label.
+    /// Compilers mark the low parts only, so that it doesn't hold in what they make.
     pub is_label_relaxable: bool,
-    /// The register through which an instruction of PowerPC64 gets the high part of its address,
-    /// and which an `addis` has set, is read only by instructions whose relocation is of the same
-    /// symbol and addend. Linkers assume so, as the ABI requires of compilers ("TOC Optimizations").
+    /// The register through which an instruction of PowerPC64 gets the high part of its
+    /// address, and which an `addis` has set, is read only by instructions whose relocation
+    /// is of the same symbol and addend. Linkers assume so, as the ABI requires of
+    /// compilers ("TOC Optimizations").
     pub toc_base_is_exclusive: bool,
     /// The function that is called may return with another TOC pointer in register 2 of PowerPC64,
     /// since it is called through a PLT entry or its symbol's `st_other` says so ("The st_other

@@ -3,9 +3,9 @@
 
 use crate::linker_elf::elf::{Choice, InstructionRewrite, LinkFacts, Operands, Row};
 
-/// The definition in this output is what is used at run time, and is no indirect function: `is_local`
-/// and not `is_ifunc`. This and the constants below are the facts of `LinkFacts` that an entry may
-/// require, each a bit of a mask.
+/// The definition in this output is what is used at run time, and is no indirect function:
+/// `is_local` and not `is_ifunc`. This and the constants below are the facts of `LinkFacts` that an
+/// entry may require, each a bit of a mask.
 pub const BOUND: u32 = 1 << 0;
 
 /// `is_undefined_weak`.
@@ -50,7 +50,8 @@ pub const GROUP_FITS: u32 = 1 << 13;
 /// The numbers of 12 bits in two's complement, for `ValueCondition::Within`.
 pub const SIGNED_12: (i64, i64) = (-0x800, 0x800);
 
-/// What an entry requires of the value of a relocation, so many bytes before the place, or of S + A.
+/// What an entry requires of the value of a relocation, so many bytes before
+/// the place, or of S + A.
 #[derive(Clone, Copy)]
 pub enum ValueCondition<R> {
     /// S + A is known, and is a number of 12 bits in two's complement.
@@ -122,7 +123,8 @@ pub trait ChosenKind: InstructionRewrite + Default + 'static {
         Self::default()
     }
 
-    /// Whether the instructions that an entry with this rewrite is for are at an offset of a section.
+    /// Whether the instructions that an entry with this rewrite is for are at
+    /// an offset of a section.
     #[must_use]
     fn stand_at(self, originals: &Self::Originals, section: &[u8], offset: u64) -> bool;
 
@@ -155,8 +157,8 @@ pub trait ChosenByTable: ChosenKind {
         has_entries(Self::entries(name, &[0x8b], 2))
     }
 
-    /// The choice for a relocation that is listed: `choice_by` of its table, which is a constant in an
-    /// arm for each name.
+    /// The choice for a relocation that is listed: `choice_by` of its table, which is a constant in
+    /// an arm for each name.
     #[must_use]
     fn choose_listed(
         name: Self::Relocation,
@@ -382,12 +384,12 @@ pub fn choice_by<K: ChosenKind>(
     first_entry(entries, section, offset, facts, unchanged(name))
 }
 
-// The macros below make an architecture's tables of its `choices!`, which lists for each relocation,
-// or for several with `|` between, its entries in brackets. The module that calls them has the enums
-// `RelaxationKind`, `AskedFor` and, by the name `Names`, that of the relocations.
+// The macros below make an architecture's tables of its `choices!`, which lists for each
+// relocation, or for several with `|` between, its entries in brackets. The module that calls them
+// has the enums `RelaxationKind`, `AskedFor` and, by the name `Names`, that of the relocations.
 
-/// Conditions on values, each a variant of `ValueCondition` with the name of a relocation. Without a
-/// count of bytes before the place that is 0.
+/// Conditions on values, each a variant of `ValueCondition` with the name of a relocation. Without
+/// a count of bytes before the place that is 0.
 macro_rules! value_conditions {
     () => { $crate::linker_elf::elf::choice_table::ValueConditions::None };
     ($one:ident $($of_one:tt)?) => {
@@ -434,8 +436,8 @@ macro_rules! originals {
     };
 }
 
-/// A table: of each entry the rewrite, the instructions behind `at`, the relocation after it, and the
-/// name that the macro `$when` has for the conditions.
+/// A table: of each entry the rewrite, the instructions behind `at`, the relocation after it, and
+/// the name that the macro `$when` has for the conditions.
 macro_rules! table_of {
     ($when:ident [$(
         $kind:ident $(($n:expr))? $(at $originals:ident $(($($argument:expr),*))?)?
@@ -454,8 +456,8 @@ macro_rules! table_of {
     };
 }
 
-/// What the table of a name is used for, behind other arms, if any: in an arm for each name, and there
-/// of a constant table. The macro `$when` has the conditions.
+/// What the table of a name is used for, behind other arms, if any: in an arm for each name, and
+/// there of a constant table. The macro `$when` has the conditions.
 macro_rules! by_table {
     (
         ($when:ident, $value:expr, $table:ident => $use:expr $(; $($before:tt)*)?)

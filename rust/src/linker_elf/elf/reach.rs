@@ -33,8 +33,8 @@ impl RelocationKindInfo {
     /// | `R_X86_64_GOT32`, `R_RISCV_PLT32`, `R_RISCV_GOT32_PCREL` | -2^31 | 2^31 |
     /// | all others | `range` | |
     ///
-    /// `clui_rel_info` has a hole: the ISA reserves the immediate 0 of a `c.lui`, so that the values
-    /// from -0x800 up, below 0x800, can't be written.
+    /// `clui_rel_info` has a hole: the ISA reserves the immediate 0 of a `c.lui`, so that the
+    /// values from -0x800 up, below 0x800, can't be written.
     ///
     /// Relocations without a range take a part of every value, which the machine then reads modulo
     /// the part's size.

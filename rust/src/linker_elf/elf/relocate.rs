@@ -199,7 +199,8 @@ impl RelocationInstruction {
         }
     }
 
-    /// The bits of a value that a row's write places: a `jirl` at the low part of an address gets 16.
+    /// The bits of a value that a row's write places: a `jirl` at the low part
+    /// of an address gets 16.
     ///
     /// # Requires
     ///
@@ -414,8 +415,8 @@ impl RelocationKindInfo {
         Ok(())
     }
 
-    /// Computes the relocation's value from a linker's numbers and writes it. Returns true if it has a
-    /// value and `write` accepts it, and else writes nothing.
+    /// Computes the relocation's value from a linker's numbers and writes it. Returns true if it
+    /// has a value and `write` accepts it, and else writes nothing.
     #[inline(always)]
     pub fn apply(&self, operands: &Operands, dest: &mut [u8]) -> bool {
         match self.value(operands) {

@@ -467,7 +467,9 @@ macro_rules! number {
         $crate::linker_elf::elf::Ppc64Instruction::$form as u32
     };
     (machine ($bytes:literal bytes)) => { 0 };
-    (machine ($start:literal .. $end:literal AArch64 :: $form:ident)) => { $crate::linker_elf::elf::EM_AARCH64 };
+    (machine ($start:literal .. $end:literal AArch64 :: $form:ident)) => {
+        $crate::linker_elf::elf::EM_AARCH64
+    };
     (machine ($start:literal .. $end:literal RiscV :: $form:ident)) => { $crate::linker_elf::elf::EM_RISCV };
     (machine ($start:literal .. $end:literal LoongArch64 :: $form:ident)) => {
         $crate::linker_elf::elf::EM_LOONGARCH
@@ -528,7 +530,9 @@ macro_rules! window {
 macro_rules! mask {
     () => { None };
     (PLACE_PAGES) => {
-        Some($crate::linker_elf::elf::PageMask::SymbolPlusAddendAndPosition($crate::linker_elf::elf::PageMaskPattern::Size4KB))
+        Some($crate::linker_elf::elf::PageMask::SymbolPlusAddendAndPosition(
+            $crate::linker_elf::elf::PageMaskPattern::Size4KB,
+        ))
     };
     (ENTRY_PAGES) => {
         Some($crate::linker_elf::elf::PageMask::GotEntryAndPosition($crate::linker_elf::elf::PageMaskPattern::Size4KB))

@@ -31,8 +31,8 @@ pub struct Operands {
     /// The address that offsets from the GOT count from: that of `_GLOBAL_OFFSET_TABLE_`, and on
     /// PowerPC64 that of `.TOC.`, which is the GOT's address plus 0x8000.
     pub got_base: u64,
-    /// L: the address of the symbol's PLT entry, or S where it has none, as `new` sets it. Calls read
-    /// it: 0 here isn't S.
+    /// L: the address of the symbol's PLT entry, or S where it has none, as `new` sets it. Calls
+    /// read it: 0 here isn't S.
     pub plt_entry: u64,
     /// Z: the symbol's size.
     pub symbol_size: u64,
@@ -44,8 +44,8 @@ pub struct Operands {
 }
 
 impl Operands {
-    /// Those of a symbol without a PLT entry, for which L is S: S, A and P, and zeros. A symbol with
-    /// one has its address in `plt_entry`.
+    /// Those of a symbol without a PLT entry, for which L is S: S, A and P, and zeros. A symbol
+    /// with one has its address in `plt_entry`.
     ///
     /// ```
     /// use linker_utils::elf::Operands;

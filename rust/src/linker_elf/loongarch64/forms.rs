@@ -211,8 +211,8 @@ pub(crate) fn is_jirl(word: u64) -> bool {
 
 /// What other modules use of a form.
 impl LoongArch64Instruction {
-    /// The bits of an instruction, or of a pair, that a write of the form may change, where those of
-    /// a range are taken.
+    /// The bits of an instruction, or of a pair, that a write of the form may change, where those
+    /// of a range are taken.
     #[doc(hidden)]
     #[must_use]
     #[inline]

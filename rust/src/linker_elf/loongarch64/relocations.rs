@@ -185,8 +185,8 @@ macro_rules! relocations {
                     Some(row!(PairSubtractionULEB128LoongArch, (8 bytes), any)),
                 109 R_LARCH_64_PCREL => Some(row!(Relative, (8 bytes), any)),
                 110 R_LARCH_CALL36 =>
-                    Some(row!(PltRelative, (2..38 LoongArch64::Call36), signed 38 reach -0x2000020000,
-                        0x1ffffe0000, alignment: 4)),
+                    Some(row!(PltRelative, (2..38 LoongArch64::Call36), signed 38
+                        reach -0x2000020000, 0x1ffffe0000, alignment: 4)),
                 111 R_LARCH_TLS_DESC_PC_HI20 =>
                     Some(row!(TlsDesc, (12..32 LoongArch64::Shift5), any, mask: ENTRY_PAGES,
                         bias: SIZE_2KB)),

@@ -27,8 +27,8 @@ pub enum Ppc64Instruction {
     /// one, the prefix, and 0 to 15 at bit 0 and up of word two. A signed number of 34 bits (Power
     /// ISA 3.1, "8LS:D-Form" and "MLS:D-Form").
     Prefixed,
-    /// D-form with an unsigned immediate, as `oris`: value bits 0 to 15 at bit 0 and up. A number of
-    /// 16 bits without a sign (Power ISA, "D-Form", the field UI).
+    /// D-form with an unsigned immediate, as `oris`: value bits 0 to 15 at bit 0 and up. A number
+    /// of 16 bits without a sign (Power ISA, "D-Form", the field UI).
     DUnsigned,
 }
 
@@ -99,8 +99,8 @@ pub const DQ_UNIT: u64 = 16;
 
 /// What other modules use of a form.
 impl Ppc64Instruction {
-    /// Whether an instruction of DQ-form (Power ISA, "DQ-Form") is where one of DS-form is expected:
-    /// `lq`, `lxvp`, `stxvp`, `lxv` or `stxv`.
+    /// Whether an instruction of DQ-form (Power ISA, "DQ-Form") is where one of DS-form is
+    /// expected: `lq`, `lxvp`, `stxvp`, `lxv` or `stxv`.
     ///
     /// # Requires
     ///

@@ -384,8 +384,8 @@ impl RelocationName for Ppc64Relocation {
 /// 64 bits (`_HIGH`, `_HIGHER`, `_HIGHEST` and those with an A), `R_PPC64_TOC16_HI`,
 /// `R_PPC64_REL16_HI`, the GOT and PLT entries (`R_PPC64_GOT16` and `R_PPC64_PLT16` with what comes
 /// behind), `R_PPC64_ENTRY`, the marks of calls through the PLT (`R_PPC64_PLTSEQ`,
-/// `R_PPC64_PLTCALL` and their `_NOTOC`), and prefixed instructions with an address or a part of one
-/// (`R_PPC64_D34` and its like), a PLT entry (`R_PPC64_PLT_PCREL34` and its `_NOTOC`) or TLS
+/// `R_PPC64_PLTCALL` and their `_NOTOC`), and prefixed instructions with an address or a part of
+/// one (`R_PPC64_D34` and its like), a PLT entry (`R_PPC64_PLT_PCREL34` and its `_NOTOC`) or TLS
 /// (`R_PPC64_TPREL34` and those after it).
 #[must_use]
 #[inline(always)]

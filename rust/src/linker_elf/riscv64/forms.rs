@@ -241,8 +241,8 @@ impl RiscVInstruction {
     }
 }
 
-/// What the pairs and `c.lui` take off each end of the range of their high part, because the low part
-/// is signed.
+/// What the pairs and `c.lui` take off each end of the range of their high part, because the low
+/// part is signed.
 const SIGNED_LOW_12: i64 = 0x800;
 
 /// What other modules use of a form.

@@ -1,5 +1,6 @@
 // Made by tools/erase of crates/linker_reading/src/operands/loongarch64.rt.
-//! The instructions of LoongArch with an immediate, the numbers that these are, and what they count.
+//! The instructions of LoongArch with an immediate, the numbers that these
+//! are, and what they count.
 
 use crate::linker_reading::operands::{Base, Encoding, encoding};
 use crate::linker_base::bit_misc::BitExtraction;

@@ -19,7 +19,10 @@ macro_rules! of_name {
         match $architecture {
             Architecture::AArch64 => { let $name = AArch64Relocation::from_elf($code); $found }
             Architecture::RiscV => { let $name = RiscVRelocation::from_elf($code); $found }
-            Architecture::LoongArch64 => { let $name = LoongArch64Relocation::from_elf($code); $found }
+            Architecture::LoongArch64 => {
+                let $name = LoongArch64Relocation::from_elf($code);
+                $found
+            }
             Architecture::Ppc64 => { let $name = Ppc64Relocation::from_elf($code); $found }
             Architecture::X86_64 => { let $name = X86_64Relocation::from_elf($code); $found }
         }
@@ -118,10 +121,10 @@ pub fn recognise_chosen(
 }
 
 /// The window that `recognise` wants, in bytes of an object around the relocation with a code at an
-/// offset of them: the least one with the bytes of each choice of its table that is meant for what is
-/// there. They are those that the rewrite writes and deletes, and the field of the relocation after
-/// it. It begins `back` bytes before the offset. A choice whose bytes aren't all given isn't counted:
-/// give 16 before the offset and 48 from there on, or those that there are.
+/// offset of them: the least one with the bytes of each choice of its table that is meant for what
+/// is there. They are those that the rewrite writes and deletes, and the field of the relocation
+/// after it. It begins `back` bytes before the offset. A choice whose bytes aren't all given isn't
+/// counted: give 16 before the offset and 48 from there on, or those that there are.
 ///
 /// # Requires
 ///

@@ -29,8 +29,8 @@ pub struct Recognised<K, R> {
     pub offset: u64,
     /// What is known of the value of the relocation after the rewrite from the linked bytes at the
     /// offset, as `reading::read` returns it. None of a relocation without a row, and of one whose
-    /// field isn't its value. `solve` makes the address of it, with the addend that `apply` leaves: of
-    /// x86-64's absolute rewrites it is 4 more than before.
+    /// field isn't its value. `solve` makes the address of it, with the addend that `apply` leaves:
+    /// of x86-64's absolute rewrites it is 4 more than before.
     pub value: Option<FieldValue>,
 }
 
@@ -155,8 +155,8 @@ fn choices_of<O, K: Copy, R: Copy>(
 }
 
 /// A choice with what stands in its field, if its rewrite is meant for what is at the offset and it
-/// leaves the linked bytes, as `recognise` says. In a loop LLVM would compute for every rewrite what
-/// some need.
+/// leaves the linked bytes, as `recognise` says. In a loop LLVM would compute for every rewrite
+/// what some need.
 #[inline(never)]
 fn recognise_one<N: RecognisedName>(
     choice: Choice<N::Kind, N>,
@@ -204,15 +204,15 @@ fn first_at<N: RecognisedName>(
 /// Which rewrites, and relocations after them, a linker may have made at the relocation with a
 /// name, whose offset in the original bytes is given: those after which the original bytes differ
 /// from the linked ones only in the field of the relocation after it and in `others`. They have
-/// their places in the table of `choose`, behind which is `NoOp` and the same name. A choice that is
-/// listed twice has the first one, so that none is returned twice.
+/// their places in the table of `choose`, behind which is `NoOp` and the same name. A choice that
+/// is listed twice has the first one, so that none is returned twice.
 ///
 /// - Both windows may begin before the relocation, at the same place. The original one has at most
-///   `MAX_WINDOW` bytes. After a rewrite that deletes bytes the linked window is shorter by these, and
-///   empty if they are all of the original one.
-/// - A window that is wider than the rewrite has to name in `others` what else differs in it. The least
-///   one has the bytes of each rewrite (`window` of its kind) and the field of the relocation after it.
-///   A window without the relocation's field has no choice, and an empty one has none.
+///   `MAX_WINDOW` bytes. After a rewrite that deletes bytes the linked window is shorter by these,
+///   and empty if they are all of the original one.
+/// - A window that is wider than the rewrite has to name in `others` what else differs in it. The
+///   least one has the bytes of each rewrite (`window` of its kind) and the field of the relocation
+///   after it. A window without the relocation's field has no choice, and an empty one has none.
 /// - `others` are bits of the original window that other relocations write, as
 ///   `FieldBits::of_row` gives them, among them those of a relocation that the choice skips. Of an
 ///   instruction that another relocation rewrites or deletes they are all bits. Where a skipped

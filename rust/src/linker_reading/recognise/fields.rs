@@ -38,9 +38,8 @@ fn number_bits(kind: RelocationKind, len: usize) -> u64 {
 
 /// Which bits of the bytes that `bytes` begins with a write of a row may change, bit 0 the lowest
 /// of the first byte. Of an instruction these are the bits of its form, and for `Movnz` those of
-/// the opcode that it sets, except at a MOVK; at a `jirl` at `R_LARCH_PCALA_LO12` they are all 16 of
-/// its immediate. All other bits are the same after each write. Requires the row's
-/// window.
+/// the opcode that it sets, except at a MOVK; at a `jirl` at `R_LARCH_PCALA_LO12` they are all 16
+/// of its immediate. All other bits are the same after each write. Requires the row's window.
 ///
 /// ```
 /// use linker_utils::recognise::field_bits;

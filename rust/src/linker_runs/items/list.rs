@@ -42,8 +42,8 @@ impl<'a, I: AsItem> ItemList<'a, I> {
         elements[index].as_item()
     }
 
-    /// About which index the item at an offset has, if items from an index on are as near each other as
-    /// most of the run.
+    /// About which index the item at an offset has, if items from an index on are as near each
+    /// other as most of the run.
     #[inline(always)]
     fn about(&self, index: usize, offset: u64) -> usize {
         match self.elements.get(index) {
@@ -52,8 +52,8 @@ impl<'a, I: AsItem> ItemList<'a, I> {
         }
     }
 
-    /// How many items end at or below an offset. It is found faster where it is near `near`, or where
-    /// items in between are as near each other as most of the run.
+    /// How many items end at or below an offset. It is found faster where it is near `near`, or
+    /// where items in between are as near each other as most of the run.
     pub(crate) fn place_of(&self, offset: u64, near: usize, start: u64) -> usize {
         let ended = Ended {
             elements: self.elements,
@@ -66,7 +66,8 @@ impl<'a, I: AsItem> ItemList<'a, I> {
 /// How many steps a search walks, before it takes halves.
 const STEPS: usize = 16;
 
-/// An index as `passing_near` returns it. Where it is a few steps from `near`, it is found by these.
+/// An index as `passing_near` returns it. Where it is a few steps from `near`,
+/// it is found by these.
 fn passing_by_steps<T: Tested>(list: &T, near: usize) -> usize {
     let mut index = near.min(list.len());
     for _ in 0..STEPS {

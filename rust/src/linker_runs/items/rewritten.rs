@@ -12,11 +12,11 @@ use crate::linker_base::relaxation::AsDeletion;
 pub enum RewrittenItemsError {
     /// The index of the first relocation that isn't what the psABI allows.
     Malformed(usize),
-    /// The index of the first deletion that begins below the end of the one before it, or doesn't lie
-    /// in the section.
+    /// The index of the first deletion that begins below the end of the one before it, or doesn't
+    /// lie in the section.
     Misplaced(usize),
-    /// The index of a relocation whose item begins below the end of that of an earlier relocation, or
-    /// has deleted bytes.
+    /// The index of a relocation whose item begins below the end of that of an earlier relocation,
+    /// or has deleted bytes.
     Overlaps(usize),
 }
 
@@ -26,8 +26,8 @@ fn deletion_at<L: AsDeletion>(deleted: &[L], index: usize) -> (u64, u32) {
     deleted[index].as_deletion()
 }
 
-/// The index of the first deletion that begins below the end of the one before it, or doesn't lie in
-/// the section.
+/// The index of the first deletion that begins below the end of the one before it, or doesn't lie
+/// in the section.
 fn first_misplaced<L: AsDeletion>(section: &[u8], deleted: &[L]) -> Option<usize> {
     let mut end = 0;
     for index in 0..deleted.len() {
@@ -59,7 +59,8 @@ fn deletion(base: u64, offset: u64, bytes: u32) -> Item {
     })
 }
 
-/// Lists the deletions that begin at or below an offset of the run, of those that aren't listed yet.
+/// Lists the deletions that begin at or below an offset of the run, of those
+/// that aren't listed yet.
 fn list_deletions<L: AsDeletion, I: AsItem>(
     base: u64,
     relocations_len: usize,
@@ -98,8 +99,8 @@ fn is_cut<L: AsDeletion>(base: u64, deleted: &[L], index: usize, item: &Item) ->
     base + start < item.offset() + item.len()
 }
 
-/// Lists the item of the relocation at an index behind the deletions that begin at or below it. None
-/// where it overlaps one of them or of the items before it.
+/// Lists the item of the relocation at an index behind the deletions that begin at or below it.
+/// None where it overlaps one of them or of the items before it.
 #[inline]
 fn list_item<L: AsDeletion, I: AsItem>(
     base: u64,
@@ -135,8 +136,8 @@ fn list_item<L: AsDeletion, I: AsItem>(
     })
 }
 
-/// Lists the items of a section whose relocations and deletions are tested, and returns how many they
-/// are. The error is the index of a relocation that overlaps.
+/// Lists the items of a section whose relocations and deletions are tested, and returns how many
+/// they are. The error is the index of a relocation that overlaps.
 #[inline]
 fn list_items<R: AsRelocation, L: AsDeletion, I: AsItem>(
     machine: Machine,
@@ -166,29 +167,31 @@ fn list_items<R: AsRelocation, L: AsDeletion, I: AsItem>(
     Ok(list_deletions(base, len, deleted, u64::MAX, listed, out, makers).count)
 }
 
-/// The items of a section that was rewritten, into memory of the caller's: those that its relocations
-/// make, as `section_items`, and what rewrites delete. The section begins at the input offset `base`
-/// of the run. Its bytes and relocations are as `rewrite_section` and `rewrite_placed_section` of
-/// `linker_rewriting::sections` left them; a relocation that has gone has the type 0 and makes no item.
-/// `deleted` is what the latter lists: offsets in the section, ascending, whose bytes are still there.
+/// The items of a section that was rewritten, into memory of the caller's: those that its
+/// relocations make, as `section_items`, and what rewrites delete. The section begins at the input
+/// offset `base` of the run. Its bytes and relocations are as `rewrite_section` and
+/// `rewrite_placed_section` of `linker_rewriting::sections` left them; a relocation that has gone
+/// has the type 0 and makes no item. `deleted` is what the latter lists: offsets in the section,
+/// ascending, whose bytes are still there.
 ///
 /// Each deletion is a site of which no byte stays (`fixed`). So `relax` counts distances over it,
 /// `deletions` lists it, and `pack_run` leaves its bytes out.
 ///
 /// The items ascend, and none begins below the end of the one before it. `out` and `makers` have an
-/// element for each relocation and each deletion. The maker of an item is the index of its relocation,
-/// or that of its deletion and as many more as there are relocations. Returns how many items there are;
-/// the elements from there on are unchanged.
+/// element for each relocation and each deletion. The maker of an item is the index of its
+/// relocation, or that of its deletion and as many more as there are relocations. Returns how many
+/// items there are; the elements from there on are unchanged.
 ///
-/// Whether code may be compressed is asked of `may_compress`, so of the `e_flags` of the relocation's
-/// object: those of an output say that of all code.
+/// Whether code may be compressed is taken from `may_compress`, so from the `e_flags` of the
+/// relocation's object: those of an output say that of all code.
 ///
 /// # Errors
 ///
 /// The first that applies. `Malformed` names the relocation that `first_malformed` returns.
-/// `Misplaced` names the first deletion that begins below the end of the one before it, or doesn't lie
-/// in the section. Nothing is written then. `Overlaps` names a relocation whose item begins below the
-/// end of that of an earlier relocation, or has deleted bytes: what is written then isn't specified.
+/// `Misplaced` names the first deletion that begins below the end of the one before it, or
+/// doesn't lie in the section. Nothing is written then. `Overlaps` names a relocation whose
+/// item begins below the end of that of an earlier relocation, or has deleted bytes: what is
+/// written then isn't specified.
 ///
 /// A target inside deleted bytes is no error here, since it may be another section's: `relax` says
 /// `TargetInside` of the item. It doesn't allocate.

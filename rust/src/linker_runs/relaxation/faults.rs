@@ -6,7 +6,8 @@ use super::{Alignment, Item, Shapes};
 use crate::linker_runs::items::{AsItem, ItemList};
 
 /// Why a run can't be relaxed: what is wrong with one of its items. Of an item that has several
-/// faults, the one that comes first here is told. u is the greatest granularity of all short shapes.
+/// faults, the one that comes first here is returned. u is the greatest granularity of all short
+/// shapes.
 ///
 /// An alignment is *still* if it divides u, has no limit, and has the nops that its input address
 /// needs, and beside these a multiple of u. It keeps the same nops in each layout.
@@ -23,7 +24,8 @@ pub enum Fault {
     ShapeTooLong,
     /// A short shape keeps no fewer bytes than the next shape.
     ShapesNotAscending,
-    /// The granularity of a short shape isn't a power of two, or isn't a multiple of the next one's.
+    /// The granularity of a short shape isn't a power of two, or isn't a
+    /// multiple of the next one's.
     BadGranularity,
     /// A short shape doesn't reach its own offset, or reaches farther than the next short one.
     BadReach,
@@ -41,7 +43,8 @@ pub enum Fault {
     UnevenNops,
     /// Its target is strictly inside the bytes that an item may lose.
     TargetInside,
-    /// It is an alignment without a limit, and in some layout more nops may be needed than there are.
+    /// It is an alignment without a limit, and in some layout more nops may be
+    /// needed than there are.
     MayBeMisaligned,
 }
 
@@ -202,20 +205,20 @@ fn first_fault<I: AsItem>(items: &ItemList<'_, I>, start: u64) -> Option<ItemFau
 ///
 /// The items ascend, none reaches past the next, and the address behind the last is below 2^64. No
 /// shape of a site keeps more bytes than the site has, and each keeps fewer than the next. Each
-/// short one reaches its own offset and no farther than the next short one; its granularity is a power of
-/// two and a multiple of the next one's. With u the greatest granularity of all short shapes each shape
-/// frees a multiple of u, and each alignment, a power of two, and the address behind its nops are
-/// multiples of u; but an alignment may also divide u, have no limit and have the nops that its input
-/// address needs, and beside these a multiple of u. No target is strictly inside the bytes that an item may lose; that of a site
-/// without short shapes isn't required.
+/// short one reaches its own offset and no farther than the next short one; its granularity is a
+/// power of two and a multiple of the next one's. With u the greatest granularity of all short
+/// shapes each shape frees a multiple of u, and each alignment, a power of two, and the address
+/// behind its nops are multiples of u; but an alignment may also divide u, have no limit and have
+/// the nops that its input address needs, and beside these a multiple of u. No target is strictly
+/// inside the bytes that an item may lose; that of a site without short shapes isn't required.
 ///
-/// An alignment with a limit has as many nops as the alignment less u, or no more may stay than there
-/// are; its nops are a multiple of u. One without a limit has as many as it needs in every layout:
-/// as many as the alignment less u, or as many as it less w, where w is the least such power of two
-/// and divides the address of the first nop in every layout. It does if it divides the alignment
-/// without a limit before it, or the address `start`, and the bytes from there, and if what lies in
-/// between frees multiples of w: each shape of a site; an alignment with a limit where w divides
-/// the alignment, its nops and the bytes from there.
+/// An alignment with a limit has as many nops as the alignment less u, or no more may stay than
+/// there are; its nops are a multiple of u. One without a limit has as many as it needs in every
+/// layout: as many as the alignment less u, or as many as it less w, where w is the least such
+/// power of two and divides the address of the first nop in every layout. It does if it divides the
+/// alignment without a limit before it, or the address `start`, and the bytes from there, and if
+/// what lies in between frees multiples of w: each shape of a site; an alignment with a limit where
+/// w divides the alignment, its nops and the bytes from there.
 ///
 /// It doesn't allocate, and takes O(n log n) for n items. `first_faulty` says what is wrong.
 #[must_use]

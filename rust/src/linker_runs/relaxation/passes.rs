@@ -3,8 +3,8 @@
 
 use crate::linker_runs::items::{AsItem, ItemList};
 
-/// For each item the place of its target, or `usize::MAX` where its shortest shape reaches that while
-/// nothing is freed: then it is always in reach.
+/// For each item the place of its target, or `usize::MAX` where its shortest shape reaches that
+/// while nothing is freed: then it is always in reach.
 pub(super) fn find_places<I: AsItem>(items: &ItemList<'_, I>, start: u64, places: &mut [usize]) {
     for index in 0..items.len() {
         let item = items.at(index);

@@ -91,7 +91,8 @@ impl Alignment {
         is_power_of_two(self.alignment)
     }
 
-    /// Whether it keeps the nops that its input address needs in each layout of a run of a granularity.
+    /// Whether it keeps the nops that its input address needs in each layout
+    /// of a run of a granularity.
     #[inline]
     pub(super) fn is_still(&self, granularity: u64, start: u64) -> bool {
         let nops = u64::from(self.nops);
@@ -221,8 +222,8 @@ fn is_always_multiple<I: AsItem>(
     (start + offset) % number == 0
 }
 
-/// Whether an alignment, the item at an index, has as many nops as it needs in every layout of a run
-/// of a granularity.
+/// Whether an alignment, the item at an index, has as many nops as it needs in every layout of a
+/// run of a granularity.
 fn are_always_enough<I: AsItem>(
     items: &ItemList<'_, I>,
     start: u64,
@@ -236,8 +237,8 @@ fn are_always_enough<I: AsItem>(
     unfilled <= granularity || is_always_multiple(items, start, unfilled.next_power_of_two(), index)
 }
 
-/// Whether the item at an index has as many nops as it needs in every layout of a run of a granularity, if
-/// it is an alignment without a limit.
+/// Whether the item at an index has as many nops as it needs in every layout of a run of a
+/// granularity, if it is an alignment without a limit.
 pub(super) fn has_its_nops<I: AsItem>(
     items: &ItemList<'_, I>,
     start: u64,

@@ -43,9 +43,9 @@ impl End {
 
 /// Numbers of which the least is found at once, and a range of which is decreased by 1.
 ///
-/// Node k has the children 2 k and 2 k + 1, and the numbers are the leaves, in the second half. Each is
-/// the sum of the nodes from the root to its leaf. One of two children is 0, and none is less, so the
-/// root is the least number.
+/// Node k has the children 2 k and 2 k + 1, and the numbers are the leaves, in the second half.
+/// Each is the sum of the nodes from the root to its leaf. One of two children is 0, and none is
+/// less, so the root is the least number.
 struct Numbers {
     nodes: Vec<i32>,
 }
@@ -141,7 +141,8 @@ impl Numbers {
         }
     }
 
-    /// Makes the lesser of a node's children 0, and returns by how much the node's number has changed.
+    /// Makes the lesser of a node's children 0, and returns by how much the
+    /// node's number has changed.
     fn lift_children(&mut self, node: usize) -> i32 {
         if node == 0 || node >= self.nodes.len() / 2 {
             return 0;
@@ -166,10 +167,10 @@ impl Numbers {
 
 /// Calls of which each is tested once drops can have taken it out of reach.
 ///
-/// So many drops between a call's ends take it out of reach. Each of the ends has a part of them left,
-/// and counts the drops of calls between both whose next bit is its own. While each has some left, the
-/// call is in reach. Once one has none, what both have is parted anew, half of it to each. So a call is
-/// parted at most once for each bit of their number.
+/// So many drops between a call's ends take it out of reach. Each of the ends has a part of them
+/// left, and counts the drops of calls between both whose next bit is its own. While each has some
+/// left, the call is in reach. Once one has none, what both have is parted anew, half of it to
+/// each. So a call is parted at most once for each bit of their number.
 pub(super) struct Watch {
     ends: Vec<End>,
     left: Numbers,
