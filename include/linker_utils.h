@@ -354,8 +354,7 @@ static inline bool linker_utils_relocation_fits(uint16_t machine, uint32_t r_typ
 
 /* Whether a choice at the relocation of type `r_type` leaves both as they are: the rewrite is
  * NO_OP, and the relocation after it has the same type. The choice of another instruction may still
- * change this relocation, as `has_other` there says. False where the rewrite is none of the
- * machine's. */
+ * change this relocation, as `has_other` there says. False of another machine's rewrite. */
 bool linker_utils_is_unchanged(uint16_t machine, uint32_t r_type,
                                const struct linker_utils_choice *choice);
 
@@ -374,8 +373,7 @@ static inline uint32_t linker_utils_apply(uint16_t machine, uint32_t rewrite, ui
                                           uint8_t *section, size_t section_len, uint64_t *offset,
                                           int64_t *addend);
 
-/* ---- Deletions: bytes that relaxation takes out of a section, and the offsets of those that
- * stay. */
+/* ---- Deletions: bytes that relaxation takes out of a section, and offsets of those that stay. */
 
 /* Some bytes of an input section that relaxation deletes. */
 struct linker_utils_deletion {
@@ -401,8 +399,7 @@ static inline uint32_t linker_utils_deltas_create(
     struct linker_utils_delta *deltas, size_t deltas_len, size_t *faulty);
 
 /* The offset in the output section of what is at an input offset: how many kept bytes are below it.
- * For an offset inside a deletion it is that of what follows the deletion. The search takes O(log
- * n). */
+ * For an offset inside a deletion it is that of what follows the deletion. It takes O(log n). */
 static inline uint64_t linker_utils_deltas_input_to_output(
     const struct linker_utils_delta *deltas, size_t deltas_len, uint64_t input_offset);
 
@@ -597,7 +594,10 @@ static inline uint32_t linker_utils_survey(
  * of code of the object, with the same facts. What became of each relocation is in `decisions`,
  * which has an element for each relocation, and need not be initialised; further elements are
  * unchanged. A relocation of a symbol that isn't in the array isn't rewritten. O(n) for n
- * relocations. It doesn't allocate.
+ * relocations. It doesn't allocate. Of LoongArch nothing tests that 32 signed bits hold the distance
+ * that replaces a load from the GOT, since R_LARCH_PCALA_HI20 takes any value. So pass `is_local`
+ * only of symbols that are certain to be that near. An absolute one may not be, nor is any in an
+ * output that may be longer than 2 GiB.
  *
  * LINKER_UTILS_UNKNOWN_ARCHITECTURE; LINKER_UTILS_SHORT_MEMORY where there are fewer decisions than
  * relocations. Else the status is that of the first relocation that it doesn't accept, `faulty`:

@@ -324,7 +324,8 @@ static inline uint32_t linker_utils_provided_symbol(uint16_t machine, size_t ind
                                                     struct linker_utils_provided_symbol *symbol);
 
 /* Functions that compilers call and linkers provide, which save or restore registers, in one run of
- * code. */
+ * code. They take registers that stubs change, so that branches have to reach them directly: a linker
+ * may place a run more than once. */
 struct linker_utils_provided_run {
     uint64_t len; /* how many instructions of 4 bytes the run has */
     /* The number in the first function's name. That with a number n begins

@@ -811,7 +811,8 @@ enum linker_utils_fate {
 /* Where a symbol is that linkers define. */
 enum linker_utils_symbol_place {
     /* thread-local: at the TLS image in a shared library, and in an executable at the address that
-     * the thread pointer stands for */
+     * the thread pointer stands for. An executable's object that refers to it may have no
+     * local-dynamic TLS that stays: its offsets would still count from the image. */
     LINKER_UTILS_PLACE_THREAD_LOCAL = 0,
     LINKER_UTILS_PLACE_GOT = 1,
     LINKER_UTILS_PLACE_SMALL_DATA = 2 /* the section `.sdata` */

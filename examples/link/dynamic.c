@@ -55,6 +55,9 @@ void import(struct section *in, Elf64_Rela *r, const struct linker_utils_require
         return;
     if ((is_imported && (is_in_module || is_of_thread)) || (is_of_thread && !linked.is_executable))
         fail_at(in, r, " can't reach '%s' from such an output", s->name);
+    bool is_relative = kind >= LINKER_UTILS_KIND_RELATIVE && kind <= LINKER_UTILS_KIND_PLT_RELATIVE;
+    if (!is_imported && !linked.is_fixed && is_relative && is_defined(s) && !is_here(s))
+        fail_at(in, r, " depends on where the output is loaded, to the absolute '%s'", s->name);
     if (!is_imported && (linked.is_fixed || !needs->depends_on_load || !is_here(s))) return;
     if (is_imported && needs->may_use_stub) {
         s->has_stub = true;

@@ -104,6 +104,8 @@ void require(struct object *o) {
             fail_at(s, r, ": undefined symbol '%s'", to->name);
         if (!to->output && at && at < SHN_LORESERVE)
             fail_at(s, r, ": '%s' is in a section that is left out", to->name);
+        if (to == module_base && tls.has_base && linked.is_executable && kept->local_dynamic)
+            fail_at(s, r, ": '%s' where other sequences of the object stay", to->name);
         if (kind->row.kind == LINKER_UTILS_KIND_ALIGNMENT && !s->output->shrinks)
             fail_at(s, r, " is not supported");
         struct linker_utils_requirements needs = needs_of(s, r);
@@ -193,6 +195,7 @@ static bool add_thunk(struct section *s, Elf64_Rela *r, const struct linker_util
     if (status == LINKER_UTILS_NO_ROOM) check(s, r, status);
     *is_direct |= is_near && !status && !route.is_by_stub;
     if (status || !route.is_by_stub) return false;
+    if (to->is_saver) fail_at(s, r, ": '%s' is too far, and takes what a stub changes", to->name);
     uint64_t from = to->has_stub ? known[1].stub : known[1].address;
     refer(s->object, r, thunk_to(s->output, to, route.target - from), 0);
     r->r_addend = (int64_t)(route.entry - stub->entry);

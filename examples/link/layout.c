@@ -117,6 +117,17 @@ void add_part_of(struct output *o, struct section *s, uint64_t align) {
     o->last = s;
 }
 
+/* Whether a GiB may be too little for the linked file: then 32 bits may not hold each distance. */
+bool is_long(void) {
+    uint64_t low = UINT64_MAX, high = 0, len = 0, most = INT32_MAX / 2;
+    EACH_OUTPUT(o) {
+        len += o->len + MOST_ALIGN;
+        if (o->is_placed && o->place < low) low = o->place;
+        if (o->is_placed && o->place > high) high = o->place;
+    }
+    return len > most || (low < high && high - low > most - len);
+}
+
 /* Copies a section to where it goes. The unwind information has no gaps: they would end it. */
 void copy_section(struct section *s) {
     struct output *o = s->output;

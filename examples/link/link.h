@@ -156,7 +156,7 @@ struct symbol {
     bool is_listed : 1, needs_stub : 1, is_thunk : 1; /* (an indirect function needs a stub) */
     bool is_imported : 1, is_exported : 1; /* other files define or may replace it; may see it */
     bool is_copied : 1, has_stub : 1, is_canonical : 1; /* its stub is its address in all files */
-    bool has_group : 1;          /* an object has a group of its name */
+    bool has_group : 1, is_saver : 1; /* an object has a group of its name; of `define_runs` */
     uint32_t hash;               /* of a global one's name */
     const struct object *object; /* null where only an index of an archive names it */
     const char *name;
@@ -267,6 +267,7 @@ struct linker_utils_item alignment_item(uint64_t at, uint64_t align, uint64_t le
 void add_section(struct section *s), copy_section(struct section *s), sort_outputs(void);
 void add_part_of(struct output *o, struct section *s, uint64_t align);
 void place_outputs(void), set_addresses(void);
+bool is_long(void);
 /* relocate.c */
 void print_place(const struct section *s, const Elf64_Rela *r);
 void check(const struct section *s, const Elf64_Rela *r, uint32_t status);

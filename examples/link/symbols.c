@@ -168,7 +168,8 @@ static void define_runs(void) {
             uint32_t function = at / run.spacing;
             snprintf(name, sizeof name, "%.*s%u", (int)len, (char *)prefix, run.first + function);
             bool begins = at % run.spacing == 0 && function < run.count;
-            is_made |= begins && define(name, stubs, stubs->len);
+            struct symbol *s = begins ? define(name, stubs, stubs->len) : NULL;
+            if (s) is_made = s->is_saver = true;
             if (is_made && !linker_utils_provided_word(machine, i, at, &word))
                 append(stubs, sizeof word, &word, sizeof word);
         }

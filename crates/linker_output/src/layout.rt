@@ -23,7 +23,9 @@ pub struct CodeUnit {
 #[derive(Debug, Clone, Copy, PartialEq, Eq)]
 pub enum SymbolPlace {
     /// At the TLS image in a shared library; in an executable at the address that the thread
-    /// pointer stands for. The symbol is thread-local.
+    /// pointer stands for. The symbol is thread-local. An executable's object that refers to it may
+    /// have no local-dynamic TLS that stays (`KeptGroups` of `linker_rewriting`): its offsets would
+    /// still count from the image.
     ThreadLocal,
     /// At the GOT.
     Got,
@@ -53,7 +55,8 @@ pub struct RunWord {
 
 /// Functions that compilers call and linkers provide, which save or restore registers: one run of
 /// code, whose function with a number n begins 4 * `spacing` * (n - `first`) bytes behind the run's
-/// start.
+/// start. They take registers that stubs change, so that branches have to reach them directly: a
+/// linker may place a run more than once.
 #[derive(Debug, Clone, Copy, PartialEq, Eq)]
 pub struct ProvidedRun {
     /// The functions' names without the number, which stands behind it in decimal.

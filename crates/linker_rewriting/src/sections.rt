@@ -114,6 +114,12 @@ fn make_changes<D: AsDecision>(
 /// deleted. Since no address is known, a value after a rewrite may turn out to be out of reach.
 /// What this call doesn't rewrite, a linker may rewrite by `choose`.
 ///
+/// A value out of reach is an error of `relocate_section`, with one exception: of a load from
+/// LoongArch's GOT that becomes an address nothing tests that 32 signed bits hold the distance,
+/// since `R_LARCH_PCALA_HI20` takes any value. So a linker for LoongArch passes `is_local` only of
+/// symbols that are certain to be that near. An absolute one may not be, nor is any in an output
+/// that may be longer than 2 GiB.
+///
 /// # Errors
 ///
 /// The section and its relocations are as before. `TooShort`: there are more relocations than
