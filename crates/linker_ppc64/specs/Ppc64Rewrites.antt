@@ -1,7 +1,7 @@
 -- What the rewrites of PowerPC64 leave (64-bit ELF V2 ABI for Power, "TLS Linkage Optimizations"
 -- and "TOC Optimizations"; Power ISA, "Instruction Formats"). Bits are numbered from the lowest, 0.
-use Rattle.std.specs.Prelude.{ℕ, ◌+◌, ◌-◌, ◌*◌, ◌^◌, ◌==◌, if◌then◌else◌, List, [], ◌∷◌, drop, Option}
-use Rattle.std.specs.Prelude.{None, Some, true, Bool, ◌&&◌, ◌||◌, not, nat_lt, IsTrue, ⊤, ◌%◌, ◌≡◌}
+use Rattle.std.specs.Prelude.{ℕ, ◌+◌, ◌-◌, ◌*◌, ◌^◌, ◌==◌, if◌then◌else◌, List, [], ◌∷◌, drop}
+use Rattle.std.specs.Prelude.{Option, None, Some, true, Bool, ◌&&◌, ◌||◌, not, nat_lt, IsTrue, ⊤, ◌%◌, ◌≡◌}
 use Rattle.std.specs.Prelude.{◌⊎◌, ◌++◌, false, ℤ, pos}
 use Rattle.std.specs.Int.{w32, w64, from_le_bytes, to_le_bytes}
 use Rattle.linker_base.specs.Bits.{field}
@@ -102,7 +102,7 @@ direct word =
 abbrev pub rewrites_word : (ℕ → ℕ) → Rewrite
 rewrites_word new = replaces 0 4 (λ window. to_le_bytes w32 (new (from_le_bytes w32 window)))
 
--- the same of the instruction whose second byte is at the offset: a mark of prefixed code stands there
+-- the same of the instruction whose second byte is at the offset, where marks of prefixed code are
 abbrev pub rewrites_marked : (ℕ → ℕ) → Rewrite
 rewrites_marked new = replaces 1 4 (λ window. to_le_bytes w32 (new (from_le_bytes w32 window)))
 
@@ -610,8 +610,7 @@ PrefixedInitialExecIsChosenAlike =
 abbrev pub GeneralDynamicIsChosenAlike : Type 0
 GeneralDynamicIsChosenAlike =
     AreChosenAlike r.R_PPC64_GOT_TLSGD16_HA r.R_PPC64_GOT_TLSGD16_LO
-    ((to_nop, choice kinds.AddiToAddisThread r.R_PPC64_TPREL16_HA) ∷
-    (
+    ((to_nop, choice kinds.AddiToAddisThread r.R_PPC64_TPREL16_HA) ∷ (
       choice kinds.KeepAddis r.R_PPC64_GOT_TPREL16_HA,
       choice kinds.AddiToLd r.R_PPC64_GOT_TPREL16_LO_DS,
     ) ∷ [])
@@ -623,8 +622,7 @@ GeneralDynamicIsChosenAlike =
     ((
       choice kinds.PaddiToPaddiThread r.R_PPC64_TPREL34,
       choice kinds.BranchToNop r.R_PPC64_NONE,
-    ) ∷
-    (
+    ) ∷ (
       choice kinds.PaddiToPld r.R_PPC64_GOT_TPREL_PCREL34,
       choice kinds.BranchToAdd r.R_PPC64_NONE,
     ) ∷ [])

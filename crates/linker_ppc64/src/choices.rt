@@ -201,11 +201,11 @@ impl ChosenByTable for RelaxationKind {
 /// Optimizations"). Where TLS becomes initial-exec, `got_entry` has to be the address of the entry
 /// for initial-exec.
 ///
-/// At `R_PPC64_TLSGD` and `R_PPC64_TLSLD` the fact `is_relaxable` says whether the call, which has
-/// the next relocation, has `R_PPC64_REL24_NOTOC`. Such a call is of prefixed code, where the address
-/// is complete before it; where it has `R_PPC64_REL24`, its `nop` becomes the instruction that
-/// completes the address. The bytes don't tell them apart: a `nop` may also stand behind a call of
-/// prefixed code, which aligns the next instruction.
+/// At `R_PPC64_TLSGD` and `R_PPC64_TLSLD` the fact `is_relaxable` says that the call, whose own
+/// relocation is the next one, has `R_PPC64_REL24_NOTOC`. Such a call is of prefixed code, which has
+/// the address complete before it. Behind one with `R_PPC64_REL24` stands a `nop`, in whose place the
+/// address is completed. The bytes don't tell them apart: a `nop` behind a call of prefixed code may
+/// align the next instruction.
 ///
 /// The sequence of `R_PPC64_REL16_HA` and `R_PPC64_REL16_LO` is the pair at the entry of a function
 /// that computes the TOC pointer from the function's address, which register 12 has there (the same,
@@ -273,10 +273,10 @@ pub fn fits(name: Ppc64Relocation, section: &[u8], offset: u64, facts: &LinkFact
 /// address near the TOC or the thread pointer, of a GOT entry, and of the entry for initial-exec.
 /// And so are those of general-dynamic TLS, all for local-exec, all for initial-exec or none, and
 /// those of local-dynamic TLS, also of the small code model: of TOC code where `is_relaxable` is
-/// false, and of prefixed code where it is true. Of `R_PPC64_TLS` it is said of prefixed code alone:
-/// in TOC code an indexed access of whole words is left where the offset isn't a multiple of 4. And
-/// nothing is said of `R_PPC64_GOT_TLSGD16`, which is left where the entry of initial-exec isn't near
-/// the TOC pointer.
+/// false, and of prefixed code where it is true. Of `R_PPC64_TLS` it is said for prefixed code: in
+/// TOC code an indexed access of whole words is left where the offset isn't a multiple of 4. And
+/// nothing is said of `R_PPC64_GOT_TLSGD16`, which is left where the entry of initial-exec isn't
+/// near the TOC pointer.
 pub fn relocations_are_chosen_alike()
     ensures toc { rewrites.TocPairsAreChosenAlike }
     ensures local_exec { rewrites.ThreadPairsAreChosenAlike }

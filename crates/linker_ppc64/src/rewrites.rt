@@ -19,6 +19,7 @@ ghost use Rattle.linker_ppc64.specs.Ppc64Rewrites.{opcode_of, rt_of, ra_of, regi
 ghost use Rattle.linker_ppc64.specs.Ppc64Rewrites.{access_of};
 ghost use Rattle.linker_ppc64.specs.Ppc64Rewrites.{addis_of_thread, li_of, over_base};
 ghost use Rattle.linker_ppc64.specs.Ppc64Rewrites.{addi_of_thread, ld_of, to_move, direct};
+ghost use Rattle.linker_ppc64.specs.Ppc64Rewrites.{prefixed_rt};
 ghost use Rattle.linker_ppc64.specs.Ppc64Rewrites.{by_displacement};
 ghost use Rattle.linker_ppc64.specs.Ppc64Rewrites.{by_word_displacement, ppc64_rewrite};
 ghost use Rattle.linker_ppc64.specs.Ppc64Rewrites.{ppc64_rewrites, ppc64_modifier, two_words};
@@ -35,9 +36,9 @@ use linker_elf::ppc64::Ppc64Relocation;
 
 /// A rewrite of an instruction, or of a call and the `nop` after it (64-bit ELF V2 ABI for Power,
 /// "TOC Optimizations" and "TLS Linkage Optimizations"). The window is the instruction's 4 bytes,
-/// or the 8 bytes of a prefixed instruction or of a call and its `nop`. It begins at the offset, and
-/// of `AddToMove` and `IndexedToDirect` one byte before it. An immediate that a rewrite writes is 0,
-/// for the relocation after it, or the whole number where that is `R_PPC64_NONE`.
+/// or the 8 bytes of a prefixed instruction or of a call and its `nop`. It begins at the offset, but
+/// that of `AddToMove` and of `IndexedToDirect` one byte before it. An immediate that a rewrite
+/// writes is 0, for the relocation after it, or the number itself where that is `R_PPC64_NONE`.
 ///
 /// ```
 /// use linker_utils::ppc64::RelaxationKind;
@@ -100,11 +101,11 @@ pub enum RelaxationKind {
     /// Turns `pld rT`, relative to the instruction, into `paddi rT,13,0`, which adds to the thread
     /// pointer.
     PldToPaddiThread,
-    /// Turns `add rT,rA,13` into `mr rT,rA`, or into `nop` where rT is rA: `R_PPC64_TLS` of prefixed
-    /// code stands at the second byte of the instruction, and so does the offset.
+    /// Turns `add rT,rA,13` into `mr rT,rA`, or into `nop` where rT is rA. The offset is that of the
+    /// instruction's second byte, where `R_PPC64_TLS` of prefixed code stands.
     AddToMove,
     /// Turns an indexed load or store, as `lwzx rT,rA,13` or `ldx rT,rA,13`, into that with the
-    /// displacement 0, as `lwz rT,0(rA)` or `ld rT,0(rA)`. The offset is that of its second byte.
+    /// displacement 0, as `lwz rT,0(rA)` or `ld rT,0(rA)`. The offset is that of the second byte.
     IndexedToDirect,
     /// Turns `paddi rT`, relative to the instruction, into `paddi rT,13,0`.
     PaddiToPaddiThread,
@@ -199,6 +200,16 @@ fn low_2(word: u32) -> u32
     ensures { result ≡ field word 0 2 }
 {
     word & 3
+}
+
+/// The target register of a prefixed instruction at an offset of the section.
+#[inline(always)]
+fn prefixed_target(section: &[u8], offset: u64) -> u32
+    requires { offset + 8 ≤ length section.now }
+    ensures register { result ≡ prefixed_rt (take 8 (drop offset section.now)) }
+    ensures bound { result ≤ 31 }
+{
+    target(word_at(section, offset + 4))
 }
 
 /// `addis rT,13,0`.
@@ -521,6 +532,35 @@ fn has_call(section: &[u8], offset: u64) -> bool
         && is_call(word_at(section, offset), word_at(section, offset + 4))
 }
 
+/// No rewrite has a number above the last one.
+#[inline(always)]
+fn none_past_last(number: u32) -> Option<RelaxationKind>
+    requires { 28 ≤ number }
+    ensures { result ≡ slice_get ppc64_rewrites number }
+{
+    None
+}
+
+/// The rewrite of prefixed thread-local storage with a number. None above the last.
+#[inline(always)]
+fn prefixed_rewrite(number: u32) -> Option<RelaxationKind>
+    requires { 20 ≤ number }
+    ensures { result ≡ slice_get ppc64_rewrites number }
+{
+    let kind = match number {
+        20 => RelaxationKind::PldToPaddiThread,
+        21 => RelaxationKind::AddToMove,
+        22 => RelaxationKind::IndexedToDirect,
+        23 => RelaxationKind::PaddiToPaddiThread,
+        24 => RelaxationKind::PaddiToPld,
+        25 => RelaxationKind::PaddiToPaddi4096,
+        26 => RelaxationKind::BranchToNop,
+        27 => RelaxationKind::BranchToAdd,
+        _ => return none_past_last(number),
+    };
+    Some(kind)
+}
+
 impl RelaxationKind {
     /// The rewrite with a number, its place in the enum. None above the last.
     #[inline(always)]
@@ -548,15 +588,7 @@ impl RelaxationKind {
             17 => RelaxationKind::AddiBehindLis,
             18 => RelaxationKind::AddisThreadToNop,
             19 => RelaxationKind::BaseToThread,
-            20 => RelaxationKind::PldToPaddiThread,
-            21 => RelaxationKind::AddToMove,
-            22 => RelaxationKind::IndexedToDirect,
-            23 => RelaxationKind::PaddiToPaddiThread,
-            24 => RelaxationKind::PaddiToPld,
-            25 => RelaxationKind::PaddiToPaddi4096,
-            26 => RelaxationKind::BranchToNop,
-            27 => RelaxationKind::BranchToAdd,
-            _ => return None,
+            _ => return prefixed_rewrite(number),
         };
         Some(kind)
     }
@@ -603,19 +635,29 @@ impl RelaxationKind {
                 put_word(section_bytes, offset, 0x3800_0000 + registers(word));
             }
             RelaxationKind::PldToPaddi => {
-                let register = target(word_at(section_bytes, offset + 4));
+                let register = prefixed_target(section_bytes, offset);
                 put_two(section_bytes, offset, 0x0610_0000, li_of(register));
             }
             RelaxationKind::PldToPaddiThread | RelaxationKind::PaddiToPaddiThread => {
-                let register = target(word_at(section_bytes, offset + 4));
-                put_two(section_bytes, offset, 0x0600_0000, addi_of_thread(0, register));
+                let register = prefixed_target(section_bytes, offset);
+                put_two(
+                    section_bytes,
+                    offset,
+                    0x0600_0000,
+                    addi_of_thread(0, register),
+                );
             }
             RelaxationKind::PaddiToPaddi4096 => {
-                let register = target(word_at(section_bytes, offset + 4));
-                put_two(section_bytes, offset, 0x0600_0000, addi_of_thread(0x1000, register));
+                let register = prefixed_target(section_bytes, offset);
+                put_two(
+                    section_bytes,
+                    offset,
+                    0x0600_0000,
+                    addi_of_thread(0x1000, register),
+                );
             }
             RelaxationKind::PaddiToPld => {
-                let register = target(word_at(section_bytes, offset + 4));
+                let register = prefixed_target(section_bytes, offset);
                 put_two(section_bytes, offset, 0x0410_0000, ld_of(register));
             }
             RelaxationKind::AddToMove => {
@@ -724,9 +766,8 @@ impl RelaxationKind {
         }
         let word = word_at(section, offset);
         match self {
-            RelaxationKind::NoOp
-            | RelaxationKind::AddToMove
-            | RelaxationKind::IndexedToDirect => true,
+            RelaxationKind::NoOp | RelaxationKind::AddToMove | RelaxationKind::IndexedToDirect =>
+                true,
             RelaxationKind::AddisToNop | RelaxationKind::KeepAddis => is_addis_over(2, word),
             RelaxationKind::AddisThreadToNop => is_addis_over(13, word),
             RelaxationKind::BaseToToc | RelaxationKind::BaseToThread => is_over_base(word),
