@@ -204,7 +204,7 @@ impl ChosenByTable for RelaxationKind {
 /// At `R_PPC64_TLSGD` and `R_PPC64_TLSLD` the fact `is_relaxable` says that the call, whose own
 /// relocation is the next one, has `R_PPC64_REL24_NOTOC`. Such a call is of prefixed code, which has
 /// the address complete before it. Behind one with `R_PPC64_REL24` stands a `nop`, in whose place the
-/// address is completed. The bytes don't tell them apart: a `nop` behind a call of prefixed code may
+/// address is completed. The bytes don't distinguish them: a `nop` behind a call of prefixed code may
 /// align the next instruction.
 ///
 /// The sequence of `R_PPC64_REL16_HA` and `R_PPC64_REL16_LO` is the pair at the entry of a function

@@ -538,7 +538,7 @@ fn marks_of_prefixed_code_are_at_the_second_byte() {
 
 /// `bl` and `nop` with the mark of a call: the `nop` is of the call only where that has `R_PPC64_REL24`.
 #[test]
-fn calls_are_told_apart_by_their_relocation() {
+fn calls_are_distinguished_by_their_relocation() {
     let facts = |is_relaxable, is_local| LinkFacts { is_relaxable, is_local, ..own() };
     for (name, facts, kind) in [
         (Ppc64Relocation::R_PPC64_TLSGD, facts(false, true), RelaxationKind::CallToAddi),
