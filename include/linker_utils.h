@@ -250,7 +250,7 @@ struct linker_utils_link_facts {
      * rewritten to local-exec, so that the base is the thread pointer. */
     uint8_t has_local_exec_base;
     uint8_t may_compress; /* RISC-V: the code may use instructions of the C extension. */
-    uint8_t is_relaxable; /* R_RISCV_RELAX or R_LARCH_RELAX is at the same offset. */
+    uint8_t is_relaxable; /* R_RISCV_RELAX, R_LARCH_RELAX or R_PPC64_REL24_NOTOC is there too. */
     /* RISC-V: the high part whose label an R_RISCV_PCREL_LO12_I names has R_RISCV_GOT_HI20. */
     uint8_t has_got_high_part;
     /* RISC-V: the load from the GOT may be relaxed: R_RISCV_RELAX is at the offset of the

@@ -422,7 +422,9 @@ enum linker_utils_loongarch64_rewrite {
 
 /* Those of a call stand for 8 bytes, the call and the `nop` after it. CALL_TO_ADDI, CALL_TO_ADD and
  * CALL_TO_ADDI4096 move the offset 4 bytes on, to the instruction behind the `nop` that they leave;
- * the next relocation, R_PPC64_REL24 of the call, is skipped. */
+ * the next relocation, R_PPC64_REL24 of the call, is skipped. BRANCH_TO_NOP and BRANCH_TO_ADD are of
+ * a call with R_PPC64_REL24_NOTOC, which is skipped too, and stand for its 4 bytes. ADD_TO_MOVE and
+ * INDEXED_TO_DIRECT begin one byte before the offset. */
 enum linker_utils_ppc64_rewrite {
     /* Leaves the instruction as it is; only the kind of its relocation changes. */
     LINKER_UTILS_PPC64_REWRITE_NO_OP = 0,
@@ -464,7 +466,26 @@ enum linker_utils_ppc64_rewrite {
     /* Writes `nop` in place of `addis rT,13`. */
     LINKER_UTILS_PPC64_REWRITE_ADDIS_THREAD_TO_NOP = 18,
     /* Makes register 13, the thread pointer, the base of an instruction: bits 16 to 20. */
-    LINKER_UTILS_PPC64_REWRITE_BASE_TO_THREAD = 19
+    LINKER_UTILS_PPC64_REWRITE_BASE_TO_THREAD = 19,
+    /* Turns `pld rT`, relative to the instruction, into `paddi rT,13,0`, which adds to the thread
+     * pointer. */
+    LINKER_UTILS_PPC64_REWRITE_PLD_TO_PADDI_THREAD = 20,
+    /* Turns `add rT,rA,13` into `mr rT,rA`, or into `nop` where rT is rA. The offset is that of the
+     * instruction's second byte, where `R_PPC64_TLS` of prefixed code stands. */
+    LINKER_UTILS_PPC64_REWRITE_ADD_TO_MOVE = 21,
+    /* Turns an indexed load or store, as `lwzx rT,rA,13` or `ldx rT,rA,13`, into that with the
+     * displacement 0, as `lwz rT,0(rA)` or `ld rT,0(rA)`. The offset is that of the second byte. */
+    LINKER_UTILS_PPC64_REWRITE_INDEXED_TO_DIRECT = 22,
+    /* Turns `paddi rT`, relative to the instruction, into `paddi rT,13,0`. */
+    LINKER_UTILS_PPC64_REWRITE_PADDI_TO_PADDI_THREAD = 23,
+    /* Turns `paddi rT`, relative to the instruction, into `pld rT,0,1`. */
+    LINKER_UTILS_PPC64_REWRITE_PADDI_TO_PLD = 24,
+    /* Turns `paddi rT`, relative to the instruction, into `paddi rT,13,4096`. */
+    LINKER_UTILS_PPC64_REWRITE_PADDI_TO_PADDI4096 = 25,
+    /* Writes `nop` in place of a call of `__tls_get_addr` by `R_PPC64_REL24_NOTOC`. */
+    LINKER_UTILS_PPC64_REWRITE_BRANCH_TO_NOP = 26,
+    /* Writes `add 3,3,13` in place of a call of `__tls_get_addr` by `R_PPC64_REL24_NOTOC`. */
+    LINKER_UTILS_PPC64_REWRITE_BRANCH_TO_ADD = 27
 };
 
 /* Where `opcode_len` is marked it is the count of the instruction's bytes before the field: 2
@@ -662,49 +683,61 @@ enum linker_utils_modifier {
  *   (15) is_relaxable, TLS_LE_LO12_R in -0x800..0x800
  *
  * PowerPC64, with the prefixes R_PPC64_ and LINKER_UTILS_PPC64_REWRITE_:
- *   REL24                        NOP_TO_RESTORE_TOC    REL24              (1)
- *   GOT16_HA                     KEEP_ADDIS            TOC16_HA           (2)
- *   TOC16_LO                     BASE_TO_TOC           TOC16              (3)
- *   TOC16_HA                     ADDIS_TO_NOP          NONE               (3)
- *   GOT16_LO_DS                  LD_TO_ADDI            TOC16_LO           (2)
- *   TOC16_LO_DS                  BASE_TO_TOC           TOC16_DS           (3)
- *   TLS                          ADD_TO_ADDI           TPREL16_LO         (4)
- *                                INDEXED_TO_D          TPREL16_LO         (4)
- *                                INDEXED_TO_DS         TPREL16_LO_DS      (5)
- *   TPREL16_LO                   BASE_TO_THREAD        TPREL16            (6)
- *   TPREL16_HA                   ADDIS_THREAD_TO_NOP   NONE               (6)
- *   GOT_TLSGD16                  ADDI_TO_ADDIS_THREAD  TPREL16_HA         (4)
- *                                ADDI_TO_LD            GOT_TPREL16_DS     (7)
- *   GOT_TLSGD16_LO               ADDI_TO_ADDIS_THREAD  TPREL16_HA         (4)
- *                                ADDI_TO_LD            GOT_TPREL16_LO_DS  (8)
- *   GOT_TLSGD16_HA               ADDIS_TO_NOP          NONE               (4)
- *                                KEEP_ADDIS            GOT_TPREL16_HA     (8)
- *   GOT_TLSLD16, GOT_TLSLD16_LO  ADDI_TO_ADDIS_THREAD  NONE               (9)
- *   GOT_TLSLD16_HA               ADDIS_TO_NOP          NONE               (9)
+ *   REL24                        NOP_TO_RESTORE_TOC     REL24              (1)
+ *   GOT16_HA                     KEEP_ADDIS             TOC16_HA           (2)
+ *   TOC16_LO                     BASE_TO_TOC            TOC16              (3)
+ *   TOC16_HA                     ADDIS_TO_NOP           NONE               (3)
+ *   GOT16_LO_DS                  LD_TO_ADDI             TOC16_LO           (2)
+ *   TOC16_LO_DS                  BASE_TO_TOC            TOC16_DS           (3)
+ *   TLS                          ADD_TO_ADDI            TPREL16_LO         (4)
+ *                                INDEXED_TO_D           TPREL16_LO         (4)
+ *                                INDEXED_TO_DS          TPREL16_LO_DS      (5)
+ *                                ADD_TO_MOVE            NONE               (6)
+ *                                INDEXED_TO_DIRECT      NONE               (6)
+ *   TPREL16_LO                   BASE_TO_THREAD         TPREL16            (7)
+ *   TPREL16_HA                   ADDIS_THREAD_TO_NOP    NONE               (7)
+ *   GOT_TLSGD16                  ADDI_TO_ADDIS_THREAD   TPREL16_HA         (4)
+ *                                ADDI_TO_LD             GOT_TPREL16_DS     (8)
+ *   GOT_TLSGD16_LO               ADDI_TO_ADDIS_THREAD   TPREL16_HA         (4)
+ *                                ADDI_TO_LD             GOT_TPREL16_LO_DS  (9)
+ *   GOT_TLSGD16_HA               ADDIS_TO_NOP           NONE               (4)
+ *                                KEEP_ADDIS             GOT_TPREL16_HA     (9)
+ *   GOT_TLSLD16, GOT_TLSLD16_LO  ADDI_TO_ADDIS_THREAD   NONE               (10)
+ *   GOT_TLSLD16_HA               ADDIS_TO_NOP           NONE               (10)
  *   GOT_TPREL16_DS, GOT_TPREL16_LO_DS
- *                                LD_TO_ADDIS_THREAD    TPREL16_HA         (4)
- *   GOT_TPREL16_HA               ADDIS_TO_NOP          NONE               (4)
- *   TPREL16_LO_DS                BASE_TO_THREAD        TPREL16_DS         (6)
- *   TLSGD                        CALL_TO_ADDI          TPREL16_LO         (4)
- *                                CALL_TO_ADD           NONE               (8)
- *   TLSLD                        CALL_TO_ADDI4096      NONE               (9)
- *   GOT_PCREL34                  PLD_TO_PADDI          PCREL34            (10)
- *   REL16_LO                     ADDI_BEHIND_LIS       ADDR16_LO          (11)
- *   REL16_HA                     ADDIS_TO_LIS          ADDR16_HA          (12)
+ *                                LD_TO_ADDIS_THREAD     TPREL16_HA         (4)
+ *   GOT_TPREL16_HA               ADDIS_TO_NOP           NONE               (4)
+ *   TPREL16_LO_DS                BASE_TO_THREAD         TPREL16_DS         (7)
+ *   TLSGD                        BRANCH_TO_NOP          NONE               (11)
+ *                                BRANCH_TO_ADD          NONE               (12)
+ *                                CALL_TO_ADDI           TPREL16_LO         (4)
+ *                                CALL_TO_ADD            NONE               (9)
+ *   TLSLD                        BRANCH_TO_NOP          NONE               (12)
+ *                                CALL_TO_ADDI4096       NONE               (10)
+ *   GOT_PCREL34                  PLD_TO_PADDI           PCREL34            (13)
+ *   GOT_TLSGD_PCREL34            PADDI_TO_PADDI_THREAD  TPREL34            (6)
+ *                                PADDI_TO_PLD           GOT_TPREL_PCREL34  (10)
+ *   GOT_TLSLD_PCREL34            PADDI_TO_PADDI4096     NONE               (10)
+ *   GOT_TPREL_PCREL34            PLD_TO_PADDI_THREAD    TPREL34            (6)
+ *   REL16_LO                     ADDI_BEHIND_LIS        ADDR16_LO          (14)
+ *   REL16_HA                     ADDIS_TO_LIS           ADDR16_HA          (15)
  *   (1) may_change_toc
  *   (2) is_local, not is_ifunc, has_fixed_distance, TOC16_HA in reach if known
  *   (3) toc_base_is_exclusive, TOC16 in reach
  *   (4) is_local, not is_ifunc, is_executable, group_fits, TPREL16_HA in reach if known
  *   (5) is_local, not is_ifunc, is_executable, group_fits, TPREL16_HA in reach if known,
  *       TPREL16_LO_DS in reach if known
- *   (6) is_local, not is_ifunc, is_executable, toc_base_is_exclusive, group_fits, TPREL16 in reach
- *   (7) is_executable, group_fits, GOT_TPREL16_DS in reach if known
- *   (8) is_executable, group_fits, GOT_TPREL16_HA in reach if known
- *   (9) is_executable, group_fits
- *   (10) is_local, not is_ifunc, has_fixed_distance, PCREL34 in reach if known
- *   (11) is_local, not is_ifunc, has_fixed_address, group_fits, addend 4, ADDR16_HA in reach if
+ *   (6) is_local, not is_ifunc, is_executable, group_fits, TPREL34 in reach if known
+ *   (7) is_local, not is_ifunc, is_executable, toc_base_is_exclusive, group_fits, TPREL16 in reach
+ *   (8) is_executable, group_fits, GOT_TPREL16_DS in reach if known
+ *   (9) is_executable, group_fits, GOT_TPREL16_HA in reach if known
+ *   (10) is_executable, group_fits
+ *   (11) is_local, not is_ifunc, is_executable, is_relaxable, group_fits, TPREL34 in reach if known
+ *   (12) is_executable, is_relaxable, group_fits
+ *   (13) is_local, not is_ifunc, has_fixed_distance, PCREL34 in reach if known
+ *   (14) is_local, not is_ifunc, has_fixed_address, group_fits, addend 4, ADDR16_HA in reach if
  *       known
- *   (12) is_local, not is_ifunc, has_fixed_address, group_fits, addend 0, ADDR16_HA in reach if
+ *   (15) is_local, not is_ifunc, has_fixed_address, group_fits, addend 0, ADDR16_HA in reach if
  *       known
  *
  * x86-64, with the prefixes R_X86_64_ and LINKER_UTILS_X86_64_REWRITE_:

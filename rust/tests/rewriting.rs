@@ -340,6 +340,127 @@ fn calls_without_a_mark_keep_all_thread_local_storage() {
     assert_eq!(made[0].0.relocations, before.relocations);
 }
 
+/// paddi 3,0,x@got@tlsgd@pcrel,1; bl __tls_get_addr@notoc(x@tlsgd); nop, which aligns what is next
+fn prefixed_general_dynamic(symbol: u32) -> Section {
+    Section {
+        bytes: words(&[0x0610_0000, 0x3860_0000, 0x4800_0001, 0x6000_0000]),
+        relocations: vec![
+            rela(0, 148, symbol, 0),
+            rela(8, 107, symbol, 0),
+            rela(8, 116, 2, 0),
+        ],
+    }
+}
+
+#[test]
+fn prefixed_general_dynamic_needs_no_call() {
+    // paddi 3,13,x@tprel; nop; and of a variable elsewhere pld 3,x@got@tprel@pcrel; add 3,3,13
+    for (symbol, after, code) in [
+        (1, [0x0600_0000, 0x386d_0000, 0x6000_0000, 0x6000_0000], 146),
+        (4, [0x0410_0000, 0xe460_0000, 0x7c63_6a14, 0x6000_0000], 150),
+    ] {
+        let made = rewritten(Ppc64, &symbols(), &[&prefixed_general_dynamic(symbol)]);
+        assert_eq!(made[0].0.bytes, words(&after));
+        assert_eq!(made[0].0.relocations[0], rela(0, code, symbol, 0));
+        assert_eq!(made[0].0.relocations[1].code, 0);
+        assert_eq!(made[0].0.relocations[2].code, 0);
+        assert_eq!(made[0].1[2], Decision::TakenAlong);
+    }
+}
+
+#[test]
+fn each_call_of_an_object_is_of_its_own_kind_of_code() {
+    let (toc, prefixed) = (ppc64_general_dynamic(), prefixed_general_dynamic(1));
+    for sections in [[&toc, &prefixed], [&prefixed, &toc]] {
+        let made = rewritten(Ppc64, &symbols(), &sections);
+        for (made, before) in made.iter().zip(sections) {
+            let after = if before.bytes == toc.bytes {
+                [0x6000_0000, 0x3c6d_0000, 0x6000_0000, 0x3863_0000]
+            } else {
+                [0x0600_0000, 0x386d_0000, 0x6000_0000, 0x6000_0000]
+            };
+            assert_eq!(made.0.bytes, words(&after));
+        }
+    }
+}
+
+#[test]
+fn prefixed_sequences_stay_as_a_whole() {
+    let whole = prefixed_general_dynamic(1);
+    // a call that isn't next to its mark, and one of another function
+    let mut apart = whole.clone();
+    apart.relocations.insert(2, rela(8, 0, 1, 0));
+    expect_unchanged(Ppc64, &apart);
+    let mut other = whole.clone();
+    other.relocations[2].symbol = 3;
+    expect_unchanged(Ppc64, &other);
+    // no `bl`; and a call by an address from the PLT: mtctr 12; bctrl
+    for word in [0x6042_0000_u32, 0x7d89_03a6] {
+        let mut other = whole.clone();
+        other.bytes[8..12].copy_from_slice(&word.to_le_bytes());
+        expect_unchanged(Ppc64, &other);
+    }
+    // an argument that isn't relative to the instruction
+    let mut other = whole.clone();
+    other.bytes[2] = 0;
+    expect_unchanged(Ppc64, &other);
+}
+
+#[test]
+fn prefixed_local_dynamic_has_the_block_from_the_thread_pointer() {
+    // paddi 3,0,x@got@tlsld@pcrel,1; bl __tls_get_addr@notoc(x@tlsld); paddi 3,3,x@dtprel
+    let before = Section {
+        bytes: words(&[
+            0x0610_0000,
+            0x3860_0000,
+            0x4800_0001,
+            0x0600_0000,
+            0x3863_0000,
+        ]),
+        relocations: vec![
+            rela(0, 149, 1, 0),
+            rela(8, 108, 1, 0),
+            rela(8, 116, 2, 0),
+            rela(12, 147, 1, 0),
+        ],
+    };
+    // paddi 3,13,4096; nop
+    let made = rewritten(Ppc64, &symbols(), &[&before]);
+    assert_eq!(
+        made[0].0.bytes,
+        words(&[
+            0x0600_0000,
+            0x386d_1000,
+            0x6000_0000,
+            0x0600_0000,
+            0x3863_0000
+        ])
+    );
+    let codes: Vec<u32> = made[0].0.relocations.iter().map(|it| it.code).collect();
+    assert_eq!(codes, [0, 0, 0, 147]);
+}
+
+#[test]
+fn prefixed_initial_exec_has_marks_at_second_bytes() {
+    // pld 9,x@got@tprel@pcrel; add 3,9,x@tls@pcrel, or stdx 3,9,x@tls@pcrel, or stdux 3,9,13
+    let section = |access| Section {
+        bytes: words(&[0x0410_0000, 0xe520_0000, access]),
+        relocations: vec![rela(0, 150, 1, 0), rela(9, 67, 1, 0)],
+    };
+    // paddi 9,13,x@tprel; mr 3,9, or std 3,0(9)
+    for (before, after) in [(0x7c69_6a14, 0x7d23_4b78), (0x7c69_692a, 0xf869_0000)] {
+        expect(
+            Ppc64,
+            &section(before),
+            &Section {
+                bytes: words(&[0x0600_0000, 0x392d_0000, after]),
+                relocations: vec![rela(0, 146, 1, 0), rela(9, 0, 1, 0)],
+            },
+        );
+    }
+    expect_unchanged(Ppc64, &section(0x7c69_696a));
+}
+
 #[test]
 fn descriptors_may_be_apart() {
     // pcalau12i a0; addi.d a0, a0; ld.d ra, a0, 0; jirl ra, ra, 0; with a nop between

@@ -68,6 +68,35 @@ _start:
     addis 3,3,own@dtprel@ha
     addi 3,3,own@dtprel@l
     lwz 4,own@dtprel@l(3)
+    # the same by prefixed instructions, and a call with a nop behind it
+    pld 8,own@got@tprel@pcrel
+    add 8,8,own@tls@pcrel
+    pld 8,own@got@tprel@pcrel
+    add 9,8,own@tls@pcrel
+    lbzx 9,8,own@tls@pcrel
+    lhzx 9,8,own@tls@pcrel
+    lhax 9,8,own@tls@pcrel
+    lwzx 9,8,own@tls@pcrel
+    lwax 9,8,own@tls@pcrel
+    ldx 9,8,own@tls@pcrel
+    stbx 9,8,own@tls@pcrel
+    sthx 9,8,own@tls@pcrel
+    stwx 9,8,own@tls@pcrel
+    stdx 9,8,own@tls@pcrel
+    lfsx 1,8,own@tls@pcrel
+    lfdx 1,8,own@tls@pcrel
+    stfsx 1,8,own@tls@pcrel
+    stfdx 1,8,own@tls@pcrel
+    paddi 3,0,own@got@tlsgd@pcrel,1
+    bl __tls_get_addr@notoc(own@tlsgd)
+    paddi 3,0,own@got@tlsgd@pcrel,1
+    bl __tls_get_addr@notoc(own@tlsgd)
+    nop
+    paddi 3,0,other@got@tlsgd@pcrel,1
+    bl __tls_get_addr@notoc(other@tlsgd)
+    paddi 3,0,own@got@tlsld@pcrel,1
+    bl __tls_get_addr@notoc(own@tlsld)
+    paddi 3,3,own@dtprel
     # calls
     bl elsewhere
     nop

@@ -1,5 +1,5 @@
 -- What is chosen on PowerPC64 matches, and can be rewritten.
-use Rattle.std.proofs.Common.{ℕ, List, rules}
+use Rattle.std.proofs.Common.{ℕ, List, Some, length, ◌≡◌, ◌≤◌, ◌+◌, ◌-◌, ◌%◌, refl, arith, rules}
 use Rattle.linker_base.specs.Rewrite.{CanRewrite}
 use Rattle.linker_elf.specs.Choices.{choice}
 use Rattle.linker_elf.proofs.ChoiceTables.{holds_of_first}
@@ -8,13 +8,20 @@ use Rattle.linker_elf.specs.declared.elf.choice.LinkFacts.{LinkFacts}
 use Rattle.linker_elf.specs.declared.ppc64.relocations.Ppc64Relocation.{Ppc64Relocation}
 use Rattle.linker_ppc64.specs.Ppc64Rewrites.{ppc64_entries, Ppc64Applies, IsPpc64Choice}
 use Rattle.linker_ppc64.specs.Ppc64Rewrites.{ppc64_matches}
-use Rattle.linker_ppc64.specs.Ppc64Rewrites.{ppc64_rewrite}
+use Rattle.linker_ppc64.specs.Ppc64Rewrites.{ppc64_rewrite, rewrites_marked, to_move, direct}
 use Rattle.linker_ppc64.specs.declared.rewrites.RelaxationKind.{RelaxationKind}
 use Rattle.linker_ppc64.specs.declared.rewrites.RelaxationKind.TheVariants as kinds
+
+marked_rewrite : (section : List ℕ) (o : ℕ) (new : ℕ → ℕ) → o % 4 ≡ 1 → o - 1 + 4 ≤ length section
+    → CanRewrite (Some (rewrites_marked new)) section o
+marked_rewrite section o new marked within =
+    record { starts = omega (arith, marked); ends = within; admitted = refl }
 
 can_rewrite : (kind : RelaxationKind) (section : List ℕ) (o : ℕ) → ppc64_matches kind section o
     → CanRewrite (ppc64_rewrite kind) section o
 can_rewrite kinds.NoOp section o matches = tt
+can_rewrite kinds.AddToMove section o matches = marked_rewrite section o to_move (matches.0) (matches.1.0)
+can_rewrite kinds.IndexedToDirect section o matches = marked_rewrite section o direct (matches.0) (matches.1.0)
 can_rewrite kind section o matches = search rules
 
 pub chosen_matches : (name : Ppc64Relocation) (section : List ℕ) (o : ℕ) (facts : LinkFacts) (c : Choice RelaxationKind Ppc64Relocation)

@@ -1,7 +1,7 @@
 -- What the rewrites of PowerPC64 leave (64-bit ELF V2 ABI for Power, "TLS Linkage Optimizations"
 -- and "TOC Optimizations"; Power ISA, "Instruction Formats"). Bits are numbered from the lowest, 0.
-use Rattle.std.specs.Prelude.{ℕ, ◌+◌, ◌*◌, ◌^◌, ◌==◌, if◌then◌else◌, List, [], ◌∷◌, drop, Option}
-use Rattle.std.specs.Prelude.{None, Some, true, Bool, ◌&&◌, ◌||◌, not, nat_lt, IsTrue, ⊤, ◌%◌, ◌≡◌}
+use Rattle.std.specs.Prelude.{ℕ, ◌+◌, ◌-◌, ◌*◌, ◌^◌, ◌==◌, if◌then◌else◌, List, [], ◌∷◌, drop}
+use Rattle.std.specs.Prelude.{Option, None, Some, true, Bool, ◌&&◌, ◌||◌, not, nat_lt, IsTrue, ⊤, ◌%◌, ◌≡◌}
 use Rattle.std.specs.Prelude.{◌⊎◌, ◌++◌, false, ℤ, pos}
 use Rattle.std.specs.Int.{w32, w64, from_le_bytes, to_le_bytes}
 use Rattle.linker_base.specs.Bits.{field}
@@ -12,7 +12,7 @@ use Rattle.linker_base.specs.declared.relaxation.RelocationModifier.TheVariants.
 use Rattle.linker_ppc64.specs.declared.rewrites.RelaxationKind.{RelaxationKind}
 use Rattle.linker_elf.specs.Originals.{HasWord}
 use Rattle.linker_elf.specs.Choices.{Condition, bound, fixed_distance, executable, private_base}
-use Rattle.linker_elf.specs.Choices.{fixed_address, addend}
+use Rattle.linker_elf.specs.Choices.{fixed_address, addend, marked}
 use Rattle.linker_elf.specs.Choices.{changed_toc, group_fits, in_reach, in_reach_if_known}
 use Rattle.linker_elf.specs.Choices.{Entry, entry, choice, Applies, IsFirst}
 use Rattle.linker_elf.specs.Ppc64Relocations.{ppc64_row}
@@ -61,6 +61,18 @@ addis_of_thread rt = 0x3c0d0000 + rt * 2 ^ 21
 abbrev pub li_of : ℕ → ℕ
 li_of rt = 0x38000000 + rt * 2 ^ 21
 
+-- `addi rT,13,n`
+abbrev pub addi_of_thread : ℕ → ℕ → ℕ
+addi_of_thread n rt = 0x380d0000 + rt * 2 ^ 21 + n
+
+-- the second word of `pld rT,0(0)`
+abbrev pub ld_of : ℕ → ℕ
+ld_of rt = 0xe4000000 + rt * 2 ^ 21
+
+-- `mr rT,rA`
+abbrev pub move_of : ℕ → ℕ → ℕ
+move_of rt ra = 0x7c000378 + ra * 2 ^ 21 + rt * 2 ^ 16 + ra * 2 ^ 11
+
 -- the instruction with another base
 abbrev pub over_base : ℕ → ℕ → ℕ
 over_base ra word = field word 21 32 * 2 ^ 21 + ra * 2 ^ 16 + field word 0 16
@@ -75,10 +87,24 @@ by_word_displacement word =
     (if access_of word == 4 then 62 else 58) * 2 ^ 26 + registers_of word
     + (if access_of word == 10 then 2 else 0)
 
+-- `mr` in place of an addition to its first source, or `nop` where that is the target
+abbrev pub to_move : ℕ → ℕ
+to_move word =
+    if rt_of word == ra_of word then nop else move_of (rt_of word) (ra_of word)
+
+-- any of these accesses by a displacement of 0
+abbrev pub direct : ℕ → ℕ
+direct word =
+    if field word 0 6 == 0x2e then by_displacement word else by_word_displacement word
+
 -- ---- rewrites
 
 abbrev pub rewrites_word : (ℕ → ℕ) → Rewrite
 rewrites_word new = replaces 0 4 (λ window. to_le_bytes w32 (new (from_le_bytes w32 window)))
+
+-- the same of the instruction whose second byte is at the offset, where marks of prefixed code are
+abbrev pub rewrites_marked : (ℕ → ℕ) → Rewrite
+rewrites_marked new = replaces 1 4 (λ window. to_le_bytes w32 (new (from_le_bytes w32 window)))
 
 -- two instructions, as one number
 abbrev pub two_words : ℕ → ℕ → List ℕ
@@ -101,9 +127,21 @@ rewrites_call new =
 abbrev pub addi_of_toc : Rewrite
 addi_of_toc = record (rewrites_word (λ _. 0x38420000)) { addend = λ _. pos 0 }
 
+-- the target register of a prefixed instruction
+abbrev pub prefixed_rt : List ℕ → ℕ
+prefixed_rt window = rt_of (from_le_bytes w32 (drop 4 window))
+
 -- `paddi rT,0,0,1` in place of `pld rT`
 abbrev pub paddi : List ℕ → List ℕ
-paddi window = two_words 0x06100000 (li_of (rt_of (from_le_bytes w32 (drop 4 window))))
+paddi window = two_words 0x06100000 (li_of (prefixed_rt window))
+
+-- `paddi rT,13,n`, which isn't relative to the instruction
+abbrev pub paddi_of_thread : ℕ → List ℕ → List ℕ
+paddi_of_thread n window = two_words 0x06000000 (addi_of_thread n (prefixed_rt window))
+
+-- `pld rT,0,1`
+abbrev pub pld : List ℕ → List ℕ
+pld window = two_words 0x04100000 (ld_of (prefixed_rt window))
 
 -- the call, and `ld 2,24(1)`
 abbrev pub restores_toc : List ℕ → List ℕ
@@ -130,12 +168,22 @@ ppc64_rewrite kinds.AddisToLis = Some (rewrites_word (λ _. 0x3c400000))
 ppc64_rewrite kinds.AddiBehindLis = Some addi_of_toc
 ppc64_rewrite kinds.AddisThreadToNop = Some (rewrites_word (λ _. nop))
 ppc64_rewrite kinds.BaseToThread = Some (rewrites_word (over_base 13))
+ppc64_rewrite kinds.PldToPaddiThread = Some (replaces 0 8 (paddi_of_thread 0))
+ppc64_rewrite kinds.AddToMove = Some (rewrites_marked to_move)
+ppc64_rewrite kinds.IndexedToDirect = Some (rewrites_marked direct)
+ppc64_rewrite kinds.PaddiToPaddiThread = Some (replaces 0 8 (paddi_of_thread 0))
+ppc64_rewrite kinds.PaddiToPld = Some (replaces 0 8 pld)
+ppc64_rewrite kinds.PaddiToPaddi4096 = Some (replaces 0 8 (paddi_of_thread 0x1000))
+ppc64_rewrite kinds.BranchToNop = Some (rewrites_word (λ _. nop))
+ppc64_rewrite kinds.BranchToAdd = Some (rewrites_word (λ _. 0x7c636a14))
 
 -- The relocation of the call itself is skipped where the call is gone.
 abbrev pub ppc64_modifier : RelaxationKind → RelocationModifier
 ppc64_modifier kinds.CallToAddi = SkipNextRelocation
 ppc64_modifier kinds.CallToAdd = SkipNextRelocation
 ppc64_modifier kinds.CallToAddi4096 = SkipNextRelocation
+ppc64_modifier kinds.BranchToNop = SkipNextRelocation
+ppc64_modifier kinds.BranchToAdd = SkipNextRelocation
 ppc64_modifier kind = Normal
 
 -- the rewrites by their numbers from 0 up
@@ -145,7 +193,9 @@ ppc64_rewrites =
     kinds.LdToAddisThread ∷ kinds.AddToAddi ∷ kinds.IndexedToD ∷ kinds.IndexedToDs ∷
     kinds.AddiToAddisThread ∷ kinds.AddiToLd ∷ kinds.CallToAddi ∷ kinds.CallToAdd ∷
     kinds.CallToAddi4096 ∷ kinds.NopToRestoreToc ∷ kinds.KeepAddis ∷ kinds.AddisToLis ∷
-    kinds.AddiBehindLis ∷ kinds.AddisThreadToNop ∷ kinds.BaseToThread ∷ []
+    kinds.AddiBehindLis ∷ kinds.AddisThreadToNop ∷ kinds.BaseToThread ∷ kinds.PldToPaddiThread ∷
+    kinds.AddToMove ∷ kinds.IndexedToDirect ∷ kinds.PaddiToPaddiThread ∷ kinds.PaddiToPld ∷
+    kinds.PaddiToPaddi4096 ∷ kinds.BranchToNop ∷ kinds.BranchToAdd ∷ []
 
 -- The instructions that each rewrite of PowerPC64 is meant for (Power ISA, "Fixed-Point Facility"
 -- and "Floating-Point Facility"; 64-bit ELF V2 ABI for Power, "TLS Linkage Optimizations" and "TOC
@@ -237,9 +287,21 @@ is_indexed_word word =
     is_over_thread word && field word 0 6 == 0x2a && is_word_access (access_of word)
     && keeps_base (access_of word == 4) word
 
+-- any of these accesses
+abbrev pub is_indexed_any : ℕ → Bool
+is_indexed_any word = is_indexed word || is_indexed_word word
+
 -- `pld rT`, relative to the instruction, by its two words
 abbrev pub is_pld : ℕ → ℕ → Bool
 is_pld prefix word = field prefix 18 32 == 0x104 && opcode_of word == 57 && ra_of word == 0
+
+-- `paddi rT,0`, relative to the instruction
+abbrev pub is_pla : ℕ → ℕ → Bool
+is_pla prefix word = field prefix 18 32 == 0x184 && opcode_of word == 14 && ra_of word == 0
+
+-- `bl`
+abbrev pub is_bl : ℕ → Bool
+is_bl word = opcode_of word == 18 && field word 0 2 == 1
 
 -- `bl`, and `nop` after it
 abbrev pub is_call : ℕ → ℕ → Bool
@@ -253,6 +315,10 @@ HasTest test section o = HasWord section o (λ word. IsTrue (test word))
 -- the same, where instructions stand: prefixed ones have marks between these places
 abbrev pub HasAligned : (ℕ → Bool) → List ℕ → ℕ → Type 0
 HasAligned test section o = (o % 4 ≡ 0) × HasTest test section o
+
+-- the same, where the second byte of an instruction is
+abbrev pub HasMarked : (ℕ → Bool) → List ℕ → ℕ → Type 0
+HasMarked test section o = (o % 4 ≡ 1) × HasTest test section (o - 1)
 
 -- two words one after the other
 abbrev pub HasTwo : (ℕ → ℕ → Bool) → List ℕ → ℕ → Type 0
@@ -281,6 +347,14 @@ ppc64_matches kinds.AddisToLis = HasTest is_addis_of_entry
 ppc64_matches kinds.AddiBehindLis = HasTest is_addi_of_toc
 ppc64_matches kinds.AddisThreadToNop = HasTest (is_addis_over 13)
 ppc64_matches kinds.BaseToThread = HasTest is_over_base
+ppc64_matches kinds.PldToPaddiThread = HasTwo is_pld
+ppc64_matches kinds.AddToMove = HasMarked is_add_of_thread
+ppc64_matches kinds.IndexedToDirect = HasMarked is_indexed_any
+ppc64_matches kinds.PaddiToPaddiThread = HasTwo is_pla
+ppc64_matches kinds.PaddiToPld = HasTwo is_pla
+ppc64_matches kinds.PaddiToPaddi4096 = HasTwo is_pla
+ppc64_matches kinds.BranchToNop = HasTest is_bl
+ppc64_matches kinds.BranchToAdd = HasTest is_bl
 
 -- Which rewrite of PowerPC64 is chosen (64-bit ELF V2 ABI for Power, "TOC Optimizations", "TLS
 -- Linkage Optimizations" and "The TOC Pointer Register"). No condition depends on the place of a
@@ -333,6 +407,27 @@ to_near_initial_exec =
 abbrev pub to_module : Conditions
 to_module = executable ∷ group_fits ∷ []
 
+-- the offset from the thread pointer in a prefixed instruction
+abbrev pub to_prefixed_local_exec : Conditions
+to_prefixed_local_exec =
+    bound ∷ executable ∷ group_fits ∷ in_reach_if_known r.R_PPC64_TPREL34 0 ∷ []
+
+-- the same in the GOT, at any distance from the instruction
+abbrev pub to_prefixed_initial_exec : Conditions
+to_prefixed_initial_exec = executable ∷ group_fits ∷ []
+
+-- The same at the mark of a call. There the fact of a mark says that the call itself has
+-- R_PPC64_REL24_NOTOC, so that it is of prefixed code, which has the address complete before it.
+abbrev pub called_to_local_exec : Conditions
+called_to_local_exec =
+    bound ∷ executable ∷ marked ∷ group_fits ∷ in_reach_if_known r.R_PPC64_TPREL34 0 ∷ []
+
+abbrev pub called_to_initial_exec : Conditions
+called_to_initial_exec = executable ∷ marked ∷ group_fits ∷ []
+
+abbrev pub called_to_module : Conditions
+called_to_module = executable ∷ marked ∷ group_fits ∷ []
+
 -- the address in place of the distance from a function's entry, by the addend of the instruction
 abbrev pub to_address : ℤ → Conditions
 to_address a =
@@ -356,10 +451,14 @@ ppc64_entries r.R_PPC64_GOT_TPREL16_LO_DS =
     entry kinds.LdToAddisThread r.R_PPC64_TPREL16_HA to_local_exec ∷ []
 ppc64_entries r.R_PPC64_GOT_TPREL16_DS =
     entry kinds.LdToAddisThread r.R_PPC64_TPREL16_HA to_local_exec ∷ []
+ppc64_entries r.R_PPC64_GOT_TPREL_PCREL34 =
+    entry kinds.PldToPaddiThread r.R_PPC64_TPREL34 to_prefixed_local_exec ∷ []
 ppc64_entries r.R_PPC64_TLS =
     entry kinds.AddToAddi r.R_PPC64_TPREL16_LO to_local_exec ∷
     entry kinds.IndexedToD r.R_PPC64_TPREL16_LO to_local_exec ∷
-    entry kinds.IndexedToDs r.R_PPC64_TPREL16_LO_DS to_local_exec_words ∷ []
+    entry kinds.IndexedToDs r.R_PPC64_TPREL16_LO_DS to_local_exec_words ∷
+    entry kinds.AddToMove r.R_PPC64_NONE to_prefixed_local_exec ∷
+    entry kinds.IndexedToDirect r.R_PPC64_NONE to_prefixed_local_exec ∷ []
 ppc64_entries r.R_PPC64_GOT_TLSGD16_HA =
     entry kinds.AddisToNop r.R_PPC64_NONE to_local_exec ∷
     entry kinds.KeepAddis r.R_PPC64_GOT_TPREL16_HA to_initial_exec ∷ []
@@ -369,7 +468,12 @@ ppc64_entries r.R_PPC64_GOT_TLSGD16_LO =
 ppc64_entries r.R_PPC64_GOT_TLSGD16 =
     entry kinds.AddiToAddisThread r.R_PPC64_TPREL16_HA to_local_exec ∷
     entry kinds.AddiToLd r.R_PPC64_GOT_TPREL16_DS to_near_initial_exec ∷ []
+ppc64_entries r.R_PPC64_GOT_TLSGD_PCREL34 =
+    entry kinds.PaddiToPaddiThread r.R_PPC64_TPREL34 to_prefixed_local_exec ∷
+    entry kinds.PaddiToPld r.R_PPC64_GOT_TPREL_PCREL34 to_prefixed_initial_exec ∷ []
 ppc64_entries r.R_PPC64_TLSGD =
+    entry kinds.BranchToNop r.R_PPC64_NONE called_to_local_exec ∷
+    entry kinds.BranchToAdd r.R_PPC64_NONE called_to_initial_exec ∷
     entry kinds.CallToAddi r.R_PPC64_TPREL16_LO to_local_exec ∷
     entry kinds.CallToAdd r.R_PPC64_NONE to_initial_exec ∷ []
 ppc64_entries r.R_PPC64_GOT_TLSLD16_HA =
@@ -378,7 +482,10 @@ ppc64_entries r.R_PPC64_GOT_TLSLD16_LO =
     entry kinds.AddiToAddisThread r.R_PPC64_NONE to_module ∷ []
 ppc64_entries r.R_PPC64_GOT_TLSLD16 =
     entry kinds.AddiToAddisThread r.R_PPC64_NONE to_module ∷ []
+ppc64_entries r.R_PPC64_GOT_TLSLD_PCREL34 =
+    entry kinds.PaddiToPaddi4096 r.R_PPC64_NONE to_module ∷ []
 ppc64_entries r.R_PPC64_TLSLD =
+    entry kinds.BranchToNop r.R_PPC64_NONE called_to_module ∷
     entry kinds.CallToAddi4096 r.R_PPC64_NONE to_module ∷ []
 ppc64_entries r.R_PPC64_REL24 =
     entry kinds.NopToRestoreToc r.R_PPC64_REL24 (changed_toc ∷ []) ∷ []
@@ -439,6 +546,17 @@ AreChosenAlike first second lines =
     → IsPpc64Choice second section p (facts_at place facts) b
     → IsAmong (a, b) (lines ++ (choice kinds.NoOp first, choice kinds.NoOp second) ∷ [])
 
+-- the same of the mark of a call, which is one by R_PPC64_REL24_NOTOC or isn't
+abbrev pub IsCalledAlike : Bool → Ppc64Relocation → Ppc64Relocation
+    → List (Ppc64Choice × Ppc64Choice) → Type 0
+IsCalledAlike prefixed first mark lines =
+    (section : List ℕ) (o p place : ℕ) (facts : LinkFacts) (a b : Ppc64Choice)
+    → facts.is_relaxable ≡ prefixed
+    → AreMeant lines section o p
+    → IsPpc64Choice first section o facts a
+    → IsPpc64Choice mark section p (facts_at place facts) b
+    → IsAmong (a, b) (lines ++ (choice kinds.NoOp first, choice kinds.NoOp mark) ∷ [])
+
 abbrev pub to_nop : Ppc64Choice
 to_nop = choice kinds.AddisToNop r.R_PPC64_NONE
 
@@ -474,31 +592,56 @@ InitialExecPairIsChosenAlike =
     AreChosenAlike r.R_PPC64_GOT_TPREL16_HA r.R_PPC64_GOT_TPREL16_LO_DS
     ((to_nop, choice kinds.LdToAddisThread r.R_PPC64_TPREL16_HA) ∷ [])
 
--- one of the other relocations of general-dynamic TLS with the first one: its choices for
--- local-exec and for initial-exec
-abbrev pub IsOfGeneralDynamic : Ppc64Relocation → Ppc64Choice → Ppc64Choice → Type 0
-IsOfGeneralDynamic name local initial =
-    AreChosenAlike r.R_PPC64_GOT_TLSGD16_HA name
-    ((to_nop, local) ∷ (choice kinds.KeepAddis r.R_PPC64_GOT_TPREL16_HA, initial) ∷ [])
+-- a prefixed load of the entry with what adds the thread pointer, also with an access of any size
+abbrev pub PrefixedInitialExecIsChosenAlike : Type 0
+PrefixedInitialExecIsChosenAlike =
+    AreChosenAlike r.R_PPC64_GOT_TPREL_PCREL34 r.R_PPC64_TLS
+    ((
+      choice kinds.PldToPaddiThread r.R_PPC64_TPREL34,
+      choice kinds.AddToMove r.R_PPC64_NONE,
+    ) ∷ [])
+    × AreChosenAlike r.R_PPC64_GOT_TPREL_PCREL34 r.R_PPC64_TLS
+    ((
+      choice kinds.PldToPaddiThread r.R_PPC64_TPREL34,
+      choice kinds.IndexedToDirect r.R_PPC64_NONE,
+    ) ∷ [])
 
+-- the choices of the two halves of an argument and of its call, for local-exec and for initial-exec
 abbrev pub GeneralDynamicIsChosenAlike : Type 0
 GeneralDynamicIsChosenAlike =
-    IsOfGeneralDynamic r.R_PPC64_GOT_TLSGD16_LO
-    (choice kinds.AddiToAddisThread r.R_PPC64_TPREL16_HA)
-    (choice kinds.AddiToLd r.R_PPC64_GOT_TPREL16_LO_DS)
-    × IsOfGeneralDynamic r.R_PPC64_TLSGD (choice kinds.CallToAddi r.R_PPC64_TPREL16_LO)
-    (choice kinds.CallToAdd r.R_PPC64_NONE)
+    AreChosenAlike r.R_PPC64_GOT_TLSGD16_HA r.R_PPC64_GOT_TLSGD16_LO
+    ((to_nop, choice kinds.AddiToAddisThread r.R_PPC64_TPREL16_HA) ∷ (
+      choice kinds.KeepAddis r.R_PPC64_GOT_TPREL16_HA,
+      choice kinds.AddiToLd r.R_PPC64_GOT_TPREL16_LO_DS,
+    ) ∷ [])
+    × IsCalledAlike false r.R_PPC64_GOT_TLSGD16_HA r.R_PPC64_TLSGD
+    ((to_nop, choice kinds.CallToAddi r.R_PPC64_TPREL16_LO) ∷
+    (choice kinds.KeepAddis r.R_PPC64_GOT_TPREL16_HA, choice kinds.CallToAdd r.R_PPC64_NONE)
+    ∷ [])
+    × IsCalledAlike true r.R_PPC64_GOT_TLSGD_PCREL34 r.R_PPC64_TLSGD
+    ((
+      choice kinds.PaddiToPaddiThread r.R_PPC64_TPREL34,
+      choice kinds.BranchToNop r.R_PPC64_NONE,
+    ) ∷ (
+      choice kinds.PaddiToPld r.R_PPC64_GOT_TPREL_PCREL34,
+      choice kinds.BranchToAdd r.R_PPC64_NONE,
+    ) ∷ [])
 
 abbrev pub LocalDynamicIsChosenAlike : Type 0
 LocalDynamicIsChosenAlike =
     AreChosenAlike r.R_PPC64_GOT_TLSLD16_HA r.R_PPC64_GOT_TLSLD16_LO
     ((to_nop, choice kinds.AddiToAddisThread r.R_PPC64_NONE) ∷ [])
-    × AreChosenAlike r.R_PPC64_GOT_TLSLD16_HA r.R_PPC64_TLSLD
+    × IsCalledAlike false r.R_PPC64_GOT_TLSLD16_HA r.R_PPC64_TLSLD
     ((to_nop, choice kinds.CallToAddi4096 r.R_PPC64_NONE) ∷ [])
-    × AreChosenAlike r.R_PPC64_GOT_TLSLD16 r.R_PPC64_TLSLD
+    × IsCalledAlike false r.R_PPC64_GOT_TLSLD16 r.R_PPC64_TLSLD
     ((
       choice kinds.AddiToAddisThread r.R_PPC64_NONE,
       choice kinds.CallToAddi4096 r.R_PPC64_NONE,
+    ) ∷ [])
+    × IsCalledAlike true r.R_PPC64_GOT_TLSLD_PCREL34 r.R_PPC64_TLSLD
+    ((
+      choice kinds.PaddiToPaddi4096 r.R_PPC64_NONE,
+      choice kinds.BranchToNop r.R_PPC64_NONE,
     ) ∷ [])
 
 -- ---- the relocation that is skipped
@@ -508,6 +651,8 @@ abbrev pub ppc64_skipped : RelaxationKind → Option ℕ
 ppc64_skipped kinds.CallToAddi = Some 0
 ppc64_skipped kinds.CallToAdd = Some 0
 ppc64_skipped kinds.CallToAddi4096 = Some 0
+ppc64_skipped kinds.BranchToNop = Some 0
+ppc64_skipped kinds.BranchToAdd = Some 0
 ppc64_skipped kind = None
 
 -- The types of a `bl`.

@@ -82,6 +82,27 @@ macro_rules! when {
     (to_module) => {
         conditions!(EXECUTABLE + GROUP_FITS)
     };
+    // the offset from the thread pointer in a prefixed instruction
+    (to_prefixed_local_exec) => {
+        conditions!(BOUND + EXECUTABLE + GROUP_FITS, InReachIfKnown(R_PPC64_TPREL34))
+    };
+    // the same in the GOT, at any distance from the instruction
+    (to_prefixed_initial_exec) => {
+        conditions!(EXECUTABLE + GROUP_FITS)
+    };
+    // the same at a call of prefixed code, which has `R_PPC64_REL24_NOTOC`
+    (called_to_local_exec) => {
+        conditions!(
+            BOUND + EXECUTABLE + RELAXABLE + GROUP_FITS,
+            InReachIfKnown(R_PPC64_TPREL34)
+        )
+    };
+    (called_to_initial_exec) => {
+        conditions!(EXECUTABLE + RELAXABLE + GROUP_FITS)
+    };
+    (called_to_module) => {
+        conditions!(EXECUTABLE + RELAXABLE + GROUP_FITS)
+    };
     // the address in place of the distance from a function's entry, by the `addis` and by the `addi`
     // behind it, which have the addends 0 and 4
     (to_address $addend:literal) => {
@@ -111,10 +132,15 @@ macro_rules! choices {
             R_PPC64_GOT_TPREL16_HA: [AddisToNop => R_PPC64_NONE, to_local_exec]
             R_PPC64_GOT_TPREL16_LO_DS: [LdToAddisThread => R_PPC64_TPREL16_HA, to_local_exec]
             R_PPC64_GOT_TPREL16_DS: [LdToAddisThread => R_PPC64_TPREL16_HA, to_local_exec]
+            R_PPC64_GOT_TPREL_PCREL34: [
+                PldToPaddiThread => R_PPC64_TPREL34, to_prefixed_local_exec
+            ]
             R_PPC64_TLS: [
                 AddToAddi => R_PPC64_TPREL16_LO, to_local_exec;
                 IndexedToD => R_PPC64_TPREL16_LO, to_local_exec;
                 IndexedToDs => R_PPC64_TPREL16_LO_DS, to_local_exec_words;
+                AddToMove => R_PPC64_NONE, to_prefixed_local_exec;
+                IndexedToDirect => R_PPC64_NONE, to_prefixed_local_exec;
             ]
             R_PPC64_GOT_TLSGD16_HA: [
                 AddisToNop => R_PPC64_NONE, to_local_exec;
@@ -128,14 +154,24 @@ macro_rules! choices {
                 AddiToAddisThread => R_PPC64_TPREL16_HA, to_local_exec;
                 AddiToLd => R_PPC64_GOT_TPREL16_DS, to_near_initial_exec;
             ]
+            R_PPC64_GOT_TLSGD_PCREL34: [
+                PaddiToPaddiThread => R_PPC64_TPREL34, to_prefixed_local_exec;
+                PaddiToPld => R_PPC64_GOT_TPREL_PCREL34, to_prefixed_initial_exec;
+            ]
             R_PPC64_TLSGD: [
+                BranchToNop => R_PPC64_NONE, called_to_local_exec;
+                BranchToAdd => R_PPC64_NONE, called_to_initial_exec;
                 CallToAddi => R_PPC64_TPREL16_LO, to_local_exec;
                 CallToAdd => R_PPC64_NONE, to_initial_exec;
             ]
             R_PPC64_GOT_TLSLD16_HA: [AddisToNop => R_PPC64_NONE, to_module]
             R_PPC64_GOT_TLSLD16_LO: [AddiToAddisThread => R_PPC64_NONE, to_module]
             R_PPC64_GOT_TLSLD16: [AddiToAddisThread => R_PPC64_NONE, to_module]
-            R_PPC64_TLSLD: [CallToAddi4096 => R_PPC64_NONE, to_module]
+            R_PPC64_GOT_TLSLD_PCREL34: [PaddiToPaddi4096 => R_PPC64_NONE, to_module]
+            R_PPC64_TLSLD: [
+                BranchToNop => R_PPC64_NONE, called_to_module;
+                CallToAddi4096 => R_PPC64_NONE, to_module;
+            ]
             R_PPC64_REL24: [NopToRestoreToc => R_PPC64_REL24, after_call]
             R_PPC64_REL16_HA: [AddisToLis => R_PPC64_ADDR16_HA, to_address(0)]
             R_PPC64_REL16_LO: [AddiBehindLis => R_PPC64_ADDR16_LO, to_address(4)]
@@ -164,6 +200,12 @@ impl ChosenByTable for RelaxationKind {
 /// whose value is then written (64-bit ELF V2 ABI for Power, "TOC Optimizations" and "TLS Linkage
 /// Optimizations"). Where TLS becomes initial-exec, `got_entry` has to be the address of the entry
 /// for initial-exec.
+///
+/// At `R_PPC64_TLSGD` and `R_PPC64_TLSLD` the fact `is_relaxable` says that the call, whose own
+/// relocation is the next one, has `R_PPC64_REL24_NOTOC`. Such a call is of prefixed code, which has
+/// the address complete before it. Behind one with `R_PPC64_REL24` stands a `nop`, in whose place the
+/// address is completed. The bytes don't distinguish them: a `nop` behind a call of prefixed code may
+/// align the next instruction.
 ///
 /// The sequence of `R_PPC64_REL16_HA` and `R_PPC64_REL16_LO` is the pair at the entry of a function
 /// that computes the TOC pointer from the function's address, which register 12 has there (the same,
@@ -230,14 +272,17 @@ pub fn fits(name: Ppc64Relocation, section: &[u8], offset: u64, facts: &LinkFact
 /// rewrites are meant for, both relocations of a pair are rewritten alike or neither is: of an
 /// address near the TOC or the thread pointer, of a GOT entry, and of the entry for initial-exec.
 /// And so are those of general-dynamic TLS, all for local-exec, all for initial-exec or none, and
-/// those of local-dynamic TLS, also of the small code model. Nothing is said of `R_PPC64_TLS`: an indexed
-/// access of whole words is left where the offset isn't a multiple of 4. And nothing of
-/// `R_PPC64_GOT_TLSGD16`, which is left where the entry of initial-exec isn't near the TOC pointer.
+/// those of local-dynamic TLS, also of the small code model: of TOC code where `is_relaxable` is
+/// false, and of prefixed code where it is true. Of `R_PPC64_TLS` it is said for prefixed code: in
+/// TOC code an indexed access of whole words is left where the offset isn't a multiple of 4. And
+/// nothing is said of `R_PPC64_GOT_TLSGD16`, which is left where the entry of initial-exec isn't
+/// near the TOC pointer.
 pub fn relocations_are_chosen_alike()
     ensures toc { rewrites.TocPairsAreChosenAlike }
     ensures local_exec { rewrites.ThreadPairsAreChosenAlike }
     ensures got { rewrites.GotPairIsChosenAlike }
     ensures initial_exec { rewrites.InitialExecPairIsChosenAlike }
+    ensures prefixed { rewrites.PrefixedInitialExecIsChosenAlike }
     ensures general_dynamic { rewrites.GeneralDynamicIsChosenAlike }
     ensures local_dynamic { rewrites.LocalDynamicIsChosenAlike }
 {}

@@ -13,10 +13,13 @@ ghost use Rattle.linker_ppc64.specs.Ppc64Rewrites.{is_d_access, is_ds_access, is
 ghost use Rattle.linker_ppc64.specs.Ppc64Rewrites.{is_over_base, is_addis_of_entry, is_addi_of_toc};
 ghost use Rattle.linker_ppc64.specs.Ppc64Rewrites.{is_over_thread, is_add_of_thread, is_indexed};
 ghost use Rattle.linker_ppc64.specs.Ppc64Rewrites.{is_indexed_word, is_pld, is_call, HasTwo};
+ghost use Rattle.linker_ppc64.specs.Ppc64Rewrites.{is_indexed_any, is_pla, is_bl, HasMarked};
 ghost use Rattle.linker_ppc64.specs.Ppc64Rewrites.{ppc64_matches};
 ghost use Rattle.linker_ppc64.specs.Ppc64Rewrites.{opcode_of, rt_of, ra_of, registers_of};
 ghost use Rattle.linker_ppc64.specs.Ppc64Rewrites.{access_of};
 ghost use Rattle.linker_ppc64.specs.Ppc64Rewrites.{addis_of_thread, li_of, over_base};
+ghost use Rattle.linker_ppc64.specs.Ppc64Rewrites.{addi_of_thread, ld_of, to_move, direct};
+ghost use Rattle.linker_ppc64.specs.Ppc64Rewrites.{prefixed_rt};
 ghost use Rattle.linker_ppc64.specs.Ppc64Rewrites.{by_displacement};
 ghost use Rattle.linker_ppc64.specs.Ppc64Rewrites.{by_word_displacement, ppc64_rewrite};
 ghost use Rattle.linker_ppc64.specs.Ppc64Rewrites.{ppc64_rewrites, ppc64_modifier, two_words};
@@ -33,8 +36,9 @@ use linker_elf::ppc64::Ppc64Relocation;
 
 /// A rewrite of an instruction, or of a call and the `nop` after it (64-bit ELF V2 ABI for Power,
 /// "TOC Optimizations" and "TLS Linkage Optimizations"). The window is the instruction's 4 bytes,
-/// or the 8 bytes of a prefixed instruction or of a call and its `nop`; it begins at the offset. An
-/// immediate that a rewrite writes is 0, for the relocation after it.
+/// or the 8 bytes of a prefixed instruction or of a call and its `nop`. It begins at the offset, but
+/// that of `AddToMove` and of `IndexedToDirect` one byte before it. An immediate that a rewrite
+/// writes is 0, for the relocation after it, or the number itself where that is `R_PPC64_NONE`.
 ///
 /// ```
 /// use linker_utils::ppc64::RelaxationKind;
@@ -94,9 +98,31 @@ pub enum RelaxationKind {
     AddisThreadToNop,
     /// Makes register 13, the thread pointer, the base of an instruction: bits 16 to 20.
     BaseToThread,
+    /// Turns `pld rT`, relative to the instruction, into `paddi rT,13,0`, which adds to the thread
+    /// pointer.
+    PldToPaddiThread,
+    /// Turns `add rT,rA,13` into `mr rT,rA`, or into `nop` where rT is rA. The offset is that of the
+    /// instruction's second byte, where `R_PPC64_TLS` of prefixed code stands.
+    AddToMove,
+    /// Turns an indexed load or store, as `lwzx rT,rA,13` or `ldx rT,rA,13`, into that with the
+    /// displacement 0, as `lwz rT,0(rA)` or `ld rT,0(rA)`. The offset is that of the second byte.
+    IndexedToDirect,
+    /// Turns `paddi rT`, relative to the instruction, into `paddi rT,13,0`.
+    PaddiToPaddiThread,
+    /// Turns `paddi rT`, relative to the instruction, into `pld rT,0,1`.
+    PaddiToPld,
+    /// Turns `paddi rT`, relative to the instruction, into `paddi rT,13,4096`.
+    PaddiToPaddi4096,
+    /// Writes `nop` in place of a call of `__tls_get_addr` by `R_PPC64_REL24_NOTOC`.
+    BranchToNop,
+    /// Writes `add 3,3,13` in place of a call of `__tls_get_addr` by `R_PPC64_REL24_NOTOC`.
+    BranchToAdd,
 }
 
 const NOP: u32 = 0x6000_0000;
+
+/// `add 3,3,13`.
+const ADD_THREAD: u32 = 0x7c63_6a14;
 
 /// The instruction at an offset of the section.
 #[inline(always)]
@@ -176,6 +202,16 @@ fn low_2(word: u32) -> u32
     word & 3
 }
 
+/// The target register of a prefixed instruction at an offset of the section.
+#[inline(always)]
+fn prefixed_target(section: &[u8], offset: u64) -> u32
+    requires { offset + 8 ≤ length section.now }
+    ensures register { result ≡ prefixed_rt (take 8 (drop offset section.now)) }
+    ensures bound { result ≤ 31 }
+{
+    target(word_at(section, offset + 4))
+}
+
 /// `addis rT,13,0`.
 #[inline(always)]
 fn addis_of_thread(target: u32) -> u32
@@ -192,6 +228,25 @@ fn li_of(target: u32) -> u32
     ensures { result ≡ li_of target }
 {
     0x3800_0000 + (target << 21)
+}
+
+/// `addi rT,13,n`.
+#[inline(always)]
+fn addi_of_thread(number: u32, target: u32) -> u32
+    requires number { number ≤ 0x1000 }
+    requires target { target ≤ 31 }
+    ensures { result ≡ addi_of_thread number target }
+{
+    0x380d_0000 + (target << 21) + number
+}
+
+/// The second word of `pld rT,0(0)`.
+#[inline(always)]
+fn ld_of(target: u32) -> u32
+    requires { target ≤ 31 }
+    ensures { result ≡ ld_of target }
+{
+    0xe400_0000 + (target << 21)
 }
 
 /// An instruction with another base register.
@@ -219,6 +274,31 @@ fn by_word_displacement(word: u32) -> u32
     let opcode = if access(word) == 4 { 62 } else { 58 };
     let low = if access(word) == 10 { 2 } else { 0 };
     (opcode << 26) + registers(word) + low
+}
+
+/// `mr rT,rA` in place of an addition to rA, or `nop` where rT is rA.
+#[inline(always)]
+fn to_move(word: u32) -> u32
+    ensures { result ≡ to_move word }
+{
+    let (to, from) = (target(word), base(word));
+    if to == from {
+        NOP
+    } else {
+        0x7c00_0378 + (from << 21) + (to << 16) + (from << 11)
+    }
+}
+
+/// An indexed access as one with a displacement of 0, of any size.
+#[inline(always)]
+fn direct(word: u32) -> u32
+    ensures { result ≡ direct word }
+{
+    if word & 0x3f == 0x2e {
+        by_displacement(word)
+    } else {
+        by_word_displacement(word)
+    }
 }
 
 /// `addis rT,rA`, over a given register.
@@ -365,12 +445,36 @@ fn is_indexed_word(word: u32) -> bool
         && keeps_base(number == 4, word)
 }
 
+/// Any of these accesses.
+#[inline(always)]
+fn is_indexed_any(word: u32) -> bool
+    ensures { result ≡ is_indexed_any word }
+{
+    is_indexed(word) || is_indexed_word(word)
+}
+
 /// Whether two words are `pld rT`, relative to the instruction.
 #[inline(always)]
 fn is_pld(prefix: u32, word: u32) -> bool
     ensures { result ≡ is_pld prefix word }
 {
     prefix >> 18 == 0x104 && opcode(word) == 57 && base(word) == 0
+}
+
+/// Whether two words are `paddi rT`, relative to the instruction.
+#[inline(always)]
+fn is_pla(prefix: u32, word: u32) -> bool
+    ensures { result ≡ is_pla prefix word }
+{
+    prefix >> 18 == 0x184 && opcode(word) == 14 && base(word) == 0
+}
+
+/// `bl`.
+#[inline(always)]
+fn is_bl(word: u32) -> bool
+    ensures { result ≡ is_bl word }
+{
+    opcode(word) == 18 && low_2(word) == 1
 }
 
 /// Whether two words are `bl` and `nop`.
@@ -390,6 +494,35 @@ fn has_pld(section: &[u8], offset: u64) -> bool
         && is_pld(word_at(section, offset), word_at(section, offset + 4))
 }
 
+/// Whether `paddi rT`, relative to the instruction, is at an offset of the section.
+#[inline(always)]
+fn has_pla(section: &[u8], offset: u64) -> bool
+    ensures { IsTrue result ↔ HasTwo is_pla section.now offset }
+{
+    has_window(section, offset, 0, 8)
+        && is_pla(word_at(section, offset), word_at(section, offset + 4))
+}
+
+/// Whether `add rT,rA,13` is where an offset is that of its second byte.
+#[inline(always)]
+fn has_marked_add(section: &[u8], offset: u64) -> bool
+    ensures { IsTrue result ↔ HasMarked is_add_of_thread section.now offset }
+{
+    offset % 4 == 1
+        && has_window(section, offset, 1, 4)
+        && is_add_of_thread(word_at(section, offset - 1))
+}
+
+/// Whether an indexed access is where an offset is that of its second byte.
+#[inline(always)]
+fn has_marked_access(section: &[u8], offset: u64) -> bool
+    ensures { IsTrue result ↔ HasMarked is_indexed_any section.now offset }
+{
+    offset % 4 == 1
+        && has_window(section, offset, 1, 4)
+        && is_indexed_any(word_at(section, offset - 1))
+}
+
 /// Whether a call and a `nop` are at an offset of the section.
 #[inline(always)]
 fn has_call(section: &[u8], offset: u64) -> bool
@@ -397,6 +530,35 @@ fn has_call(section: &[u8], offset: u64) -> bool
 {
     has_window(section, offset, 0, 8)
         && is_call(word_at(section, offset), word_at(section, offset + 4))
+}
+
+/// No rewrite has a number above the last one.
+#[inline(always)]
+fn none_past_last(number: u32) -> Option<RelaxationKind>
+    requires { 28 ≤ number }
+    ensures { result ≡ slice_get ppc64_rewrites number }
+{
+    None
+}
+
+/// The rewrite of prefixed thread-local storage with a number. None above the last.
+#[inline(always)]
+fn prefixed_rewrite(number: u32) -> Option<RelaxationKind>
+    requires { 20 ≤ number }
+    ensures { result ≡ slice_get ppc64_rewrites number }
+{
+    let kind = match number {
+        20 => RelaxationKind::PldToPaddiThread,
+        21 => RelaxationKind::AddToMove,
+        22 => RelaxationKind::IndexedToDirect,
+        23 => RelaxationKind::PaddiToPaddiThread,
+        24 => RelaxationKind::PaddiToPld,
+        25 => RelaxationKind::PaddiToPaddi4096,
+        26 => RelaxationKind::BranchToNop,
+        27 => RelaxationKind::BranchToAdd,
+        _ => return none_past_last(number),
+    };
+    Some(kind)
 }
 
 impl RelaxationKind {
@@ -426,7 +588,7 @@ impl RelaxationKind {
             17 => RelaxationKind::AddiBehindLis,
             18 => RelaxationKind::AddisThreadToNop,
             19 => RelaxationKind::BaseToThread,
-            _ => return None,
+            _ => return prefixed_rewrite(number),
         };
         Some(kind)
     }
@@ -454,9 +616,12 @@ impl RelaxationKind {
         let offset = *offset_in_section;
         match self {
             RelaxationKind::NoOp | RelaxationKind::KeepAddis => {}
-            RelaxationKind::AddisToNop | RelaxationKind::AddisThreadToNop => {
+            RelaxationKind::AddisToNop
+            | RelaxationKind::AddisThreadToNop
+            | RelaxationKind::BranchToNop => {
                 put_word(section_bytes, offset, NOP);
             }
+            RelaxationKind::BranchToAdd => put_word(section_bytes, offset, ADD_THREAD),
             RelaxationKind::BaseToToc => {
                 let word = word_at(section_bytes, offset);
                 put_word(section_bytes, offset, over_base(2, word));
@@ -470,8 +635,38 @@ impl RelaxationKind {
                 put_word(section_bytes, offset, 0x3800_0000 + registers(word));
             }
             RelaxationKind::PldToPaddi => {
-                let register = target(word_at(section_bytes, offset + 4));
+                let register = prefixed_target(section_bytes, offset);
                 put_two(section_bytes, offset, 0x0610_0000, li_of(register));
+            }
+            RelaxationKind::PldToPaddiThread | RelaxationKind::PaddiToPaddiThread => {
+                let register = prefixed_target(section_bytes, offset);
+                put_two(
+                    section_bytes,
+                    offset,
+                    0x0600_0000,
+                    addi_of_thread(0, register),
+                );
+            }
+            RelaxationKind::PaddiToPaddi4096 => {
+                let register = prefixed_target(section_bytes, offset);
+                put_two(
+                    section_bytes,
+                    offset,
+                    0x0600_0000,
+                    addi_of_thread(0x1000, register),
+                );
+            }
+            RelaxationKind::PaddiToPld => {
+                let register = prefixed_target(section_bytes, offset);
+                put_two(section_bytes, offset, 0x0410_0000, ld_of(register));
+            }
+            RelaxationKind::AddToMove => {
+                let word = word_at(section_bytes, offset - 1);
+                put_word(section_bytes, offset - 1, to_move(word));
+            }
+            RelaxationKind::IndexedToDirect => {
+                let word = word_at(section_bytes, offset - 1);
+                put_word(section_bytes, offset - 1, direct(word));
             }
             RelaxationKind::LdToAddisThread | RelaxationKind::AddiToAddisThread => {
                 let word = word_at(section_bytes, offset);
@@ -494,7 +689,7 @@ impl RelaxationKind {
                 *offset_in_section = offset + 4;
             }
             RelaxationKind::CallToAdd => {
-                put_two(section_bytes, offset, NOP, 0x7c63_6a14);
+                put_two(section_bytes, offset, NOP, ADD_THREAD);
                 *offset_in_section = offset + 4;
             }
             RelaxationKind::CallToAddi4096 => {
@@ -522,48 +717,68 @@ impl RelaxationKind {
         window_is_in(section, offset, self.window())
     }
 
-    /// The bytes that `apply` writes, which begin at the offset: the instruction's 4. For a prefixed
-    /// instruction or a call and its `nop` they are 8, and for `NoOp` and `KeepAddis` none.
+    /// The bytes that `apply` writes: the instruction's 4. For a prefixed instruction or a call and
+    /// its `nop` they are 8, and for `NoOp` and `KeepAddis` none. They begin at the offset, and for
+    /// `AddToMove` and `IndexedToDirect` one byte before it.
     #[inline]
     pub fn window(self) -> RewriteWindow
         ensures { result ≡ window_of_rewrite (ppc64_rewrite self) }
     {
+        let back = match self {
+            RelaxationKind::AddToMove | RelaxationKind::IndexedToDirect => 1,
+            _ => 0,
+        };
         let len = match self {
             RelaxationKind::NoOp | RelaxationKind::KeepAddis => 0,
             RelaxationKind::PldToPaddi
+            | RelaxationKind::PldToPaddiThread
+            | RelaxationKind::PaddiToPaddiThread
+            | RelaxationKind::PaddiToPld
+            | RelaxationKind::PaddiToPaddi4096
             | RelaxationKind::CallToAddi
             | RelaxationKind::CallToAdd
             | RelaxationKind::CallToAddi4096
             | RelaxationKind::NopToRestoreToc => 8,
             _ => 4,
         };
-        RewriteWindow { back: 0, len }
+        RewriteWindow { back, len }
     }
 
     /// Whether the instruction at an offset of a section is one that the rewrite is meant for:
     /// `can_apply`, and the opcodes and registers. `NoOp` is meant for any offset. No instruction
     /// is meant whose base is register 0, which stands for the number 0, nor an access with update,
     /// which changes its base, nor a store of the base itself. What adds register 13 is meant at a
-    /// multiple of 4: behind the first byte of a prefixed instruction stands another mark.
+    /// multiple of 4, and for `AddToMove` and `IndexedToDirect` one byte on, as the ABI places
+    /// `R_PPC64_TLS` of prefixed code.
     #[inline]
     pub fn matches(self, section: &[u8], offset: u64) -> bool
         ensures exactly { IsTrue result ↔ ppc64_matches self section.now offset }
         ensures rewritable { IsTrue result → CanRewrite (ppc64_rewrite self) section.now offset }
     {
-        if let RelaxationKind::NoOp = self {
-            return true;
+        match self {
+            RelaxationKind::NoOp => return true,
+            RelaxationKind::AddToMove => return has_marked_add(section, offset),
+            RelaxationKind::IndexedToDirect => return has_marked_access(section, offset),
+            _ => {}
         }
         if !has_window(section, offset, 0, 4) {
             return false;
         }
         let word = word_at(section, offset);
         match self {
-            RelaxationKind::NoOp => true,
+            RelaxationKind::NoOp | RelaxationKind::AddToMove | RelaxationKind::IndexedToDirect =>
+                true,
             RelaxationKind::AddisToNop | RelaxationKind::KeepAddis => is_addis_over(2, word),
             RelaxationKind::AddisThreadToNop => is_addis_over(13, word),
             RelaxationKind::BaseToToc | RelaxationKind::BaseToThread => is_over_base(word),
             RelaxationKind::LdToAddi => is_ld(word),
-            RelaxationKind::PldToPaddi => has_pld(section, offset),
+            RelaxationKind::PldToPaddi | RelaxationKind::PldToPaddiThread => {
+                has_pld(section, offset)
+            }
+            RelaxationKind::PaddiToPaddiThread
+            | RelaxationKind::PaddiToPld
+            | RelaxationKind::PaddiToPaddi4096 => has_pla(section, offset),
+            RelaxationKind::BranchToNop | RelaxationKind::BranchToAdd => is_bl(word),
             RelaxationKind::LdToAddisThread => is_ld(word) && target(word) != 0,
             RelaxationKind::AddToAddi => offset % 4 == 0 && is_add_of_thread(word),
             RelaxationKind::IndexedToD => offset % 4 == 0 && is_indexed(word),
@@ -578,9 +793,9 @@ impl RelaxationKind {
         }
     }
 
-    /// What happens to the next relocation: it is skipped after `CallToAddi`, `CallToAdd` and
-    /// `CallToAddi4096`, since it is that of the call itself, `R_PPC64_REL24`, which follows
-    /// `R_PPC64_TLSGD` or `R_PPC64_TLSLD`.
+    /// What happens to the next relocation: it is skipped after `CallToAddi`, `CallToAdd`,
+    /// `CallToAddi4096`, `BranchToNop` and `BranchToAdd`, since it is that of the call itself,
+    /// `R_PPC64_REL24` or `R_PPC64_REL24_NOTOC`, which follows `R_PPC64_TLSGD` or `R_PPC64_TLSLD`.
     #[inline]
     pub fn next_modifier(&self) -> RelocationModifier
         ensures { result ≡ ppc64_modifier self.now }
@@ -588,7 +803,9 @@ impl RelaxationKind {
         match self {
             RelaxationKind::CallToAddi
             | RelaxationKind::CallToAdd
-            | RelaxationKind::CallToAddi4096 => RelocationModifier::SkipNextRelocation,
+            | RelaxationKind::CallToAddi4096
+            | RelaxationKind::BranchToNop
+            | RelaxationKind::BranchToAdd => RelocationModifier::SkipNextRelocation,
             _ => RelocationModifier::Normal,
         }
     }
@@ -615,7 +832,9 @@ impl RelaxationKind {
         match self {
             RelaxationKind::CallToAddi
             | RelaxationKind::CallToAdd
-            | RelaxationKind::CallToAddi4096 => Some(0),
+            | RelaxationKind::CallToAddi4096
+            | RelaxationKind::BranchToNop
+            | RelaxationKind::BranchToAdd => Some(0),
             _ => None,
         }
     }

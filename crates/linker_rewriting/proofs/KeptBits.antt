@@ -96,9 +96,9 @@ same_facts output other symbol another small small_too same =
     }
 
 early : (output other : OutputFacts) (symbol another : SymbolFacts)
-    → AreSame output other symbol another → (addend : ℤ)
-    → facts_of output symbol addend ≡ facts_of other another addend
-early output other symbol another is addend =
+    → AreSame output other symbol another → (addend : ℤ) (marked : Bool)
+    → facts_of output symbol addend marked ≡ facts_of other another addend marked
+early output other symbol another is addend marked =
     let e0 = is.is_fixed in let e1 = is.is_executable in let e2 = is.toc in let e3 = is.is_tls_get_addr in let e4 = is.is_undefined_weak in let e5 = is.is_absolute in let e6 = is.is_ifunc in let e7 = is.is_local in cc
 
 placed : (phase : Phase) (addresses : Addresses) (value : Symbol) (offset : ℕ) (addend : ℤ)

@@ -21,7 +21,7 @@ use Rattle.linker_rewriting.specs.Decisions.{IsDecidedAlone}
 use Rattle.linker_rewriting.specs.Facts.{Setting, setting, facts_of, facts_by}
 use Rattle.linker_rewriting.specs.Groups.{IsScopeIn}
 use Rattle.linker_rewriting.specs.Inner.Calls.{is_weak_zero, changes_toc, aarch64_keeps, ppc64_keeps, IsLeft}
-use Rattle.linker_rewriting.specs.Sequences.{is_marked_at}
+use Rattle.linker_rewriting.specs.Sequences.{is_marked_in}
 use Rattle.linker_rewriting.specs.declared.decisions.Decision.TheVariants.{Kept}
 use Rattle.linker_rewriting.specs.declared.facts.OutputFacts.{OutputFacts}
 use Rattle.linker_rewriting.specs.declared.facts.SymbolFacts.{SymbolFacts}
@@ -66,7 +66,7 @@ aarch64_none output symbols addresses values bytes section n r name is_name unch
     name = name;
     named = choice aarch64_kinds.NoOp name;
     is_name = is_name;
-    is_choice = unchanged (facts_of output symbol r.addend) isnt;
+    is_choice = unchanged (facts_of output symbol r.addend marked) isnt;
     kind_is = refl;
     code_is = sym is_name.code_is;
   },
@@ -88,7 +88,7 @@ aarch64_decided : (output : OutputFacts) (symbols : List SymbolFacts) (addresses
     → IsDecidedAlone (setting AArch64 Early output symbols addresses values) kept bytes section n r Kept
 aarch64_decided output symbols addresses values kept bytes section n r scope of keeps =
     let symbol = slice_get symbols r.symbol in
-    let marked = is_marked_at AArch64 bytes n r in
+    let marked = is_marked_in Early AArch64 bytes n r in
     let is_call = eqb r.code (code_of (aarch64_name aarch64.R_AARCH64_CALL26)) in
     let is_jump = eqb r.code (code_of (aarch64_name aarch64.R_AARCH64_JUMP26)) in
     let parts = and_parts (is_call || is_jump) (not (is_weak_zero symbol)) keeps in
@@ -132,7 +132,7 @@ ppc64_none output symbols addresses values bytes section n r name is_name unchan
     name = name;
     named = choice ppc64_kinds.NoOp name;
     is_name = is_name;
-    is_choice = unchanged (facts_of output symbol r.addend) isnt;
+    is_choice = unchanged (facts_of output symbol r.addend marked) isnt;
     kind_is = refl;
     code_is = sym is_name.code_is;
   },
@@ -150,7 +150,7 @@ ppc64_decided : (output : OutputFacts) (symbols : List SymbolFacts) (addresses :
     → IsDecidedAlone (setting Ppc64 Early output symbols addresses values) kept bytes section n r Kept
 ppc64_decided output symbols addresses values kept bytes section n r scope of keeps =
     let symbol = slice_get symbols r.symbol in
-    let marked = is_marked_at Ppc64 bytes n r in
+    let marked = is_marked_in Early Ppc64 bytes n r in
     let is_call = eqb r.code (code_of (ppc64_name ppc64.R_PPC64_REL24)) in
     let parts = and_parts is_call (not (changes_toc symbol)) keeps in
     let isnt = not_held (changes_toc symbol) (parts.1) in

@@ -20,7 +20,7 @@ use Rattle.linker_rewriting.specs.Decisions.{IsDecidedAfter, IsDecidedAlone, IsS
 use Rattle.linker_rewriting.specs.Facts.{Setting, early, facts_of, facts_by, no_addresses}
 use Rattle.linker_rewriting.specs.Groups.{loongarch_scope_in}
 use Rattle.linker_rewriting.specs.Rewritten.{IsLoadAt, IsRewritten, LoadsAreWhole}
-use Rattle.linker_rewriting.specs.Sequences.{IsWhole, is_marked_load, is_marked_at, is_load_at, is_loongarch_part, is_part, is_mark_of, mark_code}
+use Rattle.linker_rewriting.specs.Sequences.{IsWhole, is_marked_load, is_load_at, is_loongarch_part, is_part, is_mark_of, mark_code}
 use Rattle.linker_rewriting.specs.declared.decisions.Decision.{Decision}
 use Rattle.linker_rewriting.specs.declared.facts.OutputFacts.{OutputFacts}
 use Rattle.linker_rewriting.specs.declared.facts.SymbolFacts.{SymbolFacts}
@@ -61,8 +61,8 @@ high_asked section o low =
 -- without marks and addresses both are chosen by the same facts
 alike : (section : List ℕ) (o : ℕ) (output : OutputFacts) (symbol : SymbolFacts) (addend : ℤ)
     (a b : LoongArchChoice)
-    → IsLoongArchChoice r.R_LARCH_GOT_PC_HI20 section o (facts_of output symbol addend) a
-    → IsLoongArchChoice r.R_LARCH_GOT_PC_LO12 section (o + 4) (facts_of output symbol addend) b
+    → IsLoongArchChoice r.R_LARCH_GOT_PC_HI20 section o (facts_of output symbol addend false) a
+    → IsLoongArchChoice r.R_LARCH_GOT_PC_LO12 section (o + 4) (facts_of output symbol addend false) b
     → AreChanged a b ⊎ AreLeft a b
 alike section o output symbol addend a b high low =
     elim high [
@@ -254,11 +254,11 @@ record AreHalves (bytes : List ℕ) (n : ℕ) (high low : Rela) : Type 0 where
 high_alone : (symbols : List SymbolFacts) (bytes section : List ℕ) (n : ℕ) (high low : Rela)
     (output : OutputFacts) (symbol : SymbolFacts) (addend : ℤ) (x : Choice Relaxation ℕ)
     → AreHalves bytes n high low
-    → IsCandidateBy LoongArch64 symbols bytes section n high (facts_of output symbol addend) (Some x)
-    → IsCandidateBy LoongArch64 symbols bytes section (n + 2) low (facts_of output symbol addend) None
+    → IsCandidateBy LoongArch64 symbols bytes section n high (facts_of output symbol addend false) (Some x)
+    → IsCandidateBy LoongArch64 symbols bytes section (n + 2) low (facts_of output symbol addend false) None
     → ⊥
 high_alone symbols bytes section n high low output symbol addend x are a b =
-    let facts : LinkFacts = facts_of output symbol addend in
+    let facts : LinkFacts = facts_of output symbol addend false in
     let p = of_name high.code r.R_LARCH_GOT_PC_HI20 section high.offset facts x tt are.high_code (a.0) in
     let q = of_name low.code r.R_LARCH_GOT_PC_LO12 section low.offset facts (b.0) tt are.low_code (b.1) in
     elim (alike section high.offset output symbol addend p.named q.named p.is_choice
@@ -275,11 +275,11 @@ high_alone symbols bytes section n high low output symbol addend x are a b =
 low_alone : (symbols : List SymbolFacts) (bytes section : List ℕ) (n : ℕ) (high low : Rela)
     (output : OutputFacts) (symbol : SymbolFacts) (addend : ℤ) (y : Choice Relaxation ℕ)
     → AreHalves bytes n high low
-    → IsCandidateBy LoongArch64 symbols bytes section n high (facts_of output symbol addend) None
-    → IsCandidateBy LoongArch64 symbols bytes section (n + 2) low (facts_of output symbol addend) (Some y)
+    → IsCandidateBy LoongArch64 symbols bytes section n high (facts_of output symbol addend false) None
+    → IsCandidateBy LoongArch64 symbols bytes section (n + 2) low (facts_of output symbol addend false) (Some y)
     → ⊥
 low_alone symbols bytes section n high low output symbol addend y are a b =
-    let facts : LinkFacts = facts_of output symbol addend in
+    let facts : LinkFacts = facts_of output symbol addend false in
     let p = of_name high.code r.R_LARCH_GOT_PC_HI20 section high.offset facts (a.0) tt are.high_code (a.1) in
     let q = of_name low.code r.R_LARCH_GOT_PC_LO12 section low.offset facts y tt are.low_code (b.0) in
     elim (alike section high.offset output symbol addend p.named q.named p.is_choice
@@ -301,8 +301,8 @@ AreAlike x y = IsRewritten (decision_of x) ↔ IsRewritten (decision_of y)
 by_facts : (symbols : List SymbolFacts) (bytes section : List ℕ) (n : ℕ) (high low : Rela)
     (output : OutputFacts) (symbol : SymbolFacts) (addend : ℤ) (x y : Option (Choice Relaxation ℕ))
     → AreHalves bytes n high low
-    → IsCandidateBy LoongArch64 symbols bytes section n high (facts_of output symbol addend) x
-    → IsCandidateBy LoongArch64 symbols bytes section (n + 2) low (facts_of output symbol addend) y
+    → IsCandidateBy LoongArch64 symbols bytes section n high (facts_of output symbol addend false) x
+    → IsCandidateBy LoongArch64 symbols bytes section (n + 2) low (facts_of output symbol addend false) y
     → AreAlike x y
 by_facts symbols bytes section n high low output symbol addend None None are a b = (λ h. h, λ h. h)
 by_facts symbols bytes section n high low output symbol addend (Some x) (Some y) are a b = (λ h. tt, λ h. tt)
@@ -312,20 +312,20 @@ by_facts symbols bytes section n high low output symbol addend None (Some y) are
     absurd (low_alone symbols bytes section n high low output symbol addend y are a b)
 
 by_symbol : (output : OutputFacts) (symbols : List SymbolFacts) (bytes section : List ℕ) (n : ℕ)
-    (high low : Rela) (marked too : Bool) (entry : Option SymbolFacts)
+    (high low : Rela) (entry : Option SymbolFacts)
     (x y : Option (Choice Relaxation ℕ)) → AreHalves bytes n high low → low.addend ≡ high.addend
     → IsCandidateWith (early LoongArch64 output symbols) bytes section n high
-    (facts_by Early output no_addresses [] high high marked entry) x
+    (facts_by Early output no_addresses [] high high false entry) x
     → IsCandidateWith (early LoongArch64 output symbols) bytes section (n + 2) low
-    (facts_by Early output no_addresses [] low low too entry) y
+    (facts_by Early output no_addresses [] low low false entry) y
     → AreAlike x y
-by_symbol output symbols bytes section n high low marked too None x y are addend a b =
+by_symbol output symbols bytes section n high low None x y are addend a b =
     let is : x ≡ None = a in
     let is_too : y ≡ None = b in
     subst (λ z. AreAlike z y) (sym is) (subst (AreAlike None) (sym is_too) (λ h. h, λ h. h))
-by_symbol output symbols bytes section n high low marked too (Some symbol) x y are addend a b =
+by_symbol output symbols bytes section n high low (Some symbol) x y are addend a b =
     by_facts symbols bytes section n high low output symbol high.addend x y are a
-    (subst (λ z. IsCandidateBy LoongArch64 symbols bytes section (n + 2) low (facts_of output symbol z) y) addend b)
+    (subst (λ z. IsCandidateBy LoongArch64 symbols bytes section (n + 2) low (facts_of output symbol z false) y) addend b)
 
 -- ---- decisions
 
@@ -380,10 +380,9 @@ loads_are_whole output symbols kept bytes section decisions limit n decided with
         sym (low_place bytes n load),
       );
     } in
-    let both = by_symbol output symbols bytes section n high low (is_marked_at LoongArch64 bytes n high)
-    (is_marked_at LoongArch64 bytes (n + 2) low) (slice_get symbols high.symbol) a.candidate b.candidate are
+    let both = by_symbol output symbols bytes section n high low (slice_get symbols high.symbol) a.candidate b.candidate are
     load.low.addend_is a.is_candidate
-    (subst (λ z. IsCandidateWith s bytes section (n + 2) low (facts_by Early output no_addresses [] low low (is_marked_at LoongArch64 bytes (n + 2) low) (slice_get symbols z)) b.candidate)
+    (subst (λ z. IsCandidateWith s bytes section (n + 2) low (facts_by Early output no_addresses [] low low false (slice_get symbols z)) b.candidate)
     load.low.symbol_is b.is_candidate) in
     subst (λ d. IsRewritten d ↔ IsRewritten (decision_at decisions (n + 2))) (sym a.decided)
     (subst (λ d. IsRewritten (decision_of a.candidate) ↔ IsRewritten d) (sym b.decided) both)

@@ -39,7 +39,7 @@ use Rattle.linker_utils.specs.declared.architecture.Relaxation.{Relaxation}
 use Rattle.linker_utils.specs.declared.architecture.Relaxation.TheVariants as relaxations
 use Rattle.linker_rewriting.specs.Candidates.{IsCallIn, IsTaken, IsCandidate, IsCandidateBy, IsCandidateWith, IsMatched, at_base, calls_tls_get_addr, deletes_within}
 use Rattle.linker_rewriting.specs.Facts.{Setting, link_facts}
-use Rattle.linker_rewriting.specs.Sequences.{IsWhole, place_in, place_in_load, is_whole_at, is_load_at, is_marked_at}
+use Rattle.linker_rewriting.specs.Sequences.{IsWhole, place_in, place_in_load, is_whole_at, is_load_at, is_marked_in}
 use Rattle.linker_rewriting.specs.declared.facts.SymbolFacts.{SymbolFacts}
 use Rattle.linker_section.specs.Relocations.{relocation_at, relocation_in}
 use Rattle.linker_section.specs.declared.relocations.Rela.{Rela}
@@ -311,7 +311,7 @@ pub no_other : (s : Setting) (bytes section : List ℕ) (n : ℕ) (r : Rela)
     → IsCandidate s bytes section n r None → ⊥
 no_other s bytes section n r x a b =
     not_both_with s bytes section n r
-    (link_facts s.phase s.output s.symbols s.addresses s.values r r (is_marked_at s.architecture bytes n r))
+    (link_facts s.phase s.output s.symbols s.addresses s.values r r (is_marked_in s.phase s.architecture bytes n r))
     x a b
 
 pub one_candidate_with : (s : Setting) (bytes section : List ℕ) (n : ℕ) (r : Rela)
@@ -332,7 +332,7 @@ pub one_candidate : (s : Setting) (bytes section : List ℕ) (n : ℕ) (r : Rela
     → IsCandidate s bytes section n r y → x ≡ y
 one_candidate s bytes section n r x y a b =
     one_candidate_with s bytes section n r
-    (link_facts s.phase s.output s.symbols s.addresses s.values r r (is_marked_at s.architecture bytes n r))
+    (link_facts s.phase s.output s.symbols s.addresses s.values r r (is_marked_in s.phase s.architecture bytes n r))
     x y a b
 
 pub one_matched : (s : Setting) (bytes section : List ℕ) (n : ℕ) (r : Rela) (x y : Bool)
@@ -340,7 +340,7 @@ pub one_matched : (s : Setting) (bytes section : List ℕ) (n : ℕ) (r : Rela) 
 one_matched s bytes section n r x y a b =
     a.2
     ∙ (ap is_some (one_candidate_with s bytes section n r
-    (at_base (link_facts s.phase s.output s.symbols s.addresses s.values r r (is_marked_at s.architecture bytes n r)))
+    (at_base (link_facts s.phase s.output s.symbols s.addresses s.values r r (is_marked_in s.phase s.architecture bytes n r)))
     (a.0) (b.0) (a.1) (b.1)) ∙ sym (b.2))
 
 -- ---- marks of PowerPC64's calls

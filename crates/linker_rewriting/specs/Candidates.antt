@@ -5,7 +5,7 @@ use Rattle.linker_base.specs.declared.rewrite.DeletedBytes.{DeletedBytes}
 use Rattle.linker_elf.specs.declared.elf.choice.Choice.{Choice}
 use Rattle.linker_elf.specs.declared.elf.choice.LinkFacts.{LinkFacts}
 use Rattle.linker_rewriting.specs.Facts.{Setting, link_facts}
-use Rattle.linker_rewriting.specs.Sequences.{IsWhole, is_marked_at}
+use Rattle.linker_rewriting.specs.Sequences.{IsWhole, is_marked_in}
 use Rattle.linker_rewriting.specs.declared.facts.SymbolFacts.{SymbolFacts}
 use Rattle.linker_section.specs.Relocations.{relocation_at}
 use Rattle.linker_section.specs.declared.relocations.Rela.{Rela}
@@ -71,7 +71,7 @@ abbrev pub IsCandidate : Setting → List ℕ → List ℕ → ℕ → Rela
 IsCandidate s bytes section n r candidate =
     IsCandidateWith s bytes section n r
     (link_facts s.phase s.output s.symbols s.addresses s.values r r
-    (is_marked_at s.architecture bytes n r)) candidate
+    (is_marked_in s.phase s.architecture bytes n r)) candidate
 
 -- the same facts of what is where the GOT's or the TOC's base is, at the distance 0
 abbrev pub at_base : Option LinkFacts → Option LinkFacts
@@ -87,5 +87,5 @@ IsMatched s bytes section n r matched =
     (candidate : Option (Choice Relaxation ℕ))
     × IsCandidateWith s bytes section n r
     (at_base (link_facts s.phase s.output s.symbols s.addresses s.values r r
-    (is_marked_at s.architecture bytes n r))) candidate
+    (is_marked_in s.phase s.architecture bytes n r))) candidate
     × (matched ≡ is_some candidate)

@@ -30,8 +30,8 @@ may_change_toc symbol = symbol.is_ifunc || is_imported symbol || (symbol.other /
 
 -- The facts of a relocation with an addend, where each other one of its group can be rewritten. No
 -- address is known, and what only a rewrite by addresses reads is left out.
-abbrev pub facts_of : OutputFacts → SymbolFacts → ℤ → LinkFacts
-facts_of output symbol addend =
+abbrev pub facts_of : OutputFacts → SymbolFacts → ℤ → Bool → LinkFacts
+facts_of output symbol addend marked =
     record {
       is_local = symbol.is_local;
       is_ifunc = symbol.is_ifunc;
@@ -41,7 +41,7 @@ facts_of output symbol addend =
       is_executable = output.is_executable;
       has_local_exec_base = true;
       may_compress = false;
-      is_relaxable = false;
+      is_relaxable = marked;
       has_got_high_part = false;
       is_label_relaxable = false;
       toc_base_is_exclusive = false;
@@ -151,7 +151,7 @@ facts_with phase output addresses r subject marked symbol (Some value) =
 abbrev pub facts_at : Phase → OutputFacts → Addresses → List Symbol → Rela → Rela → Bool
     → SymbolFacts → Option LinkFacts
 facts_at Early output addresses values r subject marked symbol =
-    Some (facts_of output symbol subject.addend)
+    Some (facts_of output symbol subject.addend marked)
 facts_at phase output addresses values r subject marked symbol =
     facts_with phase output addresses r subject marked symbol (slice_get values subject.symbol)
 

@@ -81,7 +81,8 @@ IsRejectedOrChanged architecture addresses bytes symbols section (Section error)
 
 -- what choices read of a symbol, in every phase
 pub record AreReadAlike (output other : OutputFacts) (symbol another : SymbolFacts) : Type 0 where
-  pub early : (addend : ℤ) → facts_of output symbol addend ≡ facts_of other another addend
+  pub early : (addend : ℤ) (marked : Bool)
+      → facts_of output symbol addend marked ≡ facts_of other another addend marked
   pub placed : (phase : Phase) (addresses : Addresses) (value : Symbol) (offset : ℕ) (addend : ℤ)
       (marked : Bool) → placed_facts phase output addresses symbol value offset addend marked
       ≡ placed_facts phase other addresses another value offset addend marked

@@ -9,12 +9,16 @@ use Rattle.std.specs.Ordering.{int_eq}
 use Rattle.linker_elf.specs.AArch64Relocations.{aarch64_name}
 use Rattle.linker_elf.specs.ElfNames.{code_of}
 use Rattle.linker_elf.specs.LoongArchRelocations.{loongarch_name}
+use Rattle.linker_elf.specs.Ppc64Relocations.{ppc64_name}
 use Rattle.linker_elf.specs.RiscVRelocations.{riscv_name}
 use Rattle.linker_elf.specs.declared.aarch64.relocations.AArch64Relocation.{AArch64Relocation}
 use Rattle.linker_elf.specs.declared.aarch64.relocations.AArch64Relocation.TheVariants as aarch64
 use Rattle.linker_elf.specs.declared.loongarch64.relocations.LoongArch64Relocation.{LoongArch64Relocation}
 use Rattle.linker_elf.specs.declared.loongarch64.relocations.LoongArch64Relocation.TheVariants as loongarch64
+use Rattle.linker_elf.specs.declared.ppc64.relocations.Ppc64Relocation.TheVariants as ppc64
 use Rattle.linker_elf.specs.declared.riscv64.relocations.RiscVRelocation.TheVariants as riscv64
+use Rattle.linker_rewriting.specs.declared.phases.Phase.{Phase}
+use Rattle.linker_rewriting.specs.declared.phases.Phase.TheVariants.{Early}
 use Rattle.linker_rewriting.specs.declared.sequences.Sequence.{Sequence}
 use Rattle.linker_rewriting.specs.declared.sequences.Sequence.TheVariants.{Descriptor, EntryLoad}
 use Rattle.linker_rewriting.specs.declared.sequences.Sequence.TheVariants.{PageAndOffset}
@@ -23,6 +27,7 @@ use Rattle.linker_section.specs.declared.relocations.Rela.{Rela}
 use Rattle.linker_utils.specs.Architectures.{IsOf}
 use Rattle.linker_utils.specs.declared.elf.Architecture.{Architecture}
 use Rattle.linker_utils.specs.declared.elf.Architecture.TheVariants.{AArch64, RiscV, LoongArch64}
+use Rattle.linker_utils.specs.declared.elf.Architecture.TheVariants.{Ppc64}
 
 -- ---- marks
 
@@ -43,6 +48,17 @@ is_mark_of (Some code) offset distance (Some r) =
 abbrev pub is_marked_at : Architecture → List ℕ → ℕ → Rela → Bool
 is_marked_at architecture bytes n r =
     is_mark_of (mark_code architecture) r.offset 0 (relocation_at bytes (n + 1))
+
+-- What is marked in a phase. Before addresses are known it is a call of PowerPC64's prefixed code:
+-- behind the mark of a call, and at the same offset, its own relocation is R_PPC64_REL24_NOTOC.
+abbrev pub mark_code_in : Phase → Architecture → Option ℕ
+mark_code_in Early Ppc64 = Some (code_of (ppc64_name ppc64.R_PPC64_REL24_NOTOC))
+mark_code_in Early architecture = None
+mark_code_in phase architecture = mark_code architecture
+
+abbrev pub is_marked_in : Phase → Architecture → List ℕ → ℕ → Rela → Bool
+is_marked_in phase architecture bytes n r =
+    is_mark_of (mark_code_in phase architecture) r.offset 0 (relocation_at bytes (n + 1))
 
 -- ---- sequences of AArch64
 

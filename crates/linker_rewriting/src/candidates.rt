@@ -12,7 +12,7 @@ ghost use Rattle.linker_rewriting.specs.Facts.{setting};
 
 use crate::facts::{OutputFacts, SymbolFacts, link_facts};
 use crate::phases::Phase;
-use crate::sequences::{is_marked_at, is_whole};
+use crate::sequences::{is_marked_in, is_whole};
 use linker_base::rewrite::DeletedBytes;
 use linker_section::facts::{Addresses, Symbol};
 use linker_section::relocations::{Rela, relocation_at};
@@ -156,7 +156,7 @@ pub(crate) fn candidate(
     ensures deletes { IfSome result (λ chosen. deletes_within section.now relocation.now.offset
         (relaxation_deleted chosen.kind) ≡ true) }
 {
-    let marked = is_marked_at(architecture, relocations, index, relocation);
+    let marked = is_marked_in(phase, architecture, relocations, index, relocation);
     let facts = link_facts(
         phase, output, symbols, addresses, values, relocation, relocation, marked,
     );
@@ -211,7 +211,7 @@ pub(crate) fn is_matched(
     ensures { IsMatched (setting architecture phase output.now symbols.now addresses.now values.now)
         relocations.now section.now index relocation.now result }
 {
-    let marked = is_marked_at(architecture, relocations, index, relocation);
+    let marked = is_marked_in(phase, architecture, relocations, index, relocation);
     let facts = link_facts(
         phase, output, symbols, addresses, values, relocation, relocation, marked,
     );

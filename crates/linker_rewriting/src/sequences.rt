@@ -4,13 +4,16 @@ ghost use Rattle.std.specs.Prelude.{◌≡◌, ◌+◌, ◌≤◌, IfSome};
 ghost use Rattle.linker_rewriting.specs.Sequences.{place_in, is_part, is_aarch64_part, is_pair};
 ghost use Rattle.linker_rewriting.specs.Sequences.{is_descriptor, is_all, is_whole_at, IsWhole};
 ghost use Rattle.linker_rewriting.specs.Sequences.{mark_code, is_mark_of, is_marked_at};
+ghost use Rattle.linker_rewriting.specs.Sequences.{mark_code_in, is_marked_in};
 ghost use Rattle.linker_rewriting.specs.Sequences.{place_in_load, is_loongarch_part};
 ghost use Rattle.linker_rewriting.specs.Sequences.{is_marked_load, is_load_at};
 
+use crate::phases::Phase;
 use linker_section::relocations::{Rela, relocation_at};
 use linker_utils::aarch64::AArch64Relocation;
 use linker_utils::elf::Architecture;
 use linker_utils::loongarch64::LoongArch64Relocation;
+use linker_utils::ppc64::Ppc64Relocation;
 use linker_utils::riscv64::RiscVRelocation;
 
 /// A sequence of AArch64 whose relocations are next to each other.
@@ -63,6 +66,38 @@ pub(crate) fn is_marked_at(
 {
     let next = relocation_at(relocations, index + 1);
     is_mark_of(mark_code(architecture), relocation.offset, 0, next)
+}
+
+/// The code of what is marked in a phase: before addresses are known a call of PowerPC64's prefixed
+/// code, whose own relocation stands behind its mark.
+#[inline(always)]
+fn mark_code_in(phase: Phase, architecture: Architecture) -> Option<u32>
+    ensures { result ≡ mark_code_in phase architecture }
+{
+    match (phase, architecture) {
+        (Phase::Early, Architecture::Ppc64) => {
+            Some(Ppc64Relocation::R_PPC64_REL24_NOTOC.elf_code())
+        }
+        (Phase::Early, _) => None,
+        _ => mark_code(architecture),
+    }
+}
+
+/// Whether what is marked in a phase stands behind a relocation with an index.
+#[inline(always)]
+pub(crate) fn is_marked_in(
+    phase: Phase,
+    architecture: Architecture,
+    relocations: &[u8],
+    index: usize,
+    relocation: &Rela,
+) -> bool
+    requires { index + 1 ≤ usize.MAX }
+    ensures { result ≡ is_marked_in phase architecture relocations.now index relocation.now }
+{
+    let next = relocation_at(relocations, index + 1);
+    let code = mark_code_in(phase, architecture);
+    is_mark_of(code, relocation.offset, 0, next)
 }
 
 /// The sequence that a relocation of AArch64 is of, and its place there.

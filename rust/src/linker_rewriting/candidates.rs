@@ -3,7 +3,7 @@
 
 use crate::linker_rewriting::facts::{OutputFacts, SymbolFacts, link_facts};
 use crate::linker_rewriting::phases::Phase;
-use crate::linker_rewriting::sequences::{is_marked_at, is_whole};
+use crate::linker_rewriting::sequences::{is_marked_in, is_whole};
 use crate::linker_base::rewrite::DeletedBytes;
 use crate::linker_section::facts::{Addresses, Symbol};
 use crate::linker_section::relocations::{Rela, relocation_at};
@@ -121,7 +121,7 @@ pub(crate) fn candidate(
     index: usize,
     relocation: &Rela,
 ) -> Option<Choice<Relaxation, u32>> {
-    let marked = is_marked_at(architecture, relocations, index, relocation);
+    let marked = is_marked_in(phase, architecture, relocations, index, relocation);
     let facts = link_facts(
         phase, output, symbols, addresses, values, relocation, relocation, marked,
     );
@@ -170,7 +170,7 @@ pub(crate) fn is_matched(
     index: usize,
     relocation: &Rela,
 ) -> bool {
-    let marked = is_marked_at(architecture, relocations, index, relocation);
+    let marked = is_marked_in(phase, architecture, relocations, index, relocation);
     let facts = link_facts(
         phase, output, symbols, addresses, values, relocation, relocation, marked,
     );

@@ -60,7 +60,12 @@ pub(crate) fn may_change_toc(symbol: &SymbolFacts) -> bool {
 /// What `choose` reads of a relocation of a symbol before addresses are known, where each other
 /// relocation of its group can be rewritten, as `facts_of` says.
 #[inline(always)]
-pub(crate) fn facts_of(output: &OutputFacts, symbol: &SymbolFacts, addend: i64) -> LinkFacts {
+pub(crate) fn facts_of(
+    output: &OutputFacts,
+    symbol: &SymbolFacts,
+    addend: i64,
+    marked: bool,
+) -> LinkFacts {
     let has_own_address = has_own_address(symbol);
     LinkFacts {
         is_local: symbol.is_local,
@@ -71,7 +76,7 @@ pub(crate) fn facts_of(output: &OutputFacts, symbol: &SymbolFacts, addend: i64) 
         is_executable: output.is_executable,
         has_local_exec_base: true,
         may_compress: false,
-        is_relaxable: false,
+        is_relaxable: marked,
         has_got_high_part: false,
         is_label_relaxable: false,
         toc_base_is_exclusive: false,
@@ -170,7 +175,7 @@ fn facts_at(
     symbol: &SymbolFacts,
 ) -> Option<LinkFacts> {
     match phase {
-        Phase::Early => Some(facts_of(output, symbol, subject.addend)),
+        Phase::Early => Some(facts_of(output, symbol, subject.addend, marked)),
         _ => match values.get(subject.symbol as usize) {
             Some(value) => Some(placed_facts(
                 phase,

@@ -1,10 +1,12 @@
 // Made by tools/erase of crates/linker_rewriting/src/sequences.rt.
 //! Sequences whose relocations are next to each other, and marks of what may be relaxed.
 
+use crate::linker_rewriting::phases::Phase;
 use crate::linker_section::relocations::{Rela, relocation_at};
 use crate::aarch64::AArch64Relocation;
 use crate::elf::Architecture;
 use crate::loongarch64::LoongArch64Relocation;
+use crate::ppc64::Ppc64Relocation;
 use crate::riscv64::RiscVRelocation;
 
 /// A sequence of AArch64 whose relocations are next to each other.
@@ -50,6 +52,33 @@ pub(crate) fn is_marked_at(
 ) -> bool {
     let next = relocation_at(relocations, index + 1);
     is_mark_of(mark_code(architecture), relocation.offset, 0, next)
+}
+
+/// The code of what is marked in a phase: before addresses are known a call of PowerPC64's prefixed
+/// code, whose own relocation stands behind its mark.
+#[inline(always)]
+fn mark_code_in(phase: Phase, architecture: Architecture) -> Option<u32> {
+    match (phase, architecture) {
+        (Phase::Early, Architecture::Ppc64) => {
+            Some(Ppc64Relocation::R_PPC64_REL24_NOTOC.elf_code())
+        }
+        (Phase::Early, _) => None,
+        _ => mark_code(architecture),
+    }
+}
+
+/// Whether what is marked in a phase stands behind a relocation with an index.
+#[inline(always)]
+pub(crate) fn is_marked_in(
+    phase: Phase,
+    architecture: Architecture,
+    relocations: &[u8],
+    index: usize,
+    relocation: &Rela,
+) -> bool {
+    let next = relocation_at(relocations, index + 1);
+    let code = mark_code_in(phase, architecture);
+    is_mark_of(code, relocation.offset, 0, next)
 }
 
 /// The sequence that a relocation of AArch64 is of, and its place there.

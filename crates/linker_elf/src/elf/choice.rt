@@ -31,7 +31,9 @@ pub struct LinkFacts {
     pub has_local_exec_base: bool,
     /// The code may use instructions of the C extension (`EF_RISCV_RVC`).
     pub may_compress: bool,
-    /// The relocation may be relaxed: `R_RISCV_RELAX` or `R_LARCH_RELAX` is at the same offset.
+    /// The relocation may be relaxed: `R_RISCV_RELAX` or `R_LARCH_RELAX` is at the same offset. Of
+    /// PowerPC64's `R_PPC64_TLSGD` and `R_PPC64_TLSLD` it says that `R_PPC64_REL24_NOTOC` is there:
+    /// the call that they mark is one of prefixed code.
     pub is_relaxable: bool,
     /// The high part whose label an `R_RISCV_PCREL_LO12_I` names has `R_RISCV_GOT_HI20`.
     pub has_got_high_part: bool,

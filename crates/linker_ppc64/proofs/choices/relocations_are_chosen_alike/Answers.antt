@@ -1,4 +1,4 @@
-use Rattle.linker_ppc64.proofs.Ppc64Alike.{toc_pairs, thread_pairs, got_pair, initial_exec_pair, general_dynamic, local_dynamic}
+use Rattle.linker_ppc64.proofs.Ppc64Alike.{toc_pairs, thread_pairs, got_pair, initial_exec_pair, prefixed_initial_exec, general_dynamic, local_dynamic}
 use Rattle.linker_ppc64.proofs.choices.relocations_are_chosen_alike.Goals as goal
 
 pub returns-clause-toc : goal.returns-clause-toc
@@ -12,6 +12,9 @@ returns-clause-got c = got_pair
 
 pub returns-clause-initial_exec : goal.returns-clause-initial_exec
 returns-clause-initial_exec c = initial_exec_pair
+
+pub returns-clause-prefixed : goal.returns-clause-prefixed
+returns-clause-prefixed c = prefixed_initial_exec
 
 pub returns-clause-general_dynamic : goal.returns-clause-general_dynamic
 returns-clause-general_dynamic c = general_dynamic

@@ -40,7 +40,8 @@ fn chosen_for(
     choose(name, &[a, b, c, d, e, f, g, h], 0, facts)
 }
 
-/// Rewrites two words, writes the value, and returns the choice and the words.
+/// Rewrites two words, writes the value, and returns the choice and the words. The offset is that
+/// of the second byte where the place is.
 fn linked(
     name: Ppc64Relocation,
     words: [u32; 2],
@@ -49,8 +50,8 @@ fn linked(
     let [a, b, c, d] = words[0].to_le_bytes();
     let [e, f, g, h] = words[1].to_le_bytes();
     let mut section = [a, b, c, d, e, f, g, h];
-    let chosen = choose(name, &section[..], 0, facts);
-    let (mut offset, mut addend) = (0, facts.operands.addend);
+    let (mut offset, mut addend) = (facts.operands.place % 4, facts.operands.addend);
+    let chosen = choose(name, &section[..], offset, facts);
     chosen.kind.apply(&mut section[..], &mut offset, &mut addend);
     assert!(offset <= 4);
     let row = row(chosen.relocation).expect("a row");
@@ -428,7 +429,7 @@ fn other_instructions_stay() {
 }
 
 /// The relocations of thread-local sequences, each with two words where it is rewritten.
-const OF_SEQUENCES: [(Ppc64Relocation, [u32; 2]); 15] = [
+const OF_SEQUENCES: [(Ppc64Relocation, [u32; 2]); 18] = [
     (Ppc64Relocation::R_PPC64_TPREL16_HA, [0x3d2d_0000, 0]),
     (Ppc64Relocation::R_PPC64_TPREL16_LO, [0x3869_0000, 0]),
     (Ppc64Relocation::R_PPC64_TPREL16_LO_DS, [0xe869_0000, 0]),
@@ -444,6 +445,9 @@ const OF_SEQUENCES: [(Ppc64Relocation, [u32; 2]); 15] = [
     (Ppc64Relocation::R_PPC64_GOT_TLSLD16_LO, [0x3869_0000, 0]),
     (Ppc64Relocation::R_PPC64_GOT_TLSLD16, [0x3862_0000, 0]),
     (Ppc64Relocation::R_PPC64_TLSLD, CALL),
+    (Ppc64Relocation::R_PPC64_GOT_TPREL_PCREL34, [0x0410_0000, 0xe520_0000]),
+    (Ppc64Relocation::R_PPC64_GOT_TLSGD_PCREL34, [0x0610_0000, 0x3860_0000]),
+    (Ppc64Relocation::R_PPC64_GOT_TLSLD_PCREL34, [0x0610_0000, 0x3860_0000]),
 ];
 
 #[test]
@@ -470,8 +474,8 @@ fn sequences_are_rewritten_whole() {
         );
         assert!(chosen_for(name, [word, 0], &apart).is_unchanged(name), "{name:?}");
     }
-    // those of prefixed instructions, those of calls through the PLT, and the high halves without
-    // `@ha`, have no rewrites: `addis 12,2`, `ld 12,0(12)`, `mtctr 12` and `bctrl`
+    // those of calls through the PLT, and the high halves without `@ha`, have no rewrites:
+    // `addis 12,2`, `ld 12,0(12)`, `mtctr 12` and `bctrl`
     for (name, word) in [
         (Ppc64Relocation::R_PPC64_PLT16_HA, 0x3d82_0000),
         (Ppc64Relocation::R_PPC64_PLT16_LO_DS, 0xe98c_0000),
@@ -485,24 +489,77 @@ fn sequences_are_rewritten_whole() {
     for name in [
         Ppc64Relocation::R_PPC64_PLT_PCREL34,
         Ppc64Relocation::R_PPC64_PLT_PCREL34_NOTOC,
-        Ppc64Relocation::R_PPC64_GOT_TPREL_PCREL34,
-        Ppc64Relocation::R_PPC64_GOT_TLSGD_PCREL34,
-        Ppc64Relocation::R_PPC64_GOT_TLSLD_PCREL34,
         Ppc64Relocation::R_PPC64_GOT_TPREL16_HI,
     ] {
         assert!(chosen_for(name, [0x0410_0000, 0xe460_0000], &own()).is_unchanged(name));
     }
 }
 
-/// Behind a `pld` the mark of `add 3,9,13` is at its second byte, even where `add 3,9,13` can be read
-/// there too.
+/// `paddi 31,0,0,1` and `pld 31,0,1`, and a `paddi` that isn't relative to the instruction, a `pld` over
+/// a register, and each in the place of the other.
 #[test]
-fn marks_of_prefixed_sequences_stay() {
+fn prefixed_instructions_keep_their_register() {
+    let elsewhere = LinkFacts { is_local: false, ..own() };
+    for (name, facts, before, after) in [
+        (148, own(), [0x0610_0000, 0x3be0_0000], Some([0x0603_ffff, 0x3bed_9018])),
+        (148, elsewhere, [0x0610_0000, 0x3be0_0000], Some([0x0410_0001, 0xe7e0_0100])),
+        (149, own(), [0x0610_0000, 0x3be0_0000], Some([0x0600_0000, 0x3bed_1000])),
+        (150, own(), [0x0410_0000, 0xe7e0_0000], Some([0x0603_ffff, 0x3bed_9018])),
+        (148, own(), [0x0600_0000, 0x3be0_0000], None),
+        (148, own(), [0x0610_0000, 0x3be3_0000], None),
+        (148, own(), [0x0410_0000, 0xe7e0_0000], None),
+        (149, own(), [0x0600_0000, 0x3be0_0000], None),
+        (150, own(), [0x0400_0000, 0xe7e0_0000], None),
+        (150, own(), [0x0410_0000, 0xe7e3_0000], None),
+        (150, own(), [0x0610_0000, 0x3be0_0000], None),
+    ] {
+        let name = Ppc64Relocation::from_elf(name);
+        match after {
+            Some(after) => assert_eq!(linked(name, before, &facts).1, after, "{name:?}"),
+            None => assert!(chosen_for(name, before, &facts).is_unchanged(name), "{before:x?}"),
+        }
+    }
+}
+
+/// Of prefixed code the mark of `add 3,9,13` is at its second byte, even where `add 3,9,13` can be read
+/// there too, and that of TOC code at its first.
+#[test]
+fn marks_of_prefixed_code_are_at_the_second_byte() {
     let name = Ppc64Relocation::R_PPC64_TLS;
     let [a, b, c, d] = 0x7c69_6a14u32.to_le_bytes();
     let section = [a, b, c, d, 0, a, b, c, d];
-    assert!(!choose(name, &section, 0, &own()).is_unchanged(name));
-    assert!(choose(name, &section, 5, &own()).is_unchanged(name));
+    let at = |offset| choose(name, &section, offset, &own()).kind;
+    assert_eq!(at(0), RelaxationKind::AddToAddi);
+    assert_eq!(at(1), RelaxationKind::AddToMove);
+    for offset in [2, 3, 4, 5, 6] {
+        assert_eq!(at(offset), RelaxationKind::NoOp, "{offset}");
+    }
+}
+
+/// `bl` and `nop` with the mark of a call: the `nop` is of the call only where that has `R_PPC64_REL24`.
+#[test]
+fn calls_are_distinguished_by_their_relocation() {
+    let facts = |is_relaxable, is_local| LinkFacts { is_relaxable, is_local, ..own() };
+    for (name, facts, kind) in [
+        (Ppc64Relocation::R_PPC64_TLSGD, facts(false, true), RelaxationKind::CallToAddi),
+        (Ppc64Relocation::R_PPC64_TLSGD, facts(false, false), RelaxationKind::CallToAdd),
+        (Ppc64Relocation::R_PPC64_TLSGD, facts(true, true), RelaxationKind::BranchToNop),
+        (Ppc64Relocation::R_PPC64_TLSGD, facts(true, false), RelaxationKind::BranchToAdd),
+        (Ppc64Relocation::R_PPC64_TLSLD, facts(false, true), RelaxationKind::CallToAddi4096),
+        (Ppc64Relocation::R_PPC64_TLSLD, facts(true, true), RelaxationKind::BranchToNop),
+    ] {
+        assert_eq!(chosen_for(name, CALL, &facts).kind, kind);
+        let apart = LinkFacts { group_fits: false, ..facts };
+        assert!(chosen_for(name, CALL, &apart).is_unchanged(name));
+        let library = LinkFacts { is_executable: false, ..facts };
+        assert!(chosen_for(name, CALL, &library).is_unchanged(name));
+    }
+    // `bl` before another instruction, and `b`
+    let name = Ppc64Relocation::R_PPC64_TLSGD;
+    let kind = |words, is_relaxable| chosen_for(name, words, &facts(is_relaxable, true)).kind;
+    assert_eq!(kind([0x4800_0001, 0x3821_0020], true), RelaxationKind::BranchToNop);
+    assert_eq!(kind([0x4800_0001, 0x3821_0020], false), RelaxationKind::NoOp);
+    assert_eq!(kind([0x4800_0000, 0x6000_0000], true), RelaxationKind::NoOp);
 }
 
 /// The two words of eight bytes.
@@ -518,11 +575,14 @@ fn words_match_linkers() {
         let name = Ppc64Relocation::from_elf(r_type);
         let is_in_module = matches!(
             name,
-            Ppc64Relocation::R_PPC64_DTPREL16_LO | Ppc64Relocation::R_PPC64_DTPREL16_HA
+            Ppc64Relocation::R_PPC64_DTPREL16_LO
+                | Ppc64Relocation::R_PPC64_DTPREL16_HA
+                | Ppc64Relocation::R_PPC64_DTPREL34
         );
         let facts = LinkFacts {
-            is_local: flags == 1,
-            may_change_toc: flags == 2,
+            is_local: flags & 1 != 0,
+            may_change_toc: flags & 2 != 0,
+            is_relaxable: flags & 4 != 0,
             has_fixed_distance: true,
             is_executable: true,
             toc_base_is_exclusive: true,
