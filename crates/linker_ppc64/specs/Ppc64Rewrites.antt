@@ -1,7 +1,8 @@
 -- What the rewrites of PowerPC64 leave (64-bit ELF V2 ABI for Power, "TLS Linkage Optimizations"
 -- and "TOC Optimizations"; Power ISA, "Instruction Formats"). Bits are numbered from the lowest, 0.
 use Rattle.std.specs.Prelude.{ℕ, ◌+◌, ◌-◌, ◌*◌, ◌^◌, ◌==◌, if◌then◌else◌, List, [], ◌∷◌, drop}
-use Rattle.std.specs.Prelude.{Option, None, Some, true, Bool, ◌&&◌, ◌||◌, not, nat_lt, IsTrue, ⊤, ◌%◌, ◌≡◌}
+use Rattle.std.specs.Prelude.{Option, None, Some, true, Bool, ◌&&◌, ◌||◌, not, nat_lt, IsTrue}
+use Rattle.std.specs.Prelude.{⊤, ◌%◌, ◌≡◌}
 use Rattle.std.specs.Prelude.{◌⊎◌, ◌++◌, false, ℤ, pos}
 use Rattle.std.specs.Int.{w32, w64, from_le_bytes, to_le_bytes}
 use Rattle.linker_base.specs.Bits.{field}
