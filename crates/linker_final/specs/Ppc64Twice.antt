@@ -227,7 +227,7 @@ CallIsAlikeTwice l m i o =
     IsRewrittenByNoOther m i (offset_of l i) → IsLeft m (offset_of l i) → (own : ℕ)
     → IsAppliedAt names.R_PPC64_TPREL16 own o m (offset_of m i) → CallDoesTheSame l m i o
 
--- each call that the first phase makes local-exec, where its low half can be applied between
+-- each that the first call of rewriting makes local-exec, where its low half can be applied between
 abbrev pub EachCallTwice : Type 0
 EachCallTwice =
     (l m : Linked) (i : ℕ) → (twice : IsRewrittenTwice 8 names.R_PPC64_TLSGD l m i)
