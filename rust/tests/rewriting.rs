@@ -1026,6 +1026,63 @@ fn short_thread_offsets_of_ppc64_lose_their_high_part() {
 }
 
 #[test]
+fn two_phases_rewrite_what_general_dynamic_of_ppc64_became() {
+    // The sequence; ld 9,x@got@tprel(2); add 9,9,x@tls; addi 3,2,x@got@tlsgd, and its call
+    let mut section = ppc64_general_dynamic();
+    section.bytes.extend(words(&[
+        0xe922_0000,
+        0x7d29_6a14,
+        0x3862_0000,
+        0x4800_0001,
+        0x6000_0000,
+    ]));
+    section.relocations.extend([
+        rela(16, 87, 1, 0),
+        rela(20, 67, 1, 0),
+        rela(24, 79, 1, 0),
+        rela(28, 107, 1, 0),
+        rela(28, 10, 2, 0),
+    ]);
+    let between = rewritten(Ppc64, &symbols(), &[&section]);
+    assert_eq!(
+        between[0].0.bytes,
+        words(&[
+            0x6000_0000,
+            0x3c6d_0000,
+            0x6000_0000,
+            0x3863_0000,
+            0x3d2d_0000,
+            0x3929_0000,
+            0x3c6d_0000,
+            0x6000_0000,
+            0x3863_0000,
+        ])
+    );
+    let addresses = Addresses {
+        thread_origin: 0x8000,
+        ..Addresses::default()
+    };
+    let values = values(0x1008, 0);
+    let phase = Phase::ThreadOffsets;
+    let made = placed(Ppc64, phase, &addresses, &values, &[&between[0].0]);
+    // the words of GNU ld, which has those of a call the other way round
+    assert_eq!(
+        linked(Ppc64, &addresses, &values, &made[0].0, &made[0].1),
+        [
+            0x6000_0000,
+            0x6000_0000,
+            0x6000_0000,
+            0x386d_9008,
+            0x6000_0000,
+            0x392d_9008,
+            0x6000_0000,
+            0x6000_0000,
+            0x386d_9008,
+        ]
+    );
+}
+
+#[test]
 fn deletions_need_room() {
     let section = thread_offset(1);
     let addresses = Addresses {

@@ -29,6 +29,7 @@ pub mod PackedInstructions
 pub mod PackedSites
 pub mod Phases
 pub mod PlainRows
+pub mod Ppc64Again
 pub mod Ppc64Arguments
 pub mod Ppc64Calls
 pub mod Ppc64Chosen
@@ -37,6 +38,7 @@ pub mod Ppc64Loads
 pub mod Ppc64Near
 pub mod Ppc64Offsets
 pub mod Ppc64Twice
+pub mod Ppc64TwiceArguments
 pub mod Ppc64Written
 pub mod PutBack
 pub mod RelocatedFields

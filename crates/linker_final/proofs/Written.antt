@@ -18,7 +18,7 @@ use Rattle.linker_final.proofs.InstructionFields.{IsOfInstruction, applied, inst
 use Rattle.linker_final.proofs.Phases.{bytes_left, last_as_many, last_length, last_within, relocation_left}
 use Rattle.linker_final.proofs.PutBack.{same_windows}
 use Rattle.linker_final.specs.Final.{AreRewritten, Linked, IsLeftAlone, IsLinked, IsRewrittenByNoOther, IsWrittenByNoOther, count, instruction_at, two_at}
-use Rattle.linker_rewriting.specs.Decisions.{decision_at, written_end_at, written_end_by}
+use Rattle.linker_rewriting.specs.Decisions.{decision_at, start_at, start_by, written_end_at, written_end_by}
 use Rattle.linker_rewriting.specs.Rewritten.{IsDone, IsMade, relocation_after}
 use Rattle.linker_rewriting.specs.declared.decisions.Decision.TheVariants.{Rewritten}
 use Rattle.linker_section.specs.Fields.{IsField, field_end, field_len}
@@ -236,6 +236,24 @@ module _ (l : Linked) (rewriting : AreRewritten l) (i : ℕ) (chosen : Choice Re
           ap (λ d. written_end_by d r.offset) decided
           ∙ ap (λ q. r.offset - (window_of_rewrite q).back + (window_of_rewrite q).len) is in
           omega (arith, end, from)
+
+  -- nor is one ahead of the window of the own rewrite, which begins at the relocation
+  pub stays_ahead : (made : Rewrite) → relaxation_rewrite chosen.kind ≡ Some made → made.back ≡ 0
+      → (p : ℕ) → p + 4 ≤ r.offset → IsRewrittenByNoOther l i p → p + 4 ≤ length l.section
+      → instruction_at l.rewritten p ≡ instruction_at l.section p
+  stays_ahead made is back p ahead alone inside =
+      let long = rewriting.same_length in
+      same_windows p 4 l.rewritten l.section (omega (arith, inside, long)) (sym long)
+      (λ at from less. rewriting.others at (λ j lj. elim (cases_eq j i) [
+        | inl same ↦ inl (subst (λ k. at < start_at l.relocations l.decisions k) (sym same) (own at less))
+        | inr isnt ↦ alone j at lj isnt from less
+      ]))
+    where
+      own : (at : ℕ) → at < p + 4 → at < start_at l.relocations l.decisions i
+      own at less =
+          let start : start_at l.relocations l.decisions i ≡ r.offset - made.back =
+          ap (λ d. start_by d r.offset) decided ∙ ap (λ q. r.offset - (window_of_rewrite q).back) is in
+          omega (arith, start, back, less, ahead)
 
 -- ---- bytes that no relocation writes
 

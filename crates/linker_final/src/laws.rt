@@ -141,7 +141,10 @@ pub fn loongarch64()
 /// TOC pointer and near the thread pointer, each instruction of initial-exec, of general-dynamic
 /// and of local-dynamic TLS, and each load of an address from the GOT that became a sum. The
 /// clauses named `anywhere` are of a call of rewriting alone, as those of AArch64 are. Those named
-/// `twice` are of instructions that two calls rewrite, also in the final bytes.
+/// `twice` are of instructions that two calls rewrite, also in the final bytes: high and low halves
+/// of the address of a GOT entry that became those of the symbol, loads of an offset from the
+/// thread pointer and what adds it, and the arguments and calls of general-dynamic TLS. Which phase
+/// alone rewrites again what a rewrite left is a law too.
 pub fn ppc64()
     ensures calls { ppc64_final.Calls }
     ensures toc_halves { ppc64_final.TocHalves }
@@ -162,8 +165,13 @@ pub fn ppc64()
     ensures loads_twice { ppc64_twice.LoadsTwice }
     ensures steps_compose { ppc64_twice.StepsCompose }
     ensures initial_exec_twice { ppc64_twice.InitialExecTwice }
+    ensures general_dynamic_twice { ppc64_twice.GeneralDynamicTwice }
+    ensures near_arguments_twice { ppc64_twice.NearArgumentsTwice }
+    ensures rewritten_again { ppc64_twice.RewrittenAgain }
     ensures final_loads_twice { ppc64_twice.FinalLoadsTwice }
     ensures final_initial_exec_twice { ppc64_twice.FinalInitialExecTwice }
+    ensures final_general_dynamic_twice { ppc64_twice.FinalGeneralDynamicTwice }
+    ensures final_near_arguments_twice { ppc64_twice.FinalNearArgumentsTwice }
 {
     linker_laws::rewrites::ppc64();
 }
