@@ -673,9 +673,10 @@ uint64_t linker_utils_highest_relocation_with_bias(uint64_t s, uint64_t pc);
 static inline uint32_t linker_utils_write_ha_lo(uint8_t *ha, size_t ha_len, uint8_t *lo,
                                                 size_t lo_len, uint64_t value);
 
-/* What a relocation does with the ULEB128 number at its place. LINKER_UTILS_ROLE_NONE of any other,
- * and where the machine or the type is unknown. */
-enum linker_utils_role linker_utils_uleb128_role(uint16_t machine, uint32_t r_type);
+/* What a relocation does with the ULEB128 number at its place, as `enum linker_utils_role` says:
+ * LINKER_UTILS_ROLE_SETS, LINKER_UTILS_ROLE_ADDS or LINKER_UTILS_ROLE_SUBTRACTS.
+ * LINKER_UTILS_ROLE_NONE of any other, and where the machine or the type is unknown. */
+uint32_t linker_utils_uleb128_role(uint16_t machine, uint32_t r_type);
 
 /* Writes a value over the ULEB128 number that `dest` begins with, in as many bytes. All except for
  * the last are at least 0x80, so that a smaller value is padded with zeros. The following bytes are

@@ -375,6 +375,29 @@ impl Loads {
     }
 }
 
+/// Calls an export over the loads, which returns 0: its last arguments are those behind the words.
+macro_rules! call_over {
+    ($loads:ident, $output:ident, $export:ident, $($argument:expr),+) => {{
+        // SAFETY: a slice's pointer and length are its own, and a reference is of one value.
+        let status = unsafe {
+            $export(
+                PPC64,
+                &$output,
+                $loads.symbols.as_ptr(),
+                $loads.symbols.len(),
+                &PLACED,
+                $loads.values.as_ptr(),
+                $loads.values.len(),
+                WORDS_START,
+                $loads.words.as_ptr(),
+                $loads.words.len(),
+                $($argument),+
+            )
+        };
+        assert_eq!(status, 0);
+    }};
+}
+
 fn address_loads(report: &mut Report, loads: &Loads) {
     let (is_executable, is_fixed) = EXECUTABLE;
     let output = sathunne::OutputFacts { is_executable, is_fixed };
@@ -383,28 +406,17 @@ fn address_loads(report: &mut Report, loads: &Loads) {
         vec![false; SYMBOLS],
         |kept: &mut Vec<bool>| kept.fill(false),
         move |kept: &mut Vec<bool>| {
-            // SAFETY: a slice's pointer and length are its own, and a reference is of one value.
-            let status = unsafe {
-                linker_utils_survey_address_loads_nonnull(
-                    PPC64,
-                    &output,
-                    loads.symbols.as_ptr(),
-                    loads.symbols.len(),
-                    &PLACED,
-                    loads.values.as_ptr(),
-                    loads.values.len(),
-                    WORDS_START,
-                    loads.words.as_ptr(),
-                    loads.words.len(),
-                    relocations.as_ptr(),
-                    relocations.len(),
-                    section.as_ptr(),
-                    section.len(),
-                    kept.as_mut_ptr(),
-                    kept.len(),
-                )
-            };
-            assert_eq!(status, 0);
+            call_over!(
+                loads,
+                output,
+                linker_utils_survey_address_loads_nonnull,
+                relocations.as_ptr(),
+                relocations.len(),
+                section.as_ptr(),
+                section.len(),
+                kept.as_mut_ptr(),
+                kept.len()
+            );
         },
         |kept: &Vec<bool>| kept.iter().filter(|it| **it).count(),
     );
@@ -417,31 +429,20 @@ fn address_loads(report: &mut Report, loads: &Loads) {
         move |bytes: &mut Vec<u8>| {
             let (section, relocations) = bytes.split_at_mut(LEN);
             let kept = [false; SYMBOLS];
-            // SAFETY: a slice's pointer and length are its own, and a reference is of one value.
-            let status = unsafe {
-                linker_utils_rewrite_address_loads_nonnull(
-                    PPC64,
-                    &output,
-                    loads.symbols.as_ptr(),
-                    loads.symbols.len(),
-                    &PLACED,
-                    loads.values.as_ptr(),
-                    loads.values.len(),
-                    WORDS_START,
-                    loads.words.as_ptr(),
-                    loads.words.len(),
-                    kept.as_ptr(),
-                    kept.len(),
-                    relocations.as_mut_ptr(),
-                    relocations.len(),
-                    section.as_mut_ptr(),
-                    section.len(),
-                    decisions.as_mut_ptr(),
-                    decisions.len(),
-                    &mut 0,
-                )
-            };
-            assert_eq!(status, 0);
+            call_over!(
+                loads,
+                output,
+                linker_utils_rewrite_address_loads_nonnull,
+                kept.as_ptr(),
+                kept.len(),
+                relocations.as_mut_ptr(),
+                relocations.len(),
+                section.as_mut_ptr(),
+                section.len(),
+                decisions.as_mut_ptr(),
+                decisions.len(),
+                &mut 0
+            );
         },
         Vec::clone,
     );

@@ -16,14 +16,16 @@ from pathlib import Path
 sys.dont_write_bytecode = True
 sys.path.insert(0, str(Path(__file__).resolve().parents[2] / "tools"))
 from disassembly import LOADS, MACHINES, instruction_of, signed
+from elf_file import ElfFile, is_archive, is_elf, members
 
 MACHINE = {183: "aarch64", 243: "riscv64", 258: "loongarch64", 21: "powerpc64le", 62: "x86_64"}
 
 
 def machine_of(path):
     data = path.read_bytes()
-    at = data.index(b"\x7fELF")    # of an archive its first member
-    return MACHINE[int.from_bytes(data[at + 18:at + 20], "little")]
+    if is_archive(data):
+        data = next(body for _, body in members(data) if is_elf(body))
+    return MACHINE[ElfFile(data).machine]
 
 
 def printed(command):

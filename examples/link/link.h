@@ -180,7 +180,7 @@ struct kind {
     struct linker_utils_relocation_info row;
     struct linker_utils_relocation_reach reach;
     struct linker_utils_requirements needs[2]; /* without an addend; of a thread-local symbol */
-    enum linker_utils_role role;               /* at a ULEB128 number */
+    uint32_t role;                             /* `enum linker_utils_role`, at a ULEB128 number */
     bool is_known, is_direct[256]; /* by `st_other`: a branch that reaches needs no thunk */
 };
 

@@ -100,8 +100,6 @@ fn type_of_c(text: &str) -> String {
         "size_t" => "usize",
         "void" => "()",
         "bool" => "bool",
-        // as wide, since its constants are small
-        "enum linker_utils_role" => "u32",
         "struct linker_utils_deletion" => "Deletion",
         "struct linker_utils_delta" => "Delta",
         "struct linker_utils_call" => "Call",

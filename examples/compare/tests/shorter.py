@@ -10,7 +10,6 @@ Each is in the list if the linked bytes have the other instruction. That the pro
 near, and what isn't aligned stays, is asserted.
 
 usage: tests/shorter.py NAME ARCHITECTURE LINKED OBJECT.."""
-import struct
 import sys
 
 sys.dont_write_bytecode = True
@@ -23,19 +22,10 @@ RISCV_NAMES = {20: "R_RISCV_GOT_HI20", 24: "R_RISCV_PCREL_LO12_I"}
 
 class Linked:
     def __init__(self, path):
-        file = self.file = open(path, "rb").read()
         it = Object(path)
+        self.word = it.word
         self.symbols = {name: value for name, kind, _, home, value in it.symbols if home and kind < 3}
         self.ends = {section.name: section.address for section in it.sections}
-        start, = struct.unpack_from("<Q", file, 32)
-        self.segments = [struct.unpack_from("<IIQQQQQQ", file, start + 56 * index)
-                         for index in range(struct.unpack_from("<H", file, 56)[0])]
-
-    def word(self, address):
-        for kind, _, offset, start, _, size, _, _ in self.segments:
-            if kind == 1 and start <= address < start + size:
-                return struct.unpack_from("<I", self.file, offset + address - start)[0]
-        raise ValueError(hex(address))
 
 
 def nops(kind, symbol, addend, place):
