@@ -9,8 +9,8 @@ use crate::linker_elf::ppc64::Ppc64Relocation;
 
 /// A rewrite of an instruction, or of a call and the `nop` after it (64-bit ELF V2 ABI for Power,
 /// "TOC Optimizations" and "TLS Linkage Optimizations"). The window is the instruction's 4 bytes,
-/// or the 8 bytes of a prefixed instruction or of a call and its `nop`. It begins at the offset, but
-/// that of `AddToMove` and of `IndexedToDirect` one byte before it. An immediate that a rewrite
+/// or the 8 bytes of a prefixed instruction or of a call and its `nop`. It begins at the offset,
+/// but that of `AddToMove` and of `IndexedToDirect` one byte before it. An immediate that a rewrite
 /// writes is 0, for the relocation after it, or the number itself where that is `R_PPC64_NONE`.
 ///
 /// ```
@@ -74,8 +74,8 @@ pub enum RelaxationKind {
     /// Turns `pld rT`, relative to the instruction, into `paddi rT,13,0`, which adds to the thread
     /// pointer.
     PldToPaddiThread,
-    /// Turns `add rT,rA,13` into `mr rT,rA`, or into `nop` where rT is rA. The offset is that of the
-    /// instruction's second byte, where `R_PPC64_TLS` of prefixed code stands.
+    /// Turns `add rT,rA,13` into `mr rT,rA`, or into `nop` where rT is rA. The offset is that of
+    /// the instruction's second byte, where `R_PPC64_TLS` of prefixed code stands.
     AddToMove,
     /// Turns an indexed load or store, as `lwzx rT,rA,13` or `ldx rT,rA,13`, into that with the
     /// displacement 0, as `lwz rT,0(rA)` or `ld rT,0(rA)`. The offset is that of the second byte.
@@ -463,9 +463,9 @@ impl RelaxationKind {
         self as u32
     }
 
-    /// Rewrites the instruction at an offset of a section. All other bytes are unchanged. So are the
-    /// addend, except that it is 0 after `AddiBehindLis`, and the offset, except that `CallToAddi`,
-    /// `CallToAdd` and `CallToAddi4096` move it 4 bytes on.
+    /// Rewrites the instruction at an offset of a section. All other bytes are unchanged. So are
+    /// the addend, except that it is 0 after `AddiBehindLis`, and the offset, except that
+    /// `CallToAddi`, `CallToAdd` and `CallToAddi4096` move it 4 bytes on.
     ///
     /// # Requires
     ///
