@@ -5,6 +5,7 @@ pub mod AArch64Descriptors
 pub mod AArch64Loads
 pub mod AArch64Twice
 pub mod AArch64Written
+pub mod Branches
 pub mod Chosen
 pub mod Early
 pub mod Entries
@@ -41,6 +42,7 @@ pub mod Ppc64Twice
 pub mod Ppc64TwiceArguments
 pub mod Ppc64Written
 pub mod PutBack
+pub mod Relaxed
 pub mod RelocatedFields
 pub mod RiscVChosen
 pub mod RiscVDescriptors

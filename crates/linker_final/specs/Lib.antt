@@ -1,6 +1,7 @@
 pub mod AArch64Anywhere
 pub mod AArch64Final
 pub mod AArch64Twice
+pub mod Branches
 pub mod Final
 pub mod Joined
 pub mod LoongArchFinal
@@ -10,6 +11,7 @@ pub mod Packed
 pub mod Ppc64Anywhere
 pub mod Ppc64Final
 pub mod Ppc64Twice
+pub mod Relaxed
 pub mod RiscVFinal
 pub mod RiscVJoined
 pub mod RiscVNear

@@ -2,28 +2,33 @@
 //! other, and laws of the bytes that they leave, by architecture.
 
 ghost use Rattle.std.specs.Prelude.{◌≡◌, ◌≤◌, ◌<◌, ◌+◌, ◌-◌, ◌/◌, ◌^◌, ◌↔◌, ℕ, List, length};
-ghost use Rattle.std.specs.Prelude.{IsTrue, IfErr, IfNone, IfSome, OnOk};
+ghost use Rattle.std.specs.Prelude.{IsTrue, IfErr, IfNone, IfOk, IfSome, OnOk};
 ghost use Rattle.linker_base.specs.Deletions.{rank};
 ghost use Rattle.linker_base.specs.Deltas.{deletions_of};
 ghost use Rattle.linker_base.specs.Listed.{AreValidDeltas};
 ghost use Rattle.linker_elf.specs.Value.{sum_64};
+ghost use Rattle.linker_final.specs.Branches.{LoongArchBranchesGo, RiscVBranchesGo};
 ghost use Rattle.linker_final.specs.LoongArchJoined as loongarch_joined;
 ghost use Rattle.linker_final.specs.LoongArchPacked as loongarch_packed;
 ghost use Rattle.linker_final.specs.Packed as packed;
 ghost use Rattle.linker_final.specs.Packed.{architecture_of, packed_as, IsAtPlace};
 ghost use Rattle.linker_final.specs.Packed.{IsFirstUntranslated, IsPackCause, IsPacked};
+ghost use Rattle.linker_final.specs.Relaxed as relaxed;
+ghost use Rattle.linker_final.specs.Relaxed.{AreRelaxedAndPacked, IsRelaxCause};
 ghost use Rattle.linker_final.specs.RiscVJoined as riscv_joined;
 ghost use Rattle.linker_final.specs.RiscVPacked as riscv_packed;
+ghost use Rattle.linker_runs.specs.Choosing.{AreItems};
 ghost use Rattle.linker_runs.specs.Packing.{packed_offset, section_of};
 ghost use Rattle.linker_section.specs.Relocations.{relocation_in};
 
-use linker_base::relaxation::{DeltaSlice, RelaxDelta};
-use linker_runs::packing::{Machine, RejectedItem, pack_run};
-use linker_runs::relaxation::Item;
+use linker_base::relaxation::{DeltaSlice, OutOfMemory, RelaxDelta};
+use linker_runs::packing::{Machine, RejectedItem, pack_run, packed_run_len};
+use linker_runs::relaxation::{Item, relax};
 use linker_section::facts::{Addresses, Symbol};
 use linker_section::relocations::{Rela, relocation_at, relocations_len};
-use linker_section::sections::{SectionError, relocate_section};
+use linker_section::sections::{SectionError, memory_len, relocate_section};
 use linker_utils::elf::Architecture;
+use std::alloc::{AllocError, Global};
 
 /// Why a section isn't packed and written.
 #[derive(Debug, Clone, Copy, PartialEq, Eq)]
@@ -195,9 +200,105 @@ pub fn pack_section(
     }
 }
 
+/// A section of a run.
+#[derive(Clone, Copy)]
+pub struct RunSection<'a> {
+    /// The architecture of its code.
+    pub machine: Machine,
+    /// Its bytes, once it is rewritten.
+    pub bytes: &'a [u8],
+    /// The input offset of the run at which it begins.
+    pub base: u64,
+    /// The items of the run that lie in it.
+    pub items: &'a [Item],
+    /// Its relocations, once it is rewritten.
+    pub relocations: &'a [u8],
+    /// The relocations as they are written, as `pack_section` has them.
+    pub translated: &'a [u8],
+}
+
+/// Why a section of a run isn't packed.
+#[derive(Debug, Clone, Copy, PartialEq, Eq)]
+pub enum RelaxError {
+    /// Out of memory.
+    OutOfMemory,
+    /// The run is relaxed, but the section isn't packed and written.
+    Packing(PackError),
+}
+
+impl From<OutOfMemory> for RelaxError {
+    ghost use Rattle.linker_final.specs.declared.packed.RelaxError.TheVariants as errors;
+
+    ghost from_gives = { λ _ e. e ≡ errors.OutOfMemory };
+
+    fn from(_error: OutOfMemory) -> RelaxError {
+        RelaxError::OutOfMemory
+    }
+}
+
+impl From<AllocError> for RelaxError {
+    ghost use Rattle.linker_final.specs.declared.packed.RelaxError.TheVariants as errors;
+
+    ghost from_gives = { λ _ e. e ≡ errors.OutOfMemory };
+
+    fn from(_error: AllocError) -> RelaxError {
+        RelaxError::OutOfMemory
+    }
+}
+
+/// Relaxes a run by `relax`, and then packs one of its sections by `pack_section`, with what the
+/// run loses. It returns the section's final bytes, in which each alignment of the run holds
+/// (`shorter_sections`). The run begins at the address `start`. A linker calls both itself: in
+/// between it translates relocations and symbols by what `relax` returned, and it packs each
+/// section.
+///
+/// # Errors
+///
+/// `OutOfMemory`. `Packing`: as `pack_section` returns it.
+pub fn relax_and_pack_section(
+    alloc: Global,
+    items: &[Item],
+    start: u64,
+    section: &RunSection<'_>,
+    addresses: &Addresses,
+    symbols: &[Symbol],
+) -> Result<Vec<u8>, RelaxError>
+    requires items { AreItems start items.now }
+    requires small { section.now.base + length section.now.bytes.now < 2 ^ 64 }
+    requires as_many { length section.now.translated.now ≡ length section.now.relocations.now }
+    ensures packed { IfOk result (λ final. AreRelaxedAndPacked section.now items.now start
+        addresses.now symbols.now final.items) }
+    ensures cause { IfErr result (IsRelaxCause section.now items.now start addresses.now
+        symbols.now) }
+{
+    let plan = relax(alloc, items, start)?;
+    let deltas = plan.deletions.deltas();
+    let len = packed_run_len(section.base, section.bytes.len(), deltas);
+    let mut out = vec![in alloc; 0; len]?;
+    let mut memory = vec![in alloc; 0; memory_len(section.translated)]?;
+    match pack_section(
+        section.machine,
+        section.bytes,
+        section.base,
+        section.items,
+        deltas,
+        start,
+        section.relocations,
+        section.translated,
+        addresses,
+        symbols,
+        &mut out,
+        &mut memory,
+    ) {
+        Ok(()) => Ok(out),
+        Err(error) => Err(RelaxError::Packing(error)),
+    }
+}
+
 /// Each section that was packed: a byte that stays is at its translated place, and those that are
 /// deleted have none, as those of an item of which nothing stays; padding is nops; an instruction
-/// that stays has the value of its relocation at its own address.
+/// that stays has the value of its relocation at its own address. Where the section is packed with
+/// what `relax` returned of its run, each alignment of the run holds.
 pub fn shorter_sections()
     ensures kept_bytes { packed.KeptBytesStay }
     ensures padding { packed.PaddingIsNops }
@@ -205,11 +306,14 @@ pub fn shorter_sections()
     ensures deleted_items { packed.ItemsAreDeleted }
     ensures addresses { packed.PlacesHaveAddresses }
     ensures instructions { packed.InstructionsAreRelocated }
+    ensures alignments { relaxed.AlignmentsHold }
+    ensures section_starts { relaxed.SectionsAreAligned }
 {}
 
 /// RISC-V: each call that a run may make shorter, `c.j`, `jal` or still `auipc` and `jalr`, goes to
 /// where its target goes, as the object's call does in its own layout. So does a call that stays as
-/// it is, by the value of its relocation. Where a `lui` of 12 bits or an `add` of the thread
+/// it is, by the value of its relocation. Other jumps and branches go where their relocation's
+/// formula says. Where a `lui` of 12 bits or an `add` of the thread
 /// pointer is deleted, the object's run executes it, and the final run does nothing: it is behind
 /// it already.
 pub fn shorter_riscv64()
@@ -217,7 +321,9 @@ pub fn shorter_riscv64()
     ensures long_calls { riscv_packed.LongCallsStay }
     ensures high_parts { riscv_packed.HighPartsAreLeftOut }
     ensures sums { riscv_packed.SumIsLeftOut }
+    ensures branches { RiscVBranchesGo }
 {
+    linker_laws::relocations::riscv64();
     linker_laws::rewrites::riscv64();
 }
 
@@ -240,7 +346,8 @@ pub fn joined_riscv64()
 /// goes to where its target goes, and each address by `pcaddi`, or still by `pcalau12i` and
 /// `addi.d`, is that where its target goes, as the object's instructions do in their own layout. So
 /// is one that the object loaded from the GOT. The same holds of calls and addresses that stay as
-/// they are, by the values of their relocations. Where a `lu12i.w` of 12 bits or an `add.d` of the
+/// they are, by the values of their relocations. Branches go where their relocation's formula says.
+/// Where a `lu12i.w` of 12 bits or an `add.d` of the
 /// thread pointer is deleted, the object's run executes it, and the final run does nothing: it is
 /// behind it already.
 pub fn shorter_loongarch64()
@@ -252,6 +359,7 @@ pub fn shorter_loongarch64()
     ensures long_loaded_addresses { loongarch_packed.LongLoadedAddressesStay }
     ensures high_parts { loongarch_packed.HighPartIsLeftOut }
     ensures sums { loongarch_packed.SumIsLeftOut }
+    ensures branches { LoongArchBranchesGo }
 {
     linker_laws::relocations::loongarch64();
     linker_laws::rewrites::loongarch64();

@@ -1,3 +1,4 @@
+use Rattle.linker_final.proofs.Branches.{loongarch_branches}
 use Rattle.linker_final.proofs.LoongArchPackedSites.{calls, addresses, loaded_addresses}
 use Rattle.linker_final.proofs.LoongArchPackedStays.{long_calls, long_addresses, long_loaded_addresses}
 use Rattle.linker_final.proofs.LoongArchPackedDeletions.{high_part, sums}
@@ -13,6 +14,7 @@ returns c =
       loaded_addresses = loaded_addresses of_relocations.calls of_relocations.relative;
       high_parts = high_part laws.high_offset;
       sums = sums laws.sum;
+      branches = loongarch_branches of_relocations.branches;
       long_calls = long_calls of_relocations.calls;
       long_addresses = long_addresses of_relocations.relative;
       long_loaded_addresses = long_loaded_addresses of_relocations.relative;

@@ -1,5 +1,6 @@
 use Rattle.linker_final.proofs.PackedBytes.{kept_bytes, padding, deleted_bytes, deleted_items, addresses}
 use Rattle.linker_final.proofs.PackedInstructions.{instructions}
+use Rattle.linker_final.proofs.Relaxed.{alignments, sections}
 use Rattle.linker_final.proofs.packed.shorter_sections.Goals as goal
 
 pub returns : goal.returns
@@ -11,4 +12,6 @@ returns c =
       deleted_items = deleted_items;
       addresses = addresses;
       instructions = instructions;
+      alignments = alignments;
+      section_starts = sections;
     }

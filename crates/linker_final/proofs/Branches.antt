@@ -1,0 +1,100 @@
+-- Branches that stay, in the final bytes of a packed section.
+use Rattle.std.proofs.Common.{◌≡◌, ℕ, take, drop, refl, sym, ap, subst, ◌∙◌, true, false, Option, Some, None, Ok, pos, IsSomeAnd}
+use Rattle.std.specs.Prelude.{⊤, ℤ, ◌+ℤ◌, ◌*ℤ◌}
+use Rattle.linker_base.specs.declared.bit_misc.BitRange.{BitRange}
+use Rattle.linker_elf.specs.LoongArch.{loongarch_form}
+use Rattle.linker_elf.specs.LoongArchRelocations.{loongarch_row}
+use Rattle.linker_elf.specs.Relocate.{window_len}
+use Rattle.linker_elf.specs.RiscV.{riscv_form}
+use Rattle.linker_elf.specs.RiscVRelocations.{riscv_row}
+use Rattle.linker_elf.specs.Rows.{bytes_row}
+use Rattle.linker_elf.specs.Value.{sum_64, value_of}
+use Rattle.linker_elf.specs.declared.elf.RelocationInstruction.{RelocationInstruction}
+use Rattle.linker_elf.specs.declared.elf.RelocationKind.TheVariants.{None as NoValue}
+use Rattle.linker_elf.specs.declared.elf.RelocationKindInfo.{RelocationKindInfo}
+use Rattle.linker_elf.specs.declared.elf.RelocationSize.TheVariants.{BitMasking}
+use Rattle.linker_elf.specs.declared.elf.value.Operands.{Operands}
+use Rattle.linker_elf.specs.declared.loongarch64.forms.LoongArch64Instruction.TheVariants.{Branch21, Branch26, Shift10}
+use Rattle.linker_elf.specs.declared.loongarch64.relocations.LoongArch64Relocation.{LoongArch64Relocation}
+use Rattle.linker_elf.specs.declared.loongarch64.relocations.LoongArch64Relocation.TheVariants as loongarch_names
+use Rattle.linker_elf.specs.declared.riscv64.forms.RiscVInstruction.TheVariants.{BType, CbType, CjType, JType}
+use Rattle.linker_elf.specs.declared.riscv64.relocations.RiscVRelocation.{RiscVRelocation}
+use Rattle.linker_elf.specs.declared.riscv64.relocations.RiscVRelocation.TheVariants as riscv_names
+use Rattle.linker_final.proofs.PackedBytes.{addresses}
+use Rattle.linker_final.proofs.PackedInstructions.{instructions}
+use Rattle.linker_final.specs.Branches.{Goes, LoongArchBranchesGo, RiscVBranchesGo, final_number}
+use Rattle.linker_final.specs.Packed.{address_at, architecture_of, place_of}
+use Rattle.linker_laws.specs.LoongArchRelocationLaws as loongarch_laws
+use Rattle.linker_laws.specs.RiscVRelocationLaws as riscv_laws
+use Rattle.linker_laws.specs.Schemes.{Adds, IsAddress, here, place, plt_address, symbol_address}
+use Rattle.linker_runs.specs.declared.packing.Machine.{Machine}
+use Rattle.linker_runs.specs.declared.packing.Machine.TheVariants.{RiscV64, LoongArch64}
+use Rattle.linker_section.specs.Relocations.{relocation_in}
+use Rattle.linker_section.specs.Values.{has_value, names_label, offset_at, operands_in, operands_of, operands_with}
+use Rattle.linker_section.specs.declared.facts.Addresses.{Addresses}
+use Rattle.linker_section.specs.declared.facts.Symbol.{Symbol}
+use Rattle.linker_section.specs.declared.relocations.Rela.{Rela}
+
+some_value : (v : Option ℤ) → IsSomeAnd v (λ _. ⊤) → (z : ℤ) × (v ≡ Some z)
+some_value None nothing = absurd nothing
+some_value (Some z) there = (z, refl)
+
+-- by a row of an instruction that takes no entry
+goes : (machine : Machine) (row : RelocationKindInfo) (bits : BitRange) (insn : RelocationInstruction)
+    (reads : ℕ → ℤ) (unit : ℕ) (target : Operands → ℕ)
+    → row.size ≡ BitMasking bits insn → has_value row.kind ≡ true → names_label row.size row.kind ≡ false
+    → ((a : Addresses) (symbol : Symbol) (r : Rela) → operands_in (architecture_of machine) a row r (Some symbol)
+    ≡ Ok (operands_with (architecture_of machine) a row symbol r 0))
+    → ((y : Operands) → IsSomeAnd (value_of row y) (λ _. ⊤))
+    → Adds (here (Some row)) place reads unit target → Goes machine (Some row) reads unit target
+goes machine row bits insn reads unit target size has unlabelled taken valued law p is machine_is i stays symbol symbol_is small =
+    let r = relocation_in p.relocations_after i in
+    let o = offset_at p.relocations i in
+    let n = window_len row in
+    let y = operands_with (architecture_of machine) p.addresses row symbol r 0 in
+    let there = sym (ap architecture_of machine_is) in
+    let value = some_value (value_of row y) (valued y) in
+    let applied = instructions p is i row y
+    (record {
+      within = stays.within;
+      is_row = stays.is_row;
+      bits = bits;
+      insn = insn;
+      size = size;
+      has = has;
+      unlabelled = unlabelled;
+      taken = subst (λ a. operands_of a p.addresses p.symbols row r ≡ Ok y) there
+          (ap (operands_in (architecture_of machine) p.addresses row r) symbol_is ∙ taken p.addresses symbol r);
+      value = value.0;
+      value_is = value.1;
+      stays = stays.stays;
+    }) in
+    let placed : sum_64 p.addresses.section r.offset ≡ address_at p o =
+    ap (sum_64 p.addresses.section) (is.translated i stays.within).offset ∙ addresses p is o in
+    subst (λ a. IsAddress (pos a +ℤ (reads (final_number p i row) *ℤ pos unit)) (target y)) placed
+    (law y small 0 (take n (drop o p.section.bytes)) (take n (drop (place_of p o) p.final)) applied tt)
+
+abbrev the_row : Option RelocationKindInfo → RelocationKindInfo
+the_row (Some row) = row
+the_row None = bytes_row NoValue 0
+
+abbrev riscv : RiscVRelocation → RelocationKindInfo
+riscv name = the_row (riscv_row name)
+
+abbrev loongarch : LoongArch64Relocation → RelocationKindInfo
+loongarch name = the_row (loongarch_row name)
+
+pub riscv_branches : riscv_laws.Jumps → RiscVBranchesGo
+riscv_branches law = (
+  goes RiscV64 (riscv riscv_names.R_RISCV_JAL) _ _ (riscv_form JType).machine 1 symbol_address refl refl refl (λ a symbol r. refl) (λ y. tt) law.0,
+  goes RiscV64 (riscv riscv_names.R_RISCV_BRANCH) _ _ (riscv_form BType).machine 1 symbol_address refl refl refl (λ a symbol r. refl) (λ y. tt) law.1,
+  goes RiscV64 (riscv riscv_names.R_RISCV_RVC_JUMP) _ _ (riscv_form CjType).machine 1 symbol_address refl refl refl (λ a symbol r. refl) (λ y. tt) law.2,
+  goes RiscV64 (riscv riscv_names.R_RISCV_RVC_BRANCH) _ _ (riscv_form CbType).machine 1 symbol_address refl refl refl (λ a symbol r. refl) (λ y. tt) law.3,
+)
+
+pub loongarch_branches : loongarch_laws.Branches → LoongArchBranchesGo
+loongarch_branches law = (
+  goes LoongArch64 (loongarch loongarch_names.R_LARCH_B16) _ _ (loongarch_form Shift10).machine 4 symbol_address refl refl refl (λ a symbol r. refl) (λ y. tt) law.0,
+  goes LoongArch64 (loongarch loongarch_names.R_LARCH_B21) _ _ (loongarch_form Branch21).machine 4 symbol_address refl refl refl (λ a symbol r. refl) (λ y. tt) law.1,
+  goes LoongArch64 (loongarch loongarch_names.R_LARCH_B26) _ _ (loongarch_form Branch26).machine 4 plt_address refl refl refl (λ a symbol r. refl) (λ y. tt) law.2,
+)

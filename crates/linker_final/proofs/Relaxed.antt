@@ -1,0 +1,256 @@
+-- The alignments of a relaxed run, in the final bytes of its sections.
+use Rattle.std.proofs.Common.{◌≡◌, ◌≢◌, ℕ, ◌+◌, ◌-◌, ◌*◌, ◌/◌, ◌%◌, ◌^◌, ◌<◌, ◌≤◌, List, length, map, get_or, refl, sym, ap, subst, ◌∙◌, inl, inr, arith}
+use Rattle.std.specs.Prelude.{◌⊎◌, MatchOption, Option, None, Some}
+use Rattle.std.proofs.Math.Nat.{mod-lt, mod-eq_of_lt, mod_self}
+use Rattle.std.proofs.lemmas.Bool.{cases_lt}
+use Rattle.std.proofs.lemmas.Nat.{div-add-mod', mod-mul-add}
+use Rattle.linker_base.proofs.Rank.{rank-le, rank-mono}
+use Rattle.linker_base.specs.Deletions.{IsValid, rank}
+use Rattle.linker_base.specs.Deltas.{RecordsDeletions}
+use Rattle.linker_base.specs.Listed.{AreValidDeltas}
+use Rattle.linker_base.specs.declared.relaxation.RelaxDelta.{RelaxDelta}
+use Rattle.linker_elf.specs.Value.{sum_64}
+use Rattle.linker_final.proofs.PackedBytes.{addresses, same_items}
+use Rattle.linker_final.specs.Packed.{Packed, IsPackCause, IsPacked}
+use Rattle.linker_final.specs.Relaxed.{AreRelaxedAndPacked, IsRelaxCause, packed_of}
+use Rattle.linker_final.specs.Relaxed.{Run, AlignmentsHold, Holds, HoldsIn, IsAligned, IsOfRun, IsSkipped, LeadsInto, SectionsAreAligned}
+use Rattle.linker_final.specs.Relaxed.{code_at, code_index, padding_at, padding_index, padding_len}
+use Rattle.linker_final.specs.declared.packed.PackError.{PackError}
+use Rattle.linker_final.specs.declared.packed.RelaxError.TheVariants.{Packing}
+use Rattle.linker_final.specs.declared.packed.RunSection.{RunSection}
+use Rattle.linker_runs.proofs.First.{first_bytes}
+use Rattle.linker_runs.proofs.Layouts.{freed_fits}
+use Rattle.linker_runs.proofs.Multiples.{needed_fills, no_rest}
+use Rattle.linker_runs.proofs.Translations.{translations_exact}
+use Rattle.linker_runs.specs.Choosing.{AreItems, IsExact, IsExactItem, IsRelaxation}
+use Rattle.linker_runs.specs.Deleting.{deletions_of_run}
+use Rattle.linker_runs.specs.Packing.{address_of, kept_len, packed_offset, section_of}
+use Rattle.linker_runs.specs.Relaxing.{IsSound, choice_of, end_of, freed_before, item_at, needed, offset_of}
+use Rattle.linker_runs.specs.declared.relaxation.Alignment.{Alignment}
+use Rattle.linker_runs.specs.declared.relaxation.Item.{Item}
+use Rattle.linker_runs.specs.declared.relaxation.Item.TheVariants.{Aligned}
+use Rattle.linker_section.specs.declared.facts.Addresses.{Addresses}
+use Rattle.linker_section.specs.declared.facts.Symbol.{Symbol}
+
+-- ---- what an alignment needs
+
+-- is needed, and fewer bytes don't do
+needed_least : (power address n : ℕ) → 0 < power → n < needed power address
+    → (address + n) % power ≢ 0
+needed_least power address n some fewer none =
+    let r = address % power in
+    let whole = div-add-mod' address power in
+    let below = mod-lt address some in
+    elim (cases_lt 0 r) [
+      | inl rest ↦
+          let need : needed power address ≡ power - r = mod-eq_of_lt (omega (arith, rest, below)) in
+          let split : address + n ≡ address / power * power + (r + n) = omega (arith, whole) in
+          let is : (address + n) % power ≡ r + n =
+          ap (λ m. m % power) split
+          ∙ mod-mul-add (address / power) power (r + n) (omega (arith, fewer, need, below)) in
+          omega (arith, none, is, rest)
+      | inr nothing ↦
+          let at : r ≡ 0 = omega (arith, nothing) in
+          let need : needed power address ≡ 0 =
+          ap (λ m. (power - m) % power) at
+          ∙ ap (λ m. m % power) (let e : power - 0 ≡ power = omega arith in e) ∙ mod_self power in
+          omega (arith, fewer, need)
+    ]
+
+needed_multiple : (power address : ℕ) → 0 < power → (address + needed power address) % power ≡ 0
+needed_multiple power address some =
+    ap (λ n. n % power) (let e : address + needed power address ≡ needed power address + address = omega arith in e)
+    ∙ no_rest power (needed power address + address) (needed_fills power address some)
+
+aligned : (power address padding : ℕ) → 0 < power → padding ≡ needed power address
+    → IsAligned power address padding
+aligned power address padding some e =
+    record {
+      multiple = ap (λ n. (address + n) % power) e ∙ needed_multiple power address some;
+      least = λ n fewer. needed_least power address n some (omega (arith, fewer, e));
+    }
+
+-- what `relax` keeps of an alignment is what it requires
+by_limit : (power address padding : ℕ) (limit : Option ℕ) → 0 < power
+    → MatchOption limit (padding ≡ needed power address)
+    (λ most. (needed power address ≤ most → padding ≡ needed power address)
+    × (most < needed power address → padding ≡ 0))
+    → MatchOption limit (IsAligned power address padding)
+    (λ most. (IsAligned power address padding × (padding ≤ most)) ⊎ IsSkipped power address padding most)
+by_limit power address padding None some exact = aligned power address padding some exact
+by_limit power address padding (Some most) some exact =
+    elim (cases_lt most (needed power address)) [
+      | inl more ↦
+          inr (record {
+            none = exact.1 more;
+            far = λ n few. needed_least power address n some (omega (arith, few, more));
+          })
+      | inr few ↦
+          let e = exact.0 few in
+          inl (aligned power address padding some e, omega (arith, few, e))
+    ]
+
+exact_holds : (alignment : Alignment) (address padding : ℕ) → 0 < alignment.alignment
+    → IsExact alignment (needed alignment.alignment address) padding → Holds alignment address padding
+exact_holds alignment address padding some exact =
+    by_limit alignment.alignment address padding alignment.max_skip some exact
+
+-- ---- one alignment of the run
+
+module _ (p : Packed) (is : IsPacked p) (run : Run) (of : IsOfRun p run) (i : ℕ) (alignment : Alignment)
+    (below : i < length run.items) (here : item_at run.items i ≡ Aligned alignment) where
+  abbrev freed : ℕ
+  freed = freed_before p.section.start run.items (choice_of run.shapes) i
+
+  power_some : 0 < alignment.alignment
+  power_some = subst IsSound here (of.accepted.in_order.sound i below)
+
+  fits : p.section.start + end_of (Aligned alignment) < 2 ^ 64
+  fits = subst (λ x. p.section.start + end_of x < 2 ^ 64) here (of.accepted.in_order.ends i below)
+
+  freed_few : freed ≤ alignment.offset
+  freed_few =
+      subst (λ x. freed ≤ offset_of x) here
+      (freed_fits p.section.start run.items (choice_of run.shapes) of.accepted.in_order i below)
+
+  translated : rank p.section.deletions alignment.offset ≡ alignment.offset - freed
+  translated =
+      subst (λ d. rank d alignment.offset ≡ alignment.offset - freed) (sym of.lost)
+      (subst (λ x. rank (deletions_of_run run.items run.kept) (offset_of x) ≡ offset_of x - freed) here
+      (translations_exact p.section.start run.items run.shapes run.kept run.freed of.accepted of.relaxed i below).0)
+
+  kept : padding_len p alignment ≡ get_or run.kept i 0
+  kept =
+      subst (λ d. kept_len d (Aligned alignment) ≡ get_or run.kept i 0) (sym of.lost)
+      (subst (λ x. kept_len (deletions_of_run run.items run.kept) x ≡ get_or run.kept i 0) here
+      (first_bytes p.section.start run.items run.shapes run.kept run.freed of.accepted of.relaxed i below).0)
+
+  begins : padding_at p alignment ≡ p.section.start + alignment.offset - freed
+  begins =
+      let e = ap (sum_64 p.section.start) translated in
+      let few = freed_few in
+      let small = fits in
+      omega (arith, e, few, small)
+
+  exact : IsExact alignment (needed alignment.alignment (padding_at p alignment)) (padding_len p alignment)
+  exact =
+      subst (λ a. IsExact alignment (needed alignment.alignment a) (padding_len p alignment)) (sym begins)
+      (subst (IsExact alignment (needed alignment.alignment (p.section.start + alignment.offset - freed))) (sym kept)
+      (subst (λ x. IsExactItem x p.section.start freed (get_or run.kept i 0)) here (of.relaxed.aligned i below)))
+
+  ascends : rank p.section.deletions alignment.offset ≤ rank p.section.deletions (end_of (Aligned alignment))
+  ascends = rank-mono p.section.deletions alignment.offset (end_of (Aligned alignment)) (omega arith)
+
+  next : code_at p alignment ≡ padding_at p alignment + padding_len p alignment
+  next =
+      let low = ascends in
+      let high = rank-le p.section.deletions (end_of (Aligned alignment)) in
+      let small = fits in
+      omega (arith, low, high, small)
+
+  inside : LeadsInto p alignment → code_index p alignment ≤ length p.final
+  inside leads =
+      let s = p.section in
+      let low = rank-mono s.deletions s.base (end_of (Aligned alignment)) leads.lower in
+      let high = rank-mono s.deletions (end_of (Aligned alignment)) (s.base + length s.bytes) leads.upper in
+      let len = is.run.len in
+      let same = is.written.same_length in
+      omega (arith, low, high, len, same)
+
+  there : LeadsInto p alignment
+      → sum_64 p.addresses.section (code_index p alignment) ≡ code_at p alignment
+  there leads =
+      let s = p.section in
+      let lower = leads.lower in
+      let e : s.base + (end_of (Aligned alignment) - s.base) ≡ end_of (Aligned alignment) = omega (arith, lower) in
+      subst (λ q. sum_64 p.addresses.section (packed_offset s q) ≡ address_of s q) e
+      (addresses p is (end_of (Aligned alignment) - s.base))
+
+  next_there : p.section.base ≤ alignment.offset
+      → code_index p alignment ≡ padding_index p alignment + padding_len p alignment
+  next_there lower =
+      let low = ascends in
+      let first = rank-mono p.section.deletions p.section.base alignment.offset lower in
+      omega (arith, low, first)
+
+  holds : HoldsIn p alignment
+  holds =
+      record {
+        holds = exact_holds alignment (padding_at p alignment) (padding_len p alignment) power_some exact;
+        next = next;
+        inside = inside;
+        there = there;
+        next_there = next_there;
+      }
+
+pub alignments : AlignmentsHold
+alignments p is run of i alignment below here = holds p is run of i alignment below here
+
+-- ---- the first byte of a section
+
+limited : (most : ℕ) → Some most ≡ None → ⊥
+limited most e = cc
+
+unlimited : (power address padding : ℕ) (limit : Option ℕ) → limit ≡ None
+    → MatchOption limit (IsAligned power address padding)
+    (λ most. (IsAligned power address padding × (padding ≤ most)) ⊎ IsSkipped power address padding most)
+    → IsAligned power address padding
+unlimited power address padding None e is = is
+unlimited power address padding (Some most) e is = absurd (limited most e)
+
+pub sections : SectionsAreAligned
+sections p is run of i alignment below here no_limit ends =
+    let in_final = holds p is run of i alignment below here in
+    let full = unlimited alignment.alignment (padding_at p alignment) (padding_len p alignment) alignment.max_skip no_limit in_final.holds in
+    let begin : p.addresses.section ≡ padding_at p alignment + padding_len p alignment =
+    is.address ∙ ap (address_of p.section) (sym ends) ∙ in_final.next in
+    ap (λ n. n % alignment.alignment) begin ∙ full.multiple
+
+-- ---- both calls
+
+-- what the deltas of deletions are
+pub listed_deltas : (lost : List (ℕ × ℕ)) (deltas : List RelaxDelta) → IsValid lost
+    → RecordsDeletions lost deltas → AreValidDeltas deltas
+listed_deltas lost deltas valid listing =
+    let same = sym listing.same in
+    record {
+      valid = subst IsValid same valid;
+      listing = subst (λ ds. RecordsDeletions ds deltas) same listing;
+    }
+
+module _ (s : RunSection) (items : List Item) (start : ℕ) (places : Addresses) (symbols : List Symbol)
+    (shapes stays gone : List ℕ) (lost deletions : List (ℕ × ℕ)) (are : AreItems start items)
+    (is : IsRelaxation start (map (λ i. i) items) shapes stays gone)
+    (lost_is : lost ≡ deletions_of_run (map (λ i. i) items) stays) (same : deletions ≡ lost) where
+  abbrev whole_run : Run
+  whole_run = record { items = items; shapes = shapes; kept = stays; freed = gone }
+
+  relaxed : IsRelaxation start items shapes stays gone
+  relaxed = subst (λ xs. IsRelaxation start xs shapes stays gone) (same_items items) is
+
+  of_run : deletions ≡ deletions_of_run items stays
+  of_run = same ∙ lost_is ∙ ap (λ xs. deletions_of_run xs stays) (same_items items)
+
+  pub packed_run : (final : List ℕ)
+      → ((packed : List ℕ) × IsPacked (packed_of s deletions start packed places symbols final))
+      → AreRelaxedAndPacked s items start places symbols final
+  packed_run final made =
+      record {
+        run = whole_run;
+        of_items = refl;
+        packed = made.0;
+        is_packed = subst (λ d. IsPacked (packed_of s d start made.0 places symbols final)) of_run made.1;
+        of_run = record { accepted = are; relaxed = relaxed; lost = refl };
+      }
+
+  pub packing_cause : (error : PackError)
+      → IsPackCause s.machine (section_of s.bytes.now s.base deletions start) s.items.now s.relocations.now
+      s.translated.now places symbols error
+      → IsRelaxCause s items start places symbols (Packing error)
+  packing_cause error cause = (
+    whole_run,
+    refl,
+    relaxed,
+    subst (λ d. IsPackCause s.machine (section_of s.bytes.now s.base d start) s.items.now s.relocations.now
+        s.translated.now places symbols error) of_run cause,
+  )
