@@ -14,7 +14,7 @@ const LEN: usize = 4 << 20;
 const STEP: usize = 40;
 const SYMBOLS: usize = 4096;
 /// An executable at a fixed address.
-const EXECUTABLE: (bool, bool) = (true, true);
+const EXECUTABLE: (bool, bool, bool) = (true, true, true);
 
 /// Instructions, and their relocations: each with its offset in them, and its code.
 type Sequence = (&'static [u8], &'static [(u64, u32)]);
@@ -83,10 +83,11 @@ fn input(random: &mut Random, machine: u16, sequences: &[Sequence]) -> Input {
         .collect();
     let mut kept = vec![sathunne::KeptGroups::default(); SYMBOLS];
     let (section, relocations) = bytes.split_at(LEN);
-    let (is_executable, is_fixed) = EXECUTABLE;
+    let (is_executable, is_fixed, has_near_symbols) = EXECUTABLE;
     let output = sathunne::OutputFacts {
         is_executable,
         is_fixed,
+        has_near_symbols,
     };
     let architecture = crate::architecture(machine);
     sathunne::survey(architecture, &output, &symbols, relocations, section, &mut kept);
@@ -116,10 +117,11 @@ fn of_crate(input: &Input) -> (Vec<rewriting::SymbolFacts>, Vec<rewriting::KeptG
 
 fn surveys(report: &mut Report, input: &Input) {
     let (section, relocations) = input.bytes.split_at(LEN);
-    let (is_executable, is_fixed) = EXECUTABLE;
+    let (is_executable, is_fixed, has_near_symbols) = EXECUTABLE;
     let output = sathunne::OutputFacts {
         is_executable,
         is_fixed,
+        has_near_symbols,
     };
     let none = vec![sathunne::KeptGroups::default(); SYMBOLS];
     let exports = Side::over(
@@ -154,6 +156,7 @@ fn surveys(report: &mut Report, input: &Input) {
             let output = rewriting::OutputFacts {
                 is_executable,
                 is_fixed,
+                has_near_symbols,
             };
             rewriting::survey(architecture, &output, &symbols, relocations, section, kept);
         },
@@ -174,10 +177,11 @@ fn anew<'a>(input: &'a Input, mut round: impl FnMut(&mut [u8]) + 'a) -> Side<'a>
 }
 
 fn rewrites(report: &mut Report, input: &Input) {
-    let (is_executable, is_fixed) = EXECUTABLE;
+    let (is_executable, is_fixed, has_near_symbols) = EXECUTABLE;
     let output = sathunne::OutputFacts {
         is_executable,
         is_fixed,
+        has_near_symbols,
     };
     let mut decisions = vec![sathunne::raw::Decision::default(); input.count()];
     let exports = anew(input, move |bytes| {
@@ -210,6 +214,7 @@ fn rewrites(report: &mut Report, input: &Input) {
         let output = rewriting::OutputFacts {
             is_executable,
             is_fixed,
+            has_near_symbols,
         };
         let done = rewriting::rewrite_section(
             architecture,
@@ -252,10 +257,11 @@ const LAST_PHASE: u32 = 3;
 
 fn surveys_of_placed(report: &mut Report, input: &Input) {
     let (section, relocations) = input.bytes.split_at(LEN);
-    let (is_executable, is_fixed) = EXECUTABLE;
+    let (is_executable, is_fixed, has_near_symbols) = EXECUTABLE;
     let output = sathunne::OutputFacts {
         is_executable,
         is_fixed,
+        has_near_symbols,
     };
     let values = vec![Symbol { address: 0x60_0010, ..Symbol::default() }; SYMBOLS];
     let exports = Side::over(
@@ -290,10 +296,11 @@ fn surveys_of_placed(report: &mut Report, input: &Input) {
 }
 
 fn rewrites_of_placed(report: &mut Report, input: &Input) {
-    let (is_executable, is_fixed) = EXECUTABLE;
+    let (is_executable, is_fixed, has_near_symbols) = EXECUTABLE;
     let output = sathunne::OutputFacts {
         is_executable,
         is_fixed,
+        has_near_symbols,
     };
     let values = vec![Symbol { address: 0x60_0010, ..Symbol::default() }; SYMBOLS];
     let kept = vec![sathunne::KeptGroups::default(); SYMBOLS];
@@ -399,8 +406,8 @@ macro_rules! call_over {
 }
 
 fn address_loads(report: &mut Report, loads: &Loads) {
-    let (is_executable, is_fixed) = EXECUTABLE;
-    let output = sathunne::OutputFacts { is_executable, is_fixed };
+    let (is_executable, is_fixed, has_near_symbols) = EXECUTABLE;
+    let output = sathunne::OutputFacts { is_executable, is_fixed, has_near_symbols };
     let (section, relocations) = loads.bytes.split_at(LEN);
     let exports = Side::over(
         vec![false; SYMBOLS],
@@ -457,8 +464,8 @@ const NEAR_OF_RISCV: [Sequence; 1] = [(
 )];
 
 fn near_addresses(report: &mut Report, input: &Input) {
-    let (is_executable, is_fixed) = EXECUTABLE;
-    let output = sathunne::OutputFacts { is_executable, is_fixed };
+    let (is_executable, is_fixed, has_near_symbols) = EXECUTABLE;
+    let output = sathunne::OutputFacts { is_executable, is_fixed, has_near_symbols };
     let values = vec![Symbol { address: 0x60_0010, ..Symbol::default() }; SYMBOLS];
     let (section, relocations) = input.bytes.split_at(LEN);
     let exports = Side::over(

@@ -19,7 +19,7 @@ static int link_section(uint16_t machine, uint8_t *code, size_t len, Elf64_Rela 
     uint8_t *table = (uint8_t *)rela;
     size_t table_len = count * sizeof *rela, faulty, deleted_len;
     int words = 0;
-    struct linker_utils_output_facts output = {true, true}; /* an executable, at a fixed address */
+    struct linker_utils_output_facts output = {true, true, true}; /* fixed, and less than 2 GiB */
     struct linker_utils_kept_groups kept[SYMBOLS];
     struct linker_utils_decision decisions[MOST];
     struct linker_utils_deletion deleted[MOST];

@@ -11,7 +11,7 @@ int main(void) {
     const uint8_t code[13] = {0x48, 0x8b, 0x05, 0, 0, 0, 0, 0xff, 0x15, 0, 0, 0, 0};
     const Elf64_Rela relas[2] = {{3, ELF64_R_INFO(UINT64_C(1), R_X86_64_GOTTPOFF), -4},
                                  {9, ELF64_R_INFO(UINT64_C(2), R_X86_64_GOTPCRELX), -4}};
-    const struct linker_utils_output_facts output = {true, true};
+    const struct linker_utils_output_facts output = {true, true, true};
     const struct linker_utils_symbol_facts none = {false, false, false, false, false, 0};
     struct linker_utils_symbol_facts symbols[3] = {none, none, none};
     for (int step = 0; step < 2; step++) {

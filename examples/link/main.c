@@ -130,7 +130,7 @@ int main(int argc, char **argv) {
     define_symbols();
     if (is_dynamic) bind_symbols();
     place_symbols();
-    relaxes &= !is_long(); /* not every relocation tests the distance that replaces a load */
+    linked.has_near_symbols = !is_long();
     EACH_OBJECT(o) {
         rewrite_object(o, LINKER_UTILS_PHASE_EARLY, LINKER_UTILS_PHASE_EARLY);
         require(o);

@@ -19,7 +19,7 @@ fn link(
     symbols: &mut [Symbol],
 ) -> Vec<u64> {
     let [section, got, image] = PLACES;
-    let output = OutputFacts { is_executable: true, is_fixed: true };
+    let output = OutputFacts { is_executable: true, is_fixed: true, has_near_symbols: true };
     let count = rela.len() / 24;
     let mut decisions = vec![Decision::Kept; count];
     // 1 and 2: rewrites that need no address

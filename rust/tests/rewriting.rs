@@ -15,6 +15,7 @@ use linker_utils::section::{relocate_section, relocation_at, Addresses, Rela, Sy
 const EXECUTABLE: OutputFacts = OutputFacts {
     is_executable: true,
     is_fixed: true,
+    has_near_symbols: true,
 };
 
 /// Symbol 1 is a definition of this output, 2 is `__tls_get_addr`, 3 is another definition and 4 is
@@ -69,12 +70,21 @@ fn rewritten(
     symbols: &[SymbolFacts],
     sections: &[&Section],
 ) -> Vec<(Section, Vec<Decision>)> {
+    rewritten_in(&EXECUTABLE, architecture, symbols, sections)
+}
+
+fn rewritten_in(
+    output: &OutputFacts,
+    architecture: Architecture,
+    symbols: &[SymbolFacts],
+    sections: &[&Section],
+) -> Vec<(Section, Vec<Decision>)> {
     let mut kept = [KeptGroups::default(); 5];
     for it in sections {
         let entries = bytes_of(&it.relocations);
         survey(
             architecture,
-            &EXECUTABLE,
+            output,
             symbols,
             &entries,
             &it.bytes,
@@ -89,7 +99,7 @@ fn rewritten(
             let mut decisions = vec![Decision::Kept; it.relocations.len()];
             rewrite_section(
                 architecture,
-                &EXECUTABLE,
+                output,
                 symbols,
                 &kept,
                 &mut entries,
@@ -724,6 +734,81 @@ fn marked_loads_of_loongarch_are_rewritten() {
         it.relocations.extend(unmarked);
     }
     expect(LoongArch64, &two, &one_after);
+}
+
+/// A load of symbol 1 from the GOT, or a call through it, of each relocation that is one.
+fn got_loads() -> Vec<(Architecture, Section)> {
+    let load = |bytes: &[u8], relocations: &[Rela]| Section {
+        bytes: bytes.to_vec(),
+        relocations: relocations.to_vec(),
+    };
+    // mov x@GOTPCREL(%rip), %eax or %rax; call or jmp *f@GOTPCREL(%rip)
+    let moves = [0x48, 0x8b, 0x05, 0, 0, 0, 0];
+    let mut loads = vec![
+        (X86_64, load(&moves, &[rela(3, 9, 1, -4)])),
+        (X86_64, load(&moves[1..], &[rela(2, 41, 1, -4)])),
+        (X86_64, load(&moves, &[rela(3, 42, 1, -4)])),
+        (
+            X86_64,
+            load(&[0xff, 0x15, 0, 0, 0, 0], &[rela(2, 41, 1, -4)]),
+        ),
+        (
+            X86_64,
+            load(&[0xff, 0x25, 0, 0, 0, 0], &[rela(2, 41, 1, -4)]),
+        ),
+    ];
+    // adrp x0, :got:x; ldr x0, [x0, :got_lo12:x]
+    let pages = words(&[0x9000_0000, 0xf940_0000]);
+    loads.push((
+        AArch64,
+        load(&pages, &[rela(0, 311, 1, 0), rela(4, 312, 1, 0)]),
+    ));
+    // pcalau12i a0, %got_pc_hi20(x); ld.d a0, a0, %got_pc_lo12(x), each with R_LARCH_RELAX
+    let marked = [(0, 75, 1), (0, 100, 0), (4, 76, 1), (4, 100, 0)];
+    let marked = marked.map(|(offset, code, symbol)| rela(offset, code, symbol, 0));
+    loads.push((
+        LoongArch64,
+        load(&words(&[0x1a00_0004, 0x28c0_0084]), &marked),
+    ));
+    // addis 3,2,x@got@ha; ld 3,x@got@l(3), and pld 3,x@got@pcrel
+    let halves = words(&[0x3c62_0000, 0xe863_0000]);
+    loads.push((
+        Ppc64,
+        load(&halves, &[rela(0, 17, 1, 0), rela(4, 59, 1, 0)]),
+    ));
+    let prefixed = words(&[0x0410_0000, 0xe460_0000]);
+    loads.push((Ppc64, load(&prefixed, &[rela(0, 133, 1, 0)])));
+    loads
+}
+
+#[test]
+fn loads_from_the_got_stay_where_symbols_may_be_far() {
+    let far = OutputFacts {
+        has_near_symbols: false,
+        ..EXECUTABLE
+    };
+    let mut absolute = symbols();
+    absolute[1].is_absolute = true;
+    for (architecture, section) in got_loads() {
+        let made = |output: &OutputFacts, facts: &[SymbolFacts]| {
+            rewritten_in(output, architecture, facts, &[&section])
+                .remove(0)
+                .0
+        };
+        let first = |section: &Section| section.relocations[0].code;
+        assert_ne!(
+            first(&made(&EXECUTABLE, &symbols())),
+            first(&section),
+            "{architecture:?}"
+        );
+        // as ld.lld 19 leaves LoongArch's pair of an absolute symbol, 0x320000000, of code at
+        // 0x120000000
+        for (output, facts) in [(far, symbols()), (EXECUTABLE, absolute), (far, absolute)] {
+            let after = made(&output, &facts);
+            assert_eq!(after.bytes, section.bytes, "{architecture:?}");
+            assert_eq!(after.relocations, section.relocations);
+        }
+    }
 }
 
 /// Where symbols 1 and 3 are.
@@ -1454,6 +1539,10 @@ fn values_are_written_where_the_kept_facts_still_hold() {
         },
         OutputFacts {
             is_fixed: false,
+            ..EXECUTABLE
+        },
+        OutputFacts {
+            has_near_symbols: false,
             ..EXECUTABLE
         },
     ] {

@@ -38,7 +38,7 @@ int main(void) {
     EXPECT(TOO_SHORT, value_at(machine, &addresses, NULL, 0, NULL, 0, 0, &addend));
     if (linker_utils_relocate_memory(NULL, 0)) failures++;
     EXPECT(OK, relocate_section(machine, &addresses, NULL, 0, NULL, 0, NULL, 0, NULL, 0, NULL));
-    struct linker_utils_output_facts output = {true, true};
+    struct linker_utils_output_facts output = {true, true, true};
     EXPECT(OK, survey(machine, &output, NULL, 0, NULL, 0, NULL, 0, NULL, 0));
     EXPECT(OK, rewrite_section(machine, &output, NULL, 0, NULL, 0, NULL, 0, NULL, 0, NULL, 0, NULL));
     uint32_t phase = LINKER_UTILS_PHASE_DISTANCES;

@@ -849,7 +849,8 @@ static void call_relocate_section(void) {
 static struct buffer *output_facts(void) {
     struct buffer *buffer = place(READ, 1, sizeof(struct linker_utils_output_facts));
     struct linker_utils_output_facts *at = filled(buffer);
-    *at = (struct linker_utils_output_facts){.is_executable = !once_in(4), .is_fixed = once_in(2)};
+    *at = (struct linker_utils_output_facts){
+        .is_executable = !once_in(4), .is_fixed = once_in(2), .has_near_symbols = !once_in(4)};
     return buffer;
 }
 

@@ -425,6 +425,7 @@ pub struct SymbolFacts {
 pub struct OutputFacts {
     pub is_executable: bool,
     pub is_fixed: bool,
+    pub has_near_symbols: bool,
 }
 
 /// Which groups of a symbol stay as they are. Each field is explained at

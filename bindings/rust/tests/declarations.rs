@@ -829,7 +829,7 @@ fn the_structs_are_those_of_the_library() {
         "linker_utils_symbol_facts": SymbolFacts {
             is_local, is_ifunc, is_absolute, is_undefined_weak, is_tls_get_addr, other,
         }
-        "linker_utils_output_facts": OutputFacts { is_executable, is_fixed, }
+        "linker_utils_output_facts": OutputFacts { is_executable, is_fixed, has_near_symbols, }
         "linker_utils_kept_groups": KeptGroups {
             initial_exec, general_dynamic, local_dynamic, descriptor, got_load,
         }

@@ -8,6 +8,7 @@ const X86_64: Architecture = Architecture::X86_64;
 const EXECUTABLE: OutputFacts = OutputFacts {
     is_executable: true,
     is_fixed: true,
+    has_near_symbols: true,
 };
 
 /// The bytes of relocations: their offsets, types, symbols and addends.
@@ -266,6 +267,11 @@ fn values_are_written_where_facts_are_as_kept() {
         ..EXECUTABLE
     };
     assert_eq!(written(&anywhere, &symbols(), &kept), changed(0));
+    let far = OutputFacts {
+        has_near_symbols: false,
+        ..EXECUTABLE
+    };
+    assert_eq!(written(&far, &symbols(), &kept), changed(0));
     assert_eq!(written(&EXECUTABLE, &symbols(), &kept[..1]), changed(0));
     assert_eq!(written(&EXECUTABLE, &symbols(), &[KeptFacts::default(); 4]), changed(0));
     // of another symbol

@@ -34,6 +34,7 @@ digit_same worth false = refl
 
 -- what choices read
 record AreSame (output other : OutputFacts) (symbol another : SymbolFacts) : Type 0 where
+  pub has_near_symbols : output.has_near_symbols ≡ other.has_near_symbols
   pub is_fixed : output.is_fixed ≡ other.is_fixed
   pub is_executable : output.is_executable ≡ other.is_executable
   pub toc : symbol.other / 32 ≡ another.other / 32
@@ -51,6 +52,7 @@ same_facts : (output other : OutputFacts) (symbol another : SymbolFacts)
     → symbol.other < 2 ^ 8 → another.other < 2 ^ 8
     → kept_bits output symbol ≡ kept_bits other another → AreSame output other symbol another
 same_facts output other symbol another small small_too same =
+    let h = bit_of (2 ^ 10) output.has_near_symbols in
     let a = bit_of (2 ^ 9) output.is_fixed in
     let b = bit_of (2 ^ 8) output.is_executable in
     let c = bit_of 16 symbol.is_tls_get_addr in
@@ -58,6 +60,7 @@ same_facts output other symbol another small small_too same =
     let e = bit_of 4 symbol.is_absolute in
     let f = bit_of 2 symbol.is_ifunc in
     let g = bit_of 1 symbol.is_local in
+    let h' = bit_of (2 ^ 10) other.has_near_symbols in
     let a' = bit_of (2 ^ 9) other.is_fixed in
     let b' = bit_of (2 ^ 8) other.is_executable in
     let c' = bit_of 16 another.is_tls_get_addr in
@@ -65,6 +68,7 @@ same_facts output other symbol another small small_too same =
     let e' = bit_of 4 another.is_absolute in
     let f' = bit_of 2 another.is_ifunc in
     let g' = bit_of 1 another.is_local in
+    let hi = h.is in let hi' = h'.is in
     let ai = a.is in let al = a.small in let ai' = a'.is in let al' = a'.small in
     let bi = b.is in let bs = b.small in let bi' = b'.is in let bs' = b'.small in
     let ci = c.is in let cs = c.small in let ci' = c'.is in let cs' = c'.small in
@@ -72,9 +76,9 @@ same_facts output other symbol another small small_too same =
     let ei = e.is in let es = e.small in let ei' = e'.is in let es' = e'.small in
     let fi = f.is in let fs = f.small in let fi' = f'.is in let fs' = f'.small in
     let gi = g.is in let gs = g.small in let gi' = g'.is in let gs' = g'.small in
-    let sums : 512 * a.digit + 256 * b.digit + symbol.other / 32 * 32 + 16 * c.digit + 8 * d.digit + 4 * e.digit + 2 * f.digit + g.digit
-    ≡ 512 * a'.digit + 256 * b'.digit + another.other / 32 * 32 + 16 * c'.digit + 8 * d'.digit + 4 * e'.digit + 2 * f'.digit + g'.digit =
-    omega (arith, same, ai, ai', bi, bi', ci, ci', di, di', ei, ei', fi, fi', gi, gi') in
+    let sums : 1024 * h.digit + 512 * a.digit + 256 * b.digit + symbol.other / 32 * 32 + 16 * c.digit + 8 * d.digit + 4 * e.digit + 2 * f.digit + g.digit
+    ≡ 1024 * h'.digit + 512 * a'.digit + 256 * b'.digit + another.other / 32 * 32 + 16 * c'.digit + 8 * d'.digit + 4 * e'.digit + 2 * f'.digit + g'.digit =
+    omega (arith, same, hi, hi', ai, ai', bi, bi', ci, ci', di, di', ei, ei', fi, fi', gi, gi') in
     let g_is : g.digit ≡ g'.digit = omega (arith, sums, gs, gs') in
     let f_is : f.digit ≡ f'.digit = omega (arith, sums, gs, gs', fs, fs', g_is) in
     let e_is : e.digit ≡ e'.digit = omega (arith, sums, f_is, g_is, es, es') in
@@ -83,8 +87,10 @@ same_facts output other symbol another small small_too same =
     let t_is : symbol.other / 32 ≡ another.other / 32 =
     omega (arith, sums, f_is, g_is, e_is, d_is, c_is, small, small_too) in
     let b_is : b.digit ≡ b'.digit = omega (arith, sums, f_is, g_is, e_is, d_is, c_is, t_is, bs, bs') in
-    let a_is : a.digit ≡ a'.digit = omega (arith, sums, f_is, g_is, e_is, d_is, c_is, t_is, b_is) in
+    let a_is : a.digit ≡ a'.digit = omega (arith, sums, f_is, g_is, e_is, d_is, c_is, t_is, b_is, al, al') in
+    let h_is : h.digit ≡ h'.digit = omega (arith, sums, f_is, g_is, e_is, d_is, c_is, t_is, b_is, a_is) in
     record {
+      has_near_symbols = of_bits (2 ^ 10) output.has_near_symbols other.has_near_symbols h_is;
       is_fixed = of_bits (2 ^ 9) output.is_fixed other.is_fixed a_is;
       is_executable = of_bits (2 ^ 8) output.is_executable other.is_executable b_is;
       toc = t_is;
@@ -99,7 +105,7 @@ early : (output other : OutputFacts) (symbol another : SymbolFacts)
     → AreSame output other symbol another → (addend : ℤ) (marked : Bool)
     → facts_of output symbol addend marked ≡ facts_of other another addend marked
 early output other symbol another is addend marked =
-    let e0 = is.is_fixed in let e1 = is.is_executable in let e2 = is.toc in let e3 = is.is_tls_get_addr in let e4 = is.is_undefined_weak in let e5 = is.is_absolute in let e6 = is.is_ifunc in let e7 = is.is_local in cc
+    let e0 = is.is_fixed in let e1 = is.is_executable in let e2 = is.toc in let e3 = is.is_tls_get_addr in let e4 = is.is_undefined_weak in let e5 = is.is_absolute in let e6 = is.is_ifunc in let e7 = is.is_local in let e8 = is.has_near_symbols in cc
 
 placed : (phase : Phase) (addresses : Addresses) (value : Symbol) (offset : ℕ) (addend : ℤ)
     (marked : Bool) (output other : OutputFacts) (symbol another : SymbolFacts)
@@ -107,13 +113,13 @@ placed : (phase : Phase) (addresses : Addresses) (value : Symbol) (offset : ℕ)
     → placed_facts phase output addresses symbol value offset addend marked
     ≡ placed_facts phase other addresses another value offset addend marked
 placed Early addresses value offset addend marked output other symbol another is =
-    let e0 = is.is_fixed in let e1 = is.is_executable in let e2 = is.toc in let e3 = is.is_tls_get_addr in let e4 = is.is_undefined_weak in let e5 = is.is_absolute in let e6 = is.is_ifunc in let e7 = is.is_local in cc
+    let e0 = is.is_fixed in let e1 = is.is_executable in let e2 = is.toc in let e3 = is.is_tls_get_addr in let e4 = is.is_undefined_weak in let e5 = is.is_absolute in let e6 = is.is_ifunc in let e7 = is.is_local in let e8 = is.has_near_symbols in cc
 placed ThreadOffsets addresses value offset addend marked output other symbol another is =
-    let e0 = is.is_fixed in let e1 = is.is_executable in let e2 = is.toc in let e3 = is.is_tls_get_addr in let e4 = is.is_undefined_weak in let e5 = is.is_absolute in let e6 = is.is_ifunc in let e7 = is.is_local in cc
+    let e0 = is.is_fixed in let e1 = is.is_executable in let e2 = is.toc in let e3 = is.is_tls_get_addr in let e4 = is.is_undefined_weak in let e5 = is.is_absolute in let e6 = is.is_ifunc in let e7 = is.is_local in let e8 = is.has_near_symbols in cc
 placed GotLoads addresses value offset addend marked output other symbol another is =
-    let e0 = is.is_fixed in let e1 = is.is_executable in let e2 = is.toc in let e3 = is.is_tls_get_addr in let e4 = is.is_undefined_weak in let e5 = is.is_absolute in let e6 = is.is_ifunc in let e7 = is.is_local in cc
+    let e0 = is.is_fixed in let e1 = is.is_executable in let e2 = is.toc in let e3 = is.is_tls_get_addr in let e4 = is.is_undefined_weak in let e5 = is.is_absolute in let e6 = is.is_ifunc in let e7 = is.is_local in let e8 = is.has_near_symbols in cc
 placed Distances addresses value offset addend marked output other symbol another is =
-    let e0 = is.is_fixed in let e1 = is.is_executable in let e2 = is.toc in let e3 = is.is_tls_get_addr in let e4 = is.is_undefined_weak in let e5 = is.is_absolute in let e6 = is.is_ifunc in let e7 = is.is_local in cc
+    let e0 = is.is_fixed in let e1 = is.is_executable in let e2 = is.toc in let e3 = is.is_tls_get_addr in let e4 = is.is_undefined_weak in let e5 = is.is_absolute in let e6 = is.is_ifunc in let e7 = is.is_local in let e8 = is.has_near_symbols in cc
 
 pub tell : KeptFactsTell
 tell output other symbol another small small_too same =

@@ -15,7 +15,7 @@ use Rattle.linker_utils.specs.declared.elf.Architecture.{Architecture}
 
 -- ---- before addresses are known
 
--- its address is a number, wherever the output is loaded
+-- its address is a number, wherever the output is loaded, and any distance from the code
 abbrev pub has_own_address : SymbolFacts → Bool
 has_own_address symbol = symbol.is_absolute || symbol.is_undefined_weak
 
@@ -37,7 +37,7 @@ facts_of output symbol addend marked =
       is_ifunc = symbol.is_ifunc;
       is_undefined_weak = symbol.is_undefined_weak;
       has_fixed_address = output.is_fixed || has_own_address symbol;
-      has_fixed_distance = output.is_fixed || not (has_own_address symbol);
+      has_fixed_distance = output.has_near_symbols && not (has_own_address symbol);
       is_executable = output.is_executable;
       has_local_exec_base = true;
       may_compress = false;

@@ -26,7 +26,8 @@ bit_if worth false = 0
 -- to 7, and then those of the output. Bit 15 is 1, so that none of what is kept is 0.
 abbrev pub kept_bits : OutputFacts → SymbolFacts → ℕ
 kept_bits output symbol =
-    2 ^ 15 + bit_if (2 ^ 9) output.is_fixed + bit_if (2 ^ 8) output.is_executable
+    2 ^ 15 + bit_if (2 ^ 10) output.has_near_symbols + bit_if (2 ^ 9) output.is_fixed
+    + bit_if (2 ^ 8) output.is_executable
     + symbol.other / 32 * 32 + bit_if 16 symbol.is_tls_get_addr + bit_if 8 symbol.is_undefined_weak
     + bit_if 4 symbol.is_absolute + bit_if 2 symbol.is_ifunc + bit_if 1 symbol.is_local
 

@@ -58,7 +58,9 @@ fn toc_bits(other: u8) -> u16
 fn kept_facts(output: &OutputFacts, symbol: &SymbolFacts) -> KeptFacts
     ensures { result ≡ kept_facts output.now symbol.now }
 {
-    let of_output = bit_if(1 << 9, output.is_fixed) + bit_if(1 << 8, output.is_executable);
+    let of_output = bit_if(1 << 10, output.has_near_symbols)
+        + bit_if(1 << 9, output.is_fixed)
+        + bit_if(1 << 8, output.is_executable);
     let toc = toc_bits(symbol.other);
     let of_symbol = bit_if(16, symbol.is_tls_get_addr)
         + bit_if(8, symbol.is_undefined_weak)
@@ -144,7 +146,7 @@ pub fn first_changed(
 /// let mut relocations = [0; 24];
 /// (relocations[0], relocations[8], relocations[12]) = (2, 2, 1);
 /// relocations[16..].copy_from_slice(&(-4i64).to_le_bytes());
-/// let output = OutputFacts { is_executable: true, is_fixed: false };
+/// let output = OutputFacts { is_executable: true, is_fixed: false, has_near_symbols: true };
 /// let mut facts = [
 ///     SymbolFacts::default(),
 ///     SymbolFacts { is_local: true, ..SymbolFacts::default() },

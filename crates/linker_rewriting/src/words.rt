@@ -272,7 +272,7 @@ fn keeping_word(
 /// let mut kept = [false];
 /// survey_address_loads(
 ///     Architecture::Ppc64,
-///     &OutputFacts { is_executable: true, is_fixed: true },
+///     &OutputFacts { is_executable: true, is_fixed: true, has_near_symbols: true },
 ///     &[SymbolFacts { is_local: true, ..SymbolFacts::default() }; 3],
 ///     &Addresses { section: 0x1000, got_base: 0x1_8000, ..Addresses::default() },
 ///     &[0, 0x1_0000, 0x1_2345].map(|address| Symbol { address, ..Symbol::default() }),
@@ -492,7 +492,7 @@ fn decide_loads<D: AsDecision>(
 /// let mut relocations = [relocation(0, 50, 1), relocation(4, 64, 1)].concat();
 /// rewrite_address_loads(
 ///     Architecture::Ppc64,
-///     &OutputFacts { is_executable: true, is_fixed: true },
+///     &OutputFacts { is_executable: true, is_fixed: true, has_near_symbols: true },
 ///     &[SymbolFacts { is_local: true, ..SymbolFacts::default() }; 3],
 ///     &Addresses { section: 0x1000, got_base: 0x1_8000, ..Addresses::default() },
 ///     &[0, 0x1_0000, 0x1_2345].map(|address| Symbol { address, ..Symbol::default() }),

@@ -81,7 +81,7 @@ fn compare_way(way: &str, counts: &mut [usize; 2]) {
         .filter(|it| !it.is_local && it.home != Home::Undefined)
         .map(|it| it.name.to_string())
         .collect();
-    let output = OutputFacts { is_executable: true, is_fixed: true };
+    let output = OutputFacts { is_executable: true, is_fixed: true, has_near_symbols: true };
     for object in &objects {
         let (of, symbols) = (object.architecture, facts_of(object, &defined));
         let mut kept = vec![KeptGroups::default(); symbols.len()];

@@ -340,7 +340,7 @@ fields! { Addresses: section, got_base, thread_origin, module_origin, module_ent
 fields! {
     SymbolFacts: is_local, is_ifunc, is_absolute, is_undefined_weak, is_tls_get_addr, other,
 }
-fields! { OutputFacts: is_executable, is_fixed, }
+fields! { OutputFacts: is_executable, is_fixed, has_near_symbols, }
 fields! { KeptGroups: initial_exec, general_dynamic, local_dynamic, descriptor, got_load, }
 fields! { KeptFacts: bits, }
 fields! { Origins: thread_pointer, module_block, }

@@ -93,7 +93,8 @@ impl Layout {
         at = aligned(at, 8);
         let got_base = target.got_base(got);
 
-        let output = OutputFacts { is_executable: true, is_fixed: random.below(2) == 0 };
+        let is_fixed = random.below(2) == 0;
+        let output = OutputFacts { is_executable: true, is_fixed, has_near_symbols: true };
         let (mut symbols, mut facts, mut truths) = (Vec::new(), Vec::new(), Vec::new());
         for (index, symbol) in object.symbols.iter().enumerate() {
             let foreign = CODE - FOREIGN_LEN * (index as u64 + 1);

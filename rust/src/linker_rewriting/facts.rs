@@ -33,6 +33,11 @@ pub struct OutputFacts {
     pub is_executable: bool,
     /// It is always loaded at the address that it is linked for.
     pub is_fixed: bool,
+    /// Its code, its GOT and the symbols of its own that its code refers to, except for absolute
+    /// ones, lie within 2 GiB less 64 KiB. A linker may know this before it has a layout, from the
+    /// lengths of sections and where they are placed. Where the fact doesn't hold, no load from the
+    /// GOT becomes a distance before addresses are known.
+    pub has_near_symbols: bool,
 }
 
 /// No address is known.
@@ -72,7 +77,7 @@ pub(crate) fn facts_of(
         is_ifunc: symbol.is_ifunc,
         is_undefined_weak: symbol.is_undefined_weak,
         has_fixed_address: output.is_fixed || has_own_address,
-        has_fixed_distance: output.is_fixed || !has_own_address,
+        has_fixed_distance: output.has_near_symbols && !has_own_address,
         is_executable: output.is_executable,
         has_local_exec_base: true,
         may_compress: false,

@@ -369,7 +369,7 @@ fn keeping_symbol(
 /// let mut kept = [false; 2];
 /// survey_global_pointer(
 ///     Architecture::RiscV,
-///     &OutputFacts { is_executable: true, is_fixed: true },
+///     &OutputFacts { is_executable: true, is_fixed: true, has_near_symbols: true },
 ///     &[SymbolFacts { is_local: true, ..SymbolFacts::default() }; 2],
 ///     &Addresses { section: 0x1_0000, ..Addresses::default() },
 ///     &[0, 0x2_1000].map(|address| Symbol { address, ..Symbol::default() }),
@@ -633,7 +633,7 @@ fn turn_all<D: AsDecision>(decisions: &[D], relocations: &mut [u8]) {
 /// let mut deleted = [(0, 0)];
 /// let rewritten = rewrite_global_pointer(
 ///     Architecture::RiscV,
-///     &OutputFacts { is_executable: true, is_fixed: true },
+///     &OutputFacts { is_executable: true, is_fixed: true, has_near_symbols: true },
 ///     &[SymbolFacts { is_local: true, ..SymbolFacts::default() }; 2],
 ///     &Addresses { section: 0x1_0000, ..Addresses::default() },
 ///     &[0, 0x2_0fff].map(|address| Symbol { address, ..Symbol::default() }),

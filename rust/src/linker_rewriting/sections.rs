@@ -71,11 +71,10 @@ fn make_changes<D: AsDecision>(
 /// deleted. Since no address is known, a value after a rewrite may turn out to be out of reach.
 /// What this call doesn't rewrite, a linker may rewrite by `choose`.
 ///
-/// A value out of reach is an error of `relocate_section`, with one exception: of a load from
-/// LoongArch's GOT that becomes an address nothing tests that 32 signed bits hold the distance,
-/// since `R_LARCH_PCALA_HI20` takes any value. So a linker for LoongArch passes `is_local` only of
-/// symbols that are certain to be that near. An absolute one may not be, nor is any in an output
-/// that may be longer than 2 GiB.
+/// A value out of reach is an error of `relocate_section`, with one exception: what LoongArch's
+/// load from the GOT becomes takes any distance (`R_LARCH_PCALA_HI20`), and nothing tests that 32
+/// signed bits hold it. So a load from the GOT becomes a distance only by `has_near_symbols` of the
+/// output, and that of an absolute symbol never does.
 ///
 /// # Errors
 ///
@@ -97,7 +96,7 @@ fn make_changes<D: AsDecision>(
 /// let mut relocations = [0; 24];
 /// (relocations[0], relocations[8], relocations[12]) = (2, 41, 1);
 /// relocations[16..].copy_from_slice(&(-4i64).to_le_bytes());
-/// let output = OutputFacts { is_executable: true, is_fixed: false };
+/// let output = OutputFacts { is_executable: true, is_fixed: false, has_near_symbols: true };
 /// let symbols = [
 ///     SymbolFacts::default(),
 ///     SymbolFacts { is_local: true, ..SymbolFacts::default() },
@@ -238,7 +237,7 @@ fn list_changes<D: AsDecision, L: FromDeletion>(
 /// let rewritten = rewrite_placed_section(
 ///     Architecture::AArch64,
 ///     Phase::Distances,
-///     &OutputFacts { is_executable: true, is_fixed: true },
+///     &OutputFacts { is_executable: true, is_fixed: true, has_near_symbols: true },
 ///     &[SymbolFacts { is_local: true, ..SymbolFacts::default() }; 2],
 ///     &Addresses { section: 0x1000, ..Addresses::default() },
 ///     &values,

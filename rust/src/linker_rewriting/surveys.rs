@@ -254,7 +254,7 @@ fn survey_in(
 /// // nop, with R_X86_64_TLSDESC_CALL of symbol 1: not a call by a descriptor
 /// let mut relocations = [0; 24];
 /// (relocations[8], relocations[12]) = (35, 1);
-/// let output = OutputFacts { is_executable: true, is_fixed: true };
+/// let output = OutputFacts { is_executable: true, is_fixed: true, has_near_symbols: true };
 /// let symbols = [SymbolFacts::default(); 2];
 /// let mut kept = [KeptGroups::default(); 2];
 /// survey(Architecture::X86_64, &output, &symbols, &relocations, &[0x90], &mut kept);
@@ -307,7 +307,7 @@ pub fn survey(
 /// survey_placed_section(
 ///     Architecture::RiscV,
 ///     Phase::ThreadOffsets,
-///     &OutputFacts { is_executable: true, is_fixed: true },
+///     &OutputFacts { is_executable: true, is_fixed: true, has_near_symbols: true },
 ///     &[SymbolFacts { is_local: true, ..SymbolFacts::default() }; 2],
 ///     &Addresses::default(),
 ///     &[Symbol::default(); 2],

@@ -499,7 +499,8 @@ fn expect_rewritten(count: usize) {
             let name = format!("rewrites of {name}, one symbol: {is_one}");
             expect_growth(&name, count, made, |mut relocations| {
                 let count = relocations.len() / 24;
-                let output = OutputFacts { is_executable: true, is_fixed: true };
+                let (is_executable, is_fixed, has_near_symbols) = (true, true, true);
+                let output = OutputFacts { is_executable, is_fixed, has_near_symbols };
                 let facts = SymbolFacts { is_local: true, ..SymbolFacts::default() };
                 let (symbols, mut kept) = (vec![facts; count], vec![KeptGroups::default(); count]);
                 let mut section = section[..relocation(count, 0).offset as usize & !3].to_vec();

@@ -47,7 +47,7 @@ fn without_thread_offsets(
     section: &[u8],
     entries: &[Entry],
 ) -> (Vec<u8>, Vec<u8>, Vec<(u64, u32)>) {
-    let output = OutputFacts { is_executable: true, is_fixed: true };
+    let output = OutputFacts { is_executable: true, is_fixed: true, has_near_symbols: true };
     let facts = [SymbolFacts { is_local: true, ..SymbolFacts::default() }; 4];
     let addresses =
         Addresses { section: START + BASE, thread_origin: 0x20000, ..Addresses::default() };
