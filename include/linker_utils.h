@@ -550,9 +550,8 @@ struct linker_utils_symbol_facts {
 struct linker_utils_output_facts {
     bool is_executable; /* position-independent or not */
     bool is_fixed; /* it is always loaded at the address that it is linked for */
-    /* Its code, its GOT and the symbols of its own that its code refers to, except for absolute
-     * ones, lie within 2 GiB less 64 KiB. Where the fact doesn't hold, no load from the GOT becomes
-     * a distance before addresses are known. */
+    /* Its code, its GOT and its symbols that its code refers to, except for absolute ones, lie within
+     * 2 GiB less 64 KiB. Else no load from the GOT becomes a distance before addresses are known. */
     bool has_near_symbols;
 };
 
@@ -598,10 +597,7 @@ static inline uint32_t linker_utils_survey(
  * of code of the object, with the same facts. What became of each relocation is in `decisions`,
  * which has an element for each relocation, and need not be initialised; further elements are
  * unchanged. A relocation of a symbol that isn't in the array isn't rewritten. O(n) for n
- * relocations. It doesn't allocate. Where values are written, nothing tests that 32 signed bits hold
- * the distance that replaces a load from LoongArch's GOT, since R_LARCH_PCALA_HI20 takes any value.
- * So a load from the GOT becomes a distance only by `has_near_symbols` of the output, and that of
- * an absolute symbol never does.
+ * relocations. It doesn't allocate.
  *
  * LINKER_UTILS_UNKNOWN_ARCHITECTURE; LINKER_UTILS_SHORT_MEMORY where there are fewer decisions than
  * relocations. Else the status is that of the first relocation that it doesn't accept, `faulty`:
