@@ -249,10 +249,14 @@ ALONE = {
         ("LowHalfOverBase", "TOC16_LO TPREL16_LO", has_no_word_form),
         ("LowHalfOverBase", "TOC16_LO_DS TPREL16_LO_DS", has_word_form),
         ("OffsetToHighHalf", "GOT_TPREL16_LO_DS", None),
-        ("OffsetToLowHalf", "TLS", None),
+        ("OffsetToLowHalf SumToVariable", "TLS", None),
         ("ArgumentToHighHalf ArgumentToOffset", "GOT_TLSGD16_LO", None),
         ("ArgumentToThread", "GOT_TLSLD16_LO", None),
-        ("CallToLowHalf CallToSum", "TLSGD", None), ("CallToBlock", "TLSLD", None),
+        ("CallToLowHalf CallToSum BranchToNop BranchToSum", "TLSGD", None),
+        ("CallToBlock BranchToNop", "TLSLD", None),
+        ("ArgumentToVariable ArgumentToLoad", "GOT_TLSGD_PCREL34", None),
+        ("ArgumentToBlock", "GOT_TLSLD_PCREL34", None),
+        ("LoadToVariable", "GOT_TPREL_PCREL34", None),
     ],
 }
 # of x86-64, by relocations

@@ -31,6 +31,7 @@ pub mod Ppc64IndexedWords
 pub mod Ppc64LowHalves
 pub mod Ppc64Offsets
 pub mod Ppc64Prefixed
+pub mod Ppc64PrefixedThreads
 pub mod Ppc64Quarters
 pub mod Ppc64Threads
 pub mod Ppc64Vectors

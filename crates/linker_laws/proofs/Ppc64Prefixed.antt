@@ -17,42 +17,42 @@ use Rattle.linker_laws.specs.Schemes.{symbol_address}
 use Rattle.linker_laws.specs.Machine.{moved, loaded}
 use Rattle.linker_laws.specs.Ppc64RewriteLaws.{word_of, prefixed_of}
 use Rattle.linker_laws.specs.Ppc64RewriteLaws as laws
-use Rattle.linker_laws.specs.Ppc64Machine.{State, Formats, step_prefixed, write, go_to, AreAlikeBut}
+use Rattle.linker_laws.specs.Ppc64Machine.{State, Formats, base, step_prefixed, write, go_to, AreAlikeBut}
 use Rattle.linker_laws.proofs.AArch64Words.{field_kept}
 use Rattle.linker_laws.proofs.Ppc64Calls.{first_made, second_made, back}
 use Rattle.linker_laws.proofs.RiscVMachine.{times_one, address_is}
 use Rattle.linker_laws.proofs.Words.{two_words}
 
 -- the parts of a prefixed instruction
-pub record HasPrefixedParts (prefix opcode rt : ℕ) (both : ℕ) : Type 0 where
+pub record HasPrefixedParts (prefix opcode rt ra : ℕ) (both : ℕ) : Type 0 where
   pub prefix_is : field both 18 32 ≡ prefix
   pub opcode_is : opcode_of (both / 2 ^ 32) ≡ opcode
   pub rt_is : rt_of (both / 2 ^ 32) ≡ rt
-  pub ra_is : ra_of (both / 2 ^ 32) ≡ 0
+  pub ra_is : ra_of (both / 2 ^ 32) ≡ ra
 
 abbrev places : List ImmediateBit
 places = bits_to 0 15 32 ++ bits_to 16 33 0
 
-same_parts : (x y p op rt : ℕ) → field y 18 32 ≡ field x 18 32 → field y 48 64 ≡ field x 48 64
-    → HasPrefixedParts p op rt x → HasPrefixedParts p op rt y
-same_parts x y p op rt low high h =
+same_parts : (x y p op rt ra : ℕ) → field y 18 32 ≡ field x 18 32 → field y 48 64 ≡ field x 48 64
+    → HasPrefixedParts p op rt ra x → HasPrefixedParts p op rt ra y
+same_parts x y p op rt ra low high h =
     let a = h.opcode_is in
     let b = h.rt_is in
     let c = h.ra_is in
     record { prefix_is = low ∙ h.prefix_is; opcode_is = omega arith; rt_is = omega arith; ra_is = omega arith }
 
-prefixed_after : (bits : BitRange) (v : ℤ) (before after : List ℕ) (p op rt : ℕ)
+pub prefixed_after : (bits : BitRange) (v : ℤ) (before after : List ℕ) (p op rt ra : ℕ)
     → InstructionWritten (Ppc64 Prefixed) bits v before after
-    → HasPrefixedParts p op rt (prefixed_of before) → HasPrefixedParts p op rt (prefixed_of after)
-prefixed_after bits v before after p op rt w h =
-    same_parts (prefixed_of before) (prefixed_of after) p op rt
+    → HasPrefixedParts p op rt ra (prefixed_of before) → HasPrefixedParts p op rt ra (prefixed_of after)
+prefixed_after bits v before after p op rt ra w h =
+    same_parts (prefixed_of before) (prefixed_of after) p op rt ra
     (field_kept [] places _ _ _ _ _ w.clears w.written 18 32 refl refl)
     (field_kept [] places _ _ _ _ _ w.clears w.written 48 64 refl refl) h
 
-of_words : (w1 w2 both p op rt : ℕ) → both ≡ w1 + w2 * 2 ^ 32 → w1 < 2 ^ 32 → w2 < 2 ^ 32
-    → field w1 18 32 ≡ p → opcode_of w2 ≡ op → rt_of w2 ≡ rt → ra_of w2 ≡ 0
-    → HasPrefixedParts p op rt both
-of_words w1 w2 both p op rt is small below a b c d =
+pub of_words : (w1 w2 both p op rt ra : ℕ) → both ≡ w1 + w2 * 2 ^ 32 → w1 < 2 ^ 32 → w2 < 2 ^ 32
+    → field w1 18 32 ≡ p → opcode_of w2 ≡ op → rt_of w2 ≡ rt → ra_of w2 ≡ ra
+    → HasPrefixedParts p op rt ra both
+of_words w1 w2 both p op rt ra is small below a b c d =
     let whole : both / 2 ^ 32 ≡ w2 = omega arith in
     record {
       prefix_is = (let e : field both 18 32 ≡ field w1 18 32 = omega arith in e) ∙ a;
@@ -65,20 +65,20 @@ of_words w1 w2 both p op rt is small below a b c d =
 abbrev pub set_8 : ℕ → ℕ → State → State
 set_8 r v s = write r v (go_to (sum_64 s.pc 8) s)
 
-tests : (both p op rt : ℕ) → HasPrefixedParts p op rt both
+tests : (both p op rt : ℕ) → HasPrefixedParts p op rt 0 both
     → (field both 18 32 == p && (opcode_of (both / 2 ^ 32) == op && ra_of (both / 2 ^ 32) == 0)) ≡ true
 tests both p op rt h =
     ap (λ b. b && (opcode_of (both / 2 ^ 32) == op && ra_of (both / 2 ^ 32) == 0)) (eq-eqb _ _ h.prefix_is)
     ∙ ap (λ b. b && ra_of (both / 2 ^ 32) == 0) (eq-eqb _ _ h.opcode_is) ∙ eq-eqb _ _ h.ra_is
 
-step_pld : (f : Formats) (both rt : ℕ) (s : State) → HasPrefixedParts 0x104 57 rt both
+pub step_pld : (f : Formats) (both rt : ℕ) (s : State) → HasPrefixedParts 0x104 57 rt 0 both
     → step_prefixed f both s
     ≡ Some (set_8 rt (loaded 8 s.memory (moved s.pc ((ppc64_form Prefixed).machine both))) s)
 step_pld f both rt s h =
     cond-true _ _ _ (tests both 0x104 57 rt h)
     ∙ ap (λ r. Some (set_8 r (loaded 8 s.memory (moved s.pc ((ppc64_form Prefixed).machine both))) s)) h.rt_is
 
-step_paddi : (f : Formats) (both rt : ℕ) (s : State) → HasPrefixedParts 0x184 14 rt both
+pub step_paddi : (f : Formats) (both rt : ℕ) (s : State) → HasPrefixedParts 0x184 14 rt 0 both
     → step_prefixed f both s ≡ Some (set_8 rt (moved s.pc ((ppc64_form Prefixed).machine both)) s)
 step_paddi f both rt s h =
     cond-false _ _ _ (ap (λ k. k == 0x104
@@ -86,19 +86,31 @@ step_paddi f both rt s h =
     ∙ cond-true _ _ _ (tests both 0x184 14 rt h)
     ∙ ap (λ r. Some (set_8 r (moved s.pc ((ppc64_form Prefixed).machine both)) s)) h.rt_is
 
+pub step_paddi_over : (f : Formats) (both rt ra : ℕ) (s : State) → HasPrefixedParts 0x180 14 rt ra both
+    → step_prefixed f both s ≡ Some (set_8 rt (moved (base ra s) ((ppc64_form Prefixed).machine both)) s)
+step_paddi_over f both rt ra s h =
+    let m = (ppc64_form Prefixed).machine both in
+    cond-false _ _ _ (ap (λ k. k == 0x104
+    && (opcode_of (both / 2 ^ 32) == 57 && ra_of (both / 2 ^ 32) == 0)) h.prefix_is)
+    ∙ cond-false _ _ _ (ap (λ k. k == 0x184
+    && (opcode_of (both / 2 ^ 32) == 14 && ra_of (both / 2 ^ 32) == 0)) h.prefix_is)
+    ∙ cond-true _ _ _ (ap (λ k. k == 0x180 && opcode_of (both / 2 ^ 32) == 14) h.prefix_is ∙ eq-eqb _ _ h.opcode_is)
+    ∙ ap (λ r. Some (set_8 r (moved (base (ra_of (both / 2 ^ 32)) s) m) s)) h.rt_is
+    ∙ ap (λ a. Some (set_8 rt (moved (base a s) m) s)) h.ra_is
+
 pub pld_to_paddi : relocation_laws.Prefixes → laws.PldToPaddi
 pld_to_paddi prefixes f o s pld paddi small at low high is holds made pld1 paddi2 a1 a2 =
     let w2 = word_of (drop 4 pld) in
     let rt = rt_of w2 in
     let first = and_parts (field (word_of pld) 18 32 == 0x104 && opcode_of w2 == 57) (ra_of w2 == 0) is in
     let second = and_parts (field (word_of pld) 18 32 == 0x104) (opcode_of w2 == 57) first.0 in
-    let old = of_words (word_of pld) w2 (prefixed_of pld) 0x104 57 rt (two_words pld) low high
+    let old = of_words (word_of pld) w2 (prefixed_of pld) 0x104 57 rt 0 (two_words pld) low high
     (eqb-true _ _ second.0) (eqb-true _ _ second.1) refl (eqb-true _ _ first.1) in
     let turned : li_of (rt_of (word_of (drop 4 pld))) < 2 ^ 32 = omega arith in
     let made_words = made ∙ ap (λ w. both_words 0x06100000 (li_of (rt_of w))) (back pld) in
     let p1 = first_made paddi 0x06100000 (li_of rt) (omega arith) turned made_words in
     let p2 = second_made paddi 0x06100000 (li_of rt) (omega arith) turned made_words in
-    let new = of_words 0x06100000 (li_of rt) (prefixed_of paddi) 0x184 14 rt
+    let new = of_words 0x06100000 (li_of rt) (prefixed_of paddi) 0x184 14 rt 0
     (two_words paddi ∙ ap (λ w. w + word_of (drop 4 paddi) * 2 ^ 32) p1 ∙ ap (λ w. 0x06100000 + w * 2 ^ 32) p2)
     (omega arith) turned refl (omega arith) (omega arith) (omega arith) in
     let x = prefixed_of pld1 in
@@ -111,11 +123,11 @@ pld_to_paddi prefixes f o s pld paddi small at low high is holds made pld1 paddi
     ∙ address_is _ _ (prefixes.0 o small o.place paddi paddi2 a2 tt) in
     let t = set_8 rt (symbol_address o) s in
     let left : step_prefixed f x s ≡ Some t =
-    step_pld f x rt s (prefixed_after _ _ pld pld1 0x104 57 rt a1.written old)
+    step_pld f x rt s (prefixed_after _ _ pld pld1 0x104 57 rt 0 a1.written old)
     ∙ ap (λ v. Some (set_8 rt (loaded 8 s.memory v) s)) entry
     ∙ ap (λ v. Some (set_8 rt v s)) holds in
     let right : step_prefixed f y s ≡ Some t =
-    step_paddi f y rt s (prefixed_after _ _ paddi paddi2 0x184 14 rt a2.written new)
+    step_paddi f y rt s (prefixed_after _ _ paddi paddi2 0x184 14 rt 0 a2.written new)
     ∙ ap (λ v. Some (set_8 rt v s)) symbol in
     subst (λ r. IsSomeAnd r (λ t. IsSomeAnd (step_prefixed f y s) (λ u. AreAlikeBut (λ _. false) t u))) (sym left)
     (subst (λ r. IsSomeAnd r (λ u. AreAlikeBut (λ _. false) t u)) (sym right)

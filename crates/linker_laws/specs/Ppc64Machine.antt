@@ -122,6 +122,8 @@ pub data Instruction : Type 0 where
   word_access : Access → Instruction
   indexed : Access → Instruction
   bl : Instruction
+  -- `or` of a register with itself
+  move : Instruction
   no_operation : Instruction
   other : Instruction
 
@@ -132,7 +134,8 @@ of_31 word =
     if field word 0 6 == 0x2e && is_access (access_of word)
     then indexed (access_with (access_of word)) else (
     if field word 0 6 == 0x2a && is_word_access (access_of word)
-    then indexed (word_access_with (access_of word)) else other))
+    then indexed (word_access_with (access_of word)) else (
+    if field word 0 11 == 0x378 && rt_of word == rb_of word then move else other)))
 
 -- `ld` and `lwa`; `std`
 abbrev pub of_58 : ℕ → Instruction
@@ -185,14 +188,15 @@ execute f (word_access a) word s = Some (go_on (accessed f a (rt_of word) (ds_ad
 execute f (indexed a) word s = Some (go_on (accessed f a (rt_of word) (indexed_address word s) s))
 execute f bl word s =
     Some (go_to (moved s.pc ((ppc64_form Branch24).machine word)) (record s { link = next_pc s }))
+execute f move word s = Some (go_on (write (ra_of word) (s.registers (rt_of word)) s))
 execute f no_operation word s = Some (go_on s)
 execute f other word s = None
 
 abbrev pub step : Formats → ℕ → State → Option State
 step f word s = execute f (decode word) word s
 
--- `pld` and `paddi`, relative to the instruction, by the number of their 8 bytes: its lower 32 bits are
--- the prefix.
+-- `pld` and `paddi`, relative to the instruction, and `paddi` over a register, by the number of
+-- their 8 bytes: its lower 32 bits are the prefix.
 abbrev pub step_prefixed : Formats → ℕ → State → Option State
 step_prefixed f both s =
     if field both 18 32 == 0x104 && (opcode_of (both / 2 ^ 32) == 57 && ra_of (both / 2 ^ 32) == 0)
@@ -202,7 +206,11 @@ step_prefixed f both s =
     && (opcode_of (both / 2 ^ 32) == 14 && ra_of (both / 2 ^ 32) == 0)
     then Some (write (rt_of (both / 2 ^ 32)) (moved s.pc ((ppc64_form Prefixed).machine both))
     (go_to (sum_64 s.pc 8) s))
-    else None)
+    else (if field both 18 32 == 0x180 && opcode_of (both / 2 ^ 32) == 14
+    then Some (write (rt_of (both / 2 ^ 32))
+    (moved (base (ra_of (both / 2 ^ 32)) s) ((ppc64_form Prefixed).machine both))
+    (go_to (sum_64 s.pc 8) s))
+    else None))
 
 -- ---- sequences
 

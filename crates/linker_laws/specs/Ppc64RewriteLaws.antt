@@ -8,6 +8,7 @@ use Rattle.linker_ppc64.specs.Ppc64Rewrites.{is_addis_of_toc, is_ld, is_add_of_t
 use Rattle.linker_ppc64.specs.Ppc64Rewrites.{is_indexed, is_store, is_d_access, is_addi}
 use Rattle.linker_ppc64.specs.Ppc64Rewrites.{is_ds_access, is_indexed_word, is_pld, is_addis_over}
 use Rattle.linker_ppc64.specs.Ppc64Rewrites.{is_vector_access, is_addis_of_entry, is_addi_of_toc}
+use Rattle.linker_ppc64.specs.Ppc64Rewrites.{is_bl, is_indexed_any, is_pla}
 use Rattle.linker_elf.specs.Ppc64Relocations.{ppc64_row}
 use Rattle.linker_elf.specs.Relocate.{ppc64_reads}
 use Rattle.linker_ppc64.specs.Ppc64Rewrites.{ppc64_rewrite, opcode_of, rt_of, ra_of, access_of}
@@ -863,6 +864,148 @@ CallToBlock =
     → IsCall call changes (sum_64 (s.registers 13) 0x1000) (λ n. n ≡ sum_64 (s.registers 13) 0) s t bl
     → CallSo f call (without_register 3 (both c changes)) bl s (two made (drop 4 made)) t
 
+-- ---- prefixed code: each instruction of a thread-local sequence, in two runs
+
+-- A run is where the 8 bytes of one are, which are words of 32 bits.
+pub record IsPrefixed (test : ℕ → ℕ → Bool) (o : Operands) (s : State) (insn : List ℕ) : Type 0
+  where
+    pub small : AreAddresses o
+    pub at : s.pc ≡ o.place
+    pub prefix_below : word_of insn < 2 ^ 32
+    pub word_below : word_of (drop 4 insn) < 2 ^ 32
+    pub insn_is : IsTrue (test (word_of insn) (word_of (drop 4 insn)))
+
+-- the register that it writes
+abbrev pub prefixed_target : List ℕ → ℕ
+prefixed_target insn = rt_of (word_of (drop 4 insn))
+
+-- Each run executes one that leaves its link register, and P holds then.
+abbrev pub PrefixedSo : Formats → List ℕ → State → List ℕ → State → (State → State → Type 0)
+    → Type 0
+PrefixedSo f x s y t P =
+    IsSomeAnd (step_prefixed f (prefixed_of x) s) (λ u.
+    IsSomeAnd (step_prefixed f (prefixed_of y) t) (λ v.
+    (u.link ≡ s.link) × (v.link ≡ t.link) × P u v))
+
+-- A register has one number in the object's run, and another one in the new run.
+abbrev pub HasNumbers : ℕ → ℕ → ℕ → State → State → Type 0
+HasNumbers n number other = HasArgument n number (λ m. m ≡ other)
+
+-- It is written so, and may differ.
+abbrev pub Writes : ℕ → ℕ → ℕ → Changes → State → State → Type 0
+Writes n number other c u v = AgreeBut (with_register n c) u v × HasNumbers n number other u v
+
+-- ---- arguments of prefixed code
+
+-- `paddi rT` of the GOT entry of general-dynamic, and `paddi rT,13` with the offset: the variable's
+-- address
+abbrev pub ArgumentToVariable : Type 0
+ArgumentToVariable =
+    (f : Formats) (o : Operands) (s t : State) (c : Changes) (paddi over : List ℕ)
+    → IsPrefixed is_pla o s paddi → AgreeBut c s t → IsRewritten kinds.PaddiToPaddiThread paddi over
+    → (paddi_of over_of : List ℕ)
+    → IsRelocated names.R_PPC64_GOT_TLSGD_PCREL34 o paddi paddi_of
+    → IsRelocated names.R_PPC64_TPREL34 o over over_of
+    → PrefixedSo f paddi_of s over_of t
+    (Writes (prefixed_target paddi) o.got_entry (from_thread o (t.registers 13)) c)
+
+-- ... and `pld rT` of the GOT entry of initial-exec, at another address, which has the offset
+abbrev pub ArgumentToLoad : Type 0
+ArgumentToLoad =
+    (f : Formats) (o : Operands) (s t : State) (c : Changes) (paddi pld : List ℕ)
+    → IsPrefixed is_pla o s paddi → AgreeBut c s t → IsRewritten kinds.PaddiToPld paddi pld
+    → (entry : ℕ) → entry < 2 ^ 64 → loaded 8 t.memory entry ≡ thread_offset o
+    → (paddi_of pld_of : List ℕ)
+    → IsRelocated names.R_PPC64_GOT_TLSGD_PCREL34 o paddi paddi_of
+    → IsRelocated names.R_PPC64_GOT_TPREL_PCREL34 (with_entry entry o) pld pld_of
+    → PrefixedSo f paddi_of s pld_of t
+    (Writes (prefixed_target paddi) o.got_entry (thread_offset o) c)
+
+-- `paddi rT` of the GOT entry of local-dynamic, and `paddi rT,13,4096`: 0x1000 above the thread
+-- pointer
+abbrev pub ArgumentToBlock : Type 0
+ArgumentToBlock =
+    (f : Formats) (o : Operands) (s t : State) (c : Changes) (paddi over : List ℕ)
+    → IsPrefixed is_pla o s paddi → AgreeBut c s t → IsRewritten kinds.PaddiToPaddi4096 paddi over
+    → (paddi_of : List ℕ) → IsRelocated names.R_PPC64_GOT_TLSLD_PCREL34 o paddi paddi_of
+    → PrefixedSo f paddi_of s over t
+    (Writes (prefixed_target paddi) o.got_entry (sum_64 (t.registers 13) 0x1000) c)
+
+-- ---- calls of prefixed code, by R_PPC64_REL24_NOTOC
+
+-- A function, called with an entry's address in register 3, returns a number. In the new run
+-- register 3 has another one. The call returns to the next instruction, and no `nop` has to be there.
+pub record IsBranch (call : State → Option State) (changes : Changes) (number other : ℕ)
+    (s t : State) (bl : List ℕ) : Type 0 where
+  pub bl_is : IsTrue (is_bl (word_of bl))
+  pub entry : ℕ
+  pub argument : HasNumbers 3 entry other s t
+  pub returns : (u v : State) → u.registers 3 ≡ entry → u.registers 13 ≡ s.registers 13
+      → call u ≡ Some v → Returns changes number u v
+
+-- The object's run executes the call, and the new one the word in its place. The link register is
+-- that of the new run before it.
+abbrev pub BranchSo : Formats → (State → Option State) → Changes → List ℕ → State → List ℕ → State
+    → Type 0
+BranchSo f call c bl s new t =
+    IsSomeAnd (step f (word_of bl) s) (λ u. (v : State) → call u ≡ Some v
+    → IsSomeAnd (step f (word_of new) t) (λ w. (w.link ≡ t.link) × AgreeBut c v w))
+
+-- `nop`, where register 3 has what the function returns
+abbrev pub BranchToNop : Type 0
+BranchToNop =
+    (f : Formats) (call : State → Option State) (changes c : Changes) (number : ℕ) (s t : State)
+    (bl blank : List ℕ) → AgreeBut c s t → IsRewritten kinds.BranchToNop bl blank
+    → IsBranch call changes number number s t bl
+    → BranchSo f call (without_register 3 (both c changes)) bl s blank t
+
+-- `add 3,3,13`: the variable's address
+abbrev pub BranchToSum : Type 0
+BranchToSum =
+    (f : Formats) (call : State → Option State) (changes c : Changes) (o : Operands) (s t : State)
+    (bl add : List ℕ) → AgreeBut c s t → IsRewritten kinds.BranchToAdd bl add
+    → t.registers 13 ≡ s.registers 13
+    → IsBranch call changes (from_thread o (s.registers 13)) (thread_offset o) s t bl
+    → BranchSo f call (without_register 3 (both c changes)) bl s add t
+
+-- ---- initial-exec of prefixed code
+
+-- `pld rT` of the GOT entry, which the dynamic linker has set to the offset, and `paddi rT,13` with
+-- it: the variable's address
+abbrev pub LoadToVariable : Type 0
+LoadToVariable =
+    (f : Formats) (o : Operands) (s t : State) (c : Changes) (pld over : List ℕ)
+    → IsPrefixed is_pld o s pld → AgreeBut c s t → IsRewritten kinds.PldToPaddiThread pld over
+    → loaded 8 s.memory o.got_entry ≡ thread_offset o
+    → (pld_of over_of : List ℕ)
+    → IsRelocated names.R_PPC64_GOT_TPREL_PCREL34 o pld pld_of
+    → IsRelocated names.R_PPC64_TPREL34 o over over_of
+    → PrefixedSo f pld_of s over_of t
+    (Writes (prefixed_target pld) (thread_offset o) (from_thread o (t.registers 13)) c)
+
+-- `add rT,rY,13`, or a load or a store by the sum of rY and r13, and the same without r13. In the
+-- object's run rY has the offset, and in the new one the address.
+abbrev pub OverVariable : RelaxationKind → Use → Type 0
+OverVariable kind does =
+    (f : Formats) (o : Operands) (s t : State) (c : Changes) (insn direct : List ℕ) → AgreeBut c s t
+    → IsTrue (does.test (word_of insn)) → IsRewritten kind insn direct
+    → let address = from_thread o (s.registers 13) in
+    HasNumbers (ra_of (word_of insn)) (thread_offset o) address s t
+    → does.Requires c (word_of insn) address
+    → StepSo f (word_of insn) s (word_of direct) t (AgreeBut (does.after c (word_of insn)))
+
+-- what any indexed load or store accesses
+abbrev pub indexed_access : ℕ → Access
+indexed_access word =
+    if field word 0 6 == 0x2e then access_with (access_of word)
+    else word_access_with (access_of word)
+
+-- `mr rT,rY`, or `nop` where rT is rY; and accesses with the displacement 0
+abbrev pub SumToVariable : Type 0
+SumToVariable =
+    OverVariable kinds.AddToMove (adds is_add_of_thread)
+    × OverVariable kinds.IndexedToDirect (accesses is_indexed_any indexed_access)
+
 -- ---- the TOC pointer at the entry of a function
 
 -- S + A of an instruction 4 bytes on, with 4 more in its addend
@@ -934,5 +1077,12 @@ pub record Laws : Type 0 where
   pub call_low_half : CallToLowHalf
   pub call_sum : CallToSum
   pub call_block : CallToBlock
+  pub argument_variable : ArgumentToVariable
+  pub argument_load : ArgumentToLoad
+  pub argument_block : ArgumentToBlock
+  pub branch_nop : BranchToNop
+  pub branch_sum : BranchToSum
+  pub load_variable : LoadToVariable
+  pub sum_variable : SumToVariable
   pub toc_at_entry : TocAtEntry
   pub toc : RestoresToc

@@ -29,15 +29,15 @@ pub fn aarch64()
     crate::relocations::aarch64();
 }
 
-/// PowerPC64: the address of a symbol by its distance from the TOC pointer or from the
-/// instruction and not by its GOT entry, and by one instruction where the distance from the TOC
-/// pointer has no high part; the address of a variable, and loads and stores of it, by its offset
-/// from the thread pointer and not by a GOT entry or a call of `__tls_get_addr`; what is left in
-/// a register by one instruction of such a sequence, in the small code model and where the
-/// argument of `__tls_get_addr` is copied; the TOC pointer at the entry of a function, by its
-/// address, and restored behind a call. The high and the low halves, the arguments of
-/// `__tls_get_addr` and its calls have a law each (from `high_half` to `call_block`), of two
-/// runs, whatever stands between them.
+/// PowerPC64: the address of a symbol by its distance from the TOC pointer or from the instruction
+/// and not by its GOT entry, and by one instruction where the distance from the TOC pointer has no
+/// high part; the address of a variable, and loads and stores of it, by its offset from the thread
+/// pointer and not by a GOT entry or a call of `__tls_get_addr`; what is left in a register by one
+/// instruction of such a sequence, in the small code model and where the argument of
+/// `__tls_get_addr` is copied; the TOC pointer at the entry of a function, by its address, and
+/// restored behind a call. The high and the low halves, the arguments of `__tls_get_addr` and its
+/// calls, and each instruction of a thread-local sequence of prefixed code have a law each (from
+/// `high_half` to `sum_variable`), of two runs, whatever stands between them.
 pub fn ppc64()
     ensures laws { ppc64_laws.Laws }
 {

@@ -2292,170 +2292,255 @@ ppc64_groups =
     row 1723 0x4e800020 with (64, 0x20171d2d6) => (pc, 0x20171d2d4) ∷
     row 1724 0x4e800020 with (64, 0x7c1830) => (pc, 0x7c1830) ∷
     []) ∷
+    -- paddi with R = 0
+    group 0x0 (
+    row 1725 0x3ab8000006000000 with (24, 0) => (21, 0) ∷
+    row 1726 0x3a80ffff0603ffff with (0, 0x8000000000000000) => (20, 0xffffffffffffffff) ∷
+    row 1727 0x3b59000106000000 with (25, 0x7fffffff) => (26, 0x80000000) ∷
+    row 1728 0x3a43000006020000 with (3, 0xffffffff80000000) => (18, 0xfffffffd80000000) ∷
+    row 1729 0x382bffff0601ffff with (11, 0xffffffffffffffff) => (1, 0x1fffffffe) ∷
+    row 1730 0x3b9cffff06000000 with (28, 0x80000000) with (pc, 0x401c0b038) => (28, 0x8000ffff) ∷
+    row 1731 0x38fc000006000001 with (28, 0xffffffff7fffffff) => (7, 0xffffffff8000ffff) ∷
+    row 1732 0x3884800006000000 with (4, 1) => (4, 0x8001) ∷
+    row 1733 0x395700000603ffff with (23, 0x7fffffffffffffff) => (10, 0x7ffffffffffeffff) ∷
+    row 1734 0x3920ffff0603ffff with (0, 0xffffffff) => (9, 0xffffffffffffffff) ∷
+    row 1735 0x3b5a000106000000 with (26, 1) => (26, 2) ∷
+    row 1736 0x3bc2000006020000 with (2, 0x7fffffffffffffff) => (30, 0x7ffffffdffffffff) ∷
+    row 1737 0x3af3ffff0601ffff with (19, 0xffffffff) with (pc, 0x1c26b78) => (23, 0x2fffffffe) ∷
+    row 1738 0x39ceffff06000000 with (14, 0) => (14, 0xffff) ∷
+    row 1739 0x384d000006000001 with (13, 0x8000000000000000) => (2, 0x8000000000010000) ∷
+    row 1740 0x3a2f800006000000 with (15, 0x7fffffff) => (17, 0x80007fff) ∷
+    row 1741 0x3ab900000603ffff with (25, 0xffffffff80000000) with (pc, 0x201c35bb8)
+    => (21, 0xffffffff7fff0000) ∷
+    row 1742 0x3b80000006000000 with (0, 0xffffffffffffffff) => (28, 0) ∷
+    row 1743 0x388b000106000000 with (11, 0x80000000) => (4, 0x80000001) ∷
+    row 1744 0x3aa4000006020000 with (4, 0xffffffff7fffffff) => (21, 0xfffffffd7fffffff) ∷
+    row 1745 0x381ae7a7060153fc => (0, 0x8a1aff19045ce34c) ∷
+    row 1746 0x38e7f2210603f2db => (7, 0xa9920d657c7109c9) ∷
+    row 1747 0x39f8cf9b060162a1 => (15, 0x7e3bc12e338b31b5) ∷
+    row 1748 0x394ae2b806012948 => (10, 0xd46222e42744eb46) ∷
+    row 1749 0x3abeb52f0600344a => (21, 0x7ee8d6eaa1b5e590) ∷
+    row 1750 0x3aa0a08f06021a5b => (21, 0xfffffffe1a5ba08f) ∷
+    row 1751 0x3ba697fc06008e8b => (29, 0xd107b0f31cce0c14) ∷
+    row 1752 0x3a7b52cb0602c725 => (19, 0x3eda417effd305f8) ∷
+    row 1753 0x3877f25a0601344b => (3, 0xa96b4803ec759ea2) ∷
+    row 1754 0x384270060600f458 => (2, 0x503f9c071ea6cf54) ∷
+    row 1755 0x3b925a4f06014cd6 => (28, 0xa2669042bdbadb4d) ∷
+    row 1756 0x38b38827060103c0 => (5, 0xab1b959e393e3406) ∷
+    row 1757 0x3b983c50060397c0 => (28, 0xd154b0c4c9e0e8b0) ∷
+    row 1758 0x3aa088bd0603a7ad => (21, 0xffffffffa7ad88bd) ∷
+    row 1759 0x388dc6d606039b3b => (4, 0x3510bb246a38a113) ∷
+    row 1760 0x3b0b13c80601bebc => (24, 0x4e96fee1d263eef9) ∷
+    row 1761 0x38912aee0601da90 => (4, 0xbaeca67e01659e45) ∷
+    row 1762 0x3908e85e0602b292 => (8, 0x33919cc08dad3ee4) ∷
+    row 1763 0x3bda796e06033870 => (30, 0xfe0611ea65a2eb7c) ∷
+    row 1764 0x38e7feb00603d456 => (7, 0x487f67ad832a2ebe) ∷
+    []) ∷
+    -- mr
+    group 0x0 (
+    row 1765 0x7c651b78 with (3, 0) => (5, 0) ∷
+    row 1766 0x7ce03b78 with (7, 0x8000000000000000) => (0, 0x8000000000000000) ∷
+    row 1767 0x7fdaf378 with (30, 0x7fffffff) => (26, 0x7fffffff) ∷
+    row 1768 0x7c441378 with (2, 0xffffffff80000000) => (4, 0xffffffff80000000) ∷
+    row 1769 0x7c972378 with (4, 0xffffffffffffffff) => (23, 0xffffffffffffffff) ∷
+    row 1770 0x7c631b78 with (3, 0x80000000) ∷
+    row 1771 0x7c230b78 with (1, 0xffffffff7fffffff) => (3, 0xffffffff7fffffff) ∷
+    row 1772 0x7ce73b78 with (7, 1) ∷
+    row 1773 0x7fe5fb78 with (31, 0x7fffffffffffffff) => (5, 0x7fffffffffffffff) ∷
+    row 1774 0x7e609b78 with (19, 0xffffffff) => (0, 0xffffffff) ∷
+    row 1775 0x7e318b78 with (17, 1) ∷
+    row 1776 0x7f93e378 with (28, 0x7fffffffffffffff) => (19, 0x7fffffffffffffff) ∷
+    row 1777 0x7de97b78 with (15, 0xffffffff) => (9, 0xffffffff) ∷
+    row 1778 0x7ce73b78 with (7, 0) ∷
+    row 1779 0x7c8a2378 with (4, 0x8000000000000000) => (10, 0x8000000000000000) ∷
+    row 1780 0x7ec4b378 with (22, 0x7fffffff) => (4, 0x7fffffff) ∷
+    row 1781 0x7dc87378 with (14, 0xffffffff80000000) => (8, 0xffffffff80000000) ∷
+    row 1782 0x7cc03378 with (6, 0xffffffffffffffff) => (0, 0xffffffffffffffff) ∷
+    row 1783 0x7fdff378 with (30, 0x80000000) => (31, 0x80000000) ∷
+    row 1784 0x7dc97378 with (14, 0xffffffff7fffffff) => (9, 0xffffffff7fffffff) ∷
+    row 1785 0x7f43d378 => (3, 0x285fd5b888d8f80d) ∷
+    row 1786 0x7f39cb78 ∷
+    row 1787 0x7d5f5378 => (31, 0x6b1b8c3c426e5c54) ∷
+    row 1788 0x7e94a378 ∷
+    row 1789 0x7c370b78 => (23, 0xbd9100d6fb4515c6) ∷
+    row 1790 0x7c802378 => (0, 0x203e67da3692eabc) ∷
+    row 1791 0x7fb3eb78 => (19, 0xb4a132d8626a9415) ∷
+    row 1792 0x7d1b4378 => (27, 0x4d60f5f3ab8ce31b) ∷
+    row 1793 0x7d8c6378 ∷
+    row 1794 0x7d294b78 ∷
+    row 1795 0x7f4ad378 => (10, 0x43ef58441da4d80) ∷
+    row 1796 0x7e0f8378 => (15, 0xeb3728ef90e3cddf) ∷
+    row 1797 0x7fbceb78 => (28, 0xee57af012b17ea3b) ∷
+    row 1798 0x7c802378 => (0, 0xe4eee1a3bbde1f66) ∷
+    row 1799 0x7ce23b78 => (2, 0x2862c6d0b1071002) ∷
+    row 1800 0x7cf13b78 => (17, 0xf01f733bfe6415f8) ∷
+    row 1801 0x7c4c1378 => (12, 0xb52994560ac56a60) ∷
+    row 1802 0x7d4a5378 ∷
+    row 1803 0x7dc67378 => (6, 0xc2b8869e74737247) ∷
+    row 1804 0x7c631b78 ∷
+    []) ∷
     []
 
 unfoldable pub ppc64_vector_groups : List Group
 ppc64_vector_groups =
     -- stvx
     group 0x0 (
-    row 1725 0x7cb619ce with (3, 0x4044b77ff) with (22, 0) with (133, 0) => (m1, 0x93) => (m2, 0)
-    => (m3, 0xcee992d007048a00) ∷
-    row 1726 0x7d6089ce with (0, 0x8000000000000000) with (17, 0x4fc3390) with (139, 1)
-    => (m1, 0x188db8ad32d) => (m2, 0) => (m3, 0x3433270000000000) ∷
-    row 1727 0x7f3d19ce with (3, 0xffffffff80000012) with (29, 0x7fffffff) with (at, 1)
-    with (153, 0xffffffffffffffffffffffffffffffff) => (m1, 0xffb5c2154efb91ee)
-    => (m2, 0xffffffffffffffff) => (m3, 0x55ffffffffffffff) ∷
-    row 1728 0x7f5ce1ce with (28, 0x800000000203417c) with (154, 0x80000000000000000000000000000000)
-    => (m1, 0x8baa189e1528d6) => (m2, 0) => (m3, 0x4180000000000000) ∷
-    row 1729 0x7d30d9ce with (16, 0xffffffffffffffff) with (27, 0x4b56c08)
-    with (137, 0x7fffffffffffffffffffffffffffffff) => (m0, 0xff14d2338efa6ede)
-    => (m1, 0xffffffffffffffff) => (m2, 0x557fffffffffffff) ∷
-    row 1730 0x7e6c21ce with (4, 0xffffffff849c9d20) with (12, 0x80000000)
-    with (147, 0x10000000000000000) => (m0, 0xd3d) => (m1, 0x10000) => (m2, 0x6b190bbfd7720000) ∷
-    row 1731 0x7d4051ce with (0, 0xffffffff7fffffff) with (10, 0x207fffff1) with (at, 0x207ffffe0)
+    row 1805 0x7cb619ce with (3, 0x404ea24cf) with (22, 0) with (133, 0) => (m1, 0) => (m2, 0) ∷
+    row 1806 0x7d6089ce with (0, 0x8000000000000000) with (17, 0x204316470) with (139, 1)
+    => (m0, 0x1d66103a21e) => (m1, 0) => (m2, 0xd1981b0000000000) ∷
+    row 1807 0x7f3d19ce with (3, 0xffffffff80000012) with (29, 0x7fffffff) with (at, 1)
+    with (153, 0xffffffffffffffffffffffffffffffff) => (m1, 0xff8183317326df2f)
+    => (m2, 0xffffffffffffffff) => (m3, 0x3fffffffffffffff) ∷
+    row 1808 0x7f5ce1ce with (28, 0x8000000202345e04) with (154, 0x80000000000000000000000000000000)
+    => (m1, 0x5d) => (m2, 0) => (m3, 0x26d836e73cb51c80) ∷
+    row 1809 0x7d30d9ce with (16, 0xffffffffffffffff) with (27, 0x4ae2938)
+    with (137, 0x7fffffffffffffffffffffffffffffff) => (m1, 0xffffffffffffffb2)
+    => (m2, 0xffffffffffffffff) => (m3, 0xe201ab96f9f2697f) ∷
+    row 1810 0x7e6c21ce with (4, 0xffffffff84d68910) with (12, 0x80000000)
+    with (147, 0x10000000000000000) => (m0, 0x3bc3) => (m1, 0x10000) => (m2, 0xb892e50b0e8d0000) ∷
+    row 1811 0x7d4051ce with (0, 0xffffffff7fffffff) with (10, 0x207fffff1) with (at, 0x207ffffe0)
     with (138, 0xffffffffffffffff) => (m2, 0xffffffffffffffff) => (m3, 0) ∷
-    row 1732 0x7ecb29ce with (5, 0x4692cf7) with (11, 1) with (150, 1) => (m1, 0x113f5fe) => (m2, 0)
-    => (m3, 0xd140cc95b2000000) ∷
-    row 1733 0x7ff6f1ce with (22, 0x7fffffffffffffff) with (30, 0x8000000204f93648)
-    with (159, 0xffffffffffffffffffffffffffffffff) => (m1, 0xff4a95620879c5ab)
-    => (m2, 0xffffffffffffffff) => (m3, 0xadffffffffffffff) ∷
-    row 1734 0x7ee001ce with (0, 0x416dcef) with (151, 0x80000000000000000000000000000000)
-    => (m0, 0) => (m1, 0x8000000000000000) ∷
-    row 1735 0x7ea211ce with (2, 0x8000000000000008) with (at, 1)
-    with (149, 0x7fffffffffffffffffffffffffffffff) => (m1, 0xff72fa71ce3fed79)
-    => (m2, 0xffffffffffffffff) => (m3, 0xb67fffffffffffff) ∷
-    row 1736 0x7f0841ce with (8, 0x8000000102282be4) with (152, 0x10000000000000000)
-    => (m0, 0xf7b680c17eac) => (m1, 0x1000000000000) => (m2, 0xb812000000000000) ∷
-    row 1737 0x7ce161ce with (1, 0xffffffff) with (12, 0x3046c2bf8) with (135, 0xffffffffffffffff)
-    => (m1, 0xffffffffffa975e5) => (m2, 0xffffff) => (m3, 0xde247df4ea000000) ∷
-    row 1738 0x7eb621ce with (4, 0x46af2df) with (22, 0) with (149, 0) => (m0, 0xfdc807ec565b5)
-    => (m1, 0) => (m2, 0xba00000000000000) ∷
-    row 1739 0x7ec701ce with (0, 0x8000000407fffff0) with (7, 0x8000000000000000)
+    row 1812 0x7ecb29ce with (5, 0x404257667) with (11, 1) with (150, 1) => (m1, 1) => (m2, 0) ∷
+    row 1813 0x7ff6f1ce with (22, 0x7fffffffffffffff) with (30, 0x8000000004f6ae78)
+    with (159, 0xffffffffffffffffffffffffffffffff) => (m1, 0xffffffffffffff8e)
+    => (m2, 0xffffffffffffffff) => (m3, 0x86b40cb483800fff) ∷
+    row 1814 0x7ee001ce with (0, 0x204002e9f) with (151, 0x80000000000000000000000000000000)
+    => (m1, 0x754b230c90a8) => (m2, 0) => (m3, 0xa25d800000000000) ∷
+    row 1815 0x7ea211ce with (2, 0x8000000000000008) with (at, 1)
+    with (149, 0x7fffffffffffffffffffffffffffffff) => (m1, 0xffd564b318879ce8)
+    => (m2, 0xffffffffffffffff) => (m3, 0x8c7fffffffffffff) ∷
+    row 1816 0x7f0841ce with (8, 0x80000001025e0374) with (152, 0x10000000000000000) => (m0, 0)
+    => (m1, 1) ∷
+    row 1817 0x7ce161ce with (1, 0xffffffff) with (12, 0x104c3b488) with (135, 0xffffffffffffffff)
+    => (m1, 0xffffffffffffffff) => (m2, 0) ∷
+    row 1818 0x7eb621ce with (4, 0x20403aa2f) with (22, 0) with (149, 0) => (m0, 0xb2f669)
+    => (m1, 0) => (m2, 0xfa4eff5b02000000) ∷
+    row 1819 0x7ec701ce with (0, 0x8000000407fffff0) with (7, 0x8000000000000000)
     with (at, 0x407ffffe0) with (150, 0xffffffffffffffffffffffffffffffff)
     => (m2, 0xffffffffffffffff) => (m3, 0xffffffffffffffff) ∷
-    row 1740 0x7f5d91ce with (18, 0x3841158c9) with (29, 0x7fffffff)
-    with (154, 0x80000000000000000000000000000000) => (m1, 0x17ad) => (m2, 0)
-    => (m3, 0x3e114fff1b98000) ∷
-    row 1741 0x7c5559ce with (11, 0x48463a277) with (21, 0xffffffff80000000)
-    with (130, 0x7fffffffffffffffffffffffffffffff) => (m0, 0xffffff8aeb3d956b)
-    => (m1, 0xffffffffffffffff) => (m2, 0x18a4b77fffffffff) ∷
-    row 1742 0x7d2029ce with (0, 0xffffffffffffffff) with (5, 0x404ee343f)
-    with (137, 0x10000000000000000) => (m0, 0xb755a0) => (m1, 0x1000000) => (m2, 0x20851eb8a4000000)
-    ∷
-    row 1743 0x7f0f91ce with (15, 0x80000000) with (18, 0xffffffff80000010) with (at, 1)
-    with (152, 0xffffffffffffffff) => (m1, 0xff772d9b37ba52d6) => (m2, 0xffffffffffffff)
-    => (m3, 0xf00000000000000) ∷
-    row 1744 0x7d35a9ce with (21, 0x800000020200c298) with (137, 0) => (m0, 0x5e82) => (m1, 0)
-    => (m2, 0x85fa895ec9940000) ∷
-    row 1745 0x7ee201ce with (0, 0x7874c76b8f1877ca) => (m0, 0x54ef9c6ce519a72d)
-    => (m1, 0x1b2aa45cc5b0f938) => (m2, 0xdd5538da25c11f1a) ∷
-    row 1746 0x7ef339ce with (7, 0x87b39bcd64857e72) => (m0, 0x6712edfac936c800)
-    => (m1, 0xc85c786e77b671a4) => (m2, 0xa2cdf39f995db9b) ∷
-    row 1747 0x7e5e29ce with (5, 0xeaf3f2932fd83a8f) with (at, 0x207ffffe0)
-    => (m2, 0xaf98884504118e83) => (m3, 0xb378dce005fcce0b) ∷
-    row 1748 0x7e8d49ce with (9, 0x8991afb0015ee3f2) => (m1, 0x96872d8f78699fd7)
-    => (m2, 0xbc7dc39a3b148901) ∷
-    row 1749 0x7d0e01ce with (0, 0x614f3e4c861660b7) => (m1, 0xd52ea8d9ac94954d)
-    => (m2, 0xeb8e02e28837ae7) => (m3, 0x936eebf55cfae9d3) ∷
-    row 1750 0x7e8001ce with (0, 0x4042ce429) => (m1, 0xa2cae38dcb0ebf95)
-    => (m2, 0xc31cb001bfe09f73) => (m3, 0x937820407a4e43b3) ∷
-    row 1751 0x7d8a31ce with (6, 0xf4c7fa72a1229d17) with (at, 1) => (m1, 0xe25711658b6ac205)
-    => (m2, 0x576805df2038143b) => (m3, 0x9a00a794a5b76994) ∷
-    row 1752 0x7f0109ce with (1, 0x800000020237b056) => (m1, 0x7a6c1ba372589c9b)
-    => (m2, 0x3d349c899d5a1b61) => (m3, 0xa6bb2ae4c097d601) ∷
-    row 1753 0x7d3111ce with (2, 0xf887a161b0882153) => (m0, 0xb5bc72ee0dbf6e6f)
-    => (m1, 0x3f93ad9eccf5b1e0) ∷
-    row 1754 0x7fe249ce with (9, 0xafc063f9da449e11) => (m1, 0xa703b4704f2eda3e)
-    => (m2, 0x8f1516c6d5367cc9) => (m3, 0xa47f75cb848990f7) ∷
-    row 1755 0x7ee0e9ce with (29, 0x207fffff6) with (at, 0x207ffffe0) => (m2, 0xde792848a15cf7dc)
-    => (m3, 0xa3e0e1a233b60fd0) ∷
-    row 1756 0x7e0d31ce with (6, 0x366eacb55c5ec30f) => (m0, 0xcab03eb76573517a)
-    => (m1, 0x3379cdf618195396) ∷
-    row 1757 0x7f13f1ce with (30, 0x2410def2d4f98cbb) => (m1, 0x835c2580983e8bd9)
-    => (m2, 0xbe7b89c9dd4c2059) => (m3, 0x68dc94464e0e9bb9) ∷
-    row 1758 0x7da0b1ce with (22, 0x47d9755) => (m1, 0x9536d815f7c5775b) => (m2, 0x495ad27ddf0287dc)
-    => (m3, 0x72623f864887690e) ∷
-    row 1759 0x7f1961ce with (12, 0xd1d079551389c4fb) with (at, 1) => (m1, 0x8cab4ffcc9513b04)
-    => (m2, 0x395ea32665dd1c74) => (m3, 0x46be182d56e7e3c8) ∷
-    row 1760 0x7e98c1ce with (24, 0x202224a54) => (m1, 0xd322fcdb8d85d6d5)
-    => (m2, 0x95475c6f71b06937) => (m3, 0x7cc752a08b4ec38) ∷
-    row 1761 0x7d7319ce with (3, 0x44dd2eb85711e52b) => (m0, 0x74e882ef181106c1)
-    => (m1, 0x5c3f0212dd9a4308) => (m2, 0x46d0a9c5a5ad455e) ∷
-    row 1762 0x7f5ce1ce with (28, 0x8000000202765917) => (m1, 0x4e0d4ad57796ec)
-    => (m2, 0xd42ea8638d652397) => (m3, 0xbc31e0aec7aa0b08) ∷
-    row 1763 0x7e6a61ce with (12, 0x7ae0fb13ec413540) with (at, 0x7ffffe0)
-    => (m2, 0xddc80d13208dc6d2) => (m3, 0x5805ce043c224233) ∷
-    row 1764 0x7d43b9ce with (23, 0x7d34c33b30f45961) => (m1, 0x98408b84ca7e7c99)
-    => (m2, 0xcafbbd3a6f6f5fda) ∷
+    row 1820 0x7f5d91ce with (18, 0xffffffff8481c2f9) with (29, 0x7fffffff)
+    with (154, 0x80000000000000000000000000000000) => (m1, 0xc2d38478) => (m2, 0)
+    => (m3, 0xcdc1ee7a80000000) ∷
+    row 1821 0x7c5559ce with (11, 0x2846a90b7) with (21, 0xffffffff80000000)
+    with (130, 0x7fffffffffffffffffffffffffffffff) => (m0, 0xffffffffffffffff)
+    => (m1, 0x7fffffffffffffff) ∷
+    row 1822 0x7d2029ce with (0, 0xffffffffffffffff) with (5, 0x20436514f)
+    with (137, 0x10000000000000000) => (m1, 0xd55c96f8) => (m2, 0x100000000)
+    => (m3, 0x42bb4db300000000) ∷
+    row 1823 0x7f0f91ce with (15, 0x80000000) with (18, 0xffffffff80000010) with (at, 1)
+    with (152, 0xffffffffffffffff) => (m1, 0xff532101a81e6473) => (m2, 0xffffffffffffff)
+    => (m3, 0xd700000000000000) ∷
+    row 1824 0x7d35a9ce with (21, 0x800000020210aa88) with (137, 0) => (m0, 0x38d7) => (m1, 0)
+    => (m2, 0xb4e632ab03600000) ∷
+    row 1825 0x7ee201ce with (0, 0xccbe85686e0832b0) => (m1, 0xdd4d689fe09c87de)
+    => (m2, 0x6375bf7c3a6daea6) => (m3, 0xa096ba23a2e5e3e5) ∷
+    row 1826 0x7ef339ce with (7, 0x9ce57d030ac8a22) => (m0, 0x109f8df54540bae1)
+    => (m1, 0x94ceede0aa6a6c94) => (m2, 0x35f53575e057b594) ∷
+    row 1827 0x7e5e29ce with (5, 0x140b6924c3852592) with (at, 0x7ffffe0)
+    => (m2, 0x6875deb885b01bdc) => (m3, 0xd8b9aa7ef8b5250e) ∷
+    row 1828 0x7e8d49ce with (9, 0x8839c5f45f087490) => (m0, 0x58ffb86a73fc9d88)
+    => (m1, 0xe67c2aed32a8836a) => (m2, 0xd5ff53574da57d30) ∷
+    row 1829 0x7d0e01ce with (0, 0xca04beab1aee2593) => (m0, 0x978d575b7cb2e316)
+    => (m1, 0xe8c25f4632a3c789) => (m2, 0xdb69dcab9ca4e903) ∷
+    row 1830 0x7e8001ce with (0, 0x404d3cc99) => (m1, 0x7f766d1b71e2a71a)
+    => (m2, 0xb23cd90671e5652e) => (m3, 0x4ce09fd885f1f755) ∷
+    row 1831 0x7d8a31ce with (6, 0xb1a6eb8a7ea09df9) with (at, 1) => (m1, 0xcfc9adf121eb35cf)
+    => (m2, 0xf32dc6f493fd7b99) => (m3, 0x4e797b79069d67ec) ∷
+    row 1832 0x7f0109ce with (1, 0x80000002024c534e) => (m1, 0x272ae63dad9c9cab)
+    => (m2, 0x5685de141b0d7616) => (m3, 0x1abbdd05cb9d00b7) ∷
+    row 1833 0x7d3111ce with (2, 0xb24d5ee844682593) => (m1, 0xa5844f1714f6dbae)
+    => (m2, 0x4f01ef67e1f50b34) => (m3, 0x707b5f7a6241a25b) ∷
+    row 1834 0x7fe249ce with (9, 0x16b2d7aeee9f0f44) => (m0, 0xf20006c4fc04892a)
+    => (m1, 0x2aa73efe3ac49266) => (m2, 0x93216947a9bbb8ac) ∷
+    row 1835 0x7ee0e9ce with (29, 0x207fffff6) with (at, 0x207ffffe0) => (m2, 0x94ea7760613f4704)
+    => (m3, 0xb1f0653569e70a00) ∷
+    row 1836 0x7e0d31ce with (6, 0x429d39d493f5679f) => (m1, 0x739ee84070faa9a4)
+    => (m2, 0xbcd501bf4b2fe106) => (m3, 0xa3de7a017f6d615d) ∷
+    row 1837 0x7f13f1ce with (30, 0xbc35ee608c313e6c) => (m0, 0xfd041165e86fe50e)
+    => (m1, 0x5cff0b4eb0b12334) => (m2, 0xdbcd70e4ae6b3ae2) ∷
+    row 1838 0x7da0b1ce with (22, 0x4042df5c5) => (m0, 0x4b3ca9232a3339fd)
+    => (m1, 0x27a372e74b5cb593) => (m2, 0xf67f674b2579a94d) ∷
+    row 1839 0x7f1961ce with (12, 0xf42b69f6a543ee77) with (at, 1) => (m1, 0x9cc6389785ee10fc)
+    => (m2, 0x435297b248d1a783) => (m3, 0xe69955a8a498d580) ∷
+    row 1840 0x7e98c1ce with (24, 0x1026652fc) => (m1, 0xd3ecd60bdbd9db12)
+    => (m2, 0x36c5b3b85e3a9939) => (m3, 0xa8fa45847b818933) ∷
+    row 1841 0x7d7319ce with (3, 0xe3c579997aeacb75) => (m0, 0x8167eae04e7a31b8)
+    => (m1, 0x81de1773837f063b) => (m2, 0x4ecf6d37c4f5a6d1) ∷
+    row 1842 0x7f5ce1ce with (28, 0x800000020250e5d7) => (m1, 0xfc139964820eba9f)
+    => (m2, 0x49c176323b0e8505) ∷
+    row 1843 0x7e6a61ce with (12, 0x52ec7e761094a2dd) with (at, 0x207ffffe0)
+    => (m2, 0xa24d7a59fdd11ca) => (m3, 0xf0c8c955d55cebf1) ∷
+    row 1844 0x7d43b9ce with (23, 0x67c036bcb0e7b53e) => (m0, 0xb85805e988d548d4)
+    => (m1, 0xafc1748834c66256) => (m2, 0x731d68f8245c235b) ∷
     []) ∷
     -- lvx
     group 0x0 (
-    row 1765 0x7c9940ce with (8, 0x40efacf) with (25, 0) with (m1, 0)
-    => (132, 0xa94f4a0000000000000000cc9f68cc50) ∷
-    row 1766 0x7c8048ce with (0, 0x8000000000000000) with (9, 0x40435a310) with (m1, 0xffffffff)
-    => (132, 0xa4df00000000ffffffffda3cce0cc3fe) ∷
-    row 1767 0x7dfd80ce with (16, 0xffffffff80000012) with (29, 0x7fffffff)
-    with (m1, 0x7fffffffffffffff) with (at, 1) => (143, 0xbb0fb2b4c2c3096345aaef275cd29b7f) ∷
-    row 1768 0x7d9bd8ce with (27, 0x26b3b4c) with (m1, 1)
-    => (140, 0x43f571c4633c662c3fb3d87e00000000) ∷
-    row 1769 0x7ff768ce with (13, 0x40450a1b8) with (23, 0xffffffffffffffff)
-    with (m1, 0xffffffff7fffffff) => (159, 0xa65556b4cc33b3b688ffffffff7fffff) ∷
-    row 1770 0x7e0330ce with (3, 0x80000000) with (6, 0xffffffff84adbf90) with (m1, 0x80000000)
-    => (144, 0x86f55557b067e834f7035c6cb9000000) ∷
-    row 1771 0x7ebd30ce with (6, 0x487fffff2) with (29, 0xffffffff7fffffff)
-    with (m1, 0xffffffffffffffff) with (at, 0x407ffffe0) => (149, 0x799e99217828ee16662f484aeadfb12)
+    row 1845 0x7c9940ce with (8, 0x487a09f) with (25, 0) with (m1, 0)
+    => (132, 0xd394bb9146383b478032710000000000) ∷
+    row 1846 0x7c8048ce with (0, 0x8000000000000000) with (9, 0x40444ccf0) with (m1, 0xffffffff)
+    => (132, 0x49144b00000000ffffffffba27b2bcdd) ∷
+    row 1847 0x7dfd80ce with (16, 0xffffffff80000012) with (29, 0x7fffffff)
+    with (m1, 0x7fffffffffffffff) with (at, 1) => (143, 0xa1c80ae0c5824760fa6e862ebace4c7f) ∷
+    row 1848 0x7d9bd8ce with (27, 0x202095454) with (m1, 1)
+    => (140, 0x28371414bbbd485bceeae7ebd5607500) ∷
+    row 1849 0x7ff768ce with (13, 0x2042357d8) with (23, 0xffffffffffffffff)
+    with (m1, 0xffffffff7fffffff) => (159, 0x8498cac5ffffffff7fffffff9c326275) ∷
+    row 1850 0x7e0330ce with (3, 0x80000000) with (6, 0x384c1a470) with (m1, 0x80000000)
+    => (144, 0x191bfbf9050d3c0000000080000000d6) ∷
+    row 1851 0x7ebd30ce with (6, 0x287fffff2) with (29, 0xffffffff7fffffff)
+    with (m1, 0xffffffffffffffff) with (at, 0x207ffffe0) => (149, 0xc505bbad6937f36356454c2491a27db)
     ∷
-    row 1772 0x7e6580ce with (5, 1) with (16, 0x404bb7e17) with (m1, 0xffffffff80000000)
-    => (147, 0x9d35a86192ffffffff80000000c95635) ∷
-    row 1773 0x7ca200ce with (0, 0x800000040416c978) with (2, 0x7fffffffffffffff)
-    with (m1, 0x7fffffff) => (133, 0x88eed785b97b97762c984ba03a000000) ∷
-    row 1774 0x7ec000ce with (0, 0x204ffb22f) with (m1, 0x8000000000000000)
-    => (150, 0xb7088000000000000000a836df87422d) ∷
-    row 1775 0x7ffc68ce with (13, 0x10) with (28, 1) with (m1, 1) with (at, 1)
-    => (159, 0x50181d34cfdd2ed0d4759bf08ca5fe00) ∷
-    row 1776 0x7c7ce0ce with (28, 0x80000001023d2de4) with (m1, 0xffffffff7fffffff)
-    => (131, 0xe47be62a6d1bffffffff7fffffffa612) ∷
-    row 1777 0x7c95b0ce with (21, 0xffffffff) with (22, 0xffffffff040c1ca8) with (m1, 0x80000000)
-    => (132, 0xb7710c600000000080000000e7eca0b6) ∷
-    row 1778 0x7d90e0ce with (16, 0) with (28, 0x404d6259f) with (m1, 0xffffffffffffffff)
-    => (140, 0x8ab4646083ccffffffffffffffffc2e9) ∷
-    row 1779 0x7e6b58ce with (11, 0x8000000103fffff8) with (m1, 0xffffffff80000000)
-    with (at, 0x207ffffe0) => (147, 0xe27d48d80caaadefd840160cecf8d35f) ∷
-    row 1780 0x7f1b20ce with (4, 0x184bdba49) with (27, 0x7fffffff) with (m1, 0x7fffffff)
-    => (152, 0x98dc5139fb19000000007fffffff36af) ∷
-    row 1781 0x7ec5c0ce with (5, 0xffffffff80000000) with (24, 0x84db4607)
-    with (m1, 0x8000000000000000) => (150, 0xe9123fafa800000000000000065cb8c) ∷
-    row 1782 0x7d2008ce with (0, 0xffffffffffffffff) with (1, 0x4043119df) with (m1, 0)
-    => (137, 0x8fbdfecbacb6d3030000000000000000) ∷
-    row 1783 0x7ddda8ce with (21, 0xffffffff80000010) with (29, 0x80000000) with (m1, 0xffffffff)
-    with (at, 1) => (142, 0x9751009f1301245b988deba3f2833300) ∷
-    row 1784 0x7cbce0ce with (28, 0x20242ccc8) with (m1, 0x7fffffffffffffff)
-    => (133, 0x9676d70b8b7fffffffffffffff17b9fa) ∷
-    row 1785 0x7e59f0ce with (30, 0x4248d785734924a1) => (146, 0xa425646c09c7bba873940378115f974f) ∷
-    row 1786 0x7e2880ce with (16, 0x79e0a082e34a92f0) => (145, 0x76426c3caf9aa4af088e8764a75e07df) ∷
-    row 1787 0x7d1500ce with (0, 0xd4342a9d7c509a53) with (at, 0x7ffffe0)
-    => (136, 0xdee6a5d4ec08d6ce6ba3354c1579b57c) ∷
-    row 1788 0x7ed870ce with (14, 0x4fed0db4f547b802) => (150, 0x9e71f868c6c1610daff074b1b2cdc290) ∷
-    row 1789 0x7cff98ce with (19, 0x46001ecea2f38a03) => (135, 0x3a693878d28e9ff901bb74325f8c16b2) ∷
-    row 1790 0x7f6000ce with (0, 0x404c9da1a) => (155, 0xf8cf073e3bf98960b89e51a65fe0fd2c) ∷
-    row 1791 0x7f2218ce with (3, 0x84742211bbe049c1) with (at, 1)
-    => (153, 0x4f04d8f38c2eecf34a0406418e6a3a38) ∷
-    row 1792 0x7fac60ce with (12, 0x80000000027c1800) => (157, 0xd8bc4e67f1b9b3cb350ee70d205721ea) ∷
-    row 1793 0x7feed0ce with (26, 0x366d156637136684) => (159, 0xebe665963c2c7d8dd584788e0c3e354f) ∷
-    row 1794 0x7cb5b0ce with (22, 0xeff31c1ee9ee505b) => (133, 0x3b071afb9b8e9e5da34b7be50acf6486) ∷
-    row 1795 0x7d7980ce with (16, 0x150bd9a62ad776a) with (at, 0x7ffffe0)
-    => (139, 0x31a43b4ab59d097ef6ddaa2e2830a16b) ∷
-    row 1796 0x7fb9a8ce with (21, 0xa0a16f1e24cf84a4) => (157, 0x4b9af8ea93b09a2e16580c2d41ff44d3) ∷
-    row 1797 0x7f2b08ce with (1, 0x30decd21bf5058e4) => (153, 0x56568dd31dc9efd6216a66a45193ed65) ∷
-    row 1798 0x7d0028ce with (5, 0x4749daf) => (136, 0xe7361797286d89e734567d0ea17b6b49) ∷
-    row 1799 0x7d8728ce with (5, 0xd79d392f4ef8f01a) with (at, 1)
-    => (140, 0x8cb668323b6684ac8177d7c9605b1188) ∷
-    row 1800 0x7cc318ce with (3, 0x1023e64da) => (134, 0x85dc56d265dd39df0ad7ce928d3be960) ∷
-    row 1801 0x7c9598ce with (19, 0xba6093e24f2b510d) => (132, 0xa5f3a0f4db6bbfed48d04ae66dbfc0d1) ∷
-    row 1802 0x7ebe28ce with (5, 0x1ca4d1610a0b04f3) => (149, 0xd21f09e6a70f5a5e04b103ea08d21734) ∷
-    row 1803 0x7e7948ce with (9, 0x68652e088ad9aec0) with (at, 0x207ffffe0)
-    => (147, 0x583043b5696745ffb46374db251d972c) ∷
-    row 1804 0x7f9498ce with (19, 0xe15b5b2442e49332) => (156, 0xc6de64bb21330294f6c0596cbd848691) ∷
+    row 1852 0x7e6580ce with (5, 1) with (16, 0x404a715d7) with (m1, 0xffffffff80000000)
+    => (147, 0xeb74d81aa0ffffffff8000000092c195) ∷
+    row 1853 0x7ca200ce with (0, 0x800000040498e548) with (2, 0x7fffffffffffffff)
+    with (m1, 0x7fffffff) => (133, 0x809f7c3ee58e000000007fffffffaa43) ∷
+    row 1854 0x7ec000ce with (0, 0x4c2fccf) with (m1, 0x8000000000000000)
+    => (150, 0x85bc9f1fb65f4e88a280000000000000) ∷
+    row 1855 0x7ffc68ce with (13, 0x10) with (28, 1) with (m1, 1) with (at, 1)
+    => (159, 0xcd799a86eefe99ba1fe2581e0703dd00) ∷
+    row 1856 0x7c7ce0ce with (28, 0x800000020235574c) with (m1, 0xffffffff7fffffff)
+    => (131, 0xb75f1c982bfad41adaf25cb8685740ff) ∷
+    row 1857 0x7c95b0ce with (21, 0xffffffff) with (22, 0x30492f388) with (m1, 0x80000000)
+    => (132, 0x79ec2e7282cb0000000080000000a572) ∷
+    row 1858 0x7d90e0ce with (16, 0) with (28, 0x404f3808f) with (m1, 0xffffffffffffffff)
+    => (140, 0xffffffffffffffff82305c30eb942eee) ∷
+    row 1859 0x7e6b58ce with (11, 0x8000000003fffff8) with (m1, 0xffffffff80000000)
+    with (at, 0x7ffffe0) => (147, 0x59376ee7f1d80071bac8475bad816255) ∷
+    row 1860 0x7f1b20ce with (4, 0x384081d69) with (27, 0x7fffffff) with (m1, 0x7fffffff)
+    => (152, 0x1655000000007fffffffebb122044686) ∷
+    row 1861 0x7ec5c0ce with (5, 0xffffffff80000000) with (24, 0x484118297)
+    with (m1, 0x8000000000000000) => (150, 0xa69b33a27c80000000000000001c8e36) ∷
+    row 1862 0x7d2008ce with (0, 0xffffffffffffffff) with (1, 0x204532fdf) with (m1, 0)
+    => (137, 0x9f6f69c253885b8a06ca000000000000) ∷
+    row 1863 0x7ddda8ce with (21, 0xffffffff80000010) with (29, 0x80000000) with (m1, 0xffffffff)
+    with (at, 1) => (142, 0x8e3ba3174e84bd375d83ccf789434000) ∷
+    row 1864 0x7cbce0ce with (28, 0x1023fb138) with (m1, 0x7fffffffffffffff)
+    => (133, 0xfc1a05d242324a25519c6f3157dd7fff) ∷
+    row 1865 0x7e59f0ce with (30, 0x9e5e8a70490cb148) => (146, 0x44a16e1212c70c7c8d1dd038a7b4aded) ∷
+    row 1866 0x7e2880ce with (16, 0xab86f31884276913) => (145, 0x4983858bf17c098d479dabf2c49aa930) ∷
+    row 1867 0x7d1500ce with (0, 0x84734e419b3a7a61) with (at, 0x7ffffe0)
+    => (136, 0x41377509f7528b7d39c20fbffc1ea6a0) ∷
+    row 1868 0x7ed870ce with (14, 0x48b891ef0128efb5) => (150, 0x9067dcef56e26a1bda34164d98c7d169) ∷
+    row 1869 0x7cff98ce with (19, 0x3690309a0a7bb5fa) => (135, 0x6ab63e78a45e693b4d3daa1312ea0e56) ∷
+    row 1870 0x7f6000ce with (0, 0x4f5662a) => (155, 0xfd41fb8ec43f8a251a39ab8b07f5c054) ∷
+    row 1871 0x7f2218ce with (3, 0x3b2bab78fff67c21) with (at, 1)
+    => (153, 0xdc98a091e414b2baa5a30cbb418c746b) ∷
+    row 1872 0x7fac60ce with (12, 0x8000000102286220) => (157, 0xce5dae93629af5ae931030624b61ea5f) ∷
+    row 1873 0x7feed0ce with (26, 0x511a37a7a2dc365) => (159, 0xc8104aa85618ccd3e5120442f98d26be) ∷
+    row 1874 0x7cb5b0ce with (22, 0xaf7957c287afa191) => (133, 0x3e19361c7b0df04d089670b18ef69969) ∷
+    row 1875 0x7d7980ce with (16, 0x75316518c8e7e718) with (at, 0x407ffffe0)
+    => (139, 0x866e93a4e703205bb7760dc734f1f4bd) ∷
+    row 1876 0x7fb9a8ce with (21, 0x19a45575e64e61fd) => (157, 0x28f8842b31202ec3ad270e32639f3f7d) ∷
+    row 1877 0x7f2b08ce with (1, 0xc2dc74e2dcfa3513) => (153, 0x300197bf39cc7f5b5ef44f6d9826b63d) ∷
+    row 1878 0x7d0028ce with (5, 0x204544a6f) => (136, 0xadc9c69c5375d611faf9b804ebbf673b) ∷
+    row 1879 0x7d8728ce with (5, 0xbdc451abb5baee8f) with (at, 1)
+    => (140, 0xb0f354f6afae795f73c003692fdf79a7) ∷
+    row 1880 0x7cc318ce with (3, 0x21a14aa) => (134, 0x6f2c9b65768b5a5fff66ee80da5c75af) ∷
+    row 1881 0x7c9598ce with (19, 0xe822e9136c06be5a) => (132, 0x8157247b0673508585e0a943e5c36645) ∷
+    row 1882 0x7ebe28ce with (5, 0xbad2c91137ee8a1c) => (149, 0x5860a5f792cb2d2325f16e0cf82f3f44) ∷
+    row 1883 0x7e7948ce with (9, 0xf0af2c5fcaf7bc41) with (at, 0x407ffffe0)
+    => (147, 0x98914534c0e9bf0b6092819957fb4cab) ∷
+    row 1884 0x7f9498ce with (19, 0x4cde801a95ddab7b) => (156, 0x54b1f8d444592dcd3778708104cac80b) ∷
     []) ∷
     []
 
@@ -2466,95 +2551,95 @@ ppc64_savegpr0 =
     (0xf9c1ff70 ∷ 0xf9e1ff78 ∷ 0xfa01ff80 ∷ 0xfa21ff88 ∷ 0xfa41ff90 ∷ 0xfa61ff98 ∷ 0xfa81ffa0 ∷
     0xfaa1ffa8 ∷ 0xfac1ffb0 ∷ 0xfae1ffb8 ∷ 0xfb01ffc0 ∷ 0xfb21ffc8 ∷ 0xfb41ffd0 ∷ 0xfb61ffd8 ∷
     0xfb81ffe0 ∷ 0xfba1ffe8 ∷ 0xfbc1fff0 ∷ 0xfbe1fff8 ∷ 0xf8010010 ∷ 0x4e800020 ∷ []) (
-    row 1805 14 with (1, 0x404ea2558) with (64, 0x201bedd5a) => (pc, 0x201bedd58)
-    => (162, 0xce7e681748205366) => (163, 0x3c6f8db1c7214083) => (164, 0xc63e4c559d990949)
-    => (165, 0x6beaa402cb87adb8) => (166, 0x2d7494b950ed2dcf) => (167, 0xadc1e792dc98990)
-    => (168, 0x4214142621cc0f9) => (169, 0x1943fd14ede6d40b) => (170, 0x4a4451f0d127c2c6)
-    => (171, 0x97223fd60bdf8d2a) => (172, 0xffddc6c49e0e3337) => (173, 0x8476e6bc87b3b4ed)
-    => (174, 0x24ed9fbdc8d0124b) => (175, 0xe141f1c861634b52) => (176, 0xb973dcdc516d6002)
-    => (177, 0xad8360f998ee505b) => (178, 0xbd707e2037e61c5d) => (179, 0xe93b34502e54c408)
-    => (182, 0xc490fc7935d3740e) ∷
-    row 1806 15 with (1, 0x207ffffe8) with (64, 0x201badd83) with (at, 0x207ffff30)
-    => (pc, 0x201badd80) => (166, 0xede162d1f1509e25) => (167, 0xbfdef6f33ea40fc4)
-    => (168, 0xadba241de36e5d0b) => (169, 0xb772ea51dfaf85fa) => (170, 0xdd09498f33678a93)
-    => (171, 0x1e7d41d5de966ad5) => (172, 0x7bced325e13c26bf) => (173, 0xf4fdfd7f3b58be52)
-    => (174, 0x8a0ac0e1ecec318e) => (175, 0x3af51d4df5f68073) => (176, 0x7bd12c35677ab01)
-    => (177, 0xf062a1420e6fb137) => (178, 0xf4e5c8ca1dde9317) => (179, 0x1546895b84c4509f)
-    => (180, 0x951d7cb84320e9d0) => (181, 0x8ebc8c8658f45eaa) => (182, 0xa439355dc63eaf2d)
-    => (185, 0xafe5713f6923ed07) ∷
-    row 1807 16 with (1, 0x4045b9775) with (64, 0x40153af05) => (pc, 0x40153af04)
-    => (164, 0x112e8da7bb57ee66) => (165, 0xe8bbad79d6fde485) => (166, 0xdc2666554a1ab64d)
-    => (167, 0xeb6eb83a14ae63bd) => (168, 0x1694a32836b8ecd7) => (169, 0x5d98271fb03a519a)
-    => (170, 0xc079442081329205) => (171, 0x3f37fa2aa9a1ae19) => (172, 0xd9d4493e2987a5d6)
-    => (173, 0x904e315b00e4793c) => (174, 0x62a5b2812fb8284b) => (175, 0x50daccb0b602b302)
-    => (176, 0x5aed7fe993c41963) => (177, 0x80ddcc2bc8fc5b6c) => (178, 0xc2abb17755ab791e)
-    => (179, 0x20572fcc39d17279) => (182, 0xeb3a677c781d3e26) ∷
-    row 1808 17 with (1, 0x40468bc97) with (64, 0x2007dedd8) => (pc, 0x2007dedd8)
-    => (165, 0x36eb9e82a6364426) => (166, 0x72852cdb902ebec6) => (167, 0xc9fc543dd19e150f)
-    => (168, 0x3d5114a96a844701) => (169, 0xcc836e1e5ae1549c) => (170, 0x7793609ca2b53ddf)
-    => (171, 0xbf412aea420002cc) => (172, 0x438f6ca538c1a361) => (173, 0xe3bb476986fa1f9f)
-    => (174, 0x9fc4bb372ca97786) => (175, 0x77abc80e29cfab15) => (176, 0x6b706dee7e6cba4e)
-    => (177, 0x7b12acd82a80a52f) => (178, 0xa69284cb2e0b6bba) => (179, 0xedeff5c7890d0ded)
-    => (182, 0xe929a13062bf676d) ∷
-    row 1809 18 with (1, 0x4ae29c7) with (64, 0x400b275a3) => (pc, 0x400b275a0)
-    => (166, 0xa9d36dccb1eb9f67) => (167, 0xeafc87d66a369e88) => (168, 0x48033ae979f87952)
-    => (169, 0xc0e78705e1312fc5) => (170, 0x55a96c2b9fe0c1e1) => (171, 0x648ea5ab6072fa5)
-    => (172, 0xd2c6019323a47913) => (173, 0xbb20b1d4e8b89e29) => (174, 0xbf58fb2005439ee8)
-    => (175, 0xdf6edd7479457b50) => (176, 0x1b6258d244be3360) => (177, 0x73336d3967adc71a)
-    => (178, 0xe6e21aa9e214367c) => (179, 0x766e6123b3f18188) => (182, 0x30df085b290a68db) ∷
-    row 1810 19 with (1, 0x7ffffe8) with (64, 0x200af2209) with (at, 0x7ffff30) => (pc, 0x200af2208)
-    => (170, 0xd6d8b2e5de780029) => (171, 0x1d9158a0651583cb) => (172, 0x802797644329e316)
-    => (173, 0xfe9b6f3178b51e09) => (174, 0x98ece00805b734a6) => (175, 0x4f1be9e7ea3026ec)
-    => (176, 0x21288cd1261ff4da) => (177, 0xf12c8c3b9869e71) => (178, 0x18da9dbfa46423b1)
-    => (179, 0x3e800bc4e6b8849a) => (180, 0x800312d38083c12c) => (181, 0xdd63b2eb71c5d966)
-    => (182, 0x56a1ec0cba7ecd4a) => (185, 0x416906fccafe4271) ∷
-    row 1811 20 with (1, 0xa1) with (64, 0xa2c5f7) with (at, 1) => (pc, 0xa2c5f4)
-    => (168, 0x986d08862bdb666a) => (169, 0x43321cc780cb6e8d) => (170, 0x9d4ca122d325259)
-    => (171, 0xec551066311011ce) => (172, 0xeab2efc38c64acec) => (173, 0x4ee682a3f3023b2)
-    => (174, 0x3b07799a49727622) => (175, 0x8cfe2413ab2ba43a) => (176, 0xfad26796645badfb)
-    => (177, 0x8484442275029365) => (178, 0x2a13b9b7dd205478) => (179, 0xeb80c8569cb4f133)
-    => (182, 0x1ccefd15489af42d) ∷
-    row 1812 21 with (1, 0x4042576f8) with (64, 0x400c8c88c) => (pc, 0x400c8c88c)
-    => (169, 0x150cf2139a15d22d) => (170, 0xc5619205bd585ed1) => (171, 0x9193cb013811c71e)
-    => (172, 0x79a39d060a420b13) => (173, 0x7d91081433e92ab2) => (174, 0x9d5c0c2bb50725fa)
-    => (175, 0xd904a94c8d9bfcea) => (176, 0x308adf76bda7af83) => (177, 0xa3eeaeaa452a3dc5)
-    => (178, 0x333016e72423a7b0) => (179, 0xde4f182d5a93ed44) => (182, 0xb8a3a2a4a1e07e11) ∷
-    row 1813 22 with (1, 0x4f6af07) with (64, 0x400d04aa8) => (pc, 0x400d04aa8)
-    => (170, 0xdcfb5dd42927436f) => (171, 0xf15c6c4d1abc5494) => (172, 0x219b13cf63c84162)
-    => (173, 0x6db7545b044b09d9) => (174, 0xd5b12deffc44adf9) => (175, 0xefe725fc4bb52dc1)
-    => (176, 0x311f4ecdf29c8933) => (177, 0x8e3510a8f0fac04d) => (178, 0x7286b8d46cfd310)
-    => (179, 0x9bf95f7af41bc17c) => (182, 0xa6a45daad6cee01c) ∷
-    row 1814 23 with (1, 0x207ffffe8) with (64, 0x2002b0a54) with (at, 0x207ffff30)
-    => (pc, 0x2002b0a54) => (174, 0xa935ebd5d90fba32) => (175, 0xc32685ff98f74fd8)
-    => (176, 0xf8f4b932b055c127) => (177, 0x4aa0856f1f2b0e1f) => (178, 0xb829eab4e57736c0)
-    => (179, 0x4190e904033a3b09) => (180, 0xe6d5805c78741afc) => (181, 0xa7f7b0be4524d697)
-    => (182, 0x84f77a29694c6ddb) => (185, 0x4ed97427e7661a4f) ∷
-    row 1815 24 with (1, 0x40441f74a) with (64, 0x4003e6f79) => (pc, 0x4003e6f78)
-    => (172, 0x2f8defa6a9cf3676) => (173, 0x4f0e15813809509d) => (174, 0x8a6bd4651dba466d)
-    => (175, 0xe1a72c525ae217e6) => (176, 0x54c01d48ef80c507) => (177, 0xe3b6a748db964dd2)
-    => (178, 0x8e8aca521f22b245) => (179, 0x553c8664ba25f261) => (182, 0x4f74f41bd3a62ca8) ∷
-    row 1816 25 with (1, 0x204bc0780) with (64, 0x20189642e) => (pc, 0x20189642c)
-    => (173, 0x9353a02c9b65b83a) => (174, 0x16e0348df7f256e2) => (175, 0xb64a61f8abf5d133)
-    => (176, 0x7192286cb770272d) => (177, 0x48b787ea1a6158cf) => (178, 0x3bba8070d4c9661b)
-    => (179, 0x4a9b1200e6a84f0f) => (182, 0x40a7b869b8f1729) ∷
-    row 1817 26 with (1, 0x204c3b518) with (64, 0x1acceb2) => (pc, 0x1acceb0)
-    => (174, 0x69464871add33f7e) => (175, 0xf2626883d8b262a7) => (176, 0x975c219f5b086179)
-    => (177, 0x583373c434d53bf4) => (178, 0x34e85ef26618f218) => (179, 0x2d7ae329eed383e4)
-    => (182, 0x1740c0683f20d9d2) ∷
-    row 1818 27 with (1, 0x207ffffe8) with (64, 0x200e0b49b) with (at, 0x207ffff30)
-    => (pc, 0x200e0b498) => (178, 0xd3660f17e117cc43) => (179, 0xc08e9db0da4973ed)
-    => (180, 0xc994c5532af1f740) => (181, 0xee7885fed311563c) => (182, 0xdb36abc9d2a790e0)
-    => (185, 0xf552fcc0be5b74a1) ∷
-    row 1819 28 with (1, 0x4047be86f) with (64, 0x201d093ee) => (pc, 0x201d093ec)
-    => (176, 0xf8f35bd135335e88) => (177, 0xebab761afcb78ab3) => (178, 0xfa41296e1bb29287)
-    => (179, 0x24b475ca92247604) => (182, 0xfe07c290193ee798) ∷
-    row 1820 29 with (1, 0x481c384) with (64, 0x152f39e) => (pc, 0x152f39c)
-    => (177, 0xd89e1e59aa25f64e) => (178, 0xd0e5c4543ffca6fa) => (179, 0xe50b03582d4a334f)
-    => (182, 0xeeb4c3d64fcb32b6) ∷
-    row 1821 30 with (1, 0x2046a9150) with (64, 0x2003234c6) => (pc, 0x2003234c4)
-    => (178, 0xde9529c53fef9394) => (179, 0x3ae93e46a418c8c1) => (182, 0x3c9fa93620055fb) ∷
-    row 1822 31 with (1, 0x207ffffe8) with (64, 0x2019da5ea) with (at, 0x207ffff30)
-    => (pc, 0x2019da5e8) => (182, 0xdda90c1f690365a) => (185, 0x711c0c74fde5168) ∷
+    row 1885 14 with (1, 0x43cc417) with (64, 0x201bedd5a) => (pc, 0x201bedd58)
+    => (162, 0xe4ad47bebe74f769) => (163, 0xe6d0621a621aa812) => (164, 0x4d1157f5d373465)
+    => (165, 0x3eaf61edafca9c60) => (166, 0x946b476559d4e004) => (167, 0x604c5e65b55ff51)
+    => (168, 0x937bdd70b44dfa46) => (169, 0x3cd08e0464bcd0e5) => (170, 0x202d7a16ca2832c)
+    => (171, 0xe312ba47cbff111c) => (172, 0xe00035f782d27ab5) => (173, 0xf8cb4ab0911cbff7)
+    => (174, 0x2d73f872f6dde0e2) => (175, 0x7dfa3f3eb415dd75) => (176, 0xea5e1f13c8c4b5b2)
+    => (177, 0x729f97f234ea6997) => (178, 0x16bea9d9f886f925) => (179, 0xd6bb54cb139a645c)
+    => (182, 0xc6e75990ab256666) ∷
+    row 1886 15 with (1, 0x207ffffe8) with (64, 0x201badd83) with (at, 0x207ffff30)
+    => (pc, 0x201badd80) => (166, 0x9a02d85f310d91fb) => (167, 0x326141a305c725)
+    => (168, 0x823f832d6c74d7f8) => (169, 0x202a3e228d5ac475) => (170, 0xd9f2922105b78c99)
+    => (171, 0xaf987f28d58b3067) => (172, 0xa11c0539fcd5afde) => (173, 0xae7d24547b970afd)
+    => (174, 0xd7bbdc7851cf41c6) => (175, 0x31fe55957f7e5437) => (176, 0x347b5cf604a44251)
+    => (177, 0x52d5fd5fe1410c14) => (178, 0x8d0e36d31554b17f) => (179, 0xe324094fa0df3294)
+    => (180, 0x551774d583e08f51) => (181, 0xe2e87964be58c7b8) => (182, 0x8c9716fd5047dbc7)
+    => (185, 0xad198f7b83396ba4) ∷
+    row 1887 16 with (1, 0x20485e90d) with (64, 0x40153af05) => (pc, 0x40153af04)
+    => (164, 0x4c5fb91ac47d320d) => (165, 0xb81ecdae04c7ebb8) => (166, 0x3fbb7b4a9c89810d)
+    => (167, 0xe335c1f08bc1f20a) => (168, 0xa28da19fd2713eb0) => (169, 0x7dc31a58709766fe)
+    => (170, 0x74d62c1a66346af6) => (171, 0x87c6d6e5b3484a96) => (172, 0xb6951aba57d305e0)
+    => (173, 0x140f79853d49cd2) => (174, 0x67ca6d7fa74d0f6d) => (175, 0xea317c70523c5db1)
+    => (176, 0x8876246a54a2879d) => (177, 0x4298656dae7f8d33) => (178, 0x18983f7a5fd36e71)
+    => (179, 0xa75b290689e2b59) => (182, 0xea2f26dd36f64909) ∷
+    row 1888 17 with (1, 0x47ee79c) with (64, 0x2007dedd8) => (pc, 0x2007dedd8)
+    => (165, 0x80f5fdb78c3d79f) => (166, 0xd7dae2f5876115cc) => (167, 0xb754e936ed752fa1)
+    => (168, 0x605ebb8dab00251f) => (169, 0x254626edc001f646) => (170, 0x60b2b572c7aa316)
+    => (171, 0x2adc8c9f06a2b8e) => (172, 0x1b2dff460bd08fb0) => (173, 0x4f8bcecb7eadcf7a)
+    => (174, 0x9fc7375a4901eaed) => (175, 0xbe038f26acce209) => (176, 0x93d6d393e40eb4ce)
+    => (177, 0x37ab073eb4c7633c) => (178, 0xf75cd3f2dcf6ed52) => (179, 0xd2ec39b05c9d5312)
+    => (182, 0xe2fc21b5c65bfe96) ∷
+    row 1889 18 with (1, 0x404b02e37) with (64, 0x400b275a3) => (pc, 0x400b275a0)
+    => (166, 0xa06e50b4de182b2) => (167, 0xdf61f3d62ad14560) => (168, 0xd09a9baa5f37e3b6)
+    => (169, 0xddb0dc87eb155db5) => (170, 0x6a4b66ece69b35d) => (171, 0x4b76295f0934e4ae)
+    => (172, 0xac2535589b76f1a7) => (173, 0x28b1da5b852fda4a) => (174, 0xc11c1867c65f9e95)
+    => (175, 0x7563ef7d5f063e89) => (176, 0x45895f9c4f23ba26) => (177, 0x318c68c496b8116c)
+    => (178, 0x396d0af635c3445b) => (179, 0x5d2b46312c4552f2) => (182, 0xa6a51405316a8c4a) ∷
+    row 1890 19 with (1, 0x207ffffe8) with (64, 0x200af2209) with (at, 0x207ffff30)
+    => (pc, 0x200af2208) => (170, 0xc61be00a43d63346) => (171, 0xa1067a85ef187a74)
+    => (172, 0x97ceae0af1d19d4b) => (173, 0xaa747a994c019bcb) => (174, 0xd8f7e030fda875f4)
+    => (175, 0x2358ded206c62bc6) => (176, 0x8997767c675abd41) => (177, 0xbb3a7301f662a64)
+    => (178, 0xa9ad70ed2ee87331) => (179, 0x6384d3b395e197a6) => (180, 0x3939cf83545197c4)
+    => (181, 0x2acc645c6a38738b) => (182, 0x383c923ed7962afa) => (185, 0x37d9e9cb7821f225) ∷
+    row 1891 20 with (1, 0xa1) with (64, 0xa2c5f7) with (at, 1) => (pc, 0xa2c5f4)
+    => (168, 0x1da2cb905aa1e95a) => (169, 0x5c99d492d436b509) => (170, 0xb76e769ea5425c61)
+    => (171, 0x2e20b1b3cdc4df62) => (172, 0xc0b085d24dbe3e0c) => (173, 0x6f1df2fa252e785f)
+    => (174, 0x3968f92b54158e5b) => (175, 0x1f919865da737fff) => (176, 0x4c5c3f41b8484d4c)
+    => (177, 0xbc32db8ed93f643) => (178, 0xe707b5397a567ae1) => (179, 0xde29d5c35e8fdb29)
+    => (182, 0xe1da1089a823027) ∷
+    row 1892 21 with (1, 0x4eb07af) with (64, 0x400c8c88c) => (pc, 0x400c8c88c)
+    => (169, 0x29526b039244a4ee) => (170, 0x6dd8ffb6da2bf51e) => (171, 0xce3d2d73798a20f7)
+    => (172, 0x4a7ef439705f2879) => (173, 0xe29e5408beab0ba4) => (174, 0x969b4ce1646dca78)
+    => (175, 0x6675dec361a764f5) => (176, 0x522e09aeb657db1a) => (177, 0x59c3cda3627f2ce9)
+    => (178, 0x7d372aa1661d5a60) => (179, 0xbc8820a8c1326380) => (182, 0xabb2e7bc988b4651) ∷
+    row 1893 22 with (1, 0x4a8192a) with (64, 0x400d04aa8) => (pc, 0x400d04aa8)
+    => (170, 0x87336ca9eabe6602) => (171, 0x3935a0aa00f83ab4) => (172, 0x9f295a176ea8eb0e)
+    => (173, 0x20faac8e33d07711) => (174, 0xbea9980e506edebd) => (175, 0x78361c97c4842212)
+    => (176, 0x4da03a2a9010410f) => (177, 0x3ee7f0c6b3133bb6) => (178, 0x4c0d406c2d8d1205)
+    => (179, 0x7510291aff7dc3fd) => (182, 0x949163e7723d34a1) ∷
+    row 1894 23 with (1, 0x7ffffe8) with (64, 0x1d7b13c) with (at, 0x7ffff30) => (pc, 0x1d7b13c)
+    => (174, 0xe27db091640f2c97) => (175, 0x90a03f7c489b85ca) => (176, 0x5aa06770849ebaa5)
+    => (177, 0x407e286e1818cb29) => (178, 0x423982750309b756) => (179, 0x5fd2758545717f2c)
+    => (180, 0x9949019edf5022aa) => (181, 0xee9d26c1d0a5a1d2) => (182, 0x5fcee4ee1971fca2)
+    => (185, 0x3e871b892797fb1a) ∷
+    row 1895 24 with (1, 0x4cb1447) with (64, 0x14bb07) => (pc, 0x14bb04)
+    => (172, 0xf7e56a47fe36f8ad) => (173, 0xab9784e3b115d660) => (174, 0x7b273888bb6b8fbd)
+    => (175, 0x669485371d3824c2) => (176, 0x6ddf6aeed67b9570) => (177, 0x9107e9afe735e1c6)
+    => (178, 0xd00e017a4f6709c6) => (179, 0x2af1b24e0f0f0d6e) => (182, 0x3a005ca1b89b99b9) ∷
+    row 1896 25 with (1, 0x430fde9) with (64, 0x4008a5a56) => (pc, 0x4008a5a54)
+    => (173, 0xf19db0b3b935ca43) => (174, 0x95c39d63a672c77) => (175, 0x3cf85c02130f6a55)
+    => (176, 0x8c721737432e83db) => (177, 0xf7c96b75cac4790a) => (178, 0x7efe58bda9d149e1)
+    => (179, 0x2210df0ee054f662) => (182, 0x55953125481080) ∷
+    row 1897 26 with (1, 0x4042484ed) with (64, 0x1acceb2) => (pc, 0x1acceb0)
+    => (174, 0x56a00ede950ba159) => (175, 0x73ee23b1e48f880f) => (176, 0xad19d18e8b8a4a6d)
+    => (177, 0x223187489fbe874) => (178, 0x7309f863dfe46224) => (179, 0xffce715c8d43b77d)
+    => (182, 0xfe6a8b376d9d5f6e) ∷
+    row 1898 27 with (1, 0x207ffffe8) with (64, 0x200e0b49b) with (at, 0x207ffff30)
+    => (pc, 0x200e0b498) => (178, 0x75bfe2d891b87df0) => (179, 0x989d835caf8ee926)
+    => (180, 0xd758bcea24dc3006) => (181, 0x31f18f80f1a0528e) => (182, 0xa867fb2115db50bf)
+    => (185, 0xd75a88b4919b8683) ∷
+    row 1899 28 with (1, 0x20409c073) with (64, 0x201d093ee) => (pc, 0x201d093ec)
+    => (176, 0xb4f6e09af3c6007) => (177, 0x92397d149b654fbf) => (178, 0x35012528df051b1f)
+    => (179, 0xf3a666467a1bc228) => (182, 0xe1cfefa8914285bf) ∷
+    row 1900 29 with (1, 0x4a61f9f) with (64, 0x152f39e) => (pc, 0x152f39c)
+    => (177, 0x7a09e677ed97479f) => (178, 0x6838133a812bbd7) => (179, 0xaedab4f8ba050bb8)
+    => (182, 0xcd5ab2136c925d23) ∷
+    row 1901 30 with (1, 0x204d01c2d) with (64, 0x2003234c6) => (pc, 0x2003234c4)
+    => (178, 0x15f387c94cc934b7) => (179, 0x679910bd5972d70) => (182, 0xe43089f5238b0cae) ∷
+    row 1902 31 with (1, 0x407ffffe8) with (64, 0x2019da5ea) with (at, 0x407ffff30)
+    => (pc, 0x2019da5e8) => (182, 0xd448a4abccd2274f) => (185, 0xe256114db62c9461) ∷
     [])
 
 unfoldable pub ppc64_restgpr0 : Functions
@@ -2565,99 +2650,99 @@ ppc64_restgpr0 =
     0xeaa1ffa8 ∷ 0xeac1ffb0 ∷ 0xeae1ffb8 ∷ 0xeb01ffc0 ∷ 0xeb21ffc8 ∷ 0xeb41ffd0 ∷ 0xeb61ffd8 ∷
     0xeb81ffe0 ∷ 0xeba1ffe8 ∷ 0xebc1fff0 ∷ 0xebe1fff8 ∷ 0xe8010010 ∷ 0x7c0803a6 ∷ 0x4e800020 ∷
     []) (
-    row 1823 14 with (1, 0x48fafbb) with (182, 0xa761f5) => (0, 0xa761f5)
-    => (14, 0xd9dee18a02d427dc) => (15, 0x4c631ba96dfdf1c8) => (16, 0xdac4eed2309e975e)
-    => (17, 0x85045b044ab6189d) => (18, 0x4b21603fbc447584) => (19, 0x2d1bfe848549ae14)
-    => (20, 0x2af435d2a5c5c24d) => (21, 0x44aa062a1db8b22f) => (22, 0x67fce36eed227dba)
-    => (23, 0x5af10303140324ee) => (24, 0x69c2bba0925aa7ca) => (25, 0x94720d476829064f)
-    => (26, 0xdafef7f7956e407e) => (27, 0x3d697bb11a2a5655) => (28, 0xbbb19873f65d47d4)
-    => (29, 0x55d74e402a0714fd) => (30, 0xbda9d15b527bdcf) => (31, 0xddbb84f497bf4249)
+    row 1903 14 with (1, 0x4cced71) with (182, 0xa761f5) => (0, 0xa761f5)
+    => (14, 0x5c12556e3e29b5de) => (15, 0x62c8844ecdf84357) => (16, 0x855c4c38b53dac79)
+    => (17, 0xc3cdad2bf3f9f144) => (18, 0x7eecc6648a2d11b7) => (19, 0x969c769477d70dd4)
+    => (20, 0xca29bfcdbcf7e599) => (21, 0x1994a210598f9908) => (22, 0x84dd1d5c4d9e281f)
+    => (23, 0xc0331b1992392de) => (24, 0xaf06df103c1fd947) => (25, 0x6de825783692fb59)
+    => (26, 0x48a704e9887cf913) => (27, 0x3f437d6431ddd276) => (28, 0x51bd8ee832b58783)
+    => (29, 0x801539758b041838) => (30, 0xca4a7d0c3ac98495) => (31, 0x305d59ac4205cc9c)
     => (64, 0xa761f5) => (pc, 0xa761f4) ∷
-    row 1824 15 with (1, 0x407ffffe8) with (at, 0x407ffff30) with (185, 0x200c91ac8)
-    => (0, 0x200c91ac8) => (15, 0x79f915f873e39d69) => (16, 0x45a5a6e4b3c47ed1)
-    => (17, 0x2d2fd0da4b1c3be2) => (18, 0x309793d939ead49c) => (19, 0x4fdcefe1803048ff)
-    => (20, 0x8affe4f31dec990b) => (21, 0xe200730e131fc4c0) => (22, 0x54de9a325fc9cc1d)
-    => (23, 0xe39a5a6003eaaf23) => (24, 0x8e33b396ff826dd3) => (25, 0x54aaa5d75291082b)
-    => (26, 0x36ff3120fd167e2b) => (27, 0x35315573ff12cfd5) => (28, 0x4f4112d05885fd28)
-    => (29, 0x852e693609700623) => (30, 0xd6f958a511d0eac7) => (31, 0x44a1e11d71a8ab14)
-    => (64, 0x200c91ac8) => (pc, 0x200c91ac8) ∷
-    row 1825 16 with (1, 0x404409904) with (182, 0x1bae899) => (0, 0x1bae899)
-    => (16, 0x31a16e34a0171bee) => (17, 0xda2bd89da7e5eedd) => (18, 0x73acc328072b9d75)
-    => (19, 0x290b46bbbde827b5) => (20, 0xfa476358cc1b8d9f) => (21, 0xe76118ff31c5cf31)
-    => (22, 0xf05867aeeee6ec6c) => (23, 0x152d4f68037ee550) => (24, 0x55dfd02a6f8db9dd)
-    => (25, 0xb26fe9f633136a12) => (26, 0x2add9ccb4e0ff5f1) => (27, 0xbf28e8a9c0835d78)
-    => (28, 0x6f51cd918a6da0a8) => (29, 0x3b584b82abcebf81) => (30, 0x233c627d24a6ba03)
-    => (31, 0x26fe1280f4f5902e) => (64, 0x1bae899) => (pc, 0x1bae898) ∷
-    row 1826 17 with (1, 0x4ed79bd) with (182, 0x69a97a) => (0, 0x69a97a)
-    => (17, 0x65822a8a9ffb1e38) => (18, 0x4731ea92761c75a8) => (19, 0x44bf43a3a3b4a8c0)
-    => (20, 0x5e2a35be28c3b782) => (21, 0x9372c0e20549a1ec) => (22, 0xe498e50f39466800)
-    => (23, 0x519ca245c4ba09bc) => (24, 0xda7df885a7a48721) => (25, 0x7f3ce7cee205e02e)
-    => (26, 0x3fd9702173de14e5) => (27, 0x1c53917d5d2d2544) => (28, 0x14ab4be29df3114d)
-    => (29, 0x28e09f51362fd8fe) => (30, 0x58f38bc925e37c58) => (31, 0xa4e4114a6d0dfb5b)
+    row 1904 15 with (1, 0x7ffffe8) with (at, 0x7ffff30) with (185, 0x200c91ac8) => (0, 0x200c91ac8)
+    => (15, 0x47d21e05e68fc5e2) => (16, 0xa7b0a3b34b156ad6) => (17, 0x236cc26a0711eb74)
+    => (18, 0xbb067a2a1a8547ba) => (19, 0x6e7dcaf3856f7fa9) => (20, 0x3dd2b4c647d09342)
+    => (21, 0x290537a261a88282) => (22, 0x30155387d2f74d6c) => (23, 0x530308769bbcf3ff)
+    => (24, 0x91ce566ebbf9763a) => (25, 0xec773d7033acd41e) => (26, 0x62fdbd7b02d70dac)
+    => (27, 0xf561d68f297822e1) => (28, 0xa3a388aca79013c0) => (29, 0x6dc2d3d37d1ee048)
+    => (30, 0xae5bb6b5aa248878) => (31, 0x51b951192ea10c52) => (64, 0x200c91ac8)
+    => (pc, 0x200c91ac8) ∷
+    row 1905 16 with (1, 0x20400343e) with (182, 0x1bae899) => (0, 0x1bae899)
+    => (16, 0xfcdb66cc6e3d4994) => (17, 0xeb0ad0e9ab0e00f) => (18, 0x3c638c5a1e9b5233)
+    => (19, 0x85f404aef9fca000) => (20, 0xeb62160d2cd4c976) => (21, 0x6cadc074b723ce94)
+    => (22, 0x9d703e598e9af5c) => (23, 0xc2dde05fd2266bcc) => (24, 0x97c255e362da03e5)
+    => (25, 0x888464704b0477a7) => (26, 0x95240c068aa5c712) => (27, 0xbda14ca621bdf225)
+    => (28, 0x1fc264f104cf8e2) => (29, 0x623499015652db47) => (30, 0xde4aa4bcf3cf9955)
+    => (31, 0x763e4981e8c3330c) => (64, 0x1bae899) => (pc, 0x1bae898) ∷
+    row 1906 17 with (1, 0x404ee43b8) with (182, 0x69a97a) => (0, 0x69a97a)
+    => (17, 0x9bc7a02037899bb0) => (18, 0x11a954e9324fb6ac) => (19, 0xa368a2bb848cad51)
+    => (20, 0x510589972e407f9f) => (21, 0x1a80097c2f6b2d96) => (22, 0xffd8226a880cb735)
+    => (23, 0x10dd46238251c7e) => (24, 0x1e211f633fb45d6f) => (25, 0x5712036d9eba7a09)
+    => (26, 0xabe080815537724c) => (27, 0xb4503a54632b4637) => (28, 0xe25d06a4c895f5cc)
+    => (29, 0x2c476bfe85778109) => (30, 0x920f6a6199cfe7f0) => (31, 0x13b501ce059f2a7f)
     => (64, 0x69a97a) => (pc, 0x69a978) ∷
-    row 1827 18 with (1, 0x427f7d8) with (182, 0x401b02bcb) => (0, 0x401b02bcb)
-    => (18, 0x53805cafc0b62602) => (19, 0x3abfa868652a01f3) => (20, 0x3ddc8d2a6114b98d)
-    => (21, 0x5cd70af5b4764ccf) => (22, 0x97af21ca5f4ebbbb) => (23, 0xee64d1a8619e064f)
-    => (24, 0x60f81a8fbb642c8c) => (25, 0xef68fc806ca12e72) => (26, 0x99b7777a75550c01)
-    => (27, 0x5fe38b7dd57fc538) => (28, 0x41ed388a8d215a19) => (29, 0x3fd47ea09c39caa2)
-    => (30, 0x59995dc002c916d4) => (31, 0x8f3bd5e8c0cf3eaf) => (64, 0x401b02bcb)
+    row 1907 18 with (1, 0x4bf45eb) with (182, 0x401b02bcb) => (0, 0x401b02bcb)
+    => (18, 0x18d5882b21acf34c) => (19, 0x9446c8a4eac592ca) => (20, 0x2b95a2280b550def)
+    => (21, 0xdec214b4835b64be) => (22, 0xadcc204a52d89736) => (23, 0x98b3c4e979cca556)
+    => (24, 0x9f790291f8378f20) => (25, 0xc21bd943ce195492) => (26, 0x9c48fefb71f5ad)
+    => (27, 0x5afa51c380417271) => (28, 0xd135f3915c87cade) => (29, 0x634f2e689044fef3)
+    => (30, 0x114602491b790eb2) => (31, 0xdb1a6f32fe23fa19) => (64, 0x401b02bcb)
     => (pc, 0x401b02bc8) ∷
-    row 1828 19 with (1, 0x407ffffe8) with (at, 0x407ffff30) with (185, 0xc509e2) => (0, 0xc509e2)
-    => (19, 0x9850101860ffe79d) => (20, 0x37349573da2adb09) => (21, 0xf1f6b3d8aaccaa1f)
-    => (22, 0xc8966b46d2e554dd) => (23, 0xbe71764a5274db44) => (24, 0x6e4f7cf5297b3d53)
-    => (25, 0x3a0b1ca957f87b0c) => (26, 0x21a45566ddec946d) => (27, 0x251b272dbb578978)
-    => (28, 0x446f91fdf0395a2b) => (29, 0x7fa195d77c920687) => (30, 0xd6b132ba60618e8c)
-    => (31, 0x499e68a69ba7f239) => (64, 0xc509e2) => (pc, 0xc509e0) ∷
-    row 1829 20 with (1, 0xa1) with (at, 1) with (182, 0x816d9c) => (0, 0x816d9c)
-    => (20, 0xa06cecd764b14618) => (21, 0xf14832c7a5ca2b0b) => (22, 0x5e0111c13e59eba7)
-    => (23, 0xe69789c42e6087eb) => (24, 0x8b0b9ad075ddffd9) => (25, 0x4b5d44e614d2536f)
-    => (26, 0x278c88050b3d82ae) => (27, 0x1f99642d591f8d96) => (28, 0x3383d95efe787426)
-    => (29, 0x634be799fb483660) => (30, 0xaef18ede4f8ed443) => (31, 0x1674cf2bfb4c4dce)
+    row 1908 19 with (1, 0x7ffffe8) with (at, 0x7ffff30) with (185, 0xc509e2) => (0, 0xc509e2)
+    => (19, 0x269c15a0f94d4f5e) => (20, 0xfb35ace7971d0657) => (21, 0xebacdd378c6398f8)
+    => (22, 0xf801a690d9210742) => (23, 0x203408f37d555136) => (24, 0x6444045f790076d2)
+    => (25, 0xc43198d4cc227817) => (26, 0x3ffcc65376bb5504) => (27, 0xd7a58cdb78cb0d9b)
+    => (28, 0x8b2bec6cd251a1da) => (29, 0x5a8fe507834f11c3) => (30, 0x45d176ab8bc35d54)
+    => (31, 0x4cf0a158ebae848e) => (64, 0xc509e2) => (pc, 0xc509e0) ∷
+    row 1909 20 with (1, 0xa1) with (at, 1) with (182, 0x816d9c) => (0, 0x816d9c)
+    => (20, 0x8ac4641e5878b306) => (21, 0x6fd19ecfbe365b85) => (22, 0x70bc728a7b6adfad)
+    => (23, 0x8d84df4e90163f7e) => (24, 0xc62ae51bfc387af8) => (25, 0x1aae83f2bfd1921a)
+    => (26, 0x8b0fbbd2dae184e6) => (27, 0x174e8cbc4d68535a) => (28, 0xbf6af6af1765fd77)
+    => (29, 0x8364f9ab38da833d) => (30, 0x633c95b0b1c5e4ab) => (31, 0x5ef1cabf822821c3)
     => (64, 0x816d9c) => (pc, 0x816d9c) ∷
-    row 1830 21 with (1, 0x404d3cd21) with (182, 0x200de221c) => (0, 0x200de221c)
-    => (21, 0x9823393fe7f15e64) => (22, 0xee8e0ae0f75cc7d7) => (23, 0x60d6758b5e3f0cf4)
-    => (24, 0xeefc793f1c982dba) => (25, 0x990015fc32682a28) => (26, 0x5ee14bc29faf023f)
-    => (27, 0x40a01a92646cb5ff) => (28, 0x3e3c826b80a14568) => (29, 0x57b6834df44cb07a)
-    => (30, 0x8d0e1d39bf6ef735) => (31, 0xde43502ee2081998) => (64, 0x200de221c)
+    row 1910 21 with (1, 0x2042ea77a) with (182, 0x200de221c) => (0, 0x200de221c)
+    => (21, 0x118a666ca5211b24) => (22, 0xfc272cced9314824) => (23, 0x2a18c3a64b850cd)
+    => (24, 0x24f984af47b6351f) => (25, 0x632f162d822af519) => (26, 0xbd4240b5141690bd)
+    => (27, 0x33330445fd790809) => (28, 0xc50160e03e525afe) => (29, 0x72ad5683d6a2899c)
+    => (30, 0x3c36e530c66993e3) => (31, 0x219e0ce70da779d3) => (64, 0x200de221c)
     => (pc, 0x200de221c) ∷
-    row 1831 22 with (1, 0x20444c0c6) with (182, 0x400e9073e) => (0, 0x400e9073e)
-    => (22, 0x434e37938c087c30) => (23, 0xfdc577bb69c66a24) => (24, 0xd41a50ec9efb33c2)
-    => (25, 0xc64cc3272ba6d909) => (26, 0xd45cce6b0fc959f8) => (27, 0xfe4a72b84b62b690)
-    => (28, 0x4415b00ede72eed1) => (29, 0xa5be866ec8fa02bb) => (30, 0x2344f5d80af7f24e)
-    => (31, 0xbca8fe4aa46cbd8a) => (64, 0x400e9073e) => (pc, 0x400e9073c) ∷
-    row 1832 23 with (1, 0x407ffffe8) with (at, 0x407ffff30) with (185, 0x1cd5eca) => (0, 0x1cd5eca)
-    => (23, 0x1e4c57165b8c89d8) => (24, 0x31ebee0b0e018f48) => (25, 0x61691e0917ed7062)
-    => (26, 0xacc3e71079502d24) => (27, 0x13fc49213229c58f) => (28, 0x9712443b427a39a2)
-    => (29, 0x3605d85eaa41895f) => (30, 0xf0d7058b697fb4c4) => (31, 0xc785cbc18034bbd3)
+    row 1911 22 with (1, 0x4048b748b) with (182, 0x400e9073e) => (0, 0x400e9073e)
+    => (22, 0x52a7faa612a088c2) => (23, 0xa1512f8f15033a43) => (24, 0xbd7fd816edcc76d)
+    => (25, 0x923c647d202d3040) => (26, 0x347e648228f474bb) => (27, 0xf29dfd90893294e0)
+    => (28, 0xcc9b2fa840e790ad) => (29, 0xc275fac950136823) => (30, 0xd42e5ef3b6b61b42)
+    => (31, 0xaf26468574cfaa0a) => (64, 0x400e9073e) => (pc, 0x400e9073c) ∷
+    row 1912 23 with (1, 0x207ffffe8) with (at, 0x207ffff30) with (185, 0x1cd5eca) => (0, 0x1cd5eca)
+    => (23, 0x794bae52197b30e1) => (24, 0x211d3a07f094f9de) => (25, 0xe4cc5ec71f259e83)
+    => (26, 0xc4591c8fa52d1ed1) => (27, 0xbfc3736182ab7ac9) => (28, 0xd70b633cb7a0b269)
+    => (29, 0xa30ec21440cc5b1) => (30, 0x59340e0f27efb4a3) => (31, 0xc414c90663497f3e)
     => (64, 0x1cd5eca) => (pc, 0x1cd5ec8) ∷
-    row 1833 24 with (1, 0x2047a2ae1) with (182, 0x201726b10) => (0, 0x201726b10)
-    => (24, 0x3c243ce436bbc849) => (25, 0x60377743b11ebf40) => (26, 0xa0284aac82f891df)
-    => (27, 0xfbf6b71eac494028) => (28, 0x73a2bc9a2d10ca19) => (29, 0x72c5b1f054f2fb3)
-    => (30, 0xcf8f93e1350470f7) => (31, 0x3c5781a2bc308de2) => (64, 0x201726b10)
+    row 1913 24 with (1, 0x40498917f) with (182, 0x201726b10) => (0, 0x201726b10)
+    => (24, 0x70804bc25024747f) => (25, 0x28c57ae2ef2c2f02) => (26, 0x88f4ef98e5aac52e)
+    => (27, 0x1a786df633a03703) => (28, 0xc7d9855cd90c8480) => (29, 0x911835ccd5efada7)
+    => (30, 0x76347f462a49b276) => (31, 0x772e61c8d61a92ee) => (64, 0x201726b10)
     => (pc, 0x201726b10) ∷
-    row 1834 25 with (1, 0x20493f6ad) with (182, 0x200ee4db2) => (0, 0x200ee4db2)
-    => (25, 0xd30fd2353d57f696) => (26, 0xfcb29845860d720e) => (27, 0x4232f75f2639c92f)
-    => (28, 0xa390ef821ddcfbf8) => (29, 0x20cc80ae6cf70a6a) => (30, 0xb9e5aae41387f486)
-    => (31, 0x6edc6e23118fba4a) => (64, 0x200ee4db2) => (pc, 0x200ee4db0) ∷
-    row 1835 26 with (1, 0x204e60a86) with (182, 0x401193075) => (0, 0x401193075)
-    => (26, 0x2418dd5564cb2a64) => (27, 0x534b2f167bd32a5d) => (28, 0x9e5b19e0ea5205fe)
-    => (29, 0x5489db4b047bd49) => (30, 0x8813ba91cdb4503c) => (31, 0x26bc70784297bed8)
+    row 1914 25 with (1, 0x404f38c0d) with (182, 0x200ee4db2) => (0, 0x200ee4db2)
+    => (25, 0x967b96f92028f29e) => (26, 0x545051ca8d8331a2) => (27, 0x2e02a5a552544c4f)
+    => (28, 0x239292896e9c42a5) => (29, 0x35001876e25b14a4) => (30, 0x624b376dad90c24b)
+    => (31, 0xab73ef6dd03d4b9b) => (64, 0x200ee4db2) => (pc, 0x200ee4db0) ∷
+    row 1915 26 with (1, 0x404dc23fd) with (182, 0x401193075) => (0, 0x401193075)
+    => (26, 0x769457ff1104763e) => (27, 0x39f89e814cb139c3) => (28, 0x193a7e0cdfd4d8f1)
+    => (29, 0x1459f6a1ca6f53c8) => (30, 0x2b5708400c80aa47) => (31, 0x5e31b2e7a608dc70)
     => (64, 0x401193075) => (pc, 0x401193074) ∷
-    row 1836 27 with (1, 0x407ffffe8) with (at, 0x407ffff30) with (185, 0x400b0d473)
-    => (0, 0x400b0d473) => (27, 0x7eca42826389841a) => (28, 0x65a1cde64f489b8e)
-    => (29, 0x6856f253927e8eab) => (30, 0x86e9afca2d2b5d72) => (31, 0xc15a064a1f4f07e0)
-    => (64, 0x400b0d473) => (pc, 0x400b0d470) ∷
-    row 1837 28 with (1, 0x4ddb50a) with (182, 0x511bfc) => (0, 0x511bfc)
-    => (28, 0x1218e6231636a280) => (29, 0xaae7321bc9e3ab7b) => (30, 0x5f93171dd507901f)
-    => (31, 0x301c952937a2506b) => (64, 0x511bfc) => (pc, 0x511bfc) ∷
-    row 1838 29 with (1, 0x4042df65f) with (182, 0x4de643) => (0, 0x4de643)
-    => (29, 0x65cf557ca02ee6cf) => (30, 0x62aa0ffc222e744b) => (31, 0x7b626384fba4dd70)
+    row 1916 27 with (1, 0x7ffffe8) with (at, 0x7ffff30) with (185, 0x400b0d473) => (0, 0x400b0d473)
+    => (27, 0x23ce315547196a6b) => (28, 0x9ed7b17a577d456b) => (29, 0x35becaa8bf57fc15)
+    => (30, 0xe8837ce07ea98e67) => (31, 0xb725c8219571fc62) => (64, 0x400b0d473)
+    => (pc, 0x400b0d470) ∷
+    row 1917 28 with (1, 0x404ab815a) with (182, 0x511bfc) => (0, 0x511bfc)
+    => (28, 0x8996ac9855408dfe) => (29, 0xb696ed522d925a85) => (30, 0xff74c7155d5b02b5)
+    => (31, 0x643039e1e49a868e) => (64, 0x511bfc) => (pc, 0x511bfc) ∷
+    row 1918 29 with (1, 0x43cf172) with (182, 0x4de643) => (0, 0x4de643)
+    => (29, 0x733fb1d7a8a1221f) => (30, 0xa5f7544c4f457327) => (31, 0xf464b9c04d609fd8)
     => (64, 0x4de643) => (pc, 0x4de640) ∷
-    row 1839 30 with (1, 0x4040bd517) with (182, 0x201638efe) => (0, 0x201638efe)
-    => (30, 0x560da9854afe309f) => (31, 0x5877efb59b50429c) => (64, 0x201638efe)
+    row 1919 30 with (1, 0x204b15441) with (182, 0x201638efe) => (0, 0x201638efe)
+    => (30, 0xf28dbbc61cd8bbc1) => (31, 0x8929f6b791cf914a) => (64, 0x201638efe)
     => (pc, 0x201638efc) ∷
-    row 1840 31 with (1, 0x207ffffe8) with (at, 0x207ffff30) with (185, 0x201b3eb0d)
-    => (0, 0x201b3eb0d) => (31, 0x6befb41c78f6d662) => (64, 0x201b3eb0d) => (pc, 0x201b3eb0c) ∷
+    row 1920 31 with (1, 0x7ffffe8) with (at, 0x7ffff30) with (185, 0x201ded105) => (0, 0x201ded105)
+    => (31, 0x54155a868227fbfb) => (64, 0x201ded105) => (pc, 0x201ded104) ∷
     [])
 
 unfoldable pub ppc64_savegpr1 : Functions
@@ -2667,88 +2752,88 @@ ppc64_savegpr1 =
     (0xf9ccff70 ∷ 0xf9ecff78 ∷ 0xfa0cff80 ∷ 0xfa2cff88 ∷ 0xfa4cff90 ∷ 0xfa6cff98 ∷ 0xfa8cffa0 ∷
     0xfaacffa8 ∷ 0xfaccffb0 ∷ 0xfaecffb8 ∷ 0xfb0cffc0 ∷ 0xfb2cffc8 ∷ 0xfb4cffd0 ∷ 0xfb6cffd8 ∷
     0xfb8cffe0 ∷ 0xfbacffe8 ∷ 0xfbccfff0 ∷ 0xfbecfff8 ∷ 0x4e800020 ∷ []) (
-    row 1841 14 with (12, 0x404706aae) with (64, 0x20112cbf9) => (pc, 0x20112cbf8)
-    => (162, 0x7b74f691169b082) => (163, 0x3a7cc1f0474e5c05) => (164, 0x891fcd80d4a9e330)
-    => (165, 0xf3a0721ab97c4604) => (166, 0x79feafbdf5c58482) => (167, 0x1c3a866a89859ea8)
-    => (168, 0xda53f62074bc9477) => (169, 0xb44afedfb76a65ee) => (170, 0xaa1fa0a8518f130f)
-    => (171, 0x23548440432a9bd8) => (172, 0xf26775458c3d004b) => (173, 0xdd57ff542cc64066)
-    => (174, 0xe426226c24c65c2a) => (175, 0x6d1de8d743d5396) => (176, 0x455b33b81b2b26ac)
-    => (177, 0x9fc221ec198fd56b) => (178, 0x1606a9296f6b5fd2) => (179, 0xa828c9701cbdc5e2) ∷
-    row 1842 15 with (12, 0x407ffffe8) with (64, 0x400c6c4bc) with (at, 0x407ffff30)
-    => (pc, 0x400c6c4bc) => (166, 0xaf77c53d553c1f2d) => (167, 0xe7ccc37559734f31)
-    => (168, 0x3bff5ab6b5215add) => (169, 0xac0f8b0168464232) => (170, 0x37fd545572e20531)
-    => (171, 0xdfc8b6b2d4f4a3d8) => (172, 0xa371b2198e7e1e28) => (173, 0x82f846899f7e7420)
-    => (174, 0x7e5c740307f5a5c2) => (175, 0x959e3a85c7e3b30c) => (176, 0xc8bd9a11df489c00)
-    => (177, 0x17ba92a74e24609c) => (178, 0x82952446147700e1) => (179, 0x94d4eee32407cce)
-    => (180, 0xabe3129fa780d465) => (181, 0x6a566f5a743807a4) => (182, 0x44a7651e9866168d) ∷
-    row 1843 16 with (12, 0x204b6207a) with (64, 0x200d38f8e) => (pc, 0x200d38f8c)
-    => (164, 0xe2e8040b9e59358) => (165, 0x4f3a3ac98c6f47dd) => (166, 0xa8fc5dbbb66fd80b)
-    => (167, 0x1e9c19b737e743e1) => (168, 0xb0196ebc10d58b60) => (169, 0x5d745cca413aae88)
-    => (170, 0x26ace3e1c916ad59) => (171, 0xbc30402a86987d3) => (172, 0xcb6bd2cdf333df5)
-    => (173, 0x29880f606d73cfc1) => (174, 0x6236fa9d532b3d35) => (175, 0xb6c37ee390598652)
-    => (176, 0x272d9c3324feab18) => (177, 0xb375528c111aab87) => (178, 0x5b9aa1ee54ad879e)
-    => (179, 0x1f9d8a59efb73f5f) ∷
-    row 1844 17 with (12, 0x402bcc9) with (64, 0x2018056b0) => (pc, 0x2018056b0)
-    => (165, 0x5899a893f660d04) => (166, 0xa77a92f8e042460a) => (167, 0x65492471d8955ab8)
-    => (168, 0x3ef54ef4285f4b10) => (169, 0x347f127fcfa01710) => (170, 0x45e66f14ce57beb9)
-    => (171, 0x732b64b32486420b) => (172, 0xbc4df35ad22ba106) => (173, 0x214e1b0bd747dba9)
-    => (174, 0xa22bdbc633daf1f6) => (175, 0x3ee73589e7e4e3eb) => (176, 0xf7802856f365b189)
-    => (177, 0xcbf6b42d565d5ad0) => (178, 0xbc4ad90d10cbdfc0) => (179, 0xc87c96f622b14058) ∷
-    row 1845 18 with (12, 0x487a125) with (64, 0xe956da) => (pc, 0xe956d8)
-    => (166, 0xb7022aa0e5bd8c31) => (167, 0x5e82aec154ec49b7) => (168, 0x21e0cbeb1b91e2e7)
-    => (169, 0x11c821e39ae57bf) => (170, 0xfc35d15aaf41a840) => (171, 0x132cb9a07c4bd46a)
-    => (172, 0x46013aefa0ccdc3d) => (173, 0x94b355481cc4bfb9) => (174, 0xff4308a9f0337edd)
-    => (175, 0x85b055151b1919ab) => (176, 0x27fb3a899d759021) => (177, 0xe623b9077748e240)
-    => (178, 0xc029d08ea8931008) => (179, 0xb60d811f31541979) ∷
-    row 1846 19 with (12, 0x407ffffe8) with (64, 0x1569ba) with (at, 0x407ffff30) => (pc, 0x1569b8)
-    => (170, 0xb1902a69acec10dd) => (171, 0xbd1d1d10ea6d52e5) => (172, 0xe487a8c17f657095)
-    => (173, 0x27cfcd7b6bd469ef) => (174, 0x86f58b3eafba3ef1) => (175, 0x1f8e20b4b16ef9c)
-    => (176, 0x98d9d1e13dea7bf0) => (177, 0x27362d048834e3ec) => (178, 0x97556c1729f62792)
-    => (179, 0x23524433232e46e0) => (180, 0xcb2cb55873dd41d8) => (181, 0x8ee4bf871c031878)
-    => (182, 0x6e7a62bf1b9fcac1) ∷
-    row 1847 20 with (12, 0xa1) with (64, 0x124f300) with (at, 1) => (pc, 0x124f300)
-    => (168, 0xb2a35ef594f19b0a) => (169, 0xc3bfdd4da0c56193) => (170, 0xf0b9f4af041003c4)
-    => (171, 0x3991a519bed1819f) => (172, 0x9e46ee8dd109db22) => (173, 0x1ed9d10b3ab9104e)
-    => (174, 0xbb4a4c91fbdf2123) => (175, 0x73986122147c0da1) => (176, 0x47c40ebb848fd5c7)
-    => (177, 0x37cd555e4c1a7997) => (178, 0x43b4350a6b1bf90f) => (179, 0x6b78adbfe1945430) ∷
-    row 1848 21 with (12, 0x40412a931) with (64, 0x2011157b8) => (pc, 0x2011157b8)
-    => (169, 0x6dd409509dce2ab8) => (170, 0x8480135977f475c2) => (171, 0xb709b66ba9919c74)
-    => (172, 0x570f28732a59ecf) => (173, 0x6fb5c7ac13307cd4) => (174, 0xf5d835da4b323681)
-    => (175, 0x97d83d11daaacbd6) => (176, 0x55b5dd52c19a3cd5) => (177, 0x2f71169d0000897d)
-    => (178, 0x2509e8f095ddb1cd) => (179, 0x3680544d8331b5c6) ∷
-    row 1849 22 with (12, 0x20423586c) with (64, 0x201dc17b3) => (pc, 0x201dc17b0)
-    => (170, 0x4394ddec781bfe6) => (171, 0x7ef1c66e6ffa8f70) => (172, 0x1587d8076fea3aa4)
-    => (173, 0xc7fb82a9c750c180) => (174, 0x964cc655762e2405) => (175, 0x807ba30a7c826233)
-    => (176, 0x868818c8da4d7c0a) => (177, 0xa87227908f8f718a) => (178, 0xe639cf619c4842b3)
-    => (179, 0x3fdf103c0077ef84) ∷
-    row 1850 23 with (12, 0x407ffffe8) with (64, 0x20169e842) with (at, 0x407ffff30)
-    => (pc, 0x20169e840) => (174, 0xf049cae120c5a94) => (175, 0x8f4ca0ee88d7aea0)
-    => (176, 0x2b723e385719de54) => (177, 0xe375748b7cd2e9b2) => (178, 0xb75643e7fa02d0b8)
-    => (179, 0xa714ac4dcea99367) => (180, 0xb2b0adbcfac731bf) => (181, 0xda2a48357e5babbf)
-    => (182, 0x1d817bb759670169) ∷
-    row 1851 24 with (12, 0x204ed8f09) with (64, 0x4016e1874) => (pc, 0x4016e1874)
-    => (172, 0xabc3f75c7d6dfac3) => (173, 0x90186a23c28bd350) => (174, 0x904a75f45f208785)
-    => (175, 0xac5a1ace532c1763) => (176, 0xe44758b19eae82eb) => (177, 0x38122f9e41a7ca1b)
-    => (178, 0x98f6b8803c17ecf4) => (179, 0xc5ffdea98dfeeb75) ∷
-    row 1852 25 with (12, 0x404a7166b) with (64, 0x2017563aa) => (pc, 0x2017563a8)
-    => (173, 0x629eaa009a6a072) => (174, 0xf00de9181d16fd80) => (175, 0xf5cf809987fe3636)
-    => (176, 0x176eb1244a5c4a96) => (177, 0x54eb7ab864313a9e) => (178, 0xae45dd55d57d064f)
-    => (179, 0x237dd8fc9e3fada9) ∷
-    row 1853 26 with (12, 0x40498e5da) with (64, 0x14b37e1) => (pc, 0x14b37e0)
-    => (174, 0x1aad53b2b6b64ba2) => (175, 0xa20dddb98792d31) => (176, 0x1572010dd1b2ea68)
-    => (177, 0x3ca0bd4962638348) => (178, 0x7fad128e4a8af7d1) => (179, 0xde9700dc8a294804) ∷
-    row 1854 27 with (12, 0x7ffffe8) with (64, 0x1398ac8) with (at, 0x7ffff30) => (pc, 0x1398ac8)
-    => (178, 0x5343f326849cfc52) => (179, 0xa6c3ebd634b26262) => (180, 0x16217d8f3c3ea41a)
-    => (181, 0xa15ca8519b41c17b) => (182, 0x48756c1d51bbba86) ∷
-    row 1855 28 with (12, 0x4047ab235) with (64, 0x201c28754) => (pc, 0x201c28754)
-    => (176, 0xb76200ad735ab282) => (177, 0x1071850df1c29d13) => (178, 0x855ea277c7a1634d)
-    => (179, 0x162958eaf4f7052f) ∷
-    row 1856 29 with (12, 0x4046aaf21) with (64, 0x4009a2ef5) => (pc, 0x4009a2ef4)
-    => (177, 0xf652b64182ef6e33) => (178, 0xb36ea928cfa9dd45) => (179, 0x8c68351973db27ff) ∷
-    row 1857 30 with (12, 0x40492f41a) with (64, 0x201d3ed4e) => (pc, 0x201d3ed4c)
-    => (178, 0xaa0b683cb35b2f65) => (179, 0x6cb6e6d4ce6822f7) ∷
-    row 1858 31 with (12, 0x407ffffe8) with (64, 0x4011e315a) with (at, 0x407ffff30)
-    => (pc, 0x4011e3158) => (182, 0x17e19007049df617) ∷
+    row 1921 14 with (12, 0x404ed9cb1) with (64, 0x20112cbf9) => (pc, 0x20112cbf8)
+    => (162, 0xd3435837b33e0e53) => (163, 0x9a3abf800dc77d62) => (164, 0x7d0fbfd1bfc7c819)
+    => (165, 0x7bc2592cc93eee7a) => (166, 0xcf62c2852a2cf083) => (167, 0xa753ab1ce291ce36)
+    => (168, 0x9b222cbdf26d8791) => (169, 0xaace476859c01c95) => (170, 0xd657fb1c18898d42)
+    => (171, 0x1dbf47d92ec9d997) => (172, 0x81042d9f9c810196) => (173, 0x26ac6f61af053d)
+    => (174, 0x9b26c4487e53e48e) => (175, 0x5204752af26f9f87) => (176, 0x24bfbf16be023628)
+    => (177, 0x1358a20be10ba873) => (178, 0x1dcf1e0a5b8bf667) => (179, 0x442333122d832003) ∷
+    row 1922 15 with (12, 0x207ffffe8) with (64, 0x400c6c4bc) with (at, 0x207ffff30)
+    => (pc, 0x400c6c4bc) => (166, 0xa1383f1c078ccd0) => (167, 0xd69a76eae954c060)
+    => (168, 0xbeff02ed69a78f98) => (169, 0xc34127f941713a7a) => (170, 0xe360e60e70b1c104)
+    => (171, 0x1f5e3d2cf7692338) => (172, 0x77392d54d5976114) => (173, 0xeaf1b6860b3c7a99)
+    => (174, 0x7a87d8c098586fc7) => (175, 0x25fb94047ceb409d) => (176, 0xed4ce851b8f4ed1d)
+    => (177, 0xd07bd5a84c757545) => (178, 0xcf885c08376cd916) => (179, 0xea727b7179db1891)
+    => (180, 0x213a33e413c033b3) => (181, 0x73df8560051c2a7f) => (182, 0xe2626fe54deefcf4) ∷
+    row 1923 16 with (12, 0x404605aab) with (64, 0x200d38f8e) => (pc, 0x200d38f8c)
+    => (164, 0xfb01257aee8a90cd) => (165, 0xcd17a424e5b908de) => (166, 0xbb0bbbd8345e5c98)
+    => (167, 0xc4dd6c94da7a8bfa) => (168, 0xea8cb65ad80d9706) => (169, 0x2c19992a2d177dba)
+    => (170, 0x89841502d9984017) => (171, 0x2cc29e4dd8fde1d) => (172, 0x97f1d7d038fe57cc)
+    => (173, 0x48f51ec4ebe3ad24) => (174, 0x15d5fec2f63fde24) => (175, 0xfe9477ca5812eace)
+    => (176, 0x33089db115cd320) => (177, 0x23aa34f5221d971b) => (178, 0x600179188a5536bf)
+    => (179, 0xb83656454a03b20c) ∷
+    row 1924 17 with (12, 0x404437b11) with (64, 0x2018056b0) => (pc, 0x2018056b0)
+    => (165, 0x8527a5093d735a4b) => (166, 0xbb4a923a02f456dd) => (167, 0xd4b18741fec2f17)
+    => (168, 0x7b2937b7945ae2fb) => (169, 0x4e4f00460407288) => (170, 0xaa7e415a839cddbd)
+    => (171, 0x6bf52bb9fe70249b) => (172, 0x4949af22d0ba4722) => (173, 0x427bcb94fa7b4552)
+    => (174, 0x578b81107bb31f2b) => (175, 0x8878cf955461d4ac) => (176, 0xe6ca8fbb848765d6)
+    => (177, 0xf0f62d7d0c23d2aa) => (178, 0x16ff6447eb371b26) => (179, 0x58e6341c21c13f4b) ∷
+    row 1925 18 with (12, 0x4b438da) with (64, 0xe956da) => (pc, 0xe956d8)
+    => (166, 0xc5afeb06ad332949) => (167, 0x16263e84106aa5c) => (168, 0x58f275d32c510718)
+    => (169, 0xcc6020c76f123f7c) => (170, 0x5bab64c5094a538a) => (171, 0x6d441cbfaf94340)
+    => (172, 0xcddab7dc441f0e9f) => (173, 0xb0bec6f5e4bbb5a7) => (174, 0xaf806f18dccf3858)
+    => (175, 0xca1fb0452c5996b2) => (176, 0x9c8a7ad35ad0b4) => (177, 0x52f6fdb9d1d2e660)
+    => (178, 0xc12f0a0227c1d7b4) => (179, 0x4b44af53d527a4b1) ∷
+    row 1926 19 with (12, 0x407ffffe8) with (64, 0x1569ba) with (at, 0x407ffff30) => (pc, 0x1569b8)
+    => (170, 0x563080b53dc9fdc8) => (171, 0xf5ef681d9ff0035c) => (172, 0xb18be88f598ce498)
+    => (173, 0xd7b47fa66aa0a17e) => (174, 0x6c8f4f54d32b3a0c) => (175, 0x1d47b80c932cae44)
+    => (176, 0xe9ddb9cdaaa4fe24) => (177, 0xd2515498199429ad) => (178, 0xd6a2886bdffa30df)
+    => (179, 0xf6d15548fdd713b9) => (180, 0x32ddbb2f732ad23d) => (181, 0x8ac7ba1f3ff56c69)
+    => (182, 0xfe8f52186436e23e) ∷
+    row 1927 20 with (12, 0xa1) with (64, 0x401e86354) with (at, 1) => (pc, 0x401e86354)
+    => (168, 0xe6536b26ef37d7c7) => (169, 0x8ba1de401fb061dc) => (170, 0x4ccdea62a79fc799)
+    => (171, 0x29d78f8e87060900) => (172, 0x22becdc3bde32610) => (173, 0x3783a5024c371ec8)
+    => (174, 0x6826154a3201f329) => (175, 0xb4a61e9b6f43a333) => (176, 0x1d03c0f603fc2ee6)
+    => (177, 0xa13efc59f02b9641) => (178, 0x4157d0c733d1d946) => (179, 0xfd4e3e3dceeef7f3) ∷
+    row 1928 21 with (12, 0x20402cd2c) with (64, 0x2011157b8) => (pc, 0x2011157b8)
+    => (169, 0x3093cb67c17cb746) => (170, 0xdb71ca31c047c5dc) => (171, 0xa22d62051689b01b)
+    => (172, 0x84c692e1c4427603) => (173, 0x833d5cc7c9721793) => (174, 0x9d91bfb7261894cc)
+    => (175, 0xd3c3bbafda35edae) => (176, 0x25d350b1e5ca2239) => (177, 0x93c07ebd48d5326d)
+    => (178, 0x1d8b45d203571e4a) => (179, 0xc333a5f0154fe5cf) ∷
+    row 1929 22 with (12, 0x204aa007e) with (64, 0x201dc17b3) => (pc, 0x201dc17b0)
+    => (170, 0x5ceba5dbb4989c46) => (171, 0x6bd6132c81b62f5d) => (172, 0x969e1986a64a9e1d)
+    => (173, 0xdd43b8ea2255e886) => (174, 0x3fc6f156f5d80e97) => (175, 0xbe27c2cd20d11051)
+    => (176, 0x58662d4ca340edb4) => (177, 0xe8230d57d27a6c0) => (178, 0xe07bcd67ae853b75)
+    => (179, 0xce5303033759abd3) ∷
+    row 1930 23 with (12, 0x407ffffe8) with (64, 0x20169e842) with (at, 0x407ffff30)
+    => (pc, 0x20169e840) => (174, 0xf6c6aa90c88b86c7) => (175, 0xb40a39263fb9e5f)
+    => (176, 0x3b98359d56e2919f) => (177, 0x87cd60b1a1406089) => (178, 0xefe024cf43150b1b)
+    => (179, 0x73d081f63c609157) => (180, 0x139e78268d22f33b) => (181, 0xcf4a0760355c30c8)
+    => (182, 0xa6d32fa3350c49fe) ∷
+    row 1931 24 with (12, 0x204f6949f) with (64, 0x4016e1874) => (pc, 0x4016e1874)
+    => (172, 0x29789b24fd5576c7) => (173, 0xa1ff02ad671812e0) => (174, 0x9aafc78328518aa2)
+    => (175, 0xec747e484101de0d) => (176, 0x5a16ce16b1290d20) => (177, 0xe396b6ee78c717dc)
+    => (178, 0x88f438cf97dbfe42) => (179, 0x4a2f53ba0e67c04f) ∷
+    row 1932 25 with (12, 0x40446a018) with (64, 0x2017563aa) => (pc, 0x2017563a8)
+    => (173, 0x12ee444e52f66c49) => (174, 0x910437878b0b8ce3) => (175, 0x2af7c3ca1a978925)
+    => (176, 0xe0c8e916019a6111) => (177, 0xb277a76b401414a5) => (178, 0xa003fec9d604a3e3)
+    => (179, 0xa96def31c36c0ec9) ∷
+    row 1933 26 with (12, 0x404799e49) with (64, 0x14b37e1) => (pc, 0x14b37e0)
+    => (174, 0xb6816346c96e674a) => (175, 0x3a26e230cfd60c65) => (176, 0xd9a9fa242db48d29)
+    => (177, 0x950aab20e309e995) => (178, 0x6c48f526efd621ab) => (179, 0x5f64d83654193569) ∷
+    row 1934 27 with (12, 0x207ffffe8) with (64, 0x1398ac8) with (at, 0x207ffff30)
+    => (pc, 0x1398ac8) => (178, 0x850a98a060bd67cc) => (179, 0x6cbc861135779168)
+    => (180, 0x704c0c8b61a896ad) => (181, 0x8fb92c0ee550779b) => (182, 0xcb03e49bc06f3431) ∷
+    row 1935 28 with (12, 0x4331d7e) with (64, 0x201c28754) => (pc, 0x201c28754)
+    => (176, 0x78385c0d18e36dcf) => (177, 0x6579d52ebbf01bec) => (178, 0x6e98e759b673a5b1)
+    => (179, 0x9395928e086e0b20) ∷
+    row 1936 29 with (12, 0x4b99e81) with (64, 0x4009a2ef5) => (pc, 0x4009a2ef4)
+    => (177, 0x4d1ba786f1e07952) => (178, 0x18549a1b633fabf0) => (179, 0x270337f72c15ba36) ∷
+    row 1937 30 with (12, 0x404cdbce6) with (64, 0x201d3ed4e) => (pc, 0x201d3ed4c)
+    => (178, 0x8fe40f67ebb48a55) => (179, 0xe6c182c12b664174) ∷
+    row 1938 31 with (12, 0x207ffffe8) with (64, 0x4011e315a) with (at, 0x207ffff30)
+    => (pc, 0x4011e3158) => (182, 0x8cc9ed18065fa0d9) ∷
     [])
 
 unfoldable pub ppc64_restgpr1 : Functions
@@ -2758,88 +2843,88 @@ ppc64_restgpr1 =
     (0xe9ccff70 ∷ 0xe9ecff78 ∷ 0xea0cff80 ∷ 0xea2cff88 ∷ 0xea4cff90 ∷ 0xea6cff98 ∷ 0xea8cffa0 ∷
     0xeaacffa8 ∷ 0xeaccffb0 ∷ 0xeaecffb8 ∷ 0xeb0cffc0 ∷ 0xeb2cffc8 ∷ 0xeb4cffd0 ∷ 0xeb6cffd8 ∷
     0xeb8cffe0 ∷ 0xebacffe8 ∷ 0xebccfff0 ∷ 0xebecfff8 ∷ 0x4e800020 ∷ []) (
-    row 1859 14 with (12, 0x4e1ab89) with (64, 0x166735e) => (14, 0x6b2839258b2abb11)
-    => (15, 0x4403dd5bad384363) => (16, 0x38bd1a9b26bca75f) => (17, 0x4953f0e3f7b7e703)
-    => (18, 0x75c86036202a0250) => (19, 0xbe1a6891a012f945) => (20, 0x224a09f67772cbe4)
-    => (21, 0xa2574464a6497a2b) => (22, 0x3e4217dc2c97041c) => (23, 0xf60a845d0a5b69b5)
-    => (24, 0xc9b089e73f96aaf7) => (25, 0xb934287acc48c7e2) => (26, 0xc4956017b071c075)
-    => (27, 0xebd430bdec1194b2) => (28, 0x2ef09a6d7f284497) => (29, 0x8dea9d2669b5d025)
-    => (30, 0x8c238e8abba375c) => (31, 0xaaecd01245357a3c) => (pc, 0x166735c) ∷
-    row 1860 15 with (12, 0x407ffffe8) with (64, 0x401229d65) with (at, 0x407ffff30)
-    => (15, 0x7cd96ca5bb878fba) => (16, 0xaedd67a8b24c2f88) => (17, 0xfcbefbb50087aaff)
-    => (18, 0x667e28caa63a021e) => (19, 0xec1aeee9a36334e7) => (20, 0x8d954e11f8034358)
-    => (21, 0x4aed4643a41a2d72) => (22, 0x2422d77ea7a7f335) => (23, 0x193601c302ac94a1)
-    => (24, 0x2a26c510b52811b6) => (25, 0x56f52167bf1a6a73) => (26, 0x9fa116c820839ed9)
-    => (27, 0x42aa531d963aee9) => (28, 0x8491cca4e9ba9aa1) => (29, 0x20d68d2151886202)
-    => (30, 0xd8f8e6a710cd050b) => (31, 0xacf8d936278883be) => (pc, 0x401229d64) ∷
-    row 1861 16 with (12, 0x40411832b) with (64, 0x1364ad4) => (16, 0xcff25f6b5db1f6fa)
-    => (17, 0x1269fdd91c64884e) => (18, 0x70bf3550328df54c) => (19, 0xeaf205d0a02e3df2)
-    => (20, 0x81026f5a65456241) => (21, 0x32f071ed81d36238) => (22, 0xbc0d89f5d83dd9)
-    => (23, 0xea65422fc153f522) => (24, 0xefec0fdee4468815) => (25, 0x115076975eaff6b0)
-    => (26, 0x38b29ae5309040f4) => (27, 0x335550da59e766e1) => (28, 0x49d59fd8dab56876)
-    => (29, 0x7c3387e0b2fa45b5) => (30, 0xca6f08f1e2b5fe9c) => (31, 0x3488230c69e8932c)
+    row 1939 14 with (12, 0x4f4272e) with (64, 0x166735e) => (14, 0x9bd5f630f20002e0)
+    => (15, 0x8e38f2838b24ebf) => (16, 0x91cec128d6db7647) => (17, 0x36978c32cc7b7977)
+    => (18, 0xf73df04619925850) => (19, 0xd3c1ed62be2012d2) => (20, 0xcc238388ba24a8fd)
+    => (21, 0xe062b2b80da01ad1) => (22, 0x107f7af0b892684d) => (23, 0x5c79dc32bafb9173)
+    => (24, 0xc451d67e14db9641) => (25, 0x480769d2c63276b8) => (26, 0xe79a9630cf0032d8)
+    => (27, 0x2191694e2f44caa1) => (28, 0x9a62e4e8e7003e13) => (29, 0x2f11f98cf6328d2d)
+    => (30, 0xdf9ea73a5cdbb7f0) => (31, 0xac08edf11afbbe5c) => (pc, 0x166735c) ∷
+    row 1940 15 with (12, 0x407ffffe8) with (64, 0x401229d65) with (at, 0x407ffff30)
+    => (15, 0xf92cbdda59b37200) => (16, 0xbf62ad9e751cd55a) => (17, 0xa176366be7fd145d)
+    => (18, 0x9f675842b2542f09) => (19, 0xb9361322d422255e) => (20, 0xeee2670c4d66f75c)
+    => (21, 0x406c53ff1e22a502) => (22, 0xadd3d9fb46552e51) => (23, 0x3718f900c5fe9349)
+    => (24, 0xdc3bb10f9d1ed3ea) => (25, 0x9d3c0227cbb5f034) => (26, 0x7a19ec4951c3e827)
+    => (27, 0x72d56f742f48bbc2) => (28, 0x876e8ba864446b07) => (29, 0xb7e540e5f0b6f5f4)
+    => (30, 0x4398f2cd4a05c8a) => (31, 0x6c6b767d10009ec9) => (pc, 0x401229d64) ∷
+    row 1941 16 with (12, 0x2045106ff) with (64, 0x1364ad4) => (16, 0x25a268425757de6d)
+    => (17, 0xfc4bfb713aaf334e) => (18, 0xeed327a9757d63d8) => (19, 0xfd37eceb07c2700a)
+    => (20, 0x277a4b35f17e57e5) => (21, 0x2947f54432b11b69) => (22, 0x2cc8a2cbcb5aba96)
+    => (23, 0x4c26e95cbb7b356c) => (24, 0x8762c8f703128bea) => (25, 0xde7c419aa220be12)
+    => (26, 0x5173534798a5cbe2) => (27, 0xe047fdfde6a1b55b) => (28, 0x8afa41bd8c147a7d)
+    => (29, 0x518a1e8688fe1b48) => (30, 0x33f79458dd5e97bb) => (31, 0x3242a3348935efd8)
     => (pc, 0x1364ad4) ∷
-    row 1862 17 with (12, 0x204533066) with (64, 0x400c0df54) => (17, 0x4263dc8ef8381d2f)
-    => (18, 0x8a6b06ad853d3305) => (19, 0xee4fc9d569b92483) => (20, 0x6e122606a5abf1aa)
-    => (21, 0x9b21b4139159a7a) => (22, 0xc12fa98523f61ef2) => (23, 0x948ad0d2664d7f14)
-    => (24, 0x83c39129001bbadf) => (25, 0x8ed9ea88f160d252) => (26, 0xb5cddcf23a1cc56e)
-    => (27, 0xf89f6864da4f9433) => (28, 0x574e8ce0d1f93ea1) => (29, 0xd1db4a662119c4b7)
-    => (30, 0x6845a0f4c7b12677) => (31, 0x1a8d908cc5bf63df) => (pc, 0x400c0df54) ∷
-    row 1863 18 with (12, 0x4227b03) with (64, 0x2010aa839) => (18, 0x8ab14045b39548e5)
-    => (19, 0x36c4d8eb0eece33b) => (20, 0x25fdd429c1bb593a) => (21, 0xab4fbc0bcc00aae2)
-    => (22, 0x4c7f3cf72dbcd833) => (23, 0x98c56ebe6efe12d) => (24, 0xe27709e9f799c5d0)
-    => (25, 0xd73f55f15fba861b) => (26, 0xe7e53b021f52220f) => (27, 0x1468b91c366099ac)
-    => (28, 0x5cc9d03fa4e5ecf2) => (29, 0xc108806c6ae21be1) => (30, 0x4124c9a288552679)
-    => (31, 0xdd1eabe1fd3f0cb9) => (pc, 0x2010aa838) ∷
-    row 1864 19 with (12, 0x207ffffe8) with (64, 0x7f082b) with (at, 0x207ffff30)
-    => (19, 0xb53f99fc132c699b) => (20, 0xba7b896e433b1b6d) => (21, 0xdb9511e9cac0a8e8)
-    => (22, 0x188c336ea9bd120c) => (23, 0x7160edfce03056d8) => (24, 0xe61341946e1a774d)
-    => (25, 0x76a32e35537b736b) => (26, 0x2310b3df90534b32) => (27, 0xeb5bd29324a1fea2)
-    => (28, 0xcf848a5010678dbb) => (29, 0xcf8adb1653a3f87c) => (30, 0xeb6ec4e5ee573ee7)
-    => (31, 0x233047bee08160fa) => (pc, 0x7f0828) ∷
-    row 1865 20 with (12, 0xa1) with (64, 0x201df586c) with (at, 1) => (20, 0xc8e6f9448cd4b0d1)
-    => (21, 0x8019a94b84d1542a) => (22, 0x5329f25bd444d32b) => (23, 0x4217d4757b2f2dd5)
-    => (24, 0x4ce34f9879906428) => (25, 0x738c63c4cf687623) => (26, 0xb61310fa7cb763c8)
-    => (27, 0x14775739817d2d15) => (28, 0x8eb93681ddb9d20c) => (29, 0x24d8aed3916d52ab)
-    => (30, 0xd6d5c02e9c97aef3) => (31, 0xa4b06a92ff38e6e4) => (pc, 0x201df586c) ∷
-    row 1866 21 with (12, 0x4e20b28) with (64, 0x20046514c) => (21, 0xad0ba1c0aab6ed08)
-    => (22, 0xc84ac04e710614e1) => (23, 0xff6777e58ecc1864) => (24, 0x5261c8860408f78f)
-    => (25, 0xc139b22fd0bcb263) => (26, 0x4bef34e2f4e748df) => (27, 0xf282509f7088bb05)
-    => (28, 0xb4f3056543a108d3) => (29, 0x934153346e30324b) => (30, 0x8d2ba540f036376b)
-    => (31, 0x44b8424cc9b31834) => (pc, 0x20046514c) ∷
-    row 1867 22 with (12, 0x49275f9) with (64, 0x1d72272) => (22, 0x78cfdd9be9702ebf)
-    => (23, 0x999e87da7e11db1a) => (24, 0xd64acb226a2a631d) => (25, 0x2ed4a773adb9c6c9)
-    => (26, 0xa33c1cce48c0061e) => (27, 0x33812b323b3d211c) => (28, 0xdfa3d29f853117c2)
-    => (29, 0xa7a41316269bea12) => (30, 0x8b81ec961f7d980a) => (31, 0x8b3d5f1f6fd621ab)
+    row 1942 17 with (12, 0x4293851) with (64, 0x400c0df54) => (17, 0x27239b4bbb465475)
+    => (18, 0x35cba2b6cf02dd6) => (19, 0xfb7372147610e2e1) => (20, 0xf67c306d6a87394)
+    => (21, 0x3f39ad028eb6dff0) => (22, 0x8ae930079e3c27f5) => (23, 0xf2764c1605384ba3)
+    => (24, 0x75e1012dc3ab4afa) => (25, 0x15294f4ed99525f9) => (26, 0xd04f367946f5dca2)
+    => (27, 0xa752b6ad0bcd6ef3) => (28, 0x9a33cfea281bdced) => (29, 0xa8f282309be12690)
+    => (30, 0xd38ecd80671d4bdc) => (31, 0x1a08b1d989d04cd1) => (pc, 0x400c0df54) ∷
+    row 1943 18 with (12, 0x40439b1af) with (64, 0x2010aa839) => (18, 0xe2c24424400bcffc)
+    => (19, 0xc48aeeb4c0082ddf) => (20, 0xc231324e977b676a) => (21, 0xdbb50ef1c6657c9f)
+    => (22, 0x1116849e4cc66d7c) => (23, 0x625593542a9e3a02) => (24, 0xcf723b135fece231)
+    => (25, 0x586c7bdbecb26608) => (26, 0xfd4455add0eec589) => (27, 0xbdf9c8890ca200b2)
+    => (28, 0x9a8cd46d9fcc1785) => (29, 0x92fd795b8a6d0a00) => (30, 0xa74bb752cc84d824)
+    => (31, 0xd7778e53661381f0) => (pc, 0x2010aa838) ∷
+    row 1944 19 with (12, 0x7ffffe8) with (64, 0x7f082b) with (at, 0x7ffff30)
+    => (19, 0x7b9782c7d6f98b2a) => (20, 0x150566fb2bad0088) => (21, 0xca50e437d7d7518f)
+    => (22, 0x9b79fa7ddb787e3f) => (23, 0x8880a9cd36908697) => (24, 0x9164f225e91f6a99)
+    => (25, 0xb626d387f3252a43) => (26, 0xf6c64df354a1c597) => (27, 0x534361680d953c93)
+    => (28, 0x5fc262441dff8f38) => (29, 0x957dc4f585e0bd85) => (30, 0xe716c0b04538c77c)
+    => (31, 0x548d55745c07ad1b) => (pc, 0x7f0828) ∷
+    row 1945 20 with (12, 0xa1) with (64, 0x201df586c) with (at, 1) => (20, 0x61b8b9b2ac1bd78d)
+    => (21, 0xad1d5e7ac8bd3e71) => (22, 0x145f9c4c3cd580ff) => (23, 0x977f732708649f35)
+    => (24, 0x367ce30b2b6a9914) => (25, 0xf157ebf8a5e76e9c) => (26, 0xc8108def77db1fcd)
+    => (27, 0xbaa6c8efa145aca7) => (28, 0xc91a9cf922271529) => (29, 0xf36c0a0bfa7f5955)
+    => (30, 0x399b10282a4e7929) => (31, 0x9ba7af4db19474a6) => (pc, 0x201df586c) ∷
+    row 1946 21 with (12, 0x204bcce1a) with (64, 0x20046514c) => (21, 0xdbcff81493666395)
+    => (22, 0x8b410b637e5a4efb) => (23, 0x568fb7bbc0c5160a) => (24, 0x3dbbfd1d5aa6b8c1)
+    => (25, 0x1211d4ea4bff3721) => (26, 0xd27c698894ce912a) => (27, 0xaec497303514c6dc)
+    => (28, 0xa6ea5de12cd1d837) => (29, 0xbaedbd9b7c05c53a) => (30, 0xeaceb65f22b08de7)
+    => (31, 0x368d482c20d2323c) => (pc, 0x20046514c) ∷
+    row 1947 22 with (12, 0x40403bd02) with (64, 0x1d72272) => (22, 0x36a3e9d59b87f51f)
+    => (23, 0xeba488d554ce6505) => (24, 0xbc82c0de658bb095) => (25, 0xa93e91f0cdbfd7cd)
+    => (26, 0xb1d7fc0c8d6adaae) => (27, 0xd64eff31a48cb938) => (28, 0x16a39b601325736b)
+    => (29, 0x72d5d097d9350947) => (30, 0xeae59ed8f6bb7acb) => (31, 0x7ed306236bb8c7f9)
     => (pc, 0x1d72270) ∷
-    row 1868 23 with (12, 0x207ffffe8) with (64, 0x200de8d19) with (at, 0x207ffff30)
-    => (23, 0xc564fc3078419b84) => (24, 0x3f5bfd3be19a5f5a) => (25, 0xd5309750a269fed8)
-    => (26, 0x86e2ca6ebab07a00) => (27, 0x547296962a6dd0d0) => (28, 0x3ddffbc6f1a2034a)
-    => (29, 0x432afa01104d116c) => (30, 0x64539144866efb37) => (31, 0xa159c1915407c0aa)
+    row 1948 23 with (12, 0x207ffffe8) with (64, 0x200de8d19) with (at, 0x207ffff30)
+    => (23, 0xcede9c9361affc5a) => (24, 0xdd07925fefad83bc) => (25, 0x70e2135d521e6c7)
+    => (26, 0x4cf24915120d257b) => (27, 0xaeb409fda66f3fd7) => (28, 0x2c5363ef924835dd)
+    => (29, 0xc5d056ead598078b) => (30, 0x7b2ae2ef705eb4e3) => (31, 0x4c6307fd629c3de3)
     => (pc, 0x200de8d18) ∷
-    row 1869 24 with (12, 0x4f17918) with (64, 0x4002e9a0e) => (24, 0x7ead7c87c967c2af)
-    => (25, 0x91820fdfaae780b) => (26, 0xaf605e7d836c0911) => (27, 0x7186350663a075bf)
-    => (28, 0x4f89a4989b4bbe16) => (29, 0x496aad342a6de215) => (30, 0x5f294ed91106e1be)
-    => (31, 0x90c589874f16bd0f) => (pc, 0x4002e9a0c) ∷
-    row 1870 25 with (12, 0x4f566bb) with (64, 0x401617710) => (25, 0x5429d2a66aa614e8)
-    => (26, 0xe42402cd6a3f4ec5) => (27, 0x8ffbcbfdc14f644b) => (28, 0x57b12e376fd6557a)
-    => (29, 0x3b44297a75d42252) => (30, 0x3ab4bdc6d348cad3) => (31, 0x5602eb1c88344efc)
+    row 1949 24 with (12, 0x4043a72fa) with (64, 0x4002e9a0e) => (24, 0x6183d48d0e5028b2)
+    => (25, 0x80206dc4643ba19b) => (26, 0xba9aa005119df62d) => (27, 0x10f26b4f16772667)
+    => (28, 0x8327cfa272c7324a) => (29, 0x113accff268e19d6) => (30, 0xbb2b636531cbdd0b)
+    => (31, 0x80f992d494807be9) => (pc, 0x4002e9a0c) ∷
+    row 1950 25 with (12, 0x4047f8f5f) with (64, 0x401617710) => (25, 0xc60fe09178f6cabd)
+    => (26, 0xea3c05799d34c827) => (27, 0x2a45c36b18e9a139) => (28, 0x862d1a65ec1555f4)
+    => (29, 0xfdf20a6a16b7e659) => (30, 0x9194937798d15266) => (31, 0x4114b58e72619a1b)
     => (pc, 0x401617710) ∷
-    row 1871 26 with (12, 0x204319c6b) with (64, 0x201bcdd81) => (26, 0xda7fd6082cbb6ca1)
-    => (27, 0xce8674b5faa72aff) => (28, 0xde6aac6d2009c506) => (29, 0xa2c7d2d9ce33ab6)
-    => (30, 0x51cbe6f771338c0f) => (31, 0xb548e9ca9cfab911) => (pc, 0x201bcdd80) ∷
-    row 1872 27 with (12, 0x207ffffe8) with (64, 0x94b7dc) with (at, 0x207ffff30)
-    => (27, 0x3ff21ad2eac72573) => (28, 0x8d21104d8d69fb4c) => (29, 0xf62d9ed18783accf)
-    => (30, 0x7b17c65ed91439fb) => (31, 0x1bdf86f5821ba2cf) => (pc, 0x94b7dc) ∷
-    row 1873 28 with (12, 0x404fd8a9d) with (64, 0x2011a8562) => (28, 0xdecb40fd136b2c94)
-    => (29, 0xddf0f70c7dfbf3f4) => (30, 0xf8f44625400396fd) => (31, 0x2fd52e47598215af)
-    => (pc, 0x2011a8560) ∷
-    row 1874 29 with (12, 0x4e29875) with (64, 0x2011fe052) => (29, 0xf88924380594ce)
-    => (30, 0x642aadba70e8e0af) => (31, 0xe33a6b5a0143083a) => (pc, 0x2011fe050) ∷
-    row 1875 30 with (12, 0x404ffee59) with (64, 0xf4eb5c) => (30, 0x2fc79dfa7d770289)
-    => (31, 0x98894e4184acd2eb) => (pc, 0xf4eb5c) ∷
-    row 1876 31 with (12, 0x207ffffe8) with (64, 0x401cfb5ec) with (at, 0x207ffff30)
-    => (31, 0x125223c76abd0768) => (pc, 0x401cfb5ec) ∷
+    row 1951 26 with (12, 0x404a79e7c) with (64, 0x201bcdd81) => (26, 0xe25879d904747248)
+    => (27, 0x6a910d47f704f432) => (28, 0xea739c0410c51c6) => (29, 0xb5853f4be28a8b02)
+    => (30, 0x32d9bb00db7f9fe7) => (31, 0xcc0bcfbf2beb9075) => (pc, 0x201bcdd80) ∷
+    row 1952 27 with (12, 0x7ffffe8) with (64, 0x94b7dc) with (at, 0x7ffff30)
+    => (27, 0x937052ccf9d6c591) => (28, 0x74d13d08c11e5ef7) => (29, 0x720fc04ddfdcd406)
+    => (30, 0x8b2bdc9c561224be) => (31, 0xc02591f423be511e) => (pc, 0x94b7dc) ∷
+    row 1953 28 with (12, 0x44b3f88) with (64, 0x201eebbc2) => (28, 0x4c350997df4d1df)
+    => (29, 0x981afb6a0d2a5ccc) => (30, 0x47503f43f3d6c361) => (31, 0x12631c2731fa059f)
+    => (pc, 0x201eebbc0) ∷
+    row 1954 29 with (12, 0x404c6d176) with (64, 0x2011fe052) => (29, 0xbce32ea66bf789eb)
+    => (30, 0xb44747fdc97f9959) => (31, 0xc788fa5e7e7e846f) => (pc, 0x2011fe050) ∷
+    row 1955 30 with (12, 0x2047aab72) with (64, 0xf4eb5c) => (30, 0x7ac1f9627ad14778)
+    => (31, 0x77b59e6aa6abdb66) => (pc, 0xf4eb5c) ∷
+    row 1956 31 with (12, 0x207ffffe8) with (64, 0x401cfb5ec) with (at, 0x207ffff30)
+    => (31, 0x4de097349f6de6ce) => (pc, 0x401cfb5ec) ∷
     [])
 
 unfoldable pub ppc64_savefpr : Functions
@@ -2849,94 +2934,94 @@ ppc64_savefpr =
     (0xd9c1ff70 ∷ 0xd9e1ff78 ∷ 0xda01ff80 ∷ 0xda21ff88 ∷ 0xda41ff90 ∷ 0xda61ff98 ∷ 0xda81ffa0 ∷
     0xdaa1ffa8 ∷ 0xdac1ffb0 ∷ 0xdae1ffb8 ∷ 0xdb01ffc0 ∷ 0xdb21ffc8 ∷ 0xdb41ffd0 ∷ 0xdb61ffd8 ∷
     0xdb81ffe0 ∷ 0xdba1ffe8 ∷ 0xdbc1fff0 ∷ 0xdbe1fff8 ∷ 0xf8010010 ∷ 0x4e800020 ∷ []) (
-    row 1877 14 with (1, 0x4e3724a) with (64, 0x201968d49) => (pc, 0x201968d48)
-    => (162, 0xdca0d021f0d02896) => (163, 0x92f3eb14cc74079a) => (164, 0x65249f10ff8ec246)
-    => (165, 0x5332ec168a20589b) => (166, 0x5d1ed2256c28ca98) => (167, 0x82e8513da5a8183f)
-    => (168, 0xc48f695f369e418e) => (169, 0x22141a8a1f0b4687) => (170, 0x9b7664be5eef2728)
-    => (171, 0x30b647fbf649e372) => (172, 0xe1d3c442e51b7b64) => (173, 0xaeced9932b63ef00)
-    => (174, 0x97a787ecc9233e45) => (175, 0x9c5dcf4fbe596932) => (176, 0xbcf1afbc0b066fc8)
-    => (177, 0xf9632931af2a5207) => (178, 0x51b23bb0aac50fef) => (179, 0xc5dee738fdd6a980)
-    => (182, 0x6f983ef0ce43a1fc) ∷
-    row 1878 15 with (1, 0x207ffffe8) with (64, 0x2017ed4d3) with (at, 0x207ffff30)
-    => (pc, 0x2017ed4d0) => (166, 0x9983c40799954b4d) => (167, 0x55666aab438baed1)
-    => (168, 0x2d26aa5844f8edfe) => (169, 0x20c4830e9ddd08d4) => (170, 0x303ff4ce4e37ff52)
-    => (171, 0x5b98ff975609d17a) => (172, 0xa2cfa369b5527f4a) => (173, 0x5e3e0456c1208c4)
-    => (174, 0x84d5b62a7a486de6) => (175, 0x1fa52518dff5aeb1) => (176, 0xd6522d109d19cb25)
-    => (177, 0xa8dcce11b1b4c341) => (178, 0x9745081c1dc69707) => (179, 0xa18adb2fe14f4675)
-    => (180, 0xc7ae474cfc4ed18c) => (181, 0x9af4c736ec5384c) => (182, 0x678deaa338b27ab5)
-    => (185, 0x336d4524c910e600) ∷
-    row 1879 16 with (1, 0x20452c119) with (64, 0x2017dc4c3) => (pc, 0x2017dc4c0)
-    => (164, 0x6cdf6fdc63317383) => (165, 0x8cce8506db7a5b88) => (166, 0xc89b333aab3a1f37)
-    => (167, 0x20457a77d270be8d) => (168, 0x93cd5abe511e398d) => (169, 0x2332d40e27429036)
-    => (170, 0xce75e66754ddc287) => (171, 0x959691c9d9efd081) => (172, 0x7894d635b678ba24)
-    => (173, 0x7770b3aaea787f70) => (174, 0x922a2a2975ef2065) => (175, 0x5d08385f58dc9d03)
-    => (176, 0x50fffe1a9340f549) => (177, 0x60d55cdf251c2939) => (178, 0x8c8854ad0e6e38d1)
-    => (179, 0xd418e5844f372412) => (182, 0x16f334cf9f87022b) ∷
-    row 1880 17 with (1, 0x43429ea) with (64, 0x4003bb25b) => (pc, 0x4003bb258)
-    => (165, 0x795d08364da4a13a) => (166, 0x9edba91194400dc1) => (167, 0xe037e2f6325255f0)
-    => (168, 0x3d71b5e427db79c7) => (169, 0xb68921db74db7948) => (170, 0x4b7e26dc19525472)
-    => (171, 0xfc50c4e615400b44) => (172, 0xc900fbf968a49dbf) => (173, 0xb18ecc1613800be4)
-    => (174, 0xb5fa353c15d255b0) => (175, 0xd643376b6f9b7b26) => (176, 0x1269d2a420db7c45)
-    => (177, 0x6a6e06e62992590c) => (178, 0xde4fd43189c0117d) => (179, 0x6e0f3a864164a596)
-    => (182, 0xe728abf151a5f67d) ∷
-    row 1881 18 with (1, 0x204f88572) with (64, 0x1036613) => (pc, 0x1036610)
-    => (166, 0x5312ca2b58eed472) => (167, 0xdc9dd98d6ddcc579) => (168, 0x820681f8da419229)
-    => (169, 0x434cc36d9e1d3a82) => (170, 0x93625ec7b96fbe84) => (171, 0x2de6ef792c391e2e)
-    => (172, 0xe4491933f6795982) => (173, 0xb688dbf81830707e) => (174, 0xa4a637c5915e6323)
-    => (175, 0xaea12c9c62033171) => (176, 0xd479ba7c8a1edb68) => (177, 0x162fe16609b16107)
-    => (178, 0x73c3a158e0bac250) => (179, 0xed34fa550f3aff41) => (182, 0xdd496089df6dc2f7) ∷
-    row 1882 19 with (1, 0x7ffffe8) with (64, 0x200a79397) with (at, 0x7ffff30) => (pc, 0x200a79394)
-    => (170, 0xaf2b06f985100d2a) => (171, 0x3e45a20c685082b2) => (172, 0xe93dd628a307d3e3)
-    => (173, 0xb013a34e353600bd) => (174, 0x92c7097d1edb0940) => (175, 0x915808b55ff6ed6b)
-    => (176, 0xabc6a0f6f889ad40) => (177, 0xe212d241e89348bd) => (178, 0x343c9c963013bfe3)
-    => (179, 0xa243fff3cf0b12b2) => (180, 0x2c28fc5ac579412a) => (181, 0xd1eb91cb135e4b4a)
-    => (182, 0x938bc044b8ba3114) => (185, 0xb9df489948de6798) ∷
-    row 1883 20 with (1, 0xa1) with (64, 0x201dd0f31) with (at, 1) => (pc, 0x201dd0f30)
-    => (168, 0xc560b996d2084b62) => (169, 0x5a0ae05a839b456b) => (170, 0xa92a0278ca51b1d)
-    => (171, 0xd6f7f8fded25cc78) => (172, 0xbf3aeadda51d597c) => (173, 0xc35b75c6b48bc228)
-    => (174, 0xe35999b91b71067e) => (175, 0x1f3556b4d9cd267c) => (176, 0x76eeacb9efa02223)
-    => (177, 0xea859bc85ce9f973) => (178, 0x79fa23e021aaac6c) => (179, 0x254c45013de23b0e)
-    => (182, 0xc29ac21f8df7e460) ∷
-    row 1884 21 with (1, 0x20497485a) with (64, 0x401e29259) => (pc, 0x401e29258)
-    => (169, 0x3aedc0513fd78f1b) => (170, 0x33a4559bbfbd0da5) => (171, 0x483883ef971967d8)
-    => (172, 0x78aa4b4cc5ec9db4) => (173, 0xc4f9abb34c36af39) => (174, 0x2d26a52329f79c66)
-    => (175, 0xb131379c5f2f653d) => (176, 0x5119631eebde09bc) => (177, 0xcdf27aad00389e4)
-    => (178, 0xe48285400b9fe5b5) => (179, 0x81e8c1349eb31d2f) => (182, 0x9632331caeba394f) ∷
-    row 1885 22 with (1, 0x43cc417) with (64, 0x635831) => (pc, 0x635830)
-    => (170, 0xa0be1762ce7dd854) => (171, 0x9f04385e1cb5db5f) => (172, 0xb927f262c264ba13)
-    => (173, 0xef294570bf8a7470) => (174, 0x4108318814270a76) => (175, 0xaec4b6a8c03a7c24)
-    => (176, 0x385ed4d2c3c4c97c) => (177, 0xddd68c061ec5f27c) => (178, 0x9f2bdc42d13df725)
-    => (179, 0x7c5ec588db2cd777) => (182, 0xc6e75990ab256666) ∷
-    row 1886 23 with (1, 0x207ffffe8) with (64, 0x401cfa29d) with (at, 0x207ffff30)
-    => (pc, 0x401cfa29c) => (174, 0x1ca5343d7dfb270e) => (175, 0x7ef7c3bf9a85ae9a)
-    => (176, 0xfd27ec4b0e8711cf) => (177, 0x1fc5b563d9ff50ad) => (178, 0x77342d2bfcee6b33)
-    => (179, 0xea803dfd77546163) => (180, 0x79a9e7d84931333b) => (181, 0x24b12abc7284e0bd)
-    => (182, 0xeb9606a9f34f69e7) => (185, 0xad198f7b83396ba4) ∷
-    row 1887 24 with (1, 0x20485e90d) with (64, 0x200a885a6) => (pc, 0x200a885a4)
-    => (172, 0xd2102fc34e4f7b48) => (173, 0x39f24af6392c8755) => (174, 0xbdb1ff327b806f0b)
-    => (175, 0x5d4f4c78154b326a) => (176, 0x18ca32c7068cd171) => (177, 0xf022b21f4f454c22)
-    => (178, 0xe358ca80ef74a27b) => (179, 0xf26c7bebe71ad47e) => (182, 0xea2f26dd36f64909) ∷
-    row 1888 25 with (1, 0x47ee79c) with (64, 0x2008cf30a) => (pc, 0x2008cf308)
-    => (173, 0x4198a1183f7ad502) => (174, 0xaf0a47fbf8aa6590) => (175, 0x385987e90950d1c7)
-    => (176, 0xdd8660df716e19a7) => (177, 0x9e90d2df31023d30) => (178, 0x7b78dde8480d3c61)
-    => (179, 0x743e81fab68f173c) => (182, 0xe2fc21b5c65bfe96) ∷
-    row 1889 26 with (1, 0x404b02e37) with (64, 0x4017c280b) => (pc, 0x4017c2808)
-    => (174, 0x595702b8517d343d) => (175, 0x2ad51822d8ff494c) => (176, 0x1830c696b7f83a04)
-    => (177, 0x216a0e13ee680665) => (178, 0x4680ee9a7c4eae6f) => (179, 0x8775682a61ac3221)
-    => (182, 0xa6a51405316a8c4a) ∷
-    row 1890 27 with (1, 0x207ffffe8) with (64, 0x1a64cdf) with (at, 0x207ffff30) => (pc, 0x1a64cdc)
-    => (178, 0x187a1881845698f8) => (179, 0xef87b99cda2b3288) => (180, 0xe272f3c18776a7c1)
-    => (181, 0xf13bc6ef8c38f8a3) => (182, 0x1be23326e872252e) => (185, 0x37d9e9cb7821f225) ∷
-    row 1891 28 with (1, 0x204663e41) with (64, 0x4018833ed) => (pc, 0x4018833ec)
-    => (176, 0x36929041d8070334) => (177, 0x71ac9fe3fc2e2145) => (178, 0x66d296bb77cc1aff)
-    => (179, 0x7b2af59a4ae0f062) => (182, 0xe1da1089a823027) ∷
-    row 1892 29 with (1, 0x4eb07af) with (64, 0x2009b7375) => (pc, 0x2009b7374)
-    => (177, 0x45504a7f4c8e72f0) => (178, 0x85f9e5d23f081582) => (179, 0xe2811a2e88f893bd)
-    => (182, 0xabb2e7bc988b4651) ∷
-    row 1893 30 with (1, 0x4a8192a) with (64, 0x2013b1a3f) => (pc, 0x2013b1a3c)
-    => (178, 0xe2b7a8be1ece82d) => (179, 0x5464a18fa2b90f40) => (182, 0x949163e7723d34a1) ∷
-    row 1894 31 with (1, 0x7ffffe8) with (64, 0x1a4ca7d) with (at, 0x7ffff30) => (pc, 0x1a4ca7c)
-    => (182, 0xc81b3711982262ea) => (185, 0x3e871b892797fb1a) ∷
+    row 1957 14 with (1, 0x2048b3791) with (64, 0x201968d49) => (pc, 0x201968d48)
+    => (162, 0xd602da3c52bcb1bd) => (163, 0x2087e9f05305544c) => (164, 0x86ea92adaac4d285)
+    => (165, 0x92ad47459fb2c66) => (166, 0xa748af4460a861f0) => (167, 0x6144231dbecc7323)
+    => (168, 0x371d300074675fff) => (169, 0x28d3d5ec81792883) => (170, 0x366814e1e601ccb0)
+    => (171, 0x5fd9ece0a2014c87) => (172, 0xa5295de8b577a806) => (173, 0x65667fa2064df2e)
+    => (174, 0x83610b14e2c8f1fe) => (175, 0x1c494738fca3e078) => (176, 0xd10f1c666df5aa9a)
+    => (177, 0x6be28f9f36be5066) => (178, 0xf9e6b40956fdd1da) => (179, 0xa3c8717cceb42ef7)
+    => (182, 0xcee32e569a9507ee) ∷
+    row 1958 15 with (1, 0x207ffffe8) with (64, 0x2017ed4d3) with (at, 0x207ffff30)
+    => (pc, 0x2017ed4d0) => (166, 0x21f58407c4ea2445) => (167, 0x720a1f6c93854b56)
+    => (168, 0xddfc53dab9974e0f) => (169, 0x65cc215237202c71) => (170, 0x97987d30c1fe67c)
+    => (171, 0xc904875d38967c30) => (172, 0xa46d1ff0bc83ed8d) => (173, 0x9bb3518d97e83a92)
+    => (174, 0xaed71c33cac36341) => (175, 0xddd87fe355156798) => (176, 0x28b77c9c36de4798)
+    => (177, 0x8f74125e701e0341) => (178, 0x120e412a00d49a93) => (179, 0xb08608fee9020d8d)
+    => (180, 0x6adb69dd28a65c31) => (181, 0x410e63c4bfc1867d) => (182, 0x331ef6b5ae538c72)
+    => (185, 0x9478d5af3a25d838) ∷
+    row 1959 16 with (1, 0x4278e8f) with (64, 0x2017dc4c3) => (pc, 0x2017dc4c0)
+    => (164, 0x8b43c5c257ee9c4e) => (165, 0x3f64cfadf4dc47df) => (166, 0xf6372a2e940cf1a)
+    => (167, 0xfb3faea1351c31fd) => (168, 0x2f983a8d86e7089) => (169, 0x2690f1b9d3378abe)
+    => (170, 0x6605f8d42577809b) => (171, 0xc8b042fdcf2e5222) => (172, 0xe1639954d05bff51)
+    => (173, 0x15f488b529008829) => (174, 0x6663111ed91becab) => (175, 0xd2af3291e0ae2cd4)
+    => (176, 0x5ad8ed0e3fb748a7) => (177, 0xfee04093f6374023) => (178, 0xbec52d23042e1347)
+    => (179, 0x9a87b2bb699bc215) => (182, 0x72dc867eb55f80a8) ∷
+    row 1960 17 with (1, 0x204f4d0cc) with (64, 0x4003bb25b) => (pc, 0x4003bb258)
+    => (165, 0x26d114020bca19d7) => (166, 0xe081a99e770a49e9) => (167, 0xb60fd84439c155a5)
+    => (168, 0xa77b9ff353ef3d09) => (169, 0xb4c500abc5940016) => (170, 0xddebfa6d8eaf9ecc)
+    => (171, 0x22f08d38af42192a) => (172, 0x83d2b90d274b6f32) => (173, 0x927deaf6cba0e2)
+    => (174, 0x992fdbd21dc2ae3b) => (175, 0x4daad2c29c30973e) => (176, 0x1e0362bc72155be8)
+    => (177, 0xa398bbf9f70fc3c) => (178, 0x124d4dcc24437839) => (179, 0x363ea8e2008ccfde)
+    => (182, 0x44d29ec50c420140) ∷
+    row 1961 18 with (1, 0x204a505c1) with (64, 0x1036613) => (pc, 0x1036610)
+    => (166, 0x7c7bd810e07c9ce0) => (167, 0x3bbbf95e1a0f5174) => (168, 0x16d9b3b4ab18e1b0)
+    => (169, 0xdd5071493994d95) => (170, 0x20adf37dd3909523) => (171, 0x4f6478f06afeb85a)
+    => (172, 0x99f8976c59e3b73a) => (173, 0x6a4ef1a03f91c2) => (174, 0x82b99f803e1247f4)
+    => (175, 0x20e68918335bd9ce) => (176, 0xdaf10bb9801c4751) => (177, 0xb0d927642453907d)
+    => (178, 0xa29edc182001b552) => (179, 0xb04229d57326b5cf) => (182, 0x35d114823ecd5a00) ∷
+    row 1962 19 with (1, 0x207ffffe8) with (64, 0x200a79397) with (at, 0x207ffff30)
+    => (pc, 0x200a79394) => (170, 0x81a15e90d606256a) => (171, 0xa4edee64ddeb5e7f)
+    => (172, 0xe41817423d47733c) => (173, 0x3f1fd928f41a63a2) => (174, 0xb605341902642fb1)
+    => (175, 0x48c828126824d769) => (176, 0xf768b515255c5aca) => (177, 0xc1e6db213a0ab9d3)
+    => (178, 0xa8429a36a62ff486) => (179, 0xaa7bf25569cc0ae1) => (180, 0xc892e37d84defce5)
+    => (181, 0x2876daef768ca92) => (182, 0x585990e9c16973e7) => (185, 0xf1ab81b64d018ae6) ∷
+    row 1963 20 with (1, 0xa1) with (64, 0x201dd0f31) with (at, 1) => (pc, 0x201dd0f30)
+    => (168, 0x26e6c713ec66b375) => (169, 0x4fc2e298c29e710a) => (170, 0x947c9726f04d0a48)
+    => (171, 0xf513e4be75727f2f) => (172, 0x7188cb5f520ecfbf) => (173, 0x9db4b098621fbf8)
+    => (174, 0xbe0b63bd11ac03da) => (175, 0x8e191579f4ace764) => (176, 0x7a0460402f24a698)
+    => (177, 0x81cd440fc1134174) => (178, 0xa573c0e8aa78b7f9) => (179, 0xe4f7d6caeb550a27)
+    => (182, 0x17c0d86136de93f4) ∷
+    row 1964 21 with (1, 0x40754ef) with (64, 0x401e29259) => (pc, 0x401e29258)
+    => (169, 0x326663b4239e46ff) => (170, 0xbf4eedbfc8288916) => (171, 0x681510d4c429a6d5)
+    => (172, 0x2cb8ccf317a1a03d) => (173, 0xd3a221ac290754e) => (174, 0x999104bc4f62608)
+    => (175, 0x3ecb88341ed2b26b) => (176, 0x1468c5a1d0261a76) => (177, 0x5e39c18d8f05e2b)
+    => (178, 0x133c0b9939317d88) => (179, 0x3c721422f0e9788e) => (182, 0xe6360a82fc647529) ∷
+    row 1965 22 with (1, 0x44354c3) with (64, 0x635831) => (pc, 0x635830)
+    => (170, 0x274670ab7bace00a) => (171, 0xb9be8667ee89a6a2) => (172, 0x6814352db8dd48e2)
+    => (173, 0x32477cfcdaa7c6cb) => (174, 0x18585dd553e9205d) => (175, 0x1a46d7b724a15598)
+    => (176, 0x3812eaa24cd0667c) => (177, 0x71bc9696cc765308) => (178, 0xc743db94a3931b3e)
+    => (179, 0x38a8b99bd226bf1c) => (182, 0x18abd21b9d932e86) ∷
+    row 1966 23 with (1, 0x7ffffe8) with (64, 0x401cfa29d) with (at, 0x7ffff30) => (pc, 0x401cfa29c)
+    => (174, 0xd643f371f4927e96) => (175, 0x6e4b94df35c1c9ae) => (176, 0x2230cf55ce67f070)
+    => (177, 0xf1f3a2d5be84f2da) => (178, 0xdd940f5f0618d0ed) => (179, 0xe51214f1a5238aa9)
+    => (180, 0x86db38d9ba5200d) => (181, 0x47a6eb32e99d911b) => (182, 0xa2bdbbe18f0cddd1)
+    => (185, 0xf9bbc92b1a6ac009) ∷
+    row 1967 24 with (1, 0x404b981e7) with (64, 0x200a885a6) => (pc, 0x200a885a4)
+    => (172, 0x7d9ad4d78e4f22a2) => (173, 0x79aee4cb9dd0f23b) => (174, 0x91a08dc904c99d7e)
+    => (175, 0xc56fcfcfc3392469) => (176, 0x151caadfd91f86fd) => (177, 0x80a71ef9467cc53a)
+    => (178, 0x80f2c1c0b50df1f) => (179, 0xab54d248279bd4ae) => (182, 0x389201b172eb29b4) ∷
+    row 1968 25 with (1, 0x4049e59e2) with (64, 0x2008cf30a) => (pc, 0x2008cf308)
+    => (173, 0x7c32fc1248e2cc2e) => (174, 0x7dd697b726b72049) => (175, 0x9b57cc655c02500c)
+    => (176, 0xd4b69a1ce8c45b78) => (177, 0x29f300ddccfd428d) => (178, 0x9b0d00a808ad054b)
+    => (179, 0x2804997b9bd3a3b2) => (182, 0x2c3cbdaea7146b87) ∷
+    row 1969 26 with (1, 0x4662496) with (64, 0x4017c280b) => (pc, 0x4017c2808)
+    => (174, 0x29e3f398244d7b3b) => (175, 0x8f93fdc3d07453d7) => (176, 0x1121a0f8d412081b)
+    => (177, 0xae8cdd372f269808) => (178, 0x67d5b27ee1b2039e) => (179, 0x6f905825ebb44add)
+    => (182, 0xeac37122b6e68580) ∷
+    row 1970 27 with (1, 0x7ffffe8) with (64, 0x1a64cdf) with (at, 0x7ffff30) => (pc, 0x1a64cdc)
+    => (178, 0x7816bf47208f2fc8) => (179, 0xe35655239b088ce5) => (180, 0x6a7384096cf8c5aa)
+    => (181, 0xd6e4bf8965fda18) => (182, 0xcc46acf1173dca2f) => (185, 0x7db8e80da26177a1) ∷
+    row 1971 28 with (1, 0x4493cce) with (64, 0x4018833ed) => (pc, 0x4018833ec)
+    => (176, 0x806700c53da7e9d6) => (177, 0xf13622528673cb74) => (178, 0x7de2dce926b688ba)
+    => (179, 0x266d30891e7021a9) => (182, 0x4eda606f698541e9) ∷
+    row 1972 29 with (1, 0x204b9dfa8) with (64, 0x201f7f9e7) => (pc, 0x201f7f9e4)
+    => (177, 0xc9ef3d107b97a964) => (178, 0x9ecacd2492b60f83) => (179, 0x8f83f642014b514a)
+    => (182, 0xee3048480c51e458) ∷
+    row 1973 30 with (1, 0x2040d753a) with (64, 0x40061361b) => (pc, 0x400613618)
+    => (178, 0x21da2302da5e6e73) => (179, 0xfc453ec7bfcf5912) => (182, 0xd1ec85978ac75eef) ∷
+    row 1974 31 with (1, 0x207ffffe8) with (64, 0x1a4ca7d) with (at, 0x207ffff30) => (pc, 0x1a4ca7c)
+    => (182, 0x71bc756e59fc3902) => (185, 0x8084ba5de4e5b1ad) ∷
     [])
 
 unfoldable pub ppc64_restfpr : Functions
@@ -2947,96 +3032,98 @@ ppc64_restfpr =
     0xcaa1ffa8 ∷ 0xcac1ffb0 ∷ 0xcae1ffb8 ∷ 0xcb01ffc0 ∷ 0xcb21ffc8 ∷ 0xcb41ffd0 ∷ 0xcb61ffd8 ∷
     0xcb81ffe0 ∷ 0xcba1ffe8 ∷ 0xcbc1fff0 ∷ 0xcbe1fff8 ∷ 0xe8010010 ∷ 0x7c0803a6 ∷ 0x4e800020 ∷
     []) (
-    row 1895 14 with (1, 0x4cb1447) with (182, 0x401d04a09) => (0, 0x401d04a09)
-    => (46, 0xd2fd2a791a479516) => (47, 0x123038c5f338dbce) => (48, 0x6d40e01c23a0fe2f)
-    => (49, 0xe42f207bab7ffc38) => (50, 0x76faf9e48ad5d5eb) => (51, 0x25a46c56c1a28b46)
-    => (52, 0xf02b77d24fe61c4a) => (53, 0xd6901c5735a088f7) => (54, 0xd8d259e572d1d14d)
-    => (55, 0xf6f2307d0779f54b) => (56, 0x30efa01df398f4f3) => (57, 0x86caa8c8372ed043)
-    => (58, 0xf8834a7bd23b873c) => (59, 0x86198538c4bf19df) => (60, 0x2f8d58ff0eb98829)
-    => (61, 0xf4dec5ceb02ad21d) => (62, 0xd60dcba7a912f7ba) => (63, 0xd31a6a89f971f8ff)
+    row 1975 14 with (1, 0x4045d7885) with (182, 0x401d04a09) => (0, 0x401d04a09)
+    => (46, 0xb22530abac9c96b3) => (47, 0x858a33b9aa32a0f7) => (48, 0x74cccfd0ff3f86e4)
+    => (49, 0x7fed04f1abc3487a) => (50, 0xa6ead31bafbde5b8) => (51, 0xe9c63a4f0b2f5ea0)
+    => (52, 0x487f3a8bbe17b330) => (53, 0xc315d3d1c876e36a) => (54, 0x598a06212a4cef4c)
+    => (55, 0xbdbd179e399d6d7) => (56, 0xda0b35dbf45d9a0a) => (57, 0xc41833475c9838e7)
+    => (58, 0xca02c9bc1c49b36d) => (59, 0xebcaf93a3372099b) => (60, 0x2970c1c1a2113b72)
+    => (61, 0x82f42352682748f2) => (62, 0xf8551dec85b4321b) => (63, 0x8993b18ffab7f6ed)
     => (64, 0x401d04a09) => (pc, 0x401d04a08) ∷
-    row 1896 15 with (1, 0x7ffffe8) with (at, 0x7ffff30) with (185, 0x19c6c6f) => (0, 0x19c6c6f)
-    => (47, 0x8b4163cf09f1c8db) => (48, 0x8219abbeb79a270e) => (49, 0xa2d9c047bcb960ea)
-    => (50, 0x72f05774194f7670) => (51, 0x5ee487a9cd5c679e) => (52, 0x66b650e8d8e03474)
-    => (53, 0x8a65b3313bdadcf4) => (54, 0xc9f2ae82f64c611d) => (55, 0x255d42de0834c0ee)
-    => (56, 0x9ca570427193fc68) => (57, 0x2fcb36b0326a138b) => (58, 0xdece96274ab70657)
-    => (59, 0xa9af8ea7ba7ad4cc) => (60, 0x906e203181b57ee9) => (61, 0x930a4ac4a06704b0)
-    => (62, 0xb1840e61168f661f) => (63, 0xebdb6b06e42ea337) => (64, 0x19c6c6f) => (pc, 0x19c6c6c) ∷
-    row 1897 16 with (1, 0x4042484ed) with (182, 0x2011ad36f) => (0, 0x2011ad36f)
-    => (48, 0x44ceea5a221318d6) => (49, 0xed9df2de97a9688f) => (50, 0xb24a946c64b693f2)
-    => (51, 0x92d4cf03893a9afe) => (52, 0x8f3ca2a405357db2) => (53, 0xa7820f4dd8a73c0f)
-    => (54, 0xdba51501038fd616) => (55, 0x2ba5b3bd85ef4bc5) => (56, 0x9783eb835fc59d1c)
-    => (57, 0x1f3fbc529112ca1d) => (58, 0xc2d9262b19d6d2c7) => (59, 0x8250290cfa11b719)
-    => (60, 0x5da4c4f831c37714) => (61, 0x54d6f9ecc0ec12b8) => (62, 0x67e6c7eaa78b8a05)
-    => (63, 0x96d42ef1e5a1dcfb) => (64, 0x2011ad36f) => (pc, 0x2011ad36c) ∷
-    row 1898 17 with (1, 0x2045053ff) with (182, 0x20081b405) => (0, 0x20081b405)
-    => (49, 0xf5d1284b573b62f6) => (50, 0xa42fbc809b243731) => (51, 0x6e6be9bf3683e715)
-    => (52, 0x5485b007295a72a1) => (53, 0x567d0f5873a7d9d7) => (54, 0x745207b3156c1cb5)
-    => (55, 0xae0499170ea73b3c) => (56, 0x394c3845f59356c) => (57, 0x750286fb07820b45)
-    => (58, 0x24de37b0721bcc6) => (59, 0xab76d9045e3849f1) => (60, 0x707d67970cc5b2c4)
-    => (61, 0x51618f3312c9f740) => (62, 0x4e234fd870451766) => (63, 0x66c2a98725371333)
+    row 1976 15 with (1, 0x207ffffe8) with (at, 0x207ffff30) with (185, 0x19c6c6f) => (0, 0x19c6c6f)
+    => (47, 0x8112f766d39d64ee) => (48, 0xada05141a5ea86ae) => (49, 0xf60b4425cfae8417)
+    => (50, 0x5a53d01350e95d28) => (51, 0xda79f50a299b11e2) => (52, 0x767db30a59c3a245)
+    => (53, 0x2e5f0a13e1630e51) => (54, 0x21dfa26c0795606) => (55, 0xf1ba8342f7067964)
+    => (56, 0xfd34a568850a786a) => (57, 0x248c60976a855319) => (58, 0x67c1b4cfa7770972)
+    => (59, 0xc6d4a2113bdf9b73) => (60, 0x41c5285c27bf091c) => (61, 0xd89347b06b15526f)
+    => (62, 0x8b3f000e05e2776b) => (63, 0x59c85174f826780f) => (64, 0x19c6c6f) => (pc, 0x19c6c6c) ∷
+    row 1977 16 with (1, 0x4048e9c05) with (182, 0x2011ad36f) => (0, 0x2011ad36f)
+    => (48, 0x48f93c584738ba16) => (49, 0x85fa399de173cd5c) => (50, 0xded8cfecd325bc4b)
+    => (51, 0x5394ff451c4e86e3) => (52, 0xe42ec7a6bcee2d24) => (53, 0x90a62911b504af0e)
+    => (54, 0x58fb238604920ca0) => (55, 0x3d2db703ab9645db) => (56, 0x3d3de38aaa115abf)
+    => (57, 0x592ba91b00034b4c) => (58, 0x90f707b4ad6c1782) => (59, 0xe49fff57b24bbf61)
+    => (60, 0x542690040ea242e8) => (61, 0xdf8ab9b9c26fa218) => (62, 0x60301daccdb3dcf2)
+    => (63, 0xc4d2969f306ef374) => (64, 0x2011ad36f) => (pc, 0x2011ad36c) ∷
+    row 1978 17 with (1, 0x404a64483) with (182, 0x20081b405) => (0, 0x20081b405)
+    => (49, 0x890b302f45c95409) => (50, 0xcb9bb925ae56ebd0) => (51, 0x2a09db256e5b5f40)
+    => (52, 0xa455962e85d6ae59) => (53, 0x3a7eea40f4c8d91a) => (54, 0xec85d75cbb31df85)
+    => (55, 0xba6a5d81d911c198) => (56, 0xa42c7cb04e687f55) => (57, 0xa9cc34e81b3618ba)
+    => (58, 0xcb4986293f7a8dc8) => (59, 0x8a47073bb35de7e) => (60, 0x61dcf3c78e680ade)
+    => (61, 0xd6f31024b91112e6) => (62, 0x67e6c58b3b30f698) => (63, 0x14b813fb14c7b5f2)
     => (64, 0x20081b405) => (pc, 0x20081b404) ∷
-    row 1899 18 with (1, 0x20409c073) with (182, 0x200b5336b) => (0, 0x200b5336b)
-    => (50, 0xc9564cfad3ab297) => (51, 0x1f00678bbf760b53) => (52, 0x4d49035129283fb7)
-    => (53, 0x976f381fea514fc5) => (54, 0xfd7305f802f13b7b) => (55, 0x7f546cd9730802db)
-    => (56, 0x1d136cc43a95a5e3) => (57, 0xd6b005b8599a2494) => (58, 0xac2a37b5d0157eee)
-    => (59, 0x9d8202bc9e07b4f0) => (60, 0xaab766ccc370c69c) => (61, 0x18c81bf04050b3f0)
-    => (62, 0xff3bcf3d14a77ced) => (63, 0x18d1b9340752193) => (64, 0x200b5336b) => (pc, 0x200b53368)
-    ∷
-    row 1900 19 with (1, 0x7ffffe8) with (at, 0x7ffff30) with (185, 0x201299f3e) => (0, 0x201299f3e)
-    => (51, 0xa8babd97cc1f3269) => (52, 0x144e1720b311a2a1) => (53, 0x9bbf09b2f17aee81)
-    => (54, 0x3f0d954e875b160a) => (55, 0xfe39b9f374b2193c) => (56, 0xd94377a1b97ff817)
-    => (57, 0xd02ace5955c4b29b) => (58, 0xe2efbe1a498048c7) => (59, 0x119246e494b2ba9c)
-    => (60, 0x5c1268b8375c081b) => (61, 0xc2702395317c3142) => (62, 0x44ab777b83133611)
-    => (63, 0xe2c4646b2c21168a) => (64, 0x201299f3e) => (pc, 0x201299f3c) ∷
-    row 1901 20 with (1, 0xa1) with (at, 1) with (182, 0x20012ad85) => (0, 0x20012ad85)
-    => (52, 0x2a5099d9bbbe625a) => (53, 0xa65796cd6a9ec418) => (54, 0x3e3c2cca70f6017e)
-    => (55, 0xf1fe5bd0cec41a8e) => (56, 0xe5469e1884090f46) => (57, 0x72471c5b90c4dfa8)
-    => (58, 0x1b2533a7f4f78bb2) => (59, 0xdfe0e3fdb0a11365) => (60, 0xc07a2d5cc3c176c1)
-    => (61, 0xbcf10fc52e58b5c5) => (62, 0xd5458b36f066d073) => (63, 0x9779fb209ebc6c9)
+    row 1979 18 with (1, 0x4f6350f) with (182, 0x200b5336b) => (0, 0x200b5336b)
+    => (50, 0x35c202996530f37c) => (51, 0xdc5efa169c110fc4) => (52, 0x9ed98a9d2a6807b5)
+    => (53, 0x7d31b42d1035db4f) => (54, 0x776776c64d7a8a91) => (55, 0x8d7ad268e236157d)
+    => (56, 0xbf6bc714ce687c11) => (57, 0xc548b82c1211be4e) => (58, 0xd077fc14ad31dc35)
+    => (59, 0xf784d9069fc8d5c3) => (60, 0x3a6f4f01e9d6aafb) => (61, 0x99375e068b5b5bdc)
+    => (62, 0x13dd06148456e865) => (63, 0xaa60472bd4c95098) => (64, 0x200b5336b)
+    => (pc, 0x200b53368) ∷
+    row 1980 19 with (1, 0x407ffffe8) with (at, 0x407ffff30) with (185, 0x201299f3e)
+    => (0, 0x201299f3e) => (51, 0x1d8cef8abb6c0dc5) => (52, 0x1d523dd4c7034189)
+    => (53, 0x38f525282a1150f5) => (54, 0x7075a584e4963c0a) => (55, 0xc3d3beeaf69202c9)
+    => (56, 0x330f715a6004a530) => (57, 0xbe28bcd320ee2340) => (58, 0x651fa155394e7cf8)
+    => (59, 0x27f41ee0a925b25a) => (60, 0x6a635757073c365) => (61, 0x135e5138f38b018)
+    => (62, 0x17a32dbb05747874) => (63, 0x49ee0f6bd3271c79) => (64, 0x201299f3e)
+    => (pc, 0x201299f3c) ∷
+    row 1981 20 with (1, 0xa1) with (at, 1) with (182, 0x20012ad85) => (0, 0x20012ad85)
+    => (52, 0xf38a8ff068542e3) => (53, 0xc0f4b7ddda0a682d) => (54, 0x8e8e5fc605066920)
+    => (55, 0x7805a0b7877945bc) => (56, 0x7d5a7ab26162fe00) => (57, 0x9e8cedb692c391ee)
+    => (58, 0xdb9cf9c41b9b0184) => (59, 0x348a9edafbe94cc3) => (60, 0xa955dcfb33ae73ab)
+    => (61, 0x39feb424c2ea763c) => (62, 0xe6852457a99d5476) => (63, 0xaee92d93e7c70e59)
     => (64, 0x20012ad85) => (pc, 0x20012ad84) ∷
-    row 1902 21 with (1, 0x4043260c8) with (182, 0x2018d8ef4) => (0, 0x2018d8ef4)
-    => (53, 0x7a8820b37442c27c) => (54, 0xfc1ea957f175a8bb) => (55, 0x9992cb05c61f6aa3)
-    => (56, 0x52e485bcf2400833) => (57, 0x2813d97d75d7816d) => (58, 0x1920c64750e5d64f)
-    => (59, 0x260b4c1a836b06da) => (60, 0x4ed36af70d67130e) => (61, 0x937922dceed9faeb)
-    => (62, 0xf3fc73cc27c3be70) => (63, 0x705d5dc4b8245d9f) => (64, 0x2018d8ef4)
-    => (pc, 0x2018d8ef4) ∷
-    row 1903 22 with (1, 0x4cced71) with (182, 0x4002db415) => (0, 0x4002db415)
-    => (54, 0x84dd1d5c4d9e281f) => (55, 0xc0331b1992392de) => (56, 0xaf06df103c1fd947)
-    => (57, 0x6de825783692fb59) => (58, 0x48a704e9887cf913) => (59, 0x3f437d6431ddd276)
-    => (60, 0x51bd8ee832b58783) => (61, 0x801539758b041838) => (62, 0xca4a7d0c3ac98495)
-    => (63, 0x305d59ac4205cc9c) => (64, 0x4002db415) => (pc, 0x4002db414) ∷
-    row 1904 23 with (1, 0x7ffffe8) with (at, 0x7ffff30) with (185, 0x4010c92fa) => (0, 0x4010c92fa)
-    => (55, 0x530308769bbcf3ff) => (56, 0x91ce566ebbf9763a) => (57, 0xec773d7033acd41e)
-    => (58, 0x62fdbd7b02d70dac) => (59, 0xf561d68f297822e1) => (60, 0xa3a388aca79013c0)
-    => (61, 0x6dc2d3d37d1ee048) => (62, 0xae5bb6b5aa248878) => (63, 0x51b951192ea10c52)
-    => (64, 0x4010c92fa) => (pc, 0x4010c92f8) ∷
-    row 1905 24 with (1, 0x20400343e) with (182, 0x4019dc9e5) => (0, 0x4019dc9e5)
-    => (56, 0x97c255e362da03e5) => (57, 0x888464704b0477a7) => (58, 0x95240c068aa5c712)
-    => (59, 0xbda14ca621bdf225) => (60, 0x1fc264f104cf8e2) => (61, 0x623499015652db47)
-    => (62, 0xde4aa4bcf3cf9955) => (63, 0x763e4981e8c3330c) => (64, 0x4019dc9e5)
+    row 1982 21 with (1, 0x20437b6ff) with (182, 0x2018d8ef4) => (0, 0x2018d8ef4)
+    => (53, 0x57c6c02e8871f2d7) => (54, 0x6d8f3d942a499ca2) => (55, 0x9f35540323982216)
+    => (56, 0xecb9037b745d8333) => (57, 0x561a4bfd1c99bff8) => (58, 0xdb592d881c4cd867)
+    => (59, 0x7c75a81c7376cc7e) => (60, 0x396fbbba22179c3e) => (61, 0x12476861282f47a8)
+    => (62, 0x6fcae1185bdceb9) => (63, 0x178f8ccb3ac33174) => (64, 0x2018d8ef4) => (pc, 0x2018d8ef4)
+    ∷
+    row 1983 22 with (1, 0x468c7bf) with (182, 0x4002db415) => (0, 0x4002db415)
+    => (54, 0xf12b72bd2b35a84b) => (55, 0xc837bd39b5fd697) => (56, 0x43b91df36300e08c)
+    => (57, 0x96cc591c8218c62a) => (58, 0x5bd2d4ef8a78771) => (59, 0x908b9a8ac6ad2460)
+    => (60, 0x3737a0cfec299cf9) => (61, 0xf9c1401e691cf13a) => (62, 0xd82878763d872124)
+    => (63, 0xd26d49d769682cb7) => (64, 0x4002db415) => (pc, 0x4002db414) ∷
+    row 1984 23 with (1, 0x407ffffe8) with (at, 0x407ffff30) with (185, 0x4010c92fa)
+    => (0, 0x4010c92fa) => (55, 0x11d9d200b0ab0ea2) => (56, 0xe4d714b9f58c546a)
+    => (57, 0xd3b1f07c91e475da) => (58, 0xac170f5285b372f4) => (59, 0x74303a51d0f94bb6)
+    => (60, 0x5826fe5a73b60021) => (61, 0x57fb5b6c6de99035) => (62, 0x73ad5187bf93fbf2)
+    => (63, 0xab3ce0ac68b54357) => (64, 0x4010c92fa) => (pc, 0x4010c92f8) ∷
+    row 1985 24 with (1, 0x4c916bb) with (182, 0x4019dc9e5) => (0, 0x4019dc9e5)
+    => (56, 0x2912f70fd34223b6) => (57, 0xae06fa5de0115b04) => (58, 0x4ed896b544576dfb)
+    => (59, 0xb87cc1600145c9b) => (60, 0xe4149a80134826e3) => (61, 0xd87f01f37df2ccd5)
+    => (62, 0xe8c7027040144e6f) => (63, 0x14ec9bf659acabb2) => (64, 0x4019dc9e5)
     => (pc, 0x4019dc9e4) ∷
-    row 1906 25 with (1, 0x404ee43b8) with (182, 0x2014dd6dc) => (0, 0x2014dd6dc)
-    => (57, 0x5712036d9eba7a09) => (58, 0xabe080815537724c) => (59, 0xb4503a54632b4637)
-    => (60, 0xe25d06a4c895f5cc) => (61, 0x2c476bfe85778109) => (62, 0x920f6a6199cfe7f0)
-    => (63, 0x13b501ce059f2a7f) => (64, 0x2014dd6dc) => (pc, 0x2014dd6dc) ∷
-    row 1907 26 with (1, 0x4bf45eb) with (182, 0x88a7d4) => (0, 0x88a7d4) => (58, 0x9c48fefb71f5ad)
-    => (59, 0x5afa51c380417271) => (60, 0xd135f3915c87cade) => (61, 0x634f2e689044fef3)
-    => (62, 0x114602491b790eb2) => (63, 0xdb1a6f32fe23fa19) => (64, 0x88a7d4) => (pc, 0x88a7d4) ∷
-    row 1908 27 with (1, 0x7ffffe8) with (at, 0x7ffff30) with (185, 0x4012cdc95) => (0, 0x4012cdc95)
-    => (59, 0xd7a58cdb78cb0d9b) => (60, 0x8b2bec6cd251a1da) => (61, 0x5a8fe507834f11c3)
-    => (62, 0x45d176ab8bc35d54) => (63, 0x4cf0a158ebae848e) => (64, 0x4012cdc95)
-    => (pc, 0x4012cdc94) ∷
-    row 1909 28 with (1, 0x4045f77cb) with (182, 0x10658a5) => (0, 0x10658a5)
-    => (60, 0xbf6af6af1765fd77) => (61, 0x8364f9ab38da833d) => (62, 0x633c95b0b1c5e4ab)
-    => (63, 0x5ef1cabf822821c3) => (64, 0x10658a5) => (pc, 0x10658a4) ∷
-    row 1910 29 with (1, 0x2042ea77a) with (182, 0x400e988e7) => (0, 0x400e988e7)
-    => (61, 0x72ad5683d6a2899c) => (62, 0x3c36e530c66993e3) => (63, 0x219e0ce70da779d3)
+    row 1986 25 with (1, 0x4044daa4c) with (182, 0x2014dd6dc) => (0, 0x2014dd6dc)
+    => (57, 0xcc2fc3e1d88ae9ab) => (58, 0x56b352e0b3aca57a) => (59, 0xfd147ae8e6453cf2)
+    => (60, 0xbf533bfa7054b013) => (61, 0x9d6f961551dafedd) => (62, 0x976989398ad82950)
+    => (63, 0xad4115671b4c2f6b) => (64, 0x2014dd6dc) => (pc, 0x2014dd6dc) ∷
+    row 1987 26 with (1, 0x4045fdb40) with (182, 0x88a7d4) => (0, 0x88a7d4)
+    => (58, 0xb6ef35f6feaab522) => (59, 0xa57f337ca81ef572) => (60, 0xafecca0ba90a116b)
+    => (61, 0xd637f9a4016c090d) => (62, 0x1860c245b144dc57) => (63, 0x766723f0b8948b4b)
+    => (64, 0x88a7d4) => (pc, 0x88a7d4) ∷
+    row 1988 27 with (1, 0x207ffffe8) with (at, 0x207ffff30) with (185, 0x4012cdc95)
+    => (0, 0x4012cdc95) => (59, 0xd99e0dfcb35a6786) => (60, 0x2156624f3185bf52)
+    => (61, 0x84ec4fab0727f2c6) => (62, 0x45fd610344101e4) => (63, 0x9fb0f57eb8d0ecaa)
+    => (64, 0x4012cdc95) => (pc, 0x4012cdc94) ∷
+    row 1989 28 with (1, 0x204d7bffa) with (182, 0x10658a5) => (0, 0x10658a5)
+    => (60, 0x9ac02f72ad6f5c8f) => (61, 0xf2ec272ff388a5e1) => (62, 0x66f5b7f69118cadc)
+    => (63, 0xf6dce1c6861fcb80) => (64, 0x10658a5) => (pc, 0x10658a4) ∷
+    row 1990 29 with (1, 0x40492c915) with (182, 0x400e988e7) => (0, 0x400e988e7)
+    => (61, 0xdd12452d36143887) => (62, 0x3acdc89b4a80065a) => (63, 0xb466e512b662afd6)
     => (64, 0x400e988e7) => (pc, 0x400e988e4) ∷
-    row 1911 30 with (1, 0x4048b748b) with (182, 0xf618df) => (0, 0xf618df)
-    => (62, 0xd42e5ef3b6b61b42) => (63, 0xaf26468574cfaa0a) => (64, 0xf618df) => (pc, 0xf618dc) ∷
-    row 1912 31 with (1, 0x207ffffe8) with (at, 0x207ffff30) with (185, 0x1b4327d) => (0, 0x1b4327d)
-    => (63, 0xc414c90663497f3e) => (64, 0x1b4327d) => (pc, 0x1b4327c) ∷
+    row 1991 30 with (1, 0x204db6f93) with (182, 0xf618df) => (0, 0xf618df)
+    => (62, 0xd981d0b6df9019ff) => (63, 0x3cccdfd5c24e6c53) => (64, 0xf618df) => (pc, 0xf618dc) ∷
+    row 1992 31 with (1, 0x7ffffe8) with (at, 0x7ffff30) with (185, 0x1b4327d) => (0, 0x1b4327d)
+    => (63, 0x1011e1bec37a1871) => (64, 0x1b4327d) => (pc, 0x1b4327c) ∷
     [])
 
 unfoldable pub ppc64_savevr : Functions
@@ -3047,82 +3134,81 @@ ppc64_savevr =
     0x7eec01ce ∷ 0x3980ff80 ∷ 0x7f0c01ce ∷ 0x3980ff90 ∷ 0x7f2c01ce ∷ 0x3980ffa0 ∷ 0x7f4c01ce ∷
     0x3980ffb0 ∷ 0x7f6c01ce ∷ 0x3980ffc0 ∷ 0x7f8c01ce ∷ 0x3980ffd0 ∷ 0x7fac01ce ∷ 0x3980ffe0 ∷
     0x7fcc01ce ∷ 0x3980fff0 ∷ 0x7fec01ce ∷ 0x4e800020 ∷ []) (
-    row 1913 20 with (0, 0xd5) with (64, 0x129b000) with (at, 1) => (12, 0xfffffffffffffff0)
-    => (pc, 0x129b000) => (161, 0xda8b9c407741264) => (162, 0xa8fef1f43925937d)
-    => (163, 0x24cbdddabc0db1d1) => (164, 0xccb4d982a2477e83) => (165, 0x2c4d1b7d7b9d1dff)
-    => (166, 0xe5c9e802b3686739) => (167, 0x25a3f1839d7ba177) => (168, 0xf43e1d746c884d9f)
-    => (169, 0xfd05fed21a93c39) => (170, 0xf81179d7cda731b5) => (171, 0xebd266ba0825ee45)
-    => (172, 0xf143fd2cd6c5137a) => (173, 0xb8aa05ea50f1b79b) => (174, 0xdfd5a77387e1f2f0)
-    => (175, 0x77573d7dfc0c983b) => (176, 0xc3c678abe0fdd016) => (177, 0x26da0d7509769025)
-    => (178, 0x9d1670d5e218aaec) => (179, 0xc73275cf792f9f59) => (180, 0x6bc58ff18b328371)
-    => (181, 0x5a60768d4b37c5d7) => (182, 0x2fd3d5fedc4b59a7) => (183, 0xde640fae7f8f039f)
-    => (184, 0xe94142fdd5632d8c) => (185, 0xc63d4133163558b0) ∷
-    row 1914 21 with (0, 0x404f38c3d) with (64, 0x200550c80) => (12, 0xfffffffffffffff0)
-    => (pc, 0x200550c80) => (162, 0x4289553df7ecdef9) => (163, 0x9a42bf6a5a8b4bf)
-    => (164, 0x52a7ede556844331) => (165, 0x4081c7917de4b4e7) => (166, 0xac5843ca765ef57)
-    => (167, 0xd9ae7a764b7fdc01) => (168, 0x6ae21843e91d33e0) => (169, 0xd52a44a50e7a2a0c)
-    => (170, 0x72fda9fb1caa10cd) => (171, 0x32f5261dc6d39f09) => (172, 0x23183962400c861e)
-    => (173, 0xf59e3351308c3af8) => (174, 0x7b31c679564011ce) => (175, 0xf465c040a9a3fdd8)
-    => (176, 0x7b4a51405e5cdf11) => (177, 0x557c647a181ae7aa) => (178, 0x2361d9b7564f44b8)
-    => (179, 0x18e21ffd7bf0f86e) => (180, 0x73785fde401742c2) => (181, 0x3e96f2cad5263023)
-    => (182, 0x6b8de3b51cb4d92f) => (183, 0xc69adce223ba8eca) => (184, 0xbb3b7efa9d2807ff) ∷
-    row 1915 22 with (0, 0x404dc2428) with (64, 0x1257716) => (12, 0xfffffffffffffff0)
-    => (pc, 0x1257714) => (164, 0xef9765e8f7ce0451) => (165, 0xba004185a0f129ca)
-    => (166, 0xa6b2ac31a056d82f) => (167, 0x448a897003b3428c) => (168, 0x5ccf02a39a81a05)
-    => (169, 0x3163e8a45bd48240) => (170, 0xce631d2c4cef43e) => (171, 0x808c5f22a954e8e5)
-    => (172, 0xbbfe712b40cb66da) => (173, 0x3203eceaec34767b) => (174, 0x1315ae33ad9d71da)
-    => (175, 0x45ca91fd24732b04) => (176, 0x122be8ec0c45153d) => (177, 0xbbe04e595211067e)
-    => (178, 0xb94121545cc25103) => (179, 0x944521ff750e08e9) => (180, 0x855576c9d15252d)
-    => (181, 0xcef90cef8d6a3247) => (182, 0xff688b34d03d91ba) => (183, 0x6bfc0f299b258295)
-    => (184, 0xfe72ffb9c53b96ab) ∷
-    row 1916 23 with (0, 0x8000009) with (64, 0x1834f56) with (at, 0x7ffff30)
-    => (12, 0xfffffffffffffff0) => (pc, 0x1834f54) => (168, 0xd85117404fc57e0f)
-    => (169, 0xadd58b28d94ac0a8) => (170, 0x2082729e67b96800) => (171, 0x5f85e42ab1c217c0)
-    => (172, 0xc7dabfa47eab01e2) => (173, 0xe6cea08ed950b8cc) => (174, 0xce59fe52949a4bb6)
-    => (175, 0x8d857614d8d0c08a) => (176, 0x34002ea8a987457b) => (177, 0xcf262519fd0ad858)
-    => (178, 0xf8cd50a6bd71ef31) => (179, 0xe65f3781705c3a1a) => (180, 0x1cc1644cd05a48d8)
-    => (181, 0xd330ad4b32c4e5d3) => (182, 0x9fdc699ae2405271) => (183, 0x959a86774444db80)
-    => (184, 0x821e6090f3240bfb) => (185, 0x2d9cc305a4dc1b23) ∷
-    row 1917 24 with (0, 0x404ab8180) with (64, 0x139529a) => (12, 0xfffffffffffffff0)
-    => (pc, 0x1395298) => (168, 0xfd3e2c19df690d84) => (169, 0xd75b5e2aa434b273)
-    => (170, 0x88788ba89f702eae) => (171, 0x7dfd2c749939c715) => (172, 0xc3a3aceea7c5b3d2)
-    => (173, 0x6e9459e57fe6dab4) => (174, 0xaebfa3cd137d880d) => (175, 0xa920e67d583bed51)
-    => (176, 0x49cd7043e297ab5f) => (177, 0x2da2d23c2238feec) => (178, 0x94cc125315141dc9)
-    => (179, 0xfc1a1d21ddde0f84) => (180, 0x8fbc89faaaf2df49) => (181, 0x1486c72e8b2b1f1a)
-    => (182, 0x3a9ed73aa433efe2) => (183, 0x76e8d0622a202dae) => (184, 0xfdd5fa1300d74f91) ∷
-    row 1918 25 with (0, 0x43cf1a4) with (64, 0x734688) => (12, 0xfffffffffffffff0)
-    => (pc, 0x734688) => (171, 0x66842417ed8740c8) => (172, 0xe5482b671ccbf71)
-    => (173, 0x93060a4442a06e6a) => (174, 0x480d7190078d0c0) => (175, 0x6f7a9b1ffa49a03a)
-    => (176, 0x44a28aa280cce10d) => (177, 0xfbdf019415552121) => (178, 0xceb99d52f2c8f057)
-    => (179, 0x38363da093c2f11f) => (180, 0xa2c60f2a566cfea0) => (181, 0x247e4f4575931035)
-    => (182, 0xc0c7e028abb90be6) => (183, 0xc0b73682bac57e62) => (184, 0x28bf104df2ad1829)
-    => (185, 0x1422f358635a3ba7) ∷
-    row 1919 26 with (0, 0x204b15474) with (64, 0x400d2dec1) => (12, 0xfffffffffffffff0)
-    => (pc, 0x400d2dec0) => (173, 0xe17c8c9af3fd6ef8) => (174, 0xd845f4800876bdb9)
-    => (175, 0xac6a4f29de98f9c6) => (176, 0xb9206fa85b84ba87) => (177, 0x695b9964ff18f929)
-    => (178, 0x8f5a11c25691b505) => (179, 0x17227c0381e80fd6) => (180, 0x5af2dacdf99dad33)
-    => (181, 0xb6bef70567063dcd) => (182, 0x1beacacb44a8a310) => (183, 0x47310a6aae73830e)
-    => (184, 0xd241e1ba37b2969e) => (185, 0x5a78b633582fdf98) ∷
-    row 1920 27 with (0, 0x8000000) with (64, 0x4002708cc) with (at, 0x7ffff30)
-    => (12, 0xfffffffffffffff0) => (pc, 0x4002708cc) => (176, 0xa7e4cee7d858f755)
-    => (177, 0xf428e2a5d2038588) => (178, 0x87890e1e3036669) => (179, 0x5508cd19feaf37f4)
-    => (180, 0xc8334483ecab856f) => (181, 0x8b811af07a723454) => (182, 0xe714e9cdf5515466)
-    => (183, 0x9791cc29454c7aaa) => (184, 0x651d80bffcf4d34e) => (185, 0x793ae0c45f3e0af6) ∷
-    row 1921 28 with (0, 0x404ed9ce8) with (64, 0x201d8dc02) => (12, 0xfffffffffffffff0)
-    => (pc, 0x201d8dc00) => (177, 0xe1027c453fc289d8) => (178, 0x17a8875e6ae4431e)
-    => (179, 0x3ef2cbcf053f2254) => (180, 0x378f33ba0beb9b2f) => (181, 0x8cb41a3cf0b9fd73)
-    => (182, 0x4cd5070754f1f0ef) => (183, 0xcb4b010e3e83efdc) => (184, 0x577a014645f7445f)
-    => (185, 0xc9b78042ee9cf98f) ∷
-    row 1922 29 with (0, 0x204602d2f) with (64, 0x401e68950) => (12, 0xfffffffffffffff0)
-    => (pc, 0x401e68950) => (178, 0x919a7c308387a678) => (179, 0x63717a9a7f47dc2e)
-    => (180, 0xd99e81e22987e39d) => (181, 0xa299020929b4a123) => (182, 0xc9a18543c0b8c7ba)
-    => (183, 0x440fa0c1c9808d0a) => (184, 0x9f6fb763e4bf443b) ∷
-    row 1923 30 with (0, 0x404605adb) with (64, 0x200422bdc) => (12, 0xfffffffffffffff0)
-    => (pc, 0x200422bdc) => (180, 0x42c3d39e0001d2b) => (181, 0x287f1985e33f5bfb)
-    => (182, 0xb77f2b251e8ee421) => (183, 0xdf5a7878c0ce4afb) => (184, 0xb02f75b6712f9a96) ∷
-    row 1924 31 with (0, 0x40800000a) with (64, 0x4007ce992) with (at, 0x407ffff30)
-    => (12, 0xfffffffffffffff0) => (pc, 0x4007ce990) => (184, 0x629c90ca05db120e)
-    => (185, 0xc57472d94ccf4d38) ∷
+    row 1993 20 with (0, 0xd5) with (64, 0x129b000) with (at, 1) => (12, 0xfffffffffffffff0)
+    => (pc, 0x129b000) => (161, 0xd44d5fc90ae42d5c) => (162, 0x2ff9a3f2123cc216)
+    => (163, 0x3fb4409adccda327) => (164, 0x7fdb10002aa5a888) => (165, 0x9cf6871e9ad81da2)
+    => (166, 0xc51ba2ffeb0d8ca9) => (167, 0xea0e6605bb31af67) => (168, 0x39bb5cf153746e7a)
+    => (169, 0x2ae06ecad3d7f649) => (170, 0x3fba3dd463da4dfc) => (171, 0x5bb2a5a4952e3385)
+    => (172, 0x3b1845a91c3f2b2d) => (173, 0x7d5a74e1b8d3880b) => (174, 0x2bd5746f7ca3060e)
+    => (175, 0x91d7dc823ec7f3db) => (176, 0x11f1ca278505de9f) => (177, 0x962adc86270b76f5)
+    => (178, 0xed6d46d13567b4e0) => (179, 0x8c5374ed719e1158) => (180, 0xbe47ea6c8dc888d1)
+    => (181, 0x7451a5b81e7fc306) => (182, 0x8481b4f98e285a72) => (183, 0x4d256ee62db08bfe)
+    => (184, 0x401aa678368729c3) => (185, 0xc9ced0779f306c40) ∷
+    row 1994 21 with (0, 0x407138d) with (64, 0x200550c80) => (12, 0xfffffffffffffff0)
+    => (pc, 0x200550c80) => (162, 0xea98374cc6c549c2) => (163, 0x2da812536aec11e2)
+    => (164, 0x7eaaebff4ca85019) => (165, 0x5472ecbaef93d148) => (166, 0x106d91b128db61d0)
+    => (167, 0x9287bc819b2d38ad) => (168, 0x9fe028389d71d5d6) => (169, 0xe7e681a76db84810)
+    => (170, 0x2d02b095aa6bac2b) => (171, 0x548f3c2c6734ff73) => (172, 0xb7d52ac84fc8e4d0)
+    => (173, 0xd881ec1087a35ed4) => (174, 0x405795d08d897fc3) => (175, 0x73be9153cf036635)
+    => (176, 0xc689f2ae63ad7d06) => (177, 0x26452bf63d551594) => (178, 0x4a6c3f61d234dc98)
+    => (179, 0xf015bbf7d2986cf3) => (180, 0xcbfe7eead91f9e78) => (181, 0xd13041588ecd6c50)
+    => (182, 0x4b40af49786dc2a8) => (183, 0x3153a61871f413ad) => (184, 0x2c3ae302a6d52096) ∷
+    row 1995 22 with (0, 0x4db84e8) with (64, 0x1257716) => (12, 0xfffffffffffffff0)
+    => (pc, 0x1257714) => (165, 0x4be426b5336203b1) => (166, 0xc75f3d35b628add7)
+    => (167, 0x3981681b95a3b7ae) => (168, 0xc932711b2e263a0) => (169, 0x86459b29f6e31b9d)
+    => (170, 0x39d6cd965ccc7fa) => (171, 0x3230bfe057202f7d) => (172, 0xd040160367ce764a)
+    => (173, 0x3d42d63eb65af34e) => (174, 0x727b228fb8e76e8f) => (175, 0xa77bde4514936710)
+    => (176, 0xea4e927e5917b0c9) => (177, 0x70dbd7f371c98ac4) => (178, 0x37ba65cf485f3cf9)
+    => (179, 0x9962c349cdfd5e6a) => (180, 0x5abe9c8286be131e) => (181, 0x2110a048292ee200)
+    => (182, 0x535b369814343339) => (183, 0x7e56eee835e1588) => (184, 0x2190340ff0c19d49) ∷
+    row 1996 23 with (0, 0x408000009) with (64, 0x1834f56) with (at, 0x407ffff30)
+    => (12, 0xfffffffffffffff0) => (pc, 0x1834f54) => (168, 0xe30fa1fc2e285943)
+    => (169, 0x1da9603ffb01b670) => (170, 0x56c57d098d17ae89) => (171, 0x9f89c61cad043d8a)
+    => (172, 0x29a249beeb04b3c0) => (173, 0xf7028f5bae1e0e99) => (174, 0x5ba6081c47ef68e9)
+    => (175, 0x2413bbfcfe4f299d) => (176, 0xecd0b821a3d7ce03) => (177, 0x26bd4c009d978e96)
+    => (178, 0xdd2259cefebde30e) => (179, 0xfeff3f668bf73d85) => (180, 0x2c9aed2458a1a80b)
+    => (181, 0xacd9962ec96e366a) => (182, 0xdb3a7221b1831cf9) => (183, 0x304c505955fc7943)
+    => (184, 0xe900e8c7096241d8) => (185, 0x5ca5dc7a99cf70fc) ∷
+    row 1997 24 with (0, 0x4829510) with (64, 0x139529a) => (12, 0xfffffffffffffff0)
+    => (pc, 0x1395298) => (168, 0x5de6d33d98ebb268) => (169, 0x12332a31df5118ed)
+    => (170, 0xd29b2eda8f7a14bc) => (171, 0x276388e0b5f512bb) => (172, 0x38f7897535fa0632)
+    => (173, 0x9ff636a6d68e6bb1) => (174, 0x90fbe30d8c6ccd40) => (175, 0x7beb3384411d23cd)
+    => (176, 0xdaa83ba392cf69e7) => (177, 0xbb427f78f5a13b10) => (178, 0x15fc93374923dc26)
+    => (179, 0x5dfc1a84f41ab17b) => (180, 0x42f8e9c8af6823fe) => (181, 0x641804a83c89870c)
+    => (182, 0x619d3f57c59f416e) => (183, 0xcd963de2ceedbbc4) => (184, 0x6650f75e8a1a3476) ∷
+    row 1998 25 with (0, 0x4ffdea4) with (64, 0x734688) => (12, 0xfffffffffffffff0)
+    => (pc, 0x734688) => (171, 0xc2abdf5f9738bc97) => (172, 0x6291ed7d5a7522a1)
+    => (173, 0x5a83e5dc32e818b3) => (174, 0xa5ea6d6468d07aec) => (175, 0xa24c37c0cb8fc591)
+    => (176, 0x33384c7268d3d234) => (177, 0x9a065f3dc799c187) => (178, 0xa7b8aa75a7f287a)
+    => (179, 0x41b25c5327060c94) => (180, 0x2bb428033dd27dbe) => (181, 0x994f2f00e9d4a6b8)
+    => (182, 0xcaf6248612cdd1ff) => (183, 0xa0dde9c60b7a9369) => (184, 0x62ef802fd971253e)
+    => (185, 0xbad76cbc0ea2a39) ∷
+    row 1999 26 with (0, 0x404601ad4) with (64, 0x400d2dec1) => (12, 0xfffffffffffffff0)
+    => (pc, 0x400d2dec0) => (172, 0xa71c54d682e98b04) => (173, 0x724132132960bf97)
+    => (174, 0xa9714d0fa2e82cfa) => (175, 0x6d9abca60c66bf3f) => (176, 0x53c542f8b4a9a742)
+    => (177, 0xcb435e82e4cbe5d9) => (178, 0xa6183691b740b9ed) => (179, 0x8b3b17a9b2903364)
+    => (180, 0xa06a27daacad64fc) => (181, 0xad81e81a75b3a7e1) => (182, 0x42bb16d391efa86e)
+    => (183, 0x3217cfd52e364350) => (184, 0x814cff3625078444) ∷
+    row 2000 27 with (0, 0x408000000) with (64, 0x4002708cc) with (at, 0x407ffff30)
+    => (12, 0xfffffffffffffff0) => (pc, 0x4002708cc) => (176, 0x72b4157cc056d470)
+    => (177, 0x57e520487242ac75) => (178, 0xfecc572611fcaed9) => (179, 0x79cdebbb19fcac0c)
+    => (180, 0xea0b8a7762a03934) => (181, 0x714f1a9010cdf599) => (182, 0x3471af70b2417380)
+    => (183, 0x9f3f60f953f26930) => (184, 0xddfec61200e05dbd) => (185, 0x5118826f476f297d) ∷
+    row 2001 28 with (0, 0x4741628) with (64, 0x201d8dc02) => (12, 0xfffffffffffffff0)
+    => (pc, 0x201d8dc00) => (177, 0x5ad3f60ea7bc75c1) => (178, 0x73fd69940fe4c423)
+    => (179, 0x8baf465cfb382765) => (180, 0xf2782fe87633e635) => (181, 0xe37c3eaa4c63cbf6)
+    => (182, 0x956588bf3ccfda6) => (183, 0x623adef69b3f5f5e) => (184, 0xb897e37e88b00a77)
+    => (185, 0x4dda2852c37bbf9a) ∷
+    row 2002 29 with (0, 0x404d27fdf) with (64, 0x401e68950) => (12, 0xfffffffffffffff0)
+    => (pc, 0x401e68950) => (178, 0xb3d31307478e9133) => (179, 0xc4286107af941b72)
+    => (180, 0xfd480a5248ab8c73) => (181, 0xdf938da146dc060a) => (182, 0x6daea99c47787814)
+    => (183, 0x8c2109f170c4a802) => (184, 0xfc05c50cfdd700eb) ∷
+    row 2003 30 with (0, 0x204be86fb) with (64, 0x200422bdc) => (12, 0xfffffffffffffff0)
+    => (pc, 0x200422bdc) => (180, 0x4ac5718b0b4e3644) => (181, 0x542160bf12d3aa36)
+    => (182, 0x9098c911b1922cb) => (183, 0x5f827f212171f1e5) => (184, 0x7a3ee13c8aa720d) ∷
+    row 2004 31 with (0, 0x800000a) with (64, 0x4007ce992) with (at, 0x7ffff30)
+    => (12, 0xfffffffffffffff0) => (pc, 0x4007ce990) => (184, 0xed7c9337f773f10f)
+    => (185, 0x46269cba283e346d) ∷
     [])
 
 unfoldable pub ppc64_restvr : Functions
@@ -3133,64 +3219,64 @@ ppc64_restvr =
     0x7eec00ce ∷ 0x3980ff80 ∷ 0x7f0c00ce ∷ 0x3980ff90 ∷ 0x7f2c00ce ∷ 0x3980ffa0 ∷ 0x7f4c00ce ∷
     0x3980ffb0 ∷ 0x7f6c00ce ∷ 0x3980ffc0 ∷ 0x7f8c00ce ∷ 0x3980ffd0 ∷ 0x7fac00ce ∷ 0x3980ffe0 ∷
     0x7fcc00ce ∷ 0x3980fff0 ∷ 0x7fec00ce ∷ 0x4e800020 ∷ []) (
-    row 1925 20 with (0, 0xd6) with (64, 0x201c54450) with (at, 1) => (12, 0xfffffffffffffff0)
-    => (pc, 0x201c54450) => (148, 0xf0f6ba4f2d42b08f8bf3ef887e32a33d)
-    => (149, 0x53c76be2eff5c38833928e6d532e65fd) => (150, 0x2cfc42d48e177af0519552b00398ca2e)
-    => (151, 0x7c953f2407a7d5c7e5fc3c508f71d3ce) => (152, 0x429260d15ca6d20ef0c74b4ef6b97fdd)
-    => (153, 0x7ef3a7dc8d1473c571f67fab396fce5c) => (154, 0x31b9144598f0b8eb6989d9655794c14a)
-    => (155, 0x4edeb00c803ba080d781587d512857a8) => (156, 0xf4a6bb3142f52bbd32f630f3262a910b)
-    => (157, 0x10d2ebb3e11d597493f04ec6d69b6e8a) => (158, 0xa36341945ab42b9b6b4e91f8627aee7a)
-    => (159, 0xac57bcd2afb9a131b910fa87c9c911d8) ∷
-    row 1926 21 with (0, 0x404b29438) with (64, 0x18e1f9) => (12, 0xfffffffffffffff0)
-    => (pc, 0x18e1f8) => (149, 0xa8f99475b165ee53bc81243f3d715fd8)
-    => (150, 0x884f07ddece7d666ece8e055413815d8) => (151, 0xc57fe9e797e0229f7b2c0b0eb4752ffe)
-    => (152, 0x608c3a95b24ed2fd674aa46a9728ae49) => (153, 0x5973f9e73c33e780b144ac6ae95290ba)
-    => (154, 0xb03727db358f6029591a230daaf2d750) => (155, 0x64d5c4749e613cf75ecb0853dc09820b)
-    => (156, 0x774fcfaf76a97deac2575c3d7c9690ec) => (157, 0xe7a5498ebe68230383bf1eca8c9a03f2)
-    => (158, 0xb5d63210759d2c41a3024ffb0c13db1d) => (159, 0xe1e289369c4899a52020efcffb04166e) ∷
-    row 1927 22 with (0, 0x20493e216) with (64, 0x400303ae4) => (12, 0xfffffffffffffff0)
-    => (pc, 0x400303ae4) => (150, 0x6608cdffb60577000614ef69aa4aac0b)
-    => (151, 0x214423f6e981717c6f188a2ecb17b8d0) => (152, 0x80eef052425b47677c8b9b581142a104)
-    => (153, 0x817dd1cff892f8c12c6e22e57ccb64a6) => (154, 0x264a912df02885897fd642b26fb203b7)
-    => (155, 0x6f86c6f00d1bedc076dabd4279f67e37) => (156, 0x5b3273164f6d3166104eae36a998d425)
-    => (157, 0xea4d95a0b71c507a4e32158efe990582) => (158, 0x1cd82e8f44294afd2f84f34b78f7124d)
-    => (159, 0xf2d23de1f69420eeb347476c18b2fa88) ∷
-    row 1928 23 with (0, 0x20800000b) with (64, 0x201c192b7) with (at, 0x207ffff30)
-    => (12, 0xfffffffffffffff0) => (pc, 0x201c192b4) => (151, 0x57e236099b6af68326b8e23a635fc5f9)
-    => (152, 0xdcda8c411e5ea91a4e922e22aed02b5) => (153, 0x332f7fa3e63c4d43928fc7af5055ae16)
-    => (154, 0xc807baa9186e1e99efacd0a1d399c819) => (155, 0xcc5659d3a87b5e91bc403db9b4b950c0)
-    => (156, 0x401b5d2396640d2df84a0ef6f3b4480b) => (157, 0x2356c498e2282a6da3ca4459908aadf9)
-    => (158, 0x760890338bc7b650bec0dde18b3c828a) => (159, 0x3830bff39342b0d6492ddb8ee3c9c5be) ∷
-    row 1929 24 with (0, 0x204aa00ab) with (64, 0x20062a767) => (12, 0xfffffffffffffff0)
-    => (pc, 0x20062a764) => (152, 0x7616ef050b78cfddc10bd429c50220f6)
-    => (153, 0x732778546382341006ca25bdeaf8d63b) => (154, 0xdedb711a1fb0f61dbb2ce6c87514e95b)
-    => (155, 0xb932d95640051606de32174963565a56) => (156, 0x22db108c47e93cb6fdbb740b5bd292d)
-    => (157, 0xb9cbf831ad1d6f6b7028c6ae6c4955e0) => (158, 0xe00caed0f9e1a8e6df17459286fae06d)
-    => (159, 0x74f1d4e6aacb403dbcaa33ed05d1c8d6) ∷
-    row 1930 25 with (0, 0x404897c09) with (64, 0xb19b6e) => (12, 0xfffffffffffffff0)
-    => (pc, 0xb19b6c) => (153, 0xa105f5143f6a931e2fb2ab67ea8a25d)
-    => (154, 0xbccdc3da675dd2e1a8013d07e6ddb95e) => (155, 0x4af9cbd3012921ef4875f3c8c576f5bc)
-    => (156, 0xb494763b1158965ac4594cf91a745779) => (157, 0xf99dc51297ec30241bab4998e5d5de93)
-    => (158, 0x1a15b6052726a14b4e6be9a8279b8b0b) => (159, 0x15fc4bfea0bcd9d05c9b2c73f52538e2) ∷
-    row 1931 26 with (0, 0x204f694c7) with (64, 0x332f76) => (12, 0xfffffffffffffff0)
-    => (pc, 0x332f74) => (154, 0xd32aecc2cda8db1f756eba500cae6185)
-    => (155, 0x8bf6ea736ba432e5db02fcce97facb94) => (156, 0xe7325e882efd661ae406b5b148a51112)
-    => (157, 0xe5dd490117b474be9279e4f81ead31fe) => (158, 0x87f7a9de25c95ed0e25c8aa31a132e59)
-    => (159, 0xcd81811f593c2451d6aea6b23ad70623) ∷
-    row 1932 27 with (0, 0x408000003) with (64, 0x20194451f) with (at, 0x407ffff30)
-    => (12, 0xfffffffffffffff0) => (pc, 0x20194451c) => (155, 0xf487af3e7bb0b4a4df2ce5b0ac800373)
-    => (156, 0x72d60d762076aa0125c011d5a258417e) => (157, 0x609acfd323180e02dbc9a21ff60bee2d)
-    => (158, 0xbdd5f6558394e0a60149968fa79b0980) => (159, 0x8a8780fd41ed21ee963fef24b7059376) ∷
-    row 1933 28 with (0, 0x404799e75) with (64, 0x4014e8988) => (12, 0xfffffffffffffff0)
-    => (pc, 0x4014e8988) => (156, 0x16b9cf73275c3dd2af81bad5a4268b75)
-    => (157, 0x7df514b4925a9de15b8aed68216d994c) => (158, 0x5b947f53d8c79f5f7df845587a234a92)
-    => (159, 0xaf980f50faa3464d16c9c2a6ae479e48) ∷
-    row 1934 29 with (0, 0x2043a3a06) with (64, 0x400c10524) => (12, 0xfffffffffffffff0)
-    => (pc, 0x400c10524) => (157, 0xc19f3389835c398b7509570a8c98741f)
-    => (158, 0xbf5de6db09aee0698510b82457b9084e) => (159, 0x988b3d9c0665aca57086bdad993dc1db) ∷
-    row 1935 30 with (0, 0x4331dab) with (64, 0x2007d8672) => (12, 0xfffffffffffffff0)
-    => (pc, 0x2007d8670) => (158, 0xcc55e64d48405638d64ee76c7ceac499)
-    => (159, 0x4b5b37a7aa077fdb9e03010bac9f3f4e) ∷
-    row 1936 31 with (0, 0x8000008) with (64, 0x400f2abd0) with (at, 0x7ffff30)
-    => (12, 0xfffffffffffffff0) => (pc, 0x400f2abd0) => (159, 0x2d66b61aab25157ad55d93f844cee3a1) ∷
+    row 2005 20 with (0, 0xd6) with (64, 0x201c54450) with (at, 1) => (12, 0xfffffffffffffff0)
+    => (pc, 0x201c54450) => (148, 0xccf3f9551178042e35fc6d69bda46b47)
+    => (149, 0x93ae2d321db2304f41848e97dc274630) => (150, 0xd0cc866d055affdfc370d523d618c389)
+    => (151, 0x844f0505c87272dfbbc1410dab78e451) => (152, 0xae35a8fc66f8894f2a75d2555c47a989)
+    => (153, 0x5327d450e0ed422e0f8e88fae8851130) => (154, 0x7011170336509f26f2cff0fe50311c50)
+    => (155, 0x35e7f1367229f27caeb465f934bcb19) => (156, 0xd100c8173634398196ac11eb1d51d52)
+    => (157, 0x8d25bf4d5b128a77de4e613babcd12fa) => (158, 0x839f97771e3075c7199626b68133ab11)
+    => (159, 0xf07d94febcbd0385cb42118f3208e798) ∷
+    row 2006 21 with (0, 0x204d44c98) with (64, 0x18e1f9) => (12, 0xfffffffffffffff0)
+    => (pc, 0x18e1f8) => (149, 0x51a1788bcda9656b2b1e3bd227514b7e)
+    => (150, 0x37730e057eec939755bdbe9ceadd2873) => (151, 0x93a8c8dd0b9e6532f6c166c589d7a8d7)
+    => (152, 0x6642a91273beda3e0e29344c0440cbaa) => (153, 0xaf40aea5b74df2b89bf527305a1891ed)
+    => (154, 0x6ea2d996d64bada2a0253f728b5efb9f) => (155, 0xa46929e5d0b80cfc1ab97d12981408c1)
+    => (156, 0x50939f92a6930fc50bb1e0108037b952) => (157, 0x73223a9d57dcb4fd730e686c43ca0d53)
+    => (158, 0xc14fb05e494fea550cf1625e2cb05c3) => (159, 0x1b6be0cc4cbbeabca4f3e93d5d3a9fa3) ∷
+    row 2007 22 with (0, 0x44c1e96) with (64, 0x400303ae4) => (12, 0xfffffffffffffff0)
+    => (pc, 0x400303ae4) => (150, 0x57f9b72c77f4de3d81c2d0988b6ccdb2)
+    => (151, 0xda6de8e74a404787c788149c0c98cc61) => (152, 0x1c3ff610c1567e06f6ab340e31bd73fa)
+    => (153, 0x836fdea8dcdc2aea4b2c2eeefa0b65ac) => (154, 0xffda2af99d14e31c50b053e66c8cdc1)
+    => (155, 0xc1e94224fa35e7dd6447b6fc75f5ac3b) => (156, 0x9932bd08fe09f7ed28e2442928920118)
+    => (157, 0x95da135ba64d7e6112daacc47e9dcc5a) => (158, 0xb7df451cf1007b392230f0ce77190e00)
+    => (159, 0xff42524ce022ee7556e510471403c60a) ∷
+    row 2008 23 with (0, 0x800000b) with (64, 0x201c192b7) with (at, 0x7ffff30)
+    => (12, 0xfffffffffffffff0) => (pc, 0x201c192b4) => (151, 0xfb66133d6b7665f1360acaad0ec671db)
+    => (152, 0xd9b56f7a2b3ae119dc9ef4d71f9d35b1) => (153, 0x277b2fdc48dacae3f2a983268e4f6829)
+    => (154, 0xe4b75463c4562351782a759b5add0946) => (155, 0x1169dd109dacea626d21cc3585461905)
+    => (156, 0xad92c9e2d4df2017d18f86f50d8a9768) => (157, 0xb9321ada69ecc46fa573a5d9f3aa846f)
+    => (158, 0x15c318fd5cd5d76a28c654c037a5e018) => (159, 0x43556c93ad9a59091e9d7643d97caa65) ∷
+    row 2009 24 with (0, 0x4048f455b) with (64, 0x20062a767) => (12, 0xfffffffffffffff0)
+    => (pc, 0x20062a764) => (152, 0x58517e126faf35578d66a9d144acbcc0)
+    => (153, 0x41bff1b0cc18b9803f19eb5cf2288997) => (154, 0x9aa4c974865dac4d6043910dfd7fc512)
+    => (155, 0x6300055d9e7e0dbdf0e39ae466b26f30) => (156, 0x9ad1a56c1479ddd0f0fa08e02dc087f2)
+    => (157, 0x4219a99fe8511c876086db0152aa0f57) => (158, 0x58d811f91a03c9e13f8a1147d56f055f)
+    => (159, 0xdf0cde77a991e5de8e03abb3b60f6a0b) ∷
+    row 2010 25 with (0, 0x2045a9a29) with (64, 0xb19b6e) => (12, 0xfffffffffffffff0)
+    => (pc, 0xb19b6c) => (153, 0x8dcd9768649efb79e58ae2fe19ca1fa8)
+    => (154, 0xe4b793374de17e388d87277bcb517054) => (155, 0x997cfda9a69a651c935eda9bec4f2525)
+    => (156, 0xac1dd6be2eefbb59f711fc5f9b662c26) => (157, 0x1c9a1e77a99ba4dcb8a08cc6de56e396)
+    => (158, 0xeaf1d4d393bdf284d80a8bd090bdff2c) => (159, 0x1724f9d2ed56a452554ff97eb29b7ee6) ∷
+    row 2011 26 with (0, 0x404b38c57) with (64, 0x332f76) => (12, 0xfffffffffffffff0)
+    => (pc, 0x332f74) => (154, 0x30943e658f6482f696ff70597ad116b4)
+    => (155, 0x2ed9e0e24b87af13633263e87fa10b16) => (156, 0x9144e13a764c4aa6938ab552f3156eee)
+    => (157, 0x57d53f6e0fb555b028086498d52c423c) => (158, 0x828afb7d17c2d03020ab71ba25e78501)
+    => (159, 0x116615678e71ba267d73dcb6e545373c) ∷
+    row 2012 27 with (0, 0x208000003) with (64, 0x20194451f) with (at, 0x207ffff30)
+    => (12, 0xfffffffffffffff0) => (pc, 0x20194451c) => (155, 0x2bf5170e03f0718c826858bf101afcce)
+    => (156, 0xd2a75ec7f1ffee02f15f6e664f3cc1f2) => (157, 0xe8d00aa73dead91bcfcce832ec39f5ba)
+    => (158, 0x6e6f1aabe7b132d81db0c624e7129825) => (159, 0x63848ed5ef52fb38db0b083c3fc6a933) ∷
+    row 2013 28 with (0, 0x40e48d5) with (64, 0x4014e8988) => (12, 0xfffffffffffffff0)
+    => (pc, 0x4014e8988) => (156, 0x3ddf1976b784c4cf68f70bdd8aaf02a7)
+    => (157, 0x7aa88841dc4c4f83ee6f42ed7d63de6e) => (158, 0x2615668365393813e28ae973d43e1810)
+    => (159, 0x4026b43b524b7e7f4549ff708f3daf8e) ∷
+    row 2014 29 with (0, 0x404101326) with (64, 0x400c10524) => (12, 0xfffffffffffffff0)
+    => (pc, 0x400c10524) => (157, 0x648e76bf4be5f30fd4a68565e3d2ca57)
+    => (158, 0xa064be05175fdd4bfdcddef45d14f961) => (159, 0x198e0b986493dec4c5313f17ac69ecf) ∷
+    row 2015 30 with (0, 0x2049f7aeb) with (64, 0x2007d8672) => (12, 0xfffffffffffffff0)
+    => (pc, 0x2007d8670) => (158, 0xd1d2429506f196317e6d10ffcba122bb)
+    => (159, 0x94a30a5277e615e92e8eeb05ea5de740) ∷
+    row 2016 31 with (0, 0x8000008) with (64, 0x400f2abd0) with (at, 0x7ffff30)
+    => (12, 0xfffffffffffffff0) => (pc, 0x400f2abd0) => (159, 0xffa08885eb991fdb136571a2609e2a76) ∷
     [])

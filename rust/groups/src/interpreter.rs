@@ -234,6 +234,11 @@ impl Interpreter {
                         self.registers[rt] = self.registers[ra].wrapping_add(self.registers[rb]);
                         return Some(());
                     }
+                    // or
+                    444 => {
+                        self.registers[ra] = self.registers[rt] | self.registers[rb];
+                        return Some(());
+                    }
                     21 => Access::Load { to: rt, len: 8, is_signed: false },
                     149 => Access::Store { from: rt, len: 8 },
                     341 => Access::Load { to: rt, len: 4, is_signed: true },

@@ -210,8 +210,8 @@ fn powerpc64_is_as_in_qemu() {
         "lvx",
     ];
     let count = replayed(Architecture::Ppc64, table, &others);
-    // 35 instructions, one of which is `nop`
-    assert_eq!(count, 34 * 40 + 4, "rows");
+    // 37 instructions, one of which is `nop`
+    assert_eq!(count, 36 * 40 + 4, "rows");
 }
 
 #[test]

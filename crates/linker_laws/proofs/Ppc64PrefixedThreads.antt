@@ -1,0 +1,459 @@
+-- PowerPC64: instructions of thread-local sequences of prefixed code, each in two runs.
+use Rattle.std.proofs.Common.{◌≡◌, ℕ, ◌+◌, ◌*◌, ◌/◌, ◌%◌, ◌^◌, ◌<◌, refl, sym, ◌∙◌, ap, subst, arith, List}
+use Rattle.std.proofs.Common.{eqb, ℤ, pos, ◌+ℤ◌, Some, Option, drop, take, inl, inr, Bool, true, false}
+use Rattle.std.specs.Prelude.{◌&&◌, ◌||◌, ◌==◌, not, IsSomeAnd, if◌then◌else◌}
+use Rattle.std.proofs.lemmas.Bool.{and_parts, or_parts, or_cases, cases_Bool, eqb-true, cond-true, cond-false, eq-eqb}
+use Rattle.std.proofs.lemmas.Bool.Decides.{eqb_tells}
+use Rattle.std.proofs.lemmas.Int.{ints}
+use Rattle.linker_base.specs.Bits.{field, signed}
+use Rattle.linker_base.specs.Form.{bits_to, place_sum, replaced}
+use Rattle.linker_base.proofs.ConsecutiveBits.{consecutive_bits_sum}
+use Rattle.linker_base.proofs.Places.{sums}
+use Rattle.linker_elf.specs.Ppc64.{ppc64_form}
+use Rattle.linker_elf.specs.Value.{sum_64}
+use Rattle.linker_elf.specs.declared.elf.value.Operands.{Operands}
+use Rattle.linker_elf.specs.declared.ppc64.forms.Ppc64Instruction.TheVariants.{D, Ds, Branch24, Prefixed}
+use Rattle.linker_elf.specs.declared.ppc64.relocations.Ppc64Relocation.TheVariants as names
+use Rattle.linker_ppc64.specs.Ppc64Rewrites.{opcode_of, rt_of, ra_of, rb_of, access_of, registers_of, nop}
+use Rattle.linker_ppc64.specs.Ppc64Rewrites.{addi_of_thread, by_displacement, by_word_displacement, direct, ld_of}
+use Rattle.linker_ppc64.specs.Ppc64Rewrites.{is_access, is_add_of_thread, is_indexed, is_indexed_any, is_indexed_word, is_pla, is_pld, is_word_access, move_of, to_move}
+use Rattle.linker_ppc64.specs.Ppc64Rewrites.{two_words as both_words}
+use Rattle.linker_ppc64.specs.declared.rewrites.RelaxationKind.TheVariants as kinds
+use Rattle.linker_laws.specs.Machine.{moved, loaded}
+use Rattle.linker_laws.specs.Ppc64Machine.{State, Formats, Access, accessed, access_with, base, by_opcode, execute, go_on, go_to, next_pc, step, step_prefixed, word_access_with}
+use Rattle.linker_laws.specs.Ppc64RelocationLaws as relocation_laws
+use Rattle.linker_laws.specs.Ppc64RewriteLaws.{AgreeBut, Changes, IsRelocated, StepSo, after_access, ReadsSame, accesses, adds, both, from_thread, prefixed_of, thread_offset, with_entry, without_register, word_of}
+use Rattle.linker_laws.specs.Ppc64RewriteLaws as laws
+use Rattle.linker_laws.specs.Schemes.{AreAddresses, symbol_address}
+use Rattle.linker_laws.proofs.AArch64Pairs.{word_made, word_is}
+use Rattle.linker_laws.proofs.Ppc64Accesses.{step_access, step_indexed}
+use Rattle.linker_laws.proofs.Ppc64Addresses.{add_parts}
+use Rattle.linker_laws.proofs.Ppc64Apart.{accessed_agree, accessed_link, agree_but, agree_on, base_some, steps_so}
+use Rattle.linker_laws.proofs.Ppc64Calls.{back, first_made, second_made}
+use Rattle.linker_laws.proofs.Ppc64Direct.{indexed_parts}
+use Rattle.linker_laws.proofs.Ppc64IndexedWords.{below, indexed_word_parts, is_direct, step_indexed_word}
+use Rattle.linker_laws.proofs.Ppc64LowHalves.{whole_from}
+use Rattle.linker_laws.proofs.Ppc64Prefixed.{HasPrefixedParts, of_words, prefixed_after, set_8, step_paddi, step_paddi_over, step_pld}
+use Rattle.linker_laws.proofs.Ppc64Threads.{entry_small, step_bl}
+use Rattle.linker_laws.proofs.Ppc64WholeWords.{step_word}
+use Rattle.linker_laws.proofs.Ppc64Words.{set, step_add, step_nop, wrapped_is}
+use Rattle.linker_laws.proofs.RiscVMachine.{address_is, times_one}
+use Rattle.linker_laws.proofs.Sums.{sum_below}
+use Rattle.linker_laws.proofs.Words.{two_words}
+
+-- ---- two runs of prefixed instructions
+
+-- Both write one register.
+prefixed_so : (f : Formats) (x y : List ℕ) (s t : State) (r v w number other : ℕ) (c : Changes)
+    → step_prefixed f (prefixed_of x) s ≡ Some (set_8 r v s)
+    → step_prefixed f (prefixed_of y) t ≡ Some (set_8 r w t)
+    → v ≡ number → w ≡ other → AgreeBut c s t → laws.PrefixedSo f x s y t (laws.Writes r number other c)
+prefixed_so f x y s t r v w number other c first second is is_other alike =
+    subst (λ q. IsSomeAnd q (λ u. IsSomeAnd (step_prefixed f (prefixed_of y) t) (λ k.
+    (u.link ≡ s.link) × (k.link ≡ t.link) × laws.Writes r number other c u k))) (sym first)
+    (subst (λ q. IsSomeAnd q (λ k.
+    (s.link ≡ s.link) × (k.link ≡ t.link) × laws.Writes r number other c (set_8 r v s) k)) (sym second) (
+      refl,
+      refl,
+      (
+        record {
+          registers = λ m kept.
+              let parts = or_parts (eqb m r) (c.registers m) kept in
+              cond-false (eqb m r) v (s.registers m) parts.0
+              ∙ alike.registers m parts.1
+              ∙ sym (cond-false (eqb m r) w (t.registers m) parts.0);
+          floats = alike.floats;
+          memory = alike.memory;
+          pc = ap (λ p. sum_64 p 8) alike.pc;
+        },
+        record {
+          entry_is = cond-true (eqb r r) v (s.registers r) (eq-eqb r r refl) ∙ is;
+          new_is = cond-true (eqb r r) w (t.registers r) (eq-eqb r r refl) ∙ is_other;
+        },
+      ),
+    ))
+
+-- ---- their words
+
+pla_parts : (paddi : List ℕ) → word_of paddi < 2 ^ 32 → word_of (drop 4 paddi) < 2 ^ 32
+    → is_pla (word_of paddi) (word_of (drop 4 paddi)) ≡ true
+    → HasPrefixedParts 0x184 14 (laws.prefixed_target paddi) 0 (prefixed_of paddi)
+pla_parts paddi low high is =
+    let w = word_of (drop 4 paddi) in
+    let first = and_parts (field (word_of paddi) 18 32 == 0x184 && opcode_of w == 14) (ra_of w == 0) is in
+    let second = and_parts (field (word_of paddi) 18 32 == 0x184) (opcode_of w == 14) first.0 in
+    of_words (word_of paddi) w (prefixed_of paddi) 0x184 14 (rt_of w) 0 (two_words paddi) low high
+    (eqb-true _ _ second.0) (eqb-true _ _ second.1) refl (eqb-true _ _ first.1)
+
+pld_parts : (pld : List ℕ) → word_of pld < 2 ^ 32 → word_of (drop 4 pld) < 2 ^ 32
+    → is_pld (word_of pld) (word_of (drop 4 pld)) ≡ true
+    → HasPrefixedParts 0x104 57 (laws.prefixed_target pld) 0 (prefixed_of pld)
+pld_parts pld low high is =
+    let w = word_of (drop 4 pld) in
+    let first = and_parts (field (word_of pld) 18 32 == 0x104 && opcode_of w == 57) (ra_of w == 0) is in
+    let second = and_parts (field (word_of pld) 18 32 == 0x104) (opcode_of w == 57) first.0 in
+    of_words (word_of pld) w (prefixed_of pld) 0x104 57 (rt_of w) 0 (two_words pld) low high
+    (eqb-true _ _ second.0) (eqb-true _ _ second.1) refl (eqb-true _ _ first.1)
+
+-- what was made of a window
+made_words : (after : List ℕ) (a b : ℕ) → a < 2 ^ 32 → b < 2 ^ 32 → take 8 after ≡ both_words a b
+    → prefixed_of after ≡ a + b * 2 ^ 32
+made_words after a b small below made =
+    two_words after
+    ∙ ap (λ w. w + word_of (drop 4 after) * 2 ^ 32) (first_made after a b small below made)
+    ∙ ap (λ w. a + w * 2 ^ 32) (second_made after a b small below made)
+
+-- `paddi rT,13,n`
+record IsOverThread (n : ℕ) (rt : ℕ) (over : List ℕ) : Type 0 where
+  number_is : prefixed_of over ≡ 0x06000000 + addi_of_thread n rt * 2 ^ 32
+  parts : HasPrefixedParts 0x180 14 rt 13 (prefixed_of over)
+
+over_thread : (n : ℕ) (before over : List ℕ) → n < 2 ^ 16
+    → take 8 over ≡ both_words 0x06000000 (addi_of_thread n (rt_of (word_of (drop 4 (take 8 before)))))
+    → IsOverThread n (laws.prefixed_target before) over
+over_thread n before over small made =
+    let rt = laws.prefixed_target before in
+    let register : rt < 32 = omega arith in
+    let word : addi_of_thread n rt < 2 ^ 32 = omega (arith, small, register) in
+    let is = made_words over 0x06000000 (addi_of_thread n rt) (omega arith) word
+    (made ∙ ap (λ w. both_words 0x06000000 (addi_of_thread n (rt_of w))) (back before)) in
+    record {
+      number_is = is;
+      parts = of_words 0x06000000 (addi_of_thread n rt) (prefixed_of over) 0x180 14 rt 13 is (omega arith) word refl
+          (omega (arith, small, register)) (omega (arith, small, register)) (omega (arith, small, register));
+    }
+
+loads_thread : (before pld : List ℕ)
+    → take 8 pld ≡ both_words 0x04100000 (ld_of (rt_of (word_of (drop 4 (take 8 before)))))
+    → HasPrefixedParts 0x104 57 (laws.prefixed_target before) 0 (prefixed_of pld)
+loads_thread before pld made =
+    let rt = laws.prefixed_target before in
+    let register : rt < 32 = omega arith in
+    let word : ld_of rt < 2 ^ 32 = omega (arith, register) in
+    let is = made_words pld 0x04100000 (ld_of rt) (omega arith) word
+    (made ∙ ap (λ w. both_words 0x04100000 (ld_of (rt_of w))) (back before)) in
+    of_words 0x04100000 (ld_of rt) (prefixed_of pld) 0x104 57 rt 0 is (omega arith) word refl
+    (omega (arith, register)) (omega (arith, register)) (omega (arith, register))
+
+-- the displacement of `paddi rT,13,n`
+displacement_is : (rt both : ℕ) → both ≡ 0x06000000 + addi_of_thread 0x1000 rt * 2 ^ 32
+    → (ppc64_form Prefixed).machine both ≡ pos 0x1000
+displacement_is rt both is =
+    let low : both / 2 ^ 32 % 2 ^ 16 * 2 ^ 0 ≡ 0x1000 = omega (arith, is) in
+    let high : both / 2 ^ 0 % 2 ^ 18 * 2 ^ 16 ≡ 0 = omega (arith, is) in
+    ap (signed 34) (sums (bits_to 0 15 32) (bits_to 16 33 0) both
+    ∙ ap (λ x. x + place_sum (bits_to 16 33 0) both) (consecutive_bits_sum replaced 16 0 32 0 both refl ∙ low)
+    ∙ ap (λ x. 0x1000 + x) (consecutive_bits_sum replaced 18 16 0 0 both refl ∙ high))
+
+-- ---- arguments and loads
+
+module _ (prefixes : relocation_laws.Prefixes) where
+  -- what an instruction relative to itself leads to
+  general_entry : (o : Operands) (s : State) (insn after : List ℕ) → AreAddresses o → s.pc ≡ o.place
+      → IsRelocated names.R_PPC64_GOT_TLSGD_PCREL34 o insn after
+      → moved s.pc ((ppc64_form Prefixed).machine (prefixed_of after)) ≡ o.got_entry
+  general_entry o s insn after small at a =
+      let m = (ppc64_form Prefixed).machine (prefixed_of after) in
+      ap (λ p. moved p m) at ∙ times_one o.place m ∙ address_is _ _ (prefixes.2 o small o.place insn after a tt)
+
+  module_entry : (o : Operands) (s : State) (insn after : List ℕ) → AreAddresses o → s.pc ≡ o.place
+      → IsRelocated names.R_PPC64_GOT_TLSLD_PCREL34 o insn after
+      → moved s.pc ((ppc64_form Prefixed).machine (prefixed_of after)) ≡ o.got_entry
+  module_entry o s insn after small at a =
+      let m = (ppc64_form Prefixed).machine (prefixed_of after) in
+      ap (λ p. moved p m) at ∙ times_one o.place m ∙ address_is _ _ (prefixes.3 o small o.place insn after a tt)
+
+  offset_entry : (o : Operands) (s : State) (insn after : List ℕ) → AreAddresses o → s.pc ≡ o.place
+      → IsRelocated names.R_PPC64_GOT_TPREL_PCREL34 o insn after
+      → moved s.pc ((ppc64_form Prefixed).machine (prefixed_of after)) ≡ o.got_entry
+  offset_entry o s insn after small at a =
+      let m = (ppc64_form Prefixed).machine (prefixed_of after) in
+      ap (λ p. moved p m) at ∙ times_one o.place m ∙ address_is _ _ (prefixes.4 o small o.place insn after a tt)
+
+  -- `paddi rT,13` with the offset
+  variable_there : (o : Operands) (n : ℕ) (over after : List ℕ) → AreAddresses o
+      → IsRelocated names.R_PPC64_TPREL34 o over after
+      → moved n ((ppc64_form Prefixed).machine (prefixed_of after)) ≡ from_thread o n
+  variable_there o n over after small a =
+      whole_from o.tls_base (symbol_address o) n ((ppc64_form Prefixed).machine (prefixed_of after)) small.tls_base
+      (sum_below o.symbol _) (prefixes.8 o small o.place over after a tt)
+
+  pub argument_to_variable : laws.ArgumentToVariable
+  argument_to_variable f o s t c paddi over p alike made paddi1 over2 a1 a2 =
+      let rt = laws.prefixed_target paddi in
+      let old = pla_parts paddi p.prefix_below p.word_below p.insn_is in
+      let new = over_thread 0 paddi over (omega arith) made in
+      prefixed_so f paddi1 over2 s t rt _ _ o.got_entry (from_thread o (t.registers 13)) c
+      (step_paddi f (prefixed_of paddi1) rt s (prefixed_after _ _ paddi paddi1 0x184 14 rt 0 a1.written old))
+      (step_paddi_over f (prefixed_of over2) rt 13 t (prefixed_after _ _ over over2 0x180 14 rt 13 a2.written new.parts))
+      (general_entry o s paddi paddi1 p.small p.at a1)
+      (variable_there o (t.registers 13) over over2 p.small a2) alike
+
+  pub argument_to_load : laws.ArgumentToLoad
+  argument_to_load f o s t c paddi pld p alike made entry short holds paddi1 pld2 a1 a2 =
+      let rt = laws.prefixed_target paddi in
+      let own = with_entry entry o in
+      let old = pla_parts paddi p.prefix_below p.word_below p.insn_is in
+      let new = loads_thread paddi pld made in
+      prefixed_so f paddi1 pld2 s t rt _ _ o.got_entry (thread_offset o) c
+      (step_paddi f (prefixed_of paddi1) rt s (prefixed_after _ _ paddi paddi1 0x184 14 rt 0 a1.written old))
+      (step_pld f (prefixed_of pld2) rt t (prefixed_after _ _ pld pld2 0x104 57 rt 0 a2.written new))
+      (general_entry o s paddi paddi1 p.small p.at a1)
+      (ap (loaded 8 t.memory) (offset_entry own t pld pld2 (entry_small entry o short p.small) (sym alike.pc ∙ p.at) a2) ∙ holds) alike
+
+  pub argument_to_block : laws.ArgumentToBlock
+  argument_to_block f o s t c paddi over p alike made paddi1 a1 =
+      let rt = laws.prefixed_target paddi in
+      let old = pla_parts paddi p.prefix_below p.word_below p.insn_is in
+      let new = over_thread 0x1000 paddi over (omega arith) made in
+      let n = t.registers 13 in
+      prefixed_so f paddi1 over s t rt _ _ o.got_entry (sum_64 n 0x1000) c
+      (step_paddi f (prefixed_of paddi1) rt s (prefixed_after _ _ paddi paddi1 0x184 14 rt 0 a1.written old))
+      (step_paddi_over f (prefixed_of over) rt 13 t new.parts)
+      (module_entry o s paddi paddi1 p.small p.at a1)
+      (ap (moved n) (displacement_is rt (prefixed_of over) new.number_is)
+      ∙ wrapped_is (pos n +ℤ pos 0x1000) 0 (n + 0x1000) (omega (arith, ints))) alike
+
+  pub load_to_variable : laws.LoadToVariable
+  load_to_variable f o s t c pld over p alike made holds pld1 over2 a1 a2 =
+      let rt = laws.prefixed_target pld in
+      let old = pld_parts pld p.prefix_below p.word_below p.insn_is in
+      let new = over_thread 0 pld over (omega arith) made in
+      prefixed_so f pld1 over2 s t rt _ _ (thread_offset o) (from_thread o (t.registers 13)) c
+      (step_pld f (prefixed_of pld1) rt s (prefixed_after _ _ pld pld1 0x104 57 rt 0 a1.written old))
+      (step_paddi_over f (prefixed_of over2) rt 13 t (prefixed_after _ _ over over2 0x180 14 rt 13 a2.written new.parts))
+      (ap (loaded 8 s.memory) (offset_entry o s pld pld1 p.small p.at a1) ∙ holds)
+      (variable_there o (t.registers 13) over over2 p.small a2) alike
+
+-- ---- calls
+
+-- Behind a word in place of the call register 3 has the number that the function returns.
+branch_so : (f : Formats) (call : State → Option State) (changes c : Changes) (number other : ℕ) (s t w : State)
+    (bl new : List ℕ) → AgreeBut c s t → laws.IsBranch call changes number other s t bl
+    → step f (word_of new) t ≡ Some w → w.registers 3 ≡ number
+    → ((n : ℕ) → eqb n 3 ≡ false → w.registers n ≡ t.registers n)
+    → w.floats ≡ t.floats → w.memory ≡ t.memory → w.link ≡ t.link → w.pc ≡ sum_64 t.pc 4
+    → laws.BranchSo f call (without_register 3 (both c changes)) bl s new t
+branch_so f call changes c number other s t w bl new alike p steps is kept floats memory link pc =
+    let all = without_register 3 (both c changes) in
+    let parts = and_parts (opcode_of (word_of bl) == 18) (field (word_of bl) 0 2 == 1) p.bl_is in
+    let called = go_to (moved s.pc ((ppc64_form Branch24).machine (word_of bl))) (record s { link = next_pc s }) in
+    subst (λ q. IsSomeAnd q (λ u. (v : State) → call u ≡ Some v
+    → IsSomeAnd (step f (word_of new) t) (λ w. (w.link ≡ t.link) × AgreeBut all v w)))
+    (sym (step_bl f (word_of bl) s (eqb-true _ _ parts.0) (eqb-true _ _ parts.1)))
+    (λ v returned.
+    let r = p.returns called v p.argument.entry_is refl returned in
+    subst (λ q. IsSomeAnd q (λ w. (w.link ≡ t.link) × AgreeBut all v w)) (sym steps) (
+      link,
+      record {
+        registers = λ n same. elim (eqb_tells n 3) [
+          | inl three ↦ ap v.registers three.1 ∙ r.number_is ∙ sym is ∙ ap w.registers (sym three.1)
+          | inr differs ↦
+              let some = sym (ap (λ b. not b && (c.registers n || changes.registers n)) differs.0) ∙ same in
+              let none = or_parts (c.registers n) (changes.registers n) some in
+              r.registers n differs.1 none.1 ∙ alike.registers n none.0 ∙ sym (kept n differs.0)
+        ];
+        floats = λ n same.
+            let none = or_parts (c.floats n) (changes.floats n) same in
+            r.floats n none.1 ∙ alike.floats n none.0 ∙ ap (λ g. g n) (sym floats);
+        memory = λ a same.
+            let none = or_parts (c.memory a) (changes.memory a) same in
+            r.memory a none.1 ∙ alike.memory a none.0 ∙ ap (λ g. g a) (sym memory);
+        pc = r.back ∙ ap (λ q. sum_64 q 4) alike.pc ∙ sym pc;
+      },
+    ))
+
+pub branch_to_nop : laws.BranchToNop
+branch_to_nop f call changes c number s t bl blank alike made p =
+    branch_so f call changes c number number s t (go_on t) bl blank alike p
+    (step_nop f (word_of blank) t (word_is nop blank (omega arith) made)) p.argument.new_is (λ n differs. refl) refl refl refl refl
+
+pub branch_to_sum : laws.BranchToSum
+branch_to_sum f call changes c o s t bl add alike made thread p =
+    let word = word_is 0x7c636a14 add (omega arith) made in
+    let v = sum_64 (t.registers 3) (t.registers 13) in
+    branch_so f call changes c (from_thread o (s.registers 13)) (thread_offset o) s t (set 3 v t) bl add alike p
+    (step_add f (word_of add) 3 3 13 t
+    (record { opcode_is = ap opcode_of word; rt_is = ap rt_of word; ra_is = ap ra_of word })
+    (ap rb_of word) (ap (λ w. field w 0 11) word))
+    (ap (λ n. sum_64 n (t.registers 13)) p.argument.new_is ∙ ap (from_thread o) thread)
+    (λ n differs. cond-false (eqb n 3) v (t.registers n) differs) refl refl refl refl
+
+-- ---- sums and accesses
+
+step_move : (f : Formats) (x r a : ℕ) (s : State) → opcode_of x ≡ 31 → field x 0 11 ≡ 0x378 → rt_of x ≡ a → rb_of x ≡ a
+    → ra_of x ≡ r → step f x s ≡ Some (set r (s.registers a) s)
+step_move f x r a s op low from second to =
+    let not_add : (field x 0 11 == 0x214) ≡ false = ap (λ k. k == 0x214) low in
+    let six : field x 0 6 ≡ 0x38 = omega (arith, low) in
+    ap (λ k. execute f (by_opcode k x) x s) op
+    ∙ ap (λ i. execute f i x s)
+    (cond-false _ _ _ not_add
+    ∙ cond-false _ _ _ (ap (λ k. k == 0x2e && is_access (access_of x)) six)
+    ∙ cond-false _ _ _ (ap (λ k. k == 0x2a && is_word_access (access_of x)) six)
+    ∙ cond-true _ _ _ (ap (λ k. k == 0x378 && rt_of x == rb_of x) low ∙ eq-eqb _ _ (from ∙ sym second)))
+    ∙ ap (λ n. Some (set n (s.registers (rt_of x)) s)) to
+    ∙ ap (λ n. Some (set r (s.registers n) s)) from
+
+-- What is written in one run is there in the other.
+agree_kept : (n v : ℕ) (c : Changes) (s t : State) → v ≡ t.registers n → AgreeBut c s t
+    → AgreeBut (without_register n c) (set n v s) (go_on t)
+agree_kept n v c s t is alike =
+    record {
+      registers = λ m kept. elim (eqb_tells m n) [
+        | inl same ↦ cond-true (eqb m n) v (s.registers m) same.0 ∙ is ∙ ap t.registers (sym same.1)
+        | inr other ↦
+            cond-false (eqb m n) v (s.registers m) other.0
+            ∙ alike.registers m (sym (ap (λ b. not b && c.registers m) other.0) ∙ kept)
+      ];
+      floats = alike.floats;
+      memory = alike.memory;
+      pc = ap (λ p. sum_64 p 4) alike.pc;
+    }
+
+sum_to_move : laws.OverVariable kinds.AddToMove (adds is_add_of_thread)
+sum_to_move f o s t c insn new alike is made has any =
+    let x = word_of insn in
+    let z = rt_of x in
+    let a = ra_of x in
+    let p = add_parts x is in
+    let A = from_thread o (s.registers 13) in
+    let to : z < 32 = omega arith in
+    let from : a < 32 = omega arith in
+    let moves : move_of z a < 2 ^ 32 = omega (arith, to, from) in
+    let word : word_of new ≡ to_move x =
+    word_made to_move insn new (elim (cases_Bool (z == a)) [
+      | inl same ↦ subst (λ w. w < 2 ^ 32) (sym (cond-true (z == a) nop (move_of z a) same)) (omega arith)
+      | inr other ↦ subst (λ w. w < 2 ^ 32) (sym (cond-false (z == a) nop (move_of z a) other)) moves
+    ]) made in
+    let old : sum_64 (s.registers a) (s.registers 13) ≡ A = ap (λ n. sum_64 n (s.registers 13)) has.entry_is in
+    let y = word_of new in
+    let first = step_add f x z a 13 s (record { opcode_is = p.opcode_is; rt_is = refl; ra_is = refl }) p.rb_is p.low in
+    elim (eqb_tells z a) [
+      | inl same ↦
+          let blank : y ≡ nop = word ∙ cond-true (z == a) nop (move_of z a) same.0 in
+          steps_so f x y s t (set z (sum_64 (s.registers a) (s.registers 13)) s) (go_on t) _ first
+          (step_nop f y t blank) refl refl
+          (agree_kept z (sum_64 (s.registers a) (s.registers 13)) c s t (old ∙ sym (ap t.registers same.1 ∙ has.new_is)) alike)
+      | inr differs ↦
+          let moved_is : y ≡ move_of z a = word ∙ cond-false (z == a) nop (move_of z a) differs.0 in
+          let op : opcode_of y ≡ 31 = omega (arith, moved_is, to, from) in
+          let low : field y 0 11 ≡ 0x378 = omega (arith, moved_is, to, from) in
+          let rs : rt_of y ≡ a = omega (arith, moved_is, to, from) in
+          let rb : rb_of y ≡ a = omega (arith, moved_is, to, from) in
+          let ra : ra_of y ≡ z = omega (arith, moved_is, to, from) in
+          steps_so f x y s t (set z (sum_64 (s.registers a) (s.registers 13)) s) (set z (t.registers a) t) _ first
+          (step_move f y z a t op low rs rb ra) refl refl
+          (agree_but z _ _ c s t (old ∙ sym has.new_is) alike)
+    ]
+
+accesses_so : (f : Formats) (x y : ℕ) (s t : State) (c : Changes) (a : Access) (z address : ℕ)
+    → step f x s ≡ Some (go_on (accessed f a z address s)) → step f y t ≡ Some (go_on (accessed f a z address t))
+    → AgreeBut c s t → ReadsSame c a z address → StepSo f x s y t (AgreeBut (after_access c a z))
+accesses_so f x y s t c a z address first second alike reads =
+    steps_so f x y s t (go_on (accessed f a z address s)) (go_on (accessed f a z address t)) _ first second
+    (accessed_link f a z address s) (accessed_link f a z address t)
+    (agree_on _ _ _ (accessed_agree f c a z address s t alike reads))
+
+-- the displacement 0
+nothing_added : (a b : ℕ) (m : ℤ) → m ≡ pos 0 → moved (sum_64 a b) m ≡ sum_64 a b
+nothing_added a b m none =
+    ap (moved (sum_64 a b)) none
+    ∙ wrapped_is (pos (sum_64 a b) +ℤ pos 0) 0 (sum_64 a b + 0) (omega (arith, ints))
+    ∙ (let same : (sum_64 a b + 0) % 2 ^ 64 ≡ sum_64 a b = omega arith in same)
+
+no_displacement : (y : ℕ) → y / 2 ^ 0 % 2 ^ 16 * 2 ^ 0 ≡ 0 → (ppc64_form D).machine y ≡ pos 0
+no_displacement y none = ap (signed 16) (consecutive_bits_sum replaced 16 0 0 0 y refl ∙ none)
+
+no_word_displacement : (y : ℕ) → y / 2 ^ 2 % 2 ^ 14 * 2 ^ 2 ≡ 0 → (ppc64_form Ds).machine y ≡ pos 0
+no_word_displacement y none = ap (signed 16) (consecutive_bits_sum replaced 14 2 2 0 y refl ∙ none)
+
+whole_words : (w y : ℕ) (a b : Bool)
+    → y ≡ (if a then 62 else 58) * 2 ^ 26 + registers_of w + (if b then 2 else 0) → y / 2 ^ 2 % 2 ^ 14 * 2 ^ 2 ≡ 0
+whole_words w y true true is = omega (arith, is)
+whole_words w y true false is = omega (arith, is)
+whole_words w y false true is = omega (arith, is)
+whole_words w y false false is = omega (arith, is)
+
+direct_below : (x : ℕ) → direct x < 2 ^ 32
+direct_below x = elim (cases_Bool (field x 0 6 == 0x2e)) [
+  | inl same ↦
+      subst (λ w. w < 2 ^ 32) (sym (cond-true (field x 0 6 == 0x2e) (by_displacement x) (by_word_displacement x) same)) (omega arith)
+  | inr other ↦
+      subst (λ w. w < 2 ^ 32) (sym (cond-false (field x 0 6 == 0x2e) (by_displacement x) (by_word_displacement x) other))
+      (below x (access_of x == 4) (access_of x == 10))
+]
+
+module _ (f : Formats) (o : Operands) (s t : State) (c : Changes) (insn new : List ℕ) (alike : AgreeBut c s t)
+    (made : word_of new ≡ direct (word_of insn))
+    (has : laws.HasNumbers (ra_of (word_of insn)) (thread_offset o) (from_thread o (s.registers 13)) s t)
+    (reads : ReadsSame c (laws.indexed_access (word_of insn)) (rt_of (word_of insn)) (from_thread o (s.registers 13))) where
+  abbrev x : ℕ
+  x = word_of insn
+
+  abbrev y : ℕ
+  y = word_of new
+
+  abbrev z : ℕ
+  z = rt_of x
+
+  abbrev A : ℕ
+  A = from_thread o (s.registers 13)
+
+  -- of one access
+  by_access : (a : Access) → laws.indexed_access x ≡ a → step f x s ≡ Some (go_on (accessed f a z A s))
+      → step f y t ≡ Some (go_on (accessed f a z A t))
+      → StepSo f x s y t (AgreeBut (after_access c (laws.indexed_access x) z))
+  by_access a is first second =
+      subst (λ b. StepSo f x s y t (AgreeBut (after_access c b z))) (sym is)
+      (accesses_so f x y s t c a z A first second alike (subst (λ b. ReadsSame c b z A) is reads))
+
+  short : is_indexed x ≡ true → StepSo f x s y t (AgreeBut (after_access c (laws.indexed_access x) z))
+  short is =
+      let n = access_of x in
+      let p = indexed_parts x is in
+      let six : (field x 0 6 == 0x2e) ≡ true = eq-eqb _ _ p.low in
+      let word : y ≡ by_displacement x = made ∙ cond-true (field x 0 6 == 0x2e) (by_displacement x) (by_word_displacement x) six in
+      let op : opcode_of y ≡ 32 + n = omega (arith, word) in
+      let rt : rt_of y ≡ z = omega (arith, word) in
+      let ra : ra_of y ≡ ra_of x = omega (arith, word) in
+      let low : y / 2 ^ 0 % 2 ^ 16 * 2 ^ 0 ≡ 0 = omega (arith, word) in
+      let address : moved (base (ra_of x) t) ((ppc64_form D).machine y) ≡ A =
+      ap (λ n. moved n ((ppc64_form D).machine y)) (base_some (ra_of x) t p.over_some ∙ has.new_is)
+      ∙ nothing_added (thread_offset o) (s.registers 13) ((ppc64_form D).machine y) (no_displacement y low) in
+      by_access (access_with n) (cond-true (field x 0 6 == 0x2e) (access_with n) (word_access_with n) six)
+      (step_indexed f x 13 s p.opcode_is p.low p.known p.rb_is
+      ∙ ap (λ k. Some (go_on (accessed f (access_with n) z (sum_64 k (s.registers 13)) s)))
+      (base_some (ra_of x) s p.over_some ∙ has.entry_is))
+      (step_access f y n z (ra_of x) t op p.known rt ra
+      ∙ ap (λ k. Some (go_on (accessed f (access_with n) z k t))) address)
+
+  whole : is_indexed_word x ≡ true → StepSo f x s y t (AgreeBut (after_access c (laws.indexed_access x) z))
+  whole is =
+      let n = access_of x in
+      let p = indexed_word_parts x is in
+      let six : (field x 0 6 == 0x2e) ≡ false = ap (λ k. k == 0x2e) p.low in
+      let word : y ≡ by_word_displacement x = made ∙ cond-false (field x 0 6 == 0x2e) (by_displacement x) (by_word_displacement x) six in
+      let turned = is_direct x y p.known word in
+      let address : moved (base (ra_of x) t) ((ppc64_form Ds).machine y) ≡ A =
+      ap (λ n. moved n ((ppc64_form Ds).machine y)) (base_some (ra_of x) t p.over_some ∙ has.new_is)
+      ∙ nothing_added (thread_offset o) (s.registers 13) ((ppc64_form Ds).machine y)
+      (no_word_displacement y (whole_words x y (n == 4) (n == 10) word)) in
+      by_access (word_access_with n) (cond-false (field x 0 6 == 0x2e) (access_with n) (word_access_with n) six)
+      (step_indexed_word f x 13 s p.opcode_is p.low p.known p.rb_is
+      ∙ ap (λ k. Some (go_on (accessed f (word_access_with n) z (sum_64 k (s.registers 13)) s)))
+      (base_some (ra_of x) s p.over_some ∙ has.entry_is))
+      (step_word f y z (ra_of x) (word_access_with n) t (turned.decodes y refl refl) turned.rt_is turned.ra_is
+      ∙ ap (λ k. Some (go_on (accessed f (word_access_with n) z k t))) address)
+
+access_to_direct : laws.OverVariable kinds.IndexedToDirect (accesses is_indexed_any laws.indexed_access)
+access_to_direct f o s t c insn new alike is made has reads =
+    let x = word_of insn in
+    let word = word_made direct insn new (direct_below x) made in
+    elim (or_cases (is_indexed x) (is_indexed_word x) is) [
+      | inl one ↦ short f o s t c insn new alike word has reads one
+      | inr one ↦ whole f o s t c insn new alike word has reads one
+    ]
+
+pub sum_to_variable : laws.SumToVariable
+sum_to_variable = (sum_to_move, access_to_direct)
