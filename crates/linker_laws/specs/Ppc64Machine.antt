@@ -1,6 +1,7 @@
--- PowerPC64: what the instructions of a rewrite's sequences do (Power ISA, version 3.1, book I, "Branch
--- Facility", "Fixed-Point Facility" and "Floating-Point Facility"). Any address can be read and
--- written, and code is apart from memory. None of the instructions changes the condition register.
+-- PowerPC64: what the instructions of a rewrite's sequences do (Power ISA, version 3.1, book I,
+-- "Branch Facility", "Fixed-Point Facility" and "Floating-Point Facility"). Any address can be read
+-- and written, and code is apart from memory. None of the instructions changes the condition
+-- register.
 use Rattle.std.specs.Prelude.{◌≡◌, ℕ, ◌-◌, ◌*◌, ◌/◌, ◌^◌, ◌==◌, ◌&&◌, not, nat_lt, Bool}
 use Rattle.std.specs.Prelude.{if◌then◌else◌, true, false, List, [], ◌∷◌, pos, ◌*ℤ◌}
 use Rattle.std.specs.Prelude.{Option, Some, None, IsSomeAnd}
@@ -182,7 +183,8 @@ abbrev pub execute : Formats → Instruction → ℕ → State → Option State
 execute f addi word s = Some (go_on (write (rt_of word) (d_address word s) s))
 execute f addis word s = Some (go_on (write (rt_of word) (shifted_sum word s) s))
 execute f add word s =
-    Some (go_on (write (rt_of word) (sum_64 (s.registers (ra_of word)) (s.registers (rb_of word))) s))
+    let sum = sum_64 (s.registers (ra_of word)) (s.registers (rb_of word)) in
+    Some (go_on (write (rt_of word) sum s))
 execute f (access a) word s = Some (go_on (accessed f a (rt_of word) (d_address word s) s))
 execute f (word_access a) word s = Some (go_on (accessed f a (rt_of word) (ds_address word s) s))
 execute f (indexed a) word s = Some (go_on (accessed f a (rt_of word) (indexed_address word s) s))

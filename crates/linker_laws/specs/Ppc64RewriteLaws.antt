@@ -1,5 +1,5 @@
--- PowerPC64: rewritten sequences compute what the original ones do (64-bit ELF V2 ABI for Power, "TOC
--- Optimizations" and "TLS Linkage Optimizations").
+-- PowerPC64: rewritten sequences compute what the original ones do (64-bit ELF V2 ABI for Power,
+-- "TOC Optimizations" and "TLS Linkage Optimizations").
 use Rattle.std.specs.Prelude.{◌≡◌, ◌≢◌, ◌<◌, ◌∷◌, [], ℕ, Bool, false, ◌==◌, ◌&&◌, ◌||◌, not, List}
 use Rattle.std.specs.Prelude.{take, IsTrue, IsSomeAnd, drop, Option, Some, ◌^◌, if◌then◌else◌}
 use Rattle.std.specs.Prelude.{zero, suc, ⊤}
@@ -71,8 +71,8 @@ pub record IsTocPair (test : ℕ → Bool) (o : Operands) (s : State) (addis sec
 abbrev pub is_only : ℕ → ℕ → ℕ → Bool
 is_only x y n = n == x && not (n == y)
 
--- `addis rX,2` and `ld rY,x(rX)` of the GOT entry, which holds the address of the symbol, and `addis
--- rX,2` and `addi rY,rX`: the same but for rX, which has the high part.
+-- `addis rX,2` and `ld rY,x(rX)` of the GOT entry, which holds the address of the symbol, and
+-- `addis rX,2` and `addi rY,rX`: the same but for rX, which has the high part.
 abbrev pub GotToAddress : Type 0
 GotToAddress =
     (f : Formats) (o : Operands) (s : State) (addis ld addi : List ℕ) → IsTocPair is_ld o s addis ld
@@ -111,8 +111,8 @@ InitialExecToLocalExec =
     (λ n. (n == rt_of (word_of addis) || n == rt_of (word_of ld)) && not (n == rt_of (word_of add)))
     (three addis_of_entry ld_of_entry add) (three blank addis_of_symbol addi_of_symbol) s
 
--- Instructions of initial-exec behind which one accesses the variable; x and y are the registers that
--- the `addis` and the `ld` write.
+-- Instructions of initial-exec behind which one accesses the variable; x and y are the registers
+-- that the `addis` and the `ld` write.
 pub record IsThreadAccess (test : ℕ → Bool) (o : Operands) (s : State) (addis ld indexed : List ℕ)
     : Type 0 where
   pub pair : IsTocPair is_ld o s addis ld
@@ -232,8 +232,8 @@ pub record HaveSameAccess (x y : ℕ) : Type 0 where
   pub opcode : opcode_of x ≡ opcode_of y
   pub register : rt_of x ≡ rt_of y
 
--- `lq` and accesses of vector registers, of which the machine has none: `addis rX,2` and one over rX,
--- and `nop` and the same over register 2, access one address.
+-- `lq` and accesses of vector registers, of which the machine has none: `addis rX,2` and one over
+-- rX, and `nop` and the same over register 2, access one address.
 abbrev pub VectorAccessNearToc : Type 0
 VectorAccessNearToc =
     (f : Formats) (o : Operands) (s : State) (addis insn blank over : List ℕ)
@@ -299,8 +299,8 @@ and_register x c =
 abbrev pub is_argument : ℕ → Bool
 is_argument word = is_addi word && rt_of word == 3
 
--- `addis rX,2`, `addi 3,rX` of the GOT entry, `bl __tls_get_addr` and `nop`, which are executed next.
--- `call` says in which state a called function returns, if it does.
+-- `addis rX,2`, `addi 3,rX` of the GOT entry, `bl __tls_get_addr` and `nop`, which are executed
+-- next. `call` says in which state a called function returns, if it does.
 pub record IsTlsCall (call : State → Option State) (c : Changes) (number : ℕ) (o : Operands)
     (s : State) (addis addi bl : List ℕ) : Type 0 where
   pub pair : IsTocPair is_argument o s addis addi
@@ -312,7 +312,8 @@ pub record IsTlsCall (call : State → Option State) (c : Changes) (number : ℕ
 abbrev pub four : List ℕ → List ℕ → List ℕ → List ℕ → List ℕ
 four a b c d = word_of a ∷ word_of b ∷ word_of c ∷ word_of d ∷ []
 
--- The old sequence ends in a call, which returns to one more instruction. The new one ends behind that.
+-- The old sequence ends in a call, which returns to one more instruction. The new one ends behind
+-- that.
 abbrev pub RunAlikeBehindCall : Formats → (State → Option State) → Changes → List ℕ → ℕ → List ℕ
     → State → Type 0
 RunAlikeBehindCall f call c old behind new s =
@@ -404,15 +405,15 @@ Leads low form o number target =
     (there : ℕ) (insn over : List ℕ) → IsRelocated low (at_place there o) insn over
     → moved number (ppc64_reads form (word_of over)) ≡ target
 
--- The low half of a variable's address from a number in a register: in `addi`, `lwz` and so on, and in
--- `ld`, `std` and `lwa`.
+-- The low half of a variable's address from a number in a register: in `addi`, `lwz` and so on, and
+-- in `ld`, `std` and `lwa`.
 abbrev pub LowHalfLeads : Operands → ℕ → ℕ → Type 0
 LowHalfLeads o number target =
     Leads names.R_PPC64_TPREL16_LO D o number target
     × Leads names.R_PPC64_TPREL16_LO_DS Ds o number target
 
--- `ld rT,x(2)` of the GOT entry leaves the offset of the variable in rT. After `addis rT,13` the low
--- half leads to what the sum of that offset and of the thread pointer is.
+-- `ld rT,x(2)` of the GOT entry leaves the offset of the variable in rT. After `addis rT,13` the
+-- low half leads to what the sum of that offset and of the thread pointer is.
 abbrev pub NearInitialExecToLocalExec : Type 0
 NearInitialExecToLocalExec =
     (f : Formats) (o : Operands) (s : State) (ld addis_13 : List ℕ) → IsOverToc is_ld o s ld
@@ -439,8 +440,9 @@ NearArgument name =
 -- So do `addis rX,2` and `addi rT,rX`.
 abbrev pub PairArgument : Ppc64Relocation → Ppc64Relocation → Type 0
 PairArgument high low =
-    (f : Formats) (o : Operands) (s : State) (addis addi : List ℕ) → IsTocPair is_addi o s addis addi
-    → (at : ℕ) (addis_of_entry addi_of_entry : List ℕ) → IsRelocated high o addis addis_of_entry
+    (f : Formats) (o : Operands) (s : State) (addis addi : List ℕ)
+    → IsTocPair is_addi o s addis addi → (at : ℕ) (addis_of_entry addi_of_entry : List ℕ)
+    → IsRelocated high o addis addis_of_entry
     → IsRelocated low (at_place at o) addi addi_of_entry
     → Leaves f (λ n. n == rt_of (word_of addi) || n == rt_of (word_of addis))
     (two addis_of_entry addi_of_entry) s (rt_of (word_of addi)) (λ n. n ≡ o.got_entry)
@@ -456,8 +458,8 @@ abbrev pub CallLeaves : Formats → List ℕ → ℕ → ℕ → Type 0
 CallLeaves f made number result =
     (t : State) → t.registers 3 ≡ number → Leaves f (only 3) made t 3 (λ n. n ≡ result)
 
--- `addis rT,13`, in place of the `addi`, and `nop` and `addi 3,3` in place of the call: the address of
--- the variable.
+-- `addis rT,13`, in place of the `addi`, and `nop` and `addi 3,3` in place of the call: the address
+-- of the variable.
 abbrev pub ArgumentToLocalExec : Type 0
 ArgumentToLocalExec =
     (f : Formats) (o : Operands) (s : State) (addi bl addis_13 made : List ℕ) → AreAddresses o
@@ -468,7 +470,8 @@ ArgumentToLocalExec =
     → Leaves f (only (rt_of (word_of addi))) (one addis_of_symbol) s (rt_of (word_of addi))
     (λ n. CallLeaves f (two made addi_of_symbol) n (sum_64 (thread_offset o) (s.registers 13)))
 
--- A number in register 3 to which `nop` and `add 3,3,13`, in place of the call, add the thread pointer.
+-- A number in register 3 to which `nop` and `add 3,3,13`, in place of the call, add the thread
+-- pointer.
 abbrev pub CallAddsThread : Formats → Operands → List ℕ → State → ℕ → Type 0
 CallAddsThread f o made s number =
     (t : State) → t.registers 3 ≡ number → t.registers 13 ≡ s.registers 13
@@ -499,8 +502,8 @@ ArgumentToInitialExec =
     → Leaves f (λ n. n == rt_of (word_of addi) || n == rt_of (word_of addis))
     (two addis_of_entry ld_of_entry) s (rt_of (word_of addi)) (CallAddsThread f o made s)
 
--- `addis rT,13,0` in place of the `addi`, and `nop` and `addi 3,3,4096` in place of the call: 0x1000
--- above the thread pointer.
+-- `addis rT,13,0` in place of the `addi`, and `nop` and `addi 3,3,4096` in place of the call:
+-- 0x1000 above the thread pointer.
 abbrev pub ArgumentToModule : Type 0
 ArgumentToModule =
     (f : Formats) (s : State) (addi bl addis_13 made : List ℕ)
@@ -510,8 +513,8 @@ ArgumentToModule =
 
 -- ---- instructions that stand apart, each in two runs
 
--- The instructions below are rewritten each by itself, wherever they are. So two runs are compared, of
--- the object's code and of the new code, that agree but for what has a value that one of these
+-- The instructions below are rewritten each by itself, wherever they are. So two runs are compared,
+-- of the object's code and of the new code, that agree but for what has a value that one of these
 -- instructions made. What else runs between them is the same instruction in both.
 
 -- with register n too, and without it
@@ -539,8 +542,8 @@ from_thread o thread = sum_64 (thread_offset o) thread
 abbrev pub entry_from_toc : Operands → ℕ → ℕ
 entry_from_toc o toc = sum_64 (difference_64 o.got_entry o.got_base) toc
 
--- `addis rX` over a register becomes `nop`. In the object's run rX then has a number from which the low
--- halves lead to the address.
+-- `addis rX` over a register becomes `nop`. In the object's run rX then has a number from which the
+-- low halves lead to the address.
 abbrev pub ToNop : ℕ → RelaxationKind → Ppc64Relocation → (Operands → ℕ → ℕ)
     → (Operands → ℕ → ℕ → Type 0) → Type 0
 ToNop register kind high address LowHalvesLead =
@@ -553,8 +556,8 @@ ToNop register kind high address LowHalvesLead =
     (λ u v. AgreeBut (with_register x c) u v
     × LowHalvesLead o (u.registers x) (address o (s.registers register)))
 
--- near the TOC pointer and the thread pointer, and of the GOT entries of initial-exec, general-dynamic
--- and local-dynamic
+-- near the TOC pointer and the thread pointer, and of the GOT entries of initial-exec,
+-- general-dynamic and local-dynamic
 abbrev pub HighHalfToNop : Type 0
 HighHalfToNop =
     ToNop 2 kinds.AddisToNop names.R_PPC64_TOC16_HA from_toc
@@ -619,8 +622,8 @@ AreSame zero differing address = ⊤
 AreSame (suc n) differing address =
     (differing address ≡ false) × AreSame n differing (sum_64 address 1)
 
--- What an access of register r reads is the same in both runs: the bytes that it loads, or the register
--- that it stores.
+-- What an access of register r reads is the same in both runs: the bytes that it loads, or the
+-- register that it stores.
 abbrev pub ReadsSame : Changes → Access → ℕ → ℕ → Type 0
 ReadsSame c (loads n) r address = AreSame n c.memory address
 ReadsSame c (loads_signed n) r address = AreSame n c.memory address
@@ -639,7 +642,8 @@ after_access c loads_single r = record c { floats = but r c.floats }
 after_access c loads_double r = record c { floats = but r c.floats }
 after_access c a r = c
 
--- Instructions: the test of their words, what they require of an address, and what may differ after them.
+-- Instructions: the test of their words, what they require of an address, and what may differ after
+-- them.
 pub record Use : Type 1 where
   pub test : ℕ → Bool
   pub Requires : Changes → ℕ → ℕ → Type 0
@@ -664,8 +668,8 @@ accesses test access =
 
 -- ---- low halves over the TOC pointer and the thread pointer
 
--- An instruction over a register that has what a high half made, and the same over the base register,
--- with the whole distance.
+-- An instruction over a register that has what a high half made, and the same over the base
+-- register, with the whole distance.
 abbrev pub OverBase : ℕ → RelaxationKind → Ppc64Relocation → Ppc64Relocation → Ppc64Instruction
     → (Operands → ℕ → ℕ) → Use → Type 0
 OverBase register kind low whole form address does =
@@ -712,14 +716,14 @@ LowHalfOverBase =
 
 -- ---- initial-exec
 
--- In the object's run register n has the offset of the variable, and in the new one a number from which
--- low halves lead to the variable.
+-- In the object's run register n has the offset of the variable, and in the new one a number from
+-- which low halves lead to the variable.
 pub record HasOffset (o : Operands) (n thread : ℕ) (s t : State) : Type 0 where
   pub offset_is : s.registers n ≡ thread_offset o
   pub leads : LowHalfLeads o (t.registers n) (from_thread o thread)
 
--- `ld rT` of the GOT entry, which the dynamic linker has set to the offset, over a register that has what
--- a high half made, and `addis rT,13`
+-- `ld rT` of the GOT entry, which the dynamic linker has set to the offset, over a register that
+-- has what a high half made, and `addis rT,13`
 abbrev pub OffsetToHighHalf : Type 0
 OffsetToHighHalf =
     (f : Formats) (o : Operands) (s t : State) (c : Changes) (ld addis_13 : List ℕ) → AreAddresses o
@@ -817,8 +821,8 @@ both c d =
       memory = λ a. c.memory a || d.memory a;
     }
 
--- In the object's run register 3 has an entry's address, with which the function returns a number, and
--- in the new one such a number that what takes the place of the call makes the same of it.
+-- In the object's run register 3 has an entry's address, with which the function returns a number,
+-- and in the new one such a number that what takes the place of the call makes the same of it.
 pub record IsCall (call : State → Option State) (changes : Changes) (number : ℕ) (Is : ℕ → Type 0)
     (s t : State) (bl : List ℕ) : Type 0 where
   pub call_is : IsTrue (is_call (word_of bl) (word_of (drop 4 bl)))
@@ -827,8 +831,8 @@ pub record IsCall (call : State → Option State) (changes : Changes) (number : 
   pub returns : (u v : State) → u.registers 3 ≡ entry → u.registers 13 ≡ s.registers 13
       → call u ≡ Some v → Returns changes number u v
 
--- The object's run executes the call, and what it returns to, and the new one executes words in their
--- place. The link register is that of the new run before them.
+-- The object's run executes the call, and what it returns to, and the new one executes words in
+-- their place. The link register is that of the new run before them.
 abbrev pub CallSo : Formats → (State → Option State) → Changes → List ℕ → State → List ℕ → State
     → Type 0
 CallSo f call c bl s new t =
@@ -861,7 +865,8 @@ abbrev pub CallToBlock : Type 0
 CallToBlock =
     (f : Formats) (call : State → Option State) (changes c : Changes) (s t : State)
     (bl made : List ℕ) → AgreeBut c s t → IsRewritten kinds.CallToAddi4096 bl made
-    → IsCall call changes (sum_64 (s.registers 13) 0x1000) (λ n. n ≡ sum_64 (s.registers 13) 0) s t bl
+    → IsCall call changes (sum_64 (s.registers 13) 0x1000) (λ n. n ≡ sum_64 (s.registers 13) 0)
+    s t bl
     → CallSo f call (without_register 3 (both c changes)) bl s (two made (drop 4 made)) t
 
 -- ---- prefixed code: each instruction of a thread-local sequence, in two runs
@@ -934,7 +939,8 @@ ArgumentToBlock =
 -- ---- calls of prefixed code, by R_PPC64_REL24_NOTOC
 
 -- A function, called with an entry's address in register 3, returns a number. In the new run
--- register 3 has another one. The call returns to the next instruction, and no `nop` has to be there.
+-- register 3 has another one. The call returns to the next instruction, and no `nop` has to be
+-- there.
 pub record IsBranch (call : State → Option State) (changes : Changes) (number other : ℕ)
     (s t : State) (bl : List ℕ) : Type 0 where
   pub bl_is : IsTrue (is_bl (word_of bl))
@@ -1012,8 +1018,8 @@ SumToVariable =
 abbrev pub four_on : Operands → Operands
 four_on o = record o { place = sum_64 o.place 4; symbol = sum_64 o.symbol 4 }
 
--- `addis 2,12` and `addi 2,2` add the distance from the function's entry, which register 12 has, and
--- `lis 2` and `addi 2,2` make the address: the same.
+-- `addis 2,12` and `addi 2,2` add the distance from the function's entry, which register 12 has,
+-- and `lis 2` and `addi 2,2` make the address: the same.
 abbrev pub TocAtEntry : Type 0
 TocAtEntry =
     (f : Formats) (o : Operands) (s : State) (addis addi lis behind : List ℕ) → AreAddresses o
