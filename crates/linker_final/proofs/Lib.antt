@@ -36,6 +36,7 @@ pub mod Ppc64Halves
 pub mod Ppc64Loads
 pub mod Ppc64Near
 pub mod Ppc64Offsets
+pub mod Ppc64Prefixed
 pub mod Ppc64Twice
 pub mod Ppc64Written
 pub mod PutBack
