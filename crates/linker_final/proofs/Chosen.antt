@@ -7,7 +7,7 @@ use Rattle.linker_rewriting.specs.Candidates.{IsCandidate, IsCandidateWith}
 use Rattle.linker_rewriting.specs.Decisions.{AreDecidedIn, IsDecidedAfter, IsDecidedAlone, IsScopeDecision, IsGroupDecision, IsLabelDecision, IsMatchedDecision, decision_at, decision_ahead, decision_of, is_taken}
 use Rattle.linker_rewriting.specs.Facts.{Setting, link_facts, facts_by, facts_at, facts_with}
 use Rattle.linker_rewriting.specs.Groups.{IsScopeIn, group_stays}
-use Rattle.linker_rewriting.specs.Sequences.{is_marked_at}
+use Rattle.linker_rewriting.specs.Sequences.{is_marked_in}
 use Rattle.linker_rewriting.specs.declared.decisions.Decision.{Decision}
 use Rattle.linker_rewriting.specs.declared.decisions.Decision.TheVariants.{Kept, Rewritten, TakenAlong, Redirected}
 use Rattle.linker_rewriting.specs.declared.facts.OutputFacts.{OutputFacts}
@@ -23,6 +23,8 @@ use Rattle.linker_section.specs.declared.facts.Symbol.{Symbol}
 use Rattle.linker_section.specs.declared.relocations.Rela.{Rela}
 use Rattle.linker_utils.specs.Architectures.{IsArchitectureChoice, IsUnchanged}
 use Rattle.linker_utils.specs.declared.architecture.Relaxation.{Relaxation}
+use Rattle.linker_utils.specs.declared.elf.Architecture.{Architecture}
+use Rattle.linker_utils.specs.declared.elf.Architecture.TheVariants.{AArch64, RiscV, LoongArch64, Ppc64, X86_64}
 
 -- a relocation's rewrite, by facts with its addend
 pub record IsChosen (s : Setting) (section : List ℕ) (r : Rela) (chosen : Choice Relaxation ℕ)
@@ -32,6 +34,8 @@ pub record IsChosen (s : Setting) (section : List ℕ) (r : Rela) (chosen : Choi
   pub changed : ¬ IsUnchanged r.code chosen
   pub addend : facts.operands.addend ≡ r.addend
   pub marked : Bool
+  -- before addresses are known the calls of PowerPC64 alone are marked
+  pub unmarked : s.phase ≡ Early → (s.architecture ≡ Ppc64 → ⊥) → marked ≡ false
   pub facts_are : link_facts s.phase s.output s.symbols s.addresses s.values r r marked ≡ Some facts
 
 -- ---- the facts have the addend of their subject
@@ -79,20 +83,30 @@ by_has phase output addresses values r subject marked (Some symbol) =
 
 -- ---- candidates
 
+unmarked_in : (bytes : List ℕ) (n : ℕ) (r : Rela) (architecture : Architecture)
+    → (architecture ≡ Ppc64 → ⊥) → is_marked_in Early architecture bytes n r ≡ false
+unmarked_in bytes n r AArch64 isnt = refl
+unmarked_in bytes n r RiscV isnt = refl
+unmarked_in bytes n r LoongArch64 isnt = refl
+unmarked_in bytes n r Ppc64 isnt = absurd (isnt refl)
+unmarked_in bytes n r X86_64 isnt = refl
+
 with_facts : (s : Setting) (bytes section : List ℕ) (n : ℕ) (r : Rela)
     (chosen : Choice Relaxation ℕ) (marked : Bool) (f : Option LinkFacts)
+    → (s.phase ≡ Early → (s.architecture ≡ Ppc64 → ⊥) → marked ≡ false)
     → link_facts s.phase s.output s.symbols s.addresses s.values r r marked ≡ f → HasAddend r.addend f
     → IsCandidateWith s bytes section n r f (Some chosen) → IsChosen s section r chosen
 unfolding HasAddend
-with_facts s bytes section n r chosen marked None facts_are has is =
+with_facts s bytes section n r chosen marked None unmarked facts_are has is =
     absurd (let e : Some chosen ≡ None = is in cc)
-with_facts s bytes section n r chosen marked (Some facts) facts_are has is =
+with_facts s bytes section n r chosen marked (Some facts) unmarked facts_are has is =
     record {
       facts = facts;
       is_choice = is.0;
       changed = is.1;
       addend = has facts refl;
       marked = marked;
+      unmarked = unmarked;
       facts_are = facts_are;
     }
 
@@ -100,10 +114,12 @@ of_candidate : (s : Setting) (bytes section : List ℕ) (n : ℕ) (r : Rela)
     (chosen : Choice Relaxation ℕ) → IsCandidate s bytes section n r (Some chosen)
     → IsChosen s section r chosen
 of_candidate s bytes section n r chosen is =
-    with_facts s bytes section n r chosen (is_marked_at s.architecture bytes n r)
-    (link_facts s.phase s.output s.symbols s.addresses s.values r r (is_marked_at s.architecture bytes n r))
+    let marked = is_marked_in s.phase s.architecture bytes n r in
+    with_facts s bytes section n r chosen marked
+    (link_facts s.phase s.output s.symbols s.addresses s.values r r marked)
+    (λ early isnt. ap (λ p. is_marked_in p s.architecture bytes n r) early ∙ unmarked_in bytes n r s.architecture isnt)
     refl
-    (by_has s.phase s.output s.addresses s.values r r (is_marked_at s.architecture bytes n r) (slice_get s.symbols r.symbol))
+    (by_has s.phase s.output s.addresses s.values r r marked (slice_get s.symbols r.symbol))
     is
 
 -- ---- decisions

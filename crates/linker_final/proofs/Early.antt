@@ -20,6 +20,7 @@ use Rattle.linker_section.specs.declared.facts.Addresses.{Addresses}
 use Rattle.linker_section.specs.declared.facts.Symbol.{Symbol}
 use Rattle.linker_section.specs.declared.relocations.Rela.{Rela}
 use Rattle.linker_utils.specs.declared.architecture.Relaxation.{Relaxation}
+use Rattle.linker_utils.specs.declared.elf.Architecture.TheVariants.{Ppc64}
 
 -- ---- scopes
 
@@ -71,17 +72,17 @@ placed_in None = false
 placed_in (Some facts) = facts.has_addresses
 
 early_by : (output : OutputFacts) (addresses : Addresses) (values : List Symbol) (r : Rela)
-    (marked : Bool) (symbol : Option SymbolFacts) (facts : LinkFacts)
+    (marked : Bool) (symbol : Option SymbolFacts) (facts : LinkFacts) → marked ≡ false
     → facts_by Early output addresses values r r marked symbol ≡ Some facts → AreEarly facts
-early_by output addresses values r marked None facts is =
+early_by output addresses values r marked None facts none is =
     absurd (let e : None ≡ Some facts = is in cc)
-early_by output addresses values r marked (Some symbol) facts is =
-    record { unmarked = sym (ap relaxable_in is); unplaced = sym (ap placed_in is) }
+early_by output addresses values r marked (Some symbol) facts none is =
+    record { unmarked = sym (ap relaxable_in is) ∙ none; unplaced = sym (ap placed_in is) }
 
 pub are_early : (s : Setting) (section : List ℕ) (r : Rela) (chosen : Choice Relaxation ℕ)
-    → s.phase ≡ Early → (is : IsChosen s section r chosen) → AreEarly is.facts
-are_early s section r chosen early is =
-    early_by s.output s.addresses s.values r is.marked (slice_get s.symbols r.symbol) is.facts
+    → s.phase ≡ Early → (s.architecture ≡ Ppc64 → ⊥) → (is : IsChosen s section r chosen) → AreEarly is.facts
+are_early s section r chosen early isnt is =
+    early_by s.output s.addresses s.values r is.marked (slice_get s.symbols r.symbol) is.facts (is.unmarked early isnt)
     (subst (λ p. link_facts p s.output s.symbols s.addresses s.values r r is.marked ≡ Some is.facts) early is.facts_are)
 
 -- what a condition says isn't so

@@ -38,6 +38,7 @@ pub mod Ppc64Halves
 pub mod Ppc64Loads
 pub mod Ppc64Near
 pub mod Ppc64Offsets
+pub mod Ppc64Prefixed
 pub mod Ppc64Twice
 pub mod Ppc64TwiceArguments
 pub mod Ppc64Written

@@ -25,7 +25,7 @@ use Rattle.linker_section.specs.Relocations.{relocation_in}
 use Rattle.linker_utils.specs.Architectures.{IsArchitectureChoice}
 use Rattle.linker_utils.specs.declared.architecture.Relaxation.{Relaxation}
 use Rattle.linker_utils.specs.declared.architecture.Relaxation.TheVariants as relaxations
-use Rattle.linker_utils.specs.declared.elf.Architecture.TheVariants.{LoongArch64}
+use Rattle.linker_utils.specs.declared.elf.Architecture.TheVariants.{LoongArch64, Ppc64}
 
 -- ---- scopes
 
@@ -108,7 +108,8 @@ by_table l all loongarch i chosen below decided name named is_name =
           (subst (λ x. IsArchitectureChoice x r.code l.section r.offset c.facts chosen) loongarch c.is_choice) c.changed;
       early = λ without. are_early l.setting l.section r chosen
           (only_early name without l.setting.phase
-          (λ unlisted. listed.listed (scope.value_is ∙ (ap (loongarch_scope_in l.setting.phase) same ∙ unlisted)))) c;
+          (λ unlisted. listed.listed (scope.value_is ∙ (ap (loongarch_scope_in l.setting.phase) same ∙ unlisted))))
+          (λ ppc64. let e : LoongArch64 ≡ Ppc64 = sym loongarch ∙ ppc64 in cc) c;
     }
 
 -- one that was chosen

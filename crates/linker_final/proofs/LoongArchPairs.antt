@@ -18,7 +18,7 @@ use Rattle.linker_rewriting.specs.Decisions.{AreDecidedIn, IsDecidedAfter, IsDec
 use Rattle.linker_rewriting.specs.Facts.{Setting, early, link_facts}
 use Rattle.linker_rewriting.specs.Groups.{IsScopeIn, loongarch_scope_in}
 use Rattle.linker_rewriting.specs.Rewritten.{IsLoadAt, IsRewritten}
-use Rattle.linker_rewriting.specs.Sequences.{IsWhole, is_load_at, is_loongarch_part, is_mark_of, is_marked_at, is_marked_load, is_part, mark_code, place_in_load}
+use Rattle.linker_rewriting.specs.Sequences.{IsWhole, is_load_at, is_loongarch_part, is_mark_of, is_marked_in, is_marked_load, is_part, mark_code, place_in_load}
 use Rattle.linker_rewriting.specs.declared.decisions.Decision.{Decision}
 use Rattle.linker_rewriting.specs.declared.decisions.Decision.TheVariants.{Kept, Rewritten, TakenAlong}
 use Rattle.linker_rewriting.specs.declared.phases.Phase.TheVariants.{Early}
@@ -192,7 +192,7 @@ whole_of : (s : Setting) (bytes section : List ℕ) (n : ℕ) (r : Rela) (chosen
     → IsCandidate s bytes section n r (Some chosen) → IsWhole s.architecture bytes n r true
 whole_of s bytes section n r chosen =
     whole_with s bytes section n r chosen
-    (link_facts s.phase s.output s.symbols s.addresses s.values r r (is_marked_at s.architecture bytes n r))
+    (link_facts s.phase s.output s.symbols s.addresses s.values r r (is_marked_in s.phase s.architecture bytes n r))
 
 -- a decision of one candidate
 record IsMade (d : Decision) (candidate : Option (Choice Relaxation ℕ)) : Type 0 where

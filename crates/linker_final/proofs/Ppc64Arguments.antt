@@ -18,10 +18,11 @@ use Rattle.linker_final.proofs.Ppc64Written.{entry_high_after, entry_low_after, 
 use Rattle.linker_final.proofs.Phases.{left_within}
 use Rattle.linker_final.proofs.Written.{are_rewritten, first_same, second_same, stays}
 use Rattle.linker_final.specs.Final.{IsLeftAlone, AreRewritten, Linked, IsLinked, IsWrittenByNoOther, count, instruction_at, two_at}
-use Rattle.linker_final.specs.Ppc64Anywhere.{Becomes, EachAnywhere, GeneralArgumentAnywhere, GeneralCallAnywhere, GeneralDynamicAnywhere, GeneralHighAnywhere, Goes, IsCallApplied, IsCallLeft, IsMarkAs, LocalDynamicAnywhere, named_as, named_behind}
-use Rattle.linker_final.specs.Ppc64Final.{CallToBlockIsAlike, CallToLowHalfIsAlike, CallToSumIsAlike, EachRewritten, EntryIsAlike, ForOperands, GeneralArgumentIsAlike, GeneralCallIsAlike, GeneralDynamic, GeneralHighIsAlike, HighArgumentIsAlike, LoadedArgumentIsAlike, LocalDynamic, NoEntryIsAlike, NoModuleIsAlike, ThreadArgumentIsAlike, final, object, offset_of}
+use Rattle.linker_final.specs.Ppc64Anywhere.{Becomes, EachAnywhere, GeneralArgumentAnywhere, GeneralCallAnywhere, GeneralDynamicAnywhere, GeneralHighAnywhere, Goes, GoesAt, IsCallApplied, IsCallLeft, IsLeft, IsMarkAs, LocalDynamicAnywhere, ModuleCallAnywhere, named_as, named_behind}
+use Rattle.linker_final.specs.Ppc64Final.{CallToBlockIsAlike, CallToLowHalfIsAlike, CallToSumIsAlike, EachChosen, EachRewritten, EntryIsAlike, ForOperands, GeneralArgumentIsAlike, GeneralCallIsAlike, GeneralDynamic, GeneralHighIsAlike, HighArgumentIsAlike, LoadedArgumentIsAlike, LocalDynamic, ModuleCallIsAlike, NoEntryIsAlike, NoModuleIsAlike, ThreadArgumentIsAlike, final, object, offset_of}
+use Rattle.linker_final.specs.Ppc64PrefixedFinal.{BranchToNopIsAlike, BranchToSumIsAlike}
 use Rattle.linker_laws.specs.Ppc64RewriteLaws.{CallSo, IsRelocated, Laws, Leads, at_place, both, entry_from_toc, with_entry, without_register, word_of}
-use Rattle.linker_ppc64.specs.Ppc64Rewrites.{addis_of_thread, is_addi, is_addis_of_toc, registers_of, rewrites_call, rewrites_word, rt_of, to_initial_exec, to_local_exec, to_module}
+use Rattle.linker_ppc64.specs.Ppc64Rewrites.{Conditions, addis_of_thread, called_to_initial_exec, is_addi, is_addis_of_toc, nop, registers_of, rewrites_call, rewrites_word, rt_of, to_initial_exec, to_local_exec, to_module}
 use Rattle.linker_ppc64.specs.declared.rewrites.RelaxationKind.TheVariants as kinds
 use Rattle.linker_rewriting.specs.Decisions.{decision_at}
 use Rattle.linker_rewriting.specs.declared.decisions.Decision.TheVariants.{Rewritten}
@@ -147,6 +148,28 @@ module _ (laws : Laws) (l : Linked) (rewriting : AreRewritten l) (i : ℕ) (chos
         (becomes l rewriting i chosen below decided kinds.CallToAddi4096 by.kind_is (rewrites_call 0x38631000) refl refl) called)),
   )
 
+-- ---- calls of prefixed code
+
+module _ (laws : Laws) (l : Linked) (rewriting : AreRewritten l) (i : ℕ) (chosen : Choice Relaxation ℕ)
+    (below : i < count l) (decided : decision_at l.decisions i ≡ Rewritten chosen) where
+  to_nop : {conditions : Conditions} → IsOfEntry (entry kinds.BranchToNop names.R_PPC64_NONE conditions) l.section (offset_of l i) chosen
+      → GoesAt (offset_of l i) l i (BranchToNopIsAlike l i)
+  to_nop by = (
+    word_after l rewriting i chosen below decided kinds.BranchToNop by.kind_is names.R_PPC64_NONE by.code_is (λ _. nop) refl,
+    λ left f s t number call changes c bl agree called.
+        laws.branch_nop f call changes c number s t bl (final l i) agree
+        (becomes_left l rewriting i chosen below decided kinds.BranchToNop by.kind_is (λ _. nop) refl left) called,
+  )
+
+  branch_to_sum : IsOfEntry (entry kinds.BranchToAdd names.R_PPC64_NONE called_to_initial_exec) l.section (offset_of l i) chosen
+      → GoesAt (offset_of l i) l i ((o : Operands) → BranchToSumIsAlike l i o)
+  branch_to_sum by = (
+    word_after l rewriting i chosen below decided kinds.BranchToAdd by.kind_is names.R_PPC64_NONE by.code_is (λ _. 0x7c636a14) refl,
+    λ left o f s t thread call changes c bl agree called.
+        laws.branch_sum f call changes c o s t bl (final l i) agree
+        (becomes_left l rewriting i chosen below decided kinds.BranchToAdd by.kind_is (λ _. 0x7c636a14) refl left) thread called,
+  )
+
 high_anywhere : Laws → EachAnywhere names.R_PPC64_GOT_TLSGD16_HA GeneralHighAnywhere
 high_anywhere laws l rewriting ppc64 i chosen below is_name decided =
     elim (of_one l rewriting ppc64 i chosen below decided names.R_PPC64_GOT_TLSGD16_HA tt is_name) [
@@ -166,8 +189,20 @@ argument_anywhere laws l rewriting ppc64 i chosen below is_name decided =
 call_anywhere : Laws → EachAnywhere names.R_PPC64_TLSGD GeneralCallAnywhere
 call_anywhere laws l rewriting ppc64 i chosen below is_name decided =
     elim (of_one l rewriting ppc64 i chosen below decided names.R_PPC64_TLSGD tt is_name) [
-      | inl by ↦ inl (by.kind_is, to_low_half laws l rewriting i chosen below decided by)
-      | inr (inl by) ↦ inr (by.kind_is, to_sum laws l rewriting i chosen below decided by)
+      | inl by ↦ inl (by.kind_is, to_nop laws l rewriting i chosen below decided by)
+      | inr (inl by) ↦ inr (inl (by.kind_is, branch_to_sum laws l rewriting i chosen below decided by))
+      | inr (inr (inl by)) ↦
+          inr (inr (inl (by.kind_is, to_low_half laws l rewriting i chosen below decided by)))
+      | inr (inr (inr (inl by))) ↦
+          inr (inr (inr (by.kind_is, to_sum laws l rewriting i chosen below decided by)))
+      | inr (inr (inr (inr nothing))) ↦ absurd nothing
+    ]
+
+module_call_anywhere : Laws → EachAnywhere names.R_PPC64_TLSLD ModuleCallAnywhere
+module_call_anywhere laws l rewriting ppc64 i chosen below is_name decided =
+    elim (of_one l rewriting ppc64 i chosen below decided names.R_PPC64_TLSLD tt is_name) [
+      | inl by ↦ inl (by.kind_is, to_nop laws l rewriting i chosen below decided by)
+      | inr (inl by) ↦ inr (by.kind_is, to_block laws l rewriting i chosen below decided by)
       | inr (inr nothing) ↦ absurd nothing
     ]
 
@@ -184,10 +219,7 @@ local_dynamic_anywhere laws = (
       thread_argument laws l rewriting i chosen below decided
       (of_entry l rewriting ppc64 i chosen below decided names.R_PPC64_GOT_TLSLD16_LO tt is_name
       (entry kinds.AddiToAddisThread names.R_PPC64_NONE to_module) refl),
-  λ l rewriting ppc64 i chosen below is_name decided.
-      to_block laws l rewriting i chosen below decided
-      (of_entry l rewriting ppc64 i chosen below decided names.R_PPC64_TLSLD tt is_name
-      (entry kinds.CallToAddi4096 names.R_PPC64_NONE to_module) refl),
+  module_call_anywhere laws,
 )
 
 -- ---- calls in the final bytes
@@ -227,19 +259,26 @@ module _ (l : Linked) (linked : IsLinked l) (ppc64 : l.setting.architecture ≡ 
         left_alone l linked ppc64 i below after mark refl (offset_of l i + 4) (left_within l i (offset_of l i) 8 (offset_of l i + 4) 4 (omega arith) (omega arith) left) behind alone_behind,
       )
 
+  -- a call of prefixed code is alone
+  pub branch_left : relocation_in l.relocations_after i ≡ named_as names.R_PPC64_NONE (relocation_in l.relocations i)
+      → offset_of l i + 4 ≤ length l.section → IsLeftAlone l i (offset_of l i) 4
+      → IsWrittenByNoOther l i (offset_of l i) → IsLeft l (offset_of l i)
+  branch_left gone inside left alone =
+      left_alone l linked ppc64 i below (named_as names.R_PPC64_NONE (relocation_in l.relocations i)) gone refl (offset_of l i) left inside alone
+
   -- the entry of the offset is there, which the formula of a relocation has
-  pub with_thread_entry : (name : Ppc64Relocation) (a : IsAfter 4 name)
+  pub with_thread_entry : (n : ℕ) (name : Ppc64Relocation) (a : IsAfter n name)
       → relocation_in l.relocations_after i ≡ named_as name (relocation_in l.relocations i)
-      → IsLeftAlone l i (offset_of l i) 4 → (symbol : Symbol) → slice_get l.symbols (relocation_in l.relocations i).symbol ≡ Some symbol
+      → IsLeftAlone l i (offset_of l i) n → (symbol : Symbol) → slice_get l.symbols (relocation_in l.relocations i).symbol ≡ Some symbol
       → entry_of a.row (relocation_in l.relocations i).addend symbol.is_thread_local
       ≡ Some (record { class = ThreadOffset; addend = (relocation_in l.relocations i).addend })
       → operands_by Ppc64 l.addresses a.row (named_as name (relocation_in l.relocations i)) symbol
       (entry_address l.addresses symbol (entry_of a.row (relocation_in l.relocations i).addend symbol.is_thread_local))
       ≡ Ok (operands_with Ppc64 l.addresses a.row symbol (named_as name (relocation_in l.relocations i)) symbol.thread_entry)
-  with_thread_entry name a is_after left symbol is_symbol is_entry =
+  with_thread_entry n name a is_after left symbol is_symbol is_entry =
       let r = relocation_in l.relocations i in
       let there : is_there l.addresses symbol (record { class = ThreadOffset; addend = r.addend }) ≡ true =
-      entry_there l linked ppc64 i below 4 name a (named_as name r) is_after refl left symbol is_symbol
+      entry_there l linked ppc64 i below n name a (named_as name r) is_after refl left symbol is_symbol
       (record { class = ThreadOffset; addend = r.addend }) is_entry in
       ap (λ e. operands_by Ppc64 l.addresses a.row (named_as name r) symbol (entry_address l.addresses symbol e)) is_entry
       ∙ ap (λ b. operands_by Ppc64 l.addresses a.row (named_as name r) symbol (cond b (Some symbol.thread_entry) None)) there
@@ -262,7 +301,7 @@ high laws l linked ppc64 i chosen below is_name decided left symbol got is_symbo
           inr (
             by.kind_is,
             in_final l linked ppc64 i below names.R_PPC64_GOT_TPREL16_HA entry_high_after (EntryIsAlike l i) its left symbol is_symbol symbol.thread_entry
-                (with_thread_entry l linked ppc64 i below names.R_PPC64_GOT_TPREL16_HA entry_high_after (its.0) left symbol is_symbol refl) w small refl,
+                (with_thread_entry l linked ppc64 i below 4 names.R_PPC64_GOT_TPREL16_HA entry_high_after (its.0) left symbol is_symbol refl) w small refl,
           )
       | inr (inr nothing) ↦ absurd nothing
     ]
@@ -281,27 +320,49 @@ argument laws l linked ppc64 i chosen below is_name decided left symbol got is_s
           inr (
             its.0,
             in_final l linked ppc64 i below names.R_PPC64_GOT_TPREL16_LO_DS entry_low_after (LoadedArgumentIsAlike l i) (its.1) left symbol is_symbol symbol.thread_entry
-                (with_thread_entry l linked ppc64 i below names.R_PPC64_GOT_TPREL16_LO_DS entry_low_after (its.1.0) left symbol is_symbol refl) w small refl,
+                (with_thread_entry l linked ppc64 i below 4 names.R_PPC64_GOT_TPREL16_LO_DS entry_low_after (its.1.0) left symbol is_symbol refl) w small refl,
           )
     ]
 
-call : Laws → EachRewritten 8 names.R_PPC64_TLSGD (λ l i chosen.
+call : Laws → EachChosen names.R_PPC64_TLSGD (λ l i chosen.
     ForOperands names.R_PPC64_TPREL16_HA l i (λ symbol. GeneralCallIsAlike l i chosen))
-call laws l linked ppc64 i chosen below is_name decided left symbol got is_symbol small =
+call laws l linked ppc64 i chosen below is_name decided symbol got is_symbol small =
     let w = operands_with Ppc64 l.addresses thread_high_after.row symbol (relocation_in l.relocations i) got in
     let rewriting = are_rewritten l linked in
     elim (of_one l rewriting ppc64 i chosen below decided names.R_PPC64_TLSGD tt is_name) [
       | inl by ↦
-          let its = to_low_half laws l rewriting i chosen below decided by in
-          inl (
-            by.kind_is,
-            λ alone. its.1 w (call_applied l linked ppc64 i below (its.0) (by.meant.0) symbol is_symbol w refl left alone),
-          )
+          let its = to_nop laws l rewriting i chosen below decided by in
+          inl (by.kind_is, λ left alone. its.1 (branch_left l linked ppc64 i below (its.0) (by.meant.0) left alone))
       | inr (inl by) ↦
+          let its = branch_to_sum laws l rewriting i chosen below decided by in
+          inr (inl (by.kind_is, λ left alone. its.1 (branch_left l linked ppc64 i below (its.0) (by.meant.0) left alone) w))
+      | inr (inr (inl by)) ↦
+          let its = to_low_half laws l rewriting i chosen below decided by in
+          inr (inr (inl (
+            by.kind_is,
+            λ left alone. its.1 w (call_applied l linked ppc64 i below (its.0) (by.meant.0) symbol is_symbol w refl left alone),
+          )))
+      | inr (inr (inr (inl by))) ↦
           let its = to_sum laws l rewriting i chosen below decided by in
+          inr (inr (inr (
+            by.kind_is,
+            λ left alone alone_behind. its.1 (call_left l linked ppc64 i below (its.0) (by.meant.0) (by.meant.1.0) left alone alone_behind) w,
+          )))
+      | inr (inr (inr (inr nothing))) ↦ absurd nothing
+    ]
+
+module_call : Laws → EachChosen names.R_PPC64_TLSLD ModuleCallIsAlike
+module_call laws l linked ppc64 i chosen below is_name decided =
+    let rewriting = are_rewritten l linked in
+    elim (of_one l rewriting ppc64 i chosen below decided names.R_PPC64_TLSLD tt is_name) [
+      | inl by ↦
+          let its = to_nop laws l rewriting i chosen below decided by in
+          inl (by.kind_is, λ left alone. its.1 (branch_left l linked ppc64 i below (its.0) (by.meant.0) left alone))
+      | inr (inl by) ↦
+          let its = to_block laws l rewriting i chosen below decided by in
           inr (
             by.kind_is,
-            λ alone alone_behind. its.1 (call_left l linked ppc64 i below (its.0) (by.meant.0) (by.meant.1.0) left alone alone_behind) w,
+            λ left alone alone_behind. its.1 (call_left l linked ppc64 i below (its.0) (by.meant.0) (by.meant.1.0) left alone alone_behind),
           )
       | inr (inr nothing) ↦ absurd nothing
     ]
@@ -323,10 +384,5 @@ local_dynamic laws = (
       (entry kinds.AddiToAddisThread names.R_PPC64_NONE to_module) refl in
       gone_in_final l linked ppc64 i below (ThreadArgumentIsAlike l i) (thread_argument laws l rewriting i chosen below decided by) left (by.meant.0) alone
       (operands_with Ppc64 l.addresses (high_adjusted_row TlsLdGotBase) symbol (relocation_in l.relocations i) got) small,
-  λ l linked ppc64 i chosen below is_name decided left alone alone_behind.
-      let rewriting = are_rewritten l linked in
-      let by = of_entry l rewriting ppc64 i chosen below decided names.R_PPC64_TLSLD tt is_name
-      (entry kinds.CallToAddi4096 names.R_PPC64_NONE to_module) refl in
-      let its = to_block laws l rewriting i chosen below decided by in
-      its.1 (call_left l linked ppc64 i below (its.0) (by.meant.0) (by.meant.1.0) left alone alone_behind),
+  module_call laws,
 )

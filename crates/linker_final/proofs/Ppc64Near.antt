@@ -40,19 +40,36 @@ to_local : (section : List ℕ) (o : ℕ) (chosen : Choice Relaxation ℕ)
     → chosen.kind ≡ relaxations.Ppc64 kinds.CallToAddi
     → IsOfOne (ppc64_entries names.R_PPC64_TLSGD) section o chosen
     → IsOfEntry (entry kinds.CallToAddi names.R_PPC64_TPREL16_LO to_local_exec) section o chosen
-to_local section o chosen kind (inl by) = by
+to_local section o chosen kind (inl by) =
+    absurd (let e : kinds.CallToAddi ≡ kinds.BranchToNop = same_kind chosen.kind kinds.CallToAddi kinds.BranchToNop kind by.kind_is in cc)
 to_local section o chosen kind (inr (inl by)) =
+    absurd (let e : kinds.CallToAddi ≡ kinds.BranchToAdd = same_kind chosen.kind kinds.CallToAddi kinds.BranchToAdd kind by.kind_is in cc)
+to_local section o chosen kind (inr (inr (inl by))) = by
+to_local section o chosen kind (inr (inr (inr (inl by)))) =
     absurd (let e : kinds.CallToAddi ≡ kinds.CallToAdd = same_kind chosen.kind kinds.CallToAddi kinds.CallToAdd kind by.kind_is in cc)
-to_local section o chosen kind (inr (inr nothing)) = absurd nothing
+to_local section o chosen kind (inr (inr (inr (inr nothing)))) = absurd nothing
 
 to_initial : (section : List ℕ) (o : ℕ) (chosen : Choice Relaxation ℕ)
     → chosen.kind ≡ relaxations.Ppc64 kinds.CallToAdd
     → IsOfOne (ppc64_entries names.R_PPC64_TLSGD) section o chosen
     → IsOfEntry (entry kinds.CallToAdd names.R_PPC64_NONE to_initial_exec) section o chosen
-to_initial section o chosen kind (inr (inl by)) = by
 to_initial section o chosen kind (inl by) =
+    absurd (let e : kinds.CallToAdd ≡ kinds.BranchToNop = same_kind chosen.kind kinds.CallToAdd kinds.BranchToNop kind by.kind_is in cc)
+to_initial section o chosen kind (inr (inl by)) =
+    absurd (let e : kinds.CallToAdd ≡ kinds.BranchToAdd = same_kind chosen.kind kinds.CallToAdd kinds.BranchToAdd kind by.kind_is in cc)
+to_initial section o chosen kind (inr (inr (inl by))) =
     absurd (let e : kinds.CallToAdd ≡ kinds.CallToAddi = same_kind chosen.kind kinds.CallToAdd kinds.CallToAddi kind by.kind_is in cc)
-to_initial section o chosen kind (inr (inr nothing)) = absurd nothing
+to_initial section o chosen kind (inr (inr (inr (inl by)))) = by
+to_initial section o chosen kind (inr (inr (inr (inr nothing)))) = absurd nothing
+
+to_block : (section : List ℕ) (o : ℕ) (chosen : Choice Relaxation ℕ)
+    → chosen.kind ≡ relaxations.Ppc64 kinds.CallToAddi4096
+    → IsOfOne (ppc64_entries names.R_PPC64_TLSLD) section o chosen
+    → IsOfEntry (entry kinds.CallToAddi4096 names.R_PPC64_NONE to_module) section o chosen
+to_block section o chosen kind (inl by) =
+    absurd (let e : kinds.CallToAddi4096 ≡ kinds.BranchToNop = same_kind chosen.kind kinds.CallToAddi4096 kinds.BranchToNop kind by.kind_is in cc)
+to_block section o chosen kind (inr (inl by)) = by
+to_block section o chosen kind (inr (inr nothing)) = absurd nothing
 
 -- ---- what calls become
 
@@ -198,7 +215,7 @@ general laws l linked ppc64 i chosen below is_name decided left symbol got is_sy
                   let second = to_initial l.section (offset_of l j) call.chosen call.kind_is
                   (of_one l rewriting ppc64 j call.chosen call.below call.decided names.R_PPC64_TLSGD tt call.is_name) in
                   in_final l linked ppc64 i below names.R_PPC64_GOT_TPREL16_DS near_entry_after _ (its.1) left symbol is_symbol symbol.thread_entry
-                  (with_thread_entry l linked ppc64 i below names.R_PPC64_GOT_TPREL16_DS near_entry_after (its.1.0) left symbol is_symbol refl) w small refl
+                  (with_thread_entry l linked ppc64 i below 4 names.R_PPC64_GOT_TPREL16_DS near_entry_after (its.1.0) left symbol is_symbol refl) w small refl
                   j call
                   (call_left l linked ppc64 j call.below
                   (after_is l rewriting j call.chosen call.below call.decided kinds.CallToAdd call.kind_is names.R_PPC64_NONE second.code_is)
@@ -218,8 +235,8 @@ local laws l linked ppc64 i chosen below is_name decided left symbol got is_symb
     (entry kinds.AddiToAddisThread names.R_PPC64_NONE to_module) refl in (
       module_entry laws l rewriting ppc64 i chosen below is_name decided _ small,
       λ j call call_is_left alone call_alone behind.
-          let second = of_entry l rewriting ppc64 j call.chosen call.below call.decided names.R_PPC64_TLSLD tt call.is_name
-          (entry kinds.CallToAddi4096 names.R_PPC64_NONE to_module) refl in
+          let second = to_block l.section (offset_of l j) call.chosen call.kind_is
+          (of_one l rewriting ppc64 j call.chosen call.below call.decided names.R_PPC64_TLSLD tt call.is_name) in
           gone_in_final l linked ppc64 i below _ (to_module_anywhere laws l rewriting i chosen below decided by) left (by.meant.0) alone _ small j call
           (call_left l linked ppc64 j call.below
           (after_is l rewriting j call.chosen call.below call.decided kinds.CallToAddi4096 call.kind_is names.R_PPC64_NONE second.code_is)

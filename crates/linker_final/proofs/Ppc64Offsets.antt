@@ -1,5 +1,5 @@
 -- Instructions of initial-exec of PowerPC64 do after a rewrite what the object's do, and in the final bytes.
-use Rattle.std.proofs.Common.{◌≡◌, ℕ, ◌+◌, ◌<◌, refl, inl, inr, Some, not, ◌&&◌, eqb, Bool}
+use Rattle.std.proofs.Common.{◌≡◌, ℕ, ◌+◌, ◌<◌, ◌≤◌, length, refl, sym, subst, inl, inr, Some, not, ◌&&◌, eqb, Bool}
 use Rattle.std.proofs.lemmas.Bool.{and_parts}
 use Rattle.std.specs.Prelude.{IsTrue}
 use Rattle.linker_elf.specs.Choices.{entry}
@@ -12,15 +12,17 @@ use Rattle.linker_elf.specs.declared.ppc64.relocations.Ppc64Relocation.{Ppc64Rel
 use Rattle.linker_elf.specs.declared.ppc64.relocations.Ppc64Relocation.TheVariants as names
 use Rattle.linker_final.proofs.Ppc64Chosen.{IsOfEntry, of_entry, of_one}
 use Rattle.linker_final.proofs.Ppc64Halves.{nop_goes}
-use Rattle.linker_final.proofs.Ppc64Written.{applied_so, becomes, gone_in_final, in_final, test_there, thread_high_after, thread_low_after, thread_low_words_after, word_after}
+use Rattle.linker_final.proofs.Ppc64Written.{after_is, applied_so, becomes, becomes_marked, gone_in_final, in_final, left_alone, test_at, test_there, thread_high_after, thread_low_after, thread_low_words_after, word_after}
 use Rattle.linker_final.proofs.Written.{are_rewritten}
-use Rattle.linker_final.specs.Final.{AreRewritten, Linked, count, instruction_at}
-use Rattle.linker_final.specs.Ppc64Anywhere.{Becomes, EachAnywhere, Goes, InitialExecAnywhere, VariableAnywhere}
-use Rattle.linker_final.specs.Ppc64Final.{HighIsAlike, InitialExec, NearOffsetIsAlike, OffsetIsAlike, OverOffsetIsAlike, final, object, offset_of}
+use Rattle.linker_final.specs.Final.{AreRewritten, IsLinked, Linked, count, instruction_at}
+use Rattle.linker_final.specs.Ppc64Anywhere.{Becomes, EachAnywhere, Goes, GoesAt, InitialExecAnywhere, IsLeft, VariableAnywhere, named_as}
+use Rattle.linker_final.specs.Ppc64Final.{HighIsAlike, InitialExec, MarkedIsAlike, NearOffsetIsAlike, OffsetIsAlike, OverOffsetIsAlike, final, object, offset_of}
+use Rattle.linker_final.specs.Ppc64PrefixedFinal.{OverVariableIsAlike, marked_final, marked_object, marked_offset}
 use Rattle.linker_laws.specs.Ppc64Machine.{access_with, word_access_with}
-use Rattle.linker_laws.specs.Ppc64RewriteLaws.{IsRelocated, Laws, Leads, OverOffset, Use, accesses, adds, at_place, entry_from_toc, with_entry, word_of}
+use Rattle.linker_laws.specs.Ppc64RewriteLaws.{OverVariable, indexed_access}
+use Rattle.linker_laws.specs.Ppc64RewriteLaws.{IsRelocated, IsRewritten, Laws, Leads, OverOffset, Use, accesses, adds, at_place, entry_from_toc, with_entry, word_of}
 use Rattle.linker_laws.specs.Schemes.{AreAddresses}
-use Rattle.linker_ppc64.specs.Ppc64Rewrites.{HasTest, access_of, addis_of_thread, by_displacement, by_word_displacement, is_add_of_thread, is_indexed, is_indexed_word, is_ld, ppc64_rewrite, registers_of, rewrites_word, rt_of, to_local_exec, to_local_exec_words}
+use Rattle.linker_ppc64.specs.Ppc64Rewrites.{HasTest, access_of, addis_of_thread, by_displacement, by_word_displacement, direct, is_add_of_thread, is_indexed, is_indexed_any, is_indexed_word, is_ld, ppc64_rewrite, registers_of, rewrites_marked, rewrites_word, rt_of, to_local_exec, to_local_exec_words, to_move, to_prefixed_local_exec}
 use Rattle.linker_ppc64.specs.declared.rewrites.RelaxationKind.{RelaxationKind}
 use Rattle.linker_ppc64.specs.declared.rewrites.RelaxationKind.TheVariants as kinds
 use Rattle.linker_rewriting.specs.Decisions.{decision_at}
@@ -120,6 +122,34 @@ module _ (laws : Laws) (l : Linked) (rewriting : AreRewritten l) (i : ℕ) (chos
         (applied_so 4 names.R_PPC64_TPREL16_LO_DS thread_low_words_after (at_place (applied.0) (with_entry e o)) o (instruction_at l.rewritten (offset_of l i)) (final l i) refl (applied.1)),
   )
 
+-- ---- variables of prefixed code
+
+module _ (laws : Laws) (l : Linked) (rewriting : AreRewritten l) (i : ℕ) (chosen : Choice Relaxation ℕ)
+    (below : i < count l) (decided : decision_at l.decisions i ≡ Rewritten chosen) where
+  over_variable : (kind : RelaxationKind) → chosen.kind ≡ relaxations.Ppc64 kind
+      → (does : Use) → OverVariable kind does → (new : ℕ → ℕ)
+      → ppc64_rewrite kind ≡ Some (rewrites_marked new) → HasTest does.test l.section (marked_offset l i)
+      → IsLeft l (marked_offset l i) → (o : Operands) → OverVariableIsAlike does l i o
+  over_variable kind kind_is does law new is meant left o f s t c agree has requires =
+      law f o s t c (marked_object l i) (marked_final l i) agree (test_at l (marked_offset l i) does.test meant)
+      (subst (IsRewritten kind (marked_object l i)) (sym left)
+      (becomes_marked l rewriting i chosen below decided kind kind_is new is))
+      has requires
+
+  moved_there : IsOfEntry (entry kinds.AddToMove names.R_PPC64_NONE to_prefixed_local_exec) l.section (offset_of l i) chosen
+      → GoesAt (marked_offset l i) l i ((o : Operands) → OverVariableIsAlike (adds is_add_of_thread) l i o)
+  moved_there by = (
+    after_is l rewriting i chosen below decided kinds.AddToMove by.kind_is names.R_PPC64_NONE by.code_is,
+    over_variable kinds.AddToMove by.kind_is (adds is_add_of_thread) (laws.sum_variable.0) to_move refl (by.meant.1),
+  )
+
+  accessed_there : IsOfEntry (entry kinds.IndexedToDirect names.R_PPC64_NONE to_prefixed_local_exec) l.section (offset_of l i) chosen
+      → GoesAt (marked_offset l i) l i ((o : Operands) → OverVariableIsAlike (accesses is_indexed_any indexed_access) l i o)
+  accessed_there by = (
+    after_is l rewriting i chosen below decided kinds.IndexedToDirect by.kind_is names.R_PPC64_NONE by.code_is,
+    over_variable kinds.IndexedToDirect by.kind_is (accesses is_indexed_any indexed_access) (laws.sum_variable.1) direct refl (by.meant.1),
+  )
+
 -- ---- anywhere
 
 offset_anywhere : Laws → EachAnywhere names.R_PPC64_GOT_TPREL16_LO_DS (λ l i chosen.
@@ -142,8 +172,12 @@ variable_anywhere laws l rewriting ppc64 i chosen below is_name decided =
       | inl by ↦ inl (by.kind_is, added laws l rewriting i chosen below decided by)
       | inr (inl by) ↦ inr (inl (by.kind_is, accessed laws l rewriting i chosen below decided by))
       | inr (inr (inl by)) ↦
-          inr (inr (by.kind_is, accessed_words laws l rewriting i chosen below decided by))
-      | inr (inr (inr nothing)) ↦ absurd nothing
+          inr (inr (inl (by.kind_is, accessed_words laws l rewriting i chosen below decided by)))
+      | inr (inr (inr (inl by))) ↦
+          inr (inr (inr (inl (by.kind_is, moved_there laws l rewriting i chosen below decided by))))
+      | inr (inr (inr (inr (inl by)))) ↦
+          inr (inr (inr (inr (by.kind_is, accessed_there laws l rewriting i chosen below decided by))))
+      | inr (inr (inr (inr (inr nothing)))) ↦ absurd nothing
     ]
 
 pub initial_exec_anywhere : Laws → InitialExecAnywhere
@@ -158,6 +192,16 @@ initial_exec_anywhere laws = (
 )
 
 -- ---- in the final bytes
+
+-- an instruction that begins before its mark, whose relocation goes
+marked_in_final : (l : Linked) (linked : IsLinked l) (ppc64 : l.setting.architecture ≡ Ppc64) (i : ℕ)
+    (below : i < count l) (does : Use)
+    → GoesAt (marked_offset l i) l i ((o : Operands) → OverVariableIsAlike does l i o)
+    → marked_offset l i + 4 ≤ length l.section → (o : Operands) → MarkedIsAlike does l i o
+marked_in_final l linked ppc64 i below does its inside o left alone =
+    its.1
+    (left_alone l linked ppc64 i below (named_as names.R_PPC64_NONE (relocation_in l.relocations i)) (its.0) refl (marked_offset l i) left inside alone)
+    o
 
 pub initial_exec : Laws → InitialExec
 initial_exec laws = (
@@ -175,14 +219,26 @@ initial_exec laws = (
       in_final l linked ppc64 i below names.R_PPC64_TPREL16_HA thread_high_after _
       (near_offset_anywhere laws l (are_rewritten l linked) ppc64 i chosen below is_name decided) left symbol is_symbol 0 refl
       (operands_with Ppc64 l.addresses (high_adjusted_row TpOff) symbol (relocation_in l.relocations i) got) small refl,
-  λ l linked ppc64 i chosen below is_name decided left symbol got is_symbol small.
+  λ l linked ppc64 i chosen below is_name decided symbol got is_symbol small.
       let w = operands_with Ppc64 l.addresses (high_adjusted_row TpOff) symbol (relocation_in l.relocations i) got in
-      elim (variable_anywhere laws l (are_rewritten l linked) ppc64 i chosen below is_name decided) [
-        | inl its ↦
-            inl (its.0, in_final l linked ppc64 i below names.R_PPC64_TPREL16_LO thread_low_after _ (its.1) left symbol is_symbol 0 refl w small refl)
-        | inr (inl its) ↦
-            inr (inl (its.0, in_final l linked ppc64 i below names.R_PPC64_TPREL16_LO thread_low_after _ (its.1) left symbol is_symbol 0 refl w small refl))
-        | inr (inr its) ↦
-            inr (inr (its.0, in_final l linked ppc64 i below names.R_PPC64_TPREL16_LO_DS thread_low_words_after _ (its.1) left symbol is_symbol 0 refl w small refl))
+      let rewriting = are_rewritten l linked in
+      elim (of_one l rewriting ppc64 i chosen below decided names.R_PPC64_TLS tt is_name) [
+        | inl by ↦
+            inl (by.kind_is, λ left. in_final l linked ppc64 i below names.R_PPC64_TPREL16_LO thread_low_after _ (added laws l rewriting i chosen below decided by) left symbol is_symbol 0 refl w small refl)
+        | inr (inl by) ↦
+            inr (inl (by.kind_is, λ left. in_final l linked ppc64 i below names.R_PPC64_TPREL16_LO thread_low_after _ (accessed laws l rewriting i chosen below decided by) left symbol is_symbol 0 refl w small refl))
+        | inr (inr (inl by)) ↦
+            inr (inr (inl (by.kind_is, λ left. in_final l linked ppc64 i below names.R_PPC64_TPREL16_LO_DS thread_low_words_after _ (accessed_words laws l rewriting i chosen below decided by) left symbol is_symbol 0 refl w small refl)))
+        | inr (inr (inr (inl by))) ↦
+            inr (inr (inr (inl (
+              by.kind_is,
+              marked_in_final l linked ppc64 i below (adds is_add_of_thread) (moved_there laws l rewriting i chosen below decided by) (by.meant.1.0) w,
+            ))))
+        | inr (inr (inr (inr (inl by)))) ↦
+            inr (inr (inr (inr (
+              by.kind_is,
+              marked_in_final l linked ppc64 i below (accesses is_indexed_any indexed_access) (accessed_there laws l rewriting i chosen below decided by) (by.meant.1.0) w,
+            ))))
+        | inr (inr (inr (inr (inr nothing)))) ↦ absurd nothing
       ],
 )

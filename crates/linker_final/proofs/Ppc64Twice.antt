@@ -413,7 +413,9 @@ module _ (laws : Laws) (l m : Linked) (i : ℕ) (twice : IsRewrittenTwice 4 name
         )
         | inr (inl by) ↦ absurd (isnt kinds.AddToAddi kinds.IndexedToD kind by.kind_is (λ e. cc))
         | inr (inr (inl by)) ↦ absurd (isnt kinds.AddToAddi kinds.IndexedToDs kind by.kind_is (λ e. cc))
-        | inr (inr (inr nothing)) ↦ absurd nothing
+        | inr (inr (inr (inl by))) ↦ absurd (isnt kinds.AddToAddi kinds.AddToMove kind by.kind_is (λ e. cc))
+        | inr (inr (inr (inr (inl by)))) ↦ absurd (isnt kinds.AddToAddi kinds.IndexedToDirect kind by.kind_is (λ e. cc))
+        | inr (inr (inr (inr (inr nothing)))) ↦ absurd nothing
       ]
 
   accessed : twice.chosen.kind ≡ relaxations.Ppc64 kinds.IndexedToD
@@ -427,7 +429,9 @@ module _ (laws : Laws) (l m : Linked) (i : ℕ) (twice : IsRewrittenTwice 4 name
           test_there l i is_indexed (by.meant.1),
         )
         | inr (inr (inl by)) ↦ absurd (isnt kinds.IndexedToD kinds.IndexedToDs kind by.kind_is (λ e. cc))
-        | inr (inr (inr nothing)) ↦ absurd nothing
+        | inr (inr (inr (inl by))) ↦ absurd (isnt kinds.IndexedToD kinds.AddToMove kind by.kind_is (λ e. cc))
+        | inr (inr (inr (inr (inl by)))) ↦ absurd (isnt kinds.IndexedToD kinds.IndexedToDirect kind by.kind_is (λ e. cc))
+        | inr (inr (inr (inr (inr nothing)))) ↦ absurd nothing
       ]
 
   words_accessed : twice.chosen.kind ≡ relaxations.Ppc64 kinds.IndexedToDs
@@ -441,7 +445,9 @@ module _ (laws : Laws) (l m : Linked) (i : ℕ) (twice : IsRewrittenTwice 4 name
           accessed_words laws l twice.calls.first i twice.chosen twice.below twice.decided by,
           test_there l i is_indexed_word (by.meant.1),
         )
-        | inr (inr (inr nothing)) ↦ absurd nothing
+        | inr (inr (inr (inl by))) ↦ absurd (isnt kinds.IndexedToDs kinds.AddToMove kind by.kind_is (λ e. cc))
+        | inr (inr (inr (inr (inl by)))) ↦ absurd (isnt kinds.IndexedToDs kinds.IndexedToDirect kind by.kind_is (λ e. cc))
+        | inr (inr (inr (inr (inr nothing)))) ↦ absurd nothing
       ]
 
   -- what the second makes of a low half

@@ -1,5 +1,6 @@
 -- Instructions of PowerPC64 and their relocations in the final bytes of a section.
-use Rattle.std.proofs.Common.{true, ◌≡◌, ◌⊎◌, ℕ, ◌+◌, ◌<◌, ◌≤◌, List, length, take, drop, sym, ap, subst, ◌∙◌, refl, arith, Some, Ok, IsSomeAnd}
+use Rattle.std.proofs.Common.{true, ◌≡◌, ◌⊎◌, ℕ, ◌+◌, ◌-◌, ◌<◌, ◌≤◌, List, length, take, drop, sym, ap, subst, ◌∙◌, refl, arith, Some, Ok, IsSomeAnd}
+use Rattle.std.proofs.lemmas.List.{take-take}
 use Rattle.std.specs.Prelude.{IsTrue, slice_get}
 use Rattle.linker_base.specs.Rewrite.{Rewrite, addend_after, offset_after}
 use Rattle.linker_elf.specs.Applied.{IsApplied}
@@ -8,7 +9,7 @@ use Rattle.linker_elf.specs.Ppc64Relocations.{ppc64_name, ppc64_row, branch_row,
 use Rattle.linker_elf.specs.Rows.{bytes_row, signed_row}
 use Rattle.linker_elf.specs.Value.{value_of}
 use Rattle.linker_elf.specs.declared.elf.RelocationInstruction.TheVariants as insns
-use Rattle.linker_elf.specs.declared.elf.RelocationKind.TheVariants.{None as NoValue, GotTpOffGotBase, Relative, SymRelGotBase, TpOff}
+use Rattle.linker_elf.specs.declared.elf.RelocationKind.TheVariants.{None as NoValue, GotTpOff, GotTpOffGotBase, Relative, SymRelGotBase, TpOff}
 use Rattle.linker_elf.specs.declared.elf.RelocationKindInfo.{RelocationKindInfo}
 use Rattle.linker_elf.specs.declared.elf.choice.Choice.{Choice}
 use Rattle.linker_elf.specs.declared.elf.value.Operands.{Operands}
@@ -18,14 +19,16 @@ use Rattle.linker_elf.specs.declared.ppc64.relocations.Ppc64Relocation.TheVarian
 use Rattle.linker_final.proofs.InstructionFields.{IsOfInstruction}
 use Rattle.linker_final.proofs.Phases.{relocation_left}
 use Rattle.linker_final.proofs.Written.{IsRowOf, apart_with, applied_after, by_name, entry_is_there, made_there, rela, relocation_is, unwritten_but, unwritten_without, with_operands, word_same}
-use Rattle.linker_final.specs.Final.{IsLeftAlone, AreRewritten, Linked, IsLinked, IsWrittenByNoOther, count}
+use Rattle.linker_final.specs.Final.{IsLeftAlone, AreRewritten, Linked, IsLinked, IsWrittenByNoOther, count, instruction_at}
 use Rattle.linker_final.specs.Ppc64Anywhere.{Becomes, Goes, IsLeft, named_as}
 use Rattle.linker_final.specs.Ppc64Final.{final, object, offset_of}
+use Rattle.linker_final.specs.Ppc64PrefixedFinal.{marked_object, marked_offset}
 use Rattle.linker_laws.specs.Ppc64RewriteLaws.{IsRelocated, IsRewritten, at_place, with_entry, word_of}
 use Rattle.linker_laws.specs.Schemes.{AreAddresses}
-use Rattle.linker_ppc64.specs.Ppc64Rewrites.{HasTest, ppc64_rewrite, rewrites_word}
+use Rattle.linker_ppc64.specs.Ppc64Rewrites.{HasTest, ppc64_rewrite, rewrites_marked, rewrites_word}
 use Rattle.linker_ppc64.specs.declared.rewrites.RelaxationKind.{RelaxationKind}
 use Rattle.linker_rewriting.specs.Decisions.{decision_at}
+use Rattle.linker_rewriting.specs.Rewritten.{IsDone, IsMade}
 use Rattle.linker_rewriting.specs.declared.decisions.Decision.TheVariants.{Rewritten}
 use Rattle.linker_section.specs.Needed.{entry_of}
 use Rattle.linker_section.specs.Relocations.{relocation_in}
@@ -97,6 +100,25 @@ module _ (l : Linked) (rewriting : AreRewritten l) (i : ℕ) (chosen : Choice Re
       → IsLeft l (offset_of l i) → IsRewritten kind (object l i) (final l i)
   becomes_left new is left =
       subst (IsRewritten kind (object l i)) (sym left) (becomes (rewrites_word new) is refl)
+
+  -- of the instruction whose second byte is at the relocation
+  pub becomes_marked : (new : ℕ → ℕ) → ppc64_rewrite kind ≡ Some (rewrites_marked new)
+      → IsRewritten kind (marked_object l i) (instruction_at l.rewritten (marked_offset l i))
+  becomes_marked new is =
+      let o = r.offset in
+      let made = rewrites_marked new in
+      let done : IsMade (relaxation_rewrite chosen.kind) o l.section l.rewritten =
+      subst (λ d. IsDone d o l.section l.rewritten) decided (rewriting.done i below) in
+      let there : IsMade (Some made) o l.section l.rewritten =
+      subst (λ q. IsMade q o l.section l.rewritten) (ap relaxation_rewrite kind_is ∙ is) done in
+      subst (λ q. IsSomeAnd q (λ (m : Rewrite). take m.len (instruction_at l.rewritten (marked_offset l i)) ≡ m.bytes (take m.len (marked_object l i)))) (sym is)
+      (take-take 4 4 (drop (o - 1) l.rewritten) (omega arith)
+      ∙ (there ∙ ap made.bytes (sym (take-take 4 4 (drop (o - 1) l.section) (omega arith)))))
+
+-- what is in the instruction at an offset
+pub test_at : (l : Linked) (p : ℕ) (test : ℕ → _) → HasTest test l.section p
+    → IsTrue (test (word_of (instruction_at l.section p)))
+test_at l p test is = subst (λ w. IsTrue (test w)) (word_same l.section p) (is.1)
 
 -- what is in the instruction at a relocation
 pub test_there : (l : Linked) (i : ℕ) (test : ℕ → _) → HasTest test l.section (offset_of l i)
@@ -443,6 +465,42 @@ near_entry_after =
       of = record {
         bits = record { start = 0; end = 16 };
         insn = insns.Ppc64 Ds;
+        size = refl;
+        wide = refl;
+        valued = refl;
+        unlabelled = refl;
+        alone = refl;
+        some = λ o. tt;
+      };
+    }
+
+abbrev pub thread_prefixed_after : IsAfter 8 names.R_PPC64_TPREL34
+thread_prefixed_after =
+    record {
+      row = prefixed_row TpOff;
+      is = refl;
+      named = tt;
+      of = record {
+        bits = record { start = 0; end = 34 };
+        insn = insns.Ppc64 Prefixed;
+        size = refl;
+        wide = refl;
+        valued = refl;
+        unlabelled = refl;
+        alone = refl;
+        some = λ o. tt;
+      };
+    }
+
+abbrev pub entry_prefixed_after : IsAfter 8 names.R_PPC64_GOT_TPREL_PCREL34
+entry_prefixed_after =
+    record {
+      row = prefixed_row GotTpOff;
+      is = refl;
+      named = tt;
+      of = record {
+        bits = record { start = 0; end = 34 };
+        insn = insns.Ppc64 Prefixed;
         size = refl;
         wide = refl;
         valued = refl;

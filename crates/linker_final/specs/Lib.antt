@@ -10,6 +10,7 @@ pub mod LoongArchPacked
 pub mod Packed
 pub mod Ppc64Anywhere
 pub mod Ppc64Final
+pub mod Ppc64PrefixedFinal
 pub mod Ppc64Twice
 pub mod Relaxed
 pub mod RiscVFinal

@@ -20,13 +20,18 @@ use Rattle.linker_final.specs.Ppc64Final.{NopRestoresToc, OffsetIsAlike, OverBas
 use Rattle.linker_final.specs.Ppc64Final.{OverOffsetIsAlike, PrefixedIsAlike, SymbolIsAlike}
 use Rattle.linker_final.specs.Ppc64Final.{ThreadArgumentIsAlike, ThreadHighIsAlike, TocHighIsAlike}
 use Rattle.linker_final.specs.Ppc64Final.{VectorIsAlike, object, offset_of}
+use Rattle.linker_final.specs.Ppc64PrefixedFinal.{BlockArgumentIsAlike, BranchToNopIsAlike}
+use Rattle.linker_final.specs.Ppc64PrefixedFinal.{BranchToSumIsAlike, EntryArgumentIsAlike}
+use Rattle.linker_final.specs.Ppc64PrefixedFinal.{OverVariableIsAlike, PrefixedOffsetIsAlike}
+use Rattle.linker_final.specs.Ppc64PrefixedFinal.{VariableArgumentIsAlike, marked_offset}
 use Rattle.linker_laws.specs.Ppc64Machine.{access_with, word_access_with}
+use Rattle.linker_laws.specs.Ppc64RewriteLaws.{indexed_access}
 use Rattle.linker_laws.specs.Ppc64RewriteLaws.{IsRelocated, accesses, adds, at_place, ds_access}
 use Rattle.linker_laws.specs.Ppc64RewriteLaws.{from_thread, from_toc, is_d_over, is_ds_over_base}
 use Rattle.linker_laws.specs.Ppc64RewriteLaws.{with_entry}
 use Rattle.linker_laws.specs.Schemes.{AreAddresses}
 use Rattle.linker_ppc64.specs.Ppc64Rewrites.{access_of, is_add_of_thread, is_addi, is_indexed}
-use Rattle.linker_ppc64.specs.Ppc64Rewrites.{is_indexed_word}
+use Rattle.linker_ppc64.specs.Ppc64Rewrites.{is_indexed_any, is_indexed_word}
 use Rattle.linker_ppc64.specs.declared.rewrites.RelaxationKind.TheVariants as kinds
 use Rattle.linker_rewriting.specs.Decisions.{decision_at}
 use Rattle.linker_rewriting.specs.declared.decisions.Decision.TheVariants.{Rewritten}
@@ -64,12 +69,16 @@ Becomes name l i Holds =
     × ((o : Operands) (entry : ℕ) → AreAddresses o → IsAppliedAt name entry o l (offset_of l i)
     → Holds entry o)
 
--- The relocation goes. It holds where the rewritten instruction is left.
-abbrev pub Goes : Linked → ℕ → (Operands → Type 0) → Type 0
-Goes l i Holds =
+-- The relocation goes. It holds where the rewritten instruction at an offset is left.
+abbrev pub GoesAt : ℕ → Linked → ℕ → Type 0 → Type 0
+GoesAt at l i Holds =
     (relocation_in l.relocations_after i
     ≡ named_as names.R_PPC64_NONE (relocation_in l.relocations i))
-    × (IsLeft l (offset_of l i) → (o : Operands) → AreAddresses o → Holds o)
+    × (IsLeft l at → Holds)
+
+-- It holds of operands where that is the relocation's.
+abbrev pub Goes : Linked → ℕ → (Operands → Type 0) → Type 0
+Goes l i Holds = GoesAt (offset_of l i) l i ((o : Operands) → AreAddresses o → Holds o)
 
 -- each relocation of a name whose instruction is rewritten
 abbrev pub EachAnywhere : Ppc64Relocation → (Linked → ℕ → Choice Relaxation ℕ → Type 0) → Type 0
@@ -132,6 +141,10 @@ VariableAnywhere l i chosen =
     OverOffsetIsAlike (accesses is_indexed (λ word. access_with (access_of word))) l i))
     ⊎ By kinds.IndexedToDs chosen (Becomes names.R_PPC64_TPREL16_LO_DS l i (λ entry.
     OverOffsetIsAlike (accesses is_indexed_word (λ word. word_access_with (access_of word))) l i))
+    ⊎ By kinds.AddToMove chosen (GoesAt (marked_offset l i) l i ((o : Operands)
+    → OverVariableIsAlike (adds is_add_of_thread) l i o))
+    ⊎ By kinds.IndexedToDirect chosen (GoesAt (marked_offset l i) l i ((o : Operands)
+    → OverVariableIsAlike (accesses is_indexed_any indexed_access) l i o))
 
 abbrev pub InitialExecAnywhere : Type 0
 InitialExecAnywhere =
@@ -174,7 +187,10 @@ IsCallApplied o l i =
 
 abbrev pub GeneralCallAnywhere : Linked → ℕ → Choice Relaxation ℕ → Type 0
 GeneralCallAnywhere l i chosen =
-    By kinds.CallToAddi chosen (IsMarkAs names.R_PPC64_TPREL16_LO l i
+    By kinds.BranchToNop chosen (GoesAt (offset_of l i) l i (BranchToNopIsAlike l i))
+    ⊎ By kinds.BranchToAdd chosen (GoesAt (offset_of l i) l i ((o : Operands)
+    → BranchToSumIsAlike l i o))
+    ⊎ By kinds.CallToAddi chosen (IsMarkAs names.R_PPC64_TPREL16_LO l i
     × ((o : Operands) → IsCallApplied o l i → CallToLowHalfIsAlike l i o))
     ⊎ By kinds.CallToAdd chosen (IsMarkAs names.R_PPC64_NONE l i
     × (IsCallLeft l i → (o : Operands) → CallToSumIsAlike l i o))
@@ -185,13 +201,56 @@ GeneralDynamicAnywhere =
     × EachAnywhere names.R_PPC64_GOT_TLSGD16_LO GeneralArgumentAnywhere
     × EachAnywhere names.R_PPC64_TLSGD GeneralCallAnywhere
 
+abbrev pub ModuleCallAnywhere : Linked → ℕ → Choice Relaxation ℕ → Type 0
+ModuleCallAnywhere l i chosen =
+    By kinds.BranchToNop chosen (GoesAt (offset_of l i) l i (BranchToNopIsAlike l i))
+    ⊎ By kinds.CallToAddi4096 chosen (IsMarkAs names.R_PPC64_NONE l i
+    × (IsCallLeft l i → CallToBlockIsAlike l i))
+
 abbrev pub LocalDynamicAnywhere : Type 0
 LocalDynamicAnywhere =
     EachAnywhere names.R_PPC64_GOT_TLSLD16_HA (λ l i chosen. Goes l i (NoModuleIsAlike l i))
     × EachAnywhere names.R_PPC64_GOT_TLSLD16_LO (λ l i chosen.
     Goes l i (ThreadArgumentIsAlike l i))
-    × EachAnywhere names.R_PPC64_TLSLD (λ l i chosen. IsMarkAs names.R_PPC64_NONE l i
-    × (IsCallLeft l i → CallToBlockIsAlike l i))
+    × EachAnywhere names.R_PPC64_TLSLD ModuleCallAnywhere
+
+-- ---- prefixed instructions of thread-local sequences
+
+-- The relocation gets a name. It holds of an entry and of operands of the object's relocation where
+-- that is applied to the 8 bytes, at the same place, with the same S, A and thread pointer.
+abbrev pub BecomesPrefixed : Ppc64Relocation → Linked → ℕ → (ℕ → Operands → Type 0) → Type 0
+BecomesPrefixed name l i Holds =
+    AreBytes l.section
+    → (relocation_in l.relocations_after i ≡ named_as name (relocation_in l.relocations i))
+    × ((o : Operands) (entry : ℕ) → AreAddresses o
+    → IsRelocated name (with_entry entry o) (two_at l.rewritten (offset_of l i))
+    (two_at l.final (offset_of l i)) → Holds entry o)
+
+-- The relocation goes. It holds where the 8 bytes are left.
+abbrev pub PrefixedGoes : Linked → ℕ → (Operands → Type 0) → Type 0
+PrefixedGoes l i Holds =
+    AreBytes l.section
+    → (relocation_in l.relocations_after i
+    ≡ named_as names.R_PPC64_NONE (relocation_in l.relocations i))
+    × (two_at l.final (offset_of l i) ≡ two_at l.rewritten (offset_of l i)
+    → (o : Operands) → AreAddresses o → Holds o)
+
+-- for local-exec, and for initial-exec
+abbrev pub PrefixedArgumentAnywhere : Linked → ℕ → Choice Relaxation ℕ → Type 0
+PrefixedArgumentAnywhere l i chosen =
+    By kinds.PaddiToPaddiThread chosen (BecomesPrefixed names.R_PPC64_TPREL34 l i (λ entry.
+    VariableArgumentIsAlike l i))
+    ⊎ By kinds.PaddiToPld chosen (BecomesPrefixed names.R_PPC64_GOT_TPREL_PCREL34 l i
+    (EntryArgumentIsAlike l i))
+
+-- of every prefixed instruction of general-dynamic, local-dynamic and initial-exec
+abbrev pub PrefixedThreadsAnywhere : Type 0
+PrefixedThreadsAnywhere =
+    EachAnywhere names.R_PPC64_GOT_TLSGD_PCREL34 PrefixedArgumentAnywhere
+    × EachAnywhere names.R_PPC64_GOT_TLSLD_PCREL34 (λ l i chosen.
+    PrefixedGoes l i (BlockArgumentIsAlike l i))
+    × EachAnywhere names.R_PPC64_GOT_TPREL_PCREL34 (λ l i chosen.
+    BecomesPrefixed names.R_PPC64_TPREL34 l i (λ entry. PrefixedOffsetIsAlike l i))
 
 -- ---- arguments near the TOC pointer
 

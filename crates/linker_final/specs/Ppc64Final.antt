@@ -15,9 +15,14 @@ use Rattle.linker_elf.specs.declared.ppc64.relocations.Ppc64Relocation.{Ppc64Rel
 use Rattle.linker_elf.specs.declared.ppc64.relocations.Ppc64Relocation.TheVariants as names
 use Rattle.linker_final.specs.Final.{Linked, IsLinked, count, instruction_at, two_at}
 use Rattle.linker_final.specs.Final.{IsLeftAlone, IsRewrittenByNoOther, IsWrittenByNoOther}
+use Rattle.linker_final.specs.Ppc64PrefixedFinal.{BlockArgumentIsAlike, BranchToNopIsAlike}
+use Rattle.linker_final.specs.Ppc64PrefixedFinal.{BranchToSumIsAlike, EntryArgumentIsAlike}
+use Rattle.linker_final.specs.Ppc64PrefixedFinal.{OverVariableIsAlike, PrefixedOffsetIsAlike}
+use Rattle.linker_final.specs.Ppc64PrefixedFinal.{VariableArgumentIsAlike, marked_offset}
 use Rattle.linker_laws.specs.Machine.{loaded}
 use Rattle.linker_laws.specs.Ppc64Machine.{State, Formats, AreAlikeBut, step, step_prefixed, write}
 use Rattle.linker_laws.specs.Ppc64Machine.{access_with, go_on, word_access_with}
+use Rattle.linker_laws.specs.Ppc64RewriteLaws.{indexed_access}
 use Rattle.linker_laws.specs.Ppc64RewriteLaws.{AgreeBut, Changes, IsRelocated, Leads, LowHalfLeads}
 use Rattle.linker_laws.specs.Ppc64RewriteLaws.{StepSo, Use, accesses, adds, is_d_over, ds_access}
 use Rattle.linker_laws.specs.Ppc64RewriteLaws.{HaveSameAccess, address_read, is_ds_over_base}
@@ -29,7 +34,7 @@ use Rattle.linker_laws.specs.Ppc64RewriteLaws.{thread_offset, with_entry, with_r
 use Rattle.linker_laws.specs.Ppc64RewriteLaws.{is_vector_over_base, word_of, two}
 use Rattle.linker_laws.specs.Schemes.{AreAddresses, symbol_address}
 use Rattle.linker_ppc64.specs.Ppc64Rewrites.{access_of, is_add_of_thread, is_addi, is_indexed}
-use Rattle.linker_ppc64.specs.Ppc64Rewrites.{is_indexed_word, ra_of, rt_of}
+use Rattle.linker_ppc64.specs.Ppc64Rewrites.{is_indexed_any, is_indexed_word, ra_of, rt_of}
 use Rattle.linker_ppc64.specs.declared.rewrites.RelaxationKind.{RelaxationKind}
 use Rattle.linker_ppc64.specs.declared.rewrites.RelaxationKind.TheVariants as kinds
 use Rattle.linker_rewriting.specs.Decisions.{decision_at}
@@ -65,16 +70,23 @@ ForOperands name l i Holds =
 abbrev pub By : RelaxationKind → Choice Relaxation ℕ → Type 0 → Type 0
 By kind chosen P = (chosen.kind ≡ relaxations.Ppc64 kind) × P
 
--- each relocation of a name whose instruction is rewritten, where later phases leave it and so many
--- bytes from its offset on alone
-abbrev pub EachRewritten : ℕ → Ppc64Relocation → (Linked → ℕ → Choice Relaxation ℕ → Type 0)
-    → Type 0
-EachRewritten len name Holds =
+-- It holds where later phases leave the relocation and so many bytes from an offset on alone.
+abbrev pub IfLeft : ℕ → Linked → ℕ → ℕ → Type 0 → Type 0
+IfLeft len l i o Holds = IsLeftAlone l i o len → Holds
+
+-- each relocation of a name whose instruction is rewritten
+abbrev pub EachChosen : Ppc64Relocation → (Linked → ℕ → Choice Relaxation ℕ → Type 0) → Type 0
+EachChosen name Holds =
     (l : Linked) → IsLinked l → l.setting.architecture ≡ Ppc64
     → (i : ℕ) (chosen : Choice Relaxation ℕ) → i < count l
     → IsNameOf ppc64_name (relocation_in l.relocations i).code name
-    → decision_at l.decisions i ≡ Rewritten chosen → IsLeftAlone l i (offset_of l i) len
-    → Holds l i chosen
+    → decision_at l.decisions i ≡ Rewritten chosen → Holds l i chosen
+
+-- where later phases leave it and so many bytes from its offset on alone
+abbrev pub EachRewritten : ℕ → Ppc64Relocation → (Linked → ℕ → Choice Relaxation ℕ → Type 0)
+    → Type 0
+EachRewritten len name Holds =
+    EachChosen name (λ l i chosen. IfLeft len l i (offset_of l i) (Holds l i chosen))
 
 -- ---- calls
 
@@ -217,14 +229,25 @@ HighIsAlike =
     NopIsAlike 2 names.R_PPC64_GOT_TPREL16_HA entry_from_toc
     (Leads names.R_PPC64_GOT_TPREL16_LO_DS Ds)
 
+-- of an instruction of prefixed code, which begins a byte before the relocation, where no other
+-- relocation has a field in it
+abbrev pub MarkedIsAlike : Use → Linked → ℕ → Operands → Type 0
+MarkedIsAlike does l i o =
+    let at = marked_offset l i in
+    IfLeft 4 l i at (IsWrittenByNoOther l i at → OverVariableIsAlike does l i o)
+
 -- an `add`, and loads and stores
 abbrev pub VariableIsAlike : Linked → ℕ → Choice Relaxation ℕ → Operands → Type 0
 VariableIsAlike l i chosen o =
-    By kinds.AddToAddi chosen (OverOffsetIsAlike (adds is_add_of_thread) l i o)
-    ⊎ By kinds.IndexedToD chosen
-    (OverOffsetIsAlike (accesses is_indexed (λ word. access_with (access_of word))) l i o)
-    ⊎ By kinds.IndexedToDs chosen
-    (OverOffsetIsAlike (accesses is_indexed_word (λ word. word_access_with (access_of word))) l i o)
+    By kinds.AddToAddi chosen
+    (IfLeft 4 l i (offset_of l i) (OverOffsetIsAlike (adds is_add_of_thread) l i o))
+    ⊎ By kinds.IndexedToD chosen (IfLeft 4 l i (offset_of l i)
+    (OverOffsetIsAlike (accesses is_indexed (λ word. access_with (access_of word))) l i o))
+    ⊎ By kinds.IndexedToDs chosen (IfLeft 4 l i (offset_of l i)
+    (OverOffsetIsAlike (accesses is_indexed_word (λ word. word_access_with (access_of word)))
+    l i o))
+    ⊎ By kinds.AddToMove chosen (MarkedIsAlike (adds is_add_of_thread) l i o)
+    ⊎ By kinds.IndexedToDirect chosen (MarkedIsAlike (accesses is_indexed_any indexed_access) l i o)
 
 -- of every instruction of initial-exec: S is an offset of the thread's, as in the relocations after
 abbrev pub InitialExec : Type 0
@@ -235,7 +258,7 @@ InitialExec =
     ForOperands names.R_PPC64_TPREL16_HA l i (λ symbol. OffsetIsAlike l i))
     × EachRewritten 4 names.R_PPC64_GOT_TPREL16_DS (λ l i chosen.
     ForOperands names.R_PPC64_TPREL16_HA l i (λ symbol. NearOffsetIsAlike l i))
-    × EachRewritten 4 names.R_PPC64_TLS (λ l i chosen.
+    × EachChosen names.R_PPC64_TLS (λ l i chosen.
     ForOperands names.R_PPC64_TPREL16_HA l i (λ symbol. VariableIsAlike l i chosen))
 
 -- ---- arguments of `__tls_get_addr`
@@ -326,6 +349,14 @@ CallToBlockIsAlike l i =
 abbrev pub IfAloneBehind : Linked → ℕ → Type 0 → Type 0
 IfAloneBehind l i Holds = IsWrittenByNoOther l i (offset_of l i + 4) → Holds
 
+-- It holds where later phases leave the call of the relocation at an index alone.
+abbrev pub IfCallIsLeft : Linked → ℕ → Type 0 → Type 0
+IfCallIsLeft l j = IfLeft 8 l j (offset_of l j)
+
+-- the same of a call alone, in which no other relocation has a field
+abbrev pub IfBranchIsAlone : Linked → ℕ → Type 0 → Type 0
+IfBranchIsAlone l i Holds = IfLeft 4 l i (offset_of l i) (IfAlone l i Holds)
+
 -- the high half of the entry
 abbrev pub NoEntryIsAlike : Linked → ℕ → Operands → Type 0
 NoEntryIsAlike =
@@ -342,10 +373,14 @@ GeneralArgumentIsAlike l i chosen symbol o =
     By kinds.AddiToAddisThread chosen (HighArgumentIsAlike l i o)
     ⊎ By kinds.AddiToLd chosen (LoadedArgumentIsAlike l i symbol.thread_entry o)
 
+-- and for both of prefixed code
 abbrev pub GeneralCallIsAlike : Linked → ℕ → Choice Relaxation ℕ → Operands → Type 0
 GeneralCallIsAlike l i chosen o =
-    By kinds.CallToAddi chosen (IfAlone l i (CallToLowHalfIsAlike l i o))
-    ⊎ By kinds.CallToAdd chosen (IfAlone l i (IfAloneBehind l i (CallToSumIsAlike l i o)))
+    By kinds.BranchToNop chosen (IfBranchIsAlone l i (BranchToNopIsAlike l i))
+    ⊎ By kinds.BranchToAdd chosen (IfBranchIsAlone l i (BranchToSumIsAlike l i o))
+    ⊎ By kinds.CallToAddi chosen (IfCallIsLeft l i (IfAlone l i (CallToLowHalfIsAlike l i o)))
+    ⊎ By kinds.CallToAdd chosen
+    (IfCallIsLeft l i (IfAlone l i (IfAloneBehind l i (CallToSumIsAlike l i o))))
 
 -- of every instruction of general-dynamic whose argument has two halves
 abbrev pub GeneralDynamic : Type 0
@@ -354,13 +389,19 @@ GeneralDynamic =
     ForOperands names.R_PPC64_TPREL16_HA l i (GeneralHighIsAlike l i chosen))
     × EachRewritten 4 names.R_PPC64_GOT_TLSGD16_LO (λ l i chosen.
     ForOperands names.R_PPC64_TPREL16_HA l i (GeneralArgumentIsAlike l i chosen))
-    × EachRewritten 8 names.R_PPC64_TLSGD (λ l i chosen.
+    × EachChosen names.R_PPC64_TLSGD (λ l i chosen.
     ForOperands names.R_PPC64_TPREL16_HA l i (λ symbol. GeneralCallIsAlike l i chosen))
 
 -- the high half of the module's entry
 abbrev pub NoModuleIsAlike : Linked → ℕ → Operands → Type 0
 NoModuleIsAlike =
     NopIsAlike 2 names.R_PPC64_GOT_TLSLD16_HA entry_from_toc (Leads names.R_PPC64_GOT_TLSLD16_LO D)
+
+abbrev pub ModuleCallIsAlike : Linked → ℕ → Choice Relaxation ℕ → Type 0
+ModuleCallIsAlike l i chosen =
+    By kinds.BranchToNop chosen (IfBranchIsAlone l i (BranchToNopIsAlike l i))
+    ⊎ By kinds.CallToAddi4096 chosen
+    (IfCallIsLeft l i (IfAlone l i (IfAloneBehind l i (CallToBlockIsAlike l i))))
 
 -- of every such instruction of local-dynamic
 abbrev pub LocalDynamic : Type 0
@@ -370,8 +411,26 @@ LocalDynamic =
     × EachRewritten 4 names.R_PPC64_GOT_TLSLD16_LO (λ l i chosen.
     ForOperands names.R_PPC64_GOT_TLSLD16_HA l i (λ symbol o.
     IfAlone l i (ThreadArgumentIsAlike l i o)))
-    × EachRewritten 8 names.R_PPC64_TLSLD (λ l i chosen.
-    IfAlone l i (IfAloneBehind l i (CallToBlockIsAlike l i)))
+    × EachChosen names.R_PPC64_TLSLD ModuleCallIsAlike
+
+-- ---- prefixed instructions of thread-local sequences
+
+-- for local-exec, and for initial-exec
+abbrev pub PrefixedArgumentIsAlike : Linked → ℕ → Choice Relaxation ℕ → Symbol → Operands → Type 0
+PrefixedArgumentIsAlike l i chosen symbol o =
+    By kinds.PaddiToPaddiThread chosen (VariableArgumentIsAlike l i o)
+    ⊎ By kinds.PaddiToPld chosen (EntryArgumentIsAlike l i symbol.thread_entry o)
+
+-- of every prefixed instruction of general-dynamic, local-dynamic and initial-exec
+abbrev pub PrefixedThreads : Type 0
+PrefixedThreads =
+    EachRewritten 8 names.R_PPC64_GOT_TLSGD_PCREL34 (λ l i chosen.
+    ForOperands names.R_PPC64_TPREL34 l i (PrefixedArgumentIsAlike l i chosen))
+    × EachRewritten 8 names.R_PPC64_GOT_TLSLD_PCREL34 (λ l i chosen.
+    ForOperands names.R_PPC64_GOT_TLSLD_PCREL34 l i (λ symbol o.
+    IfAlone l i (IfAloneBehind l i (BlockArgumentIsAlike l i o))))
+    × EachRewritten 8 names.R_PPC64_GOT_TPREL_PCREL34 (λ l i chosen.
+    ForOperands names.R_PPC64_TPREL34 l i (λ symbol. PrefixedOffsetIsAlike l i))
 
 -- ---- arguments near the TOC pointer
 
@@ -422,10 +481,6 @@ NearToModule l i j =
     (f : Formats) (s : State)
     → Leaves f (only rt) (one (final l i)) s rt
     (λ n. CallLeaves f (final_call l j) n (sum_64 (s.registers 13) 0x1000))
-
--- It holds where later phases leave the call of the relocation at an index alone.
-abbrev pub IfCallIsLeft : Linked → ℕ → Type 0 → Type 0
-IfCallIsLeft l j Holds = IsLeftAlone l j (offset_of l j) 8 → Holds
 
 -- for local-exec, and for initial-exec, where no other relocation has a field in the call
 abbrev pub NearIsAlike : Linked → ℕ → Choice Relaxation ℕ → Symbol → Operands → Type 0

@@ -139,12 +139,12 @@ pub fn loongarch64()
 /// PowerPC64: rewritten instructions do in the final bytes what the object's do. They are each
 /// `nop` behind a call that restores the TOC pointer, each high and low half of an address near the
 /// TOC pointer and near the thread pointer, each instruction of initial-exec, of general-dynamic
-/// and of local-dynamic TLS, and each load of an address from the GOT that became a sum. The
-/// clauses named `anywhere` are of a call of rewriting alone, as those of AArch64 are. Those named
-/// `twice` are of instructions that two calls rewrite, also in the final bytes: high and low halves
-/// of the address of a GOT entry that became those of the symbol, loads of an offset from the
-/// thread pointer and what adds it, and the arguments and calls of general-dynamic TLS. Which phase
-/// alone rewrites again what a rewrite left is a law too.
+/// and of local-dynamic TLS, also of prefixed code, and each load of an address from the GOT that
+/// became a sum. The clauses named `anywhere` are of a call of rewriting alone, as those of AArch64
+/// are. Those named `twice` are of instructions that two calls rewrite, also in the final bytes:
+/// high and low halves of the address of a GOT entry that became those of the symbol, loads of an
+/// offset from the thread pointer and what adds it, and the arguments and calls of general-dynamic
+/// TLS. Which phase alone rewrites again what a rewrite left is a law too.
 pub fn ppc64()
     ensures calls { ppc64_final.Calls }
     ensures toc_halves { ppc64_final.TocHalves }
@@ -154,6 +154,7 @@ pub fn ppc64()
     ensures local_dynamic { ppc64_final.LocalDynamic }
     ensures near_arguments { ppc64_final.NearArguments }
     ensures loads { ppc64_final.Loads }
+    ensures prefixed_threads { ppc64_final.PrefixedThreads }
     ensures calls_anywhere { ppc64_anywhere.CallsAnywhere }
     ensures toc_halves_anywhere { ppc64_anywhere.TocHalvesAnywhere }
     ensures thread_halves_anywhere { ppc64_anywhere.ThreadHalvesAnywhere }
@@ -162,6 +163,7 @@ pub fn ppc64()
     ensures local_dynamic_anywhere { ppc64_anywhere.LocalDynamicAnywhere }
     ensures near_arguments_anywhere { ppc64_anywhere.NearArgumentsAnywhere }
     ensures loads_anywhere { ppc64_anywhere.LoadsAnywhere }
+    ensures prefixed_threads_anywhere { ppc64_anywhere.PrefixedThreadsAnywhere }
     ensures loads_twice { ppc64_twice.LoadsTwice }
     ensures steps_compose { ppc64_twice.StepsCompose }
     ensures initial_exec_twice { ppc64_twice.InitialExecTwice }
