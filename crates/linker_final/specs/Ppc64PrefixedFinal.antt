@@ -39,8 +39,8 @@ marked_final l i = instruction_at l.final (marked_offset l i)
 -- ---- prefixed instructions
 
 -- The object's instruction with the value of its relocation, and the final one, are executed where
--- the object's is. They write one register: a number in the object's run, and another one in the new
--- run.
+-- the object's is. They write one register: a number in the object's run, and another one in the
+-- new run.
 abbrev pub WriteSo : Ppc64Relocation → ℕ → ℕ → Linked → ℕ → Operands → Formats → State → State
     → Type 0
 WriteSo name number other l i o f s t =
