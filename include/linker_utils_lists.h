@@ -559,7 +559,8 @@ enum linker_utils_modifier {
  * - R in reach: the value of the relocation R, after the rewrite, is known and can be written.
  * - R in a..b: that value is known, and is from a up, below b.
  * - R at -4: that value of a place 4 bytes before.
- * - if known: it holds too where no address is known (has_addresses).
+ * - if known: it holds too where no address is known (has_addresses). In calls for sections a
+ *   distance is then fixed only by has_near_symbols of the output.
  * - S + A in 12 bits: the sum is known, and is a number of 12 bits in two's complement.
  * docs/CHOICES.md also names the instructions.
  *

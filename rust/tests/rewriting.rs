@@ -736,7 +736,7 @@ fn marked_loads_of_loongarch_are_rewritten() {
     expect(LoongArch64, &two, &one_after);
 }
 
-/// A load of symbol 1 from the GOT, or a call through it, of each relocation that is one.
+/// Loads of symbol 1 from the GOT, and jumps through it, that are rewritten before addresses are known.
 fn got_loads() -> Vec<(Architecture, Section)> {
     let load = |bytes: &[u8], relocations: &[Rela]| Section {
         bytes: bytes.to_vec(),
@@ -757,12 +757,6 @@ fn got_loads() -> Vec<(Architecture, Section)> {
             load(&[0xff, 0x25, 0, 0, 0, 0], &[rela(2, 41, 1, -4)]),
         ),
     ];
-    // adrp x0, :got:x; ldr x0, [x0, :got_lo12:x]
-    let pages = words(&[0x9000_0000, 0xf940_0000]);
-    loads.push((
-        AArch64,
-        load(&pages, &[rela(0, 311, 1, 0), rela(4, 312, 1, 0)]),
-    ));
     // pcalau12i a0, %got_pc_hi20(x); ld.d a0, a0, %got_pc_lo12(x), each with R_LARCH_RELAX
     let marked = [(0, 75, 1), (0, 100, 0), (4, 76, 1), (4, 100, 0)];
     let marked = marked.map(|(offset, code, symbol)| rela(offset, code, symbol, 0));
