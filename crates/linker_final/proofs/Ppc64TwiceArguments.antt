@@ -148,8 +148,12 @@ module _ (laws : Laws) (l m : Linked) (i : ℕ) (twice : IsRewrittenTwice 8 name
   first : IsMarkAs names.R_PPC64_TPREL16_LO l i × ((o : Operands) → IsCallApplied o l i → CallToLowHalfIsAlike l i o)
   first =
       elim ((general_dynamic_anywhere laws).2 l twice.calls.first twice.calls.first_architecture i twice.chosen twice.below twice.is_name twice.decided) [
-        | inl its ↦ its.1
-        | inr its ↦
+        | inl its ↦
+            absurd (let e : kinds.CallToAddi ≡ kinds.BranchToNop = same_kind twice.chosen.kind kinds.CallToAddi kinds.BranchToNop kind (its.0) in cc)
+        | inr (inl its) ↦
+            absurd (let e : kinds.CallToAddi ≡ kinds.BranchToAdd = same_kind twice.chosen.kind kinds.CallToAddi kinds.BranchToAdd kind (its.0) in cc)
+        | inr (inr (inl its)) ↦ its.1
+        | inr (inr (inr its)) ↦
             absurd (let e : kinds.CallToAddi ≡ kinds.CallToAdd = same_kind twice.chosen.kind kinds.CallToAddi kinds.CallToAdd kind (its.0) in cc)
       ]
 
