@@ -347,6 +347,7 @@ RewrittenAgain =
     IsOfPhase phases.Early names.R_PPC64_GOT_TPREL16_HA
     × IsOfPhase phases.Early names.R_PPC64_GOT_TPREL16_LO_DS
     × IsOfPhase phases.Early names.R_PPC64_GOT_TPREL16_DS
+    × IsOfPhase phases.Early names.R_PPC64_GOT_TPREL_PCREL34
     × IsOfPhase phases.Early names.R_PPC64_REL24
     × IsOfPhase phases.ThreadOffsets names.R_PPC64_TPREL16_HA
     × IsOfPhase phases.ThreadOffsets names.R_PPC64_TPREL16_LO
@@ -354,5 +355,6 @@ RewrittenAgain =
     × IsOfPhase phases.Distances names.R_PPC64_TOC16_HA
     × IsOfPhase phases.Distances names.R_PPC64_TOC16_LO
     × IsOfNoPhase names.R_PPC64_NONE × IsOfNoPhase names.R_PPC64_PCREL34
+    × IsOfNoPhase names.R_PPC64_TPREL34
     × IsOfNoPhase names.R_PPC64_TOC16 × IsOfNoPhase names.R_PPC64_TOC16_DS
     × IsOfNoPhase names.R_PPC64_TPREL16 × IsOfNoPhase names.R_PPC64_TPREL16_DS
