@@ -382,7 +382,7 @@ fn rejects_rewrites() {
         (Architecture::AArch64.machine(), 13),
         (Architecture::RiscV.machine(), 18),
         (Architecture::LoongArch64.machine(), 13),
-        (Architecture::Ppc64.machine(), 20),
+        (Architecture::Ppc64.machine(), 28),
         (Architecture::X86_64.machine(), 24),
         (0, 0),
     ];
@@ -553,7 +553,7 @@ fn a_relocation_fits_where_its_instruction_can_be_rewritten() {
 
 #[test]
 fn tells_the_bytes_that_a_rewrite_writes() {
-    let lens: [(Rewrite, u64, u64); 20] = [
+    let lens: [(Rewrite, u64, u64); 21] = [
         // `data16 lea x@tlsgd(%rip), %rdi; data16 data16 rex.W call __tls_get_addr`: the field is 4
         // bytes from the beginning, and the 16 bytes end with that of the `lea` that is written
         (X86_64Rewrite::TlsGdToLocalExec.into(), 4, 16 - 4),
@@ -581,9 +581,10 @@ fn tells_the_bytes_that_a_rewrite_writes() {
         (RiscVRewrite::TailToCJ.into(), 0, 2),
         (RiscVRewrite::Delete.into(), 0, 0),
         (LoongArch64Rewrite::CallToBl.into(), 0, 4),
-        // `addis`, and a prefixed instruction
+        // `addis`, a prefixed instruction, and an `add` whose mark is at its second byte
         (Ppc64Rewrite::AddisToNop.into(), 0, 4),
         (Ppc64Rewrite::PldToPaddi.into(), 0, 8),
+        (Ppc64Rewrite::AddToMove.into(), 1, 4),
     ];
     for (rewrite, back, len) in lens {
         let window = rewrite_window(rewrite);
@@ -593,7 +594,7 @@ fn tells_the_bytes_that_a_rewrite_writes() {
 
 #[test]
 fn tells_what_becomes_of_the_next_relocation() {
-    let skipped: [Rewrite; 13] = [
+    let skipped: [Rewrite; 15] = [
         RiscVRewrite::CallToJal.into(),
         RiscVRewrite::TailToJal.into(),
         RiscVRewrite::TailToCJ.into(),
@@ -601,6 +602,8 @@ fn tells_what_becomes_of_the_next_relocation() {
         Ppc64Rewrite::CallToAddi.into(),
         Ppc64Rewrite::CallToAdd.into(),
         Ppc64Rewrite::CallToAddi4096.into(),
+        Ppc64Rewrite::BranchToNop.into(),
+        Ppc64Rewrite::BranchToAdd.into(),
         X86_64Rewrite::TlsGdToLocalExec.into(),
         X86_64Rewrite::TlsGdToLocalExecLarge.into(),
         X86_64Rewrite::TlsGdToInitialExec.into(),
