@@ -350,8 +350,8 @@ fn choices_of_loongarch_match_gnu_ld() {
 #[test]
 fn choices_of_powerpc64_match_linkers() {
     for (r_type, flags, symbol, place, before, after) in ppc64_linked::SITES {
-        // `R_PPC64_DTPREL16_LO` and `R_PPC64_DTPREL16_HA`
-        let is_in_module = matches!(r_type, 75 | 77);
+        // `R_PPC64_DTPREL16_LO`, `R_PPC64_DTPREL16_HA` and `R_PPC64_DTPREL34`
+        let is_in_module = matches!(r_type, 75 | 77 | 147);
         let operands = Operands {
             symbol,
             place,
@@ -364,12 +364,15 @@ fn choices_of_powerpc64_match_linkers() {
             },
             ..Operands::default()
         };
-        let mut facts = facts_with(flags == 1, operands);
-        facts.may_change_toc = flags == 2;
+        let mut facts = facts_with(flags & 1 != 0, operands);
+        facts.may_change_toc = flags & 2 != 0;
+        facts.is_relaxable = flags & 4 != 0;
         facts.toc_base_is_exclusive = true;
         facts.group_fits = true;
         let mut section = before.to_le_bytes();
-        link(Architecture::Ppc64, r_type, &mut section, 0, &facts);
+        // `R_PPC64_TLS` of prefixed code is at the second byte of its instruction
+        let at = place % 4;
+        link(Architecture::Ppc64, r_type, &mut section, at, &facts);
         assert_eq!(u64::from_le_bytes(section), after, "{r_type}, {place:x}");
     }
 }
