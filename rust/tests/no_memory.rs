@@ -318,19 +318,19 @@ fn calls_are_not_chosen() {
 #[test]
 fn calls_are_dropped_without_memory() {
     let calls: Vec<(u64, u64)> = (0..100).map(|k| (8 * k, 8 * k + (1 << 20) + 6)).collect();
-    let mut refused = 0;
+    let mut failed_at = 0;
     loop {
         let mut chosen = [true; 100];
-        let ((), has_failed) = failing(refused, || {
+        let ((), has_failed) = failing(failed_at, || {
             shrink_calls_into(&[] as &[RelaxDelta], &calls, &mut chosen);
         });
         assert_eq!(chosen, [false; 100]);
         if !has_failed {
             break;
         }
-        refused += 1;
+        failed_at += 1;
     }
-    assert!(refused > 1);
+    assert!(failed_at > 1);
 }
 
 #[test]
@@ -345,8 +345,8 @@ fn vectors_and_texts_are_not_made() {
     assert_eq!((count, extended), (1, vec![9, 1, 2, 3]));
     for at in [0, 1] {
         let insert = |it: &mut Vec<u8>| match at {
-            0 => it.fallible_insert(0, 5).map_err(|refused| assert_eq!(refused.value, 5)),
-            _ => it.fallible_push(5).map_err(|refused| assert_eq!(refused.value, 5)),
+            0 => it.fallible_insert(0, 5).map_err(|failed| assert_eq!(failed.value, 5)),
+            _ => it.fallible_push(5).map_err(|failed| assert_eq!(failed.value, 5)),
         };
         let (count, longer) = each_fails_of(|| one.to_vec(), insert, |it| assert_eq!(it, &one));
         assert_eq!((count, longer), (1, if at == 0 { vec![5, 9] } else { vec![9, 5] }));

@@ -2276,7 +2276,7 @@ static void call_same_but_for(void) {
     bool is_known =
         linker_utils_field_bits(machine, r_type, a->given, a->len, &field) == LINKER_UTILS_OK;
     bool is_same = CALL(same_but_for, machine, r_type, a->given, a->len, b->given, b->len);
-    expect(is_same ? is_known : !(is_known && is_equal), "another answer");
+    expect(is_same ? is_known : !(is_known && is_equal), "another result");
     finish(true);
 }
 

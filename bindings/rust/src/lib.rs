@@ -1090,8 +1090,8 @@ pub fn survey(
 /// As many decisions as there are relocations.
 fn decisions_of(relocations: &[u8]) -> Result<Vec<raw::Decision>, ArrayError> {
     let (mut decisions, len) = (Vec::new(), relocations.len() / 24);
-    let refused = |_| ArrayError::from(Status::OutOfMemory);
-    decisions.try_reserve_exact(len).map_err(refused)?;
+    let out_of_memory = |_| ArrayError::from(Status::OutOfMemory);
+    decisions.try_reserve_exact(len).map_err(out_of_memory)?;
     decisions.resize(len, raw::Decision::default());
     Ok(decisions)
 }
@@ -1427,10 +1427,10 @@ pub fn from_global_pointer(
 /// An element for each deletion that there may be.
 fn deletions_for(decisions: &[raw::Decision]) -> Result<Vec<Deletion>, ArrayError> {
     let mut deleted = Vec::new();
-    let refused = |_| ArrayError::from(Status::OutOfMemory);
+    let out_of_memory = |_| ArrayError::from(Status::OutOfMemory);
     deleted
         .try_reserve_exact(decisions.len())
-        .map_err(refused)?;
+        .map_err(out_of_memory)?;
     deleted.resize(decisions.len(), Deletion::default());
     Ok(deleted)
 }

@@ -42,13 +42,13 @@ fn expect_merges(count: usize) {
             (given, places(count))
         };
         expect_growth(
-            &name("refused merge"),
+            &name("rejected merge"),
             count,
             overlapping,
             |(given, mut merged)| {
-                let refused = deltas_merge(&[], &given, &mut merged);
+                let rejected = deltas_merge(&[], &given, &mut merged);
                 let (status, index) = (Status::NotMergeable, Some(given.len() - 1));
-                assert_eq!(refused, Err(ArrayError { status, index }));
+                assert_eq!(rejected, Err(ArrayError { status, index }));
                 assert_eq!(deletions_mergeable(&[], &given), Err(status));
             },
         );
@@ -219,8 +219,8 @@ fn expect_relocating(count: usize) {
                     &mut memory,
                 );
                 let (status, index) = (Status::Overlaps, Some(memory.len() - 1));
-                let refused = Err(ArrayError { status, index });
-                assert_eq!(written, if overlaps { refused } else { Ok(()) });
+                let rejected = Err(ArrayError { status, index });
+                assert_eq!(written, if overlaps { rejected } else { Ok(()) });
             });
         }
     }

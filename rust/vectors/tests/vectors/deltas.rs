@@ -273,9 +273,9 @@ fn long_lists_are_searched_by_blocks() {
 fn cursors_pass_each_deletion_once() {
     let deltas = deltas_of(&[(4, 4), (12, 2)]);
     let mut cursor = deltas.cursor();
-    for (query, answer) in [(4, 4), (8, 4), (8, 4), (14, 8), (20, 14)] {
+    for (query, translated) in [(4, 4), (8, 4), (8, 4), (14, 8), (20, 14)] {
         assert!(cursor.can_translate(query), "{query:?}");
-        assert_eq!(cursor.translate(query), answer, "{query:?}");
+        assert_eq!(cursor.translate(query), translated, "{query:?}");
     }
     assert_eq!(cursor.turns(), 2);
     // back again: what is passed stays passed
@@ -285,9 +285,9 @@ fn cursors_pass_each_deletion_once() {
     assert!(cursor.can_translate(6));
 
     let mut inside = deltas.cursor();
-    for (query, answer) in [(5, 4), (7, 4), (13, 8), (13, 8), (20, 14)] {
+    for (query, translated) in [(5, 4), (7, 4), (13, 8), (13, 8), (20, 14)] {
         assert!(inside.can_translate(query), "{query:?}");
-        assert_eq!(inside.translate(query), answer, "{query:?}");
+        assert_eq!(inside.translate(query), translated, "{query:?}");
     }
     assert_eq!(inside.turns(), 2);
     assert!(inside.can_translate(12));
@@ -296,21 +296,21 @@ fn cursors_pass_each_deletion_once() {
 
     let mut walker = deltas.cursor();
     let queries = [4, 8, 8, 14, 20];
-    let mut answers = [0; 5];
+    let mut translated = [0; 5];
     assert!(walker.can_translate_all(&queries));
-    walker.translate_all(&queries, &mut answers);
-    assert_eq!(answers, [4, 4, 4, 8, 14]);
+    walker.translate_all(&queries, &mut translated);
+    assert_eq!(translated, [4, 4, 4, 8, 14]);
     assert_eq!(walker.turns(), 2);
 
     let queries = [5, 7, 13, 13, 20];
     let mut walker = deltas.cursor();
     assert!(walker.can_translate_all(&queries));
-    walker.translate_all(&queries, &mut answers);
-    assert_eq!(answers, [4, 4, 8, 8, 14]);
+    walker.translate_all(&queries, &mut translated);
+    assert_eq!(translated, [4, 4, 8, 8, 14]);
     assert!(!walker.can_translate_all(&[12, 15]));
     assert!(DeltaSlice::can_translate_all(&queries));
-    DeltaSlice::new(deltas.deltas()).translate_all(&queries, &mut answers);
-    assert_eq!(answers, [4, 4, 8, 8, 14]);
+    DeltaSlice::new(deltas.deltas()).translate_all(&queries, &mut translated);
+    assert_eq!(translated, [4, 4, 8, 8, 14]);
     assert!(!DeltaSlice::can_translate_all(&[5, 4]));
 }
 

@@ -86,7 +86,7 @@ fn expect_merges(count: usize) {
         expect_growth(&name("test"), count, pairs, |pairs| {
             assert!(none().is_mergeable_sorted(&pairs))
         });
-        expect_growth(&name("refused test"), count, overlapping, |pairs| {
+        expect_growth(&name("rejected test"), count, overlapping, |pairs| {
             assert!(!none().is_mergeable_sorted(&pairs));
         });
         expect_growth(&name("test over a slice"), count, pairs, |pairs| {
@@ -566,11 +566,11 @@ fn expect_relocating(count: usize) {
             pairs[count - 1].0 = pairs[count - 2].0 + 2;
             given(relocations(&pairs), count)
         };
-        expect_growth(&format!("refused relocating, {order}"), count, overlapping, |it| {
+        expect_growth(&format!("rejected relocating, {order}"), count, overlapping, |it| {
             let (relocations, mut section, mut memory) = it;
             let (index, error) = (memory.len() - 1, RelocationError::Overlaps);
-            let refused = relocate(&relocations, &mut section, &mut memory);
-            assert_eq!(refused, Err(SectionError { index, error }));
+            let rejected = relocate(&relocations, &mut section, &mut memory);
+            assert_eq!(rejected, Err(SectionError { index, error }));
         });
     }
 }
