@@ -210,10 +210,10 @@ begin_same input a b x y da db ca cb =
     let items : a.section.items ≡ b.section.items = cc (x, y) in record { len = ap length items; deltas = da ∙ sym db; calls = ca ∙ sym cb }
 
 pub rejected_inputs : RejectedInputsAreNotExecuted
-rejected_inputs input printed answers error (inl (none, inl memory)) other executed = other memory
-rejected_inputs input printed answers error (inl (none, inr bad)) other executed = cc (bad.1, executed.1.1)
-rejected_inputs input printed answers error (inr (state, rest, runs, inl memory)) other executed = other memory
-rejected_inputs input printed answers error (inr (state, rest, runs, inr (some, rejects))) other (after, whole) =
+rejected_inputs input printed output error (inl (none, inl memory)) other executed = other memory
+rejected_inputs input printed output error (inl (none, inr bad)) other executed = cc (bad.1, executed.1.1)
+rejected_inputs input printed output error (inr (state, rest, runs, inl memory)) other executed = other memory
+rejected_inputs input printed output error (inr (state, rest, runs, inr (some, rejects))) other (after, whole) =
     let same = begin_same input runs.0 whole.0 runs.1 whole.1 runs.2 whole.2 runs.3 whole.3 in
-    let w = goes_through runs.4 whole.4 (drop_through 10 input) rest runs.0 whole.0 state after printed answers same runs.5 runs.6 whole.5 whole.6 in
+    let w = goes_through runs.4 whole.4 (drop_through 10 input) rest runs.0 whole.0 state after printed output same runs.5 runs.6 whole.5 whole.6 in
     rest_refused w.0 rest state w.1 after w.4 error w.2 some rejects w.3 w.5

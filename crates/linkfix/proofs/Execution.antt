@@ -77,7 +77,7 @@ module _ (p0 p1 p2 w0 w1 : Option (List ℕ)) (s0 s1 : SectionState) (line text 
   pub next_blank : ExecutesLine text s1 s1 [] → IsRunSoFar p0 p2 w0 w1 s0 s1
   next_blank one = (running.0, running.1, subst (AreExecuted p0 p2 s0 s1) (append-nil running.0) (executed_more s1 [] one p0 running.0 running.2))
 
-  -- a line that prints its answer
+  -- a line that prints its result
   pub next_executed : (w2 : Option (List ℕ)) (s2 : SectionState) (printed : List ℕ) → ExecutesLine text s1 s2 printed → Appends w1 w2 printed → IsRunSoFar p0 p2 w0 w2 s0 s2
   next_executed w2 s2 printed one appends = (running.0 ++ printed, Appends-trans w0 w1 w2 running.0 printed running.1 appends, executed_more s2 printed one p0 running.0 running.2)
 

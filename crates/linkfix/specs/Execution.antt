@@ -128,7 +128,7 @@ abbrev pub ExecutesInput : List ℕ → List ℕ → Type 0
 ExecutesInput input printed = (after : SectionState) × RunsTo input [] after printed
 
 -- the run ends with this error: the first line is no section, or one behind it is rejected; or it
--- runs out of memory. What is printed before are the answers to the lines before.
+-- runs out of memory. What is printed before is the output of the lines before.
 abbrev pub EndsWith : List ℕ → List ℕ → ReportedError → Type 0
 EndsWith input printed error =
     ((printed ≡ []) × ((error ≡ OutOfMemory)

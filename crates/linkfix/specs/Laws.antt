@@ -4,7 +4,7 @@ use Rattle.linkfix.specs.Execution.{EndsWith, ExecutesInput}
 use Rattle.linkfix.specs.declared.program.ReportedError.{ReportedError}
 use Rattle.linkfix.specs.declared.program.ReportedError.TheVariants.{OutOfMemory}
 
--- an input on which a run ends with an error, other than out of memory, is executed with no answers
+-- an input on which a run ends with an error, other than out of memory, is executed with no output
 abbrev pub RejectedInputsAreNotExecuted : Type 0
-RejectedInputsAreNotExecuted = (input printed answers : List ℕ) (error : ReportedError)
-    → EndsWith input printed error → error ≢ OutOfMemory → ¬ ExecutesInput input answers
+RejectedInputsAreNotExecuted = (input printed output : List ℕ) (error : ReportedError)
+    → EndsWith input printed error → error ≢ OutOfMemory → ¬ ExecutesInput input output

@@ -1,5 +1,4 @@
 pub mod AcceptedCalls
-pub mod AnswerLines
 pub mod ByOffset
 pub mod CommandSyntax
 pub mod DecodedHex
@@ -7,4 +6,5 @@ pub mod ErrorLines
 pub mod Execution
 pub mod Laws
 pub mod RemainingInput
+pub mod ResultLines
 pub mod Words

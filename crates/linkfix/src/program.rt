@@ -10,7 +10,7 @@ ghost use Rattle.linker_riscv64.specs.Packing.{IsPacked};
 ghost use Rattle.linker_riscv64.specs.RiscVCalls.{JumpsAt, output_distance};
 ghost use Rattle.linker_riscv64.specs.declared.calls.CallError.{CallError};
 ghost use Rattle.linker_riscv64.specs.declared.calls.LinkRegister.{LinkRegister};
-ghost use Rattle.linkfix.specs.AnswerLines.{answer_line};
+ghost use Rattle.linkfix.specs.ResultLines.{result_line};
 ghost use Rattle.linkfix.specs.ErrorLines.{error_line};
 ghost use Rattle.linkfix.specs.Execution.{CallFailsWith, EndsWith, Executes, ExecutesInput};
 ghost use Rattle.linkfix.specs.Execution.{IsMemoryOrIoError, Rejects, TakesMemoryFirst};
@@ -223,21 +223,21 @@ pub fn rejected_inputs_are_not_executed()
 
 /// What is printed for a command.
 #[derive(Drop)]
-enum Answer {
+enum CommandResult {
     /// `ok`.
     Done,
     /// A line.
     Line(String),
 }
 
-impl Answer {
+impl CommandResult {
     /// The line, with its end.
     fn line(&self) -> &str
-        ensures { result.now ≡ answer_line self.now }
+        ensures { result.now ≡ result_line self.now }
     {
         match self {
-            Answer::Done => "ok\n",
-            Answer::Line(line) => line.as_str(),
+            CommandResult::Done => "ok\n",
+            CommandResult::Line(line) => line.as_str(),
         }
     }
 }
@@ -269,16 +269,16 @@ impl SectionState {
         ensures silent { IfErr result (λ run_error. (run_error ≡ RunError.Io)
             ⊎ (W.contents output.new ≡ W.contents output.old)) }
     {
-        let answer = self.answer(command)?;
-        output.write_all(answer.line().as_bytes())?;
+        let result = self.apply(command)?;
+        output.write_all(result.line().as_bytes())?;
         Ok(())
     }
 
-    /// Executes a command and returns what is printed for it.
-    fn answer(&mut self, command: Command) -> Result<Answer, ReportedError>
-        ensures executed { IfOk result (λ answer. (line : List ℕ)
+    /// Applies a command, and returns what is printed for it.
+    fn apply(&mut self, command: Command) -> Result<CommandResult, ReportedError>
+        ensures executed { IfOk result (λ made. (line : List ℕ)
             × Executes command self.old self.new line
-            × (answer_line answer ≡ line ++ codes "\n")) }
+            × (result_line made ≡ line ++ codes "\n")) }
         ensures rejected { IfErr result (λ error. Rejects command self.old error
             ⊎ (error ≡ ReportedError.OutOfMemory)) }
         ensures causes { (error : ReportedError) → Rejects command self.old error
@@ -288,24 +288,24 @@ impl SectionState {
         match command {
             Command::Delete { offset, bytes } => {
                 self.delete(offset, bytes)?;
-                Ok(Answer::Done)
+                Ok(CommandResult::Done)
             }
             Command::ToOutput { input_offset } => {
                 let number = self.deltas.to_output(input_offset);
-                Ok(Answer::Line(number_line(self.alloc, number)?))
+                Ok(CommandResult::Line(number_line(self.alloc, number)?))
             }
             Command::ToInput { output_offset } => {
                 let number = self.input_offset(output_offset)?;
-                Ok(Answer::Line(number_line(self.alloc, number)?))
+                Ok(CommandResult::Line(number_line(self.alloc, number)?))
             }
             Command::Call { site, target } => {
                 self.call(site, target)?;
-                Ok(Answer::Done)
+                Ok(CommandResult::Done)
             }
-            Command::Show => Ok(Answer::Line(section_line(self.alloc, &self.section)?)),
+            Command::Show => Ok(CommandResult::Line(section_line(self.alloc, &self.section)?)),
             Command::Pack => {
                 let packed = self.pack()?;
-                Ok(Answer::Line(section_line(self.alloc, &packed)?))
+                Ok(CommandResult::Line(section_line(self.alloc, &packed)?))
             }
         }
     }

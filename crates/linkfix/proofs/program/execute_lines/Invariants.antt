@@ -2,7 +2,7 @@ use Rattle.linkfix.specs.RemainingInput.{remaining_bytes, max_remaining}
 use Rattle.linkfix.proofs.Execution.{IsRunSoFar}
 use Rattle.linkfix.proofs.program.execute_lines.Given as goal
 
--- the lines so far are executed, and their answers are printed
+-- the lines so far are executed, and their output is printed
 abbrev pub invariant-loop-state : goal.invariant-loop-state
 invariant-loop-state g l =
     IsRunSoFar (remaining_bytes (g.R.Read.remaining l.initial.lines.input) l.initial.lines) (remaining_bytes (g.R.Read.remaining l.lines.input) l.lines)

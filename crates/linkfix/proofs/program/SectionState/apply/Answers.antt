@@ -1,6 +1,6 @@
 use Rattle.std.proofs.Common.{inl, inr, refl, codes}
 use Rattle.std.proofs.lemmas.Result.{err_from_is_err_and}
-use Rattle.linkfix.proofs.program.SectionState.answer.Goals as goal
+use Rattle.linkfix.proofs.program.SectionState.apply.Goals as goal
 
 pub returns-in_err-call-in-Call-clause-causes : goal.returns-in_err-call-in-Call-clause-causes
 returns-in_err-call-in-Call-clause-causes c error rejects =
