@@ -31,9 +31,9 @@
  *   parts of one section at once, each through a slice that no other overlaps.
  * - With such pointers and counts each call is defined, whatever the numbers and bytes.
  * - A call that returns `uint32_t` returns a status of `enum linker_utils_status`, but for
- *   `linker_utils_output_flags` and `linker_utils_forms_of`. With any except `LINKER_UTILS_OK` it has
- *   written nothing but `faulty`, `memory`, `decisions`, `deleted`, and what
- *   `linker_utils_relocate_all`, `linker_utils_rewritten_items` and
+ *   `linker_utils_output_flags`, `linker_utils_forms_of` and `linker_utils_uleb128_role`. With any
+ *   except `LINKER_UTILS_OK` it has written nothing but `faulty`, `memory`, `decisions`, `deleted`,
+ *   and what `linker_utils_relocate_all`, `linker_utils_rewritten_items` and
  *   `linker_utils_deltas_create_in_one_pass` write before the entry that they reject. Where several
  *   statuses apply, the first in the order that the call names is returned. Other calls can't fail.
  * - `faulty` may be null. If the status is about one entry of an array, the index of that entry is
@@ -525,11 +525,11 @@ static inline uint32_t linker_utils_relocate_section(
  * and of the output, and the library which instructions are rewritten: all of a group or none. The
  * relocations of a group are those of one kind and one symbol in an object, whatever their addends;
  * of local-dynamic TLS all of an object. Those of one label of RISC-V in a section are a group too,
- * which needs no survey. First a survey of each section of code notes which groups stay, then each of
- * them is rewritten. Before addresses are known the calls are `linker_utils_survey` and
+ * which needs no survey. First a survey of each section of code notes which groups stay, then each
+ * of them is rewritten. Before addresses are known the calls are `linker_utils_survey` and
  * `linker_utils_rewrite_section`. Once they are, `linker_utils_survey_placed_section` and
- * `linker_utils_rewrite_placed_section` do so for each later phase, in the order of
- * `enum linker_utils_phase`. What is left a linker may rewrite by `linker_utils_choose`. */
+ * `linker_utils_rewrite_placed_section` do so for each later phase, in the order of `enum
+ * linker_utils_phase`. What is left a linker may rewrite by `linker_utils_choose`. */
 
 /* Whether an architecture has rewrites in a phase. In one without them a linker surveys and
  * rewrites nothing: each relocation would stay. False of a machine or a phase that isn't known. */
@@ -550,8 +550,8 @@ struct linker_utils_symbol_facts {
 struct linker_utils_output_facts {
     bool is_executable; /* position-independent or not */
     bool is_fixed; /* it is always loaded at the address that it is linked for */
-    /* Its code, its GOT and its symbols that its code refers to, except for absolute ones, lie within
-     * 2 GiB less 64 KiB. Else no load from the GOT becomes a distance before addresses are known. */
+    /* Its code, GOT and symbols that the code refers to, except for absolute ones, lie within 2 GiB
+     * less 64 KiB. Else no load from the GOT becomes a distance before addresses are known. */
     bool has_near_symbols;
 };
 
@@ -602,9 +602,9 @@ static inline uint32_t linker_utils_survey(
  * LINKER_UTILS_UNKNOWN_ARCHITECTURE; LINKER_UTILS_SHORT_MEMORY where there are fewer decisions than
  * relocations. Else the status is that of the first relocation that it doesn't accept, `faulty`:
  * LINKER_UTILS_NOT_SURVEYED; LINKER_UTILS_OVERLAPS where the bytes of its rewrite overlap those of
- * one before it, or lie below them. So the relocations of instructions that can be rewritten have to
- * ascend by offset. With any status except LINKER_UTILS_OK the section and its relocations are
- * unchanged. Then the decisions before `faulty` are made, and those from there on aren't specified. */
+ * one before it, or lie below them. So the relocations of instructions that can be rewritten have
+ * to ascend by offset. With any status except LINKER_UTILS_OK the section and its relocations are
+ * unchanged. Decisions before `faulty` are made then, and later ones aren't specified. */
 static inline uint32_t linker_utils_rewrite_section(
     uint16_t machine, const struct linker_utils_output_facts *output,
     const struct linker_utils_symbol_facts *symbols, size_t symbols_len,
@@ -626,22 +626,22 @@ static inline uint32_t linker_utils_survey_placed_section(
 
 /* Rewrites the instructions of a section of code in a phase once addresses are known, and turns its
  * relocations into those after it, as `linker_utils_rewrite_section` does before. `kept` is what
- * `linker_utils_survey_placed_section` noted of all sections of code of the object in the phase, with
- * the same facts and addresses. Each address has to be that by which values are written later, or
- * differ from it by less than the reach that is left. A linker that deletes bytes afterwards makes
- * distances shorter, never longer.
+ * `linker_utils_survey_placed_section` noted of all sections of code of the object in the phase,
+ * with the same facts and addresses. Each address has to be that by which values are written later,
+ * or differ from it by less than the reach that is left. A linker that deletes bytes afterwards
+ * makes distances shorter, never longer.
  *
  * What is to be deleted is in the first `deleted_used` elements of `deleted`, ascending, as
  * `linker_utils_deltas_create` takes it. They are bytes of the section, apart from each other and
- * from all that is rewritten, and still there. Only LINKER_UTILS_PHASE_THREAD_OFFSETS has any, at most one for
- * each relocation. Further elements of `deleted` are unchanged, and it need not be initialised. It
- * may be null where there are none.
+ * from all that is rewritten, and still there. Only LINKER_UTILS_PHASE_THREAD_OFFSETS has any, at
+ * most one for each relocation. Further elements of `deleted` are unchanged, and it need not be
+ * initialised. It may be null where there are none.
  *
  * LINKER_UTILS_UNKNOWN_ARCHITECTURE; LINKER_UTILS_UNKNOWN_PHASE; LINKER_UTILS_SHORT_MEMORY where
- * there are fewer decisions than relocations; LINKER_UTILS_NOT_SURVEYED and LINKER_UTILS_OVERLAPS as
- * above, of the relocation `faulty`; and LINKER_UTILS_SHORT_MEMORY where `deleted` has fewer elements
- * than there are deletions. With any status except LINKER_UTILS_OK the section, its relocations and
- * `deleted_used` are unchanged. */
+ * there are fewer decisions than relocations; LINKER_UTILS_NOT_SURVEYED and LINKER_UTILS_OVERLAPS
+ * as above, of the relocation `faulty`; and LINKER_UTILS_SHORT_MEMORY where `deleted` has fewer
+ * elements than there are deletions. With any status except LINKER_UTILS_OK the section, its
+ * relocations and `deleted_used` are unchanged. */
 static inline uint32_t linker_utils_rewrite_placed_section(
     uint16_t machine, uint32_t phase, const struct linker_utils_output_facts *output,
     const struct linker_utils_symbol_facts *symbols, size_t symbols_len,
