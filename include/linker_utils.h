@@ -559,11 +559,11 @@ struct linker_utils_output_facts {
  * its relocations name. The element at index 0 is of all of the object: it has local-dynamic TLS,
  * and what stays whichever symbol it is of. */
 struct linker_utils_kept_groups {
-    bool initial_exec; /* loads of an offset from the thread pointer; in its phase all that has one */
+    bool initial_exec; /* loads of an offset from the thread pointer; in its phase all with one */
     bool general_dynamic; /* calls for the address of a thread-local variable */
     bool local_dynamic; /* calls for the address of the module's TLS block, and offsets in it */
     bool descriptor; /* TLS descriptors */
-    bool got_load; /* loads from the GOT by halves; in the last phase addresses by the TOC pointer */
+    bool got_load; /* loads from the GOT by halves; in the last phase also what is near the TOC */
 };
 
 /* What becomes of a relocation and of its instruction. All except `fate` is 0 where the instruction
