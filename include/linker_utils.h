@@ -563,7 +563,7 @@ struct linker_utils_kept_groups {
     bool general_dynamic; /* calls for the address of a thread-local variable */
     bool local_dynamic; /* calls for the address of the module's TLS block, and offsets in it */
     bool descriptor; /* TLS descriptors */
-    bool got_load; /* loads from the GOT by halves; in the last phase also what is near the TOC */
+    bool got_load; /* loads of the GOT by halves; in the last phase addresses by the TOC pointer */
 };
 
 /* What becomes of a relocation and of its instruction. All except `fate` is 0 where the instruction
