@@ -1,5 +1,5 @@
 -- Groups of one label: each relocation has one high part, and what is noted is right.
-use Rattle.std.proofs.Common.{◌≡◌, ◌≢◌, ℕ, zero, suc, ◌∙◌, ◌+◌, ◌≤◌, ◌<◌, ◌/◌, inl, inr, List, [], ◌∷◌, length, ap, sym, subst, arith, refl, Bool, true, false, true≢false, Option, Some, None, slice_get, slice_set, eq-eqb}
+use Rattle.std.proofs.Common.{◌≡◌, ℕ, zero, suc, ◌∙◌, ◌+◌, ◌≤◌, ◌<◌, ◌/◌, inl, inr, List, [], ◌∷◌, length, ap, sym, subst, arith, refl, Bool, true, false, true≢false, Option, Some, None, slice_get, slice_set, eq-eqb}
 use Rattle.std.specs.Prelude.{◌&&◌, ◌==◌}
 use Rattle.std.proofs.Math.Bool.{and-false}
 use Rattle.std.proofs.lemmas.Bool.{eqb-true, cases_eq, cases_lt, cases_Bool, and_parts, cond-true}

@@ -1,5 +1,5 @@
 -- What decisions delete, listed one after the other.
-use Rattle.std.proofs.Common.{◌≡◌, ℕ, zero, suc, ◌+◌, ◌-◌, ◌≤◌, ◌<◌, ◌⊎◌, inl, inr, ◌∙◌, List, [], ◌∷◌, ◌++◌, length, take, get_or, ap, sym, subst, arith, refl, true, Option, None, Some, slice_set, append-nil}
+use Rattle.std.proofs.Common.{◌≡◌, ℕ, zero, suc, ◌+◌, ◌≤◌, ◌<◌, ◌⊎◌, inl, inr, ◌∙◌, List, [], ◌∷◌, ◌++◌, length, take, get_or, ap, sym, subst, arith, refl, true, Option, None, Some, slice_set, append-nil}
 use Rattle.std.proofs.lemmas.Bool.{leb-true}
 use Rattle.std.proofs.lemmas.List.{length-append, length-take-le, get_or_default}
 use Rattle.linker_base.specs.declared.rewrite.DeletedBytes.{DeletedBytes}

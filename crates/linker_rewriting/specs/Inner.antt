@@ -1,4 +1,5 @@
 pub mod Calls
 pub mod Codes
 pub mod Left
+pub mod Settings
 pub mod Words

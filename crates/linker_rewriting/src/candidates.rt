@@ -8,9 +8,9 @@ ghost use Rattle.linker_section.specs.Relocations.{relocation_at};
 ghost use Rattle.linker_rewriting.specs.Candidates.{IsCallIn, IsTaken, IsCandidate, IsCandidateBy};
 ghost use Rattle.linker_rewriting.specs.Candidates.{calls_tls_get_addr, deletes_within};
 ghost use Rattle.linker_rewriting.specs.Candidates.{at_base, IsMatched};
-ghost use Rattle.linker_rewriting.specs.Facts.{setting};
+ghost use Rattle.linker_rewriting.specs.Inner.Settings.{setting_of};
 
-use crate::facts::{OutputFacts, SymbolFacts, link_facts};
+use crate::facts::{OutputFacts, Setting, SymbolFacts, link_facts};
 use crate::phases::Phase;
 use crate::sequences::{is_marked_in, is_whole};
 use linker_base::rewrite::DeletedBytes;
@@ -137,33 +137,32 @@ pub(crate) fn candidate_by(
 /// bytes behind the section, or it is of a sequence whose relocations aren't all next to it.
 #[inline(always)]
 pub(crate) fn candidate(
-    architecture: Architecture,
-    phase: Phase,
-    output: &OutputFacts,
-    symbols: &[SymbolFacts],
-    addresses: &Addresses,
-    values: &[Symbol],
+    setting: &Setting<'_>,
     relocations: &[u8],
     section: &[u8],
     index: usize,
     relocation: &Rela,
 ) -> Option<Choice<Relaxation, u32>>
     requires { index + 3 ≤ usize.MAX }
-    ensures candidate { IsCandidate (setting architecture phase output.now symbols.now addresses.now
-        values.now) relocations.now section.now index relocation.now result }
+    ensures candidate { IsCandidate (setting_of setting.now) relocations.now section.now index
+        relocation.now result }
     ensures rewritable { IfSome result (λ chosen. CanRewrite (relaxation_rewrite chosen.kind)
         section.now relocation.now.offset) }
     ensures deletes { IfSome result (λ chosen. deletes_within section.now relocation.now.offset
         (relaxation_deleted chosen.kind) ≡ true) }
 {
-    let marked = is_marked_in(phase, architecture, relocations, index, relocation);
-    let facts = link_facts(
-        phase, output, symbols, addresses, values, relocation, relocation, marked,
+    let marked = is_marked_in(
+        setting.phase,
+        setting.architecture,
+        relocations,
+        index,
+        relocation,
     );
+    let facts = link_facts(setting, relocation, relocation, marked);
     match &facts {
         Some(facts) => candidate_by(
-            architecture,
-            symbols,
+            setting.architecture,
+            setting.symbols,
             relocations,
             section,
             index,
@@ -196,31 +195,30 @@ fn at_base(facts: Option<LinkFacts>) -> Option<LinkFacts>
 /// whatever the distance.
 #[inline(always)]
 pub(crate) fn is_matched(
-    architecture: Architecture,
-    phase: Phase,
-    output: &OutputFacts,
-    symbols: &[SymbolFacts],
-    addresses: &Addresses,
-    values: &[Symbol],
+    setting: &Setting<'_>,
     relocations: &[u8],
     section: &[u8],
     index: usize,
     relocation: &Rela,
 ) -> bool
     requires { index + 3 ≤ usize.MAX }
-    ensures { IsMatched (setting architecture phase output.now symbols.now addresses.now values.now)
-        relocations.now section.now index relocation.now result }
+    ensures { IsMatched (setting_of setting.now) relocations.now section.now index relocation.now
+        result }
 {
-    let marked = is_marked_in(phase, architecture, relocations, index, relocation);
-    let facts = link_facts(
-        phase, output, symbols, addresses, values, relocation, relocation, marked,
+    let marked = is_marked_in(
+        setting.phase,
+        setting.architecture,
+        relocations,
+        index,
+        relocation,
     );
+    let facts = link_facts(setting, relocation, relocation, marked);
     let Some(facts) = at_base(facts) else {
         return false;
     };
     candidate_by(
-        architecture,
-        symbols,
+        setting.architecture,
+        setting.symbols,
         relocations,
         section,
         index,

@@ -9,7 +9,7 @@ ghost use Rattle.linker_rewriting.specs.Decisions.{deleted_of, deleted_end, star
 ghost use Rattle.linker_rewriting.specs.Decisions.{AreDecidedIn, AreApart, AllCanBeMade};
 ghost use Rattle.linker_rewriting.specs.Decisions.{IsDecisionAfter, IsEndBehind, IsRejectedIn};
 ghost use Rattle.linker_rewriting.specs.Decisions.{IsRewrittenAt, label_decision, IsLabelDecision};
-ghost use Rattle.linker_rewriting.specs.Facts.{setting};
+ghost use Rattle.linker_rewriting.specs.Inner.Settings.{setting_of};
 ghost use Rattle.linker_rewriting.specs.Inner.Calls.{IsLeft};
 ghost use Rattle.linker_rewriting.specs.Inner.Codes.{bit_of, table_of};
 ghost use Rattle.linker_rewriting.specs.Inner.Left.{AreKept};
@@ -18,7 +18,7 @@ ghost use Rattle.linker_rewriting.specs.Labels.{IsInLabel, IsLabelNote};
 use crate::calls::keeps_call;
 use crate::candidates::candidate;
 use crate::codes::{bit_of, is_listed, lists_any, table_of};
-use crate::facts::{OutputFacts, SymbolFacts};
+use crate::facts::{OutputFacts, Setting, SymbolFacts};
 use crate::groups::{KeptGroups, Scope, group_stays, scope_in};
 use crate::labels::{high_of, is_note, label_candidate, note_labels, set_all};
 use crate::phases::Phase;
@@ -159,38 +159,16 @@ impl Decision {
 }
 
 /// Whether the relocation with an index, if there is one, is alone and is rewritten.
-fn is_rewritten_at(
-    architecture: Architecture,
-    phase: Phase,
-    output: &OutputFacts,
-    symbols: &[SymbolFacts],
-    addresses: &Addresses,
-    values: &[Symbol],
-    relocations: &[u8],
-    section: &[u8],
-    index: usize,
-) -> bool
+fn is_rewritten_at(setting: &Setting<'_>, relocations: &[u8], section: &[u8], index: usize) -> bool
     requires { index + 3 ≤ usize.MAX }
-    ensures { IsRewrittenAt (setting architecture phase output.now symbols.now addresses.now
-        values.now) relocations.now section.now index (relocation_at relocations.now index) result }
+    ensures { IsRewrittenAt (setting_of setting.now) relocations.now section.now index
+        (relocation_at relocations.now index) result }
 {
     let Some(relocation) = relocation_at(relocations, index) else {
         return false;
     };
-    match scope_in(architecture, phase, relocation.code) {
-        Scope::Alone => candidate(
-            architecture,
-            phase,
-            output,
-            symbols,
-            addresses,
-            values,
-            relocations,
-            section,
-            index,
-            &relocation,
-        )
-        .is_some(),
+    match scope_in(setting.architecture, setting.phase, relocation.code) {
+        Scope::Alone => candidate(setting, relocations, section, index, &relocation).is_some(),
         _ => false,
     }
 }
@@ -215,12 +193,7 @@ fn label_decision(phase: Phase, chosen: Choice<Relaxation, u32>, high: &Rela) ->
 /// What becomes of a relocation of a label whose group stays or doesn't.
 fn decide_label(
     stays: bool,
-    architecture: Architecture,
-    phase: Phase,
-    output: &OutputFacts,
-    symbols: &[SymbolFacts],
-    addresses: &Addresses,
-    values: &[Symbol],
+    setting: &Setting<'_>,
     relocations: &[u8],
     section: &[u8],
     index: usize,
@@ -229,33 +202,28 @@ fn decide_label(
     requires index { index + 3 ≤ usize.MAX }
     requires within { index < length relocations.now / 24 }
     requires there { relocation.now ≡ relocation_in relocations.now index }
-    requires in_label { IsInLabel architecture phase relocation.now.code true }
-    requires noted { IsLabelNote (setting architecture phase output.now symbols.now addresses.now
-        values.now) relocations.now section.now relocation.now stays }
-    ensures decision { IsLabelDecision (setting architecture phase output.now symbols.now
-        addresses.now values.now) relocations.now section.now index relocation.now result }
+    requires in_label { IsInLabel setting.now.architecture setting.now.phase relocation.now.code
+        true }
+    requires noted { IsLabelNote (setting_of setting.now) relocations.now section.now relocation.now
+        stays }
+    ensures decision { IsLabelDecision (setting_of setting.now) relocations.now section.now index
+        relocation.now result }
     ensures made { CanBeMade result section.now relocation.now.offset }
 {
     if stays {
         return Decision::Kept;
     }
-    let Some(high) = high_of(phase, addresses, values, relocations, relocation) else {
+    let Some(high) = high_of(
+        setting.phase,
+        setting.addresses,
+        setting.values,
+        relocations,
+        relocation,
+    ) else {
         return Decision::Kept;
     };
-    match label_candidate(
-        architecture,
-        phase,
-        output,
-        symbols,
-        addresses,
-        values,
-        relocations,
-        section,
-        index,
-        relocation,
-        high,
-    ) {
-        Some(chosen) => label_decision(phase, chosen, &relocation_in(relocations, high)),
+    match label_candidate(setting, relocations, section, index, relocation, high) {
+        Some(chosen) => label_decision(setting.phase, chosen, &relocation_in(relocations, high)),
         None => Decision::Kept,
     }
 }
@@ -265,12 +233,7 @@ fn decide_label(
 #[inline(always)]
 fn decide(
     stays: bool,
-    architecture: Architecture,
-    phase: Phase,
-    output: &OutputFacts,
-    symbols: &[SymbolFacts],
-    addresses: &Addresses,
-    values: &[Symbol],
+    setting: &Setting<'_>,
     kept: &[KeptGroups],
     relocations: &[u8],
     section: &[u8],
@@ -280,42 +243,19 @@ fn decide(
     requires index { index + 4 ≤ usize.MAX }
     requires within { index < length relocations.now / 24 }
     requires there { relocation.now ≡ relocation_in relocations.now index }
-    requires noted { IsInLabel architecture phase relocation.now.code true
-        → IsLabelNote (setting architecture phase output.now symbols.now addresses.now values.now)
-        relocations.now section.now relocation.now stays }
-    ensures decision { IsDecision (setting architecture phase output.now symbols.now addresses.now
-        values.now) kept.now relocations.now section.now index relocation.now result }
+    requires noted { IsInLabel setting.now.architecture setting.now.phase relocation.now.code true →
+        IsLabelNote (setting_of setting.now) relocations.now section.now relocation.now stays }
+    ensures decision { IsDecision (setting_of setting.now) kept.now relocations.now section.now
+        index relocation.now result }
     ensures made { IfSome result (λ d. CanBeMade d section.now relocation.now.offset) }
 {
-    let is_grouped = match scope_in(architecture, phase, relocation.code) {
+    let is_grouped = match scope_in(setting.architecture, setting.phase, relocation.code) {
         Scope::Unlisted => return Some(Decision::Kept),
         Scope::Labelled => {
-            return Some(decide_label(
-                stays,
-                architecture,
-                phase,
-                output,
-                symbols,
-                addresses,
-                values,
-                relocations,
-                section,
-                index,
-                relocation,
-            ));
+            return Some(decide_label(stays, setting, relocations, section, index, relocation));
         }
         Scope::Ahead => {
-            if is_rewritten_at(
-                architecture,
-                phase,
-                output,
-                symbols,
-                addresses,
-                values,
-                relocations,
-                section,
-                index + 1,
-            ) {
+            if is_rewritten_at(setting, relocations, section, index + 1) {
                 return Some(Decision::TakenAlong);
             }
             return Some(Decision::Kept);
@@ -334,18 +274,7 @@ fn decide(
         }
         Scope::Alone => false,
     };
-    match candidate(
-        architecture,
-        phase,
-        output,
-        symbols,
-        addresses,
-        values,
-        relocations,
-        section,
-        index,
-        relocation,
-    ) {
+    match candidate(setting, relocations, section, index, relocation) {
         Some(choice) => Some(Decision::Rewritten(choice)),
         None if is_grouped => None,
         None => Some(Decision::Kept),
@@ -383,12 +312,7 @@ fn is_left(
 fn decide_after(
     is_taken: bool,
     stays: bool,
-    architecture: Architecture,
-    phase: Phase,
-    output: &OutputFacts,
-    symbols: &[SymbolFacts],
-    addresses: &Addresses,
-    values: &[Symbol],
+    setting: &Setting<'_>,
     kept: &[KeptGroups],
     relocations: &[u8],
     section: &[u8],
@@ -398,12 +322,10 @@ fn decide_after(
     requires index { index + 4 ≤ usize.MAX }
     requires within { index < length relocations.now / 24 }
     requires there { relocation.now ≡ relocation_in relocations.now index }
-    requires noted { IsInLabel architecture phase relocation.now.code true
-        → IsLabelNote (setting architecture phase output.now symbols.now addresses.now values.now)
-        relocations.now section.now relocation.now stays }
-    ensures decision { IsDecisionAfter (setting architecture phase output.now symbols.now
-        addresses.now values.now) kept.now relocations.now section.now index relocation.now is_taken
-        result }
+    requires noted { IsInLabel setting.now.architecture setting.now.phase relocation.now.code true →
+        IsLabelNote (setting_of setting.now) relocations.now section.now relocation.now stays }
+    ensures decision { IsDecisionAfter (setting_of setting.now) kept.now relocations.now section.now
+        index relocation.now is_taken result }
     ensures made { IfSome result (λ d. CanBeMade d section.now relocation.now.offset) }
 {
     if is_taken {
@@ -411,12 +333,7 @@ fn decide_after(
     }
     decide(
         stays,
-        architecture,
-        phase,
-        output,
-        symbols,
-        addresses,
-        values,
+        setting,
         kept,
         relocations,
         section,
@@ -468,21 +385,15 @@ pub(crate) fn end_behind(start: u64, own: u64, end: u64) -> Option<u64>
 /// Decides what becomes of each relocation of a section and of its instruction, in the caller's
 /// memory. Nothing is rewritten. False if all stay as they are by their codes.
 pub(crate) fn decide_section<D: AsDecision>(
-    architecture: Architecture,
-    phase: Phase,
-    output: &OutputFacts,
-    symbols: &[SymbolFacts],
-    addresses: &Addresses,
-    values: &[Symbol],
+    setting: &Setting<'_>,
     kept: &[KeptGroups],
     relocations: &[u8],
     section: &[u8],
     decisions: &mut [D],
 ) -> Result<bool, RewritingError>
     ensures enough { OnOk result (length relocations.now / 24 ≤ length decisions.old) }
-    ensures decided { OnOk result (AreDecidedIn (setting architecture phase output.now symbols.now
-        addresses.now values.now) kept.now relocations.now section.now
-        (map D.decision decisions.new) (length relocations.now / 24)) }
+    ensures decided { OnOk result (AreDecidedIn (setting_of setting.now) kept.now relocations.now
+        section.now (map D.decision decisions.new) (length relocations.now / 24)) }
     ensures left { IfOk result (λ changes. changes ≡ false
         → AreKept (map D.decision decisions.new) (length relocations.now / 24)) }
     ensures made { OnOk result (AllCanBeMade relocations.now section.now
@@ -493,41 +404,30 @@ pub(crate) fn decide_section<D: AsDecision>(
         (All D.is_written (take (length relocations.now / 24) decisions.new)) }
     ensures others_stay { drop (length relocations.now / 24) decisions.new
         ≡ drop (length relocations.now / 24) decisions.old }
-    ensures rejected { IfErr result (IsRejectedIn (setting architecture phase output.now symbols.now
-        addresses.now values.now) kept.now relocations.now section.now
-        (map D.decision decisions.new)) }
+    ensures rejected { IfErr result (IsRejectedIn (setting_of setting.now) kept.now relocations.now
+        section.now (map D.decision decisions.new)) }
 {
     let len = relocations_len(relocations);
     if decisions.len() < len {
         return Err(RewritingError::TooShort);
     }
-    if !lists_any(architecture, phase, relocations) {
+    if !lists_any(setting.architecture, setting.phase, relocations) {
         set_all(relocations, Decision::Kept, decisions);
         return Ok(false);
     }
-    note_labels(
-        architecture,
-        phase,
-        output,
-        symbols,
-        addresses,
-        values,
-        relocations,
-        section,
-        decisions,
-    );
+    note_labels(setting, relocations, section, decisions);
     let mut end = 0;
     let mut is_taken = false;
-    let table = table_of(architecture);
-    let bit = bit_of(phase);
+    let table = table_of(setting.architecture);
+    let bit = bit_of(setting.phase);
     for index in 0..len {
         if is_left(
             is_taken,
-            architecture,
-            phase,
+            setting.architecture,
+            setting.phase,
             table,
             bit,
-            symbols,
+            setting.symbols,
             relocations,
             index,
         ) {
@@ -539,12 +439,7 @@ pub(crate) fn decide_section<D: AsDecision>(
         let Some(decision) = decide_after(
             is_taken,
             stays,
-            architecture,
-            phase,
-            output,
-            symbols,
-            addresses,
-            values,
+            setting,
             kept,
             relocations,
             section,

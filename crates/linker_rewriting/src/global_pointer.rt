@@ -7,6 +7,7 @@ ghost use Rattle.std.specs.Prelude.{◌&&◌, ◌==◌, true, MatchOption};
 ghost use Rattle.std.specs.Int.{w32, from_le_bytes};
 ghost use Rattle.linker_rewriting.specs.Decisions.{CanBeMade, AllCanBeMade, deletions_by};
 ghost use Rattle.linker_rewriting.specs.Facts.{setting};
+ghost use Rattle.linker_rewriting.specs.Inner.Settings.{setting_of};
 ghost use Rattle.linker_rewriting.specs.GlobalPointer.{part_of, IsLabelled, IsSubject, IsMember};
 ghost use Rattle.linker_rewriting.specs.GlobalPointer.{relative_high};
 ghost use Rattle.linker_rewriting.specs.Labels.{offset_of_label};
@@ -29,7 +30,7 @@ ghost use Rattle.linker_section.specs.Relocations.{relocation_in};
 ghost use Rattle.linker_section.specs.Values.{IsAscending};
 
 use crate::decisions::{AsDecision, Decision, FromDeletion, RewritingError};
-use crate::facts::{OutputFacts, SymbolFacts, address_in};
+use crate::facts::{OutputFacts, Setting, SymbolFacts, address_in};
 use crate::labels::high_at;
 use crate::phases::Phase;
 use crate::relocations::{relocation_in, set_relocation};
@@ -145,23 +146,19 @@ fn part_subject(
 }
 
 /// What a relocation is of an address, and the relocation whose symbol and addend are its own.
-fn member_of(
-    architecture: Architecture,
-    phase: Phase,
-    output: &OutputFacts,
-    symbols: &[SymbolFacts],
-    addresses: &Addresses,
-    values: &[Symbol],
-    relocations: &[u8],
-    relocation: &Rela,
-) -> Option<(Part, Rela)>
-    ensures { IsMember (setting architecture phase output.now symbols.now addresses.now values.now)
-        relocations.now relocation.now result }
+fn member_of(setting: &Setting<'_>, relocations: &[u8], relocation: &Rela) -> Option<(Part, Rela)>
+    ensures { IsMember (setting_of setting.now) relocations.now relocation.now result }
 {
-    let Some(part) = part_of(architecture, relocation.code) else {
+    let Some(part) = part_of(setting.architecture, relocation.code) else {
         return None;
     };
-    match part_subject(addresses, values, relocations, relocation, part) {
+    match part_subject(
+        setting.addresses,
+        setting.values,
+        relocations,
+        relocation,
+        part,
+    ) {
         Some(subject) => Some((part, subject)),
         None => None,
     }
@@ -310,12 +307,7 @@ fn is_expected(section: &[u8], relocation: &Rela, part: Part, subject: &Rela) ->
 /// Whether a part can be rewritten, if all of its symbol can.
 fn fits(
     ascends: bool,
-    architecture: Architecture,
-    phase: Phase,
-    output: &OutputFacts,
-    symbols: &[SymbolFacts],
-    addresses: &Addresses,
-    values: &[Symbol],
+    setting: &Setting<'_>,
     gp: u64,
     relocations: &[u8],
     section: &[u8],
@@ -324,14 +316,20 @@ fn fits(
     member: &(Part, Rela),
 ) -> bool
     requires { index + 1 ≤ usize.MAX }
-    ensures { result ≡ fits (setting architecture phase output.now symbols.now addresses.now
-        values.now) gp ascends relocations.now section.now index relocation.now member.now }
+    ensures { result ≡ fits (setting_of setting.now) gp ascends relocations.now section.now index
+        relocation.now member.now }
 {
     ascends
-        && output.is_executable
-        && output.is_fixed
-        && is_marked_at(architecture, relocations, index, relocation)
-        && is_reached(symbols, addresses, values, gp, &member.1)
+        && setting.output.is_executable
+        && setting.output.is_fixed
+        && is_marked_at(setting.architecture, relocations, index, relocation)
+        && is_reached(
+            setting.symbols,
+            setting.addresses,
+            setting.values,
+            gp,
+            &member.1,
+        )
         && is_expected(section, relocation, member.0, &member.1)
 }
 
@@ -339,12 +337,7 @@ fn fits(
 #[inline(always)]
 fn kept_by(
     ascends: bool,
-    architecture: Architecture,
-    phase: Phase,
-    output: &OutputFacts,
-    symbols: &[SymbolFacts],
-    addresses: &Addresses,
-    values: &[Symbol],
+    setting: &Setting<'_>,
     gp: u64,
     relocations: &[u8],
     section: &[u8],
@@ -353,20 +346,15 @@ fn kept_by(
     member: Option<(Part, Rela)>,
 ) -> Option<usize>
     requires { index + 1 ≤ usize.MAX }
-    ensures { result ≡ kept_by (setting architecture phase output.now symbols.now addresses.now
-        values.now) gp ascends relocations.now section.now index relocation.now member }
+    ensures { result ≡ kept_by (setting_of setting.now) gp ascends relocations.now section.now index
+        relocation.now member }
 {
     let Some(member) = member else {
         return None;
     };
     if fits(
         ascends,
-        architecture,
-        phase,
-        output,
-        symbols,
-        addresses,
-        values,
+        setting,
         gp,
         relocations,
         section,
@@ -383,12 +371,7 @@ fn kept_by(
 /// The symbol that a relocation keeps, since it is of an address and doesn't fit.
 fn keeping_symbol(
     ascends: bool,
-    architecture: Architecture,
-    phase: Phase,
-    output: &OutputFacts,
-    symbols: &[SymbolFacts],
-    addresses: &Addresses,
-    values: &[Symbol],
+    setting: &Setting<'_>,
     gp: u64,
     relocations: &[u8],
     section: &[u8],
@@ -397,27 +380,13 @@ fn keeping_symbol(
 ) -> Option<usize>
     requires index { index + 1 ≤ usize.MAX }
     requires ascending { IsTrue ascends ↔ IsAscending relocations.now }
-    ensures { IsKeepingSymbol (setting architecture phase output.now symbols.now addresses.now
-        values.now) gp relocations.now section.now index relocation.now result }
+    ensures { IsKeepingSymbol (setting_of setting.now) gp relocations.now section.now index
+        relocation.now result }
 {
-    let member = member_of(
-        architecture,
-        phase,
-        output,
-        symbols,
-        addresses,
-        values,
-        relocations,
-        relocation,
-    );
+    let member = member_of(setting, relocations, relocation);
     kept_by(
         ascends,
-        architecture,
-        phase,
-        output,
-        symbols,
-        addresses,
-        values,
+        setting,
         gp,
         relocations,
         section,
@@ -481,17 +450,20 @@ pub fn survey_global_pointer(
         addresses.now values.now) gp relocations.now section.now kept.old kept.new
         (length relocations.now / 24) }
 {
+    let setting = Setting {
+        architecture,
+        phase: Phase::Distances,
+        output,
+        symbols,
+        addresses,
+        values,
+    };
     let ascends = is_ascending(relocations);
     for index in 0..relocations_len(relocations) {
         let relocation = relocation_in(relocations, index);
         let symbol = keeping_symbol(
             ascends,
-            architecture,
-            Phase::Distances,
-            output,
-            symbols,
-            addresses,
-            values,
+            &setting,
             gp,
             relocations,
             section,
@@ -526,12 +498,7 @@ fn part_decision(part: Part, subject: &Rela) -> Decision
 #[inline(always)]
 fn decided_by(
     ascends: bool,
-    architecture: Architecture,
-    phase: Phase,
-    output: &OutputFacts,
-    symbols: &[SymbolFacts],
-    addresses: &Addresses,
-    values: &[Symbol],
+    setting: &Setting<'_>,
     gp: u64,
     kept: &[bool],
     relocations: &[u8],
@@ -541,9 +508,8 @@ fn decided_by(
     member: Option<(Part, Rela)>,
 ) -> Option<Decision>
     requires { index + 1 ≤ usize.MAX }
-    ensures decision { result ≡ decided_by (setting architecture phase output.now symbols.now
-        addresses.now values.now) gp ascends kept.now relocations.now section.now index
-        relocation.now member }
+    ensures decision { result ≡ decided_by (setting_of setting.now) gp ascends kept.now
+        relocations.now section.now index relocation.now member }
     ensures made { IfSome result (λ d. CanBeMade d section.now relocation.now.offset) }
 {
     let Some(member) = member else {
@@ -554,12 +520,7 @@ fn decided_by(
     }
     if fits(
         ascends,
-        architecture,
-        phase,
-        output,
-        symbols,
-        addresses,
-        values,
+        setting,
         gp,
         relocations,
         section,
@@ -576,12 +537,7 @@ fn decided_by(
 /// What becomes of a relocation. None if its symbol doesn't stay, but it can't be rewritten.
 fn decide_part(
     ascends: bool,
-    architecture: Architecture,
-    phase: Phase,
-    output: &OutputFacts,
-    symbols: &[SymbolFacts],
-    addresses: &Addresses,
-    values: &[Symbol],
+    setting: &Setting<'_>,
     gp: u64,
     kept: &[bool],
     relocations: &[u8],
@@ -591,29 +547,14 @@ fn decide_part(
 ) -> Option<Decision>
     requires index { index + 1 ≤ usize.MAX }
     requires ascending { IsTrue ascends ↔ IsAscending relocations.now }
-    ensures decision { IsPartDecided (setting architecture phase output.now symbols.now
-        addresses.now values.now) gp kept.now relocations.now section.now index relocation.now
-        result }
+    ensures decision { IsPartDecided (setting_of setting.now) gp kept.now relocations.now
+        section.now index relocation.now result }
     ensures made { IfSome result (λ d. CanBeMade d section.now relocation.now.offset) }
 {
-    let member = member_of(
-        architecture,
-        phase,
-        output,
-        symbols,
-        addresses,
-        values,
-        relocations,
-        relocation,
-    );
+    let member = member_of(setting, relocations, relocation);
     decided_by(
         ascends,
-        architecture,
-        phase,
-        output,
-        symbols,
-        addresses,
-        values,
+        setting,
         gp,
         kept,
         relocations,
@@ -626,12 +567,7 @@ fn decide_part(
 
 /// Decides what becomes of each relocation of a section, in the caller's memory.
 fn decide_parts<D: AsDecision>(
-    architecture: Architecture,
-    phase: Phase,
-    output: &OutputFacts,
-    symbols: &[SymbolFacts],
-    addresses: &Addresses,
-    values: &[Symbol],
+    setting: &Setting<'_>,
     gp: u64,
     kept: &[bool],
     relocations: &[u8],
@@ -639,18 +575,16 @@ fn decide_parts<D: AsDecision>(
     decisions: &mut [D],
 ) -> Result<(), RewritingError>
     ensures enough { OnOk result (length relocations.now / 24 ≤ length decisions.old) }
-    ensures decided { OnOk result (ArePartsDecided (setting architecture phase output.now
-        symbols.now addresses.now values.now) gp kept.now relocations.now section.now
-        (map D.decision decisions.new) (length relocations.now / 24)) }
+    ensures decided { OnOk result (ArePartsDecided (setting_of setting.now) gp kept.now
+        relocations.now section.now (map D.decision decisions.new) (length relocations.now / 24)) }
     ensures made { OnOk result (AllCanBeMade relocations.now section.now
         (map D.decision decisions.new) (length relocations.now / 24)) }
     ensures form { OnOk result
         (All D.is_written (take (length relocations.now / 24) decisions.new)) }
     ensures others_stay { drop (length relocations.now / 24) decisions.new
         ≡ drop (length relocations.now / 24) decisions.old }
-    ensures rejected { IfErr result (λ e. (room : ℕ) → ArePartsRejected (setting architecture phase
-        output.now symbols.now addresses.now values.now) gp kept.now relocations.now section.now
-        (map D.decision decisions.new) room e) }
+    ensures rejected { IfErr result (λ e. (room : ℕ) → ArePartsRejected (setting_of setting.now) gp
+        kept.now relocations.now section.now (map D.decision decisions.new) room e) }
 {
     let len = relocations_len(relocations);
     if decisions.len() < len {
@@ -661,12 +595,7 @@ fn decide_parts<D: AsDecision>(
         let relocation = relocation_in(relocations, index);
         let Some(decision) = decide_part(
             ascends,
-            architecture,
-            phase,
-            output,
-            symbols,
-            addresses,
-            values,
+            setting,
             gp,
             kept,
             relocations,
@@ -810,19 +739,15 @@ pub fn rewrite_global_pointer<D: AsDecision, L: FromDeletion>(
         output.now symbols.now addresses.now values.now) gp relocations.old section.now kept.now) }
     ensures entries { OnErr result (relocations.new ≡ relocations.old) }
 {
-    match decide_parts(
+    let setting = Setting {
         architecture,
-        Phase::Distances,
+        phase: Phase::Distances,
         output,
         symbols,
         addresses,
         values,
-        gp,
-        kept,
-        relocations,
-        section,
-        decisions,
-    ) {
+    };
+    match decide_parts(&setting, gp, kept, relocations, section, decisions) {
         Ok(()) => match list_deletions(relocations, decisions, deleted) {
             Some(len) => {
                 turn_all(decisions, relocations);

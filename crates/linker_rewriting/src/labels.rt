@@ -8,7 +8,7 @@ ghost use Rattle.linker_section.specs.Relocations.{relocation_in};
 ghost use Rattle.linker_section.specs.Values.{IsAscending};
 ghost use Rattle.linker_rewriting.specs.Candidates.{deletes_within};
 ghost use Rattle.linker_rewriting.specs.Decisions.{decision_at};
-ghost use Rattle.linker_rewriting.specs.Facts.{setting};
+ghost use Rattle.linker_rewriting.specs.Inner.Settings.{setting_of};
 ghost use Rattle.linker_rewriting.specs.Labels.{high_code, IsHighAt, label_offset, IsHighOf};
 ghost use Rattle.linker_rewriting.specs.Labels.{is_labelled, IsInLabel, is_label_marked};
 ghost use Rattle.linker_rewriting.specs.Labels.{has_labels};
@@ -17,7 +17,7 @@ ghost use Rattle.linker_rewriting.specs.Notes.{is_note, AreHighsNoted, IsNoteOf,
 
 use crate::candidates::candidate_by;
 use crate::decisions::{AsDecision, Decision};
-use crate::facts::{OutputFacts, SymbolFacts, link_facts};
+use crate::facts::{OutputFacts, Setting, SymbolFacts, link_facts};
 use crate::groups::{Scope, scope_in};
 use crate::phases::Phase;
 use crate::relocations::relocation_in;
@@ -154,12 +154,7 @@ fn without_entry(facts: Option<LinkFacts>) -> Option<LinkFacts>
 /// The rewrite of the instruction of the relocation with an index, by the facts of its label's high
 /// part.
 pub(crate) fn label_candidate(
-    architecture: Architecture,
-    phase: Phase,
-    output: &OutputFacts,
-    symbols: &[SymbolFacts],
-    addresses: &Addresses,
-    values: &[Symbol],
+    setting: &Setting<'_>,
     relocations: &[u8],
     section: &[u8],
     index: usize,
@@ -168,22 +163,27 @@ pub(crate) fn label_candidate(
 ) -> Option<Choice<Relaxation, u32>>
     requires index { index + 3 ≤ usize.MAX }
     requires high { high < length relocations.now / 24 }
-    ensures candidate { IsLabelCandidate (setting architecture phase output.now symbols.now
-        addresses.now values.now) relocations.now section.now index relocation.now high result }
+    ensures candidate { IsLabelCandidate (setting_of setting.now) relocations.now section.now index
+        relocation.now high result }
     ensures rewritable { IfSome result (λ chosen. CanRewrite (relaxation_rewrite chosen.kind)
         section.now relocation.now.offset) }
     ensures deletes { IfSome result (λ chosen. deletes_within section.now relocation.now.offset
         (relaxation_deleted chosen.kind) ≡ true) }
 {
     let part = relocation_in(relocations, high);
-    let marked = is_label_marked(architecture, phase, relocations, index, relocation, high);
-    let facts = without_entry(link_facts(
-        phase, output, symbols, addresses, values, &part, &part, marked,
-    ));
+    let marked = is_label_marked(
+        setting.architecture,
+        setting.phase,
+        relocations,
+        index,
+        relocation,
+        high,
+    );
+    let facts = without_entry(link_facts(setting, &part, &part, marked));
     match facts {
         Some(facts) => candidate_by(
-            architecture,
-            symbols,
+            setting.architecture,
+            setting.symbols,
             relocations,
             section,
             index,
@@ -196,12 +196,7 @@ pub(crate) fn label_candidate(
 
 /// The index of the high part whose group stays, since this relocation is of it and has no rewrite.
 fn lacking(
-    architecture: Architecture,
-    phase: Phase,
-    output: &OutputFacts,
-    symbols: &[SymbolFacts],
-    addresses: &Addresses,
-    values: &[Symbol],
+    setting: &Setting<'_>,
     relocations: &[u8],
     section: &[u8],
     index: usize,
@@ -209,29 +204,22 @@ fn lacking(
 ) -> Option<usize>
     requires { index + 3 ≤ usize.MAX }
     ensures within { IfSome result (λ high. high < length relocations.now / 24) }
-    ensures lacking { IsAscending relocations.now → IsLacking (setting architecture phase output.now
-        symbols.now addresses.now values.now) relocations.now section.now index relocation.now
-        result }
+    ensures lacking { IsAscending relocations.now → IsLacking (setting_of setting.now)
+        relocations.now section.now index relocation.now result }
 {
-    if !is_in_label(architecture, phase, relocation.code) {
+    if !is_in_label(setting.architecture, setting.phase, relocation.code) {
         return None;
     }
-    let Some(high) = high_of(phase, addresses, values, relocations, relocation) else {
+    let Some(high) = high_of(
+        setting.phase,
+        setting.addresses,
+        setting.values,
+        relocations,
+        relocation,
+    ) else {
         return None;
     };
-    match label_candidate(
-        architecture,
-        phase,
-        output,
-        symbols,
-        addresses,
-        values,
-        relocations,
-        section,
-        index,
-        relocation,
-        high,
-    ) {
+    match label_candidate(setting, relocations, section, index, relocation, high) {
         Some(_) => None,
         None => Some(high),
     }
@@ -261,12 +249,7 @@ pub(crate) fn set_all<D: AsDecision>(relocations: &[u8], decision: Decision, dec
 
 /// Notes at each high part of a section whether its group stays.
 fn note_highs<D: AsDecision>(
-    architecture: Architecture,
-    phase: Phase,
-    output: &OutputFacts,
-    symbols: &[SymbolFacts],
-    addresses: &Addresses,
-    values: &[Symbol],
+    setting: &Setting<'_>,
     relocations: &[u8],
     section: &[u8],
     decisions: &mut [D],
@@ -275,26 +258,14 @@ fn note_highs<D: AsDecision>(
     requires enough { length relocations.now / 24 ≤ length decisions.old }
     requires clear { (n : ℕ) → n < length relocations.now / 24
         → decision_at (map D.decision decisions.old) n ≡ Decision.Kept }
-    ensures noted { AreHighsNoted (setting architecture phase output.now symbols.now addresses.now
-        values.now) relocations.now section.now (map D.decision decisions.new)
-        (length relocations.now / 24) }
+    ensures noted { AreHighsNoted (setting_of setting.now) relocations.now section.now (map
+        D.decision decisions.new) (length relocations.now / 24) }
     ensures others { drop (length relocations.now / 24) decisions.new
         ≡ drop (length relocations.now / 24) decisions.old }
 {
     for index in 0..relocations_len(relocations) {
         let relocation = relocation_in(relocations, index);
-        let Some(high) = lacking(
-            architecture,
-            phase,
-            output,
-            symbols,
-            addresses,
-            values,
-            relocations,
-            section,
-            index,
-            &relocation,
-        ) else {
+        let Some(high) = lacking(setting, relocations, section, index, &relocation) else {
             continue;
         };
         decisions[high] = D::from_decision(Decision::TakenAlong);
@@ -324,35 +295,29 @@ fn note_of<D: AsDecision>(
 
 /// Notes at each relocation of a label what is noted at its high part.
 fn copy_notes<D: AsDecision>(
-    architecture: Architecture,
-    phase: Phase,
-    output: &OutputFacts,
-    symbols: &[SymbolFacts],
-    addresses: &Addresses,
-    values: &[Symbol],
+    setting: &Setting<'_>,
     relocations: &[u8],
     section: &[u8],
     decisions: &mut [D],
 )
     requires ascending { IsAscending relocations.now }
     requires enough { length relocations.now / 24 ≤ length decisions.old }
-    requires noted { AreHighsNoted (setting architecture phase output.now symbols.now addresses.now
-        values.now) relocations.now section.now (map D.decision decisions.old)
-        (length relocations.now / 24) }
-    ensures noted { AreLabelsNoted (setting architecture phase output.now symbols.now addresses.now
-        values.now) relocations.now section.now (map D.decision decisions.new) 0 }
+    requires noted { AreHighsNoted (setting_of setting.now) relocations.now section.now (map
+        D.decision decisions.old) (length relocations.now / 24) }
+    ensures noted { AreLabelsNoted (setting_of setting.now) relocations.now section.now (map
+        D.decision decisions.new) 0 }
     ensures others { drop (length relocations.now / 24) decisions.new
         ≡ drop (length relocations.now / 24) decisions.old }
 {
     for index in 0..relocations_len(relocations) {
         let relocation = relocation_in(relocations, index);
-        if !is_in_label(architecture, phase, relocation.code) {
+        if !is_in_label(setting.architecture, setting.phase, relocation.code) {
             continue;
         }
         let note = note_of(
-            phase,
-            addresses,
-            values,
+            setting.phase,
+            setting.addresses,
+            setting.values,
             relocations,
             decisions,
             &relocation,
@@ -374,23 +339,18 @@ fn has_labels(architecture: Architecture, phase: Phase) -> bool
 
 /// Notes at each relocation of a label of RISC-V whether its group stays, in place of its decision.
 pub(crate) fn note_labels<D: AsDecision>(
-    architecture: Architecture,
-    phase: Phase,
-    output: &OutputFacts,
-    symbols: &[SymbolFacts],
-    addresses: &Addresses,
-    values: &[Symbol],
+    setting: &Setting<'_>,
     relocations: &[u8],
     section: &[u8],
     decisions: &mut [D],
 )
     requires enough { length relocations.now / 24 ≤ length decisions.old }
-    ensures noted { AreLabelsNoted (setting architecture phase output.now symbols.now addresses.now
-        values.now) relocations.now section.now (map D.decision decisions.new) 0 }
+    ensures noted { AreLabelsNoted (setting_of setting.now) relocations.now section.now (map
+        D.decision decisions.new) 0 }
     ensures others { drop (length relocations.now / 24) decisions.new
         ≡ drop (length relocations.now / 24) decisions.old }
 {
-    if !has_labels(architecture, phase) {
+    if !has_labels(setting.architecture, setting.phase) {
         return;
     }
     if !is_ascending(relocations) {
@@ -398,26 +358,6 @@ pub(crate) fn note_labels<D: AsDecision>(
         return;
     }
     set_all(relocations, Decision::Kept, decisions);
-    note_highs(
-        architecture,
-        phase,
-        output,
-        symbols,
-        addresses,
-        values,
-        relocations,
-        section,
-        decisions,
-    );
-    copy_notes(
-        architecture,
-        phase,
-        output,
-        symbols,
-        addresses,
-        values,
-        relocations,
-        section,
-        decisions,
-    );
+    note_highs(setting, relocations, section, decisions);
+    copy_notes(setting, relocations, section, decisions);
 }

@@ -15,7 +15,7 @@ ghost use Rattle.linker_rewriting.specs.Rewritten.{GroupsAreWholeIn, LabelsAreWh
 ghost use Rattle.linker_rewriting.specs.Surveys.{MeansUnsurveyed};
 
 use crate::decisions::{AsDecision, Decision, FromDeletion, RewritingError, decide_section};
-use crate::facts::{NO_ADDRESSES, OutputFacts, SymbolFacts};
+use crate::facts::{NO_ADDRESSES, OutputFacts, Setting, SymbolFacts};
 use crate::groups::KeptGroups;
 use crate::phases::Phase;
 use crate::relocations::{relocation_in, set_relocation};
@@ -191,18 +191,15 @@ pub fn rewrite_section<D: AsDecision>(
     ensures section { OnErr result (section.new ≡ section.old) }
     ensures entries { OnErr result (relocations.new ≡ relocations.old) }
 {
-    match decide_section(
+    let setting = Setting {
         architecture,
-        Phase::Early,
+        phase: Phase::Early,
         output,
         symbols,
-        &NO_ADDRESSES,
-        &[],
-        kept,
-        relocations,
-        section,
-        decisions,
-    ) {
+        addresses: &NO_ADDRESSES,
+        values: &[],
+    };
+    match decide_section(&setting, kept, relocations, section, decisions) {
         Ok(changes) => {
             make_changes(changes, decisions, relocations, section);
             Ok(())
@@ -392,18 +389,15 @@ pub fn rewrite_placed_section<D: AsDecision, L: FromDeletion>(
     ensures section { OnErr result (section.new ≡ section.old) }
     ensures entries { OnErr result (relocations.new ≡ relocations.old) }
 {
-    match decide_section(
+    let setting = Setting {
         architecture,
         phase,
         output,
         symbols,
         addresses,
         values,
-        kept,
-        relocations,
-        section,
-        decisions,
-    ) {
+    };
+    match decide_section(&setting, kept, relocations, section, decisions) {
         Ok(changes) => match list_changes(changes, relocations, decisions, deleted) {
             Some(len) => {
                 make_changes(changes, decisions, relocations, section);

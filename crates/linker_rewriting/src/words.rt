@@ -8,6 +8,7 @@ ghost use Rattle.linker_base.specs.Rewrite.{CanRewrite};
 ghost use Rattle.linker_rewriting.specs.Candidates.{deletes_within};
 ghost use Rattle.linker_rewriting.specs.Decisions.{CanBeMade, AllCanBeMade, AreApart};
 ghost use Rattle.linker_rewriting.specs.Facts.{setting};
+ghost use Rattle.linker_rewriting.specs.Inner.Settings.{setting_of};
 ghost use Rattle.linker_rewriting.specs.Inner.Words.{IsThatWord, with_code};
 ghost use Rattle.linker_rewriting.specs.Rewritten.{AreRelocationsAfter, AreDone, OthersStay};
 ghost use Rattle.linker_rewriting.specs.Words.{entry_code, word_code, word_offset, subject_of};
@@ -20,7 +21,7 @@ ghost use Rattle.linker_utils.specs.Architectures.{relaxation_rewrite, relaxatio
 
 use crate::candidates::candidate_by;
 use crate::decisions::{AsDecision, Decision, RewritingError, Subject, end_behind, span_of};
-use crate::facts::{OutputFacts, SymbolFacts, address_in, link_facts};
+use crate::facts::{OutputFacts, Setting, SymbolFacts, address_in, link_facts};
 use crate::labels::high_at;
 use crate::phases::Phase;
 use crate::relocations::relocation_in;
@@ -83,24 +84,18 @@ fn word_offset(
 /// What a relocation loads: the code for an entry of the GOT, and the index of the word's
 /// relocation.
 fn load_of(
-    architecture: Architecture,
-    phase: Phase,
-    output: &OutputFacts,
-    symbols: &[SymbolFacts],
-    addresses: &Addresses,
-    values: &[Symbol],
+    setting: &Setting<'_>,
     start: u64,
     words: &[u8],
     relocation: &Rela,
 ) -> Option<(u32, usize)>
     ensures within { IfSome result (λ load. load.1 < length words.now / 24) }
-    ensures load { IsLoad (setting architecture phase output.now symbols.now addresses.now
-        values.now) start words.now relocation.now result }
+    ensures load { IsLoad (setting_of setting.now) start words.now relocation.now result }
 {
-    let Some(entry) = entry_code(architecture, relocation.code) else {
+    let Some(entry) = entry_code(setting.architecture, relocation.code) else {
         return None;
     };
-    let Some(at) = word_offset(addresses, values, start, relocation) else {
+    let Some(at) = word_offset(setting.addresses, setting.values, start, relocation) else {
         return None;
     };
     match high_at(words, word_code(), at) {
@@ -123,12 +118,7 @@ fn with_code(code: u32, relocation: &Rela) -> Rela
 /// The rewrite of a load, if each other one of the word is rewritten.
 #[inline(always)]
 fn load_candidate(
-    architecture: Architecture,
-    phase: Phase,
-    output: &OutputFacts,
-    symbols: &[SymbolFacts],
-    addresses: &Addresses,
-    values: &[Symbol],
+    setting: &Setting<'_>,
     words: &[u8],
     relocations: &[u8],
     section: &[u8],
@@ -138,9 +128,8 @@ fn load_candidate(
 ) -> Option<Choice<Relaxation, u32>>
     requires index { index + 3 ≤ usize.MAX }
     requires within { load.1 < length words.now / 24 }
-    ensures candidate { IsLoadCandidate (setting architecture phase output.now symbols.now
-        addresses.now values.now) words.now relocations.now section.now index relocation.now load
-        result }
+    ensures candidate { IsLoadCandidate (setting_of setting.now) words.now relocations.now
+        section.now index relocation.now load result }
     ensures rewritable { IfSome result (λ chosen. CanRewrite (relaxation_rewrite chosen.kind)
         section.now relocation.now.offset) }
     ensures deletes { IfSome result (λ chosen. deletes_within section.now relocation.now.offset
@@ -148,14 +137,12 @@ fn load_candidate(
 {
     let (entry, word) = load;
     let word = relocation_in(words, word);
-    let facts = link_facts(
-        phase, output, symbols, addresses, values, relocation, &word, false,
-    );
+    let facts = link_facts(setting, relocation, &word, false);
     let of_entry = with_code(entry, relocation);
     match &facts {
         Some(facts) => candidate_by(
-            architecture,
-            symbols,
+            setting.architecture,
+            setting.symbols,
             relocations,
             section,
             index,
@@ -193,12 +180,7 @@ pub(crate) fn keep_word(kept: &mut [bool], word: Option<usize>)
 /// The word that a relocation keeps, since it loads it and has no rewrite.
 #[inline(always)]
 fn keeping_word(
-    architecture: Architecture,
-    phase: Phase,
-    output: &OutputFacts,
-    symbols: &[SymbolFacts],
-    addresses: &Addresses,
-    values: &[Symbol],
+    setting: &Setting<'_>,
     start: u64,
     words: &[u8],
     relocations: &[u8],
@@ -207,29 +189,14 @@ fn keeping_word(
     relocation: &Rela,
 ) -> Option<usize>
     requires { index + 3 ≤ usize.MAX }
-    ensures { IsKeepingWord (setting architecture phase output.now symbols.now addresses.now
-        values.now) start words.now relocations.now section.now index relocation.now result }
+    ensures { IsKeepingWord (setting_of setting.now) start words.now relocations.now section.now
+        index relocation.now result }
 {
-    let Some(load) = load_of(
-        architecture,
-        phase,
-        output,
-        symbols,
-        addresses,
-        values,
-        start,
-        words,
-        relocation,
-    ) else {
+    let Some(load) = load_of(setting, start, words, relocation) else {
         return None;
     };
     match load_candidate(
-        architecture,
-        phase,
-        output,
-        symbols,
-        addresses,
-        values,
+        setting,
         words,
         relocations,
         section,
@@ -300,15 +267,18 @@ pub fn survey_address_loads(
         addresses.now values.now) words_start words.now relocations.now section.now
         kept.old kept.new (length relocations.now / 24) }
 {
+    let setting = Setting {
+        architecture,
+        phase: Phase::Distances,
+        output,
+        symbols,
+        addresses,
+        values,
+    };
     for index in 0..relocations_len(relocations) {
         let relocation = relocation_in(relocations, index);
         let word = keeping_word(
-            architecture,
-            Phase::Distances,
-            output,
-            symbols,
-            addresses,
-            values,
+            &setting,
             words_start,
             words,
             relocations,
@@ -333,12 +303,7 @@ pub(crate) fn subject_of(word: &Rela) -> Subject
 
 /// What becomes of a relocation. None if it loads a word that doesn't stay, but can't be rewritten.
 fn decide_load(
-    architecture: Architecture,
-    phase: Phase,
-    output: &OutputFacts,
-    symbols: &[SymbolFacts],
-    addresses: &Addresses,
-    values: &[Symbol],
+    setting: &Setting<'_>,
     start: u64,
     words: &[u8],
     kept: &[bool],
@@ -348,34 +313,18 @@ fn decide_load(
     relocation: &Rela,
 ) -> Option<Decision>
     requires { index + 3 ≤ usize.MAX }
-    ensures decision { IsLoadDecided (setting architecture phase output.now symbols.now
-        addresses.now values.now) start words.now kept.now relocations.now section.now index
-        relocation.now result }
+    ensures decision { IsLoadDecided (setting_of setting.now) start words.now kept.now
+        relocations.now section.now index relocation.now result }
     ensures made { IfSome result (λ d. CanBeMade d section.now relocation.now.offset) }
 {
-    let Some(load) = load_of(
-        architecture,
-        phase,
-        output,
-        symbols,
-        addresses,
-        values,
-        start,
-        words,
-        relocation,
-    ) else {
+    let Some(load) = load_of(setting, start, words, relocation) else {
         return Some(Decision::Kept);
     };
     if word_stays(kept, load.1) {
         return Some(Decision::Kept);
     }
     match load_candidate(
-        architecture,
-        phase,
-        output,
-        symbols,
-        addresses,
-        values,
+        setting,
         words,
         relocations,
         section,
@@ -394,12 +343,7 @@ fn decide_load(
 /// Decides what becomes of each relocation of a section and of its instruction, in the caller's
 /// memory. Nothing is rewritten.
 fn decide_loads<D: AsDecision>(
-    architecture: Architecture,
-    phase: Phase,
-    output: &OutputFacts,
-    symbols: &[SymbolFacts],
-    addresses: &Addresses,
-    values: &[Symbol],
+    setting: &Setting<'_>,
     start: u64,
     words: &[u8],
     kept: &[bool],
@@ -408,9 +352,8 @@ fn decide_loads<D: AsDecision>(
     decisions: &mut [D],
 ) -> Result<(), RewritingError>
     ensures enough { OnOk result (length relocations.now / 24 ≤ length decisions.old) }
-    ensures decided { OnOk result (AreLoadsDecided (setting architecture phase output.now
-        symbols.now addresses.now values.now) start words.now kept.now relocations.now section.now
-        (map D.decision decisions.new) (length relocations.now / 24)) }
+    ensures decided { OnOk result (AreLoadsDecided (setting_of setting.now) start words.now kept.now
+        relocations.now section.now (map D.decision decisions.new) (length relocations.now / 24)) }
     ensures made { OnOk result (AllCanBeMade relocations.now section.now
         (map D.decision decisions.new) (length relocations.now / 24)) }
     ensures apart { OnOk result (AreApart relocations.now (map D.decision decisions.new)
@@ -419,9 +362,8 @@ fn decide_loads<D: AsDecision>(
         (All D.is_written (take (length relocations.now / 24) decisions.new)) }
     ensures others_stay { drop (length relocations.now / 24) decisions.new
         ≡ drop (length relocations.now / 24) decisions.old }
-    ensures rejected { IfErr result (AreLoadsRejected (setting architecture phase output.now
-        symbols.now addresses.now values.now) start words.now kept.now relocations.now section.now
-        (map D.decision decisions.new)) }
+    ensures rejected { IfErr result (AreLoadsRejected (setting_of setting.now) start words.now
+        kept.now relocations.now section.now (map D.decision decisions.new)) }
 {
     let len = relocations_len(relocations);
     if decisions.len() < len {
@@ -431,12 +373,7 @@ fn decide_loads<D: AsDecision>(
     for index in 0..len {
         let relocation = relocation_in(relocations, index);
         let Some(decision) = decide_load(
-            architecture,
-            phase,
-            output,
-            symbols,
-            addresses,
-            values,
+            setting,
             start,
             words,
             kept,
@@ -549,13 +486,16 @@ pub fn rewrite_address_loads<D: AsDecision>(
     ensures section { OnErr result (section.new ≡ section.old) }
     ensures entries { OnErr result (relocations.new ≡ relocations.old) }
 {
-    match decide_loads(
+    let setting = Setting {
         architecture,
-        Phase::Distances,
+        phase: Phase::Distances,
         output,
         symbols,
         addresses,
         values,
+    };
+    match decide_loads(
+        &setting,
         words_start,
         words,
         kept,

@@ -1,7 +1,7 @@
 // Made by tools/erase of crates/linker_rewriting/src/candidates.rt.
 //! Whether the instruction of a relocation can be rewritten, if each other one of its group can.
 
-use crate::linker_rewriting::facts::{OutputFacts, SymbolFacts, link_facts};
+use crate::linker_rewriting::facts::{OutputFacts, Setting, SymbolFacts, link_facts};
 use crate::linker_rewriting::phases::Phase;
 use crate::linker_rewriting::sequences::{is_marked_in, is_whole};
 use crate::linker_base::rewrite::DeletedBytes;
@@ -110,25 +110,24 @@ pub(crate) fn candidate_by(
 /// bytes behind the section, or it is of a sequence whose relocations aren't all next to it.
 #[inline(always)]
 pub(crate) fn candidate(
-    architecture: Architecture,
-    phase: Phase,
-    output: &OutputFacts,
-    symbols: &[SymbolFacts],
-    addresses: &Addresses,
-    values: &[Symbol],
+    setting: &Setting<'_>,
     relocations: &[u8],
     section: &[u8],
     index: usize,
     relocation: &Rela,
 ) -> Option<Choice<Relaxation, u32>> {
-    let marked = is_marked_in(phase, architecture, relocations, index, relocation);
-    let facts = link_facts(
-        phase, output, symbols, addresses, values, relocation, relocation, marked,
+    let marked = is_marked_in(
+        setting.phase,
+        setting.architecture,
+        relocations,
+        index,
+        relocation,
     );
+    let facts = link_facts(setting, relocation, relocation, marked);
     match &facts {
         Some(facts) => candidate_by(
-            architecture,
-            symbols,
+            setting.architecture,
+            setting.symbols,
             relocations,
             section,
             index,
@@ -159,27 +158,26 @@ fn at_base(facts: Option<LinkFacts>) -> Option<LinkFacts> {
 /// whatever the distance.
 #[inline(always)]
 pub(crate) fn is_matched(
-    architecture: Architecture,
-    phase: Phase,
-    output: &OutputFacts,
-    symbols: &[SymbolFacts],
-    addresses: &Addresses,
-    values: &[Symbol],
+    setting: &Setting<'_>,
     relocations: &[u8],
     section: &[u8],
     index: usize,
     relocation: &Rela,
 ) -> bool {
-    let marked = is_marked_in(phase, architecture, relocations, index, relocation);
-    let facts = link_facts(
-        phase, output, symbols, addresses, values, relocation, relocation, marked,
+    let marked = is_marked_in(
+        setting.phase,
+        setting.architecture,
+        relocations,
+        index,
+        relocation,
     );
+    let facts = link_facts(setting, relocation, relocation, marked);
     let Some(facts) = at_base(facts) else {
         return false;
     };
     candidate_by(
-        architecture,
-        symbols,
+        setting.architecture,
+        setting.symbols,
         relocations,
         section,
         index,

@@ -4,7 +4,7 @@
 use crate::linker_rewriting::calls::keeps_call;
 use crate::linker_rewriting::candidates::candidate;
 use crate::linker_rewriting::codes::{bit_of, is_listed, lists_any, table_of};
-use crate::linker_rewriting::facts::{OutputFacts, SymbolFacts};
+use crate::linker_rewriting::facts::{OutputFacts, Setting, SymbolFacts};
 use crate::linker_rewriting::groups::{KeptGroups, Scope, group_stays, scope_in};
 use crate::linker_rewriting::labels::{high_of, is_note, label_candidate, note_labels, set_all};
 use crate::linker_rewriting::phases::Phase;
@@ -129,34 +129,12 @@ impl Decision {
 }
 
 /// Whether the relocation with an index, if there is one, is alone and is rewritten.
-fn is_rewritten_at(
-    architecture: Architecture,
-    phase: Phase,
-    output: &OutputFacts,
-    symbols: &[SymbolFacts],
-    addresses: &Addresses,
-    values: &[Symbol],
-    relocations: &[u8],
-    section: &[u8],
-    index: usize,
-) -> bool {
+fn is_rewritten_at(setting: &Setting<'_>, relocations: &[u8], section: &[u8], index: usize) -> bool {
     let Some(relocation) = relocation_at(relocations, index) else {
         return false;
     };
-    match scope_in(architecture, phase, relocation.code) {
-        Scope::Alone => candidate(
-            architecture,
-            phase,
-            output,
-            symbols,
-            addresses,
-            values,
-            relocations,
-            section,
-            index,
-            &relocation,
-        )
-        .is_some(),
+    match scope_in(setting.architecture, setting.phase, relocation.code) {
+        Scope::Alone => candidate(setting, relocations, section, index, &relocation).is_some(),
         _ => false,
     }
 }
@@ -179,12 +157,7 @@ fn label_decision(phase: Phase, chosen: Choice<Relaxation, u32>, high: &Rela) ->
 /// What becomes of a relocation of a label whose group stays or doesn't.
 fn decide_label(
     stays: bool,
-    architecture: Architecture,
-    phase: Phase,
-    output: &OutputFacts,
-    symbols: &[SymbolFacts],
-    addresses: &Addresses,
-    values: &[Symbol],
+    setting: &Setting<'_>,
     relocations: &[u8],
     section: &[u8],
     index: usize,
@@ -193,23 +166,17 @@ fn decide_label(
     if stays {
         return Decision::Kept;
     }
-    let Some(high) = high_of(phase, addresses, values, relocations, relocation) else {
+    let Some(high) = high_of(
+        setting.phase,
+        setting.addresses,
+        setting.values,
+        relocations,
+        relocation,
+    ) else {
         return Decision::Kept;
     };
-    match label_candidate(
-        architecture,
-        phase,
-        output,
-        symbols,
-        addresses,
-        values,
-        relocations,
-        section,
-        index,
-        relocation,
-        high,
-    ) {
-        Some(chosen) => label_decision(phase, chosen, &relocation_in(relocations, high)),
+    match label_candidate(setting, relocations, section, index, relocation, high) {
+        Some(chosen) => label_decision(setting.phase, chosen, &relocation_in(relocations, high)),
         None => Decision::Kept,
     }
 }
@@ -219,47 +186,20 @@ fn decide_label(
 #[inline(always)]
 fn decide(
     stays: bool,
-    architecture: Architecture,
-    phase: Phase,
-    output: &OutputFacts,
-    symbols: &[SymbolFacts],
-    addresses: &Addresses,
-    values: &[Symbol],
+    setting: &Setting<'_>,
     kept: &[KeptGroups],
     relocations: &[u8],
     section: &[u8],
     index: usize,
     relocation: &Rela,
 ) -> Option<Decision> {
-    let is_grouped = match scope_in(architecture, phase, relocation.code) {
+    let is_grouped = match scope_in(setting.architecture, setting.phase, relocation.code) {
         Scope::Unlisted => return Some(Decision::Kept),
         Scope::Labelled => {
-            return Some(decide_label(
-                stays,
-                architecture,
-                phase,
-                output,
-                symbols,
-                addresses,
-                values,
-                relocations,
-                section,
-                index,
-                relocation,
-            ));
+            return Some(decide_label(stays, setting, relocations, section, index, relocation));
         }
         Scope::Ahead => {
-            if is_rewritten_at(
-                architecture,
-                phase,
-                output,
-                symbols,
-                addresses,
-                values,
-                relocations,
-                section,
-                index + 1,
-            ) {
+            if is_rewritten_at(setting, relocations, section, index + 1) {
                 return Some(Decision::TakenAlong);
             }
             return Some(Decision::Kept);
@@ -278,18 +218,7 @@ fn decide(
         }
         Scope::Alone => false,
     };
-    match candidate(
-        architecture,
-        phase,
-        output,
-        symbols,
-        addresses,
-        values,
-        relocations,
-        section,
-        index,
-        relocation,
-    ) {
+    match candidate(setting, relocations, section, index, relocation) {
         Some(choice) => Some(Decision::Rewritten(choice)),
         None if is_grouped => None,
         None => Some(Decision::Kept),
@@ -320,12 +249,7 @@ fn is_left(
 fn decide_after(
     is_taken: bool,
     stays: bool,
-    architecture: Architecture,
-    phase: Phase,
-    output: &OutputFacts,
-    symbols: &[SymbolFacts],
-    addresses: &Addresses,
-    values: &[Symbol],
+    setting: &Setting<'_>,
     kept: &[KeptGroups],
     relocations: &[u8],
     section: &[u8],
@@ -337,12 +261,7 @@ fn decide_after(
     }
     decide(
         stays,
-        architecture,
-        phase,
-        output,
-        symbols,
-        addresses,
-        values,
+        setting,
         kept,
         relocations,
         section,
@@ -386,12 +305,7 @@ pub(crate) fn end_behind(start: u64, own: u64, end: u64) -> Option<u64> {
 /// Decides what becomes of each relocation of a section and of its instruction, in the caller's
 /// memory. Nothing is rewritten. False if all stay as they are by their codes.
 pub(crate) fn decide_section<D: AsDecision>(
-    architecture: Architecture,
-    phase: Phase,
-    output: &OutputFacts,
-    symbols: &[SymbolFacts],
-    addresses: &Addresses,
-    values: &[Symbol],
+    setting: &Setting<'_>,
     kept: &[KeptGroups],
     relocations: &[u8],
     section: &[u8],
@@ -401,33 +315,23 @@ pub(crate) fn decide_section<D: AsDecision>(
     if decisions.len() < len {
         return Err(RewritingError::TooShort);
     }
-    if !lists_any(architecture, phase, relocations) {
+    if !lists_any(setting.architecture, setting.phase, relocations) {
         set_all(relocations, Decision::Kept, decisions);
         return Ok(false);
     }
-    note_labels(
-        architecture,
-        phase,
-        output,
-        symbols,
-        addresses,
-        values,
-        relocations,
-        section,
-        decisions,
-    );
+    note_labels(setting, relocations, section, decisions);
     let mut end = 0;
     let mut is_taken = false;
-    let table = table_of(architecture);
-    let bit = bit_of(phase);
+    let table = table_of(setting.architecture);
+    let bit = bit_of(setting.phase);
     for index in 0..len {
         if is_left(
             is_taken,
-            architecture,
-            phase,
+            setting.architecture,
+            setting.phase,
             table,
             bit,
-            symbols,
+            setting.symbols,
             relocations,
             index,
         ) {
@@ -439,12 +343,7 @@ pub(crate) fn decide_section<D: AsDecision>(
         let Some(decision) = decide_after(
             is_taken,
             stays,
-            architecture,
-            phase,
-            output,
-            symbols,
-            addresses,
-            values,
+            setting,
             kept,
             relocations,
             section,

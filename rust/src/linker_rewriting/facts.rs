@@ -4,7 +4,7 @@
 use crate::linker_rewriting::phases::Phase;
 use crate::linker_section::facts::{Addresses, Symbol};
 use crate::linker_section::relocations::Rela;
-use crate::elf::{LinkFacts, Operands};
+use crate::elf::{Architecture, LinkFacts, Operands};
 
 /// What a linker knows of a symbol of an object once names are resolved. A table of these has those
 /// of an object at the indexes that its relocations name (`r_sym`). By default no fact holds.
@@ -99,6 +99,24 @@ pub(crate) fn facts_of(
             tls_base: 0,
         },
     }
+}
+
+/// What rewrites are chosen by in a phase. Before addresses are known those are 0, and there are no
+/// values.
+#[derive(Clone, Copy)]
+pub(crate) struct Setting<'a> {
+    /// The architecture.
+    pub(crate) architecture: Architecture,
+    /// The phase.
+    pub(crate) phase: Phase,
+    /// What is known of the output.
+    pub(crate) output: &'a OutputFacts,
+    /// What is known of the object's symbols.
+    pub(crate) symbols: &'a [SymbolFacts],
+    /// The section's address, and those that values are counted from.
+    pub(crate) addresses: &'a Addresses,
+    /// The addresses of the object's symbols.
+    pub(crate) values: &'a [Symbol],
 }
 
 /// S, which counts as the thread pointer's address of a thread-local symbol that nothing defines.
@@ -201,18 +219,21 @@ fn facts_at(
 /// that whose symbol and addend count. None where a table has no entry for the symbol.
 #[inline(always)]
 pub(crate) fn link_facts(
-    phase: Phase,
-    output: &OutputFacts,
-    symbols: &[SymbolFacts],
-    addresses: &Addresses,
-    values: &[Symbol],
+    setting: &Setting<'_>,
     relocation: &Rela,
     subject: &Rela,
     marked: bool,
 ) -> Option<LinkFacts> {
-    match symbols.get(subject.symbol as usize) {
+    match setting.symbols.get(subject.symbol as usize) {
         Some(symbol) => facts_at(
-            phase, output, addresses, values, relocation, subject, marked, symbol,
+            setting.phase,
+            setting.output,
+            setting.addresses,
+            setting.values,
+            relocation,
+            subject,
+            marked,
+            symbol,
         ),
         None => None,
     }

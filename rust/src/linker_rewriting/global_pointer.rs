@@ -3,7 +3,7 @@
 //! `auipc`: each low part takes x3 or x0 as its base, all of a symbol or none.
 
 use crate::linker_rewriting::decisions::{AsDecision, Decision, FromDeletion, RewritingError};
-use crate::linker_rewriting::facts::{OutputFacts, SymbolFacts, address_in};
+use crate::linker_rewriting::facts::{OutputFacts, Setting, SymbolFacts, address_in};
 use crate::linker_rewriting::labels::high_at;
 use crate::linker_rewriting::phases::Phase;
 use crate::linker_rewriting::relocations::{relocation_in, set_relocation};
@@ -108,20 +108,17 @@ fn part_subject(
 }
 
 /// What a relocation is of an address, and the relocation whose symbol and addend are its own.
-fn member_of(
-    architecture: Architecture,
-    phase: Phase,
-    output: &OutputFacts,
-    symbols: &[SymbolFacts],
-    addresses: &Addresses,
-    values: &[Symbol],
-    relocations: &[u8],
-    relocation: &Rela,
-) -> Option<(Part, Rela)> {
-    let Some(part) = part_of(architecture, relocation.code) else {
+fn member_of(setting: &Setting<'_>, relocations: &[u8], relocation: &Rela) -> Option<(Part, Rela)> {
+    let Some(part) = part_of(setting.architecture, relocation.code) else {
         return None;
     };
-    match part_subject(addresses, values, relocations, relocation, part) {
+    match part_subject(
+        setting.addresses,
+        setting.values,
+        relocations,
+        relocation,
+        part,
+    ) {
         Some(subject) => Some((part, subject)),
         None => None,
     }
@@ -237,12 +234,7 @@ fn is_expected(section: &[u8], relocation: &Rela, part: Part, subject: &Rela) ->
 /// Whether a part can be rewritten, if all of its symbol can.
 fn fits(
     ascends: bool,
-    architecture: Architecture,
-    phase: Phase,
-    output: &OutputFacts,
-    symbols: &[SymbolFacts],
-    addresses: &Addresses,
-    values: &[Symbol],
+    setting: &Setting<'_>,
     gp: u64,
     relocations: &[u8],
     section: &[u8],
@@ -251,10 +243,16 @@ fn fits(
     member: &(Part, Rela),
 ) -> bool {
     ascends
-        && output.is_executable
-        && output.is_fixed
-        && is_marked_at(architecture, relocations, index, relocation)
-        && is_reached(symbols, addresses, values, gp, &member.1)
+        && setting.output.is_executable
+        && setting.output.is_fixed
+        && is_marked_at(setting.architecture, relocations, index, relocation)
+        && is_reached(
+            setting.symbols,
+            setting.addresses,
+            setting.values,
+            gp,
+            &member.1,
+        )
         && is_expected(section, relocation, member.0, &member.1)
 }
 
@@ -262,12 +260,7 @@ fn fits(
 #[inline(always)]
 fn kept_by(
     ascends: bool,
-    architecture: Architecture,
-    phase: Phase,
-    output: &OutputFacts,
-    symbols: &[SymbolFacts],
-    addresses: &Addresses,
-    values: &[Symbol],
+    setting: &Setting<'_>,
     gp: u64,
     relocations: &[u8],
     section: &[u8],
@@ -280,12 +273,7 @@ fn kept_by(
     };
     if fits(
         ascends,
-        architecture,
-        phase,
-        output,
-        symbols,
-        addresses,
-        values,
+        setting,
         gp,
         relocations,
         section,
@@ -302,36 +290,17 @@ fn kept_by(
 /// The symbol that a relocation keeps, since it is of an address and doesn't fit.
 fn keeping_symbol(
     ascends: bool,
-    architecture: Architecture,
-    phase: Phase,
-    output: &OutputFacts,
-    symbols: &[SymbolFacts],
-    addresses: &Addresses,
-    values: &[Symbol],
+    setting: &Setting<'_>,
     gp: u64,
     relocations: &[u8],
     section: &[u8],
     index: usize,
     relocation: &Rela,
 ) -> Option<usize> {
-    let member = member_of(
-        architecture,
-        phase,
-        output,
-        symbols,
-        addresses,
-        values,
-        relocations,
-        relocation,
-    );
+    let member = member_of(setting, relocations, relocation);
     kept_by(
         ascends,
-        architecture,
-        phase,
-        output,
-        symbols,
-        addresses,
-        values,
+        setting,
         gp,
         relocations,
         section,
@@ -391,17 +360,20 @@ pub fn survey_global_pointer(
     section: &[u8],
     kept: &mut [bool],
 ) {
+    let setting = Setting {
+        architecture,
+        phase: Phase::Distances,
+        output,
+        symbols,
+        addresses,
+        values,
+    };
     let ascends = is_ascending(relocations);
     for index in 0..relocations_len(relocations) {
         let relocation = relocation_in(relocations, index);
         let symbol = keeping_symbol(
             ascends,
-            architecture,
-            Phase::Distances,
-            output,
-            symbols,
-            addresses,
-            values,
+            &setting,
             gp,
             relocations,
             section,
@@ -434,12 +406,7 @@ fn part_decision(part: Part, subject: &Rela) -> Decision {
 #[inline(always)]
 fn decided_by(
     ascends: bool,
-    architecture: Architecture,
-    phase: Phase,
-    output: &OutputFacts,
-    symbols: &[SymbolFacts],
-    addresses: &Addresses,
-    values: &[Symbol],
+    setting: &Setting<'_>,
     gp: u64,
     kept: &[bool],
     relocations: &[u8],
@@ -456,12 +423,7 @@ fn decided_by(
     }
     if fits(
         ascends,
-        architecture,
-        phase,
-        output,
-        symbols,
-        addresses,
-        values,
+        setting,
         gp,
         relocations,
         section,
@@ -478,12 +440,7 @@ fn decided_by(
 /// What becomes of a relocation. None if its symbol doesn't stay, but it can't be rewritten.
 fn decide_part(
     ascends: bool,
-    architecture: Architecture,
-    phase: Phase,
-    output: &OutputFacts,
-    symbols: &[SymbolFacts],
-    addresses: &Addresses,
-    values: &[Symbol],
+    setting: &Setting<'_>,
     gp: u64,
     kept: &[bool],
     relocations: &[u8],
@@ -491,24 +448,10 @@ fn decide_part(
     index: usize,
     relocation: &Rela,
 ) -> Option<Decision> {
-    let member = member_of(
-        architecture,
-        phase,
-        output,
-        symbols,
-        addresses,
-        values,
-        relocations,
-        relocation,
-    );
+    let member = member_of(setting, relocations, relocation);
     decided_by(
         ascends,
-        architecture,
-        phase,
-        output,
-        symbols,
-        addresses,
-        values,
+        setting,
         gp,
         kept,
         relocations,
@@ -521,12 +464,7 @@ fn decide_part(
 
 /// Decides what becomes of each relocation of a section, in the caller's memory.
 fn decide_parts<D: AsDecision>(
-    architecture: Architecture,
-    phase: Phase,
-    output: &OutputFacts,
-    symbols: &[SymbolFacts],
-    addresses: &Addresses,
-    values: &[Symbol],
+    setting: &Setting<'_>,
     gp: u64,
     kept: &[bool],
     relocations: &[u8],
@@ -542,12 +480,7 @@ fn decide_parts<D: AsDecision>(
         let relocation = relocation_in(relocations, index);
         let Some(decision) = decide_part(
             ascends,
-            architecture,
-            phase,
-            output,
-            symbols,
-            addresses,
-            values,
+            setting,
             gp,
             kept,
             relocations,
@@ -660,19 +593,15 @@ pub fn rewrite_global_pointer<D: AsDecision, L: FromDeletion>(
     decisions: &mut [D],
     deleted: &mut [L],
 ) -> Result<usize, RewritingError> {
-    match decide_parts(
+    let setting = Setting {
         architecture,
-        Phase::Distances,
+        phase: Phase::Distances,
         output,
         symbols,
         addresses,
         values,
-        gp,
-        kept,
-        relocations,
-        section,
-        decisions,
-    ) {
+    };
+    match decide_parts(&setting, gp, kept, relocations, section, decisions) {
         Ok(()) => match list_deletions(relocations, decisions, deleted) {
             Some(len) => {
                 turn_all(decisions, relocations);

@@ -3,7 +3,7 @@
 
 use crate::linker_rewriting::candidates::candidate_by;
 use crate::linker_rewriting::decisions::{AsDecision, Decision};
-use crate::linker_rewriting::facts::{OutputFacts, SymbolFacts, link_facts};
+use crate::linker_rewriting::facts::{OutputFacts, Setting, SymbolFacts, link_facts};
 use crate::linker_rewriting::groups::{Scope, scope_in};
 use crate::linker_rewriting::phases::Phase;
 use crate::linker_rewriting::relocations::relocation_in;
@@ -118,12 +118,7 @@ fn without_entry(facts: Option<LinkFacts>) -> Option<LinkFacts> {
 /// The rewrite of the instruction of the relocation with an index, by the facts of its label's high
 /// part.
 pub(crate) fn label_candidate(
-    architecture: Architecture,
-    phase: Phase,
-    output: &OutputFacts,
-    symbols: &[SymbolFacts],
-    addresses: &Addresses,
-    values: &[Symbol],
+    setting: &Setting<'_>,
     relocations: &[u8],
     section: &[u8],
     index: usize,
@@ -131,14 +126,19 @@ pub(crate) fn label_candidate(
     high: usize,
 ) -> Option<Choice<Relaxation, u32>> {
     let part = relocation_in(relocations, high);
-    let marked = is_label_marked(architecture, phase, relocations, index, relocation, high);
-    let facts = without_entry(link_facts(
-        phase, output, symbols, addresses, values, &part, &part, marked,
-    ));
+    let marked = is_label_marked(
+        setting.architecture,
+        setting.phase,
+        relocations,
+        index,
+        relocation,
+        high,
+    );
+    let facts = without_entry(link_facts(setting, &part, &part, marked));
     match facts {
         Some(facts) => candidate_by(
-            architecture,
-            symbols,
+            setting.architecture,
+            setting.symbols,
             relocations,
             section,
             index,
@@ -151,36 +151,25 @@ pub(crate) fn label_candidate(
 
 /// The index of the high part whose group stays, since this relocation is of it and has no rewrite.
 fn lacking(
-    architecture: Architecture,
-    phase: Phase,
-    output: &OutputFacts,
-    symbols: &[SymbolFacts],
-    addresses: &Addresses,
-    values: &[Symbol],
+    setting: &Setting<'_>,
     relocations: &[u8],
     section: &[u8],
     index: usize,
     relocation: &Rela,
 ) -> Option<usize> {
-    if !is_in_label(architecture, phase, relocation.code) {
+    if !is_in_label(setting.architecture, setting.phase, relocation.code) {
         return None;
     }
-    let Some(high) = high_of(phase, addresses, values, relocations, relocation) else {
+    let Some(high) = high_of(
+        setting.phase,
+        setting.addresses,
+        setting.values,
+        relocations,
+        relocation,
+    ) else {
         return None;
     };
-    match label_candidate(
-        architecture,
-        phase,
-        output,
-        symbols,
-        addresses,
-        values,
-        relocations,
-        section,
-        index,
-        relocation,
-        high,
-    ) {
+    match label_candidate(setting, relocations, section, index, relocation, high) {
         Some(_) => None,
         None => Some(high),
     }
@@ -201,30 +190,14 @@ pub(crate) fn set_all<D: AsDecision>(relocations: &[u8], decision: Decision, dec
 
 /// Notes at each high part of a section whether its group stays.
 fn note_highs<D: AsDecision>(
-    architecture: Architecture,
-    phase: Phase,
-    output: &OutputFacts,
-    symbols: &[SymbolFacts],
-    addresses: &Addresses,
-    values: &[Symbol],
+    setting: &Setting<'_>,
     relocations: &[u8],
     section: &[u8],
     decisions: &mut [D],
 ) {
     for index in 0..relocations_len(relocations) {
         let relocation = relocation_in(relocations, index);
-        let Some(high) = lacking(
-            architecture,
-            phase,
-            output,
-            symbols,
-            addresses,
-            values,
-            relocations,
-            section,
-            index,
-            &relocation,
-        ) else {
+        let Some(high) = lacking(setting, relocations, section, index, &relocation) else {
             continue;
         };
         decisions[high] = D::from_decision(Decision::TakenAlong);
@@ -249,25 +222,20 @@ fn note_of<D: AsDecision>(
 
 /// Notes at each relocation of a label what is noted at its high part.
 fn copy_notes<D: AsDecision>(
-    architecture: Architecture,
-    phase: Phase,
-    output: &OutputFacts,
-    symbols: &[SymbolFacts],
-    addresses: &Addresses,
-    values: &[Symbol],
+    setting: &Setting<'_>,
     relocations: &[u8],
     section: &[u8],
     decisions: &mut [D],
 ) {
     for index in 0..relocations_len(relocations) {
         let relocation = relocation_in(relocations, index);
-        if !is_in_label(architecture, phase, relocation.code) {
+        if !is_in_label(setting.architecture, setting.phase, relocation.code) {
             continue;
         }
         let note = note_of(
-            phase,
-            addresses,
-            values,
+            setting.phase,
+            setting.addresses,
+            setting.values,
             relocations,
             decisions,
             &relocation,
@@ -287,17 +255,12 @@ fn has_labels(architecture: Architecture, phase: Phase) -> bool {
 
 /// Notes at each relocation of a label of RISC-V whether its group stays, in place of its decision.
 pub(crate) fn note_labels<D: AsDecision>(
-    architecture: Architecture,
-    phase: Phase,
-    output: &OutputFacts,
-    symbols: &[SymbolFacts],
-    addresses: &Addresses,
-    values: &[Symbol],
+    setting: &Setting<'_>,
     relocations: &[u8],
     section: &[u8],
     decisions: &mut [D],
 ) {
-    if !has_labels(architecture, phase) {
+    if !has_labels(setting.architecture, setting.phase) {
         return;
     }
     if !is_ascending(relocations) {
@@ -305,26 +268,6 @@ pub(crate) fn note_labels<D: AsDecision>(
         return;
     }
     set_all(relocations, Decision::Kept, decisions);
-    note_highs(
-        architecture,
-        phase,
-        output,
-        symbols,
-        addresses,
-        values,
-        relocations,
-        section,
-        decisions,
-    );
-    copy_notes(
-        architecture,
-        phase,
-        output,
-        symbols,
-        addresses,
-        values,
-        relocations,
-        section,
-        decisions,
-    );
+    note_highs(setting, relocations, section, decisions);
+    copy_notes(setting, relocations, section, decisions);
 }

@@ -2,7 +2,7 @@
 //! The rewrites of a section, made in one call for each phase.
 
 use crate::linker_rewriting::decisions::{AsDecision, Decision, FromDeletion, RewritingError, decide_section};
-use crate::linker_rewriting::facts::{NO_ADDRESSES, OutputFacts, SymbolFacts};
+use crate::linker_rewriting::facts::{NO_ADDRESSES, OutputFacts, Setting, SymbolFacts};
 use crate::linker_rewriting::groups::KeptGroups;
 use crate::linker_rewriting::phases::Phase;
 use crate::linker_rewriting::relocations::{relocation_in, set_relocation};
@@ -125,18 +125,15 @@ pub fn rewrite_section<D: AsDecision>(
     section: &mut [u8],
     decisions: &mut [D],
 ) -> Result<(), RewritingError> {
-    match decide_section(
+    let setting = Setting {
         architecture,
-        Phase::Early,
+        phase: Phase::Early,
         output,
         symbols,
-        &NO_ADDRESSES,
-        &[],
-        kept,
-        relocations,
-        section,
-        decisions,
-    ) {
+        addresses: &NO_ADDRESSES,
+        values: &[],
+    };
+    match decide_section(&setting, kept, relocations, section, decisions) {
         Ok(changes) => {
             make_changes(changes, decisions, relocations, section);
             Ok(())
@@ -266,18 +263,15 @@ pub fn rewrite_placed_section<D: AsDecision, L: FromDeletion>(
     decisions: &mut [D],
     deleted: &mut [L],
 ) -> Result<usize, RewritingError> {
-    match decide_section(
+    let setting = Setting {
         architecture,
         phase,
         output,
         symbols,
         addresses,
         values,
-        kept,
-        relocations,
-        section,
-        decisions,
-    ) {
+    };
+    match decide_section(&setting, kept, relocations, section, decisions) {
         Ok(changes) => match list_changes(changes, relocations, decisions, deleted) {
             Some(len) => {
                 make_changes(changes, decisions, relocations, section);

@@ -3,7 +3,7 @@
 
 use crate::linker_rewriting::candidates::{candidate, is_matched, is_tls_get_addr};
 use crate::linker_rewriting::codes::{group_bit_of, is_asked, table_of};
-use crate::linker_rewriting::facts::{NO_ADDRESSES, OutputFacts, SymbolFacts};
+use crate::linker_rewriting::facts::{NO_ADDRESSES, OutputFacts, Setting, SymbolFacts};
 use crate::linker_rewriting::groups::{Group, KeptGroups, Scope, marks_call, scope_in, symbol_of_group};
 use crate::linker_rewriting::phases::Phase;
 use crate::linker_rewriting::relocations::relocation_in;
@@ -41,48 +41,21 @@ fn keep_threads(kept: &mut [KeptGroups], stay: bool) {
 /// The kind of the groups that a relocation keeps, since it has no rewrite, though it is of one.
 #[inline(always)]
 fn keeping(
-    architecture: Architecture,
-    phase: Phase,
-    output: &OutputFacts,
-    symbols: &[SymbolFacts],
-    addresses: &Addresses,
-    values: &[Symbol],
+    setting: &Setting<'_>,
     relocations: &[u8],
     section: &[u8],
     index: usize,
     relocation: &Rela,
 ) -> Option<Group> {
-    match scope_in(architecture, phase, relocation.code) {
+    match scope_in(setting.architecture, setting.phase, relocation.code) {
         Scope::Grouped(group) => {
-            match candidate(
-                architecture,
-                phase,
-                output,
-                symbols,
-                addresses,
-                values,
-                relocations,
-                section,
-                index,
-                relocation,
-            ) {
+            match candidate(setting, relocations, section, index, relocation) {
                 Some(_) => None,
                 None => Some(group),
             }
         }
         Scope::Matched(group) => {
-            if is_matched(
-                architecture,
-                phase,
-                output,
-                symbols,
-                addresses,
-                values,
-                relocations,
-                section,
-                index,
-                relocation,
-            ) {
+            if is_matched(setting, relocations, section, index, relocation) {
                 None
             } else {
                 Some(group)
@@ -187,51 +160,38 @@ fn next_keeping(
 
 /// Notes which groups stay in a phase, by a section, as `survey` and `survey_placed_section` say.
 #[inline(always)]
-fn survey_in(
-    architecture: Architecture,
-    phase: Phase,
-    output: &OutputFacts,
-    symbols: &[SymbolFacts],
-    addresses: &Addresses,
-    values: &[Symbol],
-    relocations: &[u8],
-    section: &[u8],
-    kept: &mut [KeptGroups],
-) {
-    let table = table_of(architecture);
-    let bit = group_bit_of(phase);
+fn survey_in(setting: &Setting<'_>, relocations: &[u8], section: &[u8], kept: &mut [KeptGroups]) {
+    let table = table_of(setting.architecture);
+    let bit = group_bit_of(setting.phase);
     let len = relocations_len(relocations);
-    let mut index = next_keeping(architecture, phase, table, bit, symbols, relocations, 0);
+    let mut index = next_keeping(
+        setting.architecture,
+        setting.phase,
+        table,
+        bit,
+        setting.symbols,
+        relocations,
+        0,
+    );
     while index < len {
         let relocation = relocation_in(relocations, index);
-        let group = keeping(
-            architecture,
-            phase,
-            output,
-            symbols,
-            addresses,
-            values,
-            relocations,
-            section,
-            index,
-            &relocation,
-        );
+        let group = keeping(setting, relocations, section, index, &relocation);
         keep_group(kept, group, relocation.symbol);
         let unmarked = is_unmarked(
-            architecture,
-            phase,
-            symbols,
+            setting.architecture,
+            setting.phase,
+            setting.symbols,
             relocations,
             index,
             &relocation,
         );
         keep_threads(kept, unmarked);
         index = next_keeping(
-            architecture,
-            phase,
+            setting.architecture,
+            setting.phase,
             table,
             bit,
-            symbols,
+            setting.symbols,
             relocations,
             index + 1,
         );
@@ -271,17 +231,15 @@ pub fn survey(
     section: &[u8],
     kept: &mut [KeptGroups],
 ) {
-    survey_in(
+    let setting = Setting {
         architecture,
-        Phase::Early,
+        phase: Phase::Early,
         output,
         symbols,
-        &NO_ADDRESSES,
-        &[],
-        relocations,
-        section,
-        kept,
-    );
+        addresses: &NO_ADDRESSES,
+        values: &[],
+    };
+    survey_in(&setting, relocations, section, kept);
 }
 
 /// Notes which groups of an object stay in a phase once addresses are known, by a section, as
@@ -328,15 +286,13 @@ pub fn survey_placed_section(
     section: &[u8],
     kept: &mut [KeptGroups],
 ) {
-    survey_in(
+    let setting = Setting {
         architecture,
         phase,
         output,
         symbols,
         addresses,
         values,
-        relocations,
-        section,
-        kept,
-    );
+    };
+    survey_in(&setting, relocations, section, kept);
 }

@@ -5,7 +5,7 @@
 
 use crate::linker_rewriting::candidates::candidate_by;
 use crate::linker_rewriting::decisions::{AsDecision, Decision, RewritingError, Subject, end_behind, span_of};
-use crate::linker_rewriting::facts::{OutputFacts, SymbolFacts, address_in, link_facts};
+use crate::linker_rewriting::facts::{OutputFacts, Setting, SymbolFacts, address_in, link_facts};
 use crate::linker_rewriting::labels::high_at;
 use crate::linker_rewriting::phases::Phase;
 use crate::linker_rewriting::relocations::relocation_in;
@@ -62,20 +62,15 @@ fn word_offset(
 /// What a relocation loads: the code for an entry of the GOT, and the index of the word's
 /// relocation.
 fn load_of(
-    architecture: Architecture,
-    phase: Phase,
-    output: &OutputFacts,
-    symbols: &[SymbolFacts],
-    addresses: &Addresses,
-    values: &[Symbol],
+    setting: &Setting<'_>,
     start: u64,
     words: &[u8],
     relocation: &Rela,
 ) -> Option<(u32, usize)> {
-    let Some(entry) = entry_code(architecture, relocation.code) else {
+    let Some(entry) = entry_code(setting.architecture, relocation.code) else {
         return None;
     };
-    let Some(at) = word_offset(addresses, values, start, relocation) else {
+    let Some(at) = word_offset(setting.addresses, setting.values, start, relocation) else {
         return None;
     };
     match high_at(words, word_code(), at) {
@@ -96,12 +91,7 @@ fn with_code(code: u32, relocation: &Rela) -> Rela {
 /// The rewrite of a load, if each other one of the word is rewritten.
 #[inline(always)]
 fn load_candidate(
-    architecture: Architecture,
-    phase: Phase,
-    output: &OutputFacts,
-    symbols: &[SymbolFacts],
-    addresses: &Addresses,
-    values: &[Symbol],
+    setting: &Setting<'_>,
     words: &[u8],
     relocations: &[u8],
     section: &[u8],
@@ -111,14 +101,12 @@ fn load_candidate(
 ) -> Option<Choice<Relaxation, u32>> {
     let (entry, word) = load;
     let word = relocation_in(words, word);
-    let facts = link_facts(
-        phase, output, symbols, addresses, values, relocation, &word, false,
-    );
+    let facts = link_facts(setting, relocation, &word, false);
     let of_entry = with_code(entry, relocation);
     match &facts {
         Some(facts) => candidate_by(
-            architecture,
-            symbols,
+            setting.architecture,
+            setting.symbols,
             relocations,
             section,
             index,
@@ -151,12 +139,7 @@ pub(crate) fn keep_word(kept: &mut [bool], word: Option<usize>) {
 /// The word that a relocation keeps, since it loads it and has no rewrite.
 #[inline(always)]
 fn keeping_word(
-    architecture: Architecture,
-    phase: Phase,
-    output: &OutputFacts,
-    symbols: &[SymbolFacts],
-    addresses: &Addresses,
-    values: &[Symbol],
+    setting: &Setting<'_>,
     start: u64,
     words: &[u8],
     relocations: &[u8],
@@ -164,26 +147,11 @@ fn keeping_word(
     index: usize,
     relocation: &Rela,
 ) -> Option<usize> {
-    let Some(load) = load_of(
-        architecture,
-        phase,
-        output,
-        symbols,
-        addresses,
-        values,
-        start,
-        words,
-        relocation,
-    ) else {
+    let Some(load) = load_of(setting, start, words, relocation) else {
         return None;
     };
     match load_candidate(
-        architecture,
-        phase,
-        output,
-        symbols,
-        addresses,
-        values,
+        setting,
         words,
         relocations,
         section,
@@ -250,15 +218,18 @@ pub fn survey_address_loads(
     section: &[u8],
     kept: &mut [bool],
 ) {
+    let setting = Setting {
+        architecture,
+        phase: Phase::Distances,
+        output,
+        symbols,
+        addresses,
+        values,
+    };
     for index in 0..relocations_len(relocations) {
         let relocation = relocation_in(relocations, index);
         let word = keeping_word(
-            architecture,
-            Phase::Distances,
-            output,
-            symbols,
-            addresses,
-            values,
+            &setting,
             words_start,
             words,
             relocations,
@@ -281,12 +252,7 @@ pub(crate) fn subject_of(word: &Rela) -> Subject {
 
 /// What becomes of a relocation. None if it loads a word that doesn't stay, but can't be rewritten.
 fn decide_load(
-    architecture: Architecture,
-    phase: Phase,
-    output: &OutputFacts,
-    symbols: &[SymbolFacts],
-    addresses: &Addresses,
-    values: &[Symbol],
+    setting: &Setting<'_>,
     start: u64,
     words: &[u8],
     kept: &[bool],
@@ -295,29 +261,14 @@ fn decide_load(
     index: usize,
     relocation: &Rela,
 ) -> Option<Decision> {
-    let Some(load) = load_of(
-        architecture,
-        phase,
-        output,
-        symbols,
-        addresses,
-        values,
-        start,
-        words,
-        relocation,
-    ) else {
+    let Some(load) = load_of(setting, start, words, relocation) else {
         return Some(Decision::Kept);
     };
     if word_stays(kept, load.1) {
         return Some(Decision::Kept);
     }
     match load_candidate(
-        architecture,
-        phase,
-        output,
-        symbols,
-        addresses,
-        values,
+        setting,
         words,
         relocations,
         section,
@@ -336,12 +287,7 @@ fn decide_load(
 /// Decides what becomes of each relocation of a section and of its instruction, in the caller's
 /// memory. Nothing is rewritten.
 fn decide_loads<D: AsDecision>(
-    architecture: Architecture,
-    phase: Phase,
-    output: &OutputFacts,
-    symbols: &[SymbolFacts],
-    addresses: &Addresses,
-    values: &[Symbol],
+    setting: &Setting<'_>,
     start: u64,
     words: &[u8],
     kept: &[bool],
@@ -357,12 +303,7 @@ fn decide_loads<D: AsDecision>(
     for index in 0..len {
         let relocation = relocation_in(relocations, index);
         let Some(decision) = decide_load(
-            architecture,
-            phase,
-            output,
-            symbols,
-            addresses,
-            values,
+            setting,
             start,
             words,
             kept,
@@ -448,13 +389,16 @@ pub fn rewrite_address_loads<D: AsDecision>(
     section: &mut [u8],
     decisions: &mut [D],
 ) -> Result<(), RewritingError> {
-    match decide_loads(
+    let setting = Setting {
         architecture,
-        Phase::Distances,
+        phase: Phase::Distances,
         output,
         symbols,
         addresses,
         values,
+    };
+    match decide_loads(
+        &setting,
         words_start,
         words,
         kept,

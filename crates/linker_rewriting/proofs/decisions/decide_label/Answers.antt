@@ -1,10 +1,10 @@
-use Rattle.std.proofs.Common.{◌≡◌, subst, sym, true, false}
+use Rattle.std.proofs.Common.{◌≡◌, subst, sym, true}
 use Rattle.std.specs.Prelude.{IfSome}
 use Rattle.linker_base.specs.Rewrite.{CanRewrite}
 use Rattle.linker_utils.specs.Architectures.{relaxation_rewrite, relaxation_deleted}
 use Rattle.linker_rewriting.specs.Candidates.{deletes_within}
 use Rattle.linker_rewriting.specs.Decisions.{CanBeMade}
-use Rattle.linker_rewriting.specs.Facts.{setting}
+use Rattle.linker_rewriting.specs.Inner.Settings.{setting_of}
 use Rattle.linker_rewriting.specs.Labels.{IsHighOf, IsLabelCandidate, IsLabelNote}
 use Rattle.linker_rewriting.proofs.LabelGroups.{rewritten_label, never_kept, can_make_label}
 use Rattle.linker_rewriting.proofs.decisions.decide_label.Goals as goal
@@ -12,11 +12,11 @@ use Rattle.linker_rewriting.proofs.decisions.decide_label.Goals as goal
 pub returns-in-Some-label_candidate-clause-decision : goal.returns-in-Some-label_candidate-clause-decision
 returns-in-Some-label_candidate-clause-decision c =
     let a = c.args in
-    rewritten_label (setting a.architecture a.phase a.output.now a.symbols.now a.addresses.now a.values.now) a.relocations.now a.section.now a.index a.relocation.now c.in-Some.high
+    rewritten_label (setting_of a.setting.now) a.relocations.now a.section.now a.index a.relocation.now c.in-Some.high
     c.in-Some-label_candidate.chosen c.relocation_in.result c.label_decision.result
-    (subst (IsLabelNote (setting a.architecture a.phase a.output.now a.symbols.now a.addresses.now a.values.now) a.relocations.now a.section.now a.relocation.now) c.if-stays.false c.requires.noted)
-    (λ ascending. subst (IsHighOf a.phase a.addresses.now a.values.now a.relocations.now a.relocation.now) c.in-Some.is (c.high_of.ensures.high ascending))
-    (subst (IsLabelCandidate (setting a.architecture a.phase a.output.now a.symbols.now a.addresses.now a.values.now) a.relocations.now a.section.now a.index a.relocation.now c.in-Some.high)
+    (subst (IsLabelNote (setting_of a.setting.now) a.relocations.now a.section.now a.relocation.now) c.if-stays.false c.requires.noted)
+    (λ ascending. subst (IsHighOf a.setting.now.phase a.setting.now.addresses.now a.setting.now.values.now a.relocations.now a.relocation.now) c.in-Some.is (c.high_of.ensures.high ascending))
+    (subst (IsLabelCandidate (setting_of a.setting.now) a.relocations.now a.section.now a.index a.relocation.now c.in-Some.high)
     c.in-Some-label_candidate.is c.label_candidate.ensures.candidate)
     c.relocation_in.ensures c.label_decision.ensures
 
@@ -24,7 +24,7 @@ pub returns-in-Some-label_candidate-clause-made : goal.returns-in-Some-label_can
 returns-in-Some-label_candidate-clause-made c =
     let a = c.args in
     subst (λ d. CanBeMade d a.section.now a.relocation.now.offset) (sym c.label_decision.ensures)
-    (can_make_label a.phase c.in-Some-label_candidate.chosen c.relocation_in.result a.section.now a.relocation.now.offset (
+    (can_make_label a.setting.now.phase c.in-Some-label_candidate.chosen c.relocation_in.result a.section.now a.relocation.now.offset (
       subst (λ x. IfSome x (λ y. CanRewrite (relaxation_rewrite y.kind) a.section.now a.relocation.now.offset)) c.in-Some-label_candidate.is c.label_candidate.ensures.rewritable,
       subst (λ x. IfSome x (λ y. deletes_within a.section.now a.relocation.now.offset (relaxation_deleted y.kind) ≡ true)) c.in-Some-label_candidate.is c.label_candidate.ensures.deletes,
     ))
@@ -32,9 +32,9 @@ returns-in-Some-label_candidate-clause-made c =
 pub returns-in-None-clause-decision : goal.returns-in-None-clause-decision
 returns-in-None-clause-decision c =
     let a = c.args in
-    absurd (never_kept (setting a.architecture a.phase a.output.now a.symbols.now a.addresses.now a.values.now) a.relocations.now a.section.now a.index a.relocation.now c.in-Some.high
-    (subst (IsLabelNote (setting a.architecture a.phase a.output.now a.symbols.now a.addresses.now a.values.now) a.relocations.now a.section.now a.relocation.now) c.if-stays.false c.requires.noted)
-    (λ ascending. subst (IsHighOf a.phase a.addresses.now a.values.now a.relocations.now a.relocation.now) c.in-Some.is (c.high_of.ensures.high ascending))
-    (subst (IsLabelCandidate (setting a.architecture a.phase a.output.now a.symbols.now a.addresses.now a.values.now) a.relocations.now a.section.now a.index a.relocation.now c.in-Some.high)
+    absurd (never_kept (setting_of a.setting.now) a.relocations.now a.section.now a.index a.relocation.now c.in-Some.high
+    (subst (IsLabelNote (setting_of a.setting.now) a.relocations.now a.section.now a.relocation.now) c.if-stays.false c.requires.noted)
+    (λ ascending. subst (IsHighOf a.setting.now.phase a.setting.now.addresses.now a.setting.now.values.now a.relocations.now a.relocation.now) c.in-Some.is (c.high_of.ensures.high ascending))
+    (subst (IsLabelCandidate (setting_of a.setting.now) a.relocations.now a.section.now a.index a.relocation.now c.in-Some.high)
     c.in-None.is c.label_candidate.ensures.candidate)
     c.requires.there c.requires.within c.requires.in_label)

@@ -4,7 +4,7 @@ use Rattle.std.proofs.lemmas.List.{length-map, map-set, drop-set-lt, get_or-map}
 use Rattle.linker_riscv64.proofs.Shrunk.{written_more}
 use Rattle.linker_rewriting.proofs.Deciding.{AreDecidedTo, ends_within, more_decided, more_kept, not_surveyed, decided_after, overlapping, IsGrown}
 use Rattle.linker_section.specs.Relocations.{relocation_in}
-use Rattle.linker_rewriting.specs.Facts.{setting}
+use Rattle.linker_rewriting.specs.Inner.Settings.{setting_of}
 use Rattle.linker_rewriting.specs.Labels.{IsInLabel, IsLabelNote}
 use Rattle.linker_rewriting.specs.Notes.{is_note}
 use Rattle.linker_rewriting.specs.declared.decisions.Decision.TheVariants.{Kept}
@@ -21,8 +21,8 @@ returns-in_default-clause-rejected g c =
     (let t = c.loop-index-test.true in let e = c.relocations_len-len.ensures in omega arith) in (
       less,
       c.loop-index.invariant.decided.decided,
-      not_surveyed (setting a.architecture a.phase a.output.now a.symbols.now a.addresses.now a.values.now) a.kept.now a.relocations.now a.section.now k r c.loop-index.is_taken
-          (subst (IsDecisionAfter (setting a.architecture a.phase a.output.now a.symbols.now a.addresses.now a.values.now) a.kept.now a.relocations.now a.section.now k r c.loop-index.is_taken) c.in_default.is c.decide_after.ensures.decision)
+      not_surveyed (setting_of a.setting.now) a.kept.now a.relocations.now a.section.now k r c.loop-index.is_taken
+          (subst (IsDecisionAfter (setting_of a.setting.now) a.kept.now a.relocations.now a.section.now k r c.loop-index.is_taken) c.in_default.is c.decide_after.ensures.decision)
           c.relocation_in-relocation.ensures,
     )
 
@@ -35,8 +35,8 @@ returns-in_default-end_behind-clause-rejected g c =
     (let t = c.loop-index-test.true in let e = c.relocations_len-len.ensures in omega arith) in (
       less,
       c.loop-index.invariant.decided.decided,
-      overlapping (setting a.architecture a.phase a.output.now a.symbols.now a.addresses.now a.values.now) a.kept.now a.relocations.now a.section.now (map g.D.AsDecision.decision c.loop-index.decisions) c.loop-index.end k r c.loop-index.is_taken c.in-Some.decision
-          (subst (IsDecisionAfter (setting a.architecture a.phase a.output.now a.symbols.now a.addresses.now a.values.now) a.kept.now a.relocations.now a.section.now k r c.loop-index.is_taken) c.in-Some.is c.decide_after.ensures.decision)
+      overlapping (setting_of a.setting.now) a.kept.now a.relocations.now a.section.now (map g.D.AsDecision.decision c.loop-index.decisions) c.loop-index.end k r c.loop-index.is_taken c.in-Some.decision
+          (subst (IsDecisionAfter (setting_of a.setting.now) a.kept.now a.relocations.now a.section.now k r c.loop-index.is_taken) c.in-Some.is c.decide_after.ensures.decision)
           c.relocation_in-relocation.ensures
           (subst (λ x. IsEndBehind (x.0) (x.1) c.loop-index.end None) c.span_of-start.ensures
           (subst (IsEndBehind (c.span_of-start.result.0) (c.span_of-start.result.1) c.loop-index.end) c.in_default-end_behind.is c.end_behind.ensures))
@@ -62,7 +62,7 @@ loop-index-preserved g c =
     let f = g.D.AsDecision.decision in
     let xs = c.loop-index.decisions in
     let ds = map f xs in
-    let s = setting a.architecture a.phase a.output.now a.symbols.now a.addresses.now a.values.now in
+    let s = setting_of a.setting.now in
     let within_map : k < length ds = (let e = length-map xs f in omega (arith, e, within)) in
     let written : map f (slice_set xs k c.from_decision-in-loop-index.result) ≡ slice_set ds k d =
     map-set f xs k c.from_decision-in-loop-index.result ∙ ap (slice_set ds k) c.from_decision-in-loop-index.ensures.decision in
@@ -98,7 +98,7 @@ decide_after-requires-clause-noted g c in_label =
     let k = c.loop-index.index in
     let xs = c.loop-index.decisions in
     let f = g.D.AsDecision.decision in
-    let s = setting a.architecture a.phase a.output.now a.symbols.now a.addresses.now a.values.now in
+    let s = setting_of a.setting.now in
     let same = c.relocation_in-relocation.ensures in
     let less : k < length a.relocations.now / 24 =
     (let t = c.loop-index-test.true in let e = c.relocations_len-len.ensures in omega arith) in
@@ -112,7 +112,7 @@ decide_after-requires-clause-noted g c in_label =
     (sym noted)
     (subst (λ r. IsLabelNote s a.relocations.now a.section.now r (is_note (decision_at (map f xs) k))) (sym same)
     (c.loop-index.invariant.decided.notes k (omega arith) less
-    (subst (λ r. IsInLabel a.architecture a.phase r.code true) same in_label)))
+    (subst (λ r. IsInLabel a.setting.now.architecture a.setting.now.phase r.code true) same in_label)))
 
 pub loop-index-preserved-then-is_left : goal.loop-index-preserved-then-is_left
 loop-index-preserved-then-is_left g c =
@@ -125,7 +125,7 @@ loop-index-preserved-then-is_left g c =
     let f = g.D.AsDecision.decision in
     let xs = c.loop-index.decisions in
     let ds = map f xs in
-    let s = setting a.architecture a.phase a.output.now a.symbols.now a.addresses.now a.values.now in
+    let s = setting_of a.setting.now in
     let within_map : k < length ds = (let e = length-map xs f in omega (arith, e, within)) in
     let written : map f (slice_set xs k c.from_decision.result) ≡ slice_set ds k Kept =
     map-set f xs k c.from_decision.result ∙ ap (slice_set ds k) c.from_decision.ensures.decision in
@@ -133,7 +133,7 @@ loop-index-preserved-then-is_left g c =
       decided = subst (λ l. AreDecidedTo s a.kept.now a.relocations.now a.section.now l c.loop-index.end c.loop-index.is_taken (k + 1)) (sym written)
           (more_kept s a.kept.now a.relocations.now a.section.now ds c.loop-index.end c.loop-index.is_taken k
           c.loop-index.invariant.decided within_map (c.is_left.ensures.not_taken c.if-is_left.true)
-          (left_decided a.architecture a.phase a.output.now a.symbols.now a.addresses.now a.values.now a.kept.now a.relocations.now a.section.now k
+          (left_decided a.setting.now.architecture a.setting.now.phase a.setting.now.output.now a.setting.now.symbols.now a.setting.now.addresses.now a.setting.now.values.now a.kept.now a.relocations.now a.section.now k
           (relocation_in a.relocations.now k) (c.is_left.ensures.left c.if-is_left.true)));
       form = written_more g.D.AsDecision.is_written xs k c.from_decision.result within c.from_decision.ensures.form c.loop-index.invariant.form;
       others = drop-set-lt (length a.relocations.now / 24) xs k c.from_decision.result less ∙ c.loop-index.invariant.others;

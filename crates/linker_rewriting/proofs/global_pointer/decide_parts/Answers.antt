@@ -4,7 +4,7 @@ use Rattle.std.proofs.lemmas.List.{length-map, map-set, drop-set-lt}
 use Rattle.linker_riscv64.proofs.Shrunk.{written_more}
 use Rattle.linker_rewriting.proofs.GlobalPointer.{more_by}
 use Rattle.linker_rewriting.specs.Decisions.{CanBeMade, AllCanBeMade}
-use Rattle.linker_rewriting.specs.Facts.{setting}
+use Rattle.linker_rewriting.specs.Inner.Settings.{setting_of}
 use Rattle.linker_rewriting.specs.GlobalPointer.{IsPartDecided, ArePartsDecided}
 use Rattle.linker_section.specs.Relocations.{relocation_in}
 use Rattle.linker_rewriting.proofs.global_pointer.decide_parts.Goals as goal
@@ -13,7 +13,7 @@ pub returns-in_default-clause-rejected : goal.returns-in_default-clause-rejected
 returns-in_default-clause-rejected g c =
     let a = c.args in
     let k = c.loop-index.index in
-    let s = setting a.architecture a.phase a.output.now a.symbols.now a.addresses.now a.values.now in
+    let s = setting_of a.setting.now in
     let less : k < length a.relocations.now / 24 =
     (let t = c.loop-index-test.true in let e = c.relocations_len-len.ensures in omega arith) in
     λ room. (
@@ -37,7 +37,7 @@ loop-index-preserved g c =
     let f = g.D.AsDecision.decision in
     let xs = c.loop-index.decisions in
     let ds = map f xs in
-    let s = setting a.architecture a.phase a.output.now a.symbols.now a.addresses.now a.values.now in
+    let s = setting_of a.setting.now in
     let within_map : k < length ds = (let e = length-map xs f in omega (arith, e, within)) in
     let written : map f (slice_set xs k c.from_decision.result) ≡ slice_set ds k d =
     map-set f xs k c.from_decision.result ∙ ap (slice_set ds k) c.from_decision.ensures.decision in

@@ -1,4 +1,4 @@
-use Rattle.std.proofs.Common.{◌≡◌, ◌<◌, ◌/◌, ◌∙◌, length, ap, sym, subst, arith, true, rules}
+use Rattle.std.proofs.Common.{◌≡◌, ◌<◌, ◌/◌, ◌∙◌, length, ap, sym, subst, arith, rules}
 use Rattle.linker_rewriting.proofs.GlobalPointer.{turned_next, same_placed, based_next}
 use Rattle.linker_rewriting.specs.GlobalPointer.{based_relocation, based_section, is_placed}
 use Rattle.linker_section.specs.Relocations.{relocation_in}

@@ -5,5 +5,5 @@ use Rattle.linker_rewriting.proofs.global_pointer.survey_global_pointer.Given as
 
 abbrev pub invariant-loop-index : goal.invariant-loop-index
 invariant-loop-index l =
-    AreSymbolsSurveyed (setting l.architecture Distances l.output l.symbols l.addresses l.values) l.gp
+    AreSymbolsSurveyed (setting l.fn.architecture Distances l.output l.symbols l.addresses l.values) l.gp
     l.relocations l.section l.fn.kept l.kept l.index

@@ -1,6 +1,6 @@
 use Rattle.std.proofs.Common.{◌≡◌, ◌<◌, ◌+◌, ◌/◌, ◌∙◌, length, map, slice_set, ap, sym, subst, arith, false}
 use Rattle.std.proofs.lemmas.List.{length-map, map-set, drop-set-lt}
-use Rattle.linker_rewriting.specs.Facts.{setting}
+use Rattle.linker_rewriting.specs.Inner.Settings.{setting_of}
 use Rattle.linker_rewriting.specs.Labels.{IsInLabel}
 use Rattle.linker_rewriting.specs.Notes.{IsNoteOf}
 use Rattle.linker_rewriting.proofs.LabelGroups.{AreCopied, more_copied, same_copied}
@@ -14,7 +14,7 @@ loop-index-preserved g c =
     let xs = c.loop-index.decisions in
     let ds = map f xs in
     let first = map f a.decisions.now in
-    let s = setting a.architecture a.phase a.output.now a.symbols.now a.addresses.now a.values.now in
+    let s = setting_of a.setting.now in
     let less : k < length a.relocations.now / 24 =
     (let t = c.loop-index-test.true in let n = c.relocations_len-index-end.ensures in omega arith) in
     let within : k < length ds =
@@ -26,7 +26,7 @@ loop-index-preserved g c =
           (more_copied s a.relocations.now a.section.now first ds k
           c.note_of-note.result c.loop-index.invariant.copied within
           c.requires.ascending c.requires.noted
-          (subst (λ r. IsNoteOf a.phase a.addresses.now a.values.now a.relocations.now ds r c.note_of-note.result)
+          (subst (λ r. IsNoteOf a.setting.now.phase a.setting.now.addresses.now a.setting.now.values.now a.relocations.now ds r c.note_of-note.result)
           c.relocation_in-relocation.ensures c.note_of-note.ensures));
       others = drop-set-lt (length a.relocations.now / 24) xs k c.from_decision.result less ∙ c.loop-index.invariant.others;
     }
@@ -37,10 +37,10 @@ loop-index-preserved-then-not-is_in_label g c =
     let k = c.loop-index.index in
     let f = g.D.AsDecision.decision in
     record {
-      copied = same_copied (setting a.architecture a.phase a.output.now a.symbols.now a.addresses.now a.values.now) a.relocations.now a.section.now
+      copied = same_copied (setting_of a.setting.now) a.relocations.now a.section.now
           (map f a.decisions.now) (map f c.loop-index.decisions) k
           c.loop-index.invariant.copied
-          (subst (λ r. IsInLabel a.architecture a.phase r.code false) c.relocation_in-relocation.ensures
-          (subst (IsInLabel a.architecture a.phase c.relocation_in-relocation.result.code) c.if-not-is_in_label.true c.is_in_label.ensures));
+          (subst (λ r. IsInLabel a.setting.now.architecture a.setting.now.phase r.code false) c.relocation_in-relocation.ensures
+          (subst (IsInLabel a.setting.now.architecture a.setting.now.phase c.relocation_in-relocation.result.code) c.if-not-is_in_label.true c.is_in_label.ensures));
       others = c.loop-index.invariant.others;
     }

@@ -1,7 +1,7 @@
 use Rattle.std.proofs.Common.{◌≡◌, ◌<◌, ◌+◌, ◌/◌, ◌∙◌, length, map, slice_set, ap, sym, subst, arith, Some, None}
 use Rattle.std.proofs.lemmas.List.{length-map, map-set, drop-set-lt}
 use Rattle.std.specs.Prelude.{IfSome}
-use Rattle.linker_rewriting.specs.Facts.{setting}
+use Rattle.linker_rewriting.specs.Inner.Settings.{setting_of}
 use Rattle.linker_rewriting.specs.Labels.{IsLacking}
 use Rattle.linker_rewriting.specs.Notes.{AreHighsNoted}
 use Rattle.linker_rewriting.specs.declared.decisions.Decision.TheVariants.{TakenAlong}
@@ -17,7 +17,7 @@ loop-index-preserved g c =
     let f = g.D.AsDecision.decision in
     let xs = c.loop-index.decisions in
     let ds = map f xs in
-    let s = setting a.architecture a.phase a.output.now a.symbols.now a.addresses.now a.values.now in
+    let s = setting_of a.setting.now in
     let within_map : c.in-Some.high < length ds =
     (let m = length-map xs f in let l = c.loop-index.auto.decisions in let e = c.requires.enough in omega (arith, m, l, e, within)) in
     let written : map f (slice_set xs c.in-Some.high c.from_decision.result) ≡ slice_set ds c.in-Some.high TakenAlong =
@@ -38,10 +38,10 @@ loop-index-preserved-in_default g c =
     let a = c.args in
     let k = c.loop-index.index in
     record {
-      noted = same_noted (setting a.architecture a.phase a.output.now a.symbols.now a.addresses.now a.values.now) a.relocations.now a.section.now
+      noted = same_noted (setting_of a.setting.now) a.relocations.now a.section.now
           (map g.D.AsDecision.decision c.loop-index.decisions) k c.loop-index.invariant.noted
-          (subst (λ r. IsLacking (setting a.architecture a.phase a.output.now a.symbols.now a.addresses.now a.values.now) a.relocations.now a.section.now k r None) c.relocation_in-relocation.ensures
-          (subst (IsLacking (setting a.architecture a.phase a.output.now a.symbols.now a.addresses.now a.values.now) a.relocations.now a.section.now k c.relocation_in-relocation.result) c.in_default.is
+          (subst (λ r. IsLacking (setting_of a.setting.now) a.relocations.now a.section.now k r None) c.relocation_in-relocation.ensures
+          (subst (IsLacking (setting_of a.setting.now) a.relocations.now a.section.now k c.relocation_in-relocation.result) c.in_default.is
           (c.lacking.ensures.lacking c.requires.ascending)));
       others = c.loop-index.invariant.others;
     }

@@ -1,11 +1,11 @@
 use Rattle.std.proofs.Common.{◌≡◌, ◌/◌, length, map, drop}
-use Rattle.linker_rewriting.specs.Facts.{setting}
+use Rattle.linker_rewriting.specs.Inner.Settings.{setting_of}
 use Rattle.linker_rewriting.specs.Notes.{AreHighsNoted}
 use Rattle.linker_rewriting.proofs.labels.note_highs.Given as goal
 
 abbrev pub invariant-loop-index : goal.invariant-loop-index
 invariant-loop-index g l = record {
-  noted : AreHighsNoted (setting l.architecture l.phase l.output l.symbols l.addresses l.values)
+  noted : AreHighsNoted (setting_of l.setting)
       l.relocations l.section (map g.D.AsDecision.decision l.decisions) l.index;
   others : drop (length l.relocations / 24) l.decisions ≡ drop (length l.relocations / 24) l.fn.decisions;
 }

@@ -1,10 +1,10 @@
 use Rattle.std.proofs.Common.{◌∙◌, map, sym}
-use Rattle.linker_rewriting.specs.Facts.{setting}
+use Rattle.linker_rewriting.specs.Inner.Settings.{setting_of}
 use Rattle.linker_rewriting.proofs.LabelGroups.{no_labels}
 use Rattle.linker_rewriting.proofs.labels.note_labels.Goals as goal
 
 pub returns-then-not-has_labels-clause-noted : goal.returns-then-not-has_labels-clause-noted
 returns-then-not-has_labels-clause-noted g c =
     let a = c.args in
-    no_labels (setting a.architecture a.phase a.output.now a.symbols.now a.addresses.now a.values.now) a.relocations.now a.section.now (map g.D.AsDecision.decision a.decisions.now)
+    no_labels (setting_of a.setting.now) a.relocations.now a.section.now (map g.D.AsDecision.decision a.decisions.now)
     (sym c.has_labels.ensures ∙ c.if-not-has_labels.true)

@@ -1,12 +1,12 @@
 use Rattle.std.proofs.Common.{◌≤◌, ◌/◌, ◌-◌, length}
-use Rattle.linker_rewriting.specs.Facts.{setting}
+use Rattle.linker_rewriting.specs.Inner.Settings.{setting_of}
 use Rattle.linker_rewriting.specs.Surveys.{IsSurveyedIn}
 use Rattle.linker_rewriting.proofs.surveys.survey_in.Given as goal
 
 abbrev pub invariant-loop-index : goal.invariant-loop-index
 invariant-loop-index l = record {
   within : l.index ≤ length l.relocations / 24;
-  surveyed : IsSurveyedIn (setting l.architecture l.phase l.output l.symbols l.addresses l.values) l.relocations
+  surveyed : IsSurveyedIn (setting_of l.setting) l.relocations
       l.section l.fn.kept l.kept l.index;
 }
 
