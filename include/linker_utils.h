@@ -5,8 +5,7 @@
  *
  * - `bindings/install` builds the library in seconds with rustc: `liblinker_utils.a`, and
  *   `liblinker_utils.so`, which has the inline functions as symbols too. Its source is the proved
- *   one without contracts. Where a test that rustc adds failed, as of an index, it would call
- *   `abort`.
+ *   one without contracts. Where a test that rustc adds fails, as of an index, it calls `abort`.
  * - `bindings/install --proved` installs the archive that the prover's kit builds, which takes
  *   minutes, for the proof. It is for x86-64-v2 processors (SSE4.2, 2009 and later).
  * - Both have the same calls, which do the same. Of the C library they need `malloc`, `realloc`,
@@ -14,9 +13,8 @@
  *   Only the names of the calls are global in an archive.
  * - This file has the calls that most linkers need first. It includes linker_utils_lists.h, which
  *   has the statuses, the numbers of forms, rewrites and others, and the tables of choices;
- *   linker_utils_further.h, which has the other calls; and linker_utils_inline.h. In that last file
- *   are the functions that are `static inline`: each calls the archive and allows null for empty
- *   slices. There is no other inline code.
+ *   linker_utils_further.h, which has the other calls; and linker_utils_inline.h, which has the
+ *   `static inline` functions: each calls the archive and allows null for empty slices.
  * - There is no global state. Any calls may run in several threads at once.
  *
  * What holds for every call:
@@ -179,8 +177,7 @@ static inline uint32_t linker_utils_relocation_name(
 
 /* The values of a relocation that can be written. */
 struct linker_utils_relocation_reach {
-    /* The least value, and the first above the greatest; both 0 where every value can be
-     * written. */
+    /* The least value, and the first above the greatest; both 0 where all can be written. */
     int64_t min;
     int64_t max;
     uint8_t has_range; /* 1 where only values from `min` up, below `max`, can be written; else 0. */
@@ -227,9 +224,8 @@ static inline uint32_t linker_utils_relocate(uint16_t machine, uint32_t r_type, 
 /* ---- Rewrites: instructions in place of others.
  *
  * A machine, a number of its enum of rewrites and `opcode_len` name a rewrite; `opcode_len` matters
- * only to those of x86-64 that are marked. The offset is that of the relocation that belongs to the
- * instruction. The statuses LINKER_UTILS_UNKNOWN_ARCHITECTURE and LINKER_UTILS_UNKNOWN_REWRITE come
- * first. */
+ * only to those of x86-64 that are marked. The offset is that of the instruction's relocation. The
+ * statuses LINKER_UTILS_UNKNOWN_ARCHITECTURE and LINKER_UTILS_UNKNOWN_REWRITE come first. */
 
 /* What a linker knows of a relocation's symbol and of its output when it chooses a rewrite. A fact
  * holds where its number is not 0. */
