@@ -13,7 +13,7 @@
  *   Only the names of the calls are global in an archive.
  * - This file has the calls that most linkers need first. It includes linker_utils_lists.h, which
  *   has the statuses, the numbers of forms, rewrites and others, and the tables of choices;
- *   linker_utils_further.h, which has the other calls; and linker_utils_inline.h, which has the
+ *   linker_utils_further.h, which has the other calls; and linker_utils_inline.h. There are the
  *   `static inline` functions: each calls the archive and allows null for empty slices.
  * - There is no global state. Any calls may run in several threads at once.
  *
