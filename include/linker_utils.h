@@ -5,8 +5,7 @@
  *
  * - `bindings/install` builds the library in seconds with rustc: `liblinker_utils.a`, and
  *   `liblinker_utils.so`, which has the inline functions as symbols too. Its source is the proved
- *   one without contracts. Where a test that rustc adds failed, as of an index, it would call
- *   `abort`.
+ *   one without contracts. Where a test that rustc adds fails, as of an index, it calls `abort`.
  * - `bindings/install --proved` installs the archive that the prover's kit builds, which takes
  *   minutes, for the proof. It is for x86-64-v2 processors (SSE4.2, 2009 and later).
  * - Both have the same calls, which do the same. Of the C library they need `malloc`, `realloc`,
@@ -14,9 +13,8 @@
  *   Only the names of the calls are global in an archive.
  * - This file has the calls that most linkers need first. It includes linker_utils_lists.h, which
  *   has the statuses, the numbers of forms, rewrites and others, and the tables of choices;
- *   linker_utils_further.h, which has the other calls; and linker_utils_inline.h. In that last file
- *   are the functions that are `static inline`: each calls the archive and allows null for empty
- *   slices. There is no other inline code.
+ *   linker_utils_further.h, which has the other calls; and linker_utils_inline.h. There are the
+ *   `static inline` functions: each calls the archive and allows null for empty slices.
  * - There is no global state. Any calls may run in several threads at once.
  *
  * What holds for every call:
@@ -31,9 +29,9 @@
  *   parts of one section at once, each through a slice that no other overlaps.
  * - With such pointers and counts each call is defined, whatever the numbers and bytes.
  * - A call that returns `uint32_t` returns a status of `enum linker_utils_status`, but for
- *   `linker_utils_output_flags` and `linker_utils_forms_of`. With any except `LINKER_UTILS_OK` it has
- *   written nothing but `faulty`, `memory`, `decisions`, `deleted`, and what
- *   `linker_utils_relocate_all`, `linker_utils_rewritten_items` and
+ *   `linker_utils_output_flags`, `linker_utils_forms_of` and `linker_utils_uleb128_role`. With any
+ *   except `LINKER_UTILS_OK` it has written nothing but `faulty`, `memory`, `decisions`, `deleted`,
+ *   and what `linker_utils_relocate_all`, `linker_utils_rewritten_items` and
  *   `linker_utils_deltas_create_in_one_pass` write before the entry that they reject. Where several
  *   statuses apply, the first in the order that the call names is returned. Other calls can't fail.
  * - `faulty` may be null. If the status is about one entry of an array, the index of that entry is
@@ -179,8 +177,7 @@ static inline uint32_t linker_utils_relocation_name(
 
 /* The values of a relocation that can be written. */
 struct linker_utils_relocation_reach {
-    /* The least value, and the first above the greatest; both 0 where every value can be
-     * written. */
+    /* The least value, and the first above the greatest; both 0 where all can be written. */
     int64_t min;
     int64_t max;
     uint8_t has_range; /* 1 where only values from `min` up, below `max`, can be written; else 0. */
@@ -227,9 +224,8 @@ static inline uint32_t linker_utils_relocate(uint16_t machine, uint32_t r_type, 
 /* ---- Rewrites: instructions in place of others.
  *
  * A machine, a number of its enum of rewrites and `opcode_len` name a rewrite; `opcode_len` matters
- * only to those of x86-64 that are marked. The offset is that of the relocation that belongs to the
- * instruction. The statuses LINKER_UTILS_UNKNOWN_ARCHITECTURE and LINKER_UTILS_UNKNOWN_REWRITE come
- * first. */
+ * only to those of x86-64 that are marked. The offset is that of the instruction's relocation. The
+ * statuses LINKER_UTILS_UNKNOWN_ARCHITECTURE and LINKER_UTILS_UNKNOWN_REWRITE come first. */
 
 /* What a linker knows of a relocation's symbol and of its output when it chooses a rewrite. A fact
  * holds where its number is not 0. */
@@ -525,11 +521,11 @@ static inline uint32_t linker_utils_relocate_section(
  * and of the output, and the library which instructions are rewritten: all of a group or none. The
  * relocations of a group are those of one kind and one symbol in an object, whatever their addends;
  * of local-dynamic TLS all of an object. Those of one label of RISC-V in a section are a group too,
- * which needs no survey. First a survey of each section of code notes which groups stay, then each of
- * them is rewritten. Before addresses are known the calls are `linker_utils_survey` and
+ * which needs no survey. First a survey of each section of code notes which groups stay, then each
+ * of them is rewritten. Before addresses are known the calls are `linker_utils_survey` and
  * `linker_utils_rewrite_section`. Once they are, `linker_utils_survey_placed_section` and
- * `linker_utils_rewrite_placed_section` do so for each later phase, in the order of
- * `enum linker_utils_phase`. What is left a linker may rewrite by `linker_utils_choose`. */
+ * `linker_utils_rewrite_placed_section` do so for each later phase, in the order of `enum
+ * linker_utils_phase`. What is left a linker may rewrite by `linker_utils_choose`. */
 
 /* Whether an architecture has rewrites in a phase. In one without them a linker surveys and
  * rewrites nothing: each relocation would stay. False of a machine or a phase that isn't known. */
@@ -550,8 +546,8 @@ struct linker_utils_symbol_facts {
 struct linker_utils_output_facts {
     bool is_executable; /* position-independent or not */
     bool is_fixed; /* it is always loaded at the address that it is linked for */
-    /* Its code, its GOT and its symbols that its code refers to, except for absolute ones, lie within
-     * 2 GiB less 64 KiB. Else no load from the GOT becomes a distance before addresses are known. */
+    /* Its code, GOT and symbols that the code refers to, except for absolute ones, lie within 2 GiB
+     * less 64 KiB. Else no load from the GOT becomes a distance before addresses are known. */
     bool has_near_symbols;
 };
 
@@ -559,11 +555,11 @@ struct linker_utils_output_facts {
  * its relocations name. The element at index 0 is of all of the object: it has local-dynamic TLS,
  * and what stays whichever symbol it is of. */
 struct linker_utils_kept_groups {
-    bool initial_exec; /* loads of an offset from the thread pointer */
+    bool initial_exec; /* loads of an offset from the thread pointer; in its phase all with one */
     bool general_dynamic; /* calls for the address of a thread-local variable */
     bool local_dynamic; /* calls for the address of the module's TLS block, and offsets in it */
     bool descriptor; /* TLS descriptors */
-    bool got_load; /* PowerPC64's loads of an address from the GOT by its two halves */
+    bool got_load; /* loads of the GOT by halves; in the last phase addresses by the TOC pointer */
 };
 
 /* What becomes of a relocation and of its instruction. All except `fate` is 0 where the instruction
@@ -602,9 +598,9 @@ static inline uint32_t linker_utils_survey(
  * LINKER_UTILS_UNKNOWN_ARCHITECTURE; LINKER_UTILS_SHORT_MEMORY where there are fewer decisions than
  * relocations. Else the status is that of the first relocation that it doesn't accept, `faulty`:
  * LINKER_UTILS_NOT_SURVEYED; LINKER_UTILS_OVERLAPS where the bytes of its rewrite overlap those of
- * one before it, or lie below them. So the relocations of instructions that can be rewritten have to
- * ascend by offset. With any status except LINKER_UTILS_OK the section and its relocations are
- * unchanged. Then the decisions before `faulty` are made, and those from there on aren't specified. */
+ * one before it, or lie below them. So the relocations of instructions that can be rewritten have
+ * to ascend by offset. With any status except LINKER_UTILS_OK the section and its relocations are
+ * unchanged. Decisions before `faulty` are made then, and later ones aren't specified. */
 static inline uint32_t linker_utils_rewrite_section(
     uint16_t machine, const struct linker_utils_output_facts *output,
     const struct linker_utils_symbol_facts *symbols, size_t symbols_len,
@@ -626,22 +622,22 @@ static inline uint32_t linker_utils_survey_placed_section(
 
 /* Rewrites the instructions of a section of code in a phase once addresses are known, and turns its
  * relocations into those after it, as `linker_utils_rewrite_section` does before. `kept` is what
- * `linker_utils_survey_placed_section` noted of all sections of code of the object in the phase, with
- * the same facts and addresses. Each address has to be that by which values are written later, or
- * differ from it by less than the reach that is left. A linker that deletes bytes afterwards makes
- * distances shorter, never longer.
+ * `linker_utils_survey_placed_section` noted of all sections of code of the object in the phase,
+ * with the same facts and addresses. Each address has to be that by which values are written later,
+ * or differ from it by less than the reach that is left. A linker that deletes bytes afterwards
+ * makes distances shorter, never longer.
  *
  * What is to be deleted is in the first `deleted_used` elements of `deleted`, ascending, as
  * `linker_utils_deltas_create` takes it. They are bytes of the section, apart from each other and
- * from all that is rewritten, and still there. Only LINKER_UTILS_PHASE_THREAD_OFFSETS has any, at most one for
- * each relocation. Further elements of `deleted` are unchanged, and it need not be initialised. It
- * may be null where there are none.
+ * from all that is rewritten, and still there. Only LINKER_UTILS_PHASE_THREAD_OFFSETS has any, at
+ * most one for each relocation. Further elements of `deleted` are unchanged, and it need not be
+ * initialised. It may be null where there are none.
  *
  * LINKER_UTILS_UNKNOWN_ARCHITECTURE; LINKER_UTILS_UNKNOWN_PHASE; LINKER_UTILS_SHORT_MEMORY where
- * there are fewer decisions than relocations; LINKER_UTILS_NOT_SURVEYED and LINKER_UTILS_OVERLAPS as
- * above, of the relocation `faulty`; and LINKER_UTILS_SHORT_MEMORY where `deleted` has fewer elements
- * than there are deletions. With any status except LINKER_UTILS_OK the section, its relocations and
- * `deleted_used` are unchanged. */
+ * there are fewer decisions than relocations; LINKER_UTILS_NOT_SURVEYED and LINKER_UTILS_OVERLAPS
+ * as above, of the relocation `faulty`; and LINKER_UTILS_SHORT_MEMORY where `deleted` has fewer
+ * elements than there are deletions. With any status except LINKER_UTILS_OK the section, its
+ * relocations and `deleted_used` are unchanged. */
 static inline uint32_t linker_utils_rewrite_placed_section(
     uint16_t machine, uint32_t phase, const struct linker_utils_output_facts *output,
     const struct linker_utils_symbol_facts *symbols, size_t symbols_len,

@@ -98,8 +98,8 @@ static inline uint32_t linker_utils_relocate_all(
  *
  * Types of dynamic relocations, words of the GOT, what offsets of thread-local storage count from,
  * `e_flags`, symbols and functions that linkers provide, and the code of stubs and lazy PLTs. The
- * status LINKER_UTILS_UNKNOWN_ARCHITECTURE comes first. With any status but LINKER_UTILS_OK nothing is
- * written. Each call takes O(1), but for copies of texts. */
+ * status LINKER_UTILS_UNKNOWN_ARCHITECTURE comes first. With any status but LINKER_UTILS_OK nothing
+ * is written. Each call takes O(1), but for copies of texts. */
 
 /* The types of the dynamic relocations that a linker emits. */
 struct linker_utils_dynamic_types {
@@ -222,17 +222,18 @@ static inline uint32_t linker_utils_address_section(uint16_t machine, uint8_t *n
  * asks for each first. LINKER_UTILS_NOT_PROVIDED of other types. */
 uint32_t linker_utils_entry_relocation(uint16_t machine, uint32_t r_type, uint32_t *entry_type);
 
-/* Notes in `kept` which words of an object's section of addresses stay, by one of its sections of code.
- * A word stays where an instruction loads its address and can't compute it. It is none that the rewrite
- * is meant for, or the address may be of another file, isn't fixed or is out of reach. So survey all
- * sections of code of an object, once addresses are known, before one of them is rewritten.
+/* Notes in `kept` which words of an object's section of addresses stay, by one of its sections of
+ * code. A word stays where an instruction loads its address and can't compute it. It is none that
+ * the rewrite is meant for, or the address may be of another file, isn't fixed or is out of reach.
+ * So survey all sections of code of an object, once addresses are known, before one of them is
+ * rewritten.
  *
  * `words` are the relocations of the section of addresses, as `Elf64_Rela`, ascending by offset.
- * `words_start` is its address. `kept` has an element for each of them, which is false at first. What
- * stays there already stays, and so does a word without an element. A relocation is of the word at the
- * address that it refers to, whichever its symbol. `symbols` and `values` are those of
- * `linker_utils_survey_placed_section`. Where an architecture has no such section nothing is noted. It
- * takes a search in log n steps for each load. LINKER_UTILS_UNKNOWN_ARCHITECTURE. */
+ * `words_start` is its address. `kept` has an element for each of them, which is false at first.
+ * What stays there already stays, and so does a word without an element. A relocation is of the
+ * word at the address that it refers to, whichever its symbol. `symbols` and `values` are those of
+ * `linker_utils_survey_placed_section`. Where an architecture has no such section nothing is noted.
+ * It takes a search in log n steps for each load. LINKER_UTILS_UNKNOWN_ARCHITECTURE. */
 static inline uint32_t linker_utils_survey_address_loads(
     uint16_t machine, const struct linker_utils_output_facts *output,
     const struct linker_utils_symbol_facts *symbols, size_t symbols_len,
@@ -241,12 +242,12 @@ static inline uint32_t linker_utils_survey_address_loads(
     const uint8_t *relocations, size_t relocations_len, const uint8_t *section, size_t section_len,
     bool *kept, size_t kept_len);
 
-/* Has the instructions of a section of code compute the addresses that they load from such words: all
- * that load a word, or none. Their relocations become those after it. The fate of these is
- * LINKER_UTILS_FATE_REDIRECTED: they get the symbol and the addend of the word's relocation. `kept` is
- * what `linker_utils_survey_address_loads` noted of all sections of code of the object, with the same
- * facts, addresses and words. Nothing is deleted. The statuses, and what an error leaves, are those of
- * `linker_utils_rewrite_section`. */
+/* Has the instructions of a section of code compute the addresses that they load from such words:
+ * all that load a word, or none. Their relocations become those after it. The fate of these is
+ * LINKER_UTILS_FATE_REDIRECTED: they get the symbol and the addend of the word's relocation. `kept`
+ * is what `linker_utils_survey_address_loads` noted of all sections of code of the object, with the
+ * same facts, addresses and words. Nothing is deleted. The statuses, and what an error leaves, are
+ * those of `linker_utils_rewrite_section`. */
 static inline uint32_t linker_utils_rewrite_address_loads(
     uint16_t machine, const struct linker_utils_output_facts *output,
     const struct linker_utils_symbol_facts *symbols, size_t symbols_len,
@@ -257,18 +258,19 @@ static inline uint32_t linker_utils_rewrite_address_loads(
     size_t *faulty);
 
 /* Notes in `kept` which symbols of an object keep the high parts of their address, by one of its
- * sections of code. RISC-V's `lui` and `auipc` aren't needed where an address is within 2 KiB of the
- * global pointer, from 2,048 below it to 2,047 above it, or of 0. Each low part then takes x3 or x0 as
- * its base (psABI, "Global-pointer Relaxation" and "Zero-page Relaxation"). A symbol stays where a
- * relocation of its high or low parts isn't marked by R_RISCV_RELAX, isn't in reach, or isn't of such
- * an instruction. All stay in an output that isn't an executable with a fixed address, and those of a
- * section whose relocations don't ascend by offset.
+ * sections of code. RISC-V's `lui` and `auipc` aren't needed where an address is within 2 KiB of
+ * the global pointer, from 2,048 below it to 2,047 above it, or of 0. Each low part then takes x3
+ * or x0 as its base (psABI, "Global-pointer Relaxation" and "Zero-page Relaxation"). A symbol stays
+ * where a relocation of its high or low parts isn't marked by R_RISCV_RELAX, isn't in reach, or
+ * isn't of such an instruction. All stay in an output that isn't an executable with a fixed
+ * address, and those of a section whose relocations don't ascend by offset.
  *
- * So survey all sections of code of an object, once addresses are known and before code gets shorter,
- * and before one of them is rewritten. `global_pointer` is the address of `__global_pointer$`. `symbols`
- * and `values` are those of `linker_utils_survey_placed_section`. `kept` has an element for each symbol,
- * which is false at first; what stays there already stays, and so does a symbol without an element. For
- * other machines nothing is noted. LINKER_UTILS_UNKNOWN_ARCHITECTURE. */
+ * So survey all sections of code of an object, once addresses are known and before code gets
+ * shorter, and before one of them is rewritten. `global_pointer` is the address of
+ * `__global_pointer$`. `symbols` and `values` are those of `linker_utils_survey_placed_section`.
+ * `kept` has an element for each symbol, which is false at first; what stays there already stays,
+ * and so does a symbol without an element. For other machines nothing is noted.
+ * LINKER_UTILS_UNKNOWN_ARCHITECTURE. */
 static inline uint32_t linker_utils_survey_global_pointer(
     uint16_t machine, const struct linker_utils_output_facts *output,
     const struct linker_utils_symbol_facts *symbols, size_t symbols_len,
@@ -277,17 +279,17 @@ static inline uint32_t linker_utils_survey_global_pointer(
     const uint8_t *section, size_t section_len, bool *kept, size_t kept_len);
 
 /* Has the high parts go of the symbols that don't stay by `kept`, which
- * `linker_utils_survey_global_pointer` noted of all sections of code of the object with the same facts
- * and addresses. The bytes stay until what is listed in `deleted` is deleted, as for
- * `linker_utils_rewritten_items`. The relocation of a high part gets the type 0. That of a low part gets
- * the symbol and the addend of the address. Its type becomes 47 or 48, which `elf.h` names
+ * `linker_utils_survey_global_pointer` noted of all sections of code of the object with the same
+ * facts and addresses. The bytes stay until what is listed in `deleted` is deleted, as for
+ * `linker_utils_rewritten_items`. The relocation of a high part gets the type 0. That of a low part
+ * gets the symbol and the addend of the address. Its type becomes 47 or 48, which `elf.h` names
  * R_RISCV_GPREL_I and R_RISCV_GPREL_S. No other call takes these: each requires
  * `linker_utils_from_global_pointer`.
  *
- * It may only be called where x3 is `global_pointer` wherever this code runs, and never changes. What
- * sets x3 has to be without marks, as the C libraries have it. `decisions` needs an element for each
- * relocation, and `deleted` one for each high part. The statuses, and what an error leaves, are those of
- * `linker_utils_rewrite_placed_section` but for LINKER_UTILS_OVERLAPS. */
+ * It may only be called where x3 is `global_pointer` wherever this code runs, and never changes.
+ * What sets x3 has to be without marks, as the C libraries have it. `decisions` needs an element
+ * for each relocation, and `deleted` one for each high part. The statuses, and what an error
+ * leaves, are those of `linker_utils_rewrite_placed_section` but for LINKER_UTILS_OVERLAPS. */
 static inline uint32_t linker_utils_rewrite_global_pointer(
     uint16_t machine, const struct linker_utils_output_facts *output,
     const struct linker_utils_symbol_facts *symbols, size_t symbols_len,
@@ -298,13 +300,13 @@ static inline uint32_t linker_utils_rewrite_global_pointer(
     struct linker_utils_deletion *deleted, size_t deleted_len, size_t *deleted_used,
     size_t *faulty);
 
-/* Writes the base of each low part that `linker_utils_rewrite_global_pointer` left without one, once
- * addresses are final and before values are written. It is x0 where 12 bits hold the address, and else
- * x3. The relocation gets the type R_RISCV_LO12_I or R_RISCV_LO12_S, and an addend that is less by what
- * the base has. LINKER_UTILS_OUT_OF_REACH where neither reaches the address of the relocation with the
- * index `faulty`, its symbol isn't in the table, or its instruction isn't in the section: then nothing
- * changes. It never comes where the symbol and the global pointer are in one run
- * (`linker_utils_relax`), since no distance gets longer there. */
+/* Writes the base of each low part that `linker_utils_rewrite_global_pointer` left without one,
+ * once addresses are final and before values are written. It is x0 where 12 bits hold the address,
+ * and else x3. The relocation gets the type R_RISCV_LO12_I or R_RISCV_LO12_S, and an addend that is
+ * less by what the base has. LINKER_UTILS_OUT_OF_REACH where neither reaches the address of the
+ * relocation with the index `faulty`, its symbol isn't in the table, or its instruction isn't in
+ * the section: then nothing changes. It never comes where the symbol and the global pointer are in
+ * one run (`linker_utils_relax`), since no distance gets longer there. */
 static inline uint32_t linker_utils_from_global_pointer(
     const struct linker_utils_addresses *addresses, const struct linker_utils_symbol *values,
     size_t values_len, uint64_t global_pointer, uint8_t *relocations, size_t relocations_len,
@@ -324,8 +326,8 @@ static inline uint32_t linker_utils_provided_symbol(uint16_t machine, size_t ind
                                                     struct linker_utils_provided_symbol *symbol);
 
 /* Functions that compilers call and linkers provide, which save or restore registers, in one run of
- * code. They take registers that stubs change, so that branches have to reach them directly: a linker
- * may place a run more than once. */
+ * code. They take registers that stubs change, so that branches have to reach them directly: a
+ * linker may place a run more than once. */
 struct linker_utils_provided_run {
     uint64_t len; /* how many instructions of 4 bytes the run has */
     /* The number in the first function's name. That with a number n begins
@@ -366,9 +368,10 @@ uint32_t linker_utils_stub(uint16_t machine, uint32_t kind, struct linker_utils_
 static inline uint32_t linker_utils_write_stub(uint16_t machine, uint32_t kind, uint64_t place,
                                                uint64_t target, uint8_t *bytes, size_t bytes_len);
 
-/* A lazy PLT of an architecture: its header, and behind it an entry for each function. An entry jumps
- * to the address that its word of `.got.plt` has. That is the function's only once the dynamic linker
- * has looked it up; until then the word leads on to the header, which jumps to the dynamic linker. */
+/* A lazy PLT of an architecture: its header, and behind it an entry for each function. An entry
+ * jumps to the address that its word of `.got.plt` has. That is the function's only once the
+ * dynamic linker has looked it up; until then the word leads on to the header, which jumps to the
+ * dynamic linker. */
 struct linker_utils_lazy_plt {
     uint64_t header_len;   /* in bytes */
     uint64_t entry_len;    /* in bytes */
@@ -380,9 +383,9 @@ struct linker_utils_lazy_plt {
 uint32_t linker_utils_lazy_plt(uint16_t machine, struct linker_utils_lazy_plt *plt);
 
 /* Writes the header that stands at the address `header`, of the `.got.plt` at `words`, to the
- * beginning of `bytes`. PowerPC64's is `__glink_PLTresolve`, and its `.got.plt` is the section `.plt`.
- * LINKER_UTILS_TOO_SHORT; and where `words` are out of reach the status of the first such field, as
- * `linker_utils_relocate`. */
+ * beginning of `bytes`. PowerPC64's is `__glink_PLTresolve`, and its `.got.plt` is the section
+ * `.plt`. LINKER_UTILS_TOO_SHORT; and where `words` are out of reach the status of the first such
+ * field, as `linker_utils_relocate`. */
 static inline uint32_t linker_utils_write_lazy_header(uint16_t machine, uint64_t header,
                                                       uint64_t words, uint8_t *bytes,
                                                       size_t bytes_len);
@@ -400,15 +403,16 @@ static inline uint32_t linker_utils_write_lazy_entry(uint16_t machine,
                                                      const struct linker_utils_lazy_entry *entry,
                                                      uint8_t *bytes, size_t bytes_len);
 
-/* What the word with an index at the begin of `.got.plt` holds, by the addresses of `.dynamic` and of
- * the header, into `word`. LINKER_UTILS_NOT_PROVIDED where that is no word before those of entries. */
+/* What the word with an index at the begin of `.got.plt` holds, by the addresses of `.dynamic` and
+ * of the header, into `word`. LINKER_UTILS_NOT_PROVIDED where that is no word before those of
+ * entries. */
 uint32_t linker_utils_lazy_header_word(uint16_t machine, size_t index, uint64_t dynamic,
                                        uint64_t header, uint64_t *word);
 
-/* What the word of the entry at an address holds until the dynamic linker has looked up the function,
- * by the addresses of the header and of `.dynamic`; 0 of a machine that isn't known. PowerPC64's the
- * dynamic linker puts there itself, from DT_PPC64_GLINK, which is 32 below the first entry: in an
- * output its section has no contents. */
+/* What the word of the entry at an address holds until the dynamic linker has looked up the
+ * function, by the addresses of the header and of `.dynamic`; 0 of a machine that isn't known.
+ * PowerPC64's the dynamic linker puts there itself, from DT_PPC64_GLINK, which is 32 below the
+ * first entry: in an output its section has no contents. */
 uint64_t linker_utils_lazy_entry_word(uint16_t machine, uint64_t entry, uint64_t header,
                                       uint64_t dynamic);
 
@@ -438,9 +442,10 @@ struct linker_utils_route {
  * the branch goes directly if it reaches that. No stub leads to what nothing defines. A function of
  * another output, and an indirect one, is for `linker_utils_route_by_word`.
  *
- * LINKER_UTILS_TOO_SHORT where there is no relocation at the index; LINKER_UTILS_NO_SYMBOL where its
- * symbol isn't in the table; LINKER_UTILS_NOT_A_BRANCH; LINKER_UTILS_NO_ENTRY; LINKER_UTILS_NO_ROOM;
- * and where it can't be written, and no stub may serve it, the status of `linker_utils_relocate`. */
+ * LINKER_UTILS_TOO_SHORT where there is no relocation at the index; LINKER_UTILS_NO_SYMBOL where
+ * its symbol isn't in the table; LINKER_UTILS_NOT_A_BRANCH; LINKER_UTILS_NO_ENTRY;
+ * LINKER_UTILS_NO_ROOM; and where it can't be written, and no stub may serve it, the status of
+ * `linker_utils_relocate`. */
 static inline uint32_t linker_utils_route_at(
     uint16_t machine, const struct linker_utils_addresses *addresses, const uint8_t *relocations,
     size_t relocations_len, const struct linker_utils_symbol *symbols, size_t symbols_len,
@@ -539,17 +544,18 @@ static inline uint32_t linker_utils_place_stubs(
  *   R_PPC64_PLTCALL, and their _NOTOC, mark the other instructions of such a call, and the `ld
  *   2,24(1)` is in the object.
  * - `bl __tls_get_addr` has R_PPC64_TLSGD or R_PPC64_TLSLD and then R_PPC64_REL24 or
- *   R_PPC64_REL24_NOTOC at the same offset. After a rewrite of the former the latter is skipped.
- *   Before R_PPC64_REL24_NOTOC the former isn't rewritten: the instruction that computes the
- *   entry's address is a prefixed one then, for which there is no rewrite. */
+ *   R_PPC64_REL24_NOTOC at the same offset. After a rewrite of the former the latter is skipped. A
+ *   call whose argument a prefixed instruction computes has R_PPC64_REL24_NOTOC. Where that is the
+ *   relocation behind it, R_PPC64_TLSGD or R_PPC64_TLSLD is chosen with `is_relaxable`. */
 
 /* ---- Forms: values in the immediates of instructions.
  *
  * A machine and a number of one of its enum of forms name a form. A form has a window: the bytes of
  * the instruction, or of the pair, little-endian. Its value is a number of as many bits as the
- * enums below say, in the instruction's own unit: for `bl` a distance in words of 4 bytes. `struct
- * linker_utils_relocation_info` tells how a relocation's value becomes the form's value. The
- * statuses LINKER_UTILS_UNKNOWN_ARCHITECTURE and LINKER_UTILS_UNKNOWN_FORM come first. */
+ * enums of forms in linker_utils_lists.h say. It is in the instruction's own unit: for `bl` a
+ * distance in words of 4 bytes. `struct linker_utils_relocation_info` says how a relocation's value
+ * becomes the form's value. The statuses LINKER_UTILS_UNKNOWN_ARCHITECTURE and
+ * LINKER_UTILS_UNKNOWN_FORM come first. */
 
 /* The length in bytes of a form's window, into `window`. */
 uint32_t linker_utils_window(uint16_t machine, uint32_t form, size_t *window);
@@ -620,10 +626,10 @@ uint32_t linker_utils_rewrite_window(uint16_t machine, uint32_t rewrite, uint8_t
 uint32_t linker_utils_next_modifier(uint16_t machine, uint32_t rewrite, uint8_t opcode_len,
                                     uint32_t *modifier);
 
-/* ---- Kept facts: values that are written only where choices of rewrites would read what they read. */
+/* ---- Kept facts: values that are written only where choices of rewrites would read the same. */
 
-/* What choices read of a symbol and of the output; 0 where nothing is kept. An object has an array of
- * these by the indexes that its relocations name. */
+/* What choices read of a symbol and of the output; 0 where nothing is kept. An object has an array
+ * of these by the indexes that its relocations name. */
 struct linker_utils_kept_facts {
     uint16_t bits;
 };
@@ -636,13 +642,13 @@ static inline uint32_t linker_utils_keep_facts(
     size_t symbols_len, struct linker_utils_kept_facts *kept, size_t kept_len);
 
 /* Writes the values of a section whose instructions were rewritten, as
- * `linker_utils_relocate_section`, or none of them. `output` and `facts` are those that hold now, and
- * `kept` those of `linker_utils_keep_facts` when rewrites were chosen. So a symbol that was local then,
- * and isn't any more, doesn't get code that bypasses its entry of the GOT.
+ * `linker_utils_relocate_section`, or none of them. `output` and `facts` are those that hold now,
+ * and `kept` those of `linker_utils_keep_facts` when rewrites were chosen. So a symbol that was
+ * local then, and isn't any more, doesn't get code that bypasses its entry of the GOT.
  *
  * LINKER_UTILS_UNKNOWN_ARCHITECTURE; LINKER_UTILS_SHORT_MEMORY; LINKER_UTILS_FACTS_CHANGED, and
- * `faulty` is the first relocation of whose symbol other facts are kept, or none; else the statuses of
- * `linker_utils_relocate_section`. The section is unchanged with each of them. */
+ * `faulty` is the first relocation of whose symbol other facts are kept, or none; else the statuses
+ * of `linker_utils_relocate_section`. The section is unchanged with each of them. */
 static inline uint32_t linker_utils_relocate_rewritten_section(
     uint16_t machine, const struct linker_utils_output_facts *output,
     const struct linker_utils_symbol_facts *facts, size_t facts_len,
@@ -1027,11 +1033,11 @@ static inline uint32_t linker_utils_section_items(
  *
  * LINKER_UTILS_UNKNOWN_ARCHITECTURE, LINKER_UTILS_DIFFERENT_LENGTHS, LINKER_UTILS_ENDS_TOO_HIGH and
  * LINKER_UTILS_MALFORMED_RELOCATION as above. LINKER_UTILS_INVALID_DELETIONS, and `faulty` is the
- * first deletion that begins below the end of the one before it or ends past the section. Nothing is
- * written then. Last LINKER_UTILS_ITEMS_OVERLAP, and `faulty` is a relocation whose item begins below
- * the end of that of an earlier relocation, or has deleted bytes. What `items` and `makers` have then
- * isn't specified. A target inside deleted bytes is no error here, but LINKER_UTILS_TARGET_INSIDE of
- * `linker_utils_relax`. */
+ * first deletion that begins below the end of the one before it or ends past the section. Nothing
+ * is written then. Last LINKER_UTILS_ITEMS_OVERLAP, and `faulty` is a relocation whose item begins
+ * below the end of that of an earlier relocation, or has deleted bytes. What `items` and `makers`
+ * have then isn't specified. A target inside deleted bytes is no error here, but
+ * LINKER_UTILS_TARGET_INSIDE of `linker_utils_relax`. */
 static inline uint32_t linker_utils_rewritten_items(
     uint16_t machine, const uint8_t *section, size_t section_len, uint64_t base,
     const struct linker_utils_rela *relocations, size_t relocations_len,
@@ -1075,8 +1081,8 @@ static inline uint32_t linker_utils_items_relaxable(
  * LINKER_UTILS_DIFFERENT_LENGTHS where `shapes_len`, `kept_len` or `places_len` isn't `items_len`,
  * or `freed_len` isn't one more. Then the statuses of `linker_utils_items_relaxable`. A round takes
  * O(n) for n items, what comes before them O(n log n). There are usually fewer than ten rounds.
- * After 64 come sweeps of O(n), of which one in each direction finds all sites that become long one
- * because of another in one direction. */
+ * After 64 come sweeps of O(n). Where sites become long one because of the next in one direction,
+ * one sweep each way finds all of them. */
 static inline uint32_t linker_utils_relax(
     const struct linker_utils_item *items, size_t items_len, uint64_t start, uint8_t *shapes,
     size_t shapes_len, uint64_t *kept, size_t kept_len, size_t *places, size_t places_len,
@@ -1278,10 +1284,11 @@ struct linker_utils_destination {
 
 /* Where a relocation leads that `linker_utils_recognise` or `linker_utils_recognise_chosen` found
  * with the same original bytes and offset, into `destination`. Of the operands the addend is that
- * before the rewrite, and the place is the address of the field in the linked file; which others are
- * read `linker_utils_solve` says. LINKER_UTILS_UNKNOWN_ARCHITECTURE; LINKER_UTILS_WINDOW_TOO_LONG;
- * LINKER_UTILS_UNKNOWN_REWRITE; LINKER_UTILS_NO_ADDRESS of a relocation without a value, of one that
- * `linker_utils_solve` has no address for, and of a rewrite that isn't meant for what is there. */
+ * before the rewrite, and the place is the address of the field in the linked file; which others
+ * are read `linker_utils_solve` says. LINKER_UTILS_UNKNOWN_ARCHITECTURE;
+ * LINKER_UTILS_WINDOW_TOO_LONG; LINKER_UTILS_UNKNOWN_REWRITE; LINKER_UTILS_NO_ADDRESS of a
+ * relocation without a value, of one that `linker_utils_solve` has no address for, and of a rewrite
+ * that isn't meant for what is there. */
 static inline uint32_t linker_utils_destination(uint16_t machine,
                                                 const struct linker_utils_recognised *made,
                                                 const uint8_t *original, size_t original_len,

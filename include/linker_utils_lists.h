@@ -211,8 +211,8 @@ enum linker_utils_relocation_kind {
     LINKER_UTILS_KIND_PLT_REL_GOT_BASE = 19, /* L + A - GOT */
     LINKER_UTILS_KIND_PLT_RELATIVE = 20, /* L + A - P */
     LINKER_UTILS_KIND_SYMBOL_SIZE = 21, /* Z + A */
-    /* no value: there are A bytes of nops, of which the linker keeps those that the alignment
-     * needs */
+    /* no value: A says how many bytes of nops there are, of which the linker keeps those that the
+     * alignment needs (`linker_utils_section_items`) */
     LINKER_UTILS_KIND_ALIGNMENT = 22,
     LINKER_UTILS_KIND_TLS_GD = 23, /* GD + A - P */
     LINKER_UTILS_KIND_TLS_GD_GOT = 24, /* GD + A */
@@ -422,9 +422,9 @@ enum linker_utils_loongarch64_rewrite {
 
 /* Those of a call stand for 8 bytes, the call and the `nop` after it. CALL_TO_ADDI, CALL_TO_ADD and
  * CALL_TO_ADDI4096 move the offset 4 bytes on, to the instruction behind the `nop` that they leave;
- * the next relocation, R_PPC64_REL24 of the call, is skipped. BRANCH_TO_NOP and BRANCH_TO_ADD are of
- * a call with R_PPC64_REL24_NOTOC, which is skipped too, and stand for its 4 bytes. ADD_TO_MOVE and
- * INDEXED_TO_DIRECT begin one byte before the offset. */
+ * the next relocation, R_PPC64_REL24 of the call, is skipped. BRANCH_TO_NOP and BRANCH_TO_ADD are
+ * of a call with R_PPC64_REL24_NOTOC, which is skipped too, and stand for its 4 bytes. ADD_TO_MOVE
+ * and INDEXED_TO_DIRECT begin one byte before the offset. */
 enum linker_utils_ppc64_rewrite {
     /* Leaves the instruction as it is; only the kind of its relocation changes. */
     LINKER_UTILS_PPC64_REWRITE_NO_OP = 0,
@@ -819,9 +819,9 @@ enum linker_utils_entry_class {
 /* When rewrites are made: what a linker has to know before. */
 enum linker_utils_phase {
     LINKER_UTILS_PHASE_EARLY = 0, /* before addresses are known */
-    /* once offsets from the thread pointer are known: RISC-V's and LoongArch's `lui` and `add` of one
-     * of 12 bits are to be deleted, and PowerPC64's `addis` of one of 16 bits becomes a `nop`. RISC-V's
-     * TLS descriptors become offsets. */
+    /* once offsets from the thread pointer are known: RISC-V's and LoongArch's `lui` and `add` of
+     * one of 12 bits are to be deleted, and PowerPC64's `addis` of one of 16 bits becomes a `nop`.
+     * RISC-V's TLS descriptors become offsets. */
     LINKER_UTILS_PHASE_THREAD_OFFSETS = 1,
     /* once addresses are known: AArch64's and RISC-V's loads of an address from the GOT become its
      * computation */
@@ -837,8 +837,8 @@ enum linker_utils_fate {
     LINKER_UTILS_FATE_REWRITTEN = 1,
     /* the relocation goes: the rewrite at the one before or at the next one takes it along */
     LINKER_UTILS_FATE_TAKEN_ALONG = 2,
-    /* the instruction is rewritten, and the relocation gets another symbol and addend: those of the high
-     * part whose label was its symbol, or of the word that it loaded */
+    /* the instruction is rewritten, and the relocation gets another symbol and addend: those of the
+     * high part whose label was its symbol, or of the word that it loaded */
     LINKER_UTILS_FATE_REDIRECTED = 3
 };
 
@@ -884,8 +884,8 @@ enum linker_utils_shapes_name {
     LINKER_UTILS_SHAPES_LOONGARCH_PCALA = 4 /* pcalau12i and addi.d of one register: pcaddi */
 };
 
-/* What an item is. Every other number is that of a limited alignment, too. The library writes
- * none of these. */
+/* What an item is. Every other number stands for a limited alignment, too. The library writes only
+ * these three. */
 enum linker_utils_item_kind {
     LINKER_UTILS_ITEM_SITE = 0,
     LINKER_UTILS_ITEM_ALIGNMENT = 1,
