@@ -92,8 +92,8 @@ pieces_len [] = 0
 pieces_len (piece ∷ pieces) = piece_len piece + pieces_len pieces
 
 -- the same as a number of 64 bits, the largest one if there are more
-abbrev pub told_len : List LazyPiece → ℕ
-told_len pieces = min (pieces_len pieces) (2 ^ 64 - 1)
+abbrev pub capped_len : List LazyPiece → ℕ
+capped_len pieces = min (pieces_len pieces) (2 ^ 64 - 1)
 
 abbrev pub IsCode : Architecture → List LazyPiece → LazyEntry → List ℕ → Type 0
 IsCode architecture [] entry code = code ≡ []
@@ -143,9 +143,9 @@ word_by words.Dynamic entry header dynamic = dynamic
 word_by words.Header entry header dynamic = header
 word_by (words.Entry offset) entry header dynamic = sum_64 entry offset
 
-abbrev pub told_word : Option LazyWord → ℕ → ℕ → Option ℕ
-told_word None header dynamic = None
-told_word (Some word) header dynamic = Some (word_by word header header dynamic)
+abbrev pub listed_word : Option LazyWord → ℕ → ℕ → Option ℕ
+listed_word None header dynamic = None
+listed_word (Some word) header dynamic = Some (word_by word header header dynamic)
 
 abbrev pub word_in : List LazyWord → ℕ → ℕ → ℕ → Option ℕ
-word_in all index dynamic header = told_word (slice_get all index) header dynamic
+word_in all index dynamic header = listed_word (slice_get all index) header dynamic

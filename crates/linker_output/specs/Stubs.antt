@@ -35,8 +35,8 @@ abbrev pub stub_len : StubCode → ℕ
 stub_len stub = length stub.head + 8 + length stub.tail
 
 -- the same as a number of 64 bits, the largest one if there are more
-abbrev pub told_len : StubCode → ℕ
-told_len stub = min (stub_len stub) (2 ^ 64 - 1)
+abbrev pub capped_len : StubCode → ℕ
+capped_len stub = min (stub_len stub) (2 ^ 64 - 1)
 
 -- S, L and the GOT entry are the target, and P and the TOC base are the origin
 abbrev pub operands_of : StubCode → ℕ → ℕ → Operands

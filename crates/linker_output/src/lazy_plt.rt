@@ -8,7 +8,7 @@
 ghost use Rattle.std.specs.Prelude.{◌≡◌, ◌+◌, ◌≤◌, length, min, IfOk, OnOk, IfErr};
 ghost use Rattle.linker_output.specs.LazyPlt.{view_plt, word_by, word_in, operands_at};
 ghost use Rattle.linker_output.specs.LazyPlt.{WritesPieces};
-ghost use Rattle.linker_output.specs.LazyPlt.{piece_len, pieces_len, told_len, IsPiece};
+ghost use Rattle.linker_output.specs.LazyPlt.{piece_len, pieces_len, capped_len, IsPiece};
 ghost use Rattle.linker_output.specs.LazyPlt.{RejectsPiece};
 ghost use Rattle.linker_output.specs.LazyPlt.{RejectsPieces, WritesCode, RejectsCode};
 ghost use Rattle.linker_output.specs.LazyPlt.{header_places};
@@ -156,7 +156,7 @@ fn piece_bytes(
 
 /// How many bytes pieces have, or `u64::MAX` if those are more.
 fn len_of(pieces: &[LazyPiece]) -> u64
-    ensures { result ≡ told_len pieces.now }
+    ensures { result ≡ capped_len pieces.now }
 {
     let Some((piece, others)) = pieces.split_first() else {
         return 0;
@@ -229,14 +229,14 @@ impl LazyPlt {
 
     /// How many bytes the header has, or `u64::MAX` if those are more.
     pub fn header_len(&self) -> u64
-        ensures { result ≡ told_len (view_plt self.now).header }
+        ensures { result ≡ capped_len (view_plt self.now).header }
     {
         len_of(self.header)
     }
 
     /// How many bytes an entry has, or `u64::MAX` if those are more.
     pub fn entry_len(&self) -> u64
-        ensures { result ≡ told_len (view_plt self.now).entry }
+        ensures { result ≡ capped_len (view_plt self.now).entry }
     {
         len_of(self.entry)
     }

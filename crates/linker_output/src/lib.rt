@@ -1,5 +1,6 @@
 //! What a linker adds to an output, by architecture: the types of dynamic relocations, words of the
-//! GOT, origins of thread-local storage, `e_flags`, and the code of stubs.
+//! GOT, origins of thread-local storage, `e_flags`, lazy PLTs, and the code of stubs; how a branch
+//! goes, and where stubs stand.
 #![tactic(auto)]
 
 mod aarch64;

@@ -1,7 +1,7 @@
 //! Code that a linker adds: stubs that jump to the address that a word has, or to a far target.
 
 ghost use Rattle.std.specs.Prelude.{◌≡◌, Some, None, IfSome, IfNone, IfOk, OnOk, IfErr};
-ghost use Rattle.linker_output.specs.Stubs.{operands_of, told_len, WritesField, RejectsField};
+ghost use Rattle.linker_output.specs.Stubs.{operands_of, capped_len, WritesField, RejectsField};
 ghost use Rattle.linker_output.specs.Stubs.{WritesPair, RejectsPair, WritesStub, RejectsStub};
 ghost use Rattle.linker_output.specs.View.{view_stub, stub_of};
 
@@ -142,7 +142,7 @@ impl Stub {
     /// How many bytes it has, or `u64::MAX` if those are more.
     #[inline]
     pub fn len(&self) -> u64
-        ensures { result ≡ told_len (view_stub self.now) }
+        ensures { result ≡ capped_len (view_stub self.now) }
     {
         let others = self.head.len() as u64 + self.tail.len() as u64;
         others.saturating_add(8)

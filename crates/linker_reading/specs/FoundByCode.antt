@@ -38,7 +38,7 @@ pub record AreFoundBy {K R : Type 0} (it : Recogniser K R) (code : ℕ) (origina
   pub placed : ArePlaced (choices_at it name original o) named
   pub found_are : found ≡ map (of_some (by_code it)) named
 
--- of an architecture
+-- those of a relocation of an architecture
 abbrev pub AreFound : Architecture → ℕ → List ℕ → ℕ → List FieldBits → List ℕ
     → List (Option (Recognised Relaxation ℕ)) → Type 0
 AreFound AArch64 = AreFoundBy aarch64
@@ -59,7 +59,7 @@ pub record IsFoundBy {K R : Type 0} (it : Recogniser K R) (code : ℕ) (original
       ↔ (IsChosen it name original o facts m.choice × IsMade it original o others linked m)
   pub found_is : found ≡ of_some (by_code it) named
 
--- of an architecture
+-- that of a relocation of an architecture
 abbrev pub IsFoundChosen : Architecture → ℕ → List ℕ → ℕ → List FieldBits → List ℕ → LinkFacts
     → Option (Recognised Relaxation ℕ) → Type 0
 IsFoundChosen AArch64 = IsFoundBy aarch64

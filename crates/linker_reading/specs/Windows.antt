@@ -86,7 +86,7 @@ pub record IsWindowBy {K R : Type 0} (it : Recogniser K R) (code : ℕ) (origina
   pub is_name : IsNameOf it.elf_name code name
   pub least : IsLeastWindow it (choices_at it name original o) original o window
 
--- of an architecture
+-- that of the choices at the relocation of an architecture
 abbrev pub IsWindowOf : Architecture → ℕ → List ℕ → ℕ → RewriteWindow → Type 0
 IsWindowOf AArch64 = IsWindowBy aarch64
 IsWindowOf RiscV = IsWindowBy riscv

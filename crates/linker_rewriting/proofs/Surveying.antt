@@ -3,7 +3,7 @@ use Rattle.std.proofs.Common.{◌≡◌, ℕ, ◌+◌, inl, inr, ◌∙◌, List
 use Rattle.std.specs.Prelude.{slice_get}
 use Rattle.linker_rewriting.specs.Facts.{Setting, setting}
 use Rattle.linker_rewriting.specs.Groups.{stays_at, symbol_of_group}
-use Rattle.linker_rewriting.specs.Inner.Codes.{asks_for_mark, is_of_group, KeepsNone}
+use Rattle.linker_rewriting.specs.Inner.Codes.{needs_mark, is_of_group, KeepsNone}
 use Rattle.linker_rewriting.specs.Surveys.{AreKeptToo, IsGroupOf, IsOfThreads, IsKeeping, IsUnmarked, IsUnmarkedIn, IsUnmarkedBy, HasRewrite, StaysBy, AllStayIf, IsNoted, IsCause, IsSurveyedIn}
 use Rattle.linker_rewriting.specs.declared.facts.OutputFacts.{OutputFacts}
 use Rattle.linker_rewriting.specs.declared.facts.SymbolFacts.{SymbolFacts}
@@ -114,18 +114,18 @@ more_surveyed s bytes section before mid once after k group unmarked surveyed ke
 
 -- ---- a relocation that keeps none
 
-not_asked : (architecture : Architecture) (phase : Phase) (symbols : List SymbolFacts)
+not_marked : (architecture : Architecture) (phase : Phase) (symbols : List SymbolFacts)
     (bytes : List ℕ) (n : ℕ) (r : Rela)
-    → asks_for_mark phase architecture (slice_get symbols r.symbol) ≡ false
+    → needs_mark phase architecture (slice_get symbols r.symbol) ≡ false
     → IsUnmarkedIn phase architecture symbols bytes n r false
-not_asked Ppc64 Early symbols bytes n r is = subst (λ b. IsUnmarkedBy b bytes n r false) (sym is) refl
-not_asked AArch64 Early symbols bytes n r is = refl
-not_asked RiscV Early symbols bytes n r is = refl
-not_asked LoongArch64 Early symbols bytes n r is = refl
-not_asked X86_64 Early symbols bytes n r is = refl
-not_asked architecture ThreadOffsets symbols bytes n r is = refl
-not_asked architecture GotLoads symbols bytes n r is = refl
-not_asked architecture Distances symbols bytes n r is = refl
+not_marked Ppc64 Early symbols bytes n r is = subst (λ b. IsUnmarkedBy b bytes n r false) (sym is) refl
+not_marked AArch64 Early symbols bytes n r is = refl
+not_marked RiscV Early symbols bytes n r is = refl
+not_marked LoongArch64 Early symbols bytes n r is = refl
+not_marked X86_64 Early symbols bytes n r is = refl
+not_marked architecture ThreadOffsets symbols bytes n r is = refl
+not_marked architecture GotLoads symbols bytes n r is = refl
+not_marked architecture Distances symbols bytes n r is = refl
 
 of_no_group : (s : Setting) (bytes section : List ℕ) (n : ℕ) (r : Rela) (scope : Scope)
     → is_of_group scope ≡ false → HasRewrite s bytes section n r scope
@@ -155,5 +155,5 @@ one_left architecture phase output symbols addresses values bytes section before
     more_surveyed s bytes section before mid mid mid k None false surveyed
     ((none.0).0, (none.0).1, of_no_group s bytes section k r ((none.0).0) ((none.0).2))
     (none_too mid (IsGroupOf None r.symbol) (λ group symbol is. is))
-    (not_asked architecture phase symbols bytes k r (none.1))
+    (not_marked architecture phase symbols bytes k r (none.1))
     (none_too mid (IsOfThreads false) (λ group symbol is. let e : false ≡ true = is.0 in cc))

@@ -259,7 +259,7 @@ relocation_by (Redirected chosen subject) r =
       addend = subject.addend;
     }
 
--- and of all relocations with an index below a limit
+-- what the relocations with an index below a limit become
 abbrev pub AreRelocationsBy : List Decision → List ℕ → List ℕ → ℕ → Type 0
 AreRelocationsBy decisions before after limit =
     (n : ℕ) → n < limit
@@ -280,12 +280,12 @@ ArePartsWholeIn s other bytes others_bytes decisions others limit others_limit =
     → subject.symbol ≡ other_subject.symbol
     → IsRewritten (decision_at decisions i) → IsRewritten (decision_at others j)
 
--- and of one section
+-- of one section, all parts of a symbol are rewritten, or none is
 abbrev pub ArePartsWhole : Setting → List ℕ → List Decision → ℕ → Type 0
 ArePartsWhole s bytes decisions limit =
     ArePartsWholeIn s s bytes bytes decisions decisions limit limit
 
--- of any two sections that are
+-- of any two sections that are decided by one table
 abbrev pub ArePartsWholeAcross : Type 0
 ArePartsWholeAcross =
     (s other : Setting) (gp : ℕ) (kept : List Bool)
@@ -375,7 +375,7 @@ abbrev pub based_section : Addresses → List Symbol → ℕ → List ℕ → Re
 based_section addresses values gp section r =
     section_over section r (low_code r.code) (base_of addresses values gp r)
 
--- and of all relocations with an index below a limit
+-- the section once the bases of all relocations with an index below a limit are set
 abbrev pub section_based : Addresses → List Symbol → ℕ → List ℕ → List ℕ → ℕ → List ℕ
 section_based addresses values gp bytes section zero = section
 section_based addresses values gp bytes section (suc n) =

@@ -46,6 +46,7 @@ relocation_after (Redirected chosen subject) r =
       addend = addend_after (relaxation_rewrite chosen.kind) subject.addend;
     }
 
+-- what the relocations with an index below a limit become
 abbrev pub AreRelocationsAfter : List Decision → List ℕ → List ℕ → ℕ → Type 0
 AreRelocationsAfter decisions before after limit =
     (n : ℕ) → n < limit
@@ -74,6 +75,7 @@ IsDone (Redirected chosen subject) offset before after =
     IsMade (relaxation_rewrite chosen.kind) offset before after
 IsDone decision offset before after = Unit {0}
 
+-- the windows of all rewrites at relocations with an index below a limit do
 abbrev pub AreDone : List ℕ → List Decision → List ℕ → List ℕ → ℕ → Type 0
 AreDone bytes decisions before after limit =
     (n : ℕ) → n < limit

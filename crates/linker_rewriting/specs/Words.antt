@@ -227,11 +227,12 @@ WordsAreWholeIn s other start words bytes others_bytes decisions others limit ot
     → IsLoad other start words (relocation_in others_bytes j) (Some (other_entry, word))
     → IsRewritten (decision_at decisions i) → IsRewritten (decision_at others j)
 
--- and of one section
+-- of one section, all loads of a word are rewritten, or none is
 abbrev pub WordsAreWhole : Setting → ℕ → List ℕ → List ℕ → List Decision → ℕ → Type 0
 WordsAreWhole s start words bytes decisions limit =
     WordsAreWholeIn s s start words bytes bytes decisions decisions limit limit
 
+-- of any two sections that are decided by one table
 abbrev pub WordsAreWholeAcross : Type 0
 WordsAreWholeAcross =
     (s other : Setting) (start : ℕ) (words : List ℕ) (kept : List Bool)

@@ -1,5 +1,5 @@
 //! Calls that stay as they are before addresses are known, by what is known of their symbol. Most
-//! calls do, so that this is asked before what else a rewrite is chosen by.
+//! calls do, so this is tested before what else a rewrite is chosen by.
 
 ghost use Rattle.std.specs.Prelude.{◌≡◌, slice_get};
 ghost use Rattle.linker_rewriting.specs.Inner.Calls.{is_weak_zero, changes_toc, aarch64_keeps};

@@ -5,14 +5,14 @@ ghost use Rattle.linker_section.specs.Relocations.{relocation_in};
 ghost use Rattle.linker_rewriting.specs.Candidates.{calls_tls_get_addr};
 ghost use Rattle.linker_rewriting.specs.Facts.{setting};
 ghost use Rattle.linker_rewriting.specs.Inner.Settings.{setting_of};
-ghost use Rattle.linker_rewriting.specs.Inner.Codes.{group_bit_of, table_of, asks_for_mark};
+ghost use Rattle.linker_rewriting.specs.Inner.Codes.{group_bit_of, table_of, needs_mark};
 ghost use Rattle.linker_rewriting.specs.Inner.Codes.{KeepsNone};
 ghost use Rattle.linker_rewriting.specs.Surveys.{IsKeeping, IsMarked, IsUnmarkedIn, IsUnmarkedBy};
 ghost use Rattle.linker_rewriting.specs.Surveys.{AreKeptToo, IsGroup, IsGroupOf, IsOfThreads};
 ghost use Rattle.linker_rewriting.specs.Surveys.{IsSurveyed, IsSurveyedIn};
 
 use crate::candidates::{candidate, is_matched, is_tls_get_addr};
-use crate::codes::{group_bit_of, is_asked, table_of};
+use crate::codes::{group_bit_of, is_surveyed, table_of};
 use crate::facts::{NO_ADDRESSES, OutputFacts, Setting, SymbolFacts};
 use crate::groups::{Group, KeptGroups, Scope, marks_call, scope_in, symbol_of_group};
 use crate::phases::Phase;
@@ -139,15 +139,15 @@ fn is_unmarked(
     }
 }
 
-/// Whether a relocation is one that is asked for its mark: a use of `__tls_get_addr` on PowerPC64.
+/// Whether a relocation is one whose mark a survey looks for: a use of `__tls_get_addr` on PowerPC64.
 #[inline(always)]
-fn asks_for_mark(
+fn needs_mark(
     architecture: Architecture,
     phase: Phase,
     symbols: &[SymbolFacts],
     relocation: &Rela,
 ) -> bool
-    ensures { result ≡ asks_for_mark phase architecture
+    ensures { result ≡ needs_mark phase architecture
         (slice_get symbols.now relocation.now.symbol) }
 {
     match (phase, architecture) {
@@ -156,7 +156,7 @@ fn asks_for_mark(
     }
 }
 
-/// Whether the relocation with an index is of no group by its code, and isn't asked for its mark.
+/// Whether the relocation with an index is of no group by its code, and needs no mark.
 #[inline(always)]
 fn keeps_none(
     architecture: Architecture,
@@ -174,8 +174,8 @@ fn keeps_none(
         → KeepsNone architecture phase symbols.now (relocation_in relocations.now index) }
 {
     let relocation = relocation_in(relocations, index);
-    let asked = is_asked(architecture, phase, table, bit, relocation.code);
-    !asked && !asks_for_mark(architecture, phase, symbols, &relocation)
+    let surveyed = is_surveyed(architecture, phase, table, bit, relocation.code);
+    !surveyed && !needs_mark(architecture, phase, symbols, &relocation)
 }
 
 /// The index of the first relocation from an index on that may keep a group, or how many

@@ -1,4 +1,4 @@
-//! Relocations of a section, and why no items are made of them.
+//! The items of a run that the relocations of a section make, and why none can be made.
 
 ghost use Rattle.std.specs.Prelude.{◌≡◌, ◌≢◌, ◌+◌, ◌≤◌, ◌<◌, ◌^◌, ◌↔◌, ℕ, IsTrue, length};
 ghost use Rattle.std.specs.Prelude.{IfSome, IfNone, IfOk, IfErr, OnOk, OnErr};

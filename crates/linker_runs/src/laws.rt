@@ -1,4 +1,4 @@
-//! Laws of runs: of `relax`, `shrink_calls`, `items` and `pack_run` together.
+//! Laws of runs: of `relax`, `shrink_calls`, `section_items` and `pack_run` together.
 
 ghost use Rattle.std.specs.Prelude.{◌≡◌};
 ghost use Rattle.linker_runs.specs.Calls.{call_shapes, CallsAreShrunkAlike};
@@ -69,7 +69,7 @@ pub fn none_is_out_of_reach()
     ensures { NoneIsOutOfReach }
 {}
 
-/// The sites that `items` of `linker_runs` returns have their instructions, as
+/// The sites that `section_items` returns have their instructions, as
 /// `short_sites_are_writable` requires.
 pub fn made_sites_have_instructions()
     ensures { MadeSitesHaveInstructions }

@@ -1,6 +1,6 @@
 -- Lazy PLTs, in the numbers that C sees.
 use Rattle.std.specs.Prelude.{◌≡◌, ◌⊎◌, ℕ, List, length, Result, Ok, Err}
-use Rattle.linker_output.specs.LazyPlt.{PltCode, told_len, WritesCode, RejectsCode}
+use Rattle.linker_output.specs.LazyPlt.{PltCode, capped_len, WritesCode, RejectsCode}
 use Rattle.linker_output.specs.declared.lazy_plt.LazyEntry.{LazyEntry}
 use Rattle.linker_output.specs.declared.lazy_plt.LazyPiece.{LazyPiece}
 use Rattle.linker_output.specs.declared.stubs.StubError.{StubError}
@@ -14,8 +14,8 @@ use Rattle.linker_utils_c.specs.declared.status.Status.TheVariants.{Success}
 abbrev pub numbers_of : PltCode → LazyPltNumbers
 numbers_of plt =
     record {
-      header_len = told_len plt.header;
-      entry_len = told_len plt.entry;
+      header_len = capped_len plt.header;
+      entry_len = capped_len plt.entry;
       alignment = plt.alignment;
       header_words = length plt.header_words;
     }

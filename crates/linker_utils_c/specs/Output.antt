@@ -4,7 +4,7 @@ use Rattle.std.specs.Prelude.{Bool, Option, Some, None, Err}
 use Rattle.linker_output.specs.Dynamic.{DynamicKind, DynamicKinds, dynamic_words}
 use Rattle.linker_output.specs.Got.{entry_words, static_words}
 use Rattle.linker_output.specs.Layout.{Run, run_len, run_spacing, run_word}
-use Rattle.linker_output.specs.Stubs.{StubCode, told_len, WritesStub, RejectsStub}
+use Rattle.linker_output.specs.Stubs.{StubCode, capped_len, WritesStub, RejectsStub}
 use Rattle.linker_output.specs.View.{Description, Symbol}
 use Rattle.linker_output.specs.declared.got.Origins.{Origins}
 use Rattle.linker_output.specs.declared.layout.SymbolPlace.{SymbolPlace}
@@ -176,7 +176,7 @@ stub_in target (Some Jump) = target.jump_stub
 abbrev pub IsStubReturned : Option StubCode → StubNumbers → StubNumbers → ℕ → Type 0
 IsStubReturned None old new status = (status ≡ code UnknownStub) × (new ≡ old)
 IsStubReturned (Some stub) old new status =
-    (status ≡ code Success) × (new ≡ record { len = told_len stub; entry = stub.entry })
+    (status ≡ code Success) × (new ≡ record { len = capped_len stub; entry = stub.entry })
 
 abbrev pub stub_status : StubError → Status
 stub_status errors.Missing = UnknownStub

@@ -42,8 +42,8 @@ AreBitsOf None bytes old bits status = (status ≡ code UnknownRelocation) × (b
 AreBitsOf (Some row) bytes old bits status = AreFieldBits row bytes old bits status
 
 -- whether two windows differ in the field of a row only
-abbrev pub IsSameAnswer : List ℕ → List ℕ → RelocationKindInfo → Bool → Type 0
-IsSameAnswer a b row answer = IsTrue answer ↔ AreSameButFor row a b
+abbrev pub IsSameness : List ℕ → List ℕ → RelocationKindInfo → Bool → Type 0
+IsSameness a b row same = IsTrue same ↔ AreSameButFor row a b
 
 -- ---- what was found, in numbers
 

@@ -7,7 +7,7 @@ ghost use Rattle.linker_utils.specs.Architectures.{IsRow, rewrite_of_number};
 ghost use Rattle.linker_utils.specs.Machines.{architecture_of};
 ghost use Rattle.linker_utils_c.specs.Choices.{facts_of};
 ghost use Rattle.linker_utils_c.specs.Reading.{field_of, reference_number};
-ghost use Rattle.linker_utils_c.specs.Recognising.{AreBitsOf, IsSameAnswer, field_or_none};
+ghost use Rattle.linker_utils_c.specs.Recognising.{AreBitsOf, IsSameness, field_or_none};
 ghost use Rattle.linker_utils_c.specs.Recognising.{IsMadeInNumbers, AreWritten, AreRecognised};
 ghost use Rattle.linker_utils_c.specs.Recognising.{IsChosenInNumbers, IsRecognised, IsWindowGiven};
 ghost use Rattle.linker_utils_c.specs.Recognising.{IsDestinationInNumbers, IsDestinationPut};
@@ -74,7 +74,7 @@ pub extern "C" fn linker_utils_same_but_for_nonnull(
 ) -> bool
     ensures known { IfSome (architecture_of machine)
         (λ architecture. (meaning : Option RelocationKindInfo) × IsRow architecture r_type meaning
-        × IsAnswerOf (IsSameAnswer a.now b.now) meaning result) }
+        × IsAnswerOf (IsSameness a.now b.now) meaning result) }
     ensures unknown { IfNone (architecture_of machine) (result ≡ false) }
 {
     let Some(architecture) = Architecture::from_machine(machine) else {

@@ -1,6 +1,6 @@
 // Made by tools/erase of crates/linker_rewriting/src/calls.rt.
 //! Calls that stay as they are before addresses are known, by what is known of their symbol. Most
-//! calls do, so that this is asked before what else a rewrite is chosen by.
+//! calls do, so this is tested before what else a rewrite is chosen by.
 
 use crate::linker_rewriting::facts::{SymbolFacts, may_change_toc};
 use crate::linker_rewriting::phases::Phase;

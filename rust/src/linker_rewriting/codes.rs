@@ -2,7 +2,7 @@
 //! In which phases a relocation may be rewritten, by its code.
 //!
 //! Of each number the bits from 0 up are those of the phases in their order, and the bits from 4 up
-//! those of the phases in which a survey asks for its rewrite, since it is of a group. A code past
+//! those of the phases in which a survey looks for its rewrite, since it is of a group. A code past
 //! the end of a table has none. Each number is proved to have exactly the bits of its name's
 //! scopes.
 
@@ -118,7 +118,7 @@ pub(crate) fn bit_of(phase: Phase) -> u8 {
     }
 }
 
-/// The bit of a phase in which a survey asks for a rewrite.
+/// The bit of a phase in which a survey looks for a rewrite.
 #[inline(always)]
 pub(crate) fn group_bit_of(phase: Phase) -> u8 {
     match phase {
@@ -150,10 +150,10 @@ pub(crate) fn is_listed(
     phases_in(table, code) & bit != 0
 }
 
-/// Whether a survey of a phase asks for the rewrite of a relocation with a code, by the table of
+/// Whether a survey of a phase looks for the rewrite of a relocation with a code, by the table of
 /// the architecture and the bit of the phase. The scope is for the proof alone.
 #[inline(always)]
-pub(crate) fn is_asked(
+pub(crate) fn is_surveyed(
     architecture: Architecture,
     phase: Phase,
     table: &'static [u8],

@@ -2,7 +2,7 @@
 //! Which groups of an object stay as they are, since one of their instructions can't be rewritten.
 
 use crate::linker_rewriting::candidates::{candidate, is_matched, is_tls_get_addr};
-use crate::linker_rewriting::codes::{group_bit_of, is_asked, table_of};
+use crate::linker_rewriting::codes::{group_bit_of, is_surveyed, table_of};
 use crate::linker_rewriting::facts::{NO_ADDRESSES, OutputFacts, Setting, SymbolFacts};
 use crate::linker_rewriting::groups::{Group, KeptGroups, Scope, marks_call, scope_in, symbol_of_group};
 use crate::linker_rewriting::phases::Phase;
@@ -108,9 +108,9 @@ fn is_unmarked(
     }
 }
 
-/// Whether a relocation is one that is asked for its mark: a use of `__tls_get_addr` on PowerPC64.
+/// Whether a relocation is one whose mark a survey looks for: a use of `__tls_get_addr` on PowerPC64.
 #[inline(always)]
-fn asks_for_mark(
+fn needs_mark(
     architecture: Architecture,
     phase: Phase,
     symbols: &[SymbolFacts],
@@ -122,7 +122,7 @@ fn asks_for_mark(
     }
 }
 
-/// Whether the relocation with an index is of no group by its code, and isn't asked for its mark.
+/// Whether the relocation with an index is of no group by its code, and needs no mark.
 #[inline(always)]
 fn keeps_none(
     architecture: Architecture,
@@ -134,8 +134,8 @@ fn keeps_none(
     index: usize,
 ) -> bool {
     let relocation = relocation_in(relocations, index);
-    let asked = is_asked(architecture, phase, table, bit, relocation.code);
-    !asked && !asks_for_mark(architecture, phase, symbols, &relocation)
+    let surveyed = is_surveyed(architecture, phase, table, bit, relocation.code);
+    !surveyed && !needs_mark(architecture, phase, symbols, &relocation)
 }
 
 /// The index of the first relocation from an index on that may keep a group, or how many

@@ -1,5 +1,5 @@
 // Made by tools/erase of crates/linker_runs/src/items.rt.
-//! Relocations of a section, and why no items are made of them.
+//! The items of a run that the relocations of a section make, and why none can be made.
 
 mod list;
 mod rewritten;

@@ -62,12 +62,12 @@ abbrev pub IsAsked : Architecture → Phase → ℕ → Bool → Type 0
 IsAsked architecture phase code asked = asked ≡ false → IsOfNone architecture phase code
 
 -- PowerPC64: it asks for the mark of a use of `__tls_get_addr`
-abbrev pub asks_for_mark : Phase → Architecture → Option SymbolFacts → Bool
-asks_for_mark Early architectures.Ppc64 = calls_tls_get_addr
-asks_for_mark phase architecture = λ symbol. false
+abbrev pub needs_mark : Phase → Architecture → Option SymbolFacts → Bool
+needs_mark Early architectures.Ppc64 = calls_tls_get_addr
+needs_mark phase architecture = λ symbol. false
 
 -- a relocation is of no group, and isn't asked for its mark
 abbrev pub KeepsNone : Architecture → Phase → List SymbolFacts → Rela → Type 0
 KeepsNone architecture phase symbols r =
     IsOfNone architecture phase r.code
-    × (asks_for_mark phase architecture (slice_get symbols r.symbol) ≡ false)
+    × (needs_mark phase architecture (slice_get symbols r.symbol) ≡ false)

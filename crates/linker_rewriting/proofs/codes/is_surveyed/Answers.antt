@@ -2,7 +2,7 @@ use Rattle.std.proofs.Common.{◌≡◌, ◌∙◌, ap, subst, eqb, not, false}
 use Rattle.std.specs.Prelude.{bit_and}
 use Rattle.linker_rewriting.proofs.CodeNumbers.{ungrouped_code}
 use Rattle.linker_rewriting.specs.Inner.Codes.{phases_in, table_of}
-use Rattle.linker_rewriting.proofs.codes.is_asked.Goals as goal
+use Rattle.linker_rewriting.proofs.codes.is_surveyed.Goals as goal
 
 pub returns : goal.returns
 returns c =
