@@ -124,6 +124,7 @@ void make_imports(void) {
         if (!s->has_stub || !s->is_canonical) continue;
         s->output = stubs;
         s->offset = s->stub;
+        s->elf.st_size = s->there->st_size;
     }
 }
 

@@ -152,7 +152,7 @@ void write_entries(void) {
     struct linker_utils_entry_words held;
     if (got->len && known_got.has_header) memcpy(got->bytes, &known_got.header, 8);
     EACH_SYMBOL(s)
-        for (const struct entry *e = s->is_imported ? NULL : s->entries; e; e = e->next) {
+        for (const struct entry *e = s->entries; e && !s->is_imported; e = e->next) {
             bool is_absent = is_undefined_weak(s);
             uint64_t at = is_absent ? 0 : address_of(s->output, s->offset);
             if (is_absent && e->class == LINKER_UTILS_ENTRY_MODULE_OFFSET) at = tls.image;

@@ -174,6 +174,7 @@ static void read_object(const char *path, struct bytes file) {
     EACH_SECTION_OF(o, s) if (s->head->sh_type == SHT_GROUP) read_group(s);
     EACH_SECTION_OF(o, s) {
         uint32_t type = s->head->sh_type, of = s->head->sh_info;
+        if (type == SHT_PROGBITS) continue;
         if (type == SHT_SYMTAB) read_symbols(s);
         /* relocations in other forms: CREL and RELR, and Android's two */
         if (type > SHT_SYMTAB_SHNDX && type <= SHT_LOOS + 2)

@@ -69,8 +69,7 @@ struct linker_utils_requirements needs_of(const struct section *s, const Elf64_R
 struct linker_utils_symbol known_symbol(const struct symbol *s, int64_t addend) {
     struct linker_utils_symbol known = {
         .address = address_of(s->output, s->offset), .entry_addend = addend,
-        .stub = s->has_stub ? address_of(stubs, s->stub) : 0,
-        .size = s->library && !is_defined(s) ? s->there->st_size : s->elf.st_size,
+        .stub = s->has_stub ? address_of(stubs, s->stub) : 0, .size = s->elf.st_size,
         .other = s->elf.st_other, .is_thread_local = is_thread_local(s),
         .is_undefined_weak = is_undefined_weak(s)};
     uint64_t *const of_class[] = {[LINKER_UTILS_ENTRY_ADDRESS] = &known.address_entry,

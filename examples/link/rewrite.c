@@ -101,7 +101,7 @@ static void hide(struct object *o) {
  * where the block is. */
 static bool has_offsets(struct object *o) {
     EACH_SECTION_OF(o, s)
-        if (s->output && !(s->head->sh_flags & SHF_EXECINSTR))
+        if (s->output && s->output != frames && !(s->head->sh_flags & SHF_EXECINSTR))
             EACH_RELOCATION(s, r)
                 if (kind_of(s, r)->row.kind == LINKER_UTILS_KIND_DTP_OFF) return true;
     return false;
