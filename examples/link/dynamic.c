@@ -41,7 +41,8 @@ void bind_symbols(void) {
 }
 
 /* How a relocation reaches a symbol of another file, or one of this file wherever it is loaded.
- * Where code doesn't load the address of a weak symbol that nothing defines so far, that is 0. */
+ * Where code doesn't load the address of a weak symbol that nothing defines so far, that is 0. This
+ * is absolute: a distance to it is only for a call, which isn't made. */
 void import(struct section *in, Elf64_Rela *r, const struct linker_utils_requirements *needs) {
     struct symbol *s = symbol_at(in, r);
     uint32_t kind = kind_of(in, r)->row.kind;
@@ -56,7 +57,9 @@ void import(struct section *in, Elf64_Rela *r, const struct linker_utils_require
     if ((is_imported && (is_in_module || is_of_thread)) || (is_of_thread && !linked.is_executable))
         fail_at(in, r, " can't reach '%s' from such an output", s->name);
     bool is_relative = kind >= LINKER_UTILS_KIND_RELATIVE && kind <= LINKER_UTILS_KIND_PLT_RELATIVE;
-    if (!is_imported && !linked.is_fixed && is_relative && is_defined(s) && !is_here(s))
+    bool is_nothing = !is_defined(s) && bind_of(s) == STB_WEAK && !s->library;
+    bool is_absolute = !is_here(s) && (!is_imported || (is_nothing && linked.is_executable));
+    if (!linked.is_fixed && is_relative && is_absolute && !(is_nothing && needs->may_use_stub))
         fail_at(in, r, " depends on where the output is loaded, to the absolute '%s'", s->name);
     if (!is_imported && (linked.is_fixed || !needs->depends_on_load || !is_here(s))) return;
     if (is_imported && needs->may_use_stub) {
@@ -121,6 +124,7 @@ void make_imports(void) {
         if (!s->has_stub || !s->is_canonical) continue;
         s->output = stubs;
         s->offset = s->stub;
+        s->elf.st_size = s->there->st_size;
     }
 }
 
@@ -284,6 +288,7 @@ void make_dynamic(void) {
     if (interpreter && linker_utils_interpreter(machine, machine_flags, path, most, &used))
         fail("no dynamic linker is known for such objects");
     if (interpreter) append(interpreter, 1, path, used + 1);
+    make_room(dynstr, 1, 1); /* the empty name is always there */
     for (struct library *l = libraries; l; l = l->next) l->name_at = add_name(dynstr, l->name);
     list_dynamic();
     put_entries();
@@ -305,11 +310,13 @@ bool write_dynamic(void) {
     for (const struct dynamic_row *row = rows; row < rows + rows_len; row++, to++) {
         const struct symbol *s = row->symbol;
         bool is_looked_up = s->is_imported || row->type == types.copy;
+        bool is_of_copy = row->type == types.word && !is_looked_up; /* which came later */
         bool is_offset = row->type == types.thread_offset || row->type == types.module_offset ||
                          row->type == types.descriptor;
         uint64_t at = address_of(s->output, s->offset) - (is_offset ? tls.image : 0);
         to->r_offset = address_of(row->output, row->offset);
-        to->r_info = ELF64_R_INFO((uint64_t)(is_looked_up ? s->dynamic : 0), row->type);
+        to->r_info = ELF64_R_INFO((uint64_t)(is_looked_up ? s->dynamic : 0),
+                                  is_of_copy ? types.relative : row->type);
         to->r_addend = (int64_t)((uint64_t)row->addend + (is_looked_up ? 0 : at));
         if (row->type == types.module_number) to->r_addend = 0;
     }

@@ -146,12 +146,13 @@ void make_entries(void) {
 }
 
 /* Writes the GOT: each entry by the address that it is of. That of a weak thread-local variable
- * that nothing defines is as in ld.lld. */
+ * that nothing defines is as in ld.lld, and that of a symbol of another file is 0: so the dynamic
+ * linker leaves the offset of a weak one that no file defines. */
 void write_entries(void) {
     struct linker_utils_entry_words held;
     if (got->len && known_got.has_header) memcpy(got->bytes, &known_got.header, 8);
     EACH_SYMBOL(s)
-        for (const struct entry *e = s->entries; e; e = e->next) {
+        for (const struct entry *e = s->entries; e && !s->is_imported; e = e->next) {
             bool is_absent = is_undefined_weak(s);
             uint64_t at = is_absent ? 0 : address_of(s->output, s->offset);
             if (is_absent && e->class == LINKER_UTILS_ENTRY_MODULE_OFFSET) at = tls.image;

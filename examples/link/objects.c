@@ -91,7 +91,7 @@ static void check_symbol(const struct object *o, size_t i, bool is_local, const 
     uint16_t at = elf->st_shndx;
     bool is_tls = ELF64_ST_TYPE(elf->st_info) == STT_TLS, has_section = at < o->sections_len;
     if ((!has_section && at != SHN_ABS && at != SHN_COMMON) ||
-        (at == SHN_COMMON && (is_local || is_tls)) ||
+        (at == SHN_COMMON && is_local) || (is_tls && !has_section) ||
         (ELF64_ST_BIND(elf->st_info) == STB_LOCAL) != is_local)
         fail_of(o, "symbol %zu, '%s', is of a kind that is not supported", i, name);
     if (is_tls && at && has_section && !(o->heads[at].sh_flags & SHF_TLS))
@@ -174,7 +174,11 @@ static void read_object(const char *path, struct bytes file) {
     EACH_SECTION_OF(o, s) if (s->head->sh_type == SHT_GROUP) read_group(s);
     EACH_SECTION_OF(o, s) {
         uint32_t type = s->head->sh_type, of = s->head->sh_info;
+        if (type == SHT_PROGBITS) continue;
         if (type == SHT_SYMTAB) read_symbols(s);
+        /* relocations in other forms: CREL and RELR, and Android's two */
+        if (type > SHT_SYMTAB_SHNDX && type <= SHT_LOOS + 2)
+            fail_in(s, "such sections are not supported");
         if (type != SHT_RELA && type != SHT_REL) continue;
         if (of >= o->sections_len || o->sections[of].table)
             fail_of(o, "relocations of no section, or twice of one");

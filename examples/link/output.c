@@ -126,6 +126,7 @@ static void add_dynamic_parts(void) {
 static uint64_t put_sections(void) {
     uint64_t end = 0, offset = headers->len ? 0 : MOST_ALIGN, image = 0;
     uint64_t align = headers->len ? linker_utils_page(machine) : MOST_ALIGN;
+    EACH_OUTPUT(o) if (o->align > align) align = o->align; /* of where the file is loaded */
     EACH_OUTPUT(o) {
         uint64_t bytes = o->has_bytes ? o->len : 0;
         if (o->flags & SHF_TLS && bytes) image = o->address + o->len - tls.image;

@@ -79,15 +79,14 @@ static void rewrite_in(uint32_t phase, struct section *s, const struct section *
     s->deleted = memcpy(take(used, sizeof *deleted), deleted, used * sizeof *deleted);
 }
 
-/* Rewrites the loads from the GOT of a section, all or none, as in ld.lld. Of what is noted of
- * groups only that of the section's relocations counts. */
-static void rewrite_got_loads(struct section *s) {
-    *kept = (struct linker_utils_kept_groups){.got_load = false};
-    EACH_RELOCATION(s, r) kept[ELF64_R_SYM(r->r_info)] = *kept;
-    rewrite_in(LINKER_UTILS_PHASE_GOT_LOADS, s, NULL, true);
+/* Whether the loads from the GOT of a section stay: all of it or none, as in ld.lld. One stays too
+ * where the object has another of its symbol that stays, whose other half may lead to it. */
+static bool keeps_got_loads(const struct section *s) {
     bool stays = kept->got_load;
-    EACH_RELOCATION(s, r) stays |= kept[ELF64_R_SYM(r->r_info)].got_load;
-    if (!stays) rewrite_in(LINKER_UTILS_PHASE_GOT_LOADS, s, NULL, false);
+    EACH_RELOCATION(s, r)
+        stays |= kept[ELF64_R_SYM(r->r_info)].got_load && !(r->r_info & HIDDEN) &&
+                 kind_of(s, r)->needs[0].entry_class == LINKER_UTILS_ENTRY_ADDRESS;
+    return stays;
 }
 
 /* Hides relocations of an object's code from the library, and when called again shows them. */
@@ -98,9 +97,20 @@ static void hide(struct object *o) {
                 if (r->r_info & HIDDEN || is_hidden(s, r)) r->r_info ^= HIDDEN;
 }
 
+/* Whether data has an offset in the module's block. It stays, and so does the code that computes
+ * where the block is. */
+static bool has_offsets(struct object *o) {
+    EACH_SECTION_OF(o, s)
+        if (s->output && s->output != frames && !(s->head->sh_flags & SHF_EXECINSTR))
+            EACH_RELOCATION(s, r)
+                if (kind_of(s, r)->row.kind == LINKER_UTILS_KIND_DTP_OFF) return true;
+    return false;
+}
+
 /* Rewrites the instructions of an object in some phases, all of a group or none. */
 void rewrite_object(struct object *o, uint32_t first, uint32_t last) {
-    bool hides = note_symbols(o, first != LINKER_UTILS_PHASE_EARLY);
+    bool is_early = first == LINKER_UTILS_PHASE_EARLY, hides = note_symbols(o, !is_early);
+    bool keeps = is_early && o->is_threaded && has_offsets(o);
     if (hides) hide(o);
     EACH_SECTION_OF(o, words)
         for (int is_survey = 1; words->kept_words && is_survey >= 0; is_survey--)
@@ -111,11 +121,13 @@ void rewrite_object(struct object *o, uint32_t first, uint32_t last) {
         bool is_of_got = phase == LINKER_UTILS_PHASE_GOT_LOADS;
         memset(kept, 0, (o->symbols_len + 1) * sizeof *kept);
         if (!linker_utils_has_rewrites(machine, phase)) continue;
-        kept->got_load = phase == LINKER_UTILS_PHASE_EARLY; /* as in ld.lld */
-        for (int is_survey = !is_of_got; is_survey >= 0; is_survey--)
+        kept->got_load = is_early; /* as in ld.lld */
+        kept->local_dynamic = keeps;
+        for (int is_survey = 1; is_survey >= 0; is_survey--)
             EACH_SECTION_OF(o, s)
-                if (is_code(s) && !is_of_got) rewrite_in(phase, s, NULL, is_survey);
-                else if (is_code(s) && s->has_loads) rewrite_got_loads(s);
+                if (is_code(s) && (!is_of_got || (s->has_loads &&
+                                                  (is_survey || !keeps_got_loads(s)))))
+                    rewrite_in(phase, s, NULL, is_survey);
     }
     if (hides) hide(o);
 }

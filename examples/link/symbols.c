@@ -224,6 +224,7 @@ void define_symbols(void) {
     EACH_OUTPUT(o) define_end(o, false); /* the first counts */
     for (size_t i = outputs_len; i > 0; i--) define_end(outputs[i - 1], true);
     define("_GLOBAL_OFFSET_TABLE_", got, 0);
+    if (dynamic) define("_DYNAMIC", dynamic, 0);
     define_provided();
     define_base("_TLS_MODULE_BASE_", false); /* also for other machines, as in ld.lld */
     define_ends();
