@@ -256,7 +256,7 @@ void offer(const char *name, struct archive *a, uint64_t member), list_symbol(st
 void resolve(struct symbol *known, struct symbol *s), define_symbols(void), place_symbols(void);
 int rank(const struct symbol *s);
 bool is_ifunc(const struct symbol *s), is_undefined_weak(const struct symbol *s);
-bool is_here(const struct symbol *s);
+bool is_here(const struct symbol *s), is_far(const struct symbol *s);
 /* layout.c */
 struct output *output_of(const char *name);
 uint64_t code_unit(void), make_room(struct output *o, uint64_t align, uint64_t len);

@@ -27,6 +27,13 @@ bool is_here(const struct symbol *s) {
     return s->output || s == module_base || s->elf.st_shndx != SHN_ABS;
 }
 
+/* Whether a symbol is so far from its section that 32 bits may not hold each distance to it. Of an
+ * offset below the section the number is above all others. */
+bool is_far(const struct symbol *s) {
+    uint64_t most = INT32_MAX / 8;
+    return s->output && s->offset + most > s->output->len + 2 * most;
+}
+
 /* Where the cell of a hash is, if no other is in its way. */
 static size_t first_of(uint32_t hash) {
     uint32_t mixed = hash * 2654435769; /* 2^32 over the golden ratio */
