@@ -599,6 +599,10 @@ static inline uint32_t linker_utils_survey(
  * unchanged. A relocation of a symbol that isn't in the array isn't rewritten. O(n) for n
  * relocations. It doesn't allocate.
  *
+ * Nothing tests, here or later, that 32 signed bits hold an offset from LoongArch's thread pointer.
+ * Of a symbol for which they may not, set `initial_exec` and `descriptor` in `kept` before the
+ * survey.
+ *
  * LINKER_UTILS_UNKNOWN_ARCHITECTURE; LINKER_UTILS_SHORT_MEMORY where there are fewer decisions than
  * relocations. Else the status is that of the first relocation that it doesn't accept, `faulty`:
  * LINKER_UTILS_NOT_SURVEYED; LINKER_UTILS_OVERLAPS where the bytes of its rewrite overlap those of
