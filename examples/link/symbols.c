@@ -27,11 +27,13 @@ bool is_here(const struct symbol *s) {
     return s->output || s == module_base || s->elf.st_shndx != SHN_ABS;
 }
 
-/* Whether a symbol is so far from its section that 32 bits may not hold each distance to it. Of an
- * offset below the section the number is above all others. */
+/* Whether a symbol is so far from its section, or thread-local storage so long, that 32 bits may not
+ * hold each distance to it. Of an offset below the section the number is above all others. */
 bool is_far(const struct symbol *s) {
-    uint64_t most = INT32_MAX / 8;
-    return s->output && s->offset + most > s->output->len + 2 * most;
+    uint64_t most = INT32_MAX / 2 - MOST_ALIGN, len = 0;
+    if (!s->output) return false;
+    if (is_thread_local(s)) EACH_OUTPUT(o) len += o->flags & SHF_TLS ? o->len : 0;
+    return len > most || s->offset + most > s->output->len + 2 * most;
 }
 
 /* Where the cell of a hash is, if no other is in its way. */
