@@ -157,6 +157,7 @@ struct symbol {
     bool is_imported : 1, is_exported : 1; /* other files define or may replace it; may see it */
     bool is_copied : 1, has_stub : 1, is_canonical : 1; /* its stub is its address in all files */
     bool has_group : 1, is_saver : 1; /* an object has a group of its name; of `define_runs` */
+    bool is_far : 1; /* 32 bits may not hold each distance to it */
     uint32_t hash;               /* of a global one's name */
     const struct object *object; /* null where only an index of an archive names it */
     const char *name;
@@ -256,7 +257,7 @@ void offer(const char *name, struct archive *a, uint64_t member), list_symbol(st
 void resolve(struct symbol *known, struct symbol *s), define_symbols(void), place_symbols(void);
 int rank(const struct symbol *s);
 bool is_ifunc(const struct symbol *s), is_undefined_weak(const struct symbol *s);
-bool is_here(const struct symbol *s), is_far(const struct symbol *s);
+bool is_here(const struct symbol *s);
 /* layout.c */
 struct output *output_of(const char *name);
 uint64_t code_unit(void), make_room(struct output *o, uint64_t align, uint64_t len);

@@ -10,13 +10,13 @@ struct linker_utils_kept_groups *kept;
 static const struct symbol *tls_get_addr;
 
 /* Whether the library is not shown a relocation: nothing here has its symbol, or it would be
- * relaxed where nothing is to be, as by a mark, which has no symbol. What loads the address of a far
- * symbol stays, since of LoongArch nothing tests whether 32 bits hold the distance. */
+ * relaxed where nothing is to be, as by a mark, which has no symbol. What loads the address of a
+ * far symbol stays, since of LoongArch nothing tests whether 32 bits hold the distance. */
 static bool is_hidden(const struct section *s, const Elf64_Rela *r) {
     const struct symbol *to = symbol_at(s, r);
     if (!ELF64_R_SYM(r->r_info)) return !relaxes;
     if (to->is_imported || to == tls_get_addr) return false;
-    if (!is_here(to) || (relaxes && !is_far(to))) return !is_here(to);
+    if (!is_here(to) || (relaxes && !to->is_far)) return !is_here(to);
     return needs_of(s, r).entry_class == LINKER_UTILS_ENTRY_ADDRESS;
 }
 
@@ -38,7 +38,7 @@ static bool note_symbols(struct object *o, bool has_addresses) {
         const struct symbol *s = o->symbols[i];
         __builtin_prefetch(o->symbols[i + 8 < len ? i + 8 : i]);
         if (has_addresses) values[i] = known_symbol(s, o->addends ? o->addends[i] : 0);
-        hides |= !s->is_imported && (!is_here(s) || is_far(s)) && stt_of(s) != STT_FILE;
+        hides |= !s->is_imported && (!is_here(s) || s->is_far) && stt_of(s) != STT_FILE;
         o->is_threaded |= is_thread_local(s);
         facts[i] = (struct linker_utils_symbol_facts){
             .is_local = !s->is_imported, .is_ifunc = is_ifunc(s) && s->output != stubs,
@@ -113,7 +113,7 @@ void rewrite_object(struct object *o, uint32_t first, uint32_t last) {
         bool is_of_got = phase == LINKER_UTILS_PHASE_GOT_LOADS;
         memset(kept, 0, (o->symbols_len + 1) * sizeof *kept);
         for (size_t i = 1; hides && i < o->symbols_len; i++)
-            if (is_far(o->symbols[i]))
+            if (o->symbols[i]->is_far)
                 kept[i].initial_exec = kept[i].general_dynamic = kept[i].descriptor = true;
         if (!linker_utils_has_rewrites(machine, phase)) continue;
         kept->got_load = phase == LINKER_UTILS_PHASE_EARLY; /* as in ld.lld */

@@ -27,15 +27,6 @@ bool is_here(const struct symbol *s) {
     return s->output || s == module_base || s->elf.st_shndx != SHN_ABS;
 }
 
-/* Whether a symbol is so far from its section, or thread-local storage so long, that 32 bits may not
- * hold each distance to it. Of an offset below the section the number is above all others. */
-bool is_far(const struct symbol *s) {
-    uint64_t most = INT32_MAX / 2 - MOST_ALIGN, len = 0;
-    if (!s->output) return false;
-    if (is_thread_local(s)) EACH_OUTPUT(o) len += o->flags & SHF_TLS ? o->len : 0;
-    return len > most || s->offset + most > s->output->len + 2 * most;
-}
-
 /* Where the cell of a hash is, if no other is in its way. */
 static size_t first_of(uint32_t hash) {
     uint32_t mixed = hash * 2654435769; /* 2^32 over the golden ratio */
@@ -239,8 +230,10 @@ void define_symbols(void) {
 }
 
 /* Places the symbols that objects define, and the sections with these. Common symbols are the first
- * in `.bss`, as in ld.lld. */
+ * in `.bss`, as in ld.lld. One is far whose offset is about a GiB or more, or as much below 0, or
+ * whose thread-local storage is as long. */
 void place_symbols(void) {
+    uint64_t most = INT32_MAX / 2 - MOST_ALIGN, tls_len = 0;
     EACH_SYMBOL(s) {
         if (s->elf.st_shndx != SHN_COMMON) continue;
         s->output = output_of(".bss");
@@ -248,6 +241,7 @@ void place_symbols(void) {
         s->offset = make_room(s->output, s->elf.st_value, s->elf.st_size);
     }
     EACH_SECTION(s) copy_section(s);
+    EACH_OUTPUT(o) tls_len += o->flags & SHF_TLS ? o->len : 0;
     EACH_SYMBOL(s) {
         uint16_t at = s->elf.st_shndx;
         if (s->output) continue;
@@ -255,5 +249,6 @@ void place_symbols(void) {
         if (!at || at >= s->object->sections_len) continue;
         s->output = s->object->sections[at].output;
         s->offset += s->object->sections[at].offset;
+        s->is_far = s->elf.st_value + most > 2 * most || (tls_len > most && is_thread_local(s));
     }
 }
