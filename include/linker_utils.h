@@ -557,7 +557,7 @@ struct linker_utils_output_facts {
 
 /* Which groups of a symbol stay as they are. An object has an array of these by the indexes that
  * its relocations name. The element at index 0 is of all of the object: it has local-dynamic TLS,
- * and what stays whichever symbol it is of. */
+ * and what stays whichever symbol it is of. No call tests that 32 bits hold LoongArch's offsets. */
 struct linker_utils_kept_groups {
     bool initial_exec; /* loads of an offset from the thread pointer */
     bool general_dynamic; /* calls for the address of a thread-local variable */
@@ -598,10 +598,6 @@ static inline uint32_t linker_utils_survey(
  * which has an element for each relocation, and need not be initialised; further elements are
  * unchanged. A relocation of a symbol that isn't in the array isn't rewritten. O(n) for n
  * relocations. It doesn't allocate.
- *
- * Nothing tests, here or later, that 32 signed bits hold an offset from LoongArch's thread pointer.
- * Of a symbol for which they may not, set `initial_exec` and `descriptor` in `kept` before the
- * survey.
  *
  * LINKER_UTILS_UNKNOWN_ARCHITECTURE; LINKER_UTILS_SHORT_MEMORY where there are fewer decisions than
  * relocations. Else the status is that of the first relocation that it doesn't accept, `faulty`:
