@@ -212,6 +212,7 @@ extern struct output *headers, *got, *stubs, *slots, *rela, *frames, *index_of;
 /* null where there is none: */
 extern struct output *interpreter, *dynamic, *dynsym, *dynstr, *hash_table, *versym, *verneed;
 extern size_t symbols_len, outputs_len;
+extern bool has_far_symbols;
 extern uint64_t span; /* of the linked file's addresses */
 extern struct tls tls;
 extern struct kind kinds[2048]; /* by type */

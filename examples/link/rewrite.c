@@ -28,7 +28,7 @@ static bool is_code(const struct section *s) {
  * hidden. An indirect function's address is known once it has a stub. */
 static bool note_symbols(struct object *o, bool has_addresses) {
     static size_t rooms[3];
-    bool hides = !relaxes;
+    bool hides = !relaxes || has_far_symbols;
     size_t len = o->symbols_len;
     tls_get_addr = named("__tls_get_addr");
     facts = grow(facts, len, &rooms[0], sizeof *facts);
@@ -38,7 +38,7 @@ static bool note_symbols(struct object *o, bool has_addresses) {
         const struct symbol *s = o->symbols[i];
         __builtin_prefetch(o->symbols[i + 8 < len ? i + 8 : i]);
         if (has_addresses) values[i] = known_symbol(s, o->addends ? o->addends[i] : 0);
-        hides |= !s->is_imported && (!is_here(s) || s->is_far) && stt_of(s) != STT_FILE;
+        hides |= !s->is_imported && !is_here(s) && stt_of(s) != STT_FILE;
         o->is_threaded |= is_thread_local(s);
         facts[i] = (struct linker_utils_symbol_facts){
             .is_local = !s->is_imported, .is_ifunc = is_ifunc(s) && s->output != stubs,
@@ -112,7 +112,7 @@ void rewrite_object(struct object *o, uint32_t first, uint32_t last) {
     for (uint32_t phase = first; phase <= last; phase++) {
         bool is_of_got = phase == LINKER_UTILS_PHASE_GOT_LOADS;
         memset(kept, 0, (o->symbols_len + 1) * sizeof *kept);
-        for (size_t i = 1; hides && i < o->symbols_len; i++)
+        for (size_t i = 1; has_far_symbols && i < o->symbols_len; i++)
             if (o->symbols[i]->is_far)
                 kept[i].initial_exec = kept[i].general_dynamic = kept[i].descriptor = true;
         if (!linker_utils_has_rewrites(machine, phase)) continue;

@@ -4,6 +4,7 @@
 
 struct symbol *symbols, *module_base;
 size_t symbols_len;
+bool has_far_symbols;
 
 /* The global symbols by their names, in at most half of the cells. */
 static struct cell {
@@ -249,6 +250,7 @@ void place_symbols(void) {
         if (!at || at >= s->object->sections_len) continue;
         s->output = s->object->sections[at].output;
         s->offset += s->object->sections[at].offset;
-        s->is_far = s->elf.st_value + most > 2 * most || (tls_len > most && is_thread_local(s));
+        if (s->elf.st_value + most > 2 * most || (tls_len > most && is_thread_local(s)))
+            s->is_far = has_far_symbols = true;
     }
 }
