@@ -553,7 +553,7 @@ struct linker_utils_output_facts {
 
 /* Which groups of a symbol stay as they are. An object has an array of these by the indexes that
  * its relocations name. The element at index 0 is of all of the object: it has local-dynamic TLS,
- * and what stays whichever symbol it is of. */
+ * and what stays whichever symbol it is of. No call tests that 32 bits hold LoongArch's offsets. */
 struct linker_utils_kept_groups {
     bool initial_exec; /* loads of an offset from the thread pointer; in its phase all with one */
     bool general_dynamic; /* calls for the address of a thread-local variable */
@@ -579,8 +579,10 @@ struct linker_utils_decision {
  * has no rewrite. Its instruction is none that a rewrite is meant for, its symbol may be of another
  * file, or what the rewrite takes along isn't there. What stays there already stays. Begin with all
  * false, and survey each section of code of an object with the same array before one of them is
- * rewritten. A group stays too where the array has no element for its symbol. O(n) for n
- * relocations. LINKER_UTILS_UNKNOWN_ARCHITECTURE. */
+ * rewritten. A group stays too where the array has no element for its symbol. An offset in the
+ * module's TLS block that stands in data counts from the block: where the object has one that is
+ * loaded, set `local_dynamic` at index 0. O(n) for n relocations.
+ * LINKER_UTILS_UNKNOWN_ARCHITECTURE. */
 static inline uint32_t linker_utils_survey(
     uint16_t machine, const struct linker_utils_output_facts *output,
     const struct linker_utils_symbol_facts *symbols, size_t symbols_len,

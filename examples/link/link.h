@@ -157,6 +157,7 @@ struct symbol {
     bool is_imported : 1, is_exported : 1; /* other files define or may replace it; may see it */
     bool is_copied : 1, has_stub : 1, is_canonical : 1; /* its stub is its address in all files */
     bool has_group : 1, is_saver : 1; /* an object has a group of its name; of `define_runs` */
+    bool is_far : 1; /* 32 bits may not hold each distance to it */
     uint32_t hash;               /* of a global one's name */
     const struct object *object; /* null where only an index of an archive names it */
     const char *name;
@@ -211,6 +212,7 @@ extern struct output *headers, *got, *stubs, *slots, *rela, *frames, *index_of;
 /* null where there is none: */
 extern struct output *interpreter, *dynamic, *dynsym, *dynstr, *hash_table, *versym, *verneed;
 extern size_t symbols_len, outputs_len;
+extern bool has_far_symbols;
 extern uint64_t span; /* of the linked file's addresses */
 extern struct tls tls;
 extern struct kind kinds[2048]; /* by type */

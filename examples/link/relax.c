@@ -72,11 +72,11 @@ static uint64_t pack(struct section *s, uint8_t *packed) {
     uint64_t base = s->output->base + s->offset, len = s->len;
     size_t first = s->first_item, last = first, at = SIZE_MAX;
     for (size_t i = first; i < first + s->items_len; i++) {
-        uint64_t past = items[i].offset - base + items[i].len;
+        uint64_t start = items[i].offset - base;
         if (stay[i] == items[i].len) continue;
         len -= items[i].len - stay[i];
         size_t k = items[i].shapes.count ? makers[i] : s->relocations_len;
-        for (; k < s->relocations_len && s->relocations[k].r_offset < past; k++)
+        for (; k < s->relocations_len && s->relocations[k].r_offset - start < items[i].len; k++)
             drop(&s->relocations[k]); /* its value is written here */
         items[last] = items[i];
         stay[last] = stay[i];

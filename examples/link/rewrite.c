@@ -10,12 +10,14 @@ struct linker_utils_kept_groups *kept;
 static const struct symbol *tls_get_addr;
 
 /* Whether the library is not shown a relocation: nothing here has its symbol, or it would be
- * relaxed where nothing is to be, as by a mark, which has no symbol. */
+ * relaxed where nothing is to be, as by a mark, which has no symbol. What loads the address of a
+ * far symbol stays, since of LoongArch nothing tests whether 32 bits hold the distance. */
 static bool is_hidden(const struct section *s, const Elf64_Rela *r) {
     const struct symbol *to = symbol_at(s, r);
     if (!ELF64_R_SYM(r->r_info)) return !relaxes;
     if (to->is_imported || to == tls_get_addr) return false;
-    return !is_here(to) || (!relaxes && needs_of(s, r).entry_class == LINKER_UTILS_ENTRY_ADDRESS);
+    if (!is_here(to) || (relaxes && !to->is_far)) return !is_here(to);
+    return needs_of(s, r).entry_class == LINKER_UTILS_ENTRY_ADDRESS;
 }
 
 static bool is_code(const struct section *s) {
@@ -26,7 +28,7 @@ static bool is_code(const struct section *s) {
  * hidden. An indirect function's address is known once it has a stub. */
 static bool note_symbols(struct object *o, bool has_addresses) {
     static size_t rooms[3];
-    bool hides = !relaxes;
+    bool hides = !relaxes || has_far_symbols;
     size_t len = o->symbols_len;
     tls_get_addr = named("__tls_get_addr");
     facts = grow(facts, len, &rooms[0], sizeof *facts);
@@ -120,6 +122,9 @@ void rewrite_object(struct object *o, uint32_t first, uint32_t last) {
     for (uint32_t phase = first; phase <= last; phase++) {
         bool is_of_got = phase == LINKER_UTILS_PHASE_GOT_LOADS;
         memset(kept, 0, (o->symbols_len + 1) * sizeof *kept);
+        for (size_t i = 1; has_far_symbols && i < o->symbols_len; i++)
+            if (o->symbols[i]->is_far)
+                kept[i].initial_exec = kept[i].general_dynamic = kept[i].descriptor = true;
         if (!linker_utils_has_rewrites(machine, phase)) continue;
         kept->got_load = is_early; /* as in ld.lld */
         kept->local_dynamic = keeps;

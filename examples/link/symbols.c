@@ -4,6 +4,7 @@
 
 struct symbol *symbols, *module_base;
 size_t symbols_len;
+bool has_far_symbols;
 
 /* The global symbols by their names, in at most half of the cells. */
 static struct cell {
@@ -231,8 +232,10 @@ void define_symbols(void) {
 }
 
 /* Places the symbols that objects define, and the sections with these. Common symbols are the first
- * in `.bss`, as in ld.lld. */
+ * in `.bss`, as in ld.lld. One is far whose offset is about a GiB or more, or as much below 0, or
+ * whose thread-local storage is as long. */
 void place_symbols(void) {
+    uint64_t most = INT32_MAX / 2 - MOST_ALIGN, tls_len = 0;
     EACH_SYMBOL(s) {
         if (s->elf.st_shndx != SHN_COMMON) continue;
         s->output = output_of(".bss");
@@ -240,6 +243,7 @@ void place_symbols(void) {
         s->offset = make_room(s->output, s->elf.st_value, s->elf.st_size);
     }
     EACH_SECTION(s) copy_section(s);
+    EACH_OUTPUT(o) tls_len += o->flags & SHF_TLS ? o->len : 0;
     EACH_SYMBOL(s) {
         uint16_t at = s->elf.st_shndx;
         if (s->output) continue;
@@ -247,5 +251,7 @@ void place_symbols(void) {
         if (!at || at >= s->object->sections_len) continue;
         s->output = s->object->sections[at].output;
         s->offset += s->object->sections[at].offset;
+        if (s->elf.st_value + most > 2 * most || (tls_len > most && is_thread_local(s)))
+            s->is_far = has_far_symbols = true;
     }
 }

@@ -71,10 +71,13 @@ fn make_changes<D: AsDecision>(
 /// deleted. Since no address is known, a value after a rewrite may turn out to be out of reach.
 /// What this call doesn't rewrite, a linker may rewrite by `choose`.
 ///
-/// A value out of reach is an error of `relocate_section`, with one exception: what LoongArch's
-/// load from the GOT becomes takes any distance (`R_LARCH_PCALA_HI20`), and nothing tests that 32
-/// signed bits hold it. So a load from the GOT becomes a distance only by `has_near_symbols` of the
-/// output, and that of an absolute symbol never does.
+/// A value out of reach is an error of `relocate_section`, with two exceptions, both of LoongArch.
+/// What its load from the GOT becomes takes any distance (`R_LARCH_PCALA_HI20`), and what its
+/// initial-exec TLS and descriptors become takes any offset from the thread pointer
+/// (`R_LARCH_TLS_LE_HI20`). Nothing tests that 32 signed bits hold these. So a load from the GOT
+/// becomes a distance only by `has_near_symbols` of the output, and that of an absolute symbol never
+/// does. Where 32 bits may not hold the offset of a thread-local symbol, note its `initial_exec`,
+/// `general_dynamic` and `descriptor` in `kept` before the rewrite.
 ///
 /// # Errors
 ///

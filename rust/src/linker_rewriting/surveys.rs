@@ -205,6 +205,10 @@ fn survey_in(setting: &Setting<'_>, relocations: &[u8], section: &[u8], kept: &m
 /// rewritten, with one table for the object, whose entries are `KeptGroups::default()` at first.
 /// What stays there already stays. A group stays too where the table has no entry for its symbol.
 ///
+/// An offset in the module's TLS block that stands in data counts from the block, also where code no
+/// longer does. Where data of the object has one that is loaded, as `R_X86_64_DTPOFF64`, note
+/// `local_dynamic` at index 0.
+///
 /// ```
 /// use linker_utils::rewriting::{OutputFacts, SymbolFacts};
 /// use linker_utils::rewriting::KeptGroups;
