@@ -219,7 +219,7 @@ static inline uint32_t linker_utils_address_section(uint16_t machine, uint8_t *n
  * GOT, into `entry_type`. `r_type` is the type where that is in a word of this section. By
  * `entry_type` `linker_utils_choose` says whether the instruction can compute the address. Some
  * instruction that refers to a word may not: then none of that word is rewritten, so that a linker
- * asks for each first. LINKER_UTILS_NOT_PROVIDED of other types. */
+ * tests each first. LINKER_UTILS_NOT_PROVIDED of other types. */
 uint32_t linker_utils_entry_relocation(uint16_t machine, uint32_t r_type, uint32_t *entry_type);
 
 /* Notes in `kept` which words of an object's section of addresses stay, by one of its sections of

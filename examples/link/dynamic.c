@@ -165,7 +165,7 @@ static void write_hashes(void) {
     }
 }
 
-/* Writes the versions that are asked for of each library, and numbers them. */
+/* Writes the versions that each library has to have, and numbers them. */
 static void write_needed(void) {
     uint64_t last = 0;
     uint16_t number = VER_NDX_GLOBAL;

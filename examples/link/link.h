@@ -132,7 +132,7 @@ struct section {
 struct version {
     const char *name;
     uint32_t hash;
-    uint16_t number; /* in the linked file; 0 where it asks for none */
+    uint16_t number; /* in the linked file; 0 where it needs none */
 };
 
 /* A shared library. */
@@ -176,7 +176,7 @@ struct entry {
     uint32_t class;     /* `enum linker_utils_entry_class` */
 };
 
-/* What the library says of a type of relocations, asked once for each. */
+/* What the library says of a type of relocations, computed once for each. */
 struct kind {
     struct linker_utils_relocation_info row;
     struct linker_utils_relocation_reach reach;

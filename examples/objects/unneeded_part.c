@@ -1,4 +1,4 @@
-/* A member that can't be linked, and that nothing asks for. */
+/* A member that can't be linked, and that nothing needs. */
 #include "blocks.h"
 
 NUMBER(six, 6);

@@ -1,6 +1,6 @@
 //! Assembles a few instructions of five architectures: labels, branches, addresses and data. The
 //! library does what follows from relocations: `Architecture::row` has what one means, `value` computes
-//! its value, `reaches` tells whether that can be written, and `write` puts it into the instruction.
+//! its value, `reaches` says whether that can be written, and `write` puts it into the instruction.
 //!
 //! usage: assemble MACHINE ADDRESS < SOURCE    MACHINE: `e_machine`, as 183 for AArch64; the bytes are
 //! printed in hexadecimal, each instruction in a line of its own

@@ -91,7 +91,7 @@ impl Chosen {
     }
 }
 
-/// What a relocation's name and row say, which is asked for often.
+/// What a relocation's name and row say, which is needed often.
 struct Properties {
     row: Option<Row>,
     /// Of how many bytes it is.
@@ -129,7 +129,7 @@ impl Properties {
 
 /// Whether the library lists a rewrite of a relocation.
 fn has_rewrites(architecture: Architecture, code: u32) -> bool {
-    // on x86-64 the byte of the opcode tells which
+    // on x86-64 the byte of the opcode shows which
     fn lists<N: RecognisedName>(name: N, mut opcodes: RangeInclusive<u8>) -> bool {
         opcodes.any(|opcode| name.listed(&[opcode, 0], 2).1 > 1)
     }

@@ -54,7 +54,7 @@ pub struct At<'a> {
     pub it: &'a Section<'a>,
     pub index: usize,
     pub map: &'a Anchors,
-    /// What asks for the places of sections.
+    /// What requires the places of sections.
     pub pending: &'a RefCell<Vec<Pending>>,
 }
 
@@ -219,7 +219,7 @@ impl Side<'_> {
         };
         match pass {
             Pass::Library => {
-                // a high part alone may lead to its symbol by either relocation: its low half tells
+                // a high part alone may lead to its symbol by either relocation: its low half shows it
                 let found = before.choices(others, &window.bytes);
                 let is_same = |chosen: &Chosen| chosen.relocation == one.code;
                 found.clone().filter(is_same).for_each(|chosen| take(&before, chosen, None));
@@ -271,7 +271,7 @@ pub struct Deletable<'a> {
     /// Their bits that are as they were where nothing is rewritten.
     kept: u64,
     windows: OnceCell<Vec<Around<'a>>>,
-    /// For each count of deleted bytes whether choices of the library may have it, once it was asked.
+    /// For each count of deleted bytes whether choices of the library may have it, once it was tested.
     may_be: [Cell<Option<bool>>; 9],
 }
 

@@ -1,5 +1,5 @@
 //! The stubs by which indirect functions are called: each jumps to what a word holds, and a
-//! relocation of the type IRELATIVE says which function tells the address in the word.
+//! relocation of the type IRELATIVE says which function returns the address in the word.
 
 use crate::hash::HashMap;
 use linker_utils::elf::Architecture;
@@ -56,7 +56,7 @@ impl Stubs {
         self.all.get(address).map_or(std::slice::from_ref(address), Vec::as_slice)
     }
 
-    /// The function that tells the address of an indirect one, by its stub.
+    /// The function that returns the address of an indirect one, by its stub.
     pub fn resolver(&self, address: u64) -> u64 {
         self.same(&address)[0]
     }

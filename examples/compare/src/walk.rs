@@ -10,7 +10,7 @@ use linker_utils::elf::RelocationKind;
 use std::cell::RefCell;
 
 impl<'a> Side<'a> {
-    /// What was made of each relocation of a section, by what is known of places, and what asks for
+    /// What was made of each relocation of a section, by what is known of places, and what requires
     /// the places of others.
     pub fn walk(&self, object: usize, section: usize) -> (Vec<Made>, Vec<Pending>) {
         let it: &'a Section<'a> = &self.objects[object].sections[section];

@@ -23,7 +23,7 @@ struct Heap;
 static HEAP: Heap = Heap;
 
 // SAFETY: a block that `malloc` or `realloc` returns has the size, and is aligned to `ALIGNMENT`. A
-// block that needs more is refused. The caller hands back only blocks of these functions.
+// block that needs more is rejected. The caller hands back only blocks of these functions.
 unsafe impl GlobalAlloc for Heap {
     unsafe fn alloc(&self, layout: Layout) -> *mut u8 {
         if layout.align() > ALIGNMENT {
