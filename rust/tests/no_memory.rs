@@ -407,4 +407,12 @@ fn runs_are_not_relaxed() {
     );
     assert!(count > 1);
     assert_eq!((made.items, made.makers), (vec![call, aligned], vec![0, 2]));
+
+    // R_LARCH_ALIGN at three nops
+    let nops = [relocation(0, 102, 12, None)];
+    let (count, made) = each_fails(
+        || section_items(Machine::LoongArch64, &[0; 12], 0, &nops),
+        |error| assert_eq!(error, ItemsError::OutOfMemory),
+    );
+    assert_eq!((count > 1, made.items.len()), (true, 1));
 }

@@ -4,7 +4,7 @@ use Rattle.std.specs.Int.{byte_len}
 use Rattle.std.proofs.lemmas.List.{append-nil, drop_all, drop_at, take_rest, length-take, length-drop, drop-drop}
 use Rattle.std.proofs.lemmas.Slice.{take-put_mid_below}
 use borrow.Rule.Slice.PartMut.{put_mid}
-use Rattle.linker_base.specs.Form.{Form, window_of, Written, MachineReads, WriteKeepsOtherBits}
+use Rattle.linker_utils.specs.Form.{Form, window_of, Written, MachineReads, WriteKeepsOtherBits}
 use Rattle.vectors.specs.Poke.{IsPoked, window_at}
 
 module _ (o : ℕ) (s sub : List ℕ) (inside : o ≤ length s) where

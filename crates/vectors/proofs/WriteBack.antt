@@ -7,7 +7,7 @@ use Rattle.std.proofs.lemmas.List.{get_or-take, get_or-drop, take_rest}
 use Rattle.std.proofs.lemmas.Grind.{same_number_lists}
 use Rattle.std.proofs.lemmas.Nat.{and_mask, pow-add, pow_pos, mod_below}
 use Rattle.std.proofs.Math.Nat.{mul-le-mul_right, div-eq_of_lt, add-mul-div_right, mod-eq_of_lt, pow-le-pow_right}
-use Rattle.linker_base.specs.Form.{Form, window_of, Fits, WriteBackChangesNothing}
+use Rattle.linker_utils.specs.Form.{Form, window_of, Fits, WriteBackChangesNothing}
 use Rattle.vectors.specs.Poke.{window_at, IsPoked, value_at, flag_at}
 
 -- ---- the bits that a form takes

@@ -1,8 +1,9 @@
-//! `poke`, which uses only the interface of instruction forms, what emulators made of instructions,
-//! and tests of calls that take memory, which have to run as the prover's compiler built them.
+//! What a user of the library writes over it: `poke`, which uses only the interface of instruction
+//! forms, and `clients`; and tests of calls that take memory, which have to run as the prover's
+//! compiler built them. It uses `linker_utils` alone.
 #![tactic(auto)]
 
-pub mod emulated;
+pub mod clients;
 pub mod poke;
 #[cfg(test)]
 mod refused_growth;

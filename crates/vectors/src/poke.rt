@@ -13,7 +13,7 @@
 
 ghost use Rattle.std.specs.Prelude.{◌≡◌, ◌≤◌, ◌%◌, ◌^◌, ◌↔◌, IsTrue, false, length};
 ghost use Rattle.std.specs.Int.{byte_len};
-ghost use Rattle.linker_base.specs.Form.{window_of};
+ghost use Rattle.linker_utils.specs.Form.{window_of};
 ghost use Rattle.vectors.specs.Poke.{window_at, HasWindow, CanPoke, IsPoked, value_at, flag_at};
 
 use linker_utils::elf::InstructionForm;

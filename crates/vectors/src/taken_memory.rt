@@ -1,11 +1,7 @@
 //! How often calls allocate. Each test allocates as often as its name says:
 //! `tools/test_refused_growth` counts.
 
-use crate::refused_growth::{MARKED_CALL, NOPS, many_calls};
 use crate::rows::expect_eq;
-use linker_runs::items::section_items;
-use linker_runs::packing::Machine;
-use linker_runs::relaxation::{are_items, relax};
 use linker_utils::relaxation::{
     RelaxDeltaMap, SectionRelaxDeltas, calls_apart, calls_shrinkable, pack_section, shrink_calls,
 };
@@ -99,27 +95,5 @@ fn packing_and_choosing_take_2(rt: HostRuntime) -> Result<(), Fail> {
         shrink_calls(rt.alloc(), &none, &calls)?.len(),
         1,
     );
-    Ok(())
-}
-
-// none for an empty run but that of `freed`, six for a few items, and one more for many deletions
-#[test]
-fn runs_take_14(rt: HostRuntime) -> Result<(), Fail> {
-    let items = many_calls();
-    for run in [&items[..0], &items[..2], &items[..]] {
-        assert!(rt; are_items(run, 0));
-        assert_eq!(rt; relax(rt.alloc(), run, 0)?.shapes.len(), run.len());
-    }
-    Ok(())
-}
-
-// both vectors of what each returns
-#[test]
-fn items_of_relocations_take_4(rt: HostRuntime) -> Result<(), Fail> {
-    let call = [0x97, 0, 0, 0, 0xe7, 0x80, 0, 0];
-    let calls = section_items(rt.alloc(), Machine::RiscV64, &call, 0, &MARKED_CALL)?;
-    assert_eq!(rt; calls.items.len(), 1);
-    let nops = section_items(rt.alloc(), Machine::LoongArch64, &[0; 12], 0, &NOPS)?;
-    assert_eq!(rt; nops.items.len(), 1);
     Ok(())
 }

@@ -1,6 +1,7 @@
 // Made by tools/erase of crates/vectors/src/lib.rt.
-//! `poke`, which uses only the interface of instruction forms, what emulators made of instructions,
-//! and tests of calls that take memory, which have to run as the prover's compiler built them.
+//! What a user of the library writes over it: `poke`, which uses only the interface of instruction
+//! forms, and `clients`; and tests of calls that take memory, which have to run as the prover's
+//! compiler built them. It uses `linker_utils` alone.
 
 #![allow(unused_imports, reason = "some are there for contracts alone")]
 #![allow(clippy::complexity, clippy::style, reason = "the text is that of the proved source")]
@@ -11,6 +12,7 @@ extern crate alloc;
 #[path = "../../src/support.rs"]
 mod support;
 
+pub mod clients;
 pub mod poke;
 #[cfg(test)]
 mod refused_growth;

@@ -5,10 +5,6 @@
 
 use crate::support::*;
 use crate::rows::expect_eq;
-use linker_utils::runs::items::{Relocation, section_items};
-use linker_utils::runs::packing::Machine;
-use linker_utils::runs::relaxation::{Item, Site, are_items, relax};
-use linker_utils::runs::shapes::riscv64::CALL as CALL_SHAPES;
 use linker_utils::relaxation::{
     OutOfMemory, PackError, RelaxDeltaMap, SectionRelaxDeltas, calls_apart, calls_shrinkable,
     pack_section, shrink_calls,
@@ -253,80 +249,5 @@ fn an_error_leaves_the_text_unread() -> Result<(), Fail> {
         expect_eq(bytes, read?.as_str(), text);
         expect_eq(bytes, content, b"b".as_slice());
     }
-    Ok(())
-}
-
-/// So many calls of themselves that their deletions have more than one block.
-pub(crate) fn many_calls() -> [Item; 1100] {
-    let mut items = [call_at(0); 1100];
-    for at in 0..1100 {
-        items[at] = call_at(8 * at as u64);
-    }
-    items
-}
-
-fn call_at(offset: u64) -> Item {
-    Item::Site(Site {
-        offset,
-        len: 8,
-        target: offset,
-        shapes: CALL_SHAPES,
-    })
-}
-
-#[test]
-fn a_run_is_relaxed_when_tried_again() -> Result<(), Fail> {
-    let items = many_calls();
-    assert!(are_items(&items, 0));
-    let plan = relax(&items, 0).or_else(|_| relax(&items, 0))?;
-    assert!(items == many_calls());
-    assert!(plan.shapes.iter().all(|shape| *shape == 0));
-    assert!(plan.kept.iter().all(|kept| *kept == 4));
-    assert_eq!(plan.kept.len(), 1100);
-    assert_eq!(plan.freed.last().copied(), Some(4400));
-    assert_eq!(plan.deletions.total_deleted(), 4400);
-    Ok(())
-}
-
-/// What marks the first call of a section as one that may be relaxed: R_RISCV_CALL_PLT and
-/// R_RISCV_RELAX.
-pub(crate) const MARKED_CALL: [Relocation; 2] = [
-    Relocation {
-        offset: 0,
-        code: 19,
-        has_symbol: true,
-        addend: 0,
-        target: Some(0),
-        may_compress: true,
-    },
-    Relocation {
-        offset: 0,
-        code: 51,
-        has_symbol: false,
-        addend: 0,
-        target: None,
-        may_compress: true,
-    },
-];
-
-/// R_LARCH_ALIGN at three `nop`.
-pub(crate) const NOPS: [Relocation; 1] = [Relocation {
-    offset: 0,
-    code: 102,
-    has_symbol: false,
-    addend: 12,
-    target: None,
-    may_compress: false,
-}];
-
-#[test]
-fn items_are_made_when_tried_again() -> Result<(), Fail> {
-    let calls = section_items(Machine::RiscV64, &CALL, 0, &MARKED_CALL);
-    let calls = calls.or_else(|_| section_items(Machine::RiscV64, &CALL, 0, &MARKED_CALL))?;
-    assert_eq!(calls.items.as_slice(), [call_at(0)].as_slice());
-    assert_eq!(calls.makers.as_slice(), [0].as_slice());
-    let nops = section_items(Machine::LoongArch64, &[0; 12], 0, &NOPS);
-    let nops = nops.or_else(|_| section_items(Machine::LoongArch64, &[0; 12], 0, &NOPS))?;
-    assert_eq!(nops.items.len(), 1);
     Ok(())
 }

@@ -3,11 +3,7 @@
 //! `tools/test_refused_growth` counts.
 
 use crate::support::*;
-use crate::refused_growth::{MARKED_CALL, NOPS, many_calls};
 use crate::rows::expect_eq;
-use linker_utils::runs::items::section_items;
-use linker_utils::runs::packing::Machine;
-use linker_utils::runs::relaxation::{are_items, relax};
 use linker_utils::relaxation::{
     RelaxDeltaMap, SectionRelaxDeltas, calls_apart, calls_shrinkable, pack_section, shrink_calls,
 };
@@ -97,27 +93,5 @@ fn packing_and_choosing_take_2() -> Result<(), Fail> {
         shrink_calls(&none, &calls)?.len(),
         1,
     );
-    Ok(())
-}
-
-// none for an empty run but that of `freed`, six for a few items, and one more for many deletions
-#[test]
-fn runs_take_14() -> Result<(), Fail> {
-    let items = many_calls();
-    for run in [&items[..0], &items[..2], &items[..]] {
-        assert!(are_items(run, 0));
-        assert_eq!(relax(run, 0)?.shapes.len(), run.len());
-    }
-    Ok(())
-}
-
-// both vectors of what each returns
-#[test]
-fn items_of_relocations_take_4() -> Result<(), Fail> {
-    let call = [0x97, 0, 0, 0, 0xe7, 0x80, 0, 0];
-    let calls = section_items(Machine::RiscV64, &call, 0, &MARKED_CALL)?;
-    assert_eq!(calls.items.len(), 1);
-    let nops = section_items(Machine::LoongArch64, &[0; 12], 0, &NOPS)?;
-    assert_eq!(nops.items.len(), 1);
     Ok(())
 }

@@ -1,5 +1,5 @@
 use Rattle.std.proofs.Common.{rules}
-use Rattle.linker_base.specs.Form.{window_of}
+use Rattle.linker_utils.specs.Form.{window_of}
 use Rattle.vectors.proofs.WriteBack.{whole_mask, next_mask, truncated_by}
 use Rattle.vectors.proofs.poke.truncate.Goals as goal
 

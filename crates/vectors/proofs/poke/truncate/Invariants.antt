@@ -1,4 +1,4 @@
-use Rattle.linker_base.specs.Form.{window_of}
+use Rattle.linker_utils.specs.Form.{window_of}
 use Rattle.vectors.proofs.WriteBack.{IsMask}
 use Rattle.vectors.proofs.poke.truncate.Given as goal
 

@@ -1,0 +1,9 @@
+-- PowerPC64's vector registers: by computation.
+use Rattle.std.proofs.Common.{refl}
+use Rattle.linker_base.specs.Form.{place_sum}
+use Rattle.linker_final.specs.Ppc64Steps.{ppc64_vector_groups}
+use Rattle.linker_final.proofs.emulated.ppc64_vectors.Goals as goal
+
+pub returns : goal.returns
+unfolding place_sum ppc64_vector_groups
+returns c = record { steps = refl }

@@ -1,0 +1,98 @@
+-- PowerPC64: the instructions of `linker_laws`, and those of stubs of `linker_output`, compared
+-- with an emulator. Registers 32 to 63 are those of floating-point numbers, 64 is the link
+-- register, and 65 the count register.
+use Rattle.std.specs.Prelude.{ℕ, ◌≡◌, ◌+◌, ◌-◌, ◌*◌, ◌/◌, ◌^◌, ◌==◌, nat_lt, if◌then◌else◌}
+use Rattle.std.specs.Prelude.{Bool, true, false, Option, Some, None}
+use Rattle.std.specs.List.{list_all}
+use Rattle.std.specs.Int.{w64, leading_zeros}
+use Rattle.linker_base.specs.Bits.{field}
+use Rattle.linker_laws.specs.Ppc64Machine.{Formats, step_prefixed}
+use Rattle.linker_output.specs.Ppc64LazyPlt.{step}
+use Rattle.linker_output.specs.Ppc64Saves as saves
+use Rattle.linker_output.specs.Ppc64Stubs.{Counted, lifted}
+use Rattle.linker_final.specs.Steps.{Executed, Group, Numbers, at, pc, made_low, before, memory_in}
+use Rattle.linker_final.specs.Steps.{bytes_from, is_left}
+use Rattle.linker_final.specs.Ppc64Steps.{ppc64_groups}
+
+-- ---- single and double precision
+
+-- a number of 64 bits, by its sign, its biased exponent and 52 bits of its fraction
+abbrev pub double : ℕ → ℕ → ℕ → ℕ
+double sign exponent fraction = sign * 2 ^ 63 + exponent * 2 ^ 52 + fraction
+
+-- A denormal number of single precision, less its sign, is its fraction in units of 2^-149. In
+-- double precision the fraction's highest 1 becomes the one that isn't written.
+abbrev pub normal : ℕ → ℕ → ℕ
+normal sign fraction =
+    let top = 63 - leading_zeros w64 fraction in
+    double sign (874 + top) ((fraction - 2 ^ top) * 2 ^ (52 - top))
+
+-- "Floating-Point Load Instructions": the same number in double precision; of an infinity or a NaN,
+-- the same bits of the fraction.
+abbrev pub widened : ℕ → ℕ
+widened single =
+    let sign = single / 2 ^ 31 in
+    let exponent = field single 23 31 in
+    let fraction = field single 0 23 in
+    if exponent == 255 then double sign 2047 (fraction * 2 ^ 29) else (
+    if nat_lt 0 exponent then double sign (896 + exponent) (fraction * 2 ^ 29) else (
+    if fraction == 0 then double sign 0 0 else normal sign fraction))
+
+-- "Floating-Point Store Instructions": some of the bits, and a denormal number where the exponent
+-- is one of those. Of a number that is smaller still the manual says nothing.
+abbrev pub narrowed : ℕ → ℕ
+narrowed double =
+    let exponent = field double 52 63 in
+    let significand = 2 ^ 52 + field double 0 52 in
+    if nat_lt 896 exponent then double / 2 ^ 62 * 2 ^ 30 + field double 29 59 else (
+    if nat_lt 873 exponent then double / 2 ^ 63 * 2 ^ 31 + significand / 2 ^ (926 - exponent)
+    else double / 2 ^ 63 * 2 ^ 31)
+
+abbrev pub formats : Formats
+formats = record { widened = widened; narrowed = narrowed }
+
+-- ---- what is compared
+
+abbrev pub numbers : Executed → Numbers
+numbers = before made_low
+
+abbrev pub begun : Executed → Counted
+begun e =
+    let start = numbers e at in
+    let memory = memory_in (numbers e) in
+    record {
+      state =
+          record {
+            registers = numbers e;
+            floats = λ r. numbers e (32 + r);
+            link = numbers e 64;
+            pc = numbers e pc;
+            memory = bytes_from start memory;
+          };
+      count = numbers e 65;
+    }
+
+abbrev pub register : Counted → ℕ → ℕ
+register c r =
+    if nat_lt r 32 then c.state.registers r else (
+    if nat_lt r 64 then c.state.floats (r - 32) else (
+    if r == 64 then c.state.link else c.count))
+
+-- an instruction of 4 bytes, or a prefixed one of 8
+abbrev pub length_of : ℕ → ℕ
+length_of code = if nat_lt code (2 ^ 32) then 4 else 8
+
+abbrev pub ends_so : Executed → Option Counted → Bool
+ends_so e None = false
+ends_so e (Some c) =
+    is_left 66 (length_of e.code) 0 e (numbers e) (register c) c.state.pc c.state.memory 0
+
+abbrev pub executed : Executed → Option Counted
+executed e =
+    if e.code == 0x4e800020 then saves.step formats e.code (begun e) else (
+    if length_of e.code == 4 then step formats e.code (begun e)
+    else lifted (begun e) (step_prefixed formats e.code ((begun e).state)))
+
+-- Each instruction leaves what the emulator did.
+abbrev pub Agrees : Type 0
+Agrees = list_all (λ (g : Group). list_all (λ e. ends_so e (executed e)) g.rows) ppc64_groups ≡ true

@@ -1,9 +1,0 @@
--- PowerPC64's vector registers: by computation.
-use Rattle.std.proofs.Common.{refl}
-use Rattle.linker_base.specs.Form.{place_sum}
-use Rattle.vectors.specs.Ppc64Steps.{ppc64_vector_groups}
-use Rattle.vectors.proofs.emulated.ppc64_vectors.Goals as goal
-
-pub returns : goal.returns
-unfolding place_sum ppc64_vector_groups
-returns c = record { steps = refl }

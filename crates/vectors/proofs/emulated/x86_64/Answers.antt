@@ -1,9 +1,0 @@
--- The instructions of x86-64: by computation.
-use Rattle.std.proofs.Common.{refl}
-use Rattle.vectors.specs.X86Steps.{x86_groups}
-use lib.Count.{ones}
-use Rattle.vectors.proofs.emulated.x86_64.Goals as goal
-
-pub returns : goal.returns
-unfolding x86_groups ones
-returns c = record { steps = refl }
