@@ -47,6 +47,6 @@ pub reached_from : (row : RelocationKindInfo) (v : ℤ) (bytes : List ℕ) → F
     → IsReached row v bytes
 reached_from row v bytes small fits low high encoded = (
   within_from (reach_of row) v low high small,
-  holds row.size v bytes fits,
+  holds row.size v bytes fits.size,
   encoded,
 )

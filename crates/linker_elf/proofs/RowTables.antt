@@ -97,4 +97,4 @@ unless P false row holds = holds
 -- another kind changes no bits
 pub raw_kind_fits : (row : Option RelocationKindInfo) → IfSome row RowFits → IfSome (with_raw_kind row) RowFits
 raw_kind_fits None fits = tt
-raw_kind_fits (Some row) fits = fits
+raw_kind_fits (Some row) fits = record { size = fits.size; aligned = fits.aligned }

@@ -76,7 +76,7 @@ size_fits_check (BitMasking bits insn) =
 
 abbrev pub row_fits_check : Option RelocationKindInfo → Bool
 row_fits_check None = true
-row_fits_check (Some row) = size_fits_check row.size
+row_fits_check (Some row) = size_fits_check row.size && ltb 0 row.alignment
 
 bits_fit : (bits : BitRange) (insn : RelocationInstruction) → size_fits_check (BitMasking bits insn) ≡ true → TakesBits (relocation_form insn) bits
 bits_fit bits insn h =
@@ -98,7 +98,9 @@ size_fits (BitMasking bits insn) h = bits_fit bits insn h
 
 row_fits : (row : Option RelocationKindInfo) → row_fits_check row ≡ true → IfSome row RowFits
 row_fits None h = tt
-row_fits (Some row) h = size_fits row.size h
+row_fits (Some row) h =
+    let both = and_parts (size_fits_check row.size) (ltb 0 row.alignment) h in
+    record { size = size_fits row.size both.0; aligned = ltb-true 0 row.alignment both.1 }
 
 -- ---- tables
 
@@ -130,6 +132,9 @@ ppc64_fits name = row_fits (ppc64_row name) (ppc64_checked name)
 pub loongarch_fits : (name : LoongArch64Relocation) → IfSome (loongarch_row name) RowFits
 loongarch_fits name = row_fits (loongarch_row name) (loongarch_checked name)
 
+x86_64_checked : (name : X86_64Relocation) → row_fits_check (x86_64_row name) ≡ true
+x86_64_checked R_X86_64_NONE = refl
+x86_64_checked name = refl
+
 pub x86_64_fits : (name : X86_64Relocation) → IfSome (x86_64_row name) RowFits
-x86_64_fits R_X86_64_NONE = tt
-x86_64_fits name = tt
+x86_64_fits name = row_fits (x86_64_row name) (x86_64_checked name)

@@ -163,6 +163,7 @@ abbrev pub SizeFits : RelocationSize → Type 0
 SizeFits (ByteSize n) = ⊤
 SizeFits (BitMasking bits insn) = TakesBits (relocation_form insn) bits
 
--- the bits that a row names fit its form
-abbrev pub RowFits : RelocationKindInfo → Type 0
-RowFits row = SizeFits row.size
+-- the bits that a row names fit its form, and a value can be divided by its alignment
+pub record RowFits (row : RelocationKindInfo) : Type 0 where
+  pub size : SizeFits row.size
+  pub aligned : 0 < row.alignment

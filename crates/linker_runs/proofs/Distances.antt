@@ -47,6 +47,6 @@ module _ (start from to : ℕ) where
           supported = near.supported;
           long = long;
           aligned = (near.aligned, units v, words v);
-          reached = (near.within, holds row.size v bytes fits, near.encoded);
+          reached = (near.within, holds row.size v bytes fits.size, near.encoded);
         } in
         rejected v is accepted
