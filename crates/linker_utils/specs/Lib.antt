@@ -61,7 +61,6 @@ pub use Rattle.linker_base.specs.declared.relaxation.RelaxDelta
 pub use Rattle.linker_base.specs.declared.relaxation.RelocationModifier
 pub use Rattle.linker_base.specs.declared.relaxation.blocks.BlockHead
 pub use Rattle.linker_elf.specs.declared.elf.AllowedRange
-pub use Rattle.linker_elf.specs.declared.elf.Architecture
 pub use Rattle.linker_elf.specs.declared.elf.PageMask
 pub use Rattle.linker_elf.specs.declared.elf.RelocationInstruction
 pub use Rattle.linker_elf.specs.declared.elf.RelocationKind

@@ -1,25 +1,25 @@
 //! What a user of the library writes over it, proved from the public contracts of `linker_utils`
 //! alone: no function here has a proof of its own.
 
-ghost use Rattle.std.specs.Prelude.{◌≡◌, ◌<◌, ◌≤◌, ◌+◌, ◌-◌, ◌^◌, ◌%◌, ◌↔◌, ◌++◌, ℕ, IsTrue, IsOk};
-ghost use Rattle.std.specs.Prelude.{IfOk, IfErr, OnOk, OnErr, IfSome, MatchOption, length, pos, ◌+ℤ◌};
-ghost use Rattle.std.specs.Prelude.{take, drop, All, [], ◌∷◌};
-ghost use Rattle.std.specs.Int.{byte_len};
+ghost use Rattle.std.specs.Prelude.{◌≡◌, ◌<◌, ◌≤◌, ◌+◌, ◌-◌, ◌*◌, ◌^◌, ◌%◌, ◌↔◌, ◌++◌, IsTrue};
+ghost use Rattle.std.specs.Prelude.{IfOk, IfErr, OnOk, OnErr, MatchOption, length, pos, ◌+ℤ◌, drop};
+ghost use Rattle.std.specs.Prelude.{[], ◌∷◌, false};
+ghost use Rattle.std.specs.Int.{byte_len, cast_unsigned, w64};
 ghost use Rattle.linker_utils.specs.Bits.{field};
-ghost use Rattle.linker_utils.specs.Deletions.{AreDisjoint, AreKept, HasInput, IsSelected};
-ghost use Rattle.linker_utils.specs.Deletions.{IsSortedUnion, IsValid, is_kept, rank};
-ghost use Rattle.linker_utils.specs.Form.{Written, OtherBitsUnchanged, window_of};
+ghost use Rattle.linker_utils.specs.Deletions.{AreDisjoint, AreKept, HasInput, IsSortedUnion};
+ghost use Rattle.linker_utils.specs.Deletions.{IsValid, rank};
+ghost use Rattle.linker_utils.specs.Form.{Written, window_of};
 ghost use Rattle.linker_utils.specs.Packing.{IsFirstFailing, IsPacked};
 ghost use Rattle.linker_utils.specs.RiscV.{riscv_form};
-ghost use Rattle.linker_utils.specs.RiscVCalls.{IsEven, IsJalDistance, output_distance, word_at};
-ghost use Rattle.linker_utils.specs.Shrinking.{AreShrinkable, IsGreatest};
+ghost use Rattle.linker_utils.specs.RiscVCalls.{word_at};
+ghost use Rattle.linker_utils.specs.Shrinking.{AreShrinkable};
 ghost use Rattle.linker_utils.specs.RiscVInstruction.TheVariants.{JType};
 ghost use Rattle.linker_utils.specs.LinkRegister.TheVariants.{OfAuipc};
 
 use linker_utils::bit_misc::BitExtraction;
 use linker_utils::elf::InstructionForm;
 use linker_utils::relaxation::{
-    OutOfMemory, PackError, RelaxDeltaMap, SectionRelaxDeltas, laws, pack_section, shrink_calls,
+    OutOfMemory, PackError, SectionRelaxDeltas, laws, pack_section, shrink_calls,
 };
 use linker_utils::riscv64::{CallError, jal_site, relax_call};
 use std::alloc::Global;
@@ -41,8 +41,10 @@ pub fn jump_to(section: &mut [u8], site: u64, target: u64) -> Result<(), CallErr
 pub fn written_and_read<F: InstructionForm>(form: F, value: u64, insn: &mut [u8]) -> (u64, bool)
     requires room { byte_len (F.form form).window ≤ length insn.old }
     requires fits { value < 2 ^ (F.form form).width (window_of (F.form form) insn.old) }
-    ensures others { OtherBitsUnchanged (F.form form) (window_of (F.form form) insn.old)
+    ensures written { Written (F.form form) value false (window_of (F.form form) insn.old)
         (window_of (F.form form) insn.new) }
+    ensures read { result.0
+        ≡ cast_unsigned w64 ((F.form form).reading (window_of (F.form form) insn.new)) }
     ensures rest { drop (byte_len (F.form form).window) insn.new
         ≡ drop (byte_len (F.form form).window) insn.old }
 {
@@ -161,17 +163,4 @@ pub fn halves(value: u64) -> (u64, u64)
         value.extract_bit_range(12..32),
         value.extract_bit_range(0..12),
     )
-}
-
-/// Deletes bytes of one of a file's sections; all others keep theirs.
-pub fn delete_in_section(
-    sections: &mut RelaxDeltaMap,
-    index: usize,
-    offset: u64,
-    bytes: u32,
-) -> Result<bool, OutOfMemory> {
-    match sections.get_mut(index) {
-        Some(deltas) => delete(deltas, offset, bytes),
-        None => Ok(false),
-    }
 }

@@ -5,7 +5,7 @@
 use linker_utils::bit_misc::BitExtraction;
 use linker_utils::elf::InstructionForm;
 use linker_utils::relaxation::{
-    OutOfMemory, PackError, RelaxDeltaMap, SectionRelaxDeltas, laws, pack_section, shrink_calls,
+    OutOfMemory, PackError, SectionRelaxDeltas, laws, pack_section, shrink_calls,
 };
 use linker_utils::riscv64::{CallError, jal_site, relax_call};
 
@@ -90,18 +90,8 @@ pub fn count_shrunk(
 
 /// The high 20 and low 12 bits of a value, as LoongArch's absolute addresses have them.
 pub fn halves(value: u64) -> (u64, u64) {
-    (value.extract_bit_range(12..32), value.extract_bit_range(0..12))
-}
-
-/// Deletes bytes of one of a file's sections; all others keep theirs.
-pub fn delete_in_section(
-    sections: &mut RelaxDeltaMap,
-    index: usize,
-    offset: u64,
-    bytes: u32,
-) -> Result<bool, OutOfMemory> {
-    match sections.get_mut(index) {
-        Some(deltas) => delete(deltas, offset, bytes),
-        None => Ok(false),
-    }
+    (
+        value.extract_bit_range(12..32),
+        value.extract_bit_range(0..12),
+    )
 }
