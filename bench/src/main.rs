@@ -781,7 +781,7 @@ fn merge_tests(report: &mut Report, random: &mut Random) {
     let fourths = (0..4).flat_map(fourth).collect();
     let mut mixed = list.clone();
     random.shuffle(&mut mixed);
-    let none = erased_crate::relaxation::SectionRelaxDeltas::new(&[]).expect("no memory is taken");
+    let none = erased_crate::relaxation::DeltaSlice::new(&[]);
     for (order, pairs) in [
         ("ascending", list.clone()),
         ("descending", falling),
@@ -793,14 +793,10 @@ fn merge_tests(report: &mut Report, random: &mut Random) {
             .map(|&(offset, bytes)| sathunne::Deletion { offset, bytes })
             .collect();
         let tested = || u64::from(sathunne::deletions_mergeable(&[], &given).is_ok());
-        let erased = Side::number(|| u64::from(none.is_mergeable_sorted(&pairs)));
+        let erased = Side::number(|| u64::from(none.can_merge_sorted(&pairs)));
         let sides = [Some(Side::number(tested)), None, Some(erased), None];
         report.line(&format!("{COUNT} {order}"), COUNT, true, sides);
     }
-    let batches: Vec<Vec<(u64, u32)>> = (0..4).map(|first| fourth(first).collect()).collect();
-    let erased = Side::number(|| u64::from(none.are_mergeable_sorted(&batches)));
-    let sides = [None, None, Some(erased), None];
-    report.line(&format!("{COUNT} in four batches"), COUNT, true, sides);
 }
 
 // ---- packing

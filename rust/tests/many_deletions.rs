@@ -130,9 +130,7 @@ fn tests_of_merges_are_in_time() {
         for is_mergeable in [true, false] {
             let batches: Vec<_> = pairs.chunks(12_500).map(<[_]>::to_vec).collect();
             assert_eq!(in_time(|| none.is_mergeable(&pairs)), is_mergeable);
-            assert_eq!(in_time(|| none.is_mergeable_sorted(&pairs)), is_mergeable);
             assert_eq!(in_time(|| none.are_mergeable(&batches)), is_mergeable);
-            assert_eq!(in_time(|| none.are_mergeable_sorted(&batches)), is_mergeable);
             // the last reaches into the one before it, or past the end
             let last = pairs.len() - 1;
             pairs[last] = (pairs[last - 1].0 + 2, 4);

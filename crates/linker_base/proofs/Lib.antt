@@ -4,8 +4,8 @@ pub mod Bits
 pub mod ConsecutiveBits
 pub mod Copied
 pub mod Fields
-pub mod Fours
 pub mod Fronts
+pub mod Halving
 pub mod Immediates
 pub mod Laws
 pub mod Listed
@@ -14,7 +14,6 @@ pub mod Merging
 pub mod Moves
 pub mod OutputOffsets
 pub mod Pairs
-pub mod PartitionPoint
 pub mod Parts
 pub mod Places
 pub mod Rank
@@ -24,6 +23,7 @@ pub mod Search
 pub mod Sections
 pub mod TextLemmas
 pub mod Together
+pub mod TwosComplement
 pub mod UlebLemmas
 pub mod Unions
 pub mod Walking

@@ -1,6 +1,6 @@
 -- What a search in the deltas of a section finds.
 use Rattle.std.proofs.Common.{◌≡◌, ℕ, ◌+◌, ◌-◌, ◌<◌, ◌≤◌, Bool, true, false, List, length, map, get_or, take, leb, refl, ap, ◌∙◌, inl, inr, arith}
-use Rattle.std.specs.Prelude.{◌%◌, ◌^◌, ◌↔◌, max, All, Any}
+use Rattle.std.specs.Prelude.{◌%◌, ◌^◌, ◌↔◌, max, All, Any, nat_eq}
 use Rattle.std.specs.List.Sorted.{IsNonDecreasingBy, IsPartitionedBy, IsPartitionPoint}
 use Rattle.std.proofs.lemmas.Bool.{cases_lt, cases_order}
 use Rattle.std.proofs.lemmas.Bool.Decides.{nat_tests}
@@ -9,10 +9,11 @@ use Rattle.std.proofs.lemmas.List.Sums.{sum_by_more}
 use Rattle.linker_base.specs.declared.relaxation.RelaxDelta.{RelaxDelta}
 use Rattle.linker_base.specs.Deletions.{IsValid, IsInsideDeletion, IsSelected, HasInput, bytes_of, rank}
 use Rattle.linker_base.specs.Deltas.{deletion_of}
-use Rattle.linker_base.specs.declared.relaxation.partition_point.Level.TheVariants.{Deltas}
+use Rattle.linker_base.specs.declared.relaxation.search.Level.TheVariants.{Deltas}
+use Rattle.linker_base.specs.declared.relaxation.search.Test.{Test}
+use Rattle.linker_base.specs.declared.relaxation.search.Test.TheVariants.{BeginsBelow, IsPlacedUpTo}
 use Rattle.linker_base.specs.Blocks.{View, output_offset_of, AreHeads}
-use Rattle.linker_base.specs.Inner.Blocks.{no_head, view_subject, list_subject}
-use Rattle.linker_base.specs.Inner.PartitionPoint.{Subject, Probed, HeadTest, OnlyProbes, begins_below, placed_up_to, IsPartitioned, IsPointOf, HeadsAgree}
+use Rattle.linker_base.specs.Inner.Search.{Subject, Probed, OnlyProbes, view_subject, list_subject, no_head, passes_test, IsPartitioned, IsPointOf, HeadsAgree}
 use Rattle.linker_base.specs.Listed.{AreValidDeltas}
 use Rattle.linker_base.specs.Inner.Listed.{ArePlaced, IsOnlyAt, IsEndOf}
 use Rattle.linker_base.proofs.OutputOffsets.{AreParted, rank-parted, selected-output, bytes_between, bytes-le-offset}
@@ -218,15 +219,15 @@ rank_at_none deltas listed i parted =
 -- ---- searches by index
 
 pub begins_partitioned : (s : Subject) → IsValid (map deletion_of s.deltas) → (i : ℕ)
-    → IsPartitioned s Deltas (begins_below i)
+    → IsPartitioned s Deltas (BeginsBelow i)
 begins_partitioned s valid i j k le within passes = let rise = offsets_rise s.deltas valid j k blank le within in grind (arith, nat_tests)
 
 pub places_partitioned : (s : Subject) → AreValidDeltas s.deltas → (y : ℕ)
-    → IsPartitioned s Deltas (placed_up_to y)
+    → IsPartitioned s Deltas (IsPlacedUpTo y)
 places_partitioned s listed y j k le within passes = placed_first s.deltas listed y j k blank le within passes
 
 pub parted_from_point : (s : Subject) (i k : ℕ) → k ≤ length s.deltas
-    → IsPointOf s Deltas (begins_below i) k
+    → IsPointOf s Deltas (BeginsBelow i) k
     → IsPartitionPoint (λ d. d.0 < i) (λ d. i ≤ d.0) (map deletion_of s.deltas) k
 parted_from_point s i k within found = (
   λ j d low high. rw (deletion_at s.deltas j blank d (omega arith)) (grind (arith, nat_tests, found.before j high)),
@@ -234,7 +235,7 @@ parted_from_point s i k within found = (
 )
 
 pub placed_from_point : (s : Subject) → AreValidDeltas s.deltas → (y k : ℕ) → k ≤ length s.deltas
-    → IsPointOf s Deltas (placed_up_to y) k → ArePlaced (map deletion_of s.deltas) y k
+    → IsPointOf s Deltas (IsPlacedUpTo y) k → ArePlaced (map deletion_of s.deltas) y k
 placed_from_point s listed y k within found = record {
   before = λ j d below. (placed_at s.deltas listed y j blank d (omega arith)).0 (found.before j below);
   after = λ j d from below.
@@ -245,13 +246,21 @@ placed_from_point s listed y k within found = record {
 -- ---- searches by heads
 
 -- heads that belong to the deltas pass where the first deltas of their blocks do
-pub view_heads_agree : (view : View) (test : HeadTest) → AreHeads view.deltas view.heads
+pub view_heads_agree : (view : View) (test : Test) → (0 < length view.heads → AreHeads view.deltas view.heads)
     → HeadsAgree (view_subject view) test
-view_heads_agree view test are = record { same = λ b low. ap test (are.each b no_head blank low); all = omega (arith, are.count) }
+view_heads_agree view test are b low = elim (cases_lt 0 (length view.heads)) [
+  | inl some ↦
+      let heads = are some in
+      let not_none : nat_eq (length view.heads) 0 ≡ false = grind (arith, nat_tests) in
+      rw not_none (ap (passes_test test) (heads.each b no_head blank (omega (arith, heads.count))))
+  | inr none ↦
+      let is_none : nat_eq (length view.heads) 0 ≡ true = grind (arith, nat_tests) in
+      rw is_none refl
+]
 
-pub list_heads_agree : (deltas : List RelaxDelta) (test : HeadTest)
+pub list_heads_agree : (deltas : List RelaxDelta) (test : Test)
     → HeadsAgree (list_subject deltas) test
-list_heads_agree deltas test = record { same = λ b low. refl; all = omega arith }
+list_heads_agree deltas test b low = refl
 
 -- probes keep the deltas
 pub same_listed : {most : ℕ} {a b : Probed} → OnlyProbes most a b

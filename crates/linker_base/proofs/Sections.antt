@@ -15,6 +15,7 @@ use Rattle.std.proofs.lemmas.List.Edits.{length-insert, get_or-insert_below, get
 use Rattle.std.proofs.lemmas.List.Quantifiers.{all_pairs_push}
 use Rattle.std.proofs.lemmas.Grind.{common_steps}
 use Rattle.linker_base.specs.Sections.{Sections, IsAboveAll, IsLast, Entries, IndicesRise, IsAt, IsGap}
+use Rattle.linker_base.specs.Laws.{OtherSectionsStay}
 use Rattle.linker_base.proofs.Rank.{all_pairs_tail, all_pairs_head}
 
 -- the map that the entries hold
@@ -245,3 +246,7 @@ is_empty_of (e ∷ es) m b n len is holds =
 pub above_last : (m : Sections) (r : Option ℕ) → MatchOption r (m ≡ empty) (IsLast m) → (index : ℕ) → IfSome r (λ last. last < index) → IsAboveAll m index
 above_last m None same index high = record { lower = λ other there. absurd (false≢true (ap is_some (sym (get-empty nat_cmp other)) ∙ sym (ap (λ (n : Sections). contains_key n other) same) ∙ there)) }
 above_last m (Some last) is_last index high = record { lower = λ other there. omega (arith, is_last.highest other there, high) }
+
+-- a value at one key leaves the others
+pub others_stay : OtherSectionsStay
+others_stay sections index other left differ = get-insert nat_cmp_total sections index left other ∙ rw (compares other index) (grind (arith, nat_tests))

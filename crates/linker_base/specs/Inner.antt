@@ -1,4 +1,3 @@
-pub mod Blocks
 pub mod Listed
 pub mod Packing
-pub mod PartitionPoint
+pub mod Search

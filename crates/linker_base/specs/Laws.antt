@@ -1,6 +1,8 @@
 -- Laws of deletions, over the definitions alone.
 use Rattle.std.specs.Prelude.{◌≡◌, ℕ, ◌-◌, ◌^◌, ◌<◌, ◌≤◌, List, [], ◌∷◌, ◌++◌, map, ⊤, IsTrue}
-use Rattle.std.specs.Prelude.{IsFalse, All, Contains}
+use Rattle.std.specs.Prelude.{IsFalse, All, Contains, ◌≢◌}
+use Rattle.std.specs.FinMap as finite
+use Rattle.linker_base.specs.Sections.{Sections}
 use Rattle.linker_base.specs.Walk.{Walk, walk_to, CanTranslate, IsTranslation, AreAhead}
 use Rattle.linker_base.specs.Deletions.{AreDisjoint, IsValid, IsSortedUnion, is_kept}
 use Rattle.linker_base.specs.Deletions.{IsInsideDeletion, rank, IsSelected, HasInput}
@@ -79,3 +81,9 @@ abbrev pub MergesShortenDistances : Type 0
 MergesShortenDistances =
     (deletions more : List (ℕ × ℕ)) (a b : ℕ) → All (Contains more) deletions → a ≤ b
     → rank more b - rank more a ≤ rank deletions b - rank deletions a
+
+-- where a section has other deletions, those of all others are the same
+abbrev pub OtherSectionsStay : Type 0
+OtherSectionsStay =
+    (sections : Sections) (index other : ℕ) (left : List (ℕ × ℕ)) → other ≢ index
+    → finite.get (finite.insert sections index left) other ≡ finite.get sections other

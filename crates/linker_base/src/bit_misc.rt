@@ -1,7 +1,7 @@
 //! Bits and bit ranges of a 64-bit number. Bit 0 is the least significant one.
 ghost use Rattle.std.specs.Prelude.{◌≡◌, ℕ, ◌+◌, ◌-◌, ◌%◌, ◌^◌, ◌<◌, ◌≤◌};
 ghost use Rattle.std.specs.Int.{bit_at, cast_unsigned, w64};
-ghost use Rattle.linker_base.specs.Bits.{field, signed};
+ghost use Rattle.linker_base.specs.Bits.{field, signed, TwosComplementKeepsFields};
 
 use std::ops::Range;
 
@@ -84,3 +84,9 @@ impl BitExtraction for u64 {
         }
     }
 }
+
+/// A law: the bits of a number's two's complement, as `extract_bit_range` reads them, are those of
+/// the number.
+pub fn twos_complement_keeps_fields()
+    ensures { TwosComplementKeepsFields }
+{}

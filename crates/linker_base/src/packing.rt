@@ -10,8 +10,7 @@ ghost use Rattle.linker_base.specs.Inner.Packing.{AreBegun, IsPosition, IsFilled
 
 pub mod search;
 
-use crate::relaxation::RelaxDelta;
-use search::{Tested, passing_near};
+use crate::relaxation::{DeltaSlice, RelaxDelta};
 
 /// An input offset, and where it goes by some deltas.
 #[derive(Clone, Copy)]
@@ -24,79 +23,13 @@ pub struct Position {
     pub output_offset: u64,
 }
 
-/// Deltas, and whether one begins below an offset.
-#[derive(Drop)]
-struct Begun<'a> {
-    deltas: &'a [RelaxDelta],
-    offset: u64,
-}
-
-impl<'a> Tested for Begun<'a> {
-    ghost use Rattle.std.specs.Prelude.{◌<◌, length, nat_lt};
-    ghost use Rattle.linker_base.specs.Inner.Packing.{delta_at};
-
-    ghost size = { λ list. length list.deltas.now };
-
-    ghost test = { λ list index. nat_lt (delta_at list.deltas.now index).input_offset list.offset };
-
-    #[inline(always)]
-    fn len(&self) -> usize {
-        self.deltas.len()
-    }
-
-    #[inline(always)]
-    fn passes(&self, index: usize) -> bool {
-        self.deltas[index].input_offset < self.offset
-    }
-}
-
-/// How many steps from an index a search walks, before it takes the whole list.
-const STEPS: usize = 16;
-
-/// How many of the deltas begin below an offset. It is found faster where it is near `near`.
+/// How many of the deltas begin below an offset.
 #[inline(always)]
-fn begun_near(deltas: &[RelaxDelta], near: usize, offset: u64) -> usize
+fn count_begun(deltas: &[RelaxDelta], offset: u64) -> usize
     ensures within { result ≤ length deltas.now }
     ensures begun { AreValidDeltas deltas.now → AreBegun deltas.now offset result }
 {
-    let mut begun = near.min(deltas.len());
-    for _ in 0..STEPS {
-        if begun < deltas.len() && deltas[begun].input_offset < offset {
-            begun += 1;
-        } else if begun > 0 && deltas[begun - 1].input_offset >= offset {
-            begun -= 1;
-        } else {
-            return begun;
-        }
-    }
-    passing_near(&Begun { deltas, offset }, begun)
-}
-
-/// How often a guess is mended.
-const GUESSES: usize = 2;
-
-/// About how many bytes lie between the begins of two deltas.
-#[inline(always)]
-fn spacing(deltas: &[RelaxDelta]) -> u64
-    ensures { 0 < result }
-{
-    match deltas.last() {
-        Some(last) => (last.input_offset / deltas.len() as u64).max(1),
-        None => 1,
-    }
-}
-
-/// How many deltas begin below an offset, if so many begin below another one and from there on they
-/// are so many bytes apart.
-#[inline(always)]
-fn begun_about(spacing: u64, begun: usize, from: u64, to: u64) -> usize
-    requires { 0 < spacing }
-{
-    if from <= to {
-        begun.saturating_add(((to - from) / spacing) as usize)
-    } else {
-        begun.saturating_sub(((from - to) / spacing) as usize)
-    }
+    DeltaSlice::new(deltas).count_below(offset)
 }
 
 /// The output offset of an input offset that so many of the deltas begin below.
@@ -137,7 +70,7 @@ pub fn position_of(deltas: &[RelaxDelta], input_offset: u64) -> Position
     ensures offset { result.input_offset ≡ input_offset }
     ensures position { AreValidDeltas deltas.now → IsPosition deltas.now result }
 {
-    position_at(deltas, begun_near(deltas, 0, input_offset), input_offset)
+    position_at(deltas, count_begun(deltas, input_offset), input_offset)
 }
 
 /// The position of an input offset that isn't below that of another position, by a walk from there.
@@ -155,20 +88,12 @@ pub fn position_from(deltas: &[RelaxDelta], from: &Position, input_offset: u64) 
     position_at(deltas, begun, input_offset)
 }
 
-/// The position of any input offset, by a search that begins where that is if the deltas are about
-/// as far apart everywhere. Over deltas as `position_of` requires them.
-pub fn position_near(deltas: &[RelaxDelta], from: &Position, input_offset: u64) -> Position
+/// As `position_of`; from which position is of no account.
+pub fn position_near(deltas: &[RelaxDelta], _from: &Position, input_offset: u64) -> Position
     ensures offset { result.input_offset ≡ input_offset }
     ensures position { AreValidDeltas deltas.now → IsPosition deltas.now result }
 {
-    let spacing = spacing(deltas);
-    let mut near = begun_about(spacing, from.begun, from.input_offset, input_offset);
-    for _ in 0..GUESSES {
-        if near < deltas.len() {
-            near = begun_about(spacing, near, deltas[near].input_offset, input_offset);
-        }
-    }
-    position_at(deltas, begun_near(deltas, near, input_offset), input_offset)
+    position_of(deltas, input_offset)
 }
 
 /// The bytes of a section from an input offset up to another, as far as they lie in it.
@@ -211,7 +136,7 @@ fn first_run(deltas: &[RelaxDelta], base: u64) -> (usize, u64)
     ensures first { AreValidDeltas deltas.now
         → IsFirstRun (deletions_of deltas.now) base result.0 result.1 }
 {
-    let first = begun_near(deltas, 0, base);
+    let first = count_begun(deltas, base);
     if first == 0 {
         return (first, base);
     }
@@ -235,7 +160,7 @@ pub fn copy_kept(section: &[u8], base: u64, deltas: &[RelaxDelta], packed: &mut 
     let (first, start) = first_run(deltas, base);
     let mut from = start;
     let mut at = 0;
-    let behind = begun_near(deltas, first, section_end);
+    let behind = count_begun(deltas, section_end);
     for index in first..behind {
         let delta = &deltas[index];
         at = put(packed, at, between(section, base, from, delta.input_offset));

@@ -17,10 +17,10 @@ pub mod laws;
 mod map;
 mod merge;
 mod overlap;
-mod partition_point;
+mod search;
 mod walk;
 
-use blocks::{count_heads, fill_heads, reserve_heads};
+use blocks::{count_blocks, fill_heads, reserve_heads};
 pub use blocks::{
     BLOCK_LEN, BlockHead, Counted, Looks, input_to_output_counted, output_to_input_counted,
 };
@@ -28,10 +28,7 @@ pub use cursor::RelaxCursor;
 pub use delta_slice::DeltaSlice;
 pub use map::RelaxDeltaMap;
 use merge::{all_pairs, copy_pairs, count_pairs, insert_ascending, sorted};
-use overlap::{
-    are_ascending, are_many, can_batches_be_merged, can_be_merged, can_be_merged_sorted,
-    can_pairs_be_merged,
-};
+use overlap::{can_batches_be_merged, can_be_merged};
 pub use overlap::{AsDeletion, first_invalid};
 
 /// What a linker does with the relocation that follows a rewritten one.
@@ -109,7 +106,7 @@ impl Model for SectionRelaxDeltas {
 impl SectionRelaxDeltas {
     /// The deletions that `raw` lists, each as an offset and a count of bytes.
     ///
-    /// It allocates once, twice for more than 1,024 deletions, and not at all where `raw` is
+    /// It allocates twice, for the deltas and the heads of their blocks, and not at all where `raw` is
     /// empty. `is_valid` tests what it requires.
     pub fn new(alloc: Global, raw: &[(u64, u32)]) -> Result<Self, OutOfMemory>
         requires { IsValid raw.now }
@@ -117,7 +114,7 @@ impl SectionRelaxDeltas {
         ensures empty_succeeds { raw.now ≡ [] → IsOk result }
     {
         let mut deltas = Vec::with_capacity(alloc, raw.len())?;
-        let mut heads = Vec::with_capacity(alloc, count_heads(raw.len()))?;
+        let mut heads = Vec::with_capacity(alloc, count_blocks(raw.len()))?;
         let mut cumulative_deleted = 0;
         for &(input_offset, bytes_deleted) in raw {
             cumulative_deleted += u64::from(bytes_deleted);
@@ -142,7 +139,7 @@ impl SectionRelaxDeltas {
     /// Adds deletions, each an offset and a count of bytes, in any order.
     ///
     /// What is listed is then as `new` makes it of the old and the additional pairs, sorted. Before
-    /// anything changes the list grows, and its heads where it has more than 1,024 deltas then, and
+    /// anything changes the list grows, and the heads of its blocks, and
     /// pairs that don't ascend are copied, to be sorted: memory is allocated at most once for each,
     /// and not at all where `additional` is empty. But for that growth, which is O(1) for each pair
     /// of many merges, the work is O(k + m) for k pairs and the m deltas after the first of them,
@@ -183,18 +180,10 @@ impl SectionRelaxDeltas {
         can_be_merged(&self.deltas, additional)
     }
 
-    /// As `is_mergeable`, in O(k log k + k log n) where there is memory for a copy of the pairs,
-    /// which is sorted. Those that ascend or descend, and 1,024 or fewer, aren't copied.
-    pub fn is_mergeable_sorted(&self, additional: &[(u64, u32)]) -> bool
-        ensures { IsTrue result ↔ AreDisjoint (self.now ++ additional.now) }
-    {
-        can_be_merged_sorted(*self.deltas.allocator(), &self.deltas, additional)
-    }
-
     /// Adds the deletions of all batches, or of none where it runs out of memory.
     ///
     /// What is listed is then as `new` makes it of the old and all additional pairs, sorted. Before
-    /// anything changes the list grows, and its heads where it has more than 1,024 deltas then, and
+    /// anything changes the list grows, and the heads of its blocks, and
     /// all pairs are copied: memory is allocated at most once for each, and not at all where no
     /// batch has a pair. But for that growth the work is O(k + m) for k pairs in all batches and
     /// the m deltas after the first of them, and O(k log k) more where the pairs don't ascend, from
@@ -229,22 +218,8 @@ impl SectionRelaxDeltas {
         can_batches_be_merged(&self.deltas, batches)
     }
 
-    /// As `are_mergeable`, in O(k log k + k log n + b) for b batches where there is memory for a
-    /// copy of all pairs, which is sorted. Pairs that ascend aren't copied, nor 1,024 or fewer,
-    /// counted with the batches.
-    pub fn are_mergeable_sorted(&self, batches: &[Vec<(u64, u32)>]) -> bool
-        ensures { IsTrue result ↔ AreDisjoint (self.now ++ pairs_of batches.now) }
-    {
-        if are_many(batches) && !are_ascending(batches) {
-            if let Ok(pairs) = all_pairs(*self.deltas.allocator(), batches) {
-                return can_pairs_be_merged(&self.deltas, pairs);
-            }
-        }
-        self.are_mergeable(batches)
-    }
-
-    /// A copy of the deltas. It allocates once, twice for more than 1,024, and not at all where
-    /// there are none.
+    /// A copy of the deltas and of the heads of their blocks. It allocates twice, and not at all
+    /// where there are none.
     pub fn clone(&self) -> Result<Self, OutOfMemory>
         ensures ok { IfOk result (λ section. section ≡ self.now) }
         ensures empty_succeeds { self.now ≡ [] → IsOk result }
@@ -310,7 +285,7 @@ impl SectionRelaxDeltas {
     pub fn input_to_output_offset(&self, input_offset: u64) -> u64
         ensures { result ≡ rank self.now input_offset }
     {
-        self.as_delta_slice().input_to_output_offset(input_offset)
+        input_to_output_counted(&mut self.counted(), input_offset)
     }
 
     /// Whether the offset lies above the first byte of a deletion and below its end.
@@ -339,7 +314,7 @@ impl SectionRelaxDeltas {
         requires { HasInput self.now output_offset }
         ensures { IsSelected self.now output_offset result }
     {
-        output_offset + self.as_delta_slice().bytes_before(output_offset)
+        output_to_input_counted(&mut self.counted(), output_offset)
     }
 
     /// Whether the input offset of the kept byte at `output_offset` is at most `u64::MAX`.

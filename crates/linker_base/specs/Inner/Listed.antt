@@ -9,14 +9,14 @@ use Rattle.linker_base.specs.declared.relaxation.walk.Reached.{Reached}
 use Rattle.linker_base.specs.Deletions.{IsBefore, DoNotOverlap, EndFits, AreDisjoint, IsValid}
 use Rattle.linker_base.specs.Deletions.{bytes_of, rank}
 use Rattle.linker_base.specs.Deltas.{deletion_of}
+use Rattle.linker_base.specs.Blocks.{AreHeads}
 use Rattle.linker_base.specs.Listed.{AreValidDeltas, AreValidTogether}
-use Rattle.linker_base.specs.Inner.Blocks.{AreKeptHeads}
 use Rattle.linker_base.specs.Walk.{walk_at, IsAhead, AreAhead}
 
 -- what holds of the fields of a section's deltas
 pub record IsSound (list : List RelaxDelta) (blocks : List BlockHead) : Type 0 where
   pub deltas : AreValidDeltas list
-  pub heads : AreKeptHeads list blocks
+  pub heads : AreHeads list blocks
 
 -- the first `passed` deletions are those whose output offset, the offset less the bytes deleted
 -- before, is at most y
@@ -92,66 +92,6 @@ pub record IsEndOf (deletions : List (ℕ × ℕ)) (passed end : ℕ) : Type 0 w
 pub record IsWalked (deletions : List (ℕ × ℕ)) (reached : Reached) : Type 0 where
   pub sum : reached.deleted ≡ bytes_of (take reached.passed deletions)
   pub end : IsEndOf deletions reached.passed reached.end
-
--- from the first query on, those up to an index lie below an end and have this output, and the
--- query at the index is the last or lies at the end or above
-pub record IsWrittenInside (queries : List ℕ) (first end output : ℕ) (old : List ℕ) (next : ℕ)
-    (out : List ℕ) : Type 0 where
-  pub from : first ≤ next
-  pub within : next < length queries
-  pub same_length : length out ≡ length old
-  pub before : (k d : ℕ) → k < first → slice_index_or out k d ≡ slice_index_or old k d
-  pub inside : (k d : ℕ) → first ≤ k → k < next
-      → (slice_index_or queries k d < end) × (slice_index_or out k d ≡ output)
-  pub past : next + 1 < length queries → end ≤ slice_index queries next
-
--- outputs are written of the four queries from an index on, each less the bytes deleted; so many of
--- the queries lie at an offset or below, and where queries don't decrease, these are the first
-pub record AreFourWritten (queries : List ℕ) (at offset deleted : ℕ) (old : List ℕ) (due : ℕ)
-    (out : List ℕ) : Type 0 where
-  pub same_length : length out ≡ length old
-  pub before : (k d : ℕ) → k < at → slice_index_or out k d ≡ slice_index_or old k d
-  pub outputs : (k : ℕ) → at ≤ k → k < at + 4
-      → slice_index out k ≡ (slice_index queries k + 2 ^ 64 - deleted) % 2 ^ 64
-  pub few : due ≤ 4
-  pub all : due ≡ 4 → (k : ℕ) → at ≤ k → k < at + 4 → slice_index queries k ≤ offset
-  pub first : IsNonDecreasing queries → (k : ℕ) → at ≤ k → k < at + due
-      → slice_index queries k ≤ offset
-  pub next : IsNonDecreasing queries → due < 4 → offset < slice_index queries (at + due)
-
--- from the first query on, those up to an index lie at an offset or below, and their outputs are
--- written, each less the bytes deleted; the query at the index lies above
-pub record AreWrittenUpTo (queries : List ℕ) (first offset deleted : ℕ) (old : List ℕ) (next : ℕ)
-    (out : List ℕ) : Type 0 where
-  pub from : first ≤ next
-  pub within : next < length queries
-  pub same_length : length out ≡ length old
-  pub before : (k d : ℕ) → k < first → slice_index_or out k d ≡ slice_index_or old k d
-  pub due : IsNonDecreasing queries → (k : ℕ) → first ≤ k → k < next
-      → (slice_index queries k ≤ offset)
-      × (slice_index out k ≡ (slice_index queries k + 2 ^ 64 - deleted) % 2 ^ 64)
-  pub past : IsNonDecreasing queries → offset < slice_index queries next
-
--- what holds at each delta of a walk through queries: what it has reached from the start, the next
--- query to write, and what is written
-pub record IsFollowed (deltas : List RelaxDelta) (start : Reached) (queries : List ℕ)
-    (reached : Reached) (at : ℕ) (out : List ℕ) : Type 0 where
-  pub from : start.passed ≤ reached.passed
-  pub within : reached.passed ≤ length deltas
-  pub some : at < length queries
-  pub same_length : length out ≡ length queries
-  pub begun : IsNonDecreasing queries → (k : ℕ) (d : RelaxDelta) → start.passed ≤ k
-      → k < reached.passed
-      → (slice_index_or deltas k d).input_offset < slice_index queries (length queries - 1)
-  pub walked : AreValidDeltas deltas → IsWalked (map deletion_of deltas) start
-      → IsWalked (map deletion_of deltas) reached
-  pub ahead : AreValidDeltas deltas
-      → AreAhead (walk_at (map deletion_of deltas) start.passed) queries
-      → IsAhead (walk_at (map deletion_of deltas) reached.passed) (slice_index queries at)
-  pub past : at + 1 < length queries → reached.end ≤ slice_index queries at
-  pub ranks : AreValidDeltas deltas → IsWalked (map deletion_of deltas) start
-      → AreAhead (walk_at (map deletion_of deltas) start.passed) queries → (k : ℕ) → k < at
-      → slice_index out k ≡ rank (map deletion_of deltas) (slice_index queries k)
 
 -- what holds of a cursor's fields
 pub record IsWalking (deltas : List RelaxDelta) (reached : Reached) : Type 0 where

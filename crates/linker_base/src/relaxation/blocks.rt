@@ -8,18 +8,15 @@ ghost use Rattle.linker_base.specs.Blocks.{output_offset_of, blocks_of, head_of,
 ghost use Rattle.linker_base.specs.Deletions.{rank, IsSelected, HasInput};
 ghost use Rattle.linker_base.specs.Deltas.{deletions_of};
 ghost use Rattle.linker_base.specs.Listed.{AreValidDeltas};
-ghost use Rattle.linker_base.specs.Inner.Blocks.{list_subject, heads_kept, AreKeptHeads};
+ghost use Rattle.linker_base.specs.Inner.Search.{list_subject};
 
 use super::delta_slice::rank_after;
-use super::partition_point::{BeginsBelow, IsPlacedUpTo, Level, Probe, Test, search};
+use super::search::{Level, Probe, Test, count_passing};
 use super::{OutOfMemory, RelaxDelta};
 use std::marker::Model;
 
 /// How many deltas a block has. The last block may have fewer.
 pub const BLOCK_LEN: usize = 64;
-
-/// A section keeps no heads with so many deltas.
-const FEW: usize = 1024;
 
 /// The first delta of a block, as far as a search reads it.
 #[repr(C)]
@@ -34,7 +31,7 @@ pub struct BlockHead {
 impl BlockHead {
     /// The head of a block that begins with the delta.
     #[inline(always)]
-    fn of(delta: &RelaxDelta) -> BlockHead
+    pub(super) fn of(delta: &RelaxDelta) -> BlockHead
         ensures { result ≡ head_of delta.now }
     {
         BlockHead {
@@ -93,25 +90,21 @@ impl<K: Looks> Probe for K {
     } };
 
     #[inline(always)]
-    fn len(&self, level: Level) -> usize {
-        let len = Looks::len(self);
-        match level {
-            Level::Heads => count_blocks(len),
-            Level::Deltas => len,
-        }
+    fn len(&self) -> usize {
+        Looks::len(self)
     }
 
     #[inline(always)]
-    fn passes<T: Test>(&mut self, level: Level, test: T, at: usize) -> bool {
+    fn read(&mut self, level: Level, at: usize) -> BlockHead {
         match level {
             Level::Heads => {
                 let (input_offset, output_offset) = self.head(at);
-                test.head_passes(&BlockHead {
+                BlockHead {
                     input_offset,
                     output_offset,
-                })
+                }
             }
-            Level::Deltas => test.passes(&self.delta(at)),
+            Level::Deltas => BlockHead::of(&self.delta(at)),
         }
     }
 }
@@ -126,23 +119,22 @@ pub struct Counted<'a> {
 }
 
 impl<'a> Model for Counted<'a> {
-    ghost use Rattle.linker_base.specs.Blocks.{Counts};
+    ghost use Rattle.linker_base.specs.Blocks.{Counts, AreHeads};
     ghost use Rattle.linker_base.specs.Listed.{AreValidDeltas};
-    ghost use Rattle.linker_base.specs.Inner.Blocks.{AreKeptHeads};
 
     ghost Value = { Counts };
 
     ghost view = { λ counted. record { listed = counted.deltas.now; looked = counted.count } };
 
     ghost invariant = { λ counted. AreValidDeltas counted.deltas.now
-        × AreKeptHeads counted.deltas.now counted.heads.now };
+        × AreHeads counted.deltas.now counted.heads.now };
 }
 
 impl<'a> Counted<'a> {
     #[inline(always)]
     pub(super) fn new(deltas: &'a [RelaxDelta], heads: &'a [BlockHead]) -> Counted<'a>
         requires valid { AreValidDeltas deltas.now }
-        requires heads { AreKeptHeads deltas.now heads.now }
+        requires heads { AreHeads deltas.now heads.now }
         ensures { result ≡ record { listed = deltas.now; looked = 0 } }
     {
         Counted {
@@ -171,10 +163,6 @@ impl<'a> Looks for Counted<'a> {
     #[inline(always)]
     fn head(&mut self, block: usize) -> (u64, u64) {
         self.count += 1;
-        if self.deltas.len() <= FEW {
-            let first = BlockHead::of(&self.deltas[BLOCK_LEN * block]);
-            return (first.input_offset, first.output_offset);
-        }
         let head = self.heads[block];
         (head.input_offset, head.output_offset)
     }
@@ -186,35 +174,24 @@ impl<'a> Looks for Counted<'a> {
     }
 }
 
-/// How many heads a section keeps with so many deltas: none with a few, which are searched without.
-#[inline(always)]
-pub(super) fn count_heads(len: usize) -> usize
-    ensures { result ≡ heads_kept len }
-{
-    if len <= FEW {
-        return 0;
-    }
-    count_blocks(len)
-}
-
-/// Makes room for the heads that a section keeps with so many deltas.
+/// Makes room for the heads of so many deltas.
 pub(super) fn reserve_heads(heads: &mut Vec<BlockHead>, len: usize) -> Result<(), OutOfMemory>
     ensures same { heads.new.items ≡ heads.old.items }
-    ensures room { OnOk result (heads_kept len ≤ vec_capacity heads.new) }
+    ensures room { OnOk result (blocks_of len ≤ vec_capacity heads.new) }
 {
-    heads.reserve(count_heads(len).saturating_sub(heads.len()))?;
+    heads.reserve(count_blocks(len).saturating_sub(heads.len()))?;
     Ok(())
 }
 
-/// Puts the heads of the other blocks behind those of the first blocks, where heads are kept.
+/// Puts the heads of the other blocks after those of the first blocks.
 pub(super) fn fill_heads(deltas: &[RelaxDelta], heads: &mut Vec<BlockHead>)
     requires first { (b : ℕ) (h : BlockHead) (d : RelaxDelta) → b < vec_len heads.old
         → slice_index_or heads.old.items b h ≡ head_of (slice_index_or deltas.now (64 * b) d) }
-    requires within { vec_len heads.old ≤ heads_kept (length deltas.now) }
-    requires room { heads_kept (length deltas.now) ≤ vec_capacity heads.old }
-    ensures { AreKeptHeads deltas.now heads.new.items }
+    requires within { vec_len heads.old ≤ blocks_of (length deltas.now) }
+    requires room { blocks_of (length deltas.now) ≤ vec_capacity heads.old }
+    ensures { AreHeads deltas.now heads.new.items }
 {
-    for block in heads.len()..count_heads(deltas.len()) {
+    for block in heads.len()..count_blocks(deltas.len()) {
         heads.push_reserved(BlockHead::of(&deltas[BLOCK_LEN * block]));
     }
 }
@@ -251,7 +228,7 @@ pub fn input_to_output_counted<K: Looks>(looks: &mut K, input_offset: u64) -> u6
 {
     // What it ensures is that the list is valid.
     let _len = looks.len();
-    match search(looks, BeginsBelow(input_offset)).checked_sub(1) {
+    match count_passing(looks, Test::BeginsBelow(input_offset)).checked_sub(1) {
         Some(last) => rank_after(looks.delta(last), input_offset),
         None => input_offset,
     }
@@ -273,7 +250,7 @@ pub fn output_to_input_counted<K: Looks>(looks: &mut K, output_offset: u64) -> u
 {
     // What it ensures is that the list is valid.
     let _len = looks.len();
-    match search(looks, IsPlacedUpTo(output_offset)).checked_sub(1) {
+    match count_passing(looks, Test::IsPlacedUpTo(output_offset)).checked_sub(1) {
         Some(last) => output_offset + looks.delta(last).cumulative_deleted,
         None => output_offset,
     }

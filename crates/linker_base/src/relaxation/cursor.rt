@@ -59,6 +59,7 @@ impl<'a> RelaxCursor<'a> {
     pub fn translate(&mut self, input_offset: u64) -> u64
         requires { CanTranslate self.old input_offset }
         ensures walks { self.new ≡ walk_to self.old input_offset }
+        ensures keeps { self.new.deletions ≡ self.old.deletions }
         ensures ahead { IsAhead self.old input_offset
             → result ≡ rank self.old.deletions input_offset }
         ensures step_back { ¬ (IsAhead self.old input_offset)
@@ -90,6 +91,7 @@ impl<'a> RelaxCursor<'a> {
         requires ahead { AreAhead self.old queries.now }
         ensures ranks { out.new ≡ map (rank self.old.deletions) queries.now }
         ensures walks { self.new ≡ walk_through self.old queries.now }
+        ensures keeps { self.new.deletions ≡ self.old.deletions }
     {
         self.reached = walk(self.deltas, self.reached, queries, out);
     }

@@ -2,7 +2,7 @@
 ghost use Rattle.linker_base.specs.Laws.{InAfterOutReturns, OutAfterInIsFirstKept};
 ghost use Rattle.linker_base.specs.Laws.{OutAfterInReturnsKept, RankNeverDecreases};
 ghost use Rattle.linker_base.specs.Laws.{MergeOrderIsFree, CursorGivesRanks};
-ghost use Rattle.linker_base.specs.Laws.{MergesShortenDistances};
+ghost use Rattle.linker_base.specs.Laws.{MergesShortenDistances, OtherSectionsStay};
 
 /// Back to the output: the input offset of an output offset `y` isn't strictly inside a deletion,
 /// and its output offset is `y`.
@@ -38,4 +38,10 @@ pub fn cursor_gives_ranks()
 /// every merge.
 pub fn merges_shorten_distances()
     ensures { MergesShortenDistances }
+{}
+
+/// What `RelaxDeltaMap::get_mut` lends is of one section: those of the others are as before when it
+/// is handed back.
+pub fn other_sections_stay()
+    ensures { OtherSectionsStay }
 {}

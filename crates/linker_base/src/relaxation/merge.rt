@@ -6,7 +6,7 @@ ghost use Rattle.linker_base.specs.declared.relaxation.RelaxDelta.{RelaxDelta};
 ghost use Rattle.linker_base.specs.Deletions.{AreDisjoint, IsValid, IsSortedUnion, bytes_of};
 ghost use Rattle.linker_base.specs.Deltas.{deletion_of, pairs_of};
 ghost use Rattle.linker_base.specs.Listed.{AreValidDeltas, AreValidTogether};
-ghost use Rattle.linker_base.specs.Inner.Blocks.{heads_kept};
+ghost use Rattle.linker_base.specs.Blocks.{blocks_of};
 ghost use Rattle.linker_base.specs.Inner.Listed.{IsSound};
 
 use super::blocks::{BlockHead, count_blocks, fill_heads};
@@ -78,7 +78,7 @@ pub(super) fn sorted(pairs: Vec<(u64, u32)>) -> Vec<(u64, u32)>
     sorted
 }
 
-// Adds pairs that ascend, and writes the heads that are kept from the first block on that changes.
+// Adds pairs that ascend, and writes the heads from the first block on that changes.
 pub(super) fn insert_ascending(
     deltas: &mut Vec<RelaxDelta>,
     heads: &mut Vec<BlockHead>,
@@ -86,7 +86,7 @@ pub(super) fn insert_ascending(
 )
     requires sound { IsSound deltas.old.items heads.old.items }
     requires room { vec_len deltas.old + length pairs.now ≤ vec_capacity deltas.old }
-    requires heads_room { heads_kept (vec_len deltas.old + length pairs.now) ≤ vec_capacity
+    requires heads_room { blocks_of (vec_len deltas.old + length pairs.now) ≤ vec_capacity
         heads.old }
     requires ascending { IsValid pairs.now }
     requires disjoint { AreDisjoint (map deletion_of deltas.old.items ++ pairs.now) }

@@ -15,7 +15,7 @@ ghost use Rattle.linker_base.specs.Inner.Listed.{AreDisjointBeside, AreFirstDisj
 
 use super::RelaxDelta;
 use super::delta_slice::DeltaSlice;
-use super::merge::{copy_deletions, count_pairs};
+use super::merge::copy_deletions;
 use std::alloc::Global;
 
 /// What records one deletion: a pair of its offset and its bytes, a delta, a caller's own struct.
@@ -538,7 +538,7 @@ fn is_beside_run<R: AsDeletion>(run: &[R], falls: bool, deletion: (u64, u32)) ->
 }
 
 // Whether the batches make a valid list, one after the other.
-pub(super) fn are_ascending(batches: &[Vec<(u64, u32)>]) -> bool
+fn are_ascending(batches: &[Vec<(u64, u32)>]) -> bool
     ensures { IsTrue result ↔ IsValid (pairs_of batches.now) }
 {
     let mut next = 0;
@@ -596,7 +596,7 @@ fn are_beside_deltas<D: AsDeletion>(deltas: &[RelaxDelta], deletions: &[D]) -> b
 }
 
 // Whether the pairs, in any order, can be merged. It sorts them.
-pub(super) fn can_pairs_be_merged(deltas: &[RelaxDelta], pairs: Vec<(u64, u32)>) -> bool
+fn can_pairs_be_merged(deltas: &[RelaxDelta], pairs: Vec<(u64, u32)>) -> bool
     ensures { IsValid (map deletion_of deltas.now)
         → (IsTrue result ↔ AreDisjoint (map deletion_of deltas.now ++ pairs.items)) }
 {
@@ -614,11 +614,4 @@ pub(super) fn can_batches_be_merged(deltas: &[RelaxDelta], batches: &[Vec<(u64, 
         → (IsTrue result ↔ AreDisjoint (map deletion_of deltas.now ++ pairs_of batches.now)) }
 {
     are_disjoint_batches(batches) && are_beside_deltas_batches(deltas, batches)
-}
-
-// Whether the batches and their pairs are more than the stack has room for.
-pub(super) fn are_many(batches: &[Vec<(u64, u32)>]) -> bool
-    ensures { IsTrue result ↔ (1024 < length batches.now + length (pairs_of batches.now)) }
-{
-    count_pairs(batches).saturating_add(batches.len()) > SORTED_LEN
 }

@@ -4,14 +4,11 @@
 use alloc::vec::Vec;
 use crate::support::*;
 use super::delta_slice::rank_after;
-use super::partition_point::{BeginsBelow, IsPlacedUpTo, Level, Probe, Test, search};
+use super::search::{Level, Probe, Test, count_passing};
 use super::{OutOfMemory, RelaxDelta};
 
 /// How many deltas a block has. The last block may have fewer.
 pub const BLOCK_LEN: usize = 64;
-
-/// A section keeps no heads with so many deltas.
-const FEW: usize = 1024;
 
 /// The first delta of a block, as far as a search reads it.
 #[repr(C)]
@@ -26,7 +23,7 @@ pub struct BlockHead {
 impl BlockHead {
     /// The head of a block that begins with the delta.
     #[inline(always)]
-    fn of(delta: &RelaxDelta) -> BlockHead {
+    pub(super) fn of(delta: &RelaxDelta) -> BlockHead {
         BlockHead {
             input_offset: delta.input_offset,
             output_offset: delta.output_offset(),
@@ -69,25 +66,21 @@ pub trait Looks {
 
 impl<K: Looks> Probe for K {
     #[inline(always)]
-    fn len(&self, level: Level) -> usize {
-        let len = Looks::len(self);
-        match level {
-            Level::Heads => count_blocks(len),
-            Level::Deltas => len,
-        }
+    fn len(&self) -> usize {
+        Looks::len(self)
     }
 
     #[inline(always)]
-    fn passes<T: Test>(&mut self, level: Level, test: T, at: usize) -> bool {
+    fn read(&mut self, level: Level, at: usize) -> BlockHead {
         match level {
             Level::Heads => {
                 let (input_offset, output_offset) = self.head(at);
-                test.head_passes(&BlockHead {
+                BlockHead {
                     input_offset,
                     output_offset,
-                })
+                }
             }
-            Level::Deltas => test.passes(&self.delta(at)),
+            Level::Deltas => BlockHead::of(&self.delta(at)),
         }
     }
 }
@@ -128,10 +121,6 @@ impl<'a> Looks for Counted<'a> {
         debug_assert!(64 * (block as u128) < (Looks::len(self) as u128));
         debug_assert!((self.count() as u128) + 1 < 1 << 64);
         self.count += 1;
-        if self.deltas.len() <= FEW {
-            let first = BlockHead::of(&self.deltas[BLOCK_LEN * block]);
-            return (first.input_offset, first.output_offset);
-        }
         let head = self.heads[block];
         (head.input_offset, head.output_offset)
     }
@@ -146,24 +135,15 @@ impl<'a> Looks for Counted<'a> {
     }
 }
 
-/// How many heads a section keeps with so many deltas: none with a few, which are searched without.
-#[inline(always)]
-pub(super) fn count_heads(len: usize) -> usize {
-    if len <= FEW {
-        return 0;
-    }
-    count_blocks(len)
-}
-
-/// Makes room for the heads that a section keeps with so many deltas.
+/// Makes room for the heads of so many deltas.
 pub(super) fn reserve_heads(heads: &mut Vec<BlockHead>, len: usize) -> Result<(), OutOfMemory> {
-    heads.try_reserve(count_heads(len).saturating_sub(heads.len()))?;
+    heads.try_reserve(count_blocks(len).saturating_sub(heads.len()))?;
     Ok(())
 }
 
-/// Puts the heads of the other blocks behind those of the first blocks, where heads are kept.
+/// Puts the heads of the other blocks after those of the first blocks.
 pub(super) fn fill_heads(deltas: &[RelaxDelta], heads: &mut Vec<BlockHead>) {
-    for block in heads.len()..count_heads(deltas.len()) {
+    for block in heads.len()..count_blocks(deltas.len()) {
         heads.push_reserved(BlockHead::of(&deltas[BLOCK_LEN * block]));
     }
 }
@@ -196,7 +176,7 @@ pub fn input_to_output_counted<K: Looks>(looks: &mut K, input_offset: u64) -> u6
     debug_assert!((looks.count() as u128) < 1 << 32);
     // What it ensures is that the list is valid.
     let _len = looks.len();
-    match search(looks, BeginsBelow(input_offset)).checked_sub(1) {
+    match count_passing(looks, Test::BeginsBelow(input_offset)).checked_sub(1) {
         Some(last) => rank_after(looks.delta(last), input_offset),
         None => input_offset,
     }
@@ -219,7 +199,7 @@ pub fn output_to_input_counted<K: Looks>(looks: &mut K, output_offset: u64) -> u
     debug_assert!((looks.count() as u128) < 1 << 32);
     // What it ensures is that the list is valid.
     let _len = looks.len();
-    match search(looks, IsPlacedUpTo(output_offset)).checked_sub(1) {
+    match count_passing(looks, Test::IsPlacedUpTo(output_offset)).checked_sub(1) {
         Some(last) => output_offset + looks.delta(last).cumulative_deleted,
         None => output_offset,
     }

@@ -2,13 +2,10 @@
 //! Deltas that anyone owns, and the heads of their blocks.
 
 use super::RelaxDelta;
-use super::blocks::{BlockHead, count_blocks, write_heads};
+use super::blocks::{BLOCK_LEN, BlockHead, count_blocks, write_heads};
 use super::merge::merge_apart;
 use super::overlap::{self, AsDeletion, first_invalid};
-use super::partition_point::{
-    AT_ONCE, BeginsBelow, IsPlacedUpTo, Level, Probe, Test, search, search_at_once, search_deltas,
-    search_many,
-};
+use super::search::{Level, Probe, Test, count_passing};
 use super::walk::{Reached, ascend, walk};
 
 /// A borrowed list of deltas, of any contents, and the heads of their blocks, or none.
@@ -25,18 +22,16 @@ pub struct DeltaSlice<'a> {
 
 impl<'a> Probe for DeltaSlice<'a> {
     #[inline(always)]
-    fn len(&self, level: Level) -> usize {
-        match level {
-            Level::Heads => self.heads.len(),
-            Level::Deltas => self.deltas.len(),
-        }
+    fn len(&self) -> usize {
+        self.deltas.len()
     }
 
     #[inline(always)]
-    fn passes<T: Test>(&mut self, level: Level, test: T, at: usize) -> bool {
+    fn read(&mut self, level: Level, at: usize) -> BlockHead {
         match level {
-            Level::Heads => test.head_passes(&self.heads[at]),
-            Level::Deltas => test.passes(&self.deltas[at]),
+            Level::Deltas => BlockHead::of(&self.deltas[at]),
+            Level::Heads if self.heads.is_empty() => BlockHead::of(&self.deltas[BLOCK_LEN * at]),
+            Level::Heads => self.heads[at],
         }
     }
 }
@@ -49,7 +44,7 @@ impl<'a> DeltaSlice<'a> {
         DeltaSlice { deltas, heads: &[] }
     }
 
-    // Requires no more heads than blocks.
+    // Requires as many heads as blocks.
     #[inline(always)]
     pub(super) fn over(deltas: &'a [RelaxDelta], heads: &'a [BlockHead]) -> DeltaSlice<'a> {
         DeltaSlice { deltas, heads }
@@ -129,8 +124,8 @@ impl<'a> DeltaSlice<'a> {
 
     // How many deltas lie at offsets strictly below `offset`.
     #[inline(always)]
-    pub(super) fn count_below(&self, offset: u64) -> usize {
-        search(&mut self.copy(), BeginsBelow(offset))
+    pub(crate) fn count_below(&self, offset: u64) -> usize {
+        count_passing(&mut self.copy(), Test::BeginsBelow(offset))
     }
 
     // The delta at the offset, if one is listed there.
@@ -168,13 +163,7 @@ impl<'a> DeltaSlice<'a> {
     #[must_use]
     #[inline(always)]
     pub fn input_to_output_offset(&self, input_offset: u64) -> u64 {
-        if !self.has_many() {
-            return rank_among_few(self.deltas(), input_offset);
-        }
-        if self.heads.is_empty() {
-            return rank_among_many(self.deltas(), input_offset);
-        }
-        rank_by_heads(self.deltas(), self.heads, input_offset)
+        rank_past(self.deltas(), self.count_below(input_offset), input_offset)
     }
 
     /// The output offset of the `len` bytes from `input_offset` on, or none where one of them is
@@ -213,13 +202,8 @@ impl<'a> DeltaSlice<'a> {
     // The bytes that are deleted before the kept byte at an output offset.
     #[inline(always)]
     pub(super) fn bytes_before(&self, output_offset: u64) -> u64 {
-        if !self.has_many() {
-            return bytes_among_few(self.deltas(), output_offset);
-        }
-        if self.heads.is_empty() {
-            return bytes_among_many(self.deltas(), output_offset);
-        }
-        bytes_by_heads(self.deltas(), self.heads, output_offset)
+        let placed = count_passing(&mut self.copy(), Test::IsPlacedUpTo(output_offset));
+        bytes_of_first(self.deltas(), placed)
     }
 
     /// The offset in the input section of the kept byte at `output_offset`, or none where that is
@@ -230,33 +214,19 @@ impl<'a> DeltaSlice<'a> {
         output_offset.checked_add(self.bytes_before(output_offset))
     }
 
-    // Whether the deltas are more than are searched at once.
-    #[inline(always)]
-    fn has_many(&self) -> bool {
-        self.len() > AT_ONCE
-    }
-
-    // Whether the deltas are more than are searched at once, and the heads as many as their blocks.
-    #[inline(always)]
-    fn has_many_heads(&self, heads: &[BlockHead]) -> bool {
-        self.has_many() && heads.len() == self.block_count()
-    }
-
-    /// As `input_to_output_offset`, with these heads of the blocks. It looks at them first where
-    /// the deltas are more than a few, and not at all where they aren't as many as blocks.
-    /// O(log n).
+    /// As `input_to_output_offset`, with these heads of the blocks. It ignores them where they
+    /// aren't as many as blocks. O(log n).
     #[must_use]
     #[inline(always)]
     pub fn input_to_output_by_heads(&self, heads: &'a [BlockHead], input_offset: u64) -> u64 {
-        if self.has_many_heads(heads) {
-            return rank_by_heads(self.deltas(), heads, input_offset);
+        match self.with_heads(heads) {
+            Some(slice) => slice.input_to_output_offset(input_offset),
+            None => self.input_to_output_offset(input_offset),
         }
-        self.input_to_output_offset(input_offset)
     }
 
-    /// As `output_to_input_offset`, with these heads of the blocks. It looks at them first where
-    /// the deltas are more than a few, and not at all where they aren't as many as blocks.
-    /// O(log n).
+    /// As `output_to_input_offset`, with these heads of the blocks. It ignores them where they
+    /// aren't as many as blocks. O(log n).
     #[must_use]
     #[inline(always)]
     pub fn output_to_input_by_heads(
@@ -264,10 +234,10 @@ impl<'a> DeltaSlice<'a> {
         heads: &'a [BlockHead],
         output_offset: u64,
     ) -> Option<u64> {
-        if self.has_many_heads(heads) {
-            return output_offset.checked_add(bytes_by_heads(self.deltas(), heads, output_offset));
+        match self.with_heads(heads) {
+            Some(slice) => slice.output_to_input_offset(output_offset),
+            None => self.output_to_input_offset(output_offset),
         }
-        self.output_to_input_offset(output_offset)
     }
 
     /// Writes the output offset of each of the queries, in order, in one walk through the deltas:
@@ -404,47 +374,4 @@ fn rank_past(deltas: &[RelaxDelta], below: usize, offset: u64) -> u64 {
     } else {
         offset
     }
-}
-
-// `input_to_output_offset` of few deltas. Not inlined, as LLVM makes branches of what is selected
-// in a caller's loop.
-#[inline(never)]
-fn rank_among_few(deltas: &[RelaxDelta], offset: u64) -> u64 {
-    let below = search_at_once(&mut DeltaSlice::new(deltas), BeginsBelow(offset));
-    rank_past(deltas, below, offset)
-}
-
-// `input_to_output_offset` of many deltas without heads.
-#[inline(never)]
-fn rank_among_many(deltas: &[RelaxDelta], offset: u64) -> u64 {
-    let below = search_deltas(&mut DeltaSlice::new(deltas), BeginsBelow(offset));
-    rank_past(deltas, below, offset)
-}
-
-// `input_to_output_offset` by heads, of which there is one at least.
-#[inline(never)]
-fn rank_by_heads(deltas: &[RelaxDelta], heads: &[BlockHead], offset: u64) -> u64 {
-    let below = search_many(&mut DeltaSlice::over(deltas, heads), BeginsBelow(offset));
-    rank_past(deltas, below, offset)
-}
-
-// `bytes_before` of few deltas.
-#[inline(never)]
-fn bytes_among_few(deltas: &[RelaxDelta], offset: u64) -> u64 {
-    let placed = search_at_once(&mut DeltaSlice::new(deltas), IsPlacedUpTo(offset));
-    bytes_of_first(deltas, placed)
-}
-
-// `bytes_before` of many deltas without heads.
-#[inline(never)]
-fn bytes_among_many(deltas: &[RelaxDelta], offset: u64) -> u64 {
-    let placed = search_deltas(&mut DeltaSlice::new(deltas), IsPlacedUpTo(offset));
-    bytes_of_first(deltas, placed)
-}
-
-// `bytes_before` by heads, of which there is one at least.
-#[inline(never)]
-fn bytes_by_heads(deltas: &[RelaxDelta], heads: &[BlockHead], offset: u64) -> u64 {
-    let placed = search_many(&mut DeltaSlice::over(deltas, heads), IsPlacedUpTo(offset));
-    bytes_of_first(deltas, placed)
 }

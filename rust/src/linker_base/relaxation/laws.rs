@@ -23,3 +23,7 @@ pub fn cursor_gives_ranks() {}
 /// More deletions never increase a distance: a branch within range of its target remains so under
 /// every merge.
 pub fn merges_shorten_distances() {}
+
+/// What `RelaxDeltaMap::get_mut` lends is of one section: those of the others are as before when it
+/// is handed back.
+pub fn other_sections_stay() {}

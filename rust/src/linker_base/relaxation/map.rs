@@ -97,9 +97,8 @@ impl RelaxDeltaMap {
         self.entries.last().map(|entry| entry.0)
     }
 
-    /// A copy of the map and of the deltas of each section. It allocates once for the entries, once
-    /// for each section that has any deltas and again where it has more than 1,024, and not at all
-    /// for an empty map.
+    /// A copy of the map and of the deltas of each section. It allocates once for the entries and
+    /// twice for each section that has any deltas, and not at all for an empty map.
     pub fn try_clone(&self) -> Result<Self, OutOfMemory> {
         let sections = self.entries.as_slice();
         let mut entries = Vec::fallible_with_capacity(sections.len())?;

@@ -57,7 +57,7 @@ pub(super) fn sorted(pairs: Vec<(u64, u32)>) -> Vec<(u64, u32)> {
     sorted
 }
 
-// Adds pairs that ascend, and writes the heads that are kept from the first block on that changes.
+// Adds pairs that ascend, and writes the heads from the first block on that changes.
 #[cfg_attr(debug_assertions, track_caller)]
 pub(super) fn insert_ascending(
     deltas: &mut Vec<RelaxDelta>,

@@ -7,7 +7,7 @@
 use alloc::vec::Vec;
 use super::RelaxDelta;
 use super::delta_slice::DeltaSlice;
-use super::merge::{copy_deletions, count_pairs};
+use super::merge::copy_deletions;
 
 /// What records one deletion: a pair of its offset and its bytes, a delta, a caller's own struct.
 pub trait AsDeletion: Copy {
@@ -417,7 +417,7 @@ fn is_beside_run<R: AsDeletion>(run: &[R], falls: bool, deletion: (u64, u32)) ->
 }
 
 // Whether the batches make a valid list, one after the other.
-pub(super) fn are_ascending(batches: &[Vec<(u64, u32)>]) -> bool {
+fn are_ascending(batches: &[Vec<(u64, u32)>]) -> bool {
     let mut next = 0;
     for batch in batches {
         match next_after(next, batch.as_slice()) {
@@ -463,7 +463,7 @@ fn are_beside_deltas<D: AsDeletion>(deltas: &[RelaxDelta], deletions: &[D]) -> b
 }
 
 // Whether the pairs, in any order, can be merged. It sorts them.
-pub(super) fn can_pairs_be_merged(deltas: &[RelaxDelta], pairs: Vec<(u64, u32)>) -> bool {
+fn can_pairs_be_merged(deltas: &[RelaxDelta], pairs: Vec<(u64, u32)>) -> bool {
     let mut sorted = pairs;
     sorted.sort_unstable_by_key(|pair| pair.0);
     if sorted.len() > deltas.len() / 16 {
@@ -475,9 +475,4 @@ pub(super) fn can_pairs_be_merged(deltas: &[RelaxDelta], pairs: Vec<(u64, u32)>)
 // Whether the pairs of all batches are disjoint, and none overlaps a delta.
 pub(super) fn can_batches_be_merged(deltas: &[RelaxDelta], batches: &[Vec<(u64, u32)>]) -> bool {
     are_disjoint_batches(batches) && are_beside_deltas_batches(deltas, batches)
-}
-
-// Whether the batches and their pairs are more than the stack has room for.
-pub(super) fn are_many(batches: &[Vec<(u64, u32)>]) -> bool {
-    count_pairs(batches).saturating_add(batches.len()) > SORTED_LEN
 }

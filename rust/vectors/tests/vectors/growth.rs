@@ -84,13 +84,10 @@ fn expect_merges(count: usize) {
             },
         );
         expect_growth(&name("test"), count, pairs, |pairs| {
-            assert!(none().is_mergeable_sorted(&pairs))
+            assert!(DeltaSlice::new(&[]).can_merge_sorted(&pairs));
         });
         expect_growth(&name("rejected test"), count, overlapping, |pairs| {
-            assert!(!none().is_mergeable_sorted(&pairs));
-        });
-        expect_growth(&name("test over a slice"), count, pairs, |pairs| {
-            assert!(DeltaSlice::new(&[]).can_merge_sorted(&pairs));
+            assert!(!DeltaSlice::new(&[]).can_merge_sorted(&pairs));
         });
         expect_growth(&name("first that overlaps"), count, overlapping, |pairs| {
             let found = DeltaSlice::new(&[]).first_overlapping_sorted(&pairs);
@@ -99,16 +96,10 @@ fn expect_merges(count: usize) {
         expect_growth(&name("merge of batches"), count, batches, |batches| {
             none().merge_all(&batches).expect("memory");
         });
-        expect_growth(&name("test of batches"), count, batches, |batches| {
-            assert!(none().are_mergeable_sorted(&batches));
-        });
         let of_one =
             |count| -> Vec<_> { pairs(count).into_iter().map(|pair| vec![pair]).collect() };
         expect_growth(&name("merge of batches of one"), count, of_one, |batches| {
             none().merge_all(&batches).expect("memory");
-        });
-        expect_growth(&name("test of batches of one"), count, of_one, |batches| {
-            assert!(none().are_mergeable_sorted(&batches));
         });
     }
 }

@@ -1,11 +1,11 @@
 use Rattle.std.proofs.Common.{◌≡◌, ◌+◌, ◌<◌, length, arith}
-use Rattle.linker_base.specs.Inner.Blocks.{list_subject}
-use Rattle.linker_base.specs.Inner.PartitionPoint.{begins_below}
+use Rattle.linker_base.specs.Inner.Search.{list_subject}
+use Rattle.linker_base.specs.declared.relaxation.search.Test.TheVariants.{BeginsBelow}
 use Rattle.linker_base.proofs.Search.{blank, list_heads_agree, same_listed, begins_partitioned, parted_from_point, rank_at_last, rank_at_none}
 use Rattle.linker_base.proofs.relaxation.blocks.input_to_output_counted.Goals as goal
 
 pub delta-requires-clause-within : goal.delta-requires-clause-within
-delta-requires-clause-within g c = rw (same_listed c.search.ensures.probes) (omega (arith, c.search.ensures.within, c.in-Some.ensures.0, c.in-Some.ensures.1))
+delta-requires-clause-within g c = rw (same_listed c.count_passing.ensures.probes) (omega (arith, c.count_passing.ensures.within, c.in-Some.ensures.0, c.in-Some.ensures.1))
 
 pub returns-in-Some-clause-output : goal.returns-in-Some-clause-output
 returns-in-Some-clause-output g c =
@@ -13,12 +13,12 @@ returns-in-Some-clause-output g c =
     let s = list_subject deltas in
     let listed = c.len-len.ensures.valid in
     let last = c.in-Some.last in
-    let count : c.search.result ≡ last + 1 = omega (arith, c.in-Some.ensures.0, c.in-Some.ensures.1) in
-    let within : last < length deltas = omega (arith, c.search.ensures.within) in
-    let point = c.search.ensures.point (begins_partitioned s listed.valid c.args.input_offset) (λ _. list_heads_agree deltas (begins_below c.args.input_offset)) in
-    let parted = parted_from_point s c.args.input_offset c.search.result c.search.ensures.within point in
+    let count : c.count_passing.result ≡ last + 1 = omega (arith, c.in-Some.ensures.0, c.in-Some.ensures.1) in
+    let within : last < length deltas = omega (arith, c.count_passing.ensures.within) in
+    let point = c.count_passing.ensures.point (begins_partitioned s listed.valid c.args.input_offset) (list_heads_agree deltas (BeginsBelow c.args.input_offset)) in
+    let parted = parted_from_point s c.args.input_offset c.count_passing.result c.count_passing.ensures.within point in
     let ranked = rank_at_last deltas listed c.args.input_offset last within (rw count at parted) in
-    let read = rw (same_listed c.search.ensures.probes) at (c.delta.ensures.delta blank) in
+    let read = rw (same_listed c.count_passing.ensures.probes) at (c.delta.ensures.delta blank) in
     omega (arith, ranked.0, ranked.1, rw read at c.rank_after.ensures)
 
 pub returns-in-None-clause-output : goal.returns-in-None-clause-output
@@ -26,7 +26,7 @@ returns-in-None-clause-output g c =
     let deltas = g.K.Looks.listed c.args.looks.now in
     let s = list_subject deltas in
     let listed = c.len-len.ensures.valid in
-    let count : c.search.result ≡ 0 = omega (arith, c.in-None.ensures) in
-    let point = c.search.ensures.point (begins_partitioned s listed.valid c.args.input_offset) (λ _. list_heads_agree deltas (begins_below c.args.input_offset)) in
-    let parted = parted_from_point s c.args.input_offset c.search.result c.search.ensures.within point in
+    let count : c.count_passing.result ≡ 0 = omega (arith, c.in-None.ensures) in
+    let point = c.count_passing.ensures.point (begins_partitioned s listed.valid c.args.input_offset) (list_heads_agree deltas (BeginsBelow c.args.input_offset)) in
+    let parted = parted_from_point s c.args.input_offset c.count_passing.result c.count_passing.ensures.within point in
     rank_at_none deltas listed c.args.input_offset (rw count at parted)

@@ -2,13 +2,13 @@ use Rattle.std.proofs.Common.{◌≡◌, ◌+◌, ◌<◌, length, map, take, ar
 use Rattle.std.proofs.lemmas.List.{length-map}
 use Rattle.linker_base.specs.Deletions.{bytes_of}
 use Rattle.linker_base.specs.Deltas.{deletion_of}
-use Rattle.linker_base.specs.Inner.Blocks.{list_subject}
-use Rattle.linker_base.specs.Inner.PartitionPoint.{placed_up_to}
+use Rattle.linker_base.specs.Inner.Search.{list_subject}
+use Rattle.linker_base.specs.declared.relaxation.search.Test.TheVariants.{IsPlacedUpTo}
 use Rattle.linker_base.proofs.Search.{blank, list_heads_agree, same_listed, places_partitioned, placed_from_point, selected_from_search, fits_from_search}
 use Rattle.linker_base.proofs.relaxation.blocks.output_to_input_counted.Goals as goal
 
 pub delta-requires-clause-within : goal.delta-requires-clause-within
-delta-requires-clause-within g c = rw (same_listed c.search.ensures.probes) (omega (arith, c.search.ensures.within, c.in-Some.ensures.0, c.in-Some.ensures.1))
+delta-requires-clause-within g c = rw (same_listed c.count_passing.ensures.probes) (omega (arith, c.count_passing.ensures.within, c.in-Some.ensures.0, c.in-Some.ensures.1))
 
 -- the bytes up to the last deletion that is passed
 pub overflow_add-result : goal.overflow_add-result
@@ -17,13 +17,13 @@ overflow_add-result g c =
     let s = list_subject deltas in
     let listed = c.len-len.ensures.valid in
     let last = c.in-Some.last in
-    let count : c.search.result ≡ last + 1 = omega (arith, c.in-Some.ensures.0, c.in-Some.ensures.1) in
-    let within : last < length deltas = omega (arith, c.search.ensures.within) in
-    let point = c.search.ensures.point (places_partitioned s listed c.args.output_offset) (λ _. list_heads_agree deltas (placed_up_to c.args.output_offset)) in
-    let placed = placed_from_point s listed c.args.output_offset c.search.result c.search.ensures.within point in
-    let read = rw (same_listed c.search.ensures.probes) at (c.delta.ensures.delta blank) in
-    let sum : c.delta.result.cumulative_deleted ≡ bytes_of (take c.search.result (map deletion_of deltas)) = rw (read, count) (listed.listing.sums last blank within) in
-    let low = (fits_from_search (map deletion_of deltas) listed.valid c.args.output_offset c.search.result (omega (arith, length-map deltas deletion_of, c.search.ensures.within)) placed).0 c.requires.fits in
+    let count : c.count_passing.result ≡ last + 1 = omega (arith, c.in-Some.ensures.0, c.in-Some.ensures.1) in
+    let within : last < length deltas = omega (arith, c.count_passing.ensures.within) in
+    let point = c.count_passing.ensures.point (places_partitioned s listed c.args.output_offset) (list_heads_agree deltas (IsPlacedUpTo c.args.output_offset)) in
+    let placed = placed_from_point s listed c.args.output_offset c.count_passing.result c.count_passing.ensures.within point in
+    let read = rw (same_listed c.count_passing.ensures.probes) at (c.delta.ensures.delta blank) in
+    let sum : c.delta.result.cumulative_deleted ≡ bytes_of (take c.count_passing.result (map deletion_of deltas)) = rw (read, count) (listed.listing.sums last blank within) in
+    let low = (fits_from_search (map deletion_of deltas) listed.valid c.args.output_offset c.count_passing.result (omega (arith, length-map deltas deletion_of, c.count_passing.ensures.within)) placed).0 c.requires.fits in
     record { fits = omega (arith, low, sum) }
 
 pub returns-in-Some-clause-input : goal.returns-in-Some-clause-input
@@ -32,21 +32,21 @@ returns-in-Some-clause-input g c =
     let s = list_subject deltas in
     let listed = c.len-len.ensures.valid in
     let last = c.in-Some.last in
-    let count : c.search.result ≡ last + 1 = omega (arith, c.in-Some.ensures.0, c.in-Some.ensures.1) in
-    let within : last < length deltas = omega (arith, c.search.ensures.within) in
-    let point = c.search.ensures.point (places_partitioned s listed c.args.output_offset) (λ _. list_heads_agree deltas (placed_up_to c.args.output_offset)) in
-    let placed = placed_from_point s listed c.args.output_offset c.search.result c.search.ensures.within point in
-    let read = rw (same_listed c.search.ensures.probes) at (c.delta.ensures.delta blank) in
-    let sum : c.delta.result.cumulative_deleted ≡ bytes_of (take c.search.result (map deletion_of deltas)) = rw (read, count) (listed.listing.sums last blank within) in
-    rw sum (selected_from_search (map deletion_of deltas) listed.valid c.args.output_offset c.search.result (omega (arith, length-map deltas deletion_of, c.search.ensures.within)) placed)
+    let count : c.count_passing.result ≡ last + 1 = omega (arith, c.in-Some.ensures.0, c.in-Some.ensures.1) in
+    let within : last < length deltas = omega (arith, c.count_passing.ensures.within) in
+    let point = c.count_passing.ensures.point (places_partitioned s listed c.args.output_offset) (list_heads_agree deltas (IsPlacedUpTo c.args.output_offset)) in
+    let placed = placed_from_point s listed c.args.output_offset c.count_passing.result c.count_passing.ensures.within point in
+    let read = rw (same_listed c.count_passing.ensures.probes) at (c.delta.ensures.delta blank) in
+    let sum : c.delta.result.cumulative_deleted ≡ bytes_of (take c.count_passing.result (map deletion_of deltas)) = rw (read, count) (listed.listing.sums last blank within) in
+    rw sum (selected_from_search (map deletion_of deltas) listed.valid c.args.output_offset c.count_passing.result (omega (arith, length-map deltas deletion_of, c.count_passing.ensures.within)) placed)
 
 pub returns-in-None-clause-input : goal.returns-in-None-clause-input
 returns-in-None-clause-input g c =
     let deltas = g.K.Looks.listed c.args.looks.now in
     let s = list_subject deltas in
     let listed = c.len-len.ensures.valid in
-    let count : c.search.result ≡ 0 = omega (arith, c.in-None.ensures) in
-    let point = c.search.ensures.point (places_partitioned s listed c.args.output_offset) (λ _. list_heads_agree deltas (placed_up_to c.args.output_offset)) in
-    let placed = rw count at (placed_from_point s listed c.args.output_offset c.search.result c.search.ensures.within point) in
+    let count : c.count_passing.result ≡ 0 = omega (arith, c.in-None.ensures) in
+    let point = c.count_passing.ensures.point (places_partitioned s listed c.args.output_offset) (list_heads_agree deltas (IsPlacedUpTo c.args.output_offset)) in
+    let placed = rw count at (placed_from_point s listed c.args.output_offset c.count_passing.result c.count_passing.ensures.within point) in
     let zero_more : c.args.output_offset + 0 ≡ c.args.output_offset = omega arith in
     rw zero_more at (selected_from_search (map deletion_of deltas) listed.valid c.args.output_offset 0 (omega arith) placed)

@@ -1,20 +1,16 @@
-use Rattle.std.proofs.Common.{◌≡◌, ℕ, ◌+◌, ◌-◌, ◌<◌, ◌≤◌, length, map, get_or, take}
-use Rattle.std.specs.Prelude.{All}
+use Rattle.std.proofs.Common.{◌≡◌, ℕ, ◌<◌, ◌≤◌, length, map, get_or, take}
 use Rattle.linker_base.specs.Deletions.{rank}
 use Rattle.linker_base.specs.Deltas.{deletion_of}
 use Rattle.linker_base.specs.Listed.{AreValidDeltas}
-use Rattle.linker_base.specs.Inner.Listed.{IsWalked, IsFollowed}
-use Rattle.linker_base.specs.Walk.{walk_at, AreAhead}
+use Rattle.linker_base.specs.Inner.Listed.{IsWalked}
+use Rattle.linker_base.specs.Walk.{walk_at, walk_through, IsAhead, AreAhead}
 use Rattle.linker_base.proofs.relaxation.walk.walk.Given as goal
 
 abbrev pub invariant-loop-at : goal.invariant-loop-at
 invariant-loop-at l = record {
-  followed : IsFollowed l.deltas l.fn.from l.queries l.reached l.initial.at l.initial.out;
-  some : l.at < length l.queries;
-  ahead : AreValidDeltas l.deltas → AreAhead (walk_at (map deletion_of l.deltas) l.fn.from.passed) l.queries → All (λ d. d.0 < get_or l.queries l.at 0) (take l.reached.passed (map deletion_of l.deltas));
-  past : AreAhead (walk_at (map deletion_of l.deltas) l.fn.from.passed) l.queries → l.at + 1 < length l.queries → l.reached.end ≤ get_or l.queries l.at 0;
-  ranks : AreValidDeltas l.deltas → IsWalked (map deletion_of l.deltas) l.fn.from → AreAhead (walk_at (map deletion_of l.deltas) l.fn.from.passed) l.queries → (k : ℕ) → k < l.at → get_or l.out k 0 ≡ rank (map deletion_of l.deltas) (get_or l.queries k 0);
+  within : l.reached.passed ≤ length l.deltas;
+  walked : AreValidDeltas l.deltas → IsWalked (map deletion_of l.deltas) l.initial.reached → IsWalked (map deletion_of l.deltas) l.reached;
+  passed : AreValidDeltas l.deltas → walk_at (map deletion_of l.deltas) l.reached.passed ≡ walk_through (walk_at (map deletion_of l.deltas) l.initial.reached.passed) (take l.at l.queries);
+  ahead : AreValidDeltas l.deltas → AreAhead (walk_at (map deletion_of l.deltas) l.initial.reached.passed) l.queries → l.at < length l.queries → IsAhead (walk_at (map deletion_of l.deltas) l.reached.passed) (get_or l.queries l.at 0);
+  ranks : AreValidDeltas l.deltas → IsWalked (map deletion_of l.deltas) l.initial.reached → AreAhead (walk_at (map deletion_of l.deltas) l.initial.reached.passed) l.queries → (k : ℕ) → k < l.at → get_or l.out k 0 ≡ rank (map deletion_of l.deltas) (get_or l.queries k 0);
 }
-
-abbrev pub decreases-loop-at : goal.decreases-loop-at
-decreases-loop-at l = length l.queries - l.at

@@ -1,11 +1,11 @@
-use Rattle.linker_base.specs.Inner.Blocks.{view_subject}
-use Rattle.linker_base.specs.Inner.PartitionPoint.{begins_below}
+use Rattle.linker_base.specs.Inner.Search.{view_subject}
+use Rattle.linker_base.specs.declared.relaxation.search.Test.TheVariants.{BeginsBelow}
 use Rattle.linker_base.proofs.Search.{begins_partitioned, view_heads_agree, parted_from_point}
 use Rattle.linker_base.proofs.relaxation.delta_slice.DeltaSlice.count_below.Goals as goal
 
 pub returns-clause-below : goal.returns-clause-below
 returns-clause-below c valid heads =
     let s = view_subject c.args.self.now in
-    let found = rw c.copy.ensures at c.search.ensures.point in
-    let within = rw c.copy.ensures at c.search.ensures.within in
-    parted_from_point s c.args.offset c.search.result within (found (begins_partitioned s valid c.args.offset) (λ some. view_heads_agree c.args.self.now (begins_below c.args.offset) (heads some)))
+    let found = rw c.copy.ensures at c.count_passing.ensures.point in
+    let within = rw c.copy.ensures at c.count_passing.ensures.within in
+    parted_from_point s c.args.offset c.count_passing.result within (found (begins_partitioned s valid c.args.offset) (view_heads_agree c.args.self.now (BeginsBelow c.args.offset) heads))
