@@ -3,6 +3,7 @@
 use Rattle.std.proofs.Common.{◌≡◌, refl, subst, sym, slice_index_or, ap, Option, Some, None, IfSome, Bool, true, false, if◌then◌else◌}
 use denote.Enum.Declared.{tag_of}
 use Rattle.linker_elf.specs.Agrees.{RowFits}
+use Rattle.linker_elf.specs.Rows.{raw_row}
 use Rattle.linker_elf.specs.Inner.RowTables.{raw_info_in, with_raw_kind, IsEntryOf, IsSound}
 use Rattle.linker_elf.specs.declared.elf.RelocationKindInfo.{RelocationKindInfo}
 use Rattle.linker_elf.specs.declared.elf.rows.TableRow.{TableRow}
@@ -21,12 +22,12 @@ use Rattle.linker_elf.specs.contracts.loongarch64.relocations.LoongArch64Relocat
 use Rattle.linker_elf.specs.declared.loongarch64.relocations.TheConstants as loongarch64_table
 use Rattle.linker_elf.specs.declared.loongarch64.relocations.LoongArch64Relocation.{LoongArch64Relocation}
 use Rattle.linker_elf.specs.declared.loongarch64.relocations.LoongArch64Relocation.TheVariants.{R_LARCH_NONE}
-use Rattle.linker_elf.specs.Ppc64Relocations.{ppc64_row, ppc64_raw_row}
+use Rattle.linker_elf.specs.Ppc64Relocations.{ppc64_relocation, ppc64_row}
 use Rattle.linker_elf.specs.contracts.ppc64.relocations.Ppc64Relocation as ppc64
 use Rattle.linker_elf.specs.declared.ppc64.relocations.TheConstants as ppc64_table
 use Rattle.linker_elf.specs.declared.ppc64.relocations.Ppc64Relocation.{Ppc64Relocation}
 use Rattle.linker_elf.specs.declared.ppc64.relocations.Ppc64Relocation.TheVariants.{R_PPC64_NONE}
-use Rattle.linker_elf.specs.X86Relocations.{x86_64_row}
+use Rattle.linker_elf.specs.X86Relocations.{x86_64_relocation, x86_64_row}
 use Rattle.linker_elf.specs.contracts.x86_64.relocations.X86_64Relocation as x86_64
 use Rattle.linker_elf.specs.declared.x86_64.relocations.TheConstants as x86_64_table
 use Rattle.linker_elf.specs.declared.x86_64.relocations.X86_64Relocation.{X86_64Relocation}
@@ -64,7 +65,7 @@ ppc64_rows R_PPC64_NONE = record { row_is = refl; entry_is = refl }
 ppc64_rows name = record { row_is = refl; entry_is = refl }
 
 pub ppc64_raw_rows : (name : Ppc64Relocation)
-    → raw_info_in (slice_index_or ppc64_table.ROWS.now (tag_of ppc64.the_type name) None) ≡ ppc64_raw_row name
+    → raw_info_in (slice_index_or ppc64_table.ROWS.now (tag_of ppc64.the_type name) None) ≡ raw_row (ppc64_relocation name)
 ppc64_raw_rows R_PPC64_NONE = refl
 ppc64_raw_rows name = refl
 
@@ -72,6 +73,11 @@ pub x86_64_rows : (name : X86_64Relocation)
     → IsEntryOf (x86_64_row name) (slice_index_or x86_64_table.ROWS.now (tag_of x86_64.the_type name) None)
 x86_64_rows R_X86_64_NONE = record { row_is = refl; entry_is = refl }
 x86_64_rows name = record { row_is = refl; entry_is = refl }
+
+pub x86_64_raw_rows : (name : X86_64Relocation)
+    → raw_info_in (slice_index_or x86_64_table.ROWS.now (tag_of x86_64.the_type name) None) ≡ raw_row (x86_64_relocation name)
+x86_64_raw_rows R_X86_64_NONE = refl
+x86_64_raw_rows name = refl
 
 -- the entry, or another where there is none
 abbrev some_or : TableRow → Option TableRow → TableRow

@@ -1,7 +1,7 @@
 -- The relocations of LoongArch (LoongArch ELF psABI, "Relocation Types").
-use Rattle.std.specs.Prelude.{codes, ℕ, Option, Some, None, Bool, true, false, if◌then◌else◌}
+use Rattle.std.specs.Prelude.{codes, ℕ, Option, Some, None}
 use Rattle.linker_elf.specs.ElfNames.{ElfName}
-use Rattle.linker_elf.specs.Rows.{Relocation, with_row, unnamed_relocation}
+use Rattle.linker_elf.specs.Rows.{Relocation, with_row, with_own_row, raw_row, unnamed_relocation}
 use Rattle.linker_elf.specs.Rows.{bytes_row, bits_row, signed_row, signed_or_unsigned_row}
 use Rattle.linker_elf.specs.Rows.{aligned_row, biased_row, paged_row, place_pages, entry_pages}
 use Rattle.linker_elf.specs.declared.elf.RelocationKind.{RelocationKind}
@@ -72,7 +72,7 @@ loongarch_relocation r.R_LARCH_TLS_DTPREL32 =
     with_row 8 (codes "R_LARCH_TLS_DTPREL32") (bytes_row DtpOff 4)
 loongarch_relocation r.R_LARCH_TLS_DTPREL64 =
     with_row 9 (codes "R_LARCH_TLS_DTPREL64") (bytes_row DtpOff 8)
-loongarch_relocation r.R_LARCH_MARK_LA = with_row 20 (codes "R_LARCH_MARK_LA") (bytes_row NoValue 0)
+loongarch_relocation r.R_LARCH_MARK_LA = with_own_row 20 (codes "R_LARCH_MARK_LA") (bytes_row NoValue 0)
 loongarch_relocation r.R_LARCH_ADD8 =
     with_row 47 (codes "R_LARCH_ADD8") (bytes_row AbsoluteAddition 1)
 loongarch_relocation r.R_LARCH_ADD16 =
@@ -189,11 +189,11 @@ loongarch_relocation r.R_LARCH_TLS_LE_ADD_R =
 loongarch_relocation r.R_LARCH_TLS_LE_LO12_R =
     with_row 123 (codes "R_LARCH_TLS_LE_LO12_R") (low_row TpOff)
 loongarch_relocation r.R_LARCH_TLS_LD_PCREL20_S2 =
-    with_row 124 (codes "R_LARCH_TLS_LD_PCREL20_S2") (branch_row TlsGd 22 Shift5)
+    with_own_row 124 (codes "R_LARCH_TLS_LD_PCREL20_S2") (branch_row TlsGd 22 Shift5)
 loongarch_relocation r.R_LARCH_TLS_GD_PCREL20_S2 =
-    with_row 125 (codes "R_LARCH_TLS_GD_PCREL20_S2") (branch_row TlsGd 22 Shift5)
+    with_own_row 125 (codes "R_LARCH_TLS_GD_PCREL20_S2") (branch_row TlsGd 22 Shift5)
 loongarch_relocation r.R_LARCH_TLS_DESC_PCREL20_S2 =
-    with_row 126 (codes "R_LARCH_TLS_DESC_PCREL20_S2") (branch_row TlsDesc 22 Shift5)
+    with_own_row 126 (codes "R_LARCH_TLS_DESC_PCREL20_S2") (branch_row TlsDesc 22 Shift5)
 loongarch_relocation r.R_LARCH_CALL30 =
     with_row 127 (codes "R_LARCH_CALL30") (insn_row Relative 2 19 Call30)
 loongarch_relocation r.R_LARCH_PCADD_HI20 =
@@ -207,18 +207,10 @@ loongarch_name name = (loongarch_relocation name).name
 abbrev pub loongarch_row : LoongArch64Relocation → Option RelocationKindInfo
 loongarch_row name = (loongarch_relocation name).row
 
--- the names that the crate this one is a port of has no row for
-abbrev pub is_own : LoongArch64Relocation → Bool
-is_own r.R_LARCH_MARK_LA = true
-is_own r.R_LARCH_TLS_LD_PCREL20_S2 = true
-is_own r.R_LARCH_TLS_GD_PCREL20_S2 = true
-is_own r.R_LARCH_TLS_DESC_PCREL20_S2 = true
-is_own name = false
-
--- the rows without those; its `R_LARCH_ALIGN` has no kind of its own
+-- the row that the crate this one is a port of has; its `R_LARCH_ALIGN` has no kind of its own
 abbrev pub loongarch_raw_row : LoongArch64Relocation → Option RelocationKindInfo
 loongarch_raw_row r.R_LARCH_ALIGN = Some (bytes_row NoValue 0)
-loongarch_raw_row name = if is_own name then None else loongarch_row name
+loongarch_raw_row name = raw_row (loongarch_relocation name)
 
 -- V + S + A of the first of a pair, and V - S - A of the second
 abbrev pub loongarch_uleb128_role : LoongArch64Relocation → Option Uleb128Role

@@ -1,7 +1,8 @@
 -- The relocations of PowerPC64 (64-bit ELF V2 ABI for Power, "Relocation Types").
-use Rattle.std.specs.Prelude.{codes, ℕ, Option, None, Bool, true, false, if◌then◌else◌}
+use Rattle.std.specs.Prelude.{codes, ℕ, Option}
 use Rattle.linker_elf.specs.ElfNames.{ElfName}
-use Rattle.linker_elf.specs.Rows.{Relocation, with_row, unnamed_relocation, bytes_row, bits_row}
+use Rattle.linker_elf.specs.Rows.{Relocation, with_row, with_own_row}
+use Rattle.linker_elf.specs.Rows.{unnamed_relocation, bytes_row, bits_row}
 use Rattle.linker_elf.specs.Rows.{signed_row, signed_or_unsigned_row, aligned_row, biased_row}
 use Rattle.linker_elf.specs.declared.elf.RelocationKind.{RelocationKind}
 use Rattle.linker_elf.specs.declared.elf.RelocationKind.TheVariants.{Absolute, DtpOff}
@@ -62,63 +63,63 @@ prefixed_row kind = signed_row 34 (bits_row kind 0 34 (Ppc64 Prefixed))
 
 -- each name with its code and its row
 abbrev pub ppc64_relocation : Ppc64Relocation → Relocation
-ppc64_relocation r.R_PPC64_NONE = with_row 0 (codes "R_PPC64_NONE") (bytes_row NoValue 0)
+ppc64_relocation r.R_PPC64_NONE = with_own_row 0 (codes "R_PPC64_NONE") (bytes_row NoValue 0)
 ppc64_relocation r.R_PPC64_ADDR32 =
     with_row 1 (codes "R_PPC64_ADDR32") (signed_or_unsigned_row 32 (bytes_row Absolute 4))
 ppc64_relocation r.R_PPC64_ADDR24 =
-    with_row 2 (codes "R_PPC64_ADDR24") (branch_row Absolute 26 Branch24)
+    with_own_row 2 (codes "R_PPC64_ADDR24") (branch_row Absolute 26 Branch24)
 ppc64_relocation r.R_PPC64_ADDR16 =
-    with_row 3 (codes "R_PPC64_ADDR16") (signed_or_unsigned_row 16 (bytes_row Absolute 2))
-ppc64_relocation r.R_PPC64_ADDR16_LO = with_row 4 (codes "R_PPC64_ADDR16_LO") (low_row Absolute)
-ppc64_relocation r.R_PPC64_ADDR16_HI = with_row 5 (codes "R_PPC64_ADDR16_HI") (high_row Absolute)
+    with_own_row 3 (codes "R_PPC64_ADDR16") (signed_or_unsigned_row 16 (bytes_row Absolute 2))
+ppc64_relocation r.R_PPC64_ADDR16_LO = with_own_row 4 (codes "R_PPC64_ADDR16_LO") (low_row Absolute)
+ppc64_relocation r.R_PPC64_ADDR16_HI = with_own_row 5 (codes "R_PPC64_ADDR16_HI") (high_row Absolute)
 ppc64_relocation r.R_PPC64_ADDR16_HA =
-    with_row 6 (codes "R_PPC64_ADDR16_HA") (high_adjusted_row Absolute)
+    with_own_row 6 (codes "R_PPC64_ADDR16_HA") (high_adjusted_row Absolute)
 ppc64_relocation r.R_PPC64_ADDR14 =
-    with_row 7 (codes "R_PPC64_ADDR14") (branch_row Absolute 16 Branch14)
+    with_own_row 7 (codes "R_PPC64_ADDR14") (branch_row Absolute 16 Branch14)
 ppc64_relocation r.R_PPC64_REL24 =
     with_row 10 (codes "R_PPC64_REL24") (branch_row Relative 26 Branch24)
 ppc64_relocation r.R_PPC64_REL14 =
     with_row 11 (codes "R_PPC64_REL14") (branch_row Relative 16 Branch14)
 ppc64_relocation r.R_PPC64_GOT16 =
-    with_row 14 (codes "R_PPC64_GOT16") (signed_row 16 (low_row GotRelGotBase))
-ppc64_relocation r.R_PPC64_GOT16_LO = with_row 15 (codes "R_PPC64_GOT16_LO") (low_row GotRelGotBase)
+    with_own_row 14 (codes "R_PPC64_GOT16") (signed_row 16 (low_row GotRelGotBase))
+ppc64_relocation r.R_PPC64_GOT16_LO = with_own_row 15 (codes "R_PPC64_GOT16_LO") (low_row GotRelGotBase)
 ppc64_relocation r.R_PPC64_GOT16_HI =
-    with_row 16 (codes "R_PPC64_GOT16_HI") (high_row GotRelGotBase)
+    with_own_row 16 (codes "R_PPC64_GOT16_HI") (high_row GotRelGotBase)
 ppc64_relocation r.R_PPC64_GOT16_HA =
-    with_row 17 (codes "R_PPC64_GOT16_HA") (high_adjusted_row GotRelGotBase)
+    with_own_row 17 (codes "R_PPC64_GOT16_HA") (high_adjusted_row GotRelGotBase)
 ppc64_relocation r.R_PPC64_REL32 =
     with_row 26 (codes "R_PPC64_REL32") (signed_row 32 (bytes_row Relative 4))
 ppc64_relocation r.R_PPC64_PLT16_HA =
-    with_row 31 (codes "R_PPC64_PLT16_HA") (high_adjusted_row PltRelGotBase)
+    with_own_row 31 (codes "R_PPC64_PLT16_HA") (high_adjusted_row PltRelGotBase)
 ppc64_relocation r.R_PPC64_ADDR64 = with_row 38 (codes "R_PPC64_ADDR64") (bytes_row Absolute 8)
 ppc64_relocation r.R_PPC64_ADDR16_HIGHER =
-    with_row 39 (codes "R_PPC64_ADDR16_HIGHER") (higher_row Absolute)
+    with_own_row 39 (codes "R_PPC64_ADDR16_HIGHER") (higher_row Absolute)
 ppc64_relocation r.R_PPC64_ADDR16_HIGHERA =
-    with_row 40 (codes "R_PPC64_ADDR16_HIGHERA") (adjusted_row (higher_row Absolute))
+    with_own_row 40 (codes "R_PPC64_ADDR16_HIGHERA") (adjusted_row (higher_row Absolute))
 ppc64_relocation r.R_PPC64_ADDR16_HIGHEST =
-    with_row 41 (codes "R_PPC64_ADDR16_HIGHEST") (highest_row Absolute)
+    with_own_row 41 (codes "R_PPC64_ADDR16_HIGHEST") (highest_row Absolute)
 ppc64_relocation r.R_PPC64_ADDR16_HIGHESTA =
-    with_row 42 (codes "R_PPC64_ADDR16_HIGHESTA") (adjusted_row (highest_row Absolute))
+    with_own_row 42 (codes "R_PPC64_ADDR16_HIGHESTA") (adjusted_row (highest_row Absolute))
 ppc64_relocation r.R_PPC64_REL64 = with_row 44 (codes "R_PPC64_REL64") (bytes_row Relative 8)
 ppc64_relocation r.R_PPC64_TOC16 =
-    with_row 47 (codes "R_PPC64_TOC16") (signed_row 16 (low_row SymRelGotBase))
+    with_own_row 47 (codes "R_PPC64_TOC16") (signed_row 16 (low_row SymRelGotBase))
 ppc64_relocation r.R_PPC64_TOC16_LO = with_row 48 (codes "R_PPC64_TOC16_LO") (low_row SymRelGotBase)
 ppc64_relocation r.R_PPC64_TOC16_HI =
-    with_row 49 (codes "R_PPC64_TOC16_HI") (high_row SymRelGotBase)
+    with_own_row 49 (codes "R_PPC64_TOC16_HI") (high_row SymRelGotBase)
 ppc64_relocation r.R_PPC64_TOC16_HA =
     with_row 50 (codes "R_PPC64_TOC16_HA") (high_adjusted_row SymRelGotBase)
 ppc64_relocation r.R_PPC64_ADDR16_DS =
-    with_row 56 (codes "R_PPC64_ADDR16_DS") (signed_row 16 (low_ds_row Absolute))
+    with_own_row 56 (codes "R_PPC64_ADDR16_DS") (signed_row 16 (low_ds_row Absolute))
 ppc64_relocation r.R_PPC64_ADDR16_LO_DS =
-    with_row 57 (codes "R_PPC64_ADDR16_LO_DS") (low_ds_row Absolute)
+    with_own_row 57 (codes "R_PPC64_ADDR16_LO_DS") (low_ds_row Absolute)
 ppc64_relocation r.R_PPC64_GOT16_DS =
-    with_row 58 (codes "R_PPC64_GOT16_DS") (signed_row 16 (low_ds_row GotRelGotBase))
+    with_own_row 58 (codes "R_PPC64_GOT16_DS") (signed_row 16 (low_ds_row GotRelGotBase))
 ppc64_relocation r.R_PPC64_GOT16_LO_DS =
-    with_row 59 (codes "R_PPC64_GOT16_LO_DS") (low_ds_row GotRelGotBase)
+    with_own_row 59 (codes "R_PPC64_GOT16_LO_DS") (low_ds_row GotRelGotBase)
 ppc64_relocation r.R_PPC64_PLT16_LO_DS =
-    with_row 60 (codes "R_PPC64_PLT16_LO_DS") (low_ds_row PltRelGotBase)
+    with_own_row 60 (codes "R_PPC64_PLT16_LO_DS") (low_ds_row PltRelGotBase)
 ppc64_relocation r.R_PPC64_TOC16_DS =
-    with_row 63 (codes "R_PPC64_TOC16_DS") (signed_row 16 (low_ds_row SymRelGotBase))
+    with_own_row 63 (codes "R_PPC64_TOC16_DS") (signed_row 16 (low_ds_row SymRelGotBase))
 ppc64_relocation r.R_PPC64_TOC16_LO_DS =
     with_row 64 (codes "R_PPC64_TOC16_LO_DS") (low_ds_row SymRelGotBase)
 ppc64_relocation r.R_PPC64_TLS = with_row 67 (codes "R_PPC64_TLS") (bytes_row NoValue 0)
@@ -165,75 +166,75 @@ ppc64_relocation r.R_PPC64_TPREL16_DS =
 ppc64_relocation r.R_PPC64_TPREL16_LO_DS =
     with_row 96 (codes "R_PPC64_TPREL16_LO_DS") (low_ds_row TpOff)
 ppc64_relocation r.R_PPC64_TPREL16_HIGHER =
-    with_row 97 (codes "R_PPC64_TPREL16_HIGHER") (higher_row TpOff)
+    with_own_row 97 (codes "R_PPC64_TPREL16_HIGHER") (higher_row TpOff)
 ppc64_relocation r.R_PPC64_TPREL16_HIGHERA =
-    with_row 98 (codes "R_PPC64_TPREL16_HIGHERA") (adjusted_row (higher_row TpOff))
+    with_own_row 98 (codes "R_PPC64_TPREL16_HIGHERA") (adjusted_row (higher_row TpOff))
 ppc64_relocation r.R_PPC64_TPREL16_HIGHEST =
-    with_row 99 (codes "R_PPC64_TPREL16_HIGHEST") (highest_row TpOff)
+    with_own_row 99 (codes "R_PPC64_TPREL16_HIGHEST") (highest_row TpOff)
 ppc64_relocation r.R_PPC64_TPREL16_HIGHESTA =
-    with_row 100 (codes "R_PPC64_TPREL16_HIGHESTA") (adjusted_row (highest_row TpOff))
+    with_own_row 100 (codes "R_PPC64_TPREL16_HIGHESTA") (adjusted_row (highest_row TpOff))
 ppc64_relocation r.R_PPC64_DTPREL16_DS =
     with_row 101 (codes "R_PPC64_DTPREL16_DS") (signed_row 16 (low_ds_row DtpOff))
 ppc64_relocation r.R_PPC64_DTPREL16_LO_DS =
     with_row 102 (codes "R_PPC64_DTPREL16_LO_DS") (low_ds_row DtpOff)
 ppc64_relocation r.R_PPC64_DTPREL16_HIGHER =
-    with_row 103 (codes "R_PPC64_DTPREL16_HIGHER") (higher_row DtpOff)
+    with_own_row 103 (codes "R_PPC64_DTPREL16_HIGHER") (higher_row DtpOff)
 ppc64_relocation r.R_PPC64_DTPREL16_HIGHERA =
-    with_row 104 (codes "R_PPC64_DTPREL16_HIGHERA") (adjusted_row (higher_row DtpOff))
+    with_own_row 104 (codes "R_PPC64_DTPREL16_HIGHERA") (adjusted_row (higher_row DtpOff))
 ppc64_relocation r.R_PPC64_DTPREL16_HIGHEST =
-    with_row 105 (codes "R_PPC64_DTPREL16_HIGHEST") (highest_row DtpOff)
+    with_own_row 105 (codes "R_PPC64_DTPREL16_HIGHEST") (highest_row DtpOff)
 ppc64_relocation r.R_PPC64_DTPREL16_HIGHESTA =
-    with_row 106 (codes "R_PPC64_DTPREL16_HIGHESTA") (adjusted_row (highest_row DtpOff))
+    with_own_row 106 (codes "R_PPC64_DTPREL16_HIGHESTA") (adjusted_row (highest_row DtpOff))
 ppc64_relocation r.R_PPC64_TLSGD = with_row 107 (codes "R_PPC64_TLSGD") (bytes_row NoValue 0)
 ppc64_relocation r.R_PPC64_TLSLD = with_row 108 (codes "R_PPC64_TLSLD") (bytes_row NoValue 0)
 ppc64_relocation r.R_PPC64_ADDR16_HIGH =
-    with_row 110 (codes "R_PPC64_ADDR16_HIGH") (unchecked_row Absolute)
+    with_own_row 110 (codes "R_PPC64_ADDR16_HIGH") (unchecked_row Absolute)
 ppc64_relocation r.R_PPC64_ADDR16_HIGHA =
-    with_row 111 (codes "R_PPC64_ADDR16_HIGHA") (adjusted_row (unchecked_row Absolute))
+    with_own_row 111 (codes "R_PPC64_ADDR16_HIGHA") (adjusted_row (unchecked_row Absolute))
 ppc64_relocation r.R_PPC64_TPREL16_HIGH =
-    with_row 112 (codes "R_PPC64_TPREL16_HIGH") (unchecked_row TpOff)
+    with_own_row 112 (codes "R_PPC64_TPREL16_HIGH") (unchecked_row TpOff)
 ppc64_relocation r.R_PPC64_TPREL16_HIGHA =
-    with_row 113 (codes "R_PPC64_TPREL16_HIGHA") (adjusted_row (unchecked_row TpOff))
+    with_own_row 113 (codes "R_PPC64_TPREL16_HIGHA") (adjusted_row (unchecked_row TpOff))
 ppc64_relocation r.R_PPC64_DTPREL16_HIGH =
-    with_row 114 (codes "R_PPC64_DTPREL16_HIGH") (unchecked_row DtpOff)
+    with_own_row 114 (codes "R_PPC64_DTPREL16_HIGH") (unchecked_row DtpOff)
 ppc64_relocation r.R_PPC64_DTPREL16_HIGHA =
-    with_row 115 (codes "R_PPC64_DTPREL16_HIGHA") (adjusted_row (unchecked_row DtpOff))
+    with_own_row 115 (codes "R_PPC64_DTPREL16_HIGHA") (adjusted_row (unchecked_row DtpOff))
 ppc64_relocation r.R_PPC64_REL24_NOTOC =
-    with_row 116 (codes "R_PPC64_REL24_NOTOC") (branch_row Relative 26 Branch24)
-ppc64_relocation r.R_PPC64_ENTRY = with_row 118 (codes "R_PPC64_ENTRY") (bytes_row NoValue 0)
-ppc64_relocation r.R_PPC64_PLTSEQ = with_row 119 (codes "R_PPC64_PLTSEQ") (bytes_row NoValue 0)
-ppc64_relocation r.R_PPC64_PLTCALL = with_row 120 (codes "R_PPC64_PLTCALL") (bytes_row NoValue 0)
+    with_own_row 116 (codes "R_PPC64_REL24_NOTOC") (branch_row Relative 26 Branch24)
+ppc64_relocation r.R_PPC64_ENTRY = with_own_row 118 (codes "R_PPC64_ENTRY") (bytes_row NoValue 0)
+ppc64_relocation r.R_PPC64_PLTSEQ = with_own_row 119 (codes "R_PPC64_PLTSEQ") (bytes_row NoValue 0)
+ppc64_relocation r.R_PPC64_PLTCALL = with_own_row 120 (codes "R_PPC64_PLTCALL") (bytes_row NoValue 0)
 ppc64_relocation r.R_PPC64_PLTSEQ_NOTOC =
-    with_row 121 (codes "R_PPC64_PLTSEQ_NOTOC") (bytes_row NoValue 0)
+    with_own_row 121 (codes "R_PPC64_PLTSEQ_NOTOC") (bytes_row NoValue 0)
 ppc64_relocation r.R_PPC64_PLTCALL_NOTOC =
-    with_row 122 (codes "R_PPC64_PLTCALL_NOTOC") (bytes_row NoValue 0)
+    with_own_row 122 (codes "R_PPC64_PLTCALL_NOTOC") (bytes_row NoValue 0)
 ppc64_relocation r.R_PPC64_PCREL_OPT =
-    with_row 123 (codes "R_PPC64_PCREL_OPT") (bytes_row NoValue 0)
-ppc64_relocation r.R_PPC64_D34 = with_row 128 (codes "R_PPC64_D34") (prefixed_row Absolute)
+    with_own_row 123 (codes "R_PPC64_PCREL_OPT") (bytes_row NoValue 0)
+ppc64_relocation r.R_PPC64_D34 = with_own_row 128 (codes "R_PPC64_D34") (prefixed_row Absolute)
 ppc64_relocation r.R_PPC64_D34_LO =
-    with_row 129 (codes "R_PPC64_D34_LO") (bits_row Absolute 0 34 (Ppc64 Prefixed))
+    with_own_row 129 (codes "R_PPC64_D34_LO") (bits_row Absolute 0 34 (Ppc64 Prefixed))
 ppc64_relocation r.R_PPC64_D34_HI30 =
-    with_row 130 (codes "R_PPC64_D34_HI30") (bits_row Absolute 34 64 (Ppc64 Prefixed))
+    with_own_row 130 (codes "R_PPC64_D34_HI30") (bits_row Absolute 34 64 (Ppc64 Prefixed))
 ppc64_relocation r.R_PPC64_D34_HA30 =
-    with_row 131 (codes "R_PPC64_D34_HA30")
+    with_own_row 131 (codes "R_PPC64_D34_HA30")
     (biased_row 0x200000000 (bits_row Absolute 34 64 (Ppc64 Prefixed)))
-ppc64_relocation r.R_PPC64_PCREL34 = with_row 132 (codes "R_PPC64_PCREL34") (prefixed_row Relative)
+ppc64_relocation r.R_PPC64_PCREL34 = with_own_row 132 (codes "R_PPC64_PCREL34") (prefixed_row Relative)
 ppc64_relocation r.R_PPC64_GOT_PCREL34 =
-    with_row 133 (codes "R_PPC64_GOT_PCREL34") (prefixed_row GotRelative)
+    with_own_row 133 (codes "R_PPC64_GOT_PCREL34") (prefixed_row GotRelative)
 ppc64_relocation r.R_PPC64_PLT_PCREL34 =
-    with_row 134 (codes "R_PPC64_PLT_PCREL34") (prefixed_row PltRelative)
+    with_own_row 134 (codes "R_PPC64_PLT_PCREL34") (prefixed_row PltRelative)
 ppc64_relocation r.R_PPC64_PLT_PCREL34_NOTOC =
-    with_row 135 (codes "R_PPC64_PLT_PCREL34_NOTOC") (prefixed_row PltRelative)
-ppc64_relocation r.R_PPC64_TPREL34 = with_row 146 (codes "R_PPC64_TPREL34") (prefixed_row TpOff)
-ppc64_relocation r.R_PPC64_DTPREL34 = with_row 147 (codes "R_PPC64_DTPREL34") (prefixed_row DtpOff)
+    with_own_row 135 (codes "R_PPC64_PLT_PCREL34_NOTOC") (prefixed_row PltRelative)
+ppc64_relocation r.R_PPC64_TPREL34 = with_own_row 146 (codes "R_PPC64_TPREL34") (prefixed_row TpOff)
+ppc64_relocation r.R_PPC64_DTPREL34 = with_own_row 147 (codes "R_PPC64_DTPREL34") (prefixed_row DtpOff)
 ppc64_relocation r.R_PPC64_GOT_TLSGD_PCREL34 =
-    with_row 148 (codes "R_PPC64_GOT_TLSGD_PCREL34") (prefixed_row TlsGd)
+    with_own_row 148 (codes "R_PPC64_GOT_TLSGD_PCREL34") (prefixed_row TlsGd)
 ppc64_relocation r.R_PPC64_GOT_TLSLD_PCREL34 =
-    with_row 149 (codes "R_PPC64_GOT_TLSLD_PCREL34") (prefixed_row TlsLd)
+    with_own_row 149 (codes "R_PPC64_GOT_TLSLD_PCREL34") (prefixed_row TlsLd)
 ppc64_relocation r.R_PPC64_GOT_TPREL_PCREL34 =
-    with_row 150 (codes "R_PPC64_GOT_TPREL_PCREL34") (prefixed_row GotTpOff)
+    with_own_row 150 (codes "R_PPC64_GOT_TPREL_PCREL34") (prefixed_row GotTpOff)
 ppc64_relocation r.R_PPC64_REL16_LO = with_row 250 (codes "R_PPC64_REL16_LO") (low_row Relative)
-ppc64_relocation r.R_PPC64_REL16_HI = with_row 251 (codes "R_PPC64_REL16_HI") (high_row Relative)
+ppc64_relocation r.R_PPC64_REL16_HI = with_own_row 251 (codes "R_PPC64_REL16_HI") (high_row Relative)
 ppc64_relocation r.R_PPC64_REL16_HA =
     with_row 252 (codes "R_PPC64_REL16_HA") (high_adjusted_row Relative)
 ppc64_relocation (r.Other code) = unnamed_relocation code
@@ -244,58 +245,3 @@ ppc64_name name = (ppc64_relocation name).name
 -- what a relocation means, and none where it isn't known
 abbrev pub ppc64_row : Ppc64Relocation → Option RelocationKindInfo
 ppc64_row name = (ppc64_relocation name).row
-
--- the names that the crate this one is a port of doesn't have
-abbrev pub is_own : Ppc64Relocation → Bool
-is_own r.R_PPC64_ADDR24 = true
-is_own r.R_PPC64_ADDR16 = true
-is_own r.R_PPC64_ADDR14 = true
-is_own r.R_PPC64_GOT16 = true
-is_own r.R_PPC64_GOT16_LO = true
-is_own r.R_PPC64_GOT16_HI = true
-is_own r.R_PPC64_GOT16_HA = true
-is_own r.R_PPC64_PLT16_HA = true
-is_own r.R_PPC64_ADDR16_HIGHER = true
-is_own r.R_PPC64_ADDR16_HIGHERA = true
-is_own r.R_PPC64_ADDR16_HIGHEST = true
-is_own r.R_PPC64_ADDR16_HIGHESTA = true
-is_own r.R_PPC64_TOC16_HI = true
-is_own r.R_PPC64_GOT16_DS = true
-is_own r.R_PPC64_GOT16_LO_DS = true
-is_own r.R_PPC64_PLT16_LO_DS = true
-is_own r.R_PPC64_TPREL16_HIGHER = true
-is_own r.R_PPC64_TPREL16_HIGHERA = true
-is_own r.R_PPC64_TPREL16_HIGHEST = true
-is_own r.R_PPC64_TPREL16_HIGHESTA = true
-is_own r.R_PPC64_DTPREL16_HIGHER = true
-is_own r.R_PPC64_DTPREL16_HIGHERA = true
-is_own r.R_PPC64_DTPREL16_HIGHEST = true
-is_own r.R_PPC64_DTPREL16_HIGHESTA = true
-is_own r.R_PPC64_ADDR16_HIGH = true
-is_own r.R_PPC64_ADDR16_HIGHA = true
-is_own r.R_PPC64_TPREL16_HIGH = true
-is_own r.R_PPC64_TPREL16_HIGHA = true
-is_own r.R_PPC64_DTPREL16_HIGH = true
-is_own r.R_PPC64_DTPREL16_HIGHA = true
-is_own r.R_PPC64_ENTRY = true
-is_own r.R_PPC64_PLTSEQ = true
-is_own r.R_PPC64_PLTCALL = true
-is_own r.R_PPC64_PLTSEQ_NOTOC = true
-is_own r.R_PPC64_PLTCALL_NOTOC = true
-is_own r.R_PPC64_D34 = true
-is_own r.R_PPC64_D34_LO = true
-is_own r.R_PPC64_D34_HI30 = true
-is_own r.R_PPC64_D34_HA30 = true
-is_own r.R_PPC64_PLT_PCREL34 = true
-is_own r.R_PPC64_PLT_PCREL34_NOTOC = true
-is_own r.R_PPC64_TPREL34 = true
-is_own r.R_PPC64_DTPREL34 = true
-is_own r.R_PPC64_GOT_TLSGD_PCREL34 = true
-is_own r.R_PPC64_GOT_TLSLD_PCREL34 = true
-is_own r.R_PPC64_GOT_TPREL_PCREL34 = true
-is_own r.R_PPC64_REL16_HI = true
-is_own name = false
-
--- the same without those
-abbrev pub ppc64_raw_row : Ppc64Relocation → Option RelocationKindInfo
-ppc64_raw_row name = if is_own name then None else ppc64_row name

@@ -1,7 +1,8 @@
 -- The relocations of RISC-V (RISC-V ELF psABI, "Relocations").
-use Rattle.std.specs.Prelude.{Bool, true, false, codes, ℕ, Option, Some, None, ℤ, pos, negsuc}
+use Rattle.std.specs.Prelude.{codes, ℕ, Option, Some, None, ℤ, pos, negsuc}
 use Rattle.linker_elf.specs.ElfNames.{ElfName}
-use Rattle.linker_elf.specs.Rows.{Relocation, with_row, unnamed_relocation, bytes_row, bits_row}
+use Rattle.linker_elf.specs.Rows.{Relocation, with_row, with_own_row, raw_row}
+use Rattle.linker_elf.specs.Rows.{unnamed_relocation, bytes_row, bits_row}
 use Rattle.linker_elf.specs.Rows.{within_row, signed_or_unsigned_row, aligned_row}
 use Rattle.linker_elf.specs.declared.elf.RelocationKind.{RelocationKind}
 use Rattle.linker_elf.specs.declared.elf.RelocationKind.TheVariants.{Absolute, AbsoluteAddition}
@@ -100,7 +101,7 @@ riscv_relocation r.R_RISCV_RVC_BRANCH =
     with_row 44 (codes "R_RISCV_RVC_BRANCH") (jump_row 16 CbType (negsuc 255, pos 255))
 riscv_relocation r.R_RISCV_RVC_JUMP =
     with_row 45 (codes "R_RISCV_RVC_JUMP") (jump_row 16 CjType (negsuc 2047, pos 2047))
-riscv_relocation r.R_RISCV_RVC_LUI = with_row 46 (codes "R_RISCV_RVC_LUI") clui_row
+riscv_relocation r.R_RISCV_RVC_LUI = with_own_row 46 (codes "R_RISCV_RVC_LUI") clui_row
 riscv_relocation r.R_RISCV_RELAX = with_row 51 (codes "R_RISCV_RELAX") (bytes_row NoValue 0)
 riscv_relocation r.R_RISCV_SUB6 =
     with_row 52 (codes "R_RISCV_SUB6") (bytes_row AbsoluteSubtractionWord6 1)
@@ -117,32 +118,21 @@ riscv_relocation r.R_RISCV_SET_ULEB128 =
 riscv_relocation r.R_RISCV_SUB_ULEB128 =
     with_row 61 (codes "R_RISCV_SUB_ULEB128") (bytes_row PairSubtractionULEB128RiscV 8)
 riscv_relocation r.R_RISCV_TLSDESC_HI20 =
-    with_row 62 (codes "R_RISCV_TLSDESC_HI20") (pair_row TlsDesc 32 UType)
+    with_own_row 62 (codes "R_RISCV_TLSDESC_HI20") (pair_row TlsDesc 32 UType)
 riscv_relocation r.R_RISCV_TLSDESC_LOAD_LO12 =
-    with_row 63 (codes "R_RISCV_TLSDESC_LOAD_LO12") (pair_row TlsDesc 32 IType)
+    with_own_row 63 (codes "R_RISCV_TLSDESC_LOAD_LO12") (pair_row TlsDesc 32 IType)
 riscv_relocation r.R_RISCV_TLSDESC_ADD_LO12 =
-    with_row 64 (codes "R_RISCV_TLSDESC_ADD_LO12") (pair_row TlsDesc 32 IType)
+    with_own_row 64 (codes "R_RISCV_TLSDESC_ADD_LO12") (pair_row TlsDesc 32 IType)
 riscv_relocation r.R_RISCV_TLSDESC_CALL =
-    with_row 65 (codes "R_RISCV_TLSDESC_CALL") (bytes_row TlsDescCall 0)
+    with_own_row 65 (codes "R_RISCV_TLSDESC_CALL") (bytes_row TlsDescCall 0)
 riscv_relocation (r.Other code) = unnamed_relocation code
 
 abbrev pub riscv_name : RiscVRelocation → ElfName
 riscv_name name = (riscv_relocation name).name
 
-abbrev pub is_of_descriptor : RelocationKind → Bool
-is_of_descriptor TlsDesc = true
-is_of_descriptor TlsDescCall = true
-is_of_descriptor kind = false
-
--- what a relocation means, of those that the original library knows: neither TLS descriptors nor
--- `c.lui`
+-- the row that the crate this one is a port of has: none for TLS descriptors and `c.lui`
 abbrev pub riscv_row : RiscVRelocation → Option RelocationKindInfo
-riscv_row r.R_RISCV_TLSDESC_HI20 = None
-riscv_row r.R_RISCV_TLSDESC_LOAD_LO12 = None
-riscv_row r.R_RISCV_TLSDESC_ADD_LO12 = None
-riscv_row r.R_RISCV_TLSDESC_CALL = None
-riscv_row r.R_RISCV_RVC_LUI = None
-riscv_row name = (riscv_relocation name).row
+riscv_row name = raw_row (riscv_relocation name)
 
 -- V = S + A of the first of a pair, and V - S - A of the second
 abbrev pub riscv_uleb128_role : RiscVRelocation → Option Uleb128Role

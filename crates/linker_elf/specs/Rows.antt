@@ -1,6 +1,7 @@
 -- The vocabulary of rows: where a relocation's value comes from, where it is written, and which
 -- values are allowed.
-use Rattle.std.specs.Prelude.{ℕ, ℤ, List, Option, Some, None, true, false}
+use Rattle.std.specs.Prelude.{ℕ, ℤ, List, Option, Some, None}
+use Rattle.std.specs.Prelude.{Bool, true, false, if◌then◌else◌}
 use Rattle.linker_elf.specs.Elf.{bit_bounds, signed_or_unsigned}
 use Rattle.linker_elf.specs.ElfNames.{ElfName, named, unnamed}
 use Rattle.linker_elf.specs.declared.elf.PageMask.{PageMask}
@@ -82,17 +83,22 @@ entry_pages = GotEntryAndPosition Size4KB
 abbrev pub got_page : PageMask
 got_page = GotBase Size4KB
 
--- what a list of relocations says of a name: how ELF files name it, and what it means, if that is
--- known
+-- what a list of relocations says of a name: how ELF files name it, what it means, if that is known,
+-- and whether the crate that this one is a port of has no row for it
 pub record Relocation : Type 0 where
   pub name : ElfName
   pub row : Option RelocationKindInfo
+  pub is_own : Bool
 
 abbrev pub with_row : ℕ → List ℕ → RelocationKindInfo → Relocation
-with_row code text row = record { name = named code text; row = Some row }
+with_row code text row = record { name = named code text; row = Some row; is_own = false }
 
-abbrev pub without_row : ℕ → List ℕ → Relocation
-without_row code text = record { name = named code text; row = None }
+abbrev pub with_own_row : ℕ → List ℕ → RelocationKindInfo → Relocation
+with_own_row code text row = record (with_row code text row) { is_own = true }
 
 abbrev pub unnamed_relocation : ℕ → Relocation
-unnamed_relocation code = record { name = unnamed code; row = None }
+unnamed_relocation code = record { name = unnamed code; row = None; is_own = false }
+
+-- the row that that crate has
+abbrev pub raw_row : Relocation → Option RelocationKindInfo
+raw_row relocation = if relocation.is_own then None else relocation.row

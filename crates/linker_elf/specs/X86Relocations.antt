@@ -1,7 +1,8 @@
 -- The relocations of x86-64 (x86-64 psABI, "Relocation Types").
 use Rattle.std.specs.Prelude.{codes, Option}
 use Rattle.linker_elf.specs.ElfNames.{ElfName}
-use Rattle.linker_elf.specs.Rows.{Relocation, with_row, unnamed_relocation, bytes_row, signed_row}
+use Rattle.linker_elf.specs.Rows.{Relocation, with_row, with_own_row, unnamed_relocation}
+use Rattle.linker_elf.specs.Rows.{bytes_row, signed_row}
 use Rattle.linker_elf.specs.Rows.{unsigned_row, signed_or_unsigned_row}
 use Rattle.linker_elf.specs.declared.elf.RelocationKind.TheVariants.{Absolute, DtpOff}
 use Rattle.linker_elf.specs.declared.elf.RelocationKind.TheVariants.{GotRelGotBase, GotRelative}
@@ -40,7 +41,7 @@ x86_64_relocation r.R_X86_64_8 =
 x86_64_relocation r.R_X86_64_PC8 =
     with_row 15 (codes "R_X86_64_PC8") (signed_row 8 (bytes_row Relative 1))
 x86_64_relocation r.R_X86_64_DTPOFF64 = with_row 17 (codes "R_X86_64_DTPOFF64") (bytes_row DtpOff 8)
-x86_64_relocation r.R_X86_64_TPOFF64 = with_row 18 (codes "R_X86_64_TPOFF64") (bytes_row TpOff 8)
+x86_64_relocation r.R_X86_64_TPOFF64 = with_own_row 18 (codes "R_X86_64_TPOFF64") (bytes_row TpOff 8)
 x86_64_relocation r.R_X86_64_TLSGD =
     with_row 19 (codes "R_X86_64_TLSGD") (signed_row 32 (bytes_row TlsGd 4))
 x86_64_relocation r.R_X86_64_TLSLD =

@@ -5,8 +5,8 @@ ghost use denote.Enum.Declared.{tag_of};
 ghost use Rattle.linker_elf.specs.Agrees.{RowAgrees, RowFits};
 ghost use Rattle.linker_elf.specs.ElfNames.{IsNameOf, code_of, text_of};
 ghost use Rattle.linker_elf.specs.Readings.{RowReadsNoOther};
-ghost use Rattle.linker_elf.specs.Ppc64Relocations.{ppc64_name, ppc64_row};
-ghost use Rattle.linker_elf.specs.Ppc64Relocations.{ppc64_raw_row};
+ghost use Rattle.linker_elf.specs.Ppc64Relocations.{ppc64_name, ppc64_relocation, ppc64_row};
+ghost use Rattle.linker_elf.specs.Rows.{raw_row};
 ghost use Rattle.linker_elf.specs.contracts.ppc64.relocations.Ppc64Relocation as names;
 
 use crate::elf::choice_table::RelocationName;
@@ -131,17 +131,19 @@ macro_rules! relocations {
         $make! {
             $arguments
             below 128 {
-                0 R_PPC64_NONE => Some(row!(None, (0 bytes), any)),
+                0 R_PPC64_NONE => Some(row!(None, (0 bytes), any, origin: own)),
                 1 R_PPC64_ADDR32 => Some(row!(Absolute, (4 bytes), signed_or_unsigned 32)),
                 2 R_PPC64_ADDR24 =>
                     Some(row!(Absolute, (0..26 Ppc64::Branch24), signed 26, alignment: 4,
                         origin: own)),
                 3 R_PPC64_ADDR16 =>
                     Some(row!(Absolute, (2 bytes), signed_or_unsigned 16, origin: own)),
-                4 R_PPC64_ADDR16_LO => Some(row!(Absolute, (0..16 Ppc64::D), any)),
-                5 R_PPC64_ADDR16_HI => Some(row!(Absolute, (16..32 Ppc64::D), any reach signed 32)),
+                4 R_PPC64_ADDR16_LO => Some(row!(Absolute, (0..16 Ppc64::D), any, origin: own)),
+                5 R_PPC64_ADDR16_HI =>
+                    Some(row!(Absolute, (16..32 Ppc64::D), any reach signed 32, origin: own)),
                 6 R_PPC64_ADDR16_HA =>
-                    Some(row!(Absolute, (16..32 Ppc64::D), any reach signed 32, bias: 0x8000)),
+                    Some(row!(Absolute, (16..32 Ppc64::D), any reach signed 32, bias: 0x8000,
+                        origin: own)),
                 7 R_PPC64_ADDR14 =>
                     Some(row!(Absolute, (0..16 Ppc64::Branch14), signed 16, alignment: 4,
                         origin: own)),
@@ -172,16 +174,17 @@ macro_rules! relocations {
                 42 R_PPC64_ADDR16_HIGHESTA =>
                     Some(row!(Absolute, (48..64 Ppc64::D), any, bias: 0x8000, origin: own)),
                 44 R_PPC64_REL64 => Some(row!(Relative, (8 bytes), any)),
-                47 R_PPC64_TOC16 => Some(row!(SymRelGotBase, (0..16 Ppc64::D), signed 16)),
+                47 R_PPC64_TOC16 =>
+                    Some(row!(SymRelGotBase, (0..16 Ppc64::D), signed 16, origin: own)),
                 48 R_PPC64_TOC16_LO => Some(row!(SymRelGotBase, (0..16 Ppc64::D), any)),
                 49 R_PPC64_TOC16_HI =>
                     Some(row!(SymRelGotBase, (16..32 Ppc64::D), any reach signed 32, origin: own)),
                 50 R_PPC64_TOC16_HA =>
                     Some(row!(SymRelGotBase, (16..32 Ppc64::D), any reach signed 32, bias: 0x8000)),
                 56 R_PPC64_ADDR16_DS =>
-                    Some(row!(Absolute, (0..16 Ppc64::Ds), signed 16, alignment: 4)),
+                    Some(row!(Absolute, (0..16 Ppc64::Ds), signed 16, alignment: 4, origin: own)),
                 57 R_PPC64_ADDR16_LO_DS =>
-                    Some(row!(Absolute, (0..16 Ppc64::Ds), any, alignment: 4)),
+                    Some(row!(Absolute, (0..16 Ppc64::Ds), any, alignment: 4, origin: own)),
                 58 R_PPC64_GOT16_DS =>
                     Some(row!(GotRelGotBase, (0..16 Ppc64::Ds), signed 16, alignment: 4,
                         origin: own)),
@@ -190,7 +193,8 @@ macro_rules! relocations {
                 60 R_PPC64_PLT16_LO_DS =>
                     Some(row!(PltRelGotBase, (0..16 Ppc64::Ds), any, alignment: 4, origin: own)),
                 63 R_PPC64_TOC16_DS =>
-                    Some(row!(SymRelGotBase, (0..16 Ppc64::Ds), signed 16, alignment: 4)),
+                    Some(row!(SymRelGotBase, (0..16 Ppc64::Ds), signed 16, alignment: 4,
+                        origin: own)),
                 64 R_PPC64_TOC16_LO_DS =>
                     Some(row!(SymRelGotBase, (0..16 Ppc64::Ds), any, alignment: 4)),
                 67 R_PPC64_TLS => Some(row!(None, (0 bytes), any)),
@@ -266,13 +270,14 @@ macro_rules! relocations {
                 115 R_PPC64_DTPREL16_HIGHA =>
                     Some(row!(DtpOff, (16..32 Ppc64::DUnsigned), any, bias: 0x8000, origin: own)),
                 116 R_PPC64_REL24_NOTOC =>
-                    Some(row!(Relative, (0..26 Ppc64::Branch24), signed 26, alignment: 4)),
+                    Some(row!(Relative, (0..26 Ppc64::Branch24), signed 26, alignment: 4,
+                        origin: own)),
                 118 R_PPC64_ENTRY => Some(row!(None, (0 bytes), any, origin: own)),
                 119 R_PPC64_PLTSEQ => Some(row!(None, (0 bytes), any, origin: own)),
                 120 R_PPC64_PLTCALL => Some(row!(None, (0 bytes), any, origin: own)),
                 121 R_PPC64_PLTSEQ_NOTOC => Some(row!(None, (0 bytes), any, origin: own)),
                 122 R_PPC64_PLTCALL_NOTOC => Some(row!(None, (0 bytes), any, origin: own)),
-                123 R_PPC64_PCREL_OPT => Some(row!(None, (0 bytes), any)),
+                123 R_PPC64_PCREL_OPT => Some(row!(None, (0 bytes), any, origin: own)),
             }
             {
                 128 R_PPC64_D34 =>
@@ -284,9 +289,10 @@ macro_rules! relocations {
                 131 R_PPC64_D34_HA30 =>
                     Some(row!(Absolute, (34..64 Ppc64::Prefixed), any,
                         bias: 0x200000000, origin: own)),
-                132 R_PPC64_PCREL34 => Some(row!(Relative, (0..34 Ppc64::Prefixed), signed 34)),
+                132 R_PPC64_PCREL34 =>
+                    Some(row!(Relative, (0..34 Ppc64::Prefixed), signed 34, origin: own)),
                 133 R_PPC64_GOT_PCREL34 =>
-                    Some(row!(GotRelative, (0..34 Ppc64::Prefixed), signed 34)),
+                    Some(row!(GotRelative, (0..34 Ppc64::Prefixed), signed 34, origin: own)),
                 134 R_PPC64_PLT_PCREL34 =>
                     Some(row!(PltRelative, (0..34 Ppc64::Prefixed), signed 34, origin: own)),
                 135 R_PPC64_PLT_PCREL34_NOTOC =>
@@ -397,16 +403,16 @@ impl RelocationName for Ppc64Relocation {
 }
 
 /// What a relocation means, as `row` says, or `None` for those that the crate `linker-utils` has no
-/// name for: absolute branches (`R_PPC64_ADDR24`, `R_PPC64_ADDR14`), `R_PPC64_ADDR16`, the parts of
-/// 64 bits (`_HIGH`, `_HIGHER`, `_HIGHEST` and those with an A), `R_PPC64_TOC16_HI`,
-/// `R_PPC64_REL16_HI`, the GOT and PLT entries (`R_PPC64_GOT16` and `R_PPC64_PLT16` with what comes
-/// behind), `R_PPC64_ENTRY`, the marks of calls through the PLT (`R_PPC64_PLTSEQ`,
-/// `R_PPC64_PLTCALL` and their `_NOTOC`), and prefixed instructions with an address or a part of
-/// one (`R_PPC64_D34` and its like), a PLT entry (`R_PPC64_PLT_PCREL34` and its `_NOTOC`) or TLS
-/// (`R_PPC64_TPREL34` and those after it).
+/// row for: `R_PPC64_NONE`, absolute addresses (`R_PPC64_ADDR24`, `R_PPC64_ADDR14` and the
+/// `R_PPC64_ADDR16` with what follows it), the parts of 64 bits (`_HIGH`, `_HIGHER`, `_HIGHEST` and
+/// those with an A), `R_PPC64_TOC16`, `R_PPC64_TOC16_HI`, `R_PPC64_TOC16_DS`, `R_PPC64_REL16_HI`,
+/// `R_PPC64_REL24_NOTOC`, the GOT and PLT entries (`R_PPC64_GOT16` and `R_PPC64_PLT16` with what
+/// follows), marks (`R_PPC64_ENTRY`, `R_PPC64_PLTSEQ`, `R_PPC64_PLTCALL`, their `_NOTOC`, and
+/// `R_PPC64_PCREL_OPT`), and all prefixed instructions (`R_PPC64_D34`, `R_PPC64_PCREL34` and their
+/// like).
 #[inline(always)]
 pub fn relocation_type_from_raw(name: Ppc64Relocation) -> Option<RelocationKindInfo>
-    ensures row { result ≡ ppc64_raw_row name }
+    ensures row { result ≡ raw_row (ppc64_relocation name) }
     ensures agrees { IfSome result RowAgrees }
     ensures others { IfSome result RowReadsNoOther }
     ensures fits { IfSome result RowFits }

@@ -3,12 +3,14 @@
 ghost use Rattle.std.specs.Prelude.{◌≡◌};
 ghost use denote.Enum.Declared.{tag_of};
 ghost use Rattle.linker_elf.specs.ElfNames.{IsNameOf, code_of, text_of};
-ghost use Rattle.linker_elf.specs.X86Relocations.{x86_64_name, x86_64_row};
+ghost use Rattle.linker_elf.specs.Rows.{raw_row};
+ghost use Rattle.linker_elf.specs.X86Relocations.{x86_64_name, x86_64_relocation, x86_64_row};
 ghost use Rattle.linker_elf.specs.contracts.x86_64.relocations.X86_64Relocation as names;
 
 use crate::elf::choice_table::RelocationName;
 use crate::elf::rows::{
-    TableRow, code_of_name, index_of_name, info_in, name_of_code, row, row_in, table, text_of_name,
+    TableRow, code_of_name, index_of_name, name_of_code, raw_info_in, row, row_in, table,
+    text_of_name,
 };
 use crate::elf::{RelocationKindInfo, Row};
 use std::fmt;
@@ -84,7 +86,7 @@ macro_rules! relocations {
                 14 R_X86_64_8 => Some(row!(Absolute, (1 bytes), signed_or_unsigned 8)),
                 15 R_X86_64_PC8 => Some(row!(Relative, (1 bytes), signed 8)),
                 17 R_X86_64_DTPOFF64 => Some(row!(DtpOff, (8 bytes), any)),
-                18 R_X86_64_TPOFF64 => Some(row!(TpOff, (8 bytes), any)),
+                18 R_X86_64_TPOFF64 => Some(row!(TpOff, (8 bytes), any, origin: own)),
                 19 R_X86_64_TLSGD => Some(row!(TlsGd, (4 bytes), signed 32)),
                 20 R_X86_64_TLSLD => Some(row!(TlsLd, (4 bytes), signed 32)),
                 21 R_X86_64_DTPOFF32 => Some(row!(DtpOff, (4 bytes), signed 32)),
@@ -180,10 +182,11 @@ impl RelocationName for X86_64Relocation {
     }
 }
 
-/// What a relocation means, as `row` says.
+/// What a relocation means, as `row` says, or `None` for `R_X86_64_TPOFF64`, which the crate
+/// `linker-utils` has no row for.
 #[inline(always)]
 pub fn relocation_from_raw(name: X86_64Relocation) -> Option<RelocationKindInfo>
-    ensures { result ≡ x86_64_row name }
+    ensures { result ≡ raw_row (x86_64_relocation name) }
 {
-    info_in(row(name))
+    raw_info_in(&ROWS[index(name)])
 }

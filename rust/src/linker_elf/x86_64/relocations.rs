@@ -3,7 +3,8 @@
 
 use crate::linker_elf::elf::choice_table::RelocationName;
 use crate::linker_elf::elf::rows::{
-    TableRow, code_of_name, index_of_name, info_in, name_of_code, row, row_in, table, text_of_name,
+    TableRow, code_of_name, index_of_name, name_of_code, raw_info_in, row, row_in, table,
+    text_of_name,
 };
 use crate::linker_elf::elf::{RelocationKindInfo, Row};
 use core::fmt;
@@ -80,7 +81,7 @@ macro_rules! relocations {
                 14 R_X86_64_8 => Some(row!(Absolute, (1 bytes), signed_or_unsigned 8)),
                 15 R_X86_64_PC8 => Some(row!(Relative, (1 bytes), signed 8)),
                 17 R_X86_64_DTPOFF64 => Some(row!(DtpOff, (8 bytes), any)),
-                18 R_X86_64_TPOFF64 => Some(row!(TpOff, (8 bytes), any)),
+                18 R_X86_64_TPOFF64 => Some(row!(TpOff, (8 bytes), any, origin: own)),
                 19 R_X86_64_TLSGD => Some(row!(TlsGd, (4 bytes), signed 32)),
                 20 R_X86_64_TLSLD => Some(row!(TlsLd, (4 bytes), signed 32)),
                 21 R_X86_64_DTPOFF32 => Some(row!(DtpOff, (4 bytes), signed 32)),
@@ -168,9 +169,10 @@ impl RelocationName for X86_64Relocation {
     }
 }
 
-/// What a relocation means, as `row` says.
+/// What a relocation means, as `row` says, or `None` for `R_X86_64_TPOFF64`, which the crate
+/// `linker-utils` has no row for.
 #[must_use]
 #[inline(always)]
 pub const fn relocation_from_raw(name: X86_64Relocation) -> Option<RelocationKindInfo> {
-    info_in(row(name))
+    raw_info_in(&ROWS[index(name)])
 }

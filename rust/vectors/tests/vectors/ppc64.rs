@@ -429,6 +429,9 @@ fn relocations_have_their_meaning() {
         (Ppc64Relocation::R_PPC64_ADDR32, info(RelocationKind::Absolute, word, mixed, 1, 0)),
         (Ppc64Relocation::R_PPC64_REL24, info(RelocationKind::Relative, branch, distances, 4, 0)),
         (Ppc64Relocation::R_PPC64_TPREL16_HA, info(RelocationKind::TpOff, high, all, 1, 0x8000)),
+        (Ppc64Relocation::R_PPC64_NONE, None),
+        (Ppc64Relocation::R_PPC64_TOC16, None),
+        (Ppc64Relocation::R_PPC64_GOT_PCREL34, None),
         (Ppc64Relocation::Other(9), None),
     ] {
         assert_eq!(relocation_type_from_raw(name), meaning, "{name:?}");

@@ -943,7 +943,7 @@ fn relocations_have_their_meaning() {
         (X86_64Relocation::R_X86_64_16, info(RelocationKind::Absolute, 2, mixed)),
         (X86_64Relocation::R_X86_64_CODE_6_GOTPCRELX, info(RelocationKind::GotRelative, 4, words)),
         (X86_64Relocation::R_X86_64_SIZE64, info(RelocationKind::SymbolSize, 8, all)),
-        (X86_64Relocation::R_X86_64_TPOFF64, info(RelocationKind::TpOff, 8, all)),
+        (X86_64Relocation::R_X86_64_TPOFF64, None),
         (X86_64Relocation::Other(7), None),
     ] {
         assert_eq!(relocation_from_raw(name), meaning, "{name:?}");

@@ -1,34 +1,27 @@
 use Rattle.std.proofs.Common.{◌∙◌, ap, subst, sym, IfSome}
 use Rattle.linker_elf.specs.Agrees.{LoongArchRowAgrees, RowFits}
 use Rattle.linker_elf.specs.Readings.{LoongArchRowReadsNoOther}
-use Rattle.linker_elf.specs.LoongArchRelocations.{loongarch_raw_row}
+use Rattle.linker_elf.specs.LoongArchRelocations.{loongarch_relocation, loongarch_raw_row}
 use Rattle.linker_elf.specs.Inner.RowTables.{with_raw_kind}
 use Rattle.linker_elf.specs.declared.loongarch64.relocations.LoongArch64Relocation.{LoongArch64Relocation}
 use Rattle.linker_elf.specs.declared.loongarch64.relocations.LoongArch64Relocation.TheVariants as r
 use Rattle.linker_elf.proofs.Readings.{loongarch_reads_no_other}
 use Rattle.linker_elf.proofs.RowsAgree.{loongarch_rows as loongarch_agree}
-use Rattle.linker_elf.proofs.RowTables.{sound_from, loongarch_rows, loongarch_raw_rows, raw_kind_fits}
+use Rattle.linker_elf.proofs.RowTables.{sound_from, unless, loongarch_rows, loongarch_raw_rows, raw_kind_fits}
 use Rattle.linker_elf.proofs.RowsFit.{loongarch_fits}
 use Rattle.linker_elf.proofs.loongarch64.relocations.relocation_type_from_raw.Goals as goal
 
 agrees : (name : LoongArch64Relocation) → IfSome (loongarch_raw_row name) (LoongArchRowAgrees name)
 agrees r.R_LARCH_NONE = loongarch_agree r.R_LARCH_NONE
 agrees r.R_LARCH_ALIGN = (tt, tt)
-agrees r.R_LARCH_MARK_LA = tt
-agrees r.R_LARCH_TLS_LD_PCREL20_S2 = tt
-agrees r.R_LARCH_TLS_GD_PCREL20_S2 = tt
-agrees r.R_LARCH_TLS_DESC_PCREL20_S2 = tt
-agrees name = loongarch_agree name
+agrees name = unless (LoongArchRowAgrees name) (loongarch_relocation name).is_own (loongarch_relocation name).row (loongarch_agree name)
 
 reads_no_other : (name : LoongArch64Relocation)
     → IfSome (loongarch_raw_row name) (LoongArchRowReadsNoOther name)
 reads_no_other r.R_LARCH_NONE = loongarch_reads_no_other r.R_LARCH_NONE
 reads_no_other r.R_LARCH_ALIGN = tt
-reads_no_other r.R_LARCH_MARK_LA = tt
-reads_no_other r.R_LARCH_TLS_LD_PCREL20_S2 = tt
-reads_no_other r.R_LARCH_TLS_GD_PCREL20_S2 = tt
-reads_no_other r.R_LARCH_TLS_DESC_PCREL20_S2 = tt
-reads_no_other name = loongarch_reads_no_other name
+reads_no_other name =
+    unless (LoongArchRowReadsNoOther name) (loongarch_relocation name).is_own (loongarch_relocation name).row (loongarch_reads_no_other name)
 
 pub raw_info_in-requires : goal.raw_info_in-requires
 raw_info_in-requires c =

@@ -1,7 +1,7 @@
 use Rattle.std.proofs.Common.{◌∙◌, subst, sym, IfSome}
 use Rattle.linker_elf.specs.Agrees.{RowAgrees}
 use Rattle.linker_elf.specs.Readings.{RowReadsNoOther}
-use Rattle.linker_elf.specs.Ppc64Relocations.{is_own}
+use Rattle.linker_elf.specs.Ppc64Relocations.{ppc64_relocation}
 use Rattle.linker_elf.proofs.Readings.{ppc64_reads_no_other}
 use Rattle.linker_elf.proofs.RowsAgree.{ppc64_rows as ppc64_agree}
 use Rattle.linker_elf.proofs.RowTables.{sound_from, unless, ppc64_rows, ppc64_raw_rows}
@@ -16,8 +16,8 @@ returns-clause-row c = c.raw_info_in.ensures.row ∙ (rw c.index.ensures (ppc64_
 
 pub returns-clause-agrees : goal.returns-clause-agrees
 returns-clause-agrees c = subst (λ row. IfSome row RowAgrees) (sym (returns-clause-row c))
-    (unless RowAgrees (is_own c.args.name) _ (ppc64_agree c.args.name))
+    (unless RowAgrees (ppc64_relocation c.args.name).is_own _ (ppc64_agree c.args.name))
 
 pub returns-clause-others : goal.returns-clause-others
 returns-clause-others c = subst (λ row. IfSome row RowReadsNoOther) (sym (returns-clause-row c))
-    (unless RowReadsNoOther (is_own c.args.name) _ (ppc64_reads_no_other c.args.name))
+    (unless RowReadsNoOther (ppc64_relocation c.args.name).is_own _ (ppc64_reads_no_other c.args.name))

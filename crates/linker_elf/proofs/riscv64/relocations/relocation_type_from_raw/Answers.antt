@@ -1,32 +1,12 @@
 use Rattle.std.proofs.Common.{◌∙◌, IfSome, subst, sym}
 use Rattle.linker_elf.specs.Agrees.{RowAgrees}
 use Rattle.linker_elf.specs.Readings.{RowReadsNoOther}
-use Rattle.linker_elf.specs.RiscVRelocations.{riscv_row}
-use Rattle.linker_elf.specs.declared.riscv64.relocations.RiscVRelocation.{RiscVRelocation}
-use Rattle.linker_elf.specs.declared.riscv64.relocations.RiscVRelocation.TheVariants as r
+use Rattle.linker_elf.specs.RiscVRelocations.{riscv_relocation}
 use Rattle.linker_elf.proofs.Readings.{riscv_reads_no_other}
 use Rattle.linker_elf.proofs.RowsAgree.{riscv_rows as riscv_agree}
-use Rattle.linker_elf.proofs.RowTables.{sound_from, riscv_rows, riscv_raw_rows}
+use Rattle.linker_elf.proofs.RowTables.{sound_from, unless, riscv_rows, riscv_raw_rows}
 use Rattle.linker_elf.proofs.RowsFit.{riscv_fits}
 use Rattle.linker_elf.proofs.riscv64.relocations.relocation_type_from_raw.Goals as goal
-
-agrees : (name : RiscVRelocation) → IfSome (riscv_row name) RowAgrees
-agrees r.R_RISCV_NONE = riscv_agree r.R_RISCV_NONE
-agrees r.R_RISCV_RVC_LUI = tt
-agrees r.R_RISCV_TLSDESC_HI20 = tt
-agrees r.R_RISCV_TLSDESC_LOAD_LO12 = tt
-agrees r.R_RISCV_TLSDESC_ADD_LO12 = tt
-agrees r.R_RISCV_TLSDESC_CALL = tt
-agrees name = riscv_agree name
-
-reads_no_other : (name : RiscVRelocation) → IfSome (riscv_row name) RowReadsNoOther
-reads_no_other r.R_RISCV_NONE = riscv_reads_no_other r.R_RISCV_NONE
-reads_no_other r.R_RISCV_RVC_LUI = tt
-reads_no_other r.R_RISCV_TLSDESC_HI20 = tt
-reads_no_other r.R_RISCV_TLSDESC_LOAD_LO12 = tt
-reads_no_other r.R_RISCV_TLSDESC_ADD_LO12 = tt
-reads_no_other r.R_RISCV_TLSDESC_CALL = tt
-reads_no_other name = riscv_reads_no_other name
 
 pub raw_info_in-requires : goal.raw_info_in-requires
 raw_info_in-requires c = rw c.index.ensures (sound_from _ _ (riscv_rows c.args.name) (riscv_fits c.args.name))
@@ -35,8 +15,9 @@ pub returns-clause-row : goal.returns-clause-row
 returns-clause-row c = c.raw_info_in.ensures.row ∙ (rw c.index.ensures (riscv_raw_rows c.args.name))
 
 pub returns-clause-agrees : goal.returns-clause-agrees
-returns-clause-agrees c = subst (λ row. IfSome row (RowAgrees)) (sym (returns-clause-row c)) (agrees c.args.name)
+returns-clause-agrees c = subst (λ row. IfSome row RowAgrees) (sym (returns-clause-row c))
+    (unless RowAgrees (riscv_relocation c.args.name).is_own _ (riscv_agree c.args.name))
 
 pub returns-clause-others : goal.returns-clause-others
-returns-clause-others c =
-    subst (λ row. IfSome row (RowReadsNoOther)) (sym (returns-clause-row c)) (reads_no_other c.args.name)
+returns-clause-others c = subst (λ row. IfSome row RowReadsNoOther) (sym (returns-clause-row c))
+    (unless RowReadsNoOther (riscv_relocation c.args.name).is_own _ (riscv_reads_no_other c.args.name))
