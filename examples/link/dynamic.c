@@ -29,6 +29,7 @@ void bind_symbols(void) {
     bool is_shared = !linked.is_executable;
     EACH_SYMBOL(s) {
         bool is_default = visibility_of(s) == STV_DEFAULT;
+        if (!is_defined(s) && strchr(s->name, '@')) find_version(s);
         bool is_seen = bind_of(s) != STB_LOCAL && rank(s) != 2 &&
                        (is_default || visibility_of(s) == STV_PROTECTED);
         if (s->library && is_thread_local(s) != (ELF64_ST_TYPE(s->there->st_info) == STT_TLS))
@@ -37,6 +38,8 @@ void bind_symbols(void) {
         bool may_be_there = !is_defined(s) && (s->library || bind_of(s) == STB_WEAK);
         s->is_imported = is_seen && is_default && (is_shared || may_be_there);
         s->is_exported = is_seen && is_defined(s) && (is_shared || s->is_exported);
+        if (s->is_exported && strchr(s->name, '@'))
+            fail_of(s->object, "'%s' has a version of the output, which has none", s->name);
     }
 }
 
@@ -97,8 +100,8 @@ static void make_copy(struct symbol *s) {
     bss->flags |= SHF_WRITE | SHF_ALLOC;
     uint64_t at = make_room(bss, align && align < most ? align : most, s->there->st_size);
     add_row(bss, at, types.copy, s, 0);
-    for (size_t i = 0; i < l->file.symbols_len; i++) {
-        struct symbol *alias = l->file.symbols[i];
+    for (size_t i = 0; i <= l->file.symbols_len; i++) { /* at last itself, if by its version */
+        struct symbol *alias = i < l->file.symbols_len ? l->file.symbols[i] : s;
         if (!alias || alias->library != l || alias->there->st_value != s->there->st_value ||
             alias->there->st_shndx != s->there->st_shndx || (alias->object && is_defined(alias)))
             continue;

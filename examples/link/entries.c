@@ -77,14 +77,18 @@ static void add_entry(struct section *s, Elf64_Rela *r,
 }
 
 /* Where a branch to a function whose address is in a word enters its stub, counted from the stub's
- * own entry. Where a stub can't restore what the branch's code needs, as where glibc's startup code
- * jumps to `__libc_start_main`, it enters as any other. */
+ * own entry. Where nothing restores what the branch's code needs it enters as any other. This
+ * is right for a function of the same file as linked, as a recursive one, and for
+ * `__libc_start_main`, which doesn't return. */
 static int64_t entered_at(const struct section *s, const Elf64_Rela *r) {
+    const struct symbol *to = symbol_at(s, r);
+    bool is_own = !to->is_imported || (is_defined(to) && to->object == s->object);
     struct linker_utils_stub stub;
     struct linker_utils_route route;
     uint32_t status = linker_utils_route_by_word(machine, 0, (const uint8_t *)r, sizeof *r, 0,
                                                  BYTES_OF(s), &route);
-    if (status == LINKER_UTILS_NO_ROOM) return 0;
+    if (status == LINKER_UTILS_NO_ROOM && (is_own || !strcmp(to->name, "__libc_start_main")))
+        return 0;
     check(s, r, status);
     check(s, r, linker_utils_stub(machine, route.kind, &stub));
     return (int64_t)(route.entry - stub.entry);

@@ -48,7 +48,8 @@ static int by_address(const void *left, const void *right) {
     int by = order(a->address, b->address);
     if (!by) by = order(a->rank, b->rank);
     if (!by) by = order(a->priority, b->priority);
-    return by ? by : strcmp(a->name, b->name);
+    if (!by) by = strcmp(a->name, b->name);
+    return by ? by : order(a->part, b->part);
 }
 
 /* Sorts the sections by their addresses, so far as these are known. */
@@ -89,9 +90,25 @@ uint32_t add_name(struct output *o, const char *text) {
     return (uint32_t)append(o, 1, text, strlen(text) + 1);
 }
 
+/* The part of a section into which code of a length goes. Where thunks may be needed another one
+ * begins behind so much code as each branch reaches across. */
+static struct output *part_for(struct output *o, uint64_t len) {
+    struct linker_utils_stub stub;
+    while (o->behind) o = o->behind;
+    if (!o->room || o->room + len <= MOST_PART ||
+        linker_utils_stub(machine, LINKER_UTILS_STUB_JUMP, &stub))
+        return o;
+    if (outputs_len == MOST_OUTPUTS) fail("too many sections");
+    outputs[outputs_len++] = o->behind = take(1, sizeof *o);
+    *o->behind = (struct output){.name = o->name, .align = 1, .priority = o->priority,
+                                 .part = o->part + 1, .whole = o->whole ? o->whole : o};
+    return o->behind;
+}
+
 /* Says which section a section goes into, and what that one is like. */
 void add_section(struct section *s) {
     const Elf64_Shdr *head = s->head;
+    has_code_on_stack |= head->sh_flags & SHF_EXECINSTR && !strcmp(s->name, ".note.GNU-stack");
     if (!(head->sh_flags & SHF_ALLOC) || head->sh_type == SHT_NOTE || s->is_discarded) return;
     bool has_bytes = head->sh_type != SHT_NOBITS, is_code = head->sh_flags & SHF_EXECINSTR;
     struct output *o = s->output = output_of(s->name);
@@ -99,6 +116,7 @@ void add_section(struct section *s) {
         fail_of(s->object, "a section %s is not supported", s->name);
     if (o->flags && (o->flags ^ head->sh_flags) & SHF_TLS)
         fail_of(s->object, "%s is thread-local, and elsewhere it is not", s->name);
+    if (is_code) o = s->output = part_for(o, head->sh_size);
     o->flags |= head->sh_flags;
     o->has_bytes |= has_bytes;
     o->shrinks |= shrinks && has_bytes && is_code && !(head->sh_flags & SHF_TLS);
@@ -221,7 +239,8 @@ void place_outputs(void) {
     EACH_OUTPUT(o) {
         bool is_array = o->rank >= RANK_ARRAYS && o->rank < RANK_RELOCATED;
         if (is_array && o->align < 8) o->align = 8; /* so that there is no gap between them */
-        o->address = o->is_placed ? o->place : UINT64_MAX;
+        const struct output *whole = o->whole ? o->whole : o;
+        o->address = whole->is_placed ? whole->place : UINT64_MAX;
         if (o->flags & SHF_TLS && o->align > tls.align) tls.align = o->align;
     }
     sort_outputs();

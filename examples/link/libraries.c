@@ -25,38 +25,67 @@ static void read_versions(struct library *l, const struct section *s) {
     l->versions[VER_NDX_LOCAL].name = l->versions[VER_NDX_GLOBAL].name = NULL;
 }
 
+/* The version of a library's symbol, by its number. */
+static uint16_t version_at(const struct library *l, size_t i) {
+    uint16_t version = VER_NDX_GLOBAL;
+    if (l->numbers) memcpy(&version, bytes_in(l->numbers, 2 * i, 2), 2);
+    return version;
+}
+
+/* Has a library define a symbol, if none before it does; and then no archive. */
+static void define_there(struct symbol *s, struct library *l, size_t i) {
+    if (s->library) return;
+    s->library = l;
+    s->there = &l->file.mentions[i];
+    s->version = version_at(l, i) & MOST_VERSIONS;
+    s->archive = NULL;
+}
+
 /* Notes the symbols of a library, those that it refers to among them, but for versions that only
  * old programs ask for. The first library that defines one counts, and then no archive. An indirect
  * function of a library is called as any other. */
-static void read_dynamic_symbols(struct library *l, const struct section *in,
-                                 const struct section *versions) {
+static void read_dynamic_symbols(struct library *l) {
     struct object *file = &l->file;
-    const Elf64_Sym *table = table_of(file, in->head, sizeof *table, &file->symbols_len);
-    Elf64_Sym *elf = memcpy(take(file->symbols_len, sizeof *elf), table, in->head->sh_size);
+    const Elf64_Sym *table = table_of(file, l->names->head, sizeof *table, &file->symbols_len);
+    Elf64_Sym *elf = memcpy(take(file->symbols_len, sizeof *elf), table, l->names->head->sh_size);
+    file->mentions = elf;
     file->symbols = take(file->symbols_len, sizeof *file->symbols);
     for (size_t i = 0; i < file->symbols_len; i++, elf++) {
-        uint16_t version = VER_NDX_GLOBAL;
-        if (versions) memcpy(&version, bytes_in(versions, 2 * i, 2), 2);
-        const char *name = text_at(in, elf->st_name);
+        uint16_t version = version_at(l, i);
+        const char *name = text_at(l->names, elf->st_name);
         unsigned bind = ELF64_ST_BIND(elf->st_info), type = ELF64_ST_TYPE(elf->st_info);
         bool is_hidden = version & ~MOST_VERSIONS || version == VER_NDX_LOCAL;
+        if (elf->st_shndx && type == STT_GNU_IFUNC) elf->st_info = ELF64_ST_INFO(bind, STT_FUNC);
         if (bind == STB_LOCAL || (elf->st_shndx && is_hidden)) continue;
         if (version > VER_NDX_GLOBAL && elf->st_shndx && !l->versions[version].name)
-            fail_in(in, "'%s' is of a version that is not there", name);
+            fail_in(l->names, "'%s' is of a version that is not there", name);
         struct symbol *s = file->symbols[i] = named(name);
         s->is_exported = true;
-        if (!elf->st_shndx || s->library) continue;
-        if (type == STT_GNU_IFUNC) elf->st_info = ELF64_ST_INFO(bind, STT_FUNC);
-        s->library = l;
-        s->there = elf;
-        s->version = version;
-        s->archive = NULL;
+        if (elf->st_shndx) define_there(s, l, i);
+        s->is_required |= !elf->st_shndx && bind != STB_WEAK;
+        if (s->archive && is_needed(s)) load_member(s->archive, s->offset);
     }
+}
+
+/* Looks up what only a name with a version says, as `memcpy@GLIBC_2.2.5`: that is the library's
+ * symbol of this version. The name is then the part before it. */
+void find_version(struct symbol *s) {
+    size_t len = strcspn(s->name, "@");
+    for (struct library *l = libraries; l; l = l->next)
+        for (size_t i = 0; i < l->file.symbols_len; i++) {
+            const Elf64_Sym *elf = &l->file.mentions[i];
+            const char *name = text_at(l->names, elf->st_name);
+            const char *version = l->versions[version_at(l, i) & MOST_VERSIONS].name;
+            if (elf->st_shndx && version && !strncmp(name, s->name, len) && !name[len] &&
+                !strcmp(version, s->name + len + 1))
+                define_there(s, l, i);
+        }
+    s->name = memcpy(take(len + 1, 1), s->name, len);
+    s->hash = hash_of(s->name);
 }
 
 void read_library(struct object file) {
     struct library *l = take(1, sizeof *l);
-    const struct section *symbols = NULL, *versions = NULL;
     *l = (struct library){.file = file, .versions = take(MOST_VERSIONS + 1, sizeof *l->versions)};
     l->name = strrchr(file.path, '/') ? strrchr(file.path, '/') + 1 : file.path;
     *libraries_end = l;
@@ -64,8 +93,8 @@ void read_library(struct object file) {
     read_heads(&l->file, ET_DYN, "not a shared library");
     EACH_SECTION_OF(&l->file, s) {
         uint32_t type = s->head->sh_type;
-        if (type == SHT_DYNSYM) symbols = s;
-        if (type == SHT_GNU_versym) versions = s;
+        if (type == SHT_DYNSYM) l->names = s;
+        if (type == SHT_GNU_versym) l->numbers = s;
         if (type == SHT_GNU_verdef) read_versions(l, s);
         for (uint64_t at = 0; type == SHT_DYNAMIC && at < s->head->sh_size; at += 16) {
             Elf64_Dyn entry;
@@ -74,6 +103,6 @@ void read_library(struct object file) {
             if (entry.d_tag == DT_SONAME) l->name = text_at(s, entry.d_un.d_val);
         }
     }
-    demand(&l->file, symbols, "a shared library without dynamic symbols");
-    read_dynamic_symbols(l, symbols, versions);
+    demand(&l->file, l->names, "a shared library without dynamic symbols");
+    read_dynamic_symbols(l);
 }

@@ -33,6 +33,7 @@
 #define BASE UINT64_C(0x400000)         /* where the file's header is, if no section is placed */
 #define HEADERS UINT64_C(0x400)         /* room for the headers there */
 #define MOST_BYTES UINT64_C(0x40000000) /* of a file and of a section */
+#define MOST_PART UINT64_C(0x1000000)   /* of code, between places for thunks */
 #define MOST_OUTPUTS 256                /* sections of the linked file, but for those of symbols */
 #ifndef BLOCK
 #define BLOCK ((size_t)1 << 20)         /* of memory; with 0 each use of it is by itself */
@@ -78,19 +79,22 @@ struct run {
     size_t deltas_len, heads_len;
 };
 
-/* A section of the linked file. Offsets in it count from before bytes are deleted. */
+/* A section of the linked file, or a part of it: long code has thunks between its parts, and one
+ * header. Offsets in it count from before bytes are deleted. */
 struct output {
     const char *name;
     uint64_t flags, align, len, element; /* of an element, where there is more than one byte */
     uint64_t place, address; /* by the command line; and at last, or if all bytes stayed */
+    uint64_t in_file;
     uint8_t *bytes;
     size_t room;
     /* in the file; by the command line; code that relaxes; the linker's own, of no object */
     bool has_bytes, is_placed, shrinks, is_own;
     uint16_t index;                      /* of its header; 0 where it has none */
     uint32_t type, info;                 /* in its header, as these two; of ordinary bytes if 0 */
-    unsigned rank, priority;             /* its place among the others */
+    unsigned rank, priority, part;       /* its place among the others */
     const struct output *link;
+    struct output *whole, *behind;       /* of a part: the first one, and the next */
     struct run *run;
     uint64_t base, gap; /* its offset in the run; where it shrinks the alignment before its end */
     struct linker_utils_item before; /* the alignment before it; of length 0 where there is none */
@@ -108,7 +112,9 @@ struct object {
     const Elf64_Sym *mentions;   /* of its symbols, as it says itself */
     struct symbol **symbols;     /* as all objects say */
     int64_t *addends;            /* of these; null where all are 0 */
+    struct linker_utils_kept_facts *facts; /* of these, as rewrites were chosen by them */
     size_t len, sections_len, symbols_len, mentions_len, resolved_len, symbols_room, addends_room;
+    size_t facts_len, facts_room;
     bool is_threaded, is_compressed; /* it has thread-local symbols; the shortest instructions */
 };
 
@@ -142,6 +148,7 @@ struct library {
     const char *name;         /* as programs name it */
     uint32_t name_at;         /* in the linked file */
     struct version *versions; /* by number */
+    const struct section *names, *numbers; /* its symbols, and their versions; null: none */
 };
 
 /* Its first 64 bytes are what each pass over all symbols reads. */
@@ -158,6 +165,7 @@ struct symbol {
     bool is_copied : 1, has_stub : 1, is_canonical : 1; /* its stub is its address in all files */
     bool has_group : 1, is_saver : 1; /* an object has a group of its name; of `define_runs` */
     bool is_far : 1; /* 32 bits may not hold each distance to it */
+    bool is_required : 1; /* a library refers to it, not only weakly */
     uint32_t hash;               /* of a global one's name */
     const struct object *object; /* null where only an index of an archive names it */
     const char *name;
@@ -198,6 +206,7 @@ extern uint32_t machine_flags; /* `e_flags` of all objects */
  * whether instructions are rewritten that need not be, whether PowerPC64's local-exec is, which
  * ld.lld leaves, and RISC-V's addresses near the global pointer */
 extern bool is_dynamic, shrinks, relaxes, has_short_offsets, relaxes_near;
+extern bool has_code_on_stack; /* an object says so */
 extern struct linker_utils_output_facts linked;
 extern struct linker_utils_dynamic_types types;
 extern struct linker_utils_got known_got; /* by addresses, so far as these are known */
@@ -250,7 +259,7 @@ const char *text_at(const struct section *s, uint64_t at);
 const void *table_of(const struct object *o, const Elf64_Shdr *head, size_t size, size_t *len);
 void read_file(const char *path), load_member(struct archive *a, uint64_t offset);
 /* libraries.c */
-void read_library(struct object file);
+void read_library(struct object file), find_version(struct symbol *s);
 /* symbols.c */
 uint32_t hash_of(const char *name);
 struct symbol *named(const char *name), *named_by(const char *name, uint32_t hash);
@@ -258,7 +267,7 @@ void offer(const char *name, struct archive *a, uint64_t member), list_symbol(st
 void resolve(struct symbol *known, struct symbol *s), define_symbols(void), place_symbols(void);
 int rank(const struct symbol *s);
 bool is_ifunc(const struct symbol *s), is_undefined_weak(const struct symbol *s);
-bool is_here(const struct symbol *s);
+bool is_here(const struct symbol *s), is_needed(const struct symbol *s);
 /* layout.c */
 struct output *output_of(const char *name);
 uint64_t code_unit(void), make_room(struct output *o, uint64_t align, uint64_t len);
@@ -282,7 +291,8 @@ static inline struct kind *kind_of(const struct section *s, const Elf64_Rela *r)
 }
 struct linker_utils_symbol known_symbol(const struct symbol *s, int64_t addend);
 struct linker_utils_addresses addresses_of(const struct section *s);
-void relocate_section(struct section *s, const struct linker_utils_symbol *values);
+void relocate_section(struct section *s, const struct linker_utils_symbol_facts *facts,
+                      const struct linker_utils_symbol *values);
 /* rewrite.c */
 void rewrite_object(struct object *o, uint32_t first, uint32_t last), relocate(void);
 void relax_near(bool is_final);

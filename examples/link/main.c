@@ -10,7 +10,7 @@
 
 uint16_t machine;
 uint32_t machine_flags;
-bool is_dynamic, shrinks, relaxes = true, has_short_offsets = false, relaxes_near = false;
+bool is_dynamic, shrinks, relaxes = true, has_short_offsets, relaxes_near, has_code_on_stack;
 struct output *headers, *got, *stubs, *slots, *rela, *frames, *index_of, *interpreter, *dynamic;
 struct output *dynsym, *dynstr, *hash_table, *versym, *verneed;
 
@@ -66,6 +66,7 @@ static void make_sections(void) {
     const char *name = is_dynamic ? ".rela.dyn" : ".rela_iplt";
     got = own_section(".got", SHF_WRITE, 0, 0, NULL);
     got->has_bytes = false;
+    got->align = 16; /* for instructions whose distance to what is aligned so has to be a multiple */
     stubs = own_section(is_dynamic ? ".plt" : ".iplt", SHF_EXECINSTR, 0, 0, NULL);
     slots = own_section(is_dynamic ? ".got.plt" : ".igot.plt", SHF_WRITE, 0, 0, NULL);
     index_of = own_section(".eh_frame_hdr", 0, 0, 0, NULL);

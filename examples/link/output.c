@@ -24,6 +24,7 @@ static Elf64_Phdr part(uint32_t type, uint32_t flags, uint64_t at, uint64_t len,
 /* Adds the header of a section. */
 static void add_head(struct output *o, uint64_t offset) {
     o->index = (uint16_t)heads_len;
+    o->in_file = offset;
     heads[heads_len++] = (Elf64_Shdr){
         .sh_name = add_name(&strings, o->name), .sh_addr = o->address, .sh_offset = offset,
         .sh_type = o->type ? o->type : o->has_bytes ? SHT_PROGBITS : SHT_NOBITS,
@@ -96,7 +97,7 @@ static void write_parts(const char *path, const Elf64_Ehdr *head) {
     write_part(file, head->e_phoff, loads, head->e_phnum * sizeof *loads);
     EACH_OUTPUT(o)
         if (o->index && o->has_bytes)
-            write_part(file, heads[o->index].sh_offset, o->bytes, o->len);
+            write_part(file, o->in_file, o->bytes, o->len);
     write_part(file, head->e_shoff, heads, head->e_shnum * sizeof *heads);
     bool is_ordinary = !fstat(fileno(file), &status) && S_ISREG(status.st_mode);
     bool holds = !ferror(file) && (!is_ordinary || !fchmod(fileno(file), 0755));
@@ -130,7 +131,8 @@ static uint64_t put_sections(void) {
     EACH_OUTPUT(o) {
         uint64_t bytes = o->has_bytes ? o->len : 0;
         if (o->flags & SHF_TLS && bytes) image = o->address + o->len - tls.image;
-        if (o->len && o != headers) add_head(o, offset);
+        if (o->whole) o->index = o->whole->index;
+        if (o->len && !o->index && o != headers) add_head(o, offset);
         if (!o->len || (o->flags & SHF_TLS && !bytes)) continue;
         if (o->address < end) fail("section %s overlaps the one before it", o->name);
         uint32_t flags = PF_R | (o->flags & SHF_WRITE ? PF_W : 0u);
@@ -145,7 +147,9 @@ static uint64_t put_sections(void) {
         if (!bytes) continue;
         load->p_filesz = load->p_memsz;
         offset = load->p_offset + load->p_memsz;
-        heads[o->index].sh_offset = o->index ? offset - bytes : 0;
+        o->in_file = offset - bytes;
+        if (o->whole) heads[o->index].sh_size = end - heads[o->index].sh_addr;
+        else if (o->index) heads[o->index].sh_offset = o->in_file;
     }
     if (tls.len) *++load = part(PT_TLS, PF_R, tls.image, tls.len, tls.align);
     if (tls.len) load->p_filesz = image;
@@ -164,7 +168,7 @@ void write_file(const char *path, uint64_t entry, bool has_symbols) {
     if (len) *++load = part(PT_GNU_EH_FRAME, PF_R, index_of->address, len, 4);
     if (is_dynamic) add_dynamic_parts();
     if (write_dynamic()) head.e_ident[EI_OSABI] = ELFOSABI_GNU;
-    *++load = part(PT_GNU_STACK, PF_R | PF_W, 0, 0, 16);
+    *++load = part(PT_GNU_STACK, PF_R | PF_W | (has_code_on_stack ? PF_X : 0u), 0, 0, 16);
     head.e_phnum = (uint16_t)(load + 1 - loads);
     if (headers->len && sizeof head + head.e_phnum * sizeof *loads > headers->len)
         fail("too many segments");

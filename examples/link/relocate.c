@@ -103,9 +103,10 @@ static void change_number(const struct section *s, Elf64_Rela *r, int64_t value)
     drop(r);
 }
 
-/* Writes the values of a section's relocations. Those at ULEB128 numbers that are there are first,
- * each by itself. */
-void relocate_section(struct section *s, const struct linker_utils_symbol *values) {
+/* Writes the values of a section's relocations, if facts are as rewrites were chosen by them. Those
+ * at ULEB128 numbers that are there are first, each by itself. */
+void relocate_section(struct section *s, const struct linker_utils_symbol_facts *facts,
+                      const struct linker_utils_symbol *values) {
     static uint64_t *memory; /* for one section after another */
     static size_t room;
     size_t count = s->object->symbols_len, at = 0;
@@ -119,8 +120,9 @@ void relocate_section(struct section *s, const struct linker_utils_symbol *value
     }
     size_t memory_len = linker_utils_relocate_memory(TABLE_OF(s));
     memory = grow(memory, memory_len, &room, sizeof *memory);
-    uint32_t status = linker_utils_relocate_section(machine, &here, TABLE_OF(s), values, count,
-                                                    BYTES_OF(s), memory, memory_len, &at);
+    uint32_t status = linker_utils_relocate_rewritten_section(
+        machine, &linked, facts, count, s->object->facts, count, &here, TABLE_OF(s), values, count,
+        BYTES_OF(s), memory, memory_len, &at);
     if (!status) return;
     const Elf64_Rela *r = &s->relocations[at];
     const struct linker_utils_relocation_reach *reach = &kind_of(s, r)->reach;

@@ -25,7 +25,8 @@ static bool is_code(const struct section *s) {
 }
 
 /* Notes what is known of an object's symbols, and returns whether relocations may have to be
- * hidden. An indirect function's address is known once it has a stub. */
+ * hidden. What choices read is the same in each phase: also of a variable that is copied here and of
+ * an indirect function that has a stub, and whatever other relocations have got symbols since. */
 static bool note_symbols(struct object *o, bool has_addresses) {
     static size_t rooms[3];
     bool hides = !relaxes || has_far_symbols;
@@ -41,9 +42,13 @@ static bool note_symbols(struct object *o, bool has_addresses) {
         hides |= !s->is_imported && !is_here(s) && stt_of(s) != STT_FILE;
         o->is_threaded |= is_thread_local(s);
         facts[i] = (struct linker_utils_symbol_facts){
-            .is_local = !s->is_imported, .is_ifunc = is_ifunc(s) && s->output != stubs,
-            .other = s->elf.st_other, .is_tls_get_addr = s == tls_get_addr};
+            .is_local = !s->is_imported && !s->is_copied, .is_ifunc = is_ifunc(s),
+            .other = is_ifunc(s) ? 0 : s->elf.st_other, .is_tls_get_addr = s == tls_get_addr};
     }
+    o->facts = grow(o->facts, len, &o->facts_room, sizeof *o->facts);
+    linker_utils_keep_facts(&linked, facts + o->facts_len, len - o->facts_len,
+                            o->facts + o->facts_len, len - o->facts_len);
+    o->facts_len = len;
     return hides;
 }
 
@@ -201,6 +206,6 @@ void relocate(void) {
     uint32_t last = LINKER_UTILS_PHASE_DISTANCES;
     EACH_OBJECT(o) {
         rewrite_object(o, relaxes ? LINKER_UTILS_PHASE_GOT_LOADS : last + 1, last);
-        EACH_SECTION_OF(o, s) if (s->relocations_len) relocate_section(s, values);
+        EACH_SECTION_OF(o, s) if (s->relocations_len) relocate_section(s, facts, values);
     }
 }

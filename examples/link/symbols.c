@@ -112,6 +112,13 @@ void resolve(struct symbol *known, struct symbol *s) {
     if (before < 1 && after == 1 && known->archive) load_member(known->archive, known->offset);
 }
 
+/* Whether a member of an archive is linked that defines a symbol: an object or a library refers to
+ * it, not only weakly, and no object defines it. */
+bool is_needed(const struct symbol *s) {
+    int known = s->object ? rank(s) : 0;
+    return known == 1 || (!known && s->is_required);
+}
+
 /* A symbol of an archive's index. The first archive that has it counts. A member that is needed
  * already is loaded. */
 void offer(const char *name, struct archive *a, uint64_t member) {
@@ -119,7 +126,7 @@ void offer(const char *name, struct archive *a, uint64_t member) {
     if (s->archive || s->library) return;
     s->archive = a;
     s->offset = member;
-    if (s->object && rank(s) == 1) load_member(a, member);
+    if (is_needed(s)) load_member(a, member);
 }
 
 /* Puts a symbol behind the others, once. */
