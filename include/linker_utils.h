@@ -36,9 +36,9 @@
  *   statuses apply, the first in the order that the call names is returned. Other calls can't fail.
  * - `faulty` may be null. If the status is about one entry of an array, the index of that entry is
  *   written there; with any other status nothing is.
- * - Only a call that may return `LINKER_UTILS_OUT_OF_MEMORY` allocates, and for their speed
- *   `linker_utils_shrink_calls` and `linker_utils_deletions_mergeable`. Such a call is not for a
- *   signal handler, nor for the forked child of a process with threads.
+ * - Only a call that may return `LINKER_UTILS_OUT_OF_MEMORY` allocates, and for its speed
+ *   `linker_utils_deletions_mergeable`. Such a call is not for a signal handler, nor for the forked
+ *   child of a process with threads.
  *
  * Examples, of docs/MANUAL.md by tools/manual; each goes on from those before it:
  *

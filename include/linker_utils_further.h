@@ -909,10 +909,8 @@ static inline uint32_t linker_utils_calls_shrinkable(
  * LINKER_UTILS_DIFFERENT_LENGTHS where `chosen_len` is not `calls_len`.
  * LINKER_UTILS_CALLS_NOT_SHRINKABLE as `linker_utils_calls_shrinkable`. It takes 9 KiB of the
  * stack. For k calls and n deltas a test of a call takes O(log n + log k + k / 1024). All calls are
- * tested once or twice, and between that those that others take out of reach, which takes
- * O(k log k log k) more. For these it allocates at most 120 bytes for each call that is in reach
- * only with others, and frees them. Out of memory, it returns no error, but tests all calls up to k
- * times. */
+ * tested, up and down in turn, until none is dropped. Calls that turn around n times, each in reach
+ * only with the one before, may be tested n times. `linker_utils_relax` is the call for a linker. */
 static inline uint32_t linker_utils_shrink_calls(
     const struct linker_utils_delta *deltas, size_t deltas_len,
     const struct linker_utils_call *calls, size_t calls_len, uint8_t *chosen, size_t chosen_len,

@@ -162,22 +162,48 @@ fn reads(calls: &[Call]) -> usize {
     READS.get()
 }
 
-/// A call is tested again once enough others are dropped, so that two sweeps do: by sweeps alone, or
-/// where other calls are tested again, each sweep over the first of these chains drops one call.
+const REACH: u64 = 1 << 20;
+
+/// A call whose target lies above all calls. It is in reach where so many calls from it on are
+/// chosen.
+fn ahead(index: u64, needed: u64) -> Call {
+    let site = 2 * REACH + 8 * index;
+    Call { site, target: site + REACH - 2 + 4 * needed }
+}
+
+/// A call whose target lies below all calls. It is in reach where so many calls before it are chosen.
+fn back(index: u64, needed: u64) -> Call {
+    let site = 2 * REACH + 8 * index;
+    Call { site, target: site - REACH - 4 * needed }
+}
+
+/// Sweeps go up and down in turn: where each call is in reach only with those after it, or each only
+/// with those before it, a sweep in the other direction drops all.
 #[test]
-fn calls_that_depend_on_each_other_take_two_sweeps() {
-    const REACH: u64 = 1 << 20;
+fn chains_in_one_direction_take_a_few_sweeps() {
     const COUNT: u64 = 2000;
-    let site = |k| 2 * REACH + 8 * k;
-    // in reach once so many calls from this one on have given up their bytes
-    let ahead = |k, needed| Call { site: site(k), target: site(k) + REACH - 2 + 4 * needed };
     let of_next: Vec<Call> = (0..COUNT).map(|k| ahead(k, 2)).collect();
-    // 1201 and the number of calls have no common factor, so that the turns are all different
-    let turn = |k| 1201 * k % COUNT;
-    let left = |k| (k..COUNT).filter(|other| turn(*other) >= turn(k)).count() as u64;
-    let in_any_order: Vec<Call> = (0..COUNT).map(|k| ahead(k, left(k) + 1)).collect();
-    for calls in [of_next, in_any_order] {
+    let of_last: Vec<Call> = (0..COUNT).map(|k| back(k, 1)).collect();
+    for calls in [of_next, of_last] {
         let reads = reads(&calls);
         assert!(reads < 24 * calls.len(), "{reads}");
     }
+}
+
+/// The calls go out of reach from the middle on, one below and one above it in turn, so that each
+/// sweep drops one.
+#[test]
+fn chains_that_turn_around_take_a_sweep_for_each_turn() {
+    const COUNT: u64 = 200;
+    const MIDDLE: u64 = COUNT / 2;
+    let turn = |k| if k < MIDDLE { 2 * (MIDDLE - k) - 1 } else { 2 * (k - MIDDLE) };
+    let later = |k, others: std::ops::Range<u64>| others.filter(|j| turn(*j) >= turn(k)).count();
+    let calls: Vec<Call> = (0..COUNT)
+        .map(|k| match k < MIDDLE {
+            true => ahead(k, later(k, k..COUNT) as u64 + 1),
+            false => back(k, later(k, 0..k) as u64 + 1),
+        })
+        .collect();
+    let reads = reads(&calls);
+    assert!(reads > calls.len() * calls.len(), "{reads}");
 }

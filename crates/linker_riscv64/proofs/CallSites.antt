@@ -1,11 +1,13 @@
--- How far a call's target stands from its site once the deleted bytes are gone.
-use Rattle.std.proofs.Common.{◌≡◌, ℕ, ◌+◌, ◌<◌, ◌≤◌, ◌^◌, List, length, take, drop, ◌-◌, ap, ◌∙◌, arith, pos, ◌-ℤ◌, ℤ, w64, FitsSigned, to_z, of_z}
+-- A call's site, and how far its target stands from it once the deleted bytes are gone.
+use Rattle.std.proofs.Common.{◌≡◌, ℕ, ◌+◌, ◌<◌, ◌≤◌, ◌^◌, List, ◌/◌, ap, ◌∙◌, arith, pos, ◌-ℤ◌, ℤ, w64, FitsSigned, to_z, of_z}
 use Rattle.std.proofs.lemmas.Int.{to_z-of_z}
 use Rattle.linker_base.specs.Deletions.{rank}
-use Rattle.linker_base.proofs.Rank.{rank-le}
-use Rattle.std.specs.Int.{w32, from_le_bytes}
-use Rattle.std.proofs.lemmas.List.{take_rest}
-use Rattle.linker_riscv64.specs.RiscVCalls.{output_distance, word_at}
+use Rattle.linker_base.proofs.Rank.{rank-le, rank-mono, rank_all_kept}
+use Rattle.linker_base.specs.Bits.{field}
+use Rattle.std.proofs.lemmas.Nat.{mod_below}
+use Rattle.linker_riscv64.specs.RiscVCalls.{call_len, link_register, output_distance, word_at, IsSiteKept}
+use Rattle.linker_riscv64.specs.declared.calls.LinkRegister.{LinkRegister}
+use Rattle.linker_riscv64.specs.declared.calls.LinkRegister.TheVariants.{OfAuipc, OfJalr}
 
 -- the difference of the output offsets that the code has taken
 pub distance_is : (ds : List (ℕ × ℕ)) (site target from to len : ℕ) (d : ℤ) → FitsSigned w64 d
@@ -18,6 +20,19 @@ distance_is ds site target from to len d wide taken room low short is_from is_to
     ∙ ap (λ n. pos n -ℤ pos from) is_to
     ∙ ap (λ n. pos (rank ds target) -ℤ pos n) is_from
 
--- the word at a site, as the code takes it
-pub word_taken : (s : List ℕ) (site x : ℕ) → x ≡ from_le_bytes w32 (take (length s - site) (drop site s)) → x ≡ word_at s site
-word_taken s site x e = e ∙ ap (from_le_bytes w32) (take_rest s site)
+pub four_of : (link : LinkRegister) → 4 ≤ call_len link
+four_of OfAuipc = omega arith
+four_of OfJalr = omega arith
+
+destination_small : (word : ℕ) → field word 7 12 < 32
+destination_small word = mod_below (word / 2 ^ 7) (2 ^ 5) (omega arith)
+
+pub register_small : (link : LinkRegister) (s : List ℕ) (site : ℕ) → link_register link s site < 32
+register_small OfAuipc s site = destination_small (word_at s site)
+register_small OfJalr s site = destination_small (word_at s (site + 4))
+
+-- the four kept bytes at a site lie in what is packed
+pub site_fits : (ds : List (ℕ × ℕ)) (site len : ℕ) → IsSiteKept ds site → site + 4 ≤ len → (rank ds (site + 4) ≡ rank ds site + 4) × (rank ds site + 4 ≤ rank ds len)
+site_fits ds site len kept room =
+    let four = rank_all_kept ds site 4 kept in
+    (four, omega (arith, four, rank-mono ds (site + 4) len room))

@@ -1,6 +1,6 @@
 -- How a section is packed: the jumps in it.
 use Rattle.std.proofs.Common.{◌≡◌, ℕ, suc, ◌+◌, ◌-◌, ◌<◌, ◌≤◌, true, List, ◌++◌, length, get_or, take, drop, sym, subst, ◌∙◌, ap, arith, inl, inr, ℤ}
-use Rattle.std.specs.Prelude.{◌↔◌, ◌⊎◌, IsOk, OnOk, Result, Ok, Err, All}
+use Rattle.std.specs.Prelude.{◌↔◌, IsOk, IfErr, OnOk, Result, Ok, Err, All}
 use Rattle.std.proofs.lemmas.Bool.{cases_lt}
 use Rattle.std.proofs.lemmas.List.{length-take, get_or-take, get_or-drop, get_or_default, append_assoc, take_at, drop_at, drop-drop}
 use Rattle.linker_base.specs.Deletions.{is_kept, rank}
@@ -9,12 +9,16 @@ use Rattle.std.specs.Int.{w32, from_le_bytes}
 use Rattle.linker_base.specs.Bits.{field}
 use Rattle.linker_riscv64.specs.Inner.Packing.{IsPackedTo, AreApartTo}
 use Rattle.linker_base.specs.Inner.Packing.{IsFilled}
-use Rattle.linker_riscv64.specs.Packing.{AreApart, CanJump, IsCallInSection, IsRejected, IsNotAt, IsPacked}
+use Rattle.linker_riscv64.specs.Packing.{AreApart, CanJump, IsCallInSection, IsFirstRejected, IsRejected, IsNotAt, IsPacked}
 use Rattle.linker_riscv64.specs.RiscVCalls.{word_at, call_len, link_register, output_distance, IsEven, IsJal, IsJalDistance, IsSiteKept, JumpsAt, JumpsAndLinks, NamesRegister}
 use Rattle.linker_riscv64.specs.declared.calls.CallError.{CallError}
-use Rattle.linker_riscv64.specs.declared.calls.CallError.TheVariants.{OddDistance, TooFar}
-use Rattle.linker_riscv64.specs.declared.calls.JumpError.TheVariants.{Call}
+use Rattle.linker_riscv64.specs.declared.calls.CallError.TheVariants.{OutOfSection, SiteDeleted, OddDistance, TooFar}
+use Rattle.linker_riscv64.specs.declared.calls.JumpError.{JumpError}
+use Rattle.linker_riscv64.specs.declared.calls.JumpError.TheVariants.{Call, NotACall}
 use Rattle.linker_riscv64.specs.declared.calls.LinkRegister.{LinkRegister}
+use Rattle.linker_riscv64.specs.declared.packing.RejectedCall.{RejectedCall}
+use Rattle.linker_base.specs.Deltas.{deletions_of}
+use Rattle.linker_base.specs.declared.relaxation.RelaxDelta.{RelaxDelta}
 use Rattle.linker_riscv64.specs.declared.calls.LinkRegister.TheVariants.{OfAuipc, OfJalr}
 use Rattle.linker_riscv64.proofs.Jumps.{word_of_front}
 
@@ -55,27 +59,36 @@ jump_put s p0 bytes p1 p2 link site at d four taken room put jumps =
           ∙ ap (λ k. drop (at + k) p0) four;
     }
 
-pub four_of : (link : LinkRegister) → 4 ≤ call_len link
-four_of OfAuipc = omega arith
-four_of OfJalr = omega arith
-
--- what holds where there is a value
-pub on_ok : {A E : Type 0} (r : Result A E) (P : Type 0) → IsOk r → OnOk r P → P
-on_ok (Ok a) P is h = h
-on_ok (Err e) P is h = cc
-
 -- ---- calls
 
--- a call whose jump's distance is rejected is rejected for that
-pub distance_rejected : (link : LinkRegister) (ds : List (ℕ × ℕ)) (s : List ℕ) (call : ℕ × ℕ) (d : ℤ) (r : Result Unit CallError) (e : CallError)
-    → d ≡ output_distance ds call.0 call.1 → IsCallInSection link s call → IsSiteKept ds call.0 → NamesRegister link s call.0 → r ≡ Err e
-    → ((r ≡ Err OddDistance) ↔ ¬ IsEven d) → ((r ≡ Err TooFar) ↔ (IsEven d × ¬ IsJalDistance d)) → (e ≡ OddDistance) ⊎ (e ≡ TooFar) → IsRejected link ds s call (Call e)
-distance_rejected link ds s call d r e far inside kept names is odd too_far listed = elim listed [
-  | inl odd_is ↦ rw odd_is (inside, kept, names, subst (λ d. IsEven d → ⊥) far (odd.0 (is ∙ ap Err odd_is)))
-  | inr far_is ↦
-      let fails = too_far.0 (is ∙ ap Err far_is) in
-      rw far_is (inside, kept, names, subst IsEven far fails.0, subst (λ d. IsJalDistance d → ⊥) far fails.1)
-]
+-- a call whose jump `jal_site` rejects is rejected for that
+module _ (link : LinkRegister) (ds : List (ℕ × ℕ)) (s : List ℕ) (call : ℕ × ℕ) (d : ℤ) (r : Result Unit CallError) (room : Type 0)
+    (far : d ≡ output_distance ds call.0 call.1)
+    (inside : IsCallInSection link s call)
+    (kept : IsSiteKept ds call.0)
+    (names : NamesRegister link s call.0)
+    (fits : room)
+    (accepted : IsOk r ↔ (room × IsEven d × IsJalDistance d))
+    (out : (r ≡ Err OutOfSection) → room → ⊥)
+    (odd : (r ≡ Err OddDistance) ↔ (room × ¬ IsEven d))
+    (too_far : (r ≡ Err TooFar) ↔ (room × IsEven d × ¬ IsJalDistance d)) where
+  pub jal_rejected : (e : CallError) → r ≡ Err e → IsRejected link ds s call (Call e)
+  jal_rejected OutOfSection is = absurd (out is fits)
+  jal_rejected SiteDeleted is =
+      let even : (IsEven d → ⊥) → ⊥ = λ no. let other = odd.1 (fits, no) in cc in
+      absurd (even (λ e. let far : (IsJalDistance d → ⊥) → ⊥ = λ no. let other = too_far.1 (fits, e, no) in cc in far (λ j. let ok = accepted.1 (fits, e, j) in cc)))
+  jal_rejected OddDistance is = (inside, kept, names, subst (λ d. IsEven d → ⊥) far (odd.0 is).1)
+  jal_rejected TooFar is =
+      let fails = too_far.0 is in
+      (inside, kept, names, subst IsEven far fails.1, subst (λ d. IsJalDistance d → ⊥) far fails.2)
+
+-- a call that can become a jump isn't rejected
+pub not_rejected : (link : LinkRegister) (ds : List (ℕ × ℕ)) (s : List ℕ) (call : ℕ × ℕ) (e : JumpError) → CanJump link ds s call → IsRejected link ds s call e → ⊥
+not_rejected link ds s call (Call OutOfSection) can fails = fails can.inside
+not_rejected link ds s call (Call SiteDeleted) can fails = fails.1 can.kept
+not_rejected link ds s call NotACall can fails = fails.2 can.names
+not_rejected link ds s call (Call OddDistance) can fails = fails.3 can.even
+not_rejected link ds s call (Call TooFar) can fails = fails.4 can.near
 
 -- the first calls with one more
 pub calls_more : (P : ℕ × ℕ → Type 0) (js : List (ℕ × ℕ)) (k : ℕ) (j : ℕ × ℕ) → k < length js → ((i : ℕ) (d : ℕ × ℕ) → i < k → P (get_or js i d)) → get_or js k (0, 0) ≡ j → P j
@@ -86,12 +99,6 @@ calls_more P js k j within before is here i d low =
       | inr at ↦ let same : i ≡ k = omega arith in rw same (subst P (sym (get_or_default js k d (0, 0) within ∙ is)) here)
     ]
 
--- where a call's jump goes: its four bytes lie in what is packed
-pub jump_fits : (link : LinkRegister) (ds : List (ℕ × ℕ)) (s : List ℕ) (call : ℕ × ℕ) → CanJump link ds s call → (rank ds (call.0 + 4) ≡ rank ds call.0 + 4) × (rank ds call.0 + 4 ≤ rank ds (length s))
-jump_fits link ds s call can =
-    let four = rank_all_kept ds call.0 4 can.kept in
-    (four, omega (arith, four, rank-mono ds (call.0 + 4) (length s) (omega (arith, can.inside.0, four_of link))))
-
 words_same : (xs ys : List ℕ) → ((i : ℕ) → i < 4 → get_or xs i 0 ≡ get_or ys i 0) → from_le_bytes w32 xs ≡ from_le_bytes w32 ys
 words_same xs ys same = omega (arith, same 0 (omega arith), same 1 (omega arith), same 2 (omega arith), same 3 (omega arith))
 
@@ -99,11 +106,14 @@ module _ (link : LinkRegister) (ds : List (ℕ × ℕ)) (s : List ℕ) (js : Lis
     (within : k < length js)
     (is : get_or js k (0, 0) ≡ call)
     (apart : AreApart js)
-    (can : All (CanJump link ds s) js)
+    (can : (i : ℕ) (d : ℕ × ℕ) → i < k + 1 → CanJump link ds s (get_or js i d))
     (before : IsPackedTo link ds s js k p0)
     (put : JumpsAndLinks p0 p1 (rank ds call.0) (link_register link s call.0) (output_distance ds call.0 call.1)) where
   can_here : CanJump link ds s call
-  can_here = subst (CanJump link ds s) is (can k (0, 0) within)
+  can_here = subst (CanJump link ds s) is (can k (0, 0) (omega arith))
+
+  fits : (c : ℕ × ℕ) → CanJump link ds s c → rank ds (c.0 + 4) ≡ rank ds c.0 + 4
+  fits c can = rank_all_kept ds c.0 4 can.kept
 
   below_same : (y : ℕ) → y < rank ds call.0 → get_or p1 y 0 ≡ get_or p0 y 0
   below_same y h =
@@ -125,7 +135,7 @@ module _ (link : LinkRegister) (ds : List (ℕ × ℕ)) (s : List ℕ) (js : Lis
   stays p kept off =
       elim (cases_lt p call.0) [
         | inl low ↦ below_same (rank ds p) (omega (arith, rank_kept ds p kept, rank-mono ds (suc p) call.0 (omega arith)))
-        | inr high ↦ above_same (rank ds p) (omega (arith, (jump_fits link ds s call can_here).0, rank-mono ds (call.0 + 4) p (off high)))
+        | inr high ↦ above_same (rank ds p) (omega (arith, fits call can_here, rank-mono ds (call.0 + 4) p (off high)))
       ]
 
   word_stays : (b : ℕ) → b + 4 ≤ rank ds call.0 → word_at p1 b ≡ word_at p0 b
@@ -136,7 +146,7 @@ module _ (link : LinkRegister) (ds : List (ℕ × ℕ)) (s : List ℕ) (js : Lis
   earlier i d low =
       let gap : (get_or js i d).0 + 4 ≤ call.0 =
       subst (λ (c : ℕ × ℕ). (get_or js i d).0 + 4 ≤ c.0) (get_or_default js k d (0, 0) within ∙ is) (apart i k d low within) in
-      omega (arith, (jump_fits link ds s (get_or js i d) (can i d (omega arith))).0, rank-mono ds ((get_or js i d).0 + 4) call.0 gap)
+      omega (arith, fits (get_or js i d) (can i d (omega arith)), rank-mono ds ((get_or js i d).0 + 4) call.0 gap)
 
   pub calls_step : IsPackedTo link ds s js (k + 1) p1
   calls_step = record {
@@ -168,6 +178,23 @@ calls_start link ds s js p filled = record {
       ap (λ n. get_or p n 0) (sym place) ∙ filled i low (omega arith) (subst (λ n. is_kept ds n ≡ true) (sym same) kept);
   jumps = λ i d low. absurd (omega arith);
 }
+
+-- what is packed by deltas that are the same, where no call is rejected
+pub packed_over : (link : LinkRegister) (listed deltas : List RelaxDelta) (s : List ℕ) (calls : List (ℕ × ℕ)) (before after : List ℕ) (r : Result Unit RejectedCall)
+    → listed ≡ deltas
+    → All (CanJump link (deletions_of listed) s) calls
+    → length before ≡ rank (deletions_of deltas) (length s)
+    → AreApart calls
+    → IsFilled (deletions_of deltas) 0 s before
+    → IfErr r (λ rejected. IsFirstRejected link (deletions_of listed) s calls rejected.index rejected.error)
+    → (length before ≡ rank (deletions_of listed) (length s) → AreApart calls → IsFilled (deletions_of listed) 0 s before → OnOk r (IsPacked link (deletions_of listed) s calls after))
+    → IsPacked link (deletions_of deltas) s calls after
+packed_over link listed deltas s calls before after (Ok u) same can room apart filled rejected packed =
+    subst (λ (ds : List RelaxDelta). IsPacked link (deletions_of ds) s calls after) same
+    (packed (subst (λ (ds : List RelaxDelta). length before ≡ rank (deletions_of ds) (length s)) (sym same) room) apart
+    (subst (λ (ds : List RelaxDelta). IsFilled (deletions_of ds) 0 s before) (sym same) filled))
+packed_over link listed deltas s calls before after (Err e) same can room apart filled rejected packed =
+    absurd (not_rejected link (deletions_of listed) s (get_or calls e.index (0, 0)) e.error (can e.index (0, 0) rejected.within) (rejected.here (0, 0)))
 
 -- ---- sites
 

@@ -1,9 +1,11 @@
 //! RISC-V: calls that become jumps.
 
 ghost use Rattle.std.specs.Prelude.{◌≡◌, ◌≤◌, ◌<◌, ◌+◌, ◌^◌, ◌↔◌, ◌⊎◌, ℕ, IsTrue, IsOk, OnOk};
-ghost use Rattle.std.specs.Prelude.{OnErr, IfErr, IsNone, IfSome, length, pos, ◌-ℤ◌};
+ghost use Rattle.std.specs.Prelude.{OnErr, IfOk, IfErr, IsNone, IfSome, length, pos, ◌-ℤ◌};
 ghost use Rattle.linker_base.specs.Deltas.{deletions_of};
 ghost use Rattle.linker_base.specs.Blocks.{IsValidView};
+ghost use Rattle.linker_riscv64.specs.Inner.Packing.{IsJumpOf};
+ghost use Rattle.linker_riscv64.specs.Packing.{IsCallInSection};
 ghost use Rattle.linker_riscv64.specs.RiscVCalls.{IsEven, IsJalDistance, JumpsAndLinks, JumpsAt};
 ghost use Rattle.linker_riscv64.specs.RiscVCalls.{IsInSection, IsSiteKept, output_distance};
 ghost use Rattle.linker_riscv64.specs.RiscVCalls.{IsCallPair};
@@ -30,13 +32,6 @@ pub fn distance_fits_jal(distance: i64) -> bool
     ensures { IsTrue result ↔ IsJalDistance distance }
 {
     JAL_MIN <= distance && distance <= JAL_MAX
-}
-
-#[inline]
-fn is_even(distance: i64) -> bool
-    ensures { IsTrue result ↔ IsEven distance }
-{
-    distance.cast_unsigned() % 2 == 0
 }
 
 /// Whether the eight bytes at a site of a section are a call that `CallToJal` makes a jump
@@ -211,32 +206,12 @@ pub(super) fn test_distance(distance: i64) -> Result<(), CallError>
     ensures listed { IfErr result
         (λ error. (error ≡ CallError.OddDistance) ⊎ (error ≡ CallError.TooFar)) }
 {
-    if !is_even(distance) {
+    if distance.cast_unsigned() % 2 != 0 {
         return Err(CallError::OddDistance);
     }
     if !distance_fits_jal(distance) {
         return Err(CallError::TooFar);
     }
-    Ok(())
-}
-
-/// Puts a `jal` by a distance in bytes, which links a register, in place of the four bytes at a
-/// site. The errors are `OddDistance` and `TooFar`, the first of them that applies.
-fn put_jal(section: &mut [u8], site: u64, register: u32, distance: i64) -> Result<(), CallError>
-    requires inside { site + 4 ≤ length section.old }
-    requires register_fits { register < 32 }
-    ensures jumps { OnOk result (JumpsAndLinks section.old section.new site register distance) }
-    ensures accepted { IsOk result ↔ (IsEven distance × IsJalDistance distance) }
-    ensures odd_distance { (result ≡ Err CallError.OddDistance) ↔ ¬ IsEven distance }
-    ensures too_far { (result ≡ Err CallError.TooFar)
-        ↔ (IsEven distance × ¬ IsJalDistance distance) }
-    ensures unchanged { OnErr result (section.new ≡ section.old) }
-{
-    test_distance(distance)?;
-    let jal = 0x6f | register << 7;
-    overwrite(section, site, &jal.to_le_bytes());
-    let jal = &mut section[site as usize..];
-    RiscVInstruction::JType.write_to_value(distance.cast_unsigned(), distance < 0, jal);
     Ok(())
 }
 
@@ -259,11 +234,11 @@ pub fn jal_site(section: &mut [u8], site: u64, distance: i64) -> Result<(), Call
         ↔ ((site + 4 ≤ length section.old) × IsEven distance × ¬ IsJalDistance distance) }
     ensures unchanged { OnErr result (section.new ≡ section.old) }
 {
-    if !has_window(section, site, 0, 4) {
-        return Err(CallError::OutOfSection);
+    match jal_site_with(section, site, distance, LinkRegister::OfAuipc) {
+        Ok(()) => Ok(()),
+        Err(JumpError::Call(error)) => Err(error),
+        Err(JumpError::NotACall) => unreachable!(),
     }
-    let auipc = u32_from_slice(&section[site as usize..]);
-    put_jal(section, site, destination(auipc), distance)
 }
 
 /// Replaces the call at a site of a section by a `jal` over a distance in bytes. The jump is in
@@ -306,8 +281,52 @@ pub fn jal_site_with(
     let Some(register) = link.named_at(section, site) else {
         return Err(JumpError::NotACall);
     };
-    put_jal(section, site, register, distance)?;
+    test_distance(distance)?;
+    let jal = 0x6f | register << 7;
+    overwrite(section, site, &jal.to_le_bytes());
+    let jal = &mut section[site as usize..];
+    RiscVInstruction::JType.write_to_value(distance.cast_unsigned(), distance < 0, jal);
     Ok(())
+}
+
+/// Where a call stands once the deleted bytes are gone, and how far its jump goes then.
+#[derive(Clone, Copy)]
+pub(super) struct Jump {
+    pub(super) output_offset: u64,
+    pub(super) distance: i64,
+}
+
+/// The jump that a call becomes. The bytes that say which register it links have to lie in the
+/// section. The errors are `OutOfSection` and `SiteDeleted`, the first of them that applies.
+pub(super) fn jump_of(
+    section: &[u8],
+    deltas: &DeltaSlice<'_>,
+    site: u64,
+    target: u64,
+    link: LinkRegister,
+) -> Result<Jump, CallError>
+    ensures inside { OnOk result (IsCallInSection link section.now (site, target)) }
+    ensures jump { IsValidView deltas.now → IfOk result
+        (IsJumpOf (deletions_of deltas.now.deltas) site target) }
+    ensures out_of_section { (result ≡ Err CallError.OutOfSection)
+        ↔ ¬ IsCallInSection link section.now (site, target) }
+    ensures site_deleted { IsValidView deltas.now → ((result ≡ Err CallError.SiteDeleted)
+        ↔ (IsCallInSection link section.now (site, target)
+        × ¬ IsSiteKept (deletions_of deltas.now.deltas) site)) }
+    ensures listed { IfErr result
+        (λ error. (error ≡ CallError.OutOfSection) ⊎ (error ≡ CallError.SiteDeleted)) }
+{
+    if !has_window(section, site, 0, link.call_len()) || target > section.len() as u64 {
+        return Err(CallError::OutOfSection);
+    }
+    let Some(output_offset) = deltas.kept_output_offset(site, 4) else {
+        return Err(CallError::SiteDeleted);
+    };
+    let to = deltas.input_to_output_offset(target);
+    Ok(Jump {
+        output_offset,
+        distance: distance_between(output_offset, to),
+    })
 }
 
 /// Replaces a call by a jump as `jal_site` does, in a section whose bytes are where they were
@@ -379,18 +398,6 @@ pub fn relax_call_over(
         × ¬ IsJalDistance (output_distance (deletions_of deltas.now.deltas) site target))) }
     ensures unchanged { OnErr result (section.new ≡ section.old) }
 {
-    if !has_window(section, site, 0, 4) || target > section.len() as u64 {
-        return Err(CallError::OutOfSection);
-    }
-    let Some(from) = deltas.kept_output_offset(site, 4) else {
-        return Err(CallError::SiteDeleted);
-    };
-    let to = deltas.input_to_output_offset(target);
-    let auipc = u32_from_slice(&section[site as usize..]);
-    put_jal(
-        section,
-        site,
-        destination(auipc),
-        distance_between(from, to),
-    )
+    let jump = jump_of(section, deltas, site, target, LinkRegister::OfAuipc)?;
+    jal_site(section, site, jump.distance)
 }

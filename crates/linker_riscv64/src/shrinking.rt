@@ -2,9 +2,8 @@
 
 ghost use Rattle.std.specs.Prelude.{◌≡◌, ◌≤◌, ◌<◌, ◌+◌, ◌-◌, ◌*◌, ◌++◌, ◌∷◌, [], ◌↔◌, ℕ, Bool};
 ghost use Rattle.std.specs.Prelude.{false, nat_lt, slice_set, map, take, length, pos, ◌-ℤ◌, All};
-ghost use Rattle.std.specs.Prelude.{List, slice_index_or};
 ghost use Rattle.std.specs.Prelude.{IsTrue, IsFalse, IfOk, IfSome, MatchOption};
-ghost use Rattle.linker_base.specs.Deletions.{AreDisjoint, AreKept, rank};
+ghost use Rattle.linker_base.specs.Deletions.{AreDisjoint, AreKept};
 ghost use Rattle.linker_base.specs.Deltas.{deletions_of};
 ghost use Rattle.linker_base.specs.Listed.{AreValidDeltas};
 ghost use Rattle.linker_riscv64.specs.Inner.Shrinking.{chosen_count, chosen_between, AreEightApart};
@@ -15,13 +14,9 @@ ghost use Rattle.linker_riscv64.specs.RiscVCalls.{IsEven, IsJalDistance};
 ghost use Rattle.linker_riscv64.specs.Shrinking.{IsChosen, IsGreatest, AreShrinkable};
 ghost use Rattle.linker_riscv64.specs.Shrinking.{IsFirstNotShrinkable, ShrunkCallsAreAccepted};
 
-mod watch;
-
-use super::calls::{AsCall, JAL_MAX, JAL_MIN, test_distance};
-use super::packing::to_output_offset;
+use super::calls::{AsCall, test_distance};
 use linker_base::relaxation::{DeltaSlice, OutOfMemory, RelaxDelta, SectionRelaxDeltas};
 use std::alloc::Global;
-use watch::{Watch, add_ends};
 
 /// An element of a list of choices, which says whether a call is chosen: a `bool`, or a byte that
 /// is 0 or 1.
@@ -163,16 +158,6 @@ impl Runs {
     }
 }
 
-/// How many of the counted calls between a call's site and its target have to be dropped before it
-/// is out of reach.
-fn drops_left(from: u64, to: u64, count: usize) -> i32 {
-    let freed = (count as u64).saturating_mul(4);
-    let distance = from.abs_diff(to).saturating_sub(freed);
-    let reach = if from <= to { JAL_MAX } else { JAL_MIN };
-    let spare = (reach.unsigned_abs() + 4).saturating_sub(distance);
-    i32::try_from(spare / 4).unwrap_or(i32::MAX)
-}
-
 /// Whether a `jal` at an output offset reaches another.
 fn reaches(from: u64, to: u64) -> bool
     ensures { IsTrue result
@@ -206,40 +191,8 @@ fn reaches_over(from: u64, to: u64, index: usize, split: usize, count: usize) ->
     }
 }
 
-/// Whether the call at an index, of which these are the output offsets of site and target, is in
-/// reach once the chosen calls have lost their bytes. They are counted only where the call is in
-/// reach with all of them.
-#[inline(never)]
-fn is_in_reach_over<C: AsCall, A: AsChoice>(
-    calls: &[C],
-    answer: &[A],
-    runs: &Runs,
-    index: usize,
-    from: u64,
-    to: u64,
-) -> bool
-    requires within { index < length calls.now }
-    requires one_each { length answer.now ≡ length calls.now }
-    requires runs { AreRunsOf runs.now (map A.choice answer.now) }
-    ensures { (deletions : List (ℕ × ℕ)) → AreShrinkable deletions (map C.call calls.now)
-        → from ≡ rank deletions (slice_index_or (map C.call calls.now) index (0, 0)).0
-        → to ≡ rank deletions (slice_index_or (map C.call calls.now) index (0, 0)).1
-        → (IsTrue result ↔ IsInReachAt deletions (map C.call calls.now)
-        (map A.choice answer.now) index) }
-{
-    let (_, target) = calls[index].as_call();
-    let split = calls_below(calls, target);
-    if !reaches_over(from, to, index, split, index.abs_diff(split)) {
-        return false;
-    }
-    let (first, end) = (index.min(split), index.max(split));
-    let count = runs.count_between(answer, first, end);
-    reaches_over(from, to, index, split, count)
-}
-
-/// Whether the call at an index is in reach once the chosen calls have lost their bytes. They
-/// are counted only where the call is out of reach with none.
-#[inline(always)]
+/// Whether the call at an index is in reach once the chosen calls have lost their bytes. They are
+/// counted only where the call is out of reach with none of them and in reach with all.
 fn is_in_reach<C: AsCall, A: AsChoice>(
     deltas: &[RelaxDelta],
     calls: &[C],
@@ -256,12 +209,19 @@ fn is_in_reach<C: AsCall, A: AsChoice>(
         (map A.choice answer.now) index) }
 {
     let (site, target) = calls[index].as_call();
-    let from = to_output_offset(deltas, site);
-    let to = to_output_offset(deltas, target);
+    let deltas = DeltaSlice::new(deltas);
+    let from = deltas.input_to_output_offset(site);
+    let to = deltas.input_to_output_offset(target);
     if reaches(from, to) {
         return true;
     }
-    is_in_reach_over(calls, answer, runs, index, from, to)
+    let split = calls_below(calls, target);
+    if !reaches_over(from, to, index, split, index.abs_diff(split)) {
+        return false;
+    }
+    let (first, end) = (index.min(split), index.max(split));
+    let count = runs.count_between(answer, first, end);
+    reaches_over(from, to, index, split, count)
 }
 
 /// Drops the call at an index from the choice where it is out of reach. Whether it was dropped.
@@ -298,95 +258,39 @@ fn drop_unreached<C: AsCall, A: AsChoice>(
     true
 }
 
-/// Drops from the choice each call that is out of reach, one after the other. Whether one was
-/// dropped.
+/// Drops from the choice each call that is out of reach, one after the other, up from the first
+/// call or down from the last. Whether one was dropped.
 fn sweep<C: AsCall, A: AsChoice>(
     deltas: &[RelaxDelta],
     calls: &[C],
     answer: &mut [A],
     runs: &mut Runs,
+    down: bool,
 ) -> bool
     requires one_each { length answer.old ≡ length calls.now }
     requires runs { AreRunsOf runs.old (map A.choice answer.old) }
     ensures runs { AreRunsOf runs.new (map A.choice answer.new) }
     ensures keeps { AreValidDeltas deltas.now
         → AreShrinkable (deletions_of deltas.now) (map C.call calls.now)
-        → KeepsOthers (deletions_of deltas.now) (map C.call calls.now) (map A.choice answer.old)
-        (map A.choice answer.new) }
+        → KeepsOthers (deletions_of deltas.now) (map C.call calls.now)
+        (map A.choice answer.old) (map A.choice answer.new) }
     ensures settled { AreValidDeltas deltas.now
         → AreShrinkable (deletions_of deltas.now) (map C.call calls.now)
         → IsFalse result → (i : ℕ) → i < length calls.now → IsChosen (map A.choice answer.new) i
-        → IsInReachAt (deletions_of deltas.now) (map C.call calls.now) (map A.choice answer.new) i }
-    ensures no_more { chosen_count (map A.choice answer.new)
-        ≤ chosen_count (map A.choice answer.old) }
+        → IsInReachAt (deletions_of deltas.now) (map C.call calls.now)
+        (map A.choice answer.new) i }
     ensures fewer { IsTrue result
         → chosen_count (map A.choice answer.new) < chosen_count (map A.choice answer.old) }
     ensures written { All A.is_written answer.old → All A.is_written answer.new }
 {
     let mut dropped = false;
-    for index in 0..calls.len() {
+    for turn in 0..calls.len() {
+        let index = if down { calls.len() - 1 - turn } else { turn };
         if drop_unreached(deltas, calls, answer, runs, index) {
             dropped = true;
         }
     }
     dropped
-}
-
-/// Watches the chosen calls that are out of reach without the others.
-fn watched<C: AsCall, A: AsChoice>(
-    alloc: Global,
-    deltas: &[RelaxDelta],
-    calls: &[C],
-    answer: &[A],
-    runs: &Runs,
-) -> Result<Watch, OutOfMemory>
-    requires one_each { length answer.now ≡ length calls.now }
-    requires runs { AreRunsOf runs.now (map A.choice answer.now) }
-{
-    let mut ends = Vec::new(alloc);
-    for index in 0..calls.len() {
-        let (site, target) = calls[index].as_call();
-        let from = to_output_offset(deltas, site);
-        let to = to_output_offset(deltas, target);
-        if answer[index].as_choice() && !reaches(from, to) {
-            let split = calls_below(calls, target);
-            let (first, end) = (index.min(split), index.max(split));
-            let count = runs.count_between(answer, first, end);
-            add_ends(&mut ends, index, first, end, drops_left(from, to, count))?;
-        }
-    }
-    Watch::of(ends)
-}
-
-/// Drops calls that are out of reach, one after the other, until there is none, if there is memory
-/// to know which.
-fn drop_due<C: AsCall, A: AsChoice>(
-    alloc: Global,
-    deltas: &[RelaxDelta],
-    calls: &[C],
-    answer: &mut [A],
-    runs: &mut Runs,
-)
-    requires one_each { length answer.old ≡ length calls.now }
-    requires runs { AreRunsOf runs.old (map A.choice answer.old) }
-    ensures runs { AreRunsOf runs.new (map A.choice answer.new) }
-    ensures keeps { AreValidDeltas deltas.now
-        → AreShrinkable (deletions_of deltas.now) (map C.call calls.now)
-        → KeepsOthers (deletions_of deltas.now) (map C.call calls.now) (map A.choice answer.old)
-        (map A.choice answer.new) }
-    ensures no_more { chosen_count (map A.choice answer.new)
-        ≤ chosen_count (map A.choice answer.old) }
-    ensures written { All A.is_written answer.old → All A.is_written answer.new }
-{
-    let Ok(mut watch) = watched(alloc, deltas, calls, answer, runs) else {
-        return;
-    };
-    while let Some(index) = watch.next_due() {
-        if index >= calls.len() || !drop_unreached(deltas, calls, answer, runs, index) {
-            return;
-        }
-        watch.count_drop(index);
-    }
 }
 
 /// Chooses all calls.
@@ -407,9 +311,6 @@ fn is_shrinkable_site(deltas: &[RelaxDelta], site: u64) -> bool
 {
     if site > u64::MAX - 8 {
         return false;
-    }
-    if deltas.is_empty() {
-        return true;
     }
     let deltas = DeltaSlice::new(deltas);
     deltas.kept_output_offset(site, 8).is_some() && deltas.can_merge(&[(site + 4, 4)])
@@ -520,20 +421,14 @@ pub fn calls_shrinkable(deltas: &SectionRelaxDeltas, calls: &[(u64, u64)]) -> bo
 /// are as `SectionRelaxDeltas::deltas` lists them (`DeltaSlice::has_valid_deltas`). With others the
 /// call is safe, but what it writes isn't specified. It takes 9 KiB of the stack.
 ///
-/// All calls are chosen at first, and sweeps over them drop those out of reach until none is. Their
-/// order doesn't matter, since more deletions never take a call out of reach. For k calls and n
-/// deltas a test of a call takes O(log n + log k + k / 1024): the chosen calls between a site and
+/// All calls are chosen at first. Sweeps over them, up and down in turn, drop those out of reach
+/// until one sweep drops none. Their order doesn't matter, since more deletions never take a call
+/// out of reach. Where each call that is dropped takes one above it out of reach, or each one below
+/// it, two or three sweeps do. A chain that turns around n times may take n sweeps. For k calls and
+/// n deltas a test of a call takes O(log n + log k + k / 1024): the chosen calls between a site and
 /// its target are counted by runs of k / 1024 calls, and only where the call is in reach with all
 /// of them and out of reach with none.
-///
-/// A sweep that drops none is the last. After one that drops a call it is known of each other call
-/// how many drops between its site and its target it stands, and it is tested again when there were
-/// so many. So two sweeps do, however the calls depend on each other. What lies between them takes
-/// O(k log k log k), and a test for each call that it drops. For this it allocates at most 120
-/// bytes for each call that is in reach only with others. To run out of memory is no error: then
-/// sweeps do it, of which there may be as many as calls.
 pub fn shrink_calls_into<C: AsCall, A: AsChoice>(
-    alloc: Global,
     deltas: &[RelaxDelta],
     calls: &[C],
     answer: &mut [A],
@@ -547,8 +442,9 @@ pub fn shrink_calls_into<C: AsCall, A: AsChoice>(
 {
     choose_all(answer);
     let mut runs = Runs::of(answer);
-    while sweep(deltas, calls, answer, &mut runs) {
-        drop_due(alloc, deltas, calls, answer, &mut runs);
+    let mut down = false;
+    while sweep(deltas, calls, answer, &mut runs, down) {
+        down = !down;
     }
 }
 
@@ -561,8 +457,9 @@ pub fn shrink_calls_into<C: AsCall, A: AsChoice>(
 /// So it deletes the most bytes, and once its deletions (site + 4, 4) are merged, `pack_section`
 /// rejects none of its calls for its distance (`shrunk_calls_are_accepted`).
 ///
-/// Requires calls that `calls_shrinkable` accepts. It allocates once, for what it returns, and as
-/// `shrink_calls_into` does, which says how long it takes.
+/// Requires calls that `calls_shrinkable` accepts. It allocates once, for what it returns, before
+/// anything else. `shrink_calls_into` says how long it takes. Where calls depend on each other, and
+/// more than sites need deletions, `relax` of a run is the call for a linker.
 pub fn shrink_calls(
     alloc: Global,
     deltas: &SectionRelaxDeltas,
@@ -572,7 +469,7 @@ pub fn shrink_calls(
     ensures { IfOk result (λ chosen. IsGreatest deltas.now calls.now chosen.items) }
 {
     let mut chosen = vec![in alloc; false; calls.len()]?;
-    shrink_calls_into(alloc, deltas.deltas(), calls, &mut chosen);
+    shrink_calls_into(deltas.deltas(), calls, &mut chosen);
     Ok(chosen)
 }
 

@@ -11,7 +11,6 @@ ghost use Rattle.linker_utils_c.specs.Shrinking.{choice_in};
 use crate::status::Status;
 use linker_utils::relaxation::RelaxDelta;
 use linker_utils::riscv64::{Call, first_not_shrinkable, shrink_calls_into};
-use std::alloc::Global;
 
 /// Whether `linker_utils_shrink_calls` accepts the calls: their sites ascend by at least 8, the
 /// eight bytes at each site are kept, the four bytes after each call's first instruction may be
@@ -46,11 +45,8 @@ pub extern "C" fn linker_utils_calls_shrinkable_nonnull(
 ///
 /// The first that applies of `DifferentLengths`, where `chosen` has not as many bytes as there are
 /// calls; and `CallsNotShrinkable`, as `linker_utils_calls_shrinkable`. `chosen` is unchanged then.
-/// Where calls have to be dropped it allocates, as `shrink_calls_into` does, and being out of
-/// memory is no error.
 #[unsafe(no_mangle)]
 pub extern "C" fn linker_utils_shrink_calls_nonnull(
-    alloc: Global,
     deltas: &[RelaxDelta],
     calls: &[Call],
     chosen: &mut [u8],
@@ -78,6 +74,6 @@ pub extern "C" fn linker_utils_shrink_calls_nonnull(
         *faulty = index;
         return Status::CallsNotShrinkable.number();
     }
-    shrink_calls_into(alloc, deltas, calls, chosen);
+    shrink_calls_into(deltas, calls, chosen);
     Status::Success.number()
 }

@@ -30,8 +30,6 @@ pub fn linker_utils_calls_shrinkable_nonnull(
 ///
 /// The first that applies of `DifferentLengths`, where `chosen` has not as many bytes as there are
 /// calls; and `CallsNotShrinkable`, as `linker_utils_calls_shrinkable`. `chosen` is unchanged then.
-/// Where calls have to be dropped it allocates, as `shrink_calls_into` does, and being out of
-/// memory is no error.
 pub fn linker_utils_shrink_calls_nonnull(
     deltas: &[RelaxDelta],
     calls: &[Call],

@@ -22,11 +22,6 @@ pub fn distance_fits_jal(distance: i64) -> bool {
     JAL_MIN <= distance && distance <= JAL_MAX
 }
 
-#[inline]
-fn is_even(distance: i64) -> bool {
-    distance.cast_unsigned() % 2 == 0
-}
-
 /// Whether the eight bytes at a site of a section are a call that `CallToJal` makes a jump
 /// that links the same register: `auipc` and then `jalr` with the same register as base and as
 /// both destinations. (RISC-V ELF psABI, "Function Call Relaxation"; linkers take the register of
@@ -176,23 +171,12 @@ pub(crate) fn distance_between(from: u64, to: u64) -> i64 {
 /// first of them that applies.
 #[inline(always)]
 pub(super) fn test_distance(distance: i64) -> Result<(), CallError> {
-    if !is_even(distance) {
+    if distance.cast_unsigned() % 2 != 0 {
         return Err(CallError::OddDistance);
     }
     if !distance_fits_jal(distance) {
         return Err(CallError::TooFar);
     }
-    Ok(())
-}
-
-/// Puts a `jal` by a distance in bytes, which links a register, in place of the four bytes at a
-/// site. The errors are `OddDistance` and `TooFar`, the first of them that applies.
-fn put_jal(section: &mut [u8], site: u64, register: u32, distance: i64) -> Result<(), CallError> {
-    test_distance(distance)?;
-    let jal = 0x6f | register << 7;
-    overwrite(section, site, &jal.to_le_bytes());
-    let jal = &mut section[site as usize..];
-    RiscVInstruction::JType.write_to_value(distance.cast_unsigned(), distance < 0, jal);
     Ok(())
 }
 
@@ -203,11 +187,11 @@ fn put_jal(section: &mut [u8], site: u64, register: u32, distance: i64) -> Resul
 /// On an error the section is unchanged. The errors are `OutOfSection`, `OddDistance` and `TooFar`,
 /// the first of them that applies.
 pub fn jal_site(section: &mut [u8], site: u64, distance: i64) -> Result<(), CallError> {
-    if !has_window(section, site, 0, 4) {
-        return Err(CallError::OutOfSection);
+    match jal_site_with(section, site, distance, LinkRegister::OfAuipc) {
+        Ok(()) => Ok(()),
+        Err(JumpError::Call(error)) => Err(error),
+        Err(JumpError::NotACall) => unreachable!(),
     }
-    let auipc = u32_from_slice(&section[site as usize..]);
-    put_jal(section, site, destination(auipc), distance)
 }
 
 /// Replaces the call at a site of a section by a `jal` over a distance in bytes. The jump is in
@@ -230,8 +214,41 @@ pub fn jal_site_with(
     let Some(register) = link.named_at(section, site) else {
         return Err(JumpError::NotACall);
     };
-    put_jal(section, site, register, distance)?;
+    test_distance(distance)?;
+    let jal = 0x6f | register << 7;
+    overwrite(section, site, &jal.to_le_bytes());
+    let jal = &mut section[site as usize..];
+    RiscVInstruction::JType.write_to_value(distance.cast_unsigned(), distance < 0, jal);
     Ok(())
+}
+
+/// Where a call stands once the deleted bytes are gone, and how far its jump goes then.
+#[derive(Clone, Copy)]
+pub(super) struct Jump {
+    pub(super) output_offset: u64,
+    pub(super) distance: i64,
+}
+
+/// The jump that a call becomes. The bytes that say which register it links have to lie in the
+/// section. The errors are `OutOfSection` and `SiteDeleted`, the first of them that applies.
+pub(super) fn jump_of(
+    section: &[u8],
+    deltas: &DeltaSlice<'_>,
+    site: u64,
+    target: u64,
+    link: LinkRegister,
+) -> Result<Jump, CallError> {
+    if !has_window(section, site, 0, link.call_len()) || target > section.len() as u64 {
+        return Err(CallError::OutOfSection);
+    }
+    let Some(output_offset) = deltas.kept_output_offset(site, 4) else {
+        return Err(CallError::SiteDeleted);
+    };
+    let to = deltas.input_to_output_offset(target);
+    Ok(Jump {
+        output_offset,
+        distance: distance_between(output_offset, to),
+    })
 }
 
 /// Replaces a call by a jump as `jal_site` does, in a section whose bytes are where they were
@@ -261,18 +278,6 @@ pub fn relax_call_over(
     site: u64,
     target: u64,
 ) -> Result<(), CallError> {
-    if !has_window(section, site, 0, 4) || target > section.len() as u64 {
-        return Err(CallError::OutOfSection);
-    }
-    let Some(from) = deltas.kept_output_offset(site, 4) else {
-        return Err(CallError::SiteDeleted);
-    };
-    let to = deltas.input_to_output_offset(target);
-    let auipc = u32_from_slice(&section[site as usize..]);
-    put_jal(
-        section,
-        site,
-        destination(auipc),
-        distance_between(from, to),
-    )
+    let jump = jump_of(section, deltas, site, target, LinkRegister::OfAuipc)?;
+    jal_site(section, site, jump.distance)
 }

@@ -3,10 +3,8 @@
 
 use alloc::vec::Vec;
 use crate::support::*;
-use super::calls::{
-    AsCall, CallError, JumpError, LinkRegister, distance_between, jal_site, test_distance,
-};
-use crate::linker_base::packing::{Position, copy_kept, position_from, position_near, position_of};
+use super::calls::{AsCall, CallError, JumpError, LinkRegister, jal_site, jump_of, test_distance};
+use crate::linker_base::packing::copy_kept;
 use crate::linker_base::relaxation::{DeltaSlice, RelaxDelta, SectionRelaxDeltas};
 use crate::linker_base::rewrite::{has_window, overwrite};
 
@@ -46,26 +44,6 @@ impl<T> From<AllocFailed<T>> for PackError {
     }
 }
 
-/// The output offset of an input offset.
-#[inline(always)]
-pub(super) fn to_output_offset(deltas: &[RelaxDelta], input_offset: u64) -> u64 {
-    if deltas.is_empty() {
-        return input_offset;
-    }
-    DeltaSlice::new(deltas).input_to_output_offset(input_offset)
-}
-
-/// The output offset of the four bytes at a position, or none where one of them is deleted.
-#[inline(always)]
-fn site_output_offset(deltas: &[RelaxDelta], at: &Position) -> Option<u64> {
-    let behind = position_from(deltas, at, at.input_offset + 4);
-    if behind.output_offset.wrapping_sub(at.output_offset) == 4 {
-        Some(at.output_offset)
-    } else {
-        None
-    }
-}
-
 /// The index of the first call whose site is less than 4 above the site before it. None where the
 /// sites ascend by at least 4.
 #[must_use]
@@ -87,104 +65,54 @@ pub fn calls_apart(calls: &[(u64, u64)]) -> bool {
     first_not_apart(calls).is_none()
 }
 
-/// Where the jump of a call goes in the packed section, and how far it jumps.
-#[derive(Clone, Copy)]
-struct Jump {
-    output_offset: u64,
-    distance: i64,
-}
-
-/// The jump that a call at a position becomes, or why it can't.
-fn jump_of(
+/// Tests a call, and puts its jump into a packed section that has room for it. The errors are those
+/// of `CallError` in their order, with `NotACall` after `SiteDeleted`.
+fn put_call(
     section: &[u8],
-    deltas: &[RelaxDelta],
-    at: &Position,
+    deltas: &DeltaSlice<'_>,
+    site: u64,
     target: u64,
     link: LinkRegister,
-) -> Result<Jump, JumpError> {
-    let site = at.input_offset;
-    if !has_window(section, site, 0, link.call_len()) || target > section.len() as u64 {
-        return Err(JumpError::Call(CallError::OutOfSection));
-    }
-    let Some(output_offset) = site_output_offset(deltas, at) else {
-        return Err(JumpError::Call(CallError::SiteDeleted));
-    };
+    packed: &mut [u8],
+) -> Result<(), JumpError> {
+    let jump = jump_of(section, deltas, site, target, link)?;
     let Some(_register) = link.named_at(section, site) else {
         return Err(JumpError::NotACall);
     };
-    let to = position_near(deltas, at, target);
-    let distance = distance_between(output_offset, to.output_offset);
-    test_distance(distance)?;
-    Ok(Jump {
-        output_offset,
-        distance,
-    })
+    if !has_window(packed, jump.output_offset, 0, 4) {
+        test_distance(jump.distance)?;
+        return Ok(());
+    }
+    // `jal_site` links the register of the instruction that it replaces.
+    let start = (site + link.call_len() - 4) as usize;
+    overwrite(packed, jump.output_offset, &section[start..start + 4]);
+    jal_site(packed, jump.output_offset, jump.distance)?;
+    Ok(())
 }
 
-/// Whether each call can become a jump; the error is that of the first that can't.
-fn test_calls<C: AsCall>(
+/// Tests all calls, and puts their jumps into a packed section. The error is that of the first call
+/// that can't become a jump. Into no bytes no jump is put: then the calls are only tested.
+fn put_calls<C: AsCall>(
     section: &[u8],
-    deltas: &[RelaxDelta],
+    deltas: &DeltaSlice<'_>,
     calls: &[C],
     link: LinkRegister,
+    packed: &mut [u8],
 ) -> Result<(), RejectedCall> {
-    let mut at = position_of(deltas, 0);
     for index in 0..calls.len() {
         let (site, target) = calls[index].as_call();
-        at = position_from(deltas, &at, site);
-        if let Err(error) = jump_of(section, deltas, &at, target, link) {
+        if let Err(error) = put_call(section, deltas, site, target, link, packed) {
             return Err(RejectedCall { index, error });
         }
     }
     Ok(())
 }
 
-/// Puts a jump into the packed section, where four bytes are there.
-fn put_jump(section: &[u8], site: u64, link: LinkRegister, jump: Jump, packed: &mut [u8]) {
-    if !has_window(packed, jump.output_offset, 0, 4) {
-        return;
-    }
-    // `jal_site` links the register of the instruction that it replaces.
-    let start = (site + link.call_len() - 4) as usize;
-    overwrite(packed, jump.output_offset, &section[start..start + 4]);
-    let _ = jal_site(packed, jump.output_offset, jump.distance);
-}
-
-/// Puts the jump of a call at a position into the packed section, where it can become one.
-fn put_call(
-    section: &[u8],
-    deltas: &[RelaxDelta],
-    at: &Position,
-    target: u64,
-    link: LinkRegister,
-    packed: &mut [u8],
-) {
-    if let Ok(jump) = jump_of(section, deltas, at, target, link) {
-        put_jump(section, at.input_offset, link, jump, packed);
-    }
-}
-
-/// Puts the jumps of all calls into the packed section.
-fn put_calls<C: AsCall>(
-    section: &[u8],
-    deltas: &[RelaxDelta],
-    calls: &[C],
-    link: LinkRegister,
-    packed: &mut [u8],
-) {
-    let mut at = position_of(deltas, 0);
-    for index in 0..calls.len() {
-        let (site, target) = calls[index].as_call();
-        at = position_from(deltas, &at, site);
-        put_call(section, deltas, &at, target, link, packed);
-    }
-}
-
 /// How many bytes of a section are kept: as many as it takes when it is packed.
 #[must_use]
 #[inline]
 pub fn packed_len(section: &[u8], deltas: &[RelaxDelta]) -> usize {
-    to_output_offset(deltas, section.len() as u64) as usize
+    DeltaSlice::new(deltas).input_to_output_offset(section.len() as u64) as usize
 }
 
 /// Packs a section into memory of the caller's: its kept bytes in order, and at each call's site,
@@ -212,9 +140,10 @@ pub fn pack_into<C: AsCall>(
 ) -> Result<(), RejectedCall> {
     debug_assert!(first_not_apart(calls).is_none());
     debug_assert!(!DeltaSlice::new(deltas).has_valid_deltas() || packed_len(section, deltas) == out.len());
-    test_calls(section, deltas, calls, link)?;
+    let view = DeltaSlice::new(deltas);
+    put_calls(section, &view, calls, link, &mut [])?;
     copy_kept(section, 0, deltas, out);
-    put_calls(section, deltas, calls, link, out);
+    let _accepted = put_calls(section, &view, calls, link, out);
     Ok(())
 }
 
@@ -236,9 +165,11 @@ pub fn pack_section(
     calls: &[(u64, u64)],
 ) -> Result<Vec<u8>, PackError> {
     debug_assert!(calls_apart(calls));
-    let deltas = deltas.deltas();
-    let mut packed = try_vec![0; packed_len(section, deltas)]?;
-    match pack_into(section, deltas, calls, LinkRegister::OfAuipc, &mut packed) {
+    let view = deltas.as_delta_slice();
+    let len = view.input_to_output_offset(section.len() as u64) as usize;
+    let mut packed = try_vec![0; len]?;
+    copy_kept(section, 0, view.deltas(), &mut packed);
+    match put_calls(section, &view, calls, LinkRegister::OfAuipc, &mut packed) {
         Ok(()) => Ok(packed),
         Err(rejected) => match rejected.error {
             JumpError::Call(error) => Err(PackError::Call {

@@ -2,17 +2,16 @@
 use Rattle.std.specs.Prelude.{◌≡◌, ℕ, ◌<◌, List, length, IsTrue, slice_index}
 use Rattle.std.specs.Prelude.{slice_index_or}
 use Rattle.linker_base.specs.Deletions.{is_kept, rank}
-use Rattle.linker_riscv64.specs.RiscVCalls.{word_at, output_distance, link_register, IsJal}
-use Rattle.linker_riscv64.specs.Packing.{IsApart, CanJump, IsNotAt}
-use Rattle.linker_riscv64.specs.declared.packing.Jump.{Jump}
+use Rattle.linker_riscv64.specs.RiscVCalls.{word_at, output_distance, link_register, IsJal, IsSiteKept}
+use Rattle.linker_riscv64.specs.Packing.{IsApart, IsNotAt}
+use Rattle.linker_riscv64.specs.declared.calls.Jump.{Jump}
 use Rattle.linker_riscv64.specs.declared.calls.LinkRegister.{LinkRegister}
 
--- the jump that a call becomes
-pub record IsJumpOf (link : LinkRegister) (deletions : List (ℕ × ℕ)) (section : List ℕ)
-    (call : ℕ × ℕ) (jump : Jump) : Type 0 where
-  pub can : CanJump link deletions section call
-  pub output_offset : jump.output_offset ≡ rank deletions call.0
-  pub distance : jump.distance ≡ output_distance deletions call.0 call.1
+-- the jump that a call becomes whose site is kept
+pub record IsJumpOf (deletions : List (ℕ × ℕ)) (site target : ℕ) (jump : Jump) : Type 0 where
+  pub kept : IsSiteKept deletions site
+  pub output_offset : jump.output_offset ≡ rank deletions site
+  pub distance : jump.distance ≡ output_distance deletions site target
 
 -- all is packed, and the first calls are jumps
 pub record IsPackedTo (link : LinkRegister) (deletions : List (ℕ × ℕ)) (section : List ℕ)

@@ -1,5 +1,5 @@
 -- What holds while calls are chosen.
-use Rattle.std.specs.Prelude.{◌≡◌, ℕ, ◌+◌, ◌-◌, ◌*◌, ◌<◌, ◌≤◌, ◌++◌, Bool, List, All, AllPairs}
+use Rattle.std.specs.Prelude.{◌≡◌, ℕ, ◌+◌, ◌-◌, ◌*◌, ◌<◌, ◌≤◌, ◌++◌, Bool, true, false, List, All, AllPairs}
 use Rattle.std.specs.Prelude.{count_by, drop, length, map, slice_index_or, take, nat_le}
 use Rattle.std.specs.Prelude.{if◌then◌else◌, ℤ, pos, ◌-ℤ◌}
 use Rattle.linker_base.specs.Deletions.{AreDisjoint, AreKept, IsInsideDeletion}
@@ -55,6 +55,11 @@ abbrev pub KeepsOthers : List (ℕ × ℕ) → List (ℕ × ℕ) → List Bool �
 KeepsOthers deletions calls before after =
     (other : List Bool) → length other ≡ length calls → AreInReach deletions calls other
     → IsPartOf other before → IsPartOf other after
+
+-- the call at the index has had its turn in a sweep of so many turns, down from the last call or up
+abbrev pub HadTurn : Bool → ℕ → ℕ → ℕ → Type 0
+HadTurn true len turns i = len ≤ i + turns
+HadTurn false len turns i = i < turns
 
 -- the calls are shrinkable as far as their sites go
 pub record HaveShrinkableSites (deletions calls : List (ℕ × ℕ)) : Type 0 where

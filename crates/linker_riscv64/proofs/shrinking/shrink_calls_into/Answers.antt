@@ -2,16 +2,12 @@ use Rattle.std.proofs.Common.{arith}
 use Rattle.std.proofs.lemmas.List.{length-map}
 use Rattle.linker_riscv64.proofs.shrinking.shrink_calls_into.Goals as goal
 
-pub loop-alloc-smaller : goal.loop-alloc-smaller
-loop-alloc-smaller g c = omega (arith, c.drop_due.ensures.no_more, c.sweep.ensures.fewer c.loop-alloc-test.true)
-
-pub loop-alloc-preserved : goal.loop-alloc-preserved
-loop-alloc-preserved g c = record {
-  runs = c.drop_due.ensures.runs;
+pub loop-runs-preserved : goal.loop-runs-preserved
+loop-runs-preserved g c = record {
+  runs = c.sweep.ensures.runs;
   has_others = λ valid other long reach.
-      let fits = c.requires.shrinkable valid in
-      c.drop_due.ensures.keeps valid fits other long reach (c.sweep.ensures.keeps valid fits other long reach (c.loop-alloc.invariant.has_others valid other long reach));
-  written = c.drop_due.ensures.written (c.sweep.ensures.written c.loop-alloc.invariant.written);
+      c.sweep.ensures.keeps valid (c.requires.shrinkable valid) other long reach (c.loop-runs.invariant.has_others valid other long reach);
+  written = c.sweep.ensures.written c.loop-runs.invariant.written;
 }
 
 pub returns-clause-greatest : goal.returns-clause-greatest
@@ -21,7 +17,7 @@ returns-clause-greatest g c = λ valid.
     let many = length-map c.sweep.new.answer g.A.AsChoice.choice in
     record {
       one_each = omega (arith, calls, many, c.requires.one_each);
-      in_reach = λ i call within chosen. c.sweep.ensures.settled valid fits c.loop-alloc-test.false i (omega (arith, calls)) chosen call;
+      in_reach = λ i call within chosen. c.sweep.ensures.settled valid fits c.loop-runs-test.false i (omega (arith, calls)) chosen call;
       has_others = λ other long reach.
-          c.sweep.ensures.keeps valid fits other long reach (c.loop-alloc.invariant.has_others valid other long reach);
+          c.sweep.ensures.keeps valid fits other long reach (c.loop-runs.invariant.has_others valid other long reach);
     }

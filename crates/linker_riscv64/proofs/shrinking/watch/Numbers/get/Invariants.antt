@@ -1,4 +1,0 @@
-use Rattle.linker_riscv64.proofs.shrinking.watch.Numbers.get.Given as goal
-
-abbrev pub decreases-loop-node : goal.decreases-loop-node
-decreases-loop-node l = l.node
