@@ -98,13 +98,13 @@ def build(name):
     return built.issuperset(libraries(name))
 
 
-def arguments(name):
-    """The arguments for a crate, or None where a library below it isn't one of `rt ci`."""
+def arguments(name, is_of_rt_ci=True):
+    """The arguments for a crate, or None where a library below it isn't one of `rt ci`, or else of `rt lib`."""
     is_static, needs = crates()[name]
     folders = {need: ROOT / "crates" / need / "out/rlib" for need in libraries(name)}
     for need, folder in folders.items():
         # `rt ci` writes no stamp
-        if not (folder / f"{need}.rlib/format").exists() or (folder / "stamp").exists():
+        if not (folder / f"{need}.rlib/format").exists() or (folder / "stamp").exists() == is_of_rt_ci:
             return None
     root = next(it for it in ("src/lib.rt", "src/main.rt") if (ROOT / "crates" / name / it).exists())
     words = ["--crate-name", name, root, "-L", f"dependency={KIT}/rlibs"]
