@@ -1,12 +1,13 @@
 //! What the library's errors print, and which error is the cause of another.
 
 use crate::elf::{RelocateError, Uleb128PairError, WriteError};
-use crate::output::StubError;
+use crate::output::{RouteError, StubError};
 use crate::placement::PlaceError;
 use crate::relaxation::{OutOfMemory, PackError, RejectedCall, SectionRelaxDeltas};
-use crate::rewriting::RewritingError;
+use crate::rewriting::{RewritingError, WritingError};
 use crate::riscv64::{CallError, JumpError};
-use crate::runs::items::ItemsError;
+use crate::runs::items::{ItemsError, RewrittenItemsError};
+use crate::runs::packing::{ItemError, RejectedItem};
 use crate::runs::relaxation::{Fault, ItemFault};
 use crate::section::{self, RelocationError, SectionError};
 use crate::utils::Uleb128Error;
@@ -91,6 +92,31 @@ impl Error for StubError {
         match self {
             StubError::Field(error) => Some(error),
             _ => None,
+        }
+    }
+}
+
+impl Display for RouteError {
+    fn fmt(&self, f: &mut Formatter<'_>) -> Result {
+        f.write_str(match self {
+            RouteError::NotABranch => "the relocation is not that of a branch",
+            RouteError::Value(_) => "the relocation has no value",
+            RouteError::NoRoom => {
+                "no instruction that can restore the TOC pointer is after the branch, or it is no \
+                 `bl`"
+            }
+            RouteError::NoStub => "the architecture has no such stub",
+            RouteError::Write(_) => "the value cannot be written, and no stub may serve the branch",
+        })
+    }
+}
+
+impl Error for RouteError {
+    fn source(&self) -> Option<&(dyn Error + 'static)> {
+        match self {
+            RouteError::Value(error) => Some(error),
+            RouteError::Write(error) => Some(error),
+            RouteError::NotABranch | RouteError::NoRoom | RouteError::NoStub => None,
         }
     }
 }
@@ -215,6 +241,61 @@ impl Display for ItemsError {
 }
 
 impl Error for ItemsError {}
+
+impl Display for RewrittenItemsError {
+    fn fmt(&self, f: &mut Formatter<'_>) -> Result {
+        match self {
+            RewrittenItemsError::Malformed(index) => ItemsError::Malformed(*index).fmt(f),
+            RewrittenItemsError::Misplaced(index) => write!(
+                f,
+                "the deletion at index {index} begins below the end of the one before it, or is \
+                 not in the section"
+            ),
+            RewrittenItemsError::Overlaps(index) => write!(
+                f,
+                "the item of the relocation at index {index} begins below the end of that of an \
+                 earlier relocation, or has deleted bytes"
+            ),
+        }
+    }
+}
+
+impl Error for RewrittenItemsError {}
+
+impl Display for ItemError {
+    fn fmt(&self, f: &mut Formatter<'_>) -> Result {
+        f.write_str(match self {
+            ItemError::Overlaps => "the item begins below the end of the item before it",
+            ItemError::OutOfSection => "the item is not in the section",
+            ItemError::DeletedOutside => {
+                "bytes between the item before it, or the begin of the section, and the item are \
+                 deleted"
+            }
+            ItemError::NotItsFirstBytes => "the bytes of the item that stay are not its first ones",
+            ItemError::NotItsInstructions => {
+                "the instructions of the site are not those that its shapes stand for"
+            }
+            ItemError::NoShape => {
+                "no instruction, or no nops, have as many bytes as stay of the item"
+            }
+            ItemError::OutOfReach => "the instructions do not reach the target",
+        })
+    }
+}
+
+impl Error for ItemError {}
+
+impl Display for RejectedItem {
+    fn fmt(&self, f: &mut Formatter<'_>) -> Result {
+        write!(f, "the item at index {} is not written", self.index)
+    }
+}
+
+impl Error for RejectedItem {
+    fn source(&self) -> Option<&(dyn Error + 'static)> {
+        Some(&self.error)
+    }
+}
 
 impl Display for Fault {
     fn fmt(&self, f: &mut Formatter<'_>) -> Result {
@@ -343,3 +424,25 @@ impl Display for RewritingError {
 }
 
 impl Error for RewritingError {}
+
+impl Display for WritingError {
+    fn fmt(&self, f: &mut Formatter<'_>) -> Result {
+        match self {
+            WritingError::Changed(index) => write!(
+                f,
+                "other facts hold of the symbol of the relocation at index {index} than are kept"
+            ),
+            WritingError::Section(error) => error.fmt(f),
+        }
+    }
+}
+
+// The text is that of the section's error, and so is the cause.
+impl Error for WritingError {
+    fn source(&self) -> Option<&(dyn Error + 'static)> {
+        match self {
+            WritingError::Changed(_) => None,
+            WritingError::Section(error) => error.source(),
+        }
+    }
+}

@@ -1,12 +1,13 @@
 //! What errors print, and their causes.
 
 use linker_utils::elf::{Architecture, RelocateError, Uleb128PairError, WriteError};
-use linker_utils::output::StubError;
+use linker_utils::output::{RouteError, StubError};
 use linker_utils::readers::{self, ReadError};
 use linker_utils::relaxation::{OutOfMemory, PackError, RejectedCall, SectionRelaxDeltas};
-use linker_utils::rewriting::RewritingError;
+use linker_utils::rewriting::{RewritingError, WritingError};
 use linker_utils::riscv64::{CallError, JumpError};
-use linker_utils::runs::items::ItemsError;
+use linker_utils::runs::items::{ItemsError, RewrittenItemsError};
+use linker_utils::runs::packing::{ItemError, RejectedItem};
 use linker_utils::runs::relaxation::{Fault, ItemFault};
 use linker_utils::section::{self, RelocationError, SectionError};
 use linker_utils::utils::{self, Uleb128Error};
@@ -274,4 +275,40 @@ fn errors_of_rewrites_are_printed() {
     ] {
         assert_eq!(texts(error), [text]);
     }
+}
+
+#[test]
+fn errors_of_routes_runs_and_rewritten_sections_are_errors() {
+    let short = RelocateError::TooShort;
+    assert_eq!(
+        texts(RouteError::Write(short)),
+        ["the value cannot be written, and no stub may serve the branch", &short.to_string()]
+    );
+    let unknown = section::ValueError::UnknownType;
+    assert_eq!(
+        texts(RouteError::Value(unknown)),
+        ["the relocation has no value", &unknown.to_string()]
+    );
+    assert_eq!(texts(RouteError::NoRoom).len(), 1);
+    let rejected = RejectedItem {
+        index: 3,
+        error: ItemError::OutOfReach,
+    };
+    assert_eq!(
+        texts(rejected),
+        ["the item at index 3 is not written", "the instructions do not reach the target"]
+    );
+    assert_eq!(
+        texts(RewrittenItemsError::Malformed(4)),
+        texts(ItemsError::Malformed(4))
+    );
+    let error = SectionError {
+        index: 5,
+        error: RelocationError::Overlaps,
+    };
+    assert_eq!(texts(WritingError::Section(error)), texts(error));
+    assert_eq!(
+        texts(WritingError::Changed(6)),
+        ["other facts hold of the symbol of the relocation at index 6 than are kept"]
+    );
 }
