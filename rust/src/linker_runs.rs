@@ -3,7 +3,6 @@
 //! instructions become shorter and how many nops each alignment keeps, and sections without the
 //! bytes that they lose.
 
-mod guesses;
 pub mod items;
 mod loongarch64;
 pub mod packing;

@@ -144,11 +144,10 @@ fn the_first_overlapping_deletion_is_found() {
         for at in [1, 600, 5_000, 9_999] {
             let (kept, slice) = (pairs[at], DeltaSlice::new(&[]));
             pairs[at] = (pairs[at - 1].0 + 2, 4);
-            assert_eq!(in_time(|| slice.first_overlapping(&pairs)), Some(at));
             assert_eq!(in_time(|| slice.first_overlapping_sorted(&pairs)), Some(at));
             pairs[at] = kept;
         }
-        assert_eq!(in_time(|| DeltaSlice::new(&[]).first_overlapping(&pairs)), None);
+        assert_eq!(in_time(|| DeltaSlice::new(&[]).first_overlapping_sorted(&pairs)), None);
     }
 }
 

@@ -11,7 +11,6 @@ use Rattle.linker_base.specs.Listed.{AreValidDeltas}
 use Rattle.linker_base.specs.declared.relaxation.RelaxDelta.{RelaxDelta}
 use Rattle.linker_base.specs.Inner.Packing.{AreBegun, delta_at, no_delta, IsRunStart, IsFirstRun, IsFilledTo, IsFilled, IsCopied}
 use Rattle.linker_base.proofs.Rank.{rank_kept, rank_gone, rank-mono, rank_all_kept}
-use Rattle.linker_base.proofs.Search.{rank_at_last, rank_at_none}
 
 -- ---- bytes put over others
 
@@ -309,16 +308,3 @@ module _ (deltas : List RelaxDelta) (offset begun : ℕ) (valid : AreValidDeltas
         | inl before ↦ let rise = (valid.valid.ascending begun j d before inside).0 in omega arith
         | inr here ↦ let same : j ≡ begun = omega arith in rw same (omega arith)
       ]
-
-  -- the rank of the offset by the last delta that begins below it
-  pub rank_begun : 0 < begun → rank (map deletion_of deltas) offset
-      ≡ max offset (min ((delta_at deltas (begun - 1)).input_offset + (delta_at deltas (begun - 1)).bytes_deleted) (2 ^ 64 - 1)) - (delta_at deltas (begun - 1)).cumulative_deleted
-  rank_begun some =
-      let within = are.within in
-      let same : begun - 1 + 1 ≡ begun = omega arith in
-      let told = rank_at_last deltas valid offset (begun - 1) (omega arith) (rw same (λ j d inside low. begin_below j d low, λ j d up inside. begin_above j d up inside)) in
-      omega (arith, told.0, told.1)
-
-  pub rank_unbegun : begun ≡ 0 → rank (map deletion_of deltas) offset ≡ offset
-  rank_unbegun none =
-      sym (rank_at_none deltas valid offset (rw (← none) (λ j d inside low. begin_below j d low, λ j d up inside. begin_above j d up inside)))

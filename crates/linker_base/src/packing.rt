@@ -8,9 +8,7 @@ ghost use Rattle.linker_base.specs.Deltas.{deletions_of};
 ghost use Rattle.linker_base.specs.Listed.{AreValidDeltas};
 ghost use Rattle.linker_base.specs.Inner.Packing.{AreBegun, IsPosition, IsFilled, IsFirstRun};
 
-pub mod search;
-
-use crate::relaxation::{DeltaSlice, RelaxDelta};
+use crate::relaxation::{DeltaSlice, RelaxDelta, rank_past};
 
 /// An input offset, and where it goes by some deltas.
 #[derive(Clone, Copy)]
@@ -32,22 +30,6 @@ fn count_begun(deltas: &[RelaxDelta], offset: u64) -> usize
     DeltaSlice::new(deltas).count_below(offset)
 }
 
-/// The output offset of an input offset that so many of the deltas begin below.
-#[inline(always)]
-fn output_of(deltas: &[RelaxDelta], begun: usize, offset: u64) -> u64
-    ensures { AreValidDeltas deltas.now → AreBegun deltas.now offset begun
-        → result ≡ rank (deletions_of deltas.now) offset }
-{
-    if begun == 0 || begun > deltas.len() {
-        return offset;
-    }
-    let last = &deltas[begun - 1];
-    let end = last
-        .input_offset
-        .saturating_add(u64::from(last.bytes_deleted));
-    offset.max(end).saturating_sub(last.cumulative_deleted)
-}
-
 /// The position of an input offset that so many of the deltas begin below.
 #[inline(always)]
 fn position_at(deltas: &[RelaxDelta], begun: usize, input_offset: u64) -> Position
@@ -58,7 +40,7 @@ fn position_at(deltas: &[RelaxDelta], begun: usize, input_offset: u64) -> Positi
     Position {
         input_offset,
         begun,
-        output_offset: output_of(deltas, begun, input_offset),
+        output_offset: rank_past(deltas, begun, input_offset),
     }
 }
 

@@ -26,6 +26,7 @@ pub use blocks::{
 };
 pub use cursor::RelaxCursor;
 pub use delta_slice::DeltaSlice;
+pub(crate) use delta_slice::rank_past;
 pub use map::RelaxDeltaMap;
 use merge::{all_pairs, copy_pairs, count_pairs, insert_ascending, sorted};
 use overlap::{can_batches_be_merged, can_be_merged};

@@ -3,7 +3,6 @@
 //! bytes that they lose.
 #![tactic(auto)]
 
-mod guesses;
 pub mod items;
 pub mod laws;
 mod loongarch64;

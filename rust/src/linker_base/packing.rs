@@ -2,9 +2,7 @@
 //! What is packed by deltas that anyone owns: the positions of input offsets,
 //! and the bytes that stay.
 
-pub mod search;
-
-use crate::linker_base::relaxation::{DeltaSlice, RelaxDelta};
+use crate::linker_base::relaxation::{DeltaSlice, RelaxDelta, rank_past};
 
 /// An input offset, and where it goes by some deltas.
 #[derive(Clone, Copy)]
@@ -23,26 +21,13 @@ fn count_begun(deltas: &[RelaxDelta], offset: u64) -> usize {
     DeltaSlice::new(deltas).count_below(offset)
 }
 
-/// The output offset of an input offset that so many of the deltas begin below.
-#[inline(always)]
-fn output_of(deltas: &[RelaxDelta], begun: usize, offset: u64) -> u64 {
-    if begun == 0 || begun > deltas.len() {
-        return offset;
-    }
-    let last = &deltas[begun - 1];
-    let end = last
-        .input_offset
-        .saturating_add(u64::from(last.bytes_deleted));
-    offset.max(end).saturating_sub(last.cumulative_deleted)
-}
-
 /// The position of an input offset that so many of the deltas begin below.
 #[inline(always)]
 fn position_at(deltas: &[RelaxDelta], begun: usize, input_offset: u64) -> Position {
     Position {
         input_offset,
         begun,
-        output_offset: output_of(deltas, begun, input_offset),
+        output_offset: rank_past(deltas, begun, input_offset),
     }
 }
 

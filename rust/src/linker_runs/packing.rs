@@ -5,11 +5,10 @@ mod code;
 mod loongarch64;
 mod riscv64;
 
-use crate::linker_runs::guesses::{about, density, middle};
 use crate::linker_runs::items::{AsItem, ItemList};
 use crate::linker_runs::packing::code::Code;
 use crate::linker_runs::relaxation::{Item, Site};
-use crate::linker_base::packing::{Position, copy_kept, position_from, position_near};
+use crate::linker_base::packing::{Position, copy_kept, position_from, position_of};
 use crate::linker_base::relaxation::{DeltaSlice, RelaxDelta};
 use crate::elf::Architecture;
 
@@ -77,13 +76,6 @@ pub(crate) enum Piece {
     Code(Code),
 }
 
-/// Where a run begins.
-const RUN_START: Position = Position {
-    input_offset: 0,
-    begun: 0,
-    output_offset: 0,
-};
-
 /// Whether the item at an index begins at or above a position behind the one before it.
 #[inline(always)]
 fn is_apart(index: usize, behind: &Position, item: &Item) -> bool {
@@ -107,39 +99,6 @@ fn stay_whole(from: &Position, to: &Position) -> bool {
     to.output_offset.saturating_sub(from.output_offset) == to.input_offset - from.input_offset
 }
 
-/// About how many deltas begin in 4 GiB, in the middle of a list.
-fn density_of(deltas: &[RelaxDelta]) -> u64 {
-    let (low, high) = middle(deltas.len());
-    match (deltas.get(low), deltas.get(high)) {
-        (Some(from), Some(to)) => density(
-            high.saturating_sub(low),
-            from.input_offset,
-            to.input_offset,
-        ),
-        _ => 0,
-    }
-}
-
-/// About the position of an input offset, if deltas are as near each other everywhere.
-#[inline(always)]
-fn guessed_position(
-    deltas: &[RelaxDelta],
-    density: u64,
-    from: &Position,
-    input_offset: u64,
-) -> Position {
-    let near = about(density, from.begun, from.input_offset, input_offset);
-    let begun = match deltas.get(near) {
-        Some(delta) => about(density, near, delta.input_offset, input_offset),
-        None => near,
-    };
-    Position {
-        input_offset,
-        begun,
-        output_offset: 0,
-    }
-}
-
 /// What the instructions of a site become of which so many bytes stay.
 #[inline(always)]
 fn code_of_site(
@@ -147,7 +106,6 @@ fn code_of_site(
     section: &[u8],
     base: u64,
     deltas: &[RelaxDelta],
-    density: u64,
     at: &Position,
     start: u64,
     site: &Site,
@@ -157,8 +115,7 @@ fn code_of_site(
         return Err(ItemError::NotItsInstructions);
     }
     let place = start.wrapping_add(at.output_offset);
-    let near = guessed_position(deltas, density, at, site.target);
-    let target = start.wrapping_add(position_near(deltas, &near, site.target).output_offset);
+    let target = start.wrapping_add(position_of(deltas, site.target).output_offset);
     match machine {
         Machine::RiscV64 => riscv64::code_of(section, site.offset - base, kept, place, target),
         Machine::LoongArch64 => {
@@ -207,7 +164,6 @@ fn piece_for(
     section: &[u8],
     base: u64,
     deltas: &[RelaxDelta],
-    density: u64,
     at: &Position,
     start: u64,
     item: &Item,
@@ -222,9 +178,7 @@ fn piece_for(
             }
         }
         Item::Site(site) => {
-            match code_of_site(
-                machine, section, base, deltas, density, at, start, site, kept,
-            ) {
+            match code_of_site(machine, section, base, deltas, at, start, site, kept) {
                 Ok(code) => Ok(Piece::Code(code)),
                 Err(error) => Err(error),
             }
@@ -239,7 +193,6 @@ fn piece_of(
     section: &[u8],
     base: u64,
     deltas: &[RelaxDelta],
-    density: u64,
     at: &Position,
     end: &Position,
     start: u64,
@@ -249,9 +202,7 @@ fn piece_of(
         return Ok(Piece::Nothing);
     }
     match kept_of(deltas, at, end, item) {
-        Some(kept) => piece_for(
-            machine, section, base, deltas, density, at, start, item, kept,
-        ),
+        Some(kept) => piece_for(machine, section, base, deltas, at, start, item, kept),
         None => Err(ItemError::NotItsFirstBytes),
     }
 }
@@ -263,7 +214,6 @@ fn test_items<I: AsItem>(
     base: u64,
     items: &ItemList<'_, I>,
     deltas: &[RelaxDelta],
-    density: u64,
     start: u64,
     begin: &Position,
 ) -> Result<(), RejectedItem> {
@@ -291,9 +241,7 @@ fn test_items<I: AsItem>(
             });
         }
         let past = position_from(deltas, &at, item.offset().saturating_add(item.len()));
-        if let Err(error) = piece_of(
-            machine, section, base, deltas, density, &at, &past, start, &item,
-        ) {
+        if let Err(error) = piece_of(machine, section, base, deltas, &at, &past, start, &item) {
             return Err(RejectedItem { index, error });
         }
         behind = past;
@@ -366,7 +314,6 @@ fn put_items<I: AsItem>(
     base: u64,
     items: &ItemList<'_, I>,
     deltas: &[RelaxDelta],
-    density: u64,
     start: u64,
     begin: &Position,
     packed: &mut [u8],
@@ -380,9 +327,7 @@ fn put_items<I: AsItem>(
         }
         at = position_from(deltas, &at, item.offset());
         let past = position_from(deltas, &at, item.offset().saturating_add(item.len()));
-        match piece_of(
-            machine, section, base, deltas, density, &at, &past, start, &item,
-        ) {
+        match piece_of(machine, section, base, deltas, &at, &past, start, &item) {
             Err(_error) => return,
             Ok(piece) => {
                 let place = at.output_offset.saturating_sub(before);
@@ -475,15 +420,9 @@ pub fn pack_run<I: AsItem>(
     debug_assert!((base as u128) + (section.len() as u128) < 1 << 64);
     debug_assert!(!DeltaSlice::new(deltas).has_valid_deltas() || packed_run_len(base, section.len(), deltas) == out.len());
     let list = ItemList::new(items);
-    let density = density_of(deltas);
-    let near = guessed_position(deltas, density, &RUN_START, base);
-    let begin = position_near(deltas, &near, base);
-    test_items(
-        machine, section, base, &list, deltas, density, start, &begin,
-    )?;
+    let begin = position_of(deltas, base);
+    test_items(machine, section, base, &list, deltas, start, &begin)?;
     copy_kept(section, base, deltas, out);
-    put_items(
-        machine, section, base, &list, deltas, density, start, &begin, out,
-    );
+    put_items(machine, section, base, &list, deltas, start, &begin, out);
     Ok(())
 }

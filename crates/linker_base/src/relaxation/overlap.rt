@@ -128,33 +128,8 @@ fn four_rise<D: AsDeletion>(deletions: &[D], at: usize) -> bool
 }
 
 // The index of the first of the additional deletions that overlaps a delta or an earlier one of
-// them, or doesn't fit. Most often it is the first that doesn't ascend; else it is searched for.
-pub(super) fn first_overlapping<D: AsDeletion>(
-    deltas: &[RelaxDelta],
-    additional: &[D],
-) -> Option<usize>
-    ensures { IsValid (map deletion_of deltas.now)
-        → MatchOption result (AreDisjoint (map deletion_of deltas.now ++ map D.deletion
-        additional.now)) (IsFirstOverlapping (map deletion_of deltas.now)
-        (map D.deletion additional.now)) }
-{
-    if can_be_merged(deltas, additional) {
-        return None;
-    }
-    let (mut low, mut high) = (0, additional.len());
-    let mut middle = valid_len(additional).saturating_add(1);
-    while high - low > 1 {
-        middle = inner_or_middle(middle, low, high);
-        if can_be_merged(deltas, &additional[..middle]) {
-            low = middle;
-        } else {
-            high = middle;
-        }
-    }
-    Some(low)
-}
-
-// The same, by sorting copies of the first deletions, where there is memory for them.
+// them, or doesn't fit. Most often it is the first that doesn't ascend; else it is searched for, by
+// sorting copies of the first deletions, where there is memory for them.
 pub(super) fn first_overlapping_sorted<D: AsDeletion>(
     alloc: Global,
     deltas: &[RelaxDelta],

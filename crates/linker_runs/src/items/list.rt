@@ -1,20 +1,16 @@
 //! The items of a run, in an array of the caller's.
 
-ghost use Rattle.std.specs.Prelude.{◌≡◌, ◌-◌, ◌<◌, ◌≤◌, length, map, true, false};
+ghost use Rattle.std.specs.Prelude.{◌≡◌, ◌<◌, ◌≤◌, length, map};
 ghost use Rattle.linker_runs.specs.Relaxing.{item_at, place_of, AreInOrder};
 
-use crate::guesses::{about, density, middle};
 use crate::items::AsItem;
 use crate::relaxation::Item;
-use linker_base::packing::search::{Tested, passing_near};
 use std::marker::Model;
 
 /// The items of a run. Contracts see the list of items that the array's elements say.
 #[derive(Drop)]
 pub(crate) struct ItemList<'a, I: AsItem> {
     elements: &'a [I],
-    /// About how many items begin in 4 GiB, in the middle of the run.
-    density: u64,
 }
 
 impl<'a, I: AsItem> Model for ItemList<'a, I> {
@@ -32,16 +28,7 @@ impl<'a, I: AsItem> ItemList<'a, I> {
     pub(crate) fn new(elements: &'a [I]) -> ItemList<'a, I>
         ensures { result ≡ map I.item elements.now }
     {
-        let (low, high) = middle(elements.len());
-        let density = match (elements.get(low), elements.get(high)) {
-            (Some(from), Some(to)) => density(
-                high.saturating_sub(low),
-                from.as_item().offset(),
-                to.as_item().offset(),
-            ),
-            _ => 0,
-        };
-        ItemList { elements, density }
+        ItemList { elements }
     }
 
     /// How many there are.
@@ -62,77 +49,21 @@ impl<'a, I: AsItem> ItemList<'a, I> {
         elements[index].as_item()
     }
 
-    /// About which index the item at an offset has, if items from an index on are as near each
-    /// other as most of the run.
-    #[inline(always)]
-    fn about(&self, index: usize, offset: u64) -> usize {
-        match self.elements.get(index) {
-            Some(element) => about(self.density, index, element.as_item().offset(), offset),
-            None => index,
-        }
-    }
-
-    /// How many items end at or below an offset. It is found faster where it is near `near`, or
-    /// where items in between are as near each other as most of the run.
-    pub(crate) fn place_of(&self, offset: u64, near: usize, start: u64) -> usize
+    /// How many items end at or below an offset.
+    pub(crate) fn place_of(&self, offset: u64, start: u64) -> usize
         requires { AreInOrder start self.now }
         ensures place { result ≡ place_of self.now offset }
         ensures within { result ≤ length self.now }
     {
-        let ended = Ended {
-            elements: self.elements,
-            offset,
-        };
-        passing_by_steps(&ended, self.about(self.about(near, offset), offset))
-    }
-}
-
-/// How many steps a search walks, before it takes halves.
-const STEPS: usize = 16;
-
-/// An index as `passing_near` returns it. Where it is a few steps from `near`,
-/// it is found by these.
-fn passing_by_steps<T: Tested>(list: &T, near: usize) -> usize
-    ensures within { result ≤ T.size list.now }
-    ensures below { 0 < result → T.test list.now (result - 1) ≡ true }
-    ensures above { result < T.size list.now → T.test list.now result ≡ false }
-{
-    let mut index = near.min(list.len());
-    for _ in 0..STEPS {
-        if index < list.len() && list.passes(index) {
-            index += 1;
-        } else if index > 0 && !list.passes(index - 1) {
-            index -= 1;
-        } else {
-            return index;
+        let (mut low, mut high) = (0, self.len());
+        while low < high {
+            let middle = low + (high - low) / 2;
+            if self.at(middle).ends_by(offset) {
+                low = middle + 1;
+            } else {
+                high = middle;
+            }
         }
-    }
-    passing_near(list, index)
-}
-
-/// Elements that are items, and whether an item ends at or below an offset.
-#[derive(Drop)]
-struct Ended<'a, I: AsItem> {
-    elements: &'a [I],
-    offset: u64,
-}
-
-impl<'a, I: AsItem> Tested for Ended<'a, I> {
-    ghost use Rattle.std.specs.Prelude.{◌<◌, length, map, nat_le};
-    ghost use Rattle.linker_runs.specs.Relaxing.{item_at, end_of};
-
-    ghost size = { λ list. length list.elements.now };
-
-    ghost test = { λ list index.
-        nat_le (end_of (item_at (map I.item list.elements.now) index)) list.offset };
-
-    #[inline(always)]
-    fn len(&self) -> usize {
-        self.elements.len()
-    }
-
-    #[inline(always)]
-    fn passes(&self, index: usize) -> bool {
-        self.elements[index].as_item().ends_by(self.offset)
+        low
     }
 }

@@ -274,16 +274,11 @@ pub(super) fn run_granularity<I: AsItem>(items: &ItemList<'_, I>, start: u64) ->
 }
 
 /// Whether an offset is not inside what an item may lose.
-pub(super) fn is_clear<I: AsItem>(
-    items: &ItemList<'_, I>,
-    start: u64,
-    offset: u64,
-    near: usize,
-) -> bool
+pub(super) fn is_clear<I: AsItem>(items: &ItemList<'_, I>, start: u64, offset: u64) -> bool
     requires { AreInOrder start items.now }
     ensures { IsTrue result ↔ IsClearRun items.now offset }
 {
-    let place = items.place_of(offset, near, start);
+    let place = items.place_of(offset, start);
     if place == items.len() {
         return true;
     }

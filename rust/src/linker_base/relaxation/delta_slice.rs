@@ -284,17 +284,9 @@ impl<'a> DeltaSlice<'a> {
     /// ends above `u64::MAX`, or overlaps a deletion of the list or an earlier additional one. None
     /// where all can be merged.
     ///
-    /// It doesn't allocate. The work is that of `can_merge`, and log k times as much where some
-    /// deletion can't be merged; it is O(k log n + k log k) where the first that can't is also the
-    /// first that doesn't ascend.
-    #[must_use]
-    pub fn first_overlapping<D: AsDeletion>(&self, additional: &[D]) -> Option<usize> {
-        overlap::first_overlapping(self.deltas(), additional)
-    }
-
-    /// As `first_overlapping`, with copies of the first deletions that are sorted, where there is
-    /// memory for them: O(k log k + k log n) where all can be merged, and else log k times as much.
-    /// Deletions that ascend or descend, and 1,024 or fewer, aren't copied.
+    /// Copies of the first deletions are sorted, where there is memory for them: O(k log k + k log n)
+    /// where all can be merged, and else log k times as much. Deletions that ascend or descend, and
+    /// 1,024 or fewer, aren't copied.
     #[must_use]
     pub fn first_overlapping_sorted<D: AsDeletion>(
         &self,
@@ -367,7 +359,7 @@ pub(super) fn rank_after(last: RelaxDelta, offset: u64) -> u64 {
 
 // The rank of an offset, where so many deltas begin below it.
 #[inline(always)]
-fn rank_past(deltas: &[RelaxDelta], below: usize, offset: u64) -> u64 {
+pub(crate) fn rank_past(deltas: &[RelaxDelta], below: usize, offset: u64) -> u64 {
     let last = below.wrapping_sub(1);
     if last < deltas.len() {
         rank_after(deltas[last], offset)

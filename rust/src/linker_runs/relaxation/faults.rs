@@ -152,7 +152,7 @@ fn run_fault<I: AsItem>(
     if let Some(fault) = item.granularity_fault(granularity, start) {
         return Some(fault);
     }
-    if !is_clear(items, start, item.target(), index) {
+    if !is_clear(items, start, item.target()) {
         Some(Fault::TargetInside)
     } else if !has_its_nops(items, start, granularity, index) {
         Some(Fault::MayBeMisaligned)

@@ -163,9 +163,9 @@ fn first_faulty_deletions_are_named() {
     let deltas = deltas_of(&[(4, 4), (12, 2)]);
     assert_eq!(first_invalid(deltas.deltas()), None);
     let listed = DeltaSlice::new(deltas.deltas());
-    assert_eq!(listed.first_overlapping(&[(8, 4), (0, 4)]), None);
-    assert_eq!(listed.first_overlapping(&[(8, 4), (13, 1), (0, 5)]), Some(1));
-    assert_eq!(listed.first_overlapping(&[(20, 1), (16, 4), (20, 1)]), Some(2));
+    assert_eq!(listed.first_overlapping_sorted(&[(8, 4), (0, 4)]), None);
+    assert_eq!(listed.first_overlapping_sorted(&[(8, 4), (13, 1), (0, 5)]), Some(1));
+    assert_eq!(listed.first_overlapping_sorted(&[(20, 1), (16, 4), (20, 1)]), Some(2));
     assert!(listed.has_valid_deltas());
     for (second, cumulative_deleted) in [(3, 5), (4, 6), (4, 0)] {
         let faulty = [

@@ -36,9 +36,9 @@ returns-in-RiscV64-clause-becomes c = λ valid position.
     let site = c.args.site.now in
     let r = c.code_of.result in
     let here : c.args.at.now.output_offset ≡ rank s.deletions site.offset = position.output ∙ ap (rank s.deletions) c.requires.at in
-    let there : c.position_near.result.output_offset ≡ rank s.deletions site.target = (c.position_near.ensures.position valid).output ∙ ap (rank s.deletions) c.position_near.ensures.offset in
+    let there : c.position_of.result.output_offset ≡ rank s.deletions site.target = (c.position_of.ensures.position valid).output ∙ ap (rank s.deletions) c.position_of.ensures.offset in
     subst (λ m. IfOk r (λ code. SiteBecomes m s site (code_bytes code))) (sym c.in-RiscV64.is)
-    (moved (λ place target. IfOk r (λ code. RiscVBecomes s.bytes (site.offset - s.base) place target (code_bytes code))) s.start c.args.at.now.output_offset c.position_near.result.output_offset (rank s.deletions site.offset) (rank s.deletions site.target) here there c.code_of.ensures.becomes)
+    (moved (λ place target. IfOk r (λ code. RiscVBecomes s.bytes (site.offset - s.base) place target (code_bytes code))) s.start c.args.at.now.output_offset c.position_of.result.output_offset (rank s.deletions site.offset) (rank s.deletions site.target) here there c.code_of.ensures.becomes)
 
 pub returns-in-RiscV64-clause-accepts : goal.returns-in-RiscV64-clause-accepts
 returns-in-RiscV64-clause-accepts c = λ valid position.
@@ -46,11 +46,11 @@ returns-in-RiscV64-clause-accepts c = λ valid position.
     let site = c.args.site.now in
     let r = c.code_of.result in
     let here : c.args.at.now.output_offset ≡ rank s.deletions site.offset = position.output ∙ ap (rank s.deletions) c.requires.at in
-    let there : c.position_near.result.output_offset ≡ rank s.deletions site.target = (c.position_near.ensures.position valid).output ∙ ap (rank s.deletions) c.position_near.ensures.offset in
+    let there : c.position_of.result.output_offset ≡ rank s.deletions site.target = (c.position_of.ensures.position valid).output ∙ ap (rank s.deletions) c.position_of.ensures.offset in
     let accepts = λ (place target : ℕ). RiscVAccepts s.bytes (site.offset - s.base) c.args.kept place target in
     subst (λ m. OnOk r (SiteAccepts m s site c.args.kept)) (sym c.in-RiscV64.is)
     (on_ok r (accepts (address_of s site.offset) (address_of s site.target)) ((site.len ≡ 8) × accepts (address_of s site.offset) (address_of s site.target)) (λ h. (c.if-site-ne8.false, h))
-    (moved (λ place target. OnOk r (accepts place target)) s.start c.args.at.now.output_offset c.position_near.result.output_offset (rank s.deletions site.offset) (rank s.deletions site.target) here there c.code_of.ensures.accepts))
+    (moved (λ place target. OnOk r (accepts place target)) s.start c.args.at.now.output_offset c.position_of.result.output_offset (rank s.deletions site.offset) (rank s.deletions site.target) here there c.code_of.ensures.accepts))
 
 pub returns-in-RiscV64-clause-rejected : goal.returns-in-RiscV64-clause-rejected
 returns-in-RiscV64-clause-rejected c = λ valid position.
@@ -58,11 +58,11 @@ returns-in-RiscV64-clause-rejected c = λ valid position.
     let site = c.args.site.now in
     let r = c.code_of.result in
     let here : c.args.at.now.output_offset ≡ rank s.deletions site.offset = position.output ∙ ap (rank s.deletions) c.requires.at in
-    let there : c.position_near.result.output_offset ≡ rank s.deletions site.target = (c.position_near.ensures.position valid).output ∙ ap (rank s.deletions) c.position_near.ensures.offset in
+    let there : c.position_of.result.output_offset ≡ rank s.deletions site.target = (c.position_of.ensures.position valid).output ∙ ap (rank s.deletions) c.position_of.ensures.offset in
     let causes = λ (place target : ℕ) (error : ItemError). RiscVCause s.bytes (site.offset - s.base) c.args.kept place target error in
     subst (λ m. IfErr r (SiteCause m s site c.args.kept)) (sym c.in-RiscV64.is)
     (on_err r (causes (address_of s site.offset) (address_of s site.target)) (SiteCause RiscV64 s site c.args.kept) (with_len RiscV64 s site c.args.kept c.if-site-ne8.false)
-    (moved (λ place target. IfErr r (causes place target)) s.start c.args.at.now.output_offset c.position_near.result.output_offset (rank s.deletions site.offset) (rank s.deletions site.target) here there c.code_of.ensures.rejected))
+    (moved (λ place target. IfErr r (causes place target)) s.start c.args.at.now.output_offset c.position_of.result.output_offset (rank s.deletions site.offset) (rank s.deletions site.target) here there c.code_of.ensures.rejected))
 
 pub returns-in-LoongArch64-clause-becomes : goal.returns-in-LoongArch64-clause-becomes
 returns-in-LoongArch64-clause-becomes c = λ valid position.
@@ -70,9 +70,9 @@ returns-in-LoongArch64-clause-becomes c = λ valid position.
     let site = c.args.site.now in
     let r = c.code_of-in-LoongArch64.result in
     let here : c.args.at.now.output_offset ≡ rank s.deletions site.offset = position.output ∙ ap (rank s.deletions) c.requires.at in
-    let there : c.position_near.result.output_offset ≡ rank s.deletions site.target = (c.position_near.ensures.position valid).output ∙ ap (rank s.deletions) c.position_near.ensures.offset in
+    let there : c.position_of.result.output_offset ≡ rank s.deletions site.target = (c.position_of.ensures.position valid).output ∙ ap (rank s.deletions) c.position_of.ensures.offset in
     subst (λ m. IfOk r (λ code. SiteBecomes m s site (code_bytes code))) (sym c.in-LoongArch64.is)
-    (moved (λ place target. IfOk r (λ code. LoongArchBecomes s.bytes (site.offset - s.base) place target (code_bytes code))) s.start c.args.at.now.output_offset c.position_near.result.output_offset (rank s.deletions site.offset) (rank s.deletions site.target) here there c.code_of-in-LoongArch64.ensures.becomes)
+    (moved (λ place target. IfOk r (λ code. LoongArchBecomes s.bytes (site.offset - s.base) place target (code_bytes code))) s.start c.args.at.now.output_offset c.position_of.result.output_offset (rank s.deletions site.offset) (rank s.deletions site.target) here there c.code_of-in-LoongArch64.ensures.becomes)
 
 pub returns-in-LoongArch64-clause-accepts : goal.returns-in-LoongArch64-clause-accepts
 returns-in-LoongArch64-clause-accepts c = λ valid position.
@@ -80,11 +80,11 @@ returns-in-LoongArch64-clause-accepts c = λ valid position.
     let site = c.args.site.now in
     let r = c.code_of-in-LoongArch64.result in
     let here : c.args.at.now.output_offset ≡ rank s.deletions site.offset = position.output ∙ ap (rank s.deletions) c.requires.at in
-    let there : c.position_near.result.output_offset ≡ rank s.deletions site.target = (c.position_near.ensures.position valid).output ∙ ap (rank s.deletions) c.position_near.ensures.offset in
+    let there : c.position_of.result.output_offset ≡ rank s.deletions site.target = (c.position_of.ensures.position valid).output ∙ ap (rank s.deletions) c.position_of.ensures.offset in
     let accepts = λ (place target : ℕ). LoongArchAccepts s.bytes (site.offset - s.base) c.args.kept place target in
     subst (λ m. OnOk r (SiteAccepts m s site c.args.kept)) (sym c.in-LoongArch64.is)
     (on_ok r (accepts (address_of s site.offset) (address_of s site.target)) ((site.len ≡ 8) × accepts (address_of s site.offset) (address_of s site.target)) (λ h. (c.if-site-ne8.false, h))
-    (moved (λ place target. OnOk r (accepts place target)) s.start c.args.at.now.output_offset c.position_near.result.output_offset (rank s.deletions site.offset) (rank s.deletions site.target) here there c.code_of-in-LoongArch64.ensures.accepts))
+    (moved (λ place target. OnOk r (accepts place target)) s.start c.args.at.now.output_offset c.position_of.result.output_offset (rank s.deletions site.offset) (rank s.deletions site.target) here there c.code_of-in-LoongArch64.ensures.accepts))
 
 pub returns-in-LoongArch64-clause-rejected : goal.returns-in-LoongArch64-clause-rejected
 returns-in-LoongArch64-clause-rejected c = λ valid position.
@@ -92,8 +92,8 @@ returns-in-LoongArch64-clause-rejected c = λ valid position.
     let site = c.args.site.now in
     let r = c.code_of-in-LoongArch64.result in
     let here : c.args.at.now.output_offset ≡ rank s.deletions site.offset = position.output ∙ ap (rank s.deletions) c.requires.at in
-    let there : c.position_near.result.output_offset ≡ rank s.deletions site.target = (c.position_near.ensures.position valid).output ∙ ap (rank s.deletions) c.position_near.ensures.offset in
+    let there : c.position_of.result.output_offset ≡ rank s.deletions site.target = (c.position_of.ensures.position valid).output ∙ ap (rank s.deletions) c.position_of.ensures.offset in
     let causes = λ (place target : ℕ) (error : ItemError). LoongArchCause s.bytes (site.offset - s.base) c.args.kept place target error in
     subst (λ m. IfErr r (SiteCause m s site c.args.kept)) (sym c.in-LoongArch64.is)
     (on_err r (causes (address_of s site.offset) (address_of s site.target)) (SiteCause LoongArch64 s site c.args.kept) (with_len LoongArch64 s site c.args.kept c.if-site-ne8.false)
-    (moved (λ place target. IfErr r (causes place target)) s.start c.args.at.now.output_offset c.position_near.result.output_offset (rank s.deletions site.offset) (rank s.deletions site.target) here there c.code_of-in-LoongArch64.ensures.rejected))
+    (moved (λ place target. IfErr r (causes place target)) s.start c.args.at.now.output_offset c.position_of.result.output_offset (rank s.deletions site.offset) (rank s.deletions site.target) here there c.code_of-in-LoongArch64.ensures.rejected))
