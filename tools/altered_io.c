@@ -1,11 +1,10 @@
 /* Preloaded, alters the reads of the standard input and the writes to the standard output, as these
    variables say where they are set. At the end it writes a line to the standard error: how many reads
    there were, the fewest bytes that one of them had room for, and how many writes failed.
-   PIECE        the most bytes that a read gives
-   INTERRUPTED  the first read fails with this error
-   READS        so many reads succeed, and each further one fails with the error READ_ERROR
-   BLANKS       so many reads give one LF each, and the next one the end
-   WRITES       so many writes succeed, and each further one fails */
+   PIECE   the most bytes that a read gives
+   READS   so many reads succeed, and each further one fails with the error READ_ERROR
+   BLANKS  so many reads give one LF each, and the next one the end
+   WRITES  so many writes succeed, and each further one fails */
 #define _GNU_SOURCE
 #include <dlfcn.h>
 #include <errno.h>
@@ -38,8 +37,6 @@ ssize_t read(int file, void *into, size_t room) {
         return next(file, into, room);
     reads++;
     least_room = room < least_room ? room : least_room;
-    if (reads == 1 && number("INTERRUPTED", 0))
-        return fail(number("INTERRUPTED", 0));
     if (reads > number("READS", LONG_MAX))
         return fail(number("READ_ERROR", EIO));
     if (getenv("BLANKS")) {

@@ -1,32 +1,38 @@
 -- Calls by site, which a map keeps.
-use Rattle.std.proofs.Common.{Err, IsOk, ◌↔◌, subst, ◌≡◌, ℕ, ◌+◌, ◌-◌, ◌<◌, ◌≤◌, List, [], ◌∷◌, ◌++◌, length, nat_lt, true, false, refl, sym, ap, ◌∙◌, inl, inr, arith}
-use Rattle.std.specs.Prelude.{Result, All, Bool, nat_eq}
+use Rattle.std.proofs.Common.{Err, ◌↔◌, ◌≡◌, ℕ, ◌-◌, ◌<◌, ◌≤◌, List, [], ◌∷◌, ◌++◌, nat_lt, true, false, refl, sym, ap, ◌∙◌, inl, inr, arith}
+use Rattle.std.specs.Prelude.{Result, All, Bool, nat_eq, IsPermutation}
 use Rattle.std.specs.Ordering.{nat_cmp}
 use Rattle.std.specs.declared.cmp.Ordering.TheVariants.{Less, Equal, Greater}
 use Rattle.std.specs.declared.ops.Bound.TheVariants.{Included, Unbounded}
 use Rattle.std.specs.Map.{remove_entry}
 use Rattle.std.specs.BTreeMap.{insert_entry, is_at}
 use Rattle.std.specs.BTreeMap.Range.{entries_between}
-use Rattle.std.proofs.lemmas.Bool.{cases_Bool, cases_lt, cases_order, false≢true}
+use Rattle.std.proofs.lemmas.Bool.{cases_Bool, cases_lt, cases_order}
 use Rattle.std.proofs.lemmas.Bool.Decides.{nat_tests}
 use Rattle.std.proofs.lemmas.List.Elements.{All-nil, All-cons, All-head, All-tail}
 use Rattle.std.proofs.lemmas.List.Kept.{AllPairs-cons}
-use Rattle.std.proofs.lemmas.List.Sorted.{All-permutation, IsPermutation-to_front, IsPermutation-trans}
+use Rattle.std.proofs.lemmas.List.Sorted.{All-permutation, IsPermutation-refl, IsPermutation-cons, IsPermutation-middle, IsPermutation-to_front, IsPermutation-trans}
 use Rattle.linker_base.proofs.Rank.{all_pairs_head, all_pairs_tail}
 use Rattle.linker_riscv64.specs.Packing.{AreApart, IsApart}
-use Rattle.linker_riscv64.specs.RiscVCalls.{IsEven, IsJalDistance, IsSiteKept, output_distance}
 use Rattle.linker_riscv64.specs.declared.calls.CallError.TheVariants.{OutOfSection, SiteDeleted, OddDistance, TooFar}
 use Rattle.linker_riscv64.specs.declared.calls.CallError.{CallError}
-use Rattle.linkfix.specs.AcceptedCalls.{AreBySite, IsFarFrom}
-use Rattle.linkfix.specs.ByOffset.{placed}
+use Rattle.linkfix.specs.AcceptedCalls.{AreBySite, IsFarFrom, placed}
 use Rattle.linkfix.specs.Execution.{CallFailsWith, Rejects}
 use Rattle.linkfix.specs.declared.commands.Command.TheVariants.{Call}
 use Rattle.linkfix.specs.declared.program.ReportedError.{ReportedError}
 use Rattle.linkfix.specs.declared.program.ReportedError.TheVariants.{Call as CallFailed}
 use Rattle.linkfix.specs.declared.program.SectionState.{SectionState}
-use Rattle.linkfix.proofs.DeletionLemmas.{placed_same}
 
 -- ---- calls by site
+
+pub placed_same : (d : ℕ × ℕ) (es : List (ℕ × ℕ)) → IsPermutation (d ∷ es) (placed d es)
+placed_same d [] = IsPermutation-refl (d ∷ [])
+placed_same d (e ∷ es) = elim (cases_lt d.0 e.0) [
+  | inl low ↦ let t : nat_lt d.0 e.0 ≡ true = grind (arith, nat_tests, low) in rw t (IsPermutation-refl (d ∷ e ∷ es))
+  | inr high ↦
+      let f : nat_lt d.0 e.0 ≡ false = grind (arith, nat_tests, high) in
+      rw f (IsPermutation-trans (d ∷ e ∷ es) (e ∷ d ∷ es) (e ∷ placed d es) (IsPermutation-middle (d ∷ []) e es) (IsPermutation-cons e (d ∷ es) (placed d es) (placed_same d es)))
+]
 
 -- one more that is far from all
 placed_apart : (calls : List (ℕ × ℕ)) (call : ℕ × ℕ) → AreApart calls → All (IsFarFrom call.0) calls → AreApart (placed call calls)
@@ -172,22 +178,14 @@ pub call_fails : (site target : ℕ) (state : SectionState) (error : ReportedErr
 call_fails site target state error far (inl bad) = absurd (bad.1 far)
 call_fails site target state error far (inr fails) = (fails.1, fails.2, fails.3)
 
--- a jump over a distance fails as the call does, where the site lies in the section and is kept
-module _ (section : List ℕ) (ds : List (ℕ × ℕ)) (site target : ℕ) (result : Result (Unit {0}) CallError)
-    (four : site + 4 ≤ length section) (short : target ≤ length section) (kept : IsSiteKept ds site)
-    (accepted : IsOk result ↔ ((site + 4 ≤ length section) × IsEven (output_distance ds site target) × IsJalDistance (output_distance ds site target)))
-    (outside : (result ≡ Err OutOfSection) ↔ (length section < site + 4))
-    (odd : (result ≡ Err OddDistance) ↔ ((site + 4 ≤ length section) × ¬ (IsEven (output_distance ds site target))))
-    (far : (result ≡ Err TooFar) ↔ ((site + 4 ≤ length section) × IsEven (output_distance ds site target) × ¬ (IsJalDistance (output_distance ds site target)))) where
-  never_deleted : result ≡ Err SiteDeleted → ⊥
-  never_deleted is =
-      let uneven : IsEven (output_distance ds site target) → ⊥ = λ even.
-      let not_near : IsJalDistance (output_distance ds site target) → ⊥ = λ near. absurd (false≢true (subst IsOk is (accepted.1 (four, even, near)))) in
-      cc (is, far.1 (four, even, not_near)) in
-      cc (is, odd.1 (four, uneven))
-
-  pub jump_errors : (error : CallError) → (result ≡ Err error) ↔ CallFailsWith error section ds site target
-  jump_errors OutOfSection = (λ is. absurd (omega (arith, outside.0 is, four)), λ out. absurd (out (four, short)))
-  jump_errors SiteDeleted = (λ is. absurd (never_deleted is), λ gone. absurd (gone.1 kept))
-  jump_errors OddDistance = (λ is. ((four, short), kept, (odd.0 is).1), λ fails. odd.1 (four, fails.2))
-  jump_errors TooFar = (λ is. ((four, short), kept, (far.0 is).1, (far.0 is).2), λ fails. far.1 (four, fails.2, fails.3))
+-- each error of `relax_call` is for its cause
+pub call_errors : (section : List ℕ) (ds : List (ℕ × ℕ)) (site target : ℕ) (result : Result (Unit {0}) CallError)
+    → ((result ≡ Err OutOfSection) ↔ CallFailsWith OutOfSection section ds site target)
+    → ((result ≡ Err SiteDeleted) ↔ CallFailsWith SiteDeleted section ds site target)
+    → ((result ≡ Err OddDistance) ↔ CallFailsWith OddDistance section ds site target)
+    → ((result ≡ Err TooFar) ↔ CallFailsWith TooFar section ds site target)
+    → (error : CallError) → (result ≡ Err error) ↔ CallFailsWith error section ds site target
+call_errors section ds site target result outside deleted odd far OutOfSection = outside
+call_errors section ds site target result outside deleted odd far SiteDeleted = deleted
+call_errors section ds site target result outside deleted odd far OddDistance = odd
+call_errors section ds site target result outside deleted odd far TooFar = far

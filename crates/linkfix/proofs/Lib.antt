@@ -1,5 +1,4 @@
 mod CallLemmas
-mod DeletionLemmas
 mod Determined
 mod Digits
 mod LineLemmas

@@ -1,5 +1,4 @@
 pub mod AcceptedCalls
-pub mod ByOffset
 pub mod CommandSyntax
 pub mod DecodedHex
 pub mod ErrorLines

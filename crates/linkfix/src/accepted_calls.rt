@@ -3,8 +3,7 @@
 ghost use Rattle.std.specs.Prelude.{◌≡◌, ◌↔◌, ◌++◌, ◌∷◌, [], ℕ, List};
 ghost use Rattle.std.specs.Prelude.{All, IsTrue, IfOk, OnOk, OnErr};
 ghost use Rattle.linker_riscv64.specs.Packing.{AreApart};
-ghost use Rattle.linkfix.specs.AcceptedCalls.{AreBySite, IsFarFrom};
-ghost use Rattle.linkfix.specs.ByOffset.{placed};
+ghost use Rattle.linkfix.specs.AcceptedCalls.{AreBySite, IsFarFrom, placed};
 
 use std::alloc::{AllocError, Global};
 use std::collections::BTreeMap;

@@ -7,7 +7,7 @@ ghost use Rattle.linkfix.specs.declared.input.InputError.{InputError};
 ghost use Rattle.linkfix.specs.declared.input.TheConstants.{BUFFER_LEN, MAX_READS};
 
 use std::alloc::AllocError;
-use std::io::{ErrorKind, Read};
+use std::io::Read;
 
 /// The limit on the number of reads of one input.
 pub const MAX_READS: u32 = 1_048_576;
@@ -95,8 +95,7 @@ impl<R: Read> Lines<R> {
         }
     }
 
-    /// Fills the empty buffer by one read. Returns `false` at the end of the input. A read that a
-    /// signal interrupts is made again.
+    /// Fills the empty buffer by one read. Returns `false` at the end of the input.
     fn refill(&mut self) -> Result<bool, InputError>
         requires { self.old.start ≡ self.old.end }
         ensures reads { IfOk result (λ more. IsTrue more
@@ -108,23 +107,22 @@ impl<R: Read> Lines<R> {
             (remaining_bytes (R.remaining self.new.input) self.new ≡ Some bytes)
             × (IsTrue more ⊎ (bytes ≡ [])))) }
     {
-        while !self.has_ended {
-            if self.reads_left == 0 {
-                return Err(InputError::Read);
-            }
-            self.reads_left -= 1;
-            match self.input.read(&mut self.buffer) {
-                Ok(count) => {
-                    self.start = 0;
-                    self.end = count;
-                    self.has_ended = count == 0;
-                    return Ok(count > 0);
-                }
-                Err(error) if error.kind() == ErrorKind::Interrupted => {}
-                Err(_) => return Err(InputError::Read),
-            }
+        if self.has_ended {
+            return Ok(false);
         }
-        Ok(false)
+        if self.reads_left == 0 {
+            return Err(InputError::Read);
+        }
+        self.reads_left -= 1;
+        match self.input.read(&mut self.buffer) {
+            Ok(count) => {
+                self.start = 0;
+                self.end = count;
+                self.has_ended = count == 0;
+                Ok(count > 0)
+            }
+            Err(_) => Err(InputError::Read),
+        }
     }
 }
 

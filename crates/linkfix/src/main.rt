@@ -4,7 +4,6 @@
 
 mod accepted_calls;
 mod commands;
-mod deletions;
 mod input;
 mod program;
 mod sections;

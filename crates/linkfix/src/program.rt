@@ -23,11 +23,10 @@ ghost use Rattle.linkfix.specs.declared.sections.LineFault.{LineFault};
 
 use crate::accepted_calls::AcceptedCalls;
 use crate::commands::{BadLine, Command, parse_command};
-use crate::deletions::Deletions;
 use crate::input::{InputError, Lines};
 use crate::sections::{LineFault, read_section, show_section};
-use linker_utils::relaxation::{OutOfMemory, PackError, pack_section};
-use linker_utils::riscv64::CallError;
+use linker_utils::relaxation::{OutOfMemory, PackError, SectionRelaxDeltas, pack_section};
+use linker_utils::riscv64::{CallError, relax_call};
 use std::alloc::{AllocError, Global};
 use std::io;
 use std::io::{Read, Write};
@@ -205,7 +204,7 @@ fn execute_lines<R: Read + Drop, W: Write>(
     let mut state = SectionState {
         alloc,
         section: read_section(alloc, &line)?,
-        deltas: Deletions::new(alloc)?,
+        deltas: SectionRelaxDeltas::new(alloc, &[])?,
         calls: AcceptedCalls::new(alloc),
     };
     while lines.next_line(&mut line)? {
@@ -249,7 +248,7 @@ impl CommandResult {
 struct SectionState {
     alloc: Global,
     section: Vec<u8>,
-    deltas: Deletions,
+    deltas: SectionRelaxDeltas,
     calls: AcceptedCalls,
 }
 
@@ -291,7 +290,7 @@ impl SectionState {
                 Ok(CommandResult::Done)
             }
             Command::ToOutput { input_offset } => {
-                let number = self.deltas.to_output(input_offset);
+                let number = self.deltas.input_to_output_offset(input_offset);
                 Ok(CommandResult::Line(number_line(self.alloc, number)?))
             }
             Command::ToInput { output_offset } => {
@@ -323,12 +322,12 @@ impl SectionState {
         ensures section_stays { self.new.section ≡ self.old.section }
         ensures calls_stay { self.new.calls ≡ self.old.calls }
     {
-        if !self.deltas.can_add(offset, bytes) {
+        let pair = [(offset, bytes)];
+        if !self.deltas.is_mergeable(&pair) {
             return Err(ReportedError::BadDeletion);
         }
-        self.deltas
-            .add(self.alloc, offset, bytes)
-            .map_err(|_| ReportedError::OutOfMemory)
+        self.deltas.merge_additional(&pair)?;
+        Ok(())
     }
 
     /// The input offset of the kept byte at an output offset. `TooLarge` if it exceeds 2^64 - 1.
@@ -338,9 +337,10 @@ impl SectionState {
             ↔ ¬ HasInput self.now.deltas output_offset }
         ensures errors { IfErr result (λ e. e ≡ ReportedError.TooLarge) }
     {
-        self.deltas
-            .to_input(output_offset)
-            .ok_or(ReportedError::TooLarge)
+        if !self.deltas.output_fits(output_offset) {
+            return Err(ReportedError::TooLarge);
+        }
+        Ok(self.deltas.output_to_input_offset(output_offset))
     }
 
     /// Replaces the call at `site` by one jump to `target`, and accepts it. `BadCall` if its site
@@ -381,7 +381,7 @@ impl SectionState {
         ensures calls_stay { self.new.calls ≡ self.old.calls }
         ensures len_stays { length self.new.section.items ≡ length self.old.section.items }
     {
-        self.deltas.jump(self.section.as_mut_slice(), site, target)
+        relax_call(self.section.as_mut_slice(), &self.deltas, site, target)
     }
 
     /// The section packed, with the accepted calls made jumps.
@@ -393,9 +393,8 @@ impl SectionState {
         ensures causes { (error : ReportedError) → Rejects Command.Pack self.now error
             → (result ≡ Err error) ⊎ (result ≡ Err ReportedError.OutOfMemory) }
     {
-        let deltas = self.deltas.all(self.alloc)?;
         let calls = self.calls.to_vec(self.alloc)?;
-        match pack_section(self.alloc, &self.section, &deltas, &calls) {
+        match pack_section(self.alloc, &self.section, &self.deltas, &calls) {
             Ok(packed) => Ok(packed),
             Err(PackError::OutOfMemory) => Err(ReportedError::OutOfMemory),
             Err(PackError::Call { error, .. }) => Err(ReportedError::Call(error)),

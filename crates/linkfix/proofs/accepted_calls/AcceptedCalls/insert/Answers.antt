@@ -1,7 +1,6 @@
 use Rattle.std.proofs.Common.{◌∙◌, ap}
 use Rattle.std.specs.Prelude.{All}
-use Rattle.linkfix.specs.AcceptedCalls.{IsFarFrom}
-use Rattle.linkfix.specs.ByOffset.{placed}
+use Rattle.linkfix.specs.AcceptedCalls.{IsFarFrom, placed}
 use Rattle.linkfix.proofs.CallLemmas.{by_site_placed, inserted_placed}
 use Rattle.linkfix.proofs.accepted_calls.AcceptedCalls.insert.Goals as goal
 
