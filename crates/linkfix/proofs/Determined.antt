@@ -5,14 +5,14 @@ use Rattle.std.proofs.lemmas.List.Elements.{All-contains}
 use Rattle.std.proofs.lemmas.List.Sorted.{Contains-permutation, IsPermutation-sym, IsPermutation-trans}
 use Rattle.std.specs.Global.{Global}
 use Rattle.std.specs.Io.BufRead.{drop_through, first_line}
-use Rattle.linker_base.specs.Deletions.{AreDisjoint, HasInput, IsSortedUnion}
+use Rattle.linker_utils.specs.Deletions.{AreDisjoint, HasInput, IsSortedUnion}
 use Rattle.linker_base.proofs.Rank.{all_pairs_head, all_pairs_tail}
 use Rattle.linker_base.proofs.Unions.{union_once}
-use Rattle.linker_riscv64.specs.Packing.{AreApart, CanJump, IsApart, IsFirstRejected, IsRejected}
-use Rattle.linker_riscv64.specs.declared.calls.CallError.{CallError}
-use Rattle.linker_riscv64.specs.declared.calls.CallError.TheVariants.{OutOfSection, SiteDeleted, OddDistance, TooFar}
-use Rattle.linker_riscv64.specs.declared.calls.JumpError.TheVariants.{Call as JumpFailed}
-use Rattle.linker_riscv64.specs.declared.calls.LinkRegister.TheVariants.{OfAuipc}
+use Rattle.linker_utils.specs.Packing.{AreApart, CanJump, IsApart, IsFirstRejected, IsRejected}
+use Rattle.linker_utils.specs.CallError.{CallError}
+use Rattle.linker_utils.specs.CallError.TheVariants.{OutOfSection, SiteDeleted, OddDistance, TooFar}
+use Rattle.linker_utils.specs.JumpError.TheVariants.{Call as JumpFailed}
+use Rattle.linker_utils.specs.LinkRegister.TheVariants.{OfAuipc}
 use Rattle.linkfix.specs.AcceptedCalls.{AreBySite, IsFarFrom}
 use Rattle.linkfix.specs.CommandSyntax.{IsWrittenAs}
 use Rattle.linkfix.specs.DecodedHex.{decoded_hex}

@@ -1,6 +1,6 @@
 -- The calls that were made jumps.
 use Rattle.std.specs.Prelude.{ℕ, ◌+◌, ◌≤◌, ◌⊎◌, List, [], ◌∷◌, nat_lt, if◌then◌else◌, IsPermutation}
-use Rattle.linker_riscv64.specs.Packing.{AreApart}
+use Rattle.linker_utils.specs.Packing.{AreApart}
 
 -- the site is at least 4 from that of the call
 abbrev pub IsFarFrom : ℕ → ℕ × ℕ → Type 0

@@ -4,16 +4,16 @@ use Rattle.std.specs.Prelude.{◌≡◌, ℕ, List, [], ◌∷◌, ◌++◌, cod
 use Rattle.std.specs.Prelude.{All, length, ⊤}
 use Rattle.std.specs.Io.BufRead.{drop_through, first_line}
 use Rattle.hex.specs.Hex.{encode_lower}
-use Rattle.linker_base.specs.Deletions.{AreDisjoint, HasInput, IsSelected, IsSortedUnion, rank}
-use Rattle.linker_riscv64.specs.Packing.{IsFirstRejected, IsPacked}
-use Rattle.linker_riscv64.specs.RiscVCalls.{IsEven, IsInSection, IsJalDistance, IsSiteKept, JumpsAt}
-use Rattle.linker_riscv64.specs.RiscVCalls.{output_distance}
-use Rattle.linker_riscv64.specs.declared.calls.CallError.{CallError}
-use Rattle.linker_riscv64.specs.declared.calls.CallError.TheVariants.{OutOfSection}
-use Rattle.linker_riscv64.specs.declared.calls.CallError.TheVariants.{SiteDeleted}
-use Rattle.linker_riscv64.specs.declared.calls.CallError.TheVariants.{OddDistance, TooFar}
-use Rattle.linker_riscv64.specs.declared.calls.JumpError.TheVariants.{Call as JumpFailed}
-use Rattle.linker_riscv64.specs.declared.calls.LinkRegister.TheVariants.{OfAuipc}
+use Rattle.linker_utils.specs.Deletions.{AreDisjoint, HasInput, IsSelected, IsSortedUnion, rank}
+use Rattle.linker_utils.specs.Packing.{IsFirstRejected, IsPacked}
+use Rattle.linker_utils.specs.RiscVCalls.{IsEven, IsInSection, IsJalDistance, IsSiteKept, JumpsAt}
+use Rattle.linker_utils.specs.RiscVCalls.{output_distance}
+use Rattle.linker_utils.specs.CallError.{CallError}
+use Rattle.linker_utils.specs.CallError.TheVariants.{OutOfSection}
+use Rattle.linker_utils.specs.CallError.TheVariants.{SiteDeleted}
+use Rattle.linker_utils.specs.CallError.TheVariants.{OddDistance, TooFar}
+use Rattle.linker_utils.specs.JumpError.TheVariants.{Call as JumpFailed}
+use Rattle.linker_utils.specs.LinkRegister.TheVariants.{OfAuipc}
 use Rattle.linkfix.specs.AcceptedCalls.{AreBySite, IsFarFrom}
 use Rattle.linkfix.specs.DecodedHex.{decoded_hex}
 use Rattle.linkfix.specs.CommandSyntax.{IsWrittenAs}

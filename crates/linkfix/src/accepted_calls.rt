@@ -2,7 +2,7 @@
 
 ghost use Rattle.std.specs.Prelude.{◌≡◌, ◌↔◌, ◌++◌, ◌∷◌, [], ℕ, List};
 ghost use Rattle.std.specs.Prelude.{All, IsTrue, IfOk, OnOk, OnErr};
-ghost use Rattle.linker_riscv64.specs.Packing.{AreApart};
+ghost use Rattle.linker_utils.specs.Packing.{AreApart};
 ghost use Rattle.linkfix.specs.AcceptedCalls.{AreBySite, IsFarFrom, placed};
 
 use std::alloc::{AllocError, Global};
@@ -20,7 +20,7 @@ pub struct AcceptedCalls {
 
 impl Model for AcceptedCalls {
     ghost use Rattle.std.specs.Prelude.{ℕ, List};
-    ghost use Rattle.linker_riscv64.specs.Packing.{AreApart};
+    ghost use Rattle.linker_utils.specs.Packing.{AreApart};
 
     ghost Value = { List (ℕ × ℕ) };
 

@@ -5,11 +5,11 @@ ghost use Rattle.std.specs.Prelude.{decimal, length, IfSome, IfOk, IfErr, OnOk, 
 ghost use Rattle.std.specs.String.{string_bytes};
 ghost use Rattle.std.specs.Io.KnownBytes.{Appends};
 ghost use Rattle.hex.specs.Hex.{encode_lower};
-ghost use Rattle.linker_base.specs.Deletions.{AreDisjoint, IsSortedUnion, IsSelected, HasInput};
-ghost use Rattle.linker_riscv64.specs.Packing.{IsPacked};
-ghost use Rattle.linker_riscv64.specs.RiscVCalls.{JumpsAt, output_distance};
-ghost use Rattle.linker_riscv64.specs.declared.calls.CallError.{CallError};
-ghost use Rattle.linker_riscv64.specs.declared.calls.LinkRegister.{LinkRegister};
+ghost use Rattle.linker_utils.specs.Deletions.{AreDisjoint, IsSortedUnion, IsSelected, HasInput};
+ghost use Rattle.linker_utils.specs.Packing.{IsPacked};
+ghost use Rattle.linker_utils.specs.RiscVCalls.{JumpsAt, output_distance};
+ghost use Rattle.linker_utils.specs.CallError.{CallError};
+ghost use Rattle.linker_utils.specs.LinkRegister.{LinkRegister};
 ghost use Rattle.linkfix.specs.ResultLines.{result_line};
 ghost use Rattle.linkfix.specs.ErrorLines.{error_line};
 ghost use Rattle.linkfix.specs.Execution.{CallFailsWith, EndsWith, Executes, ExecutesInput};
