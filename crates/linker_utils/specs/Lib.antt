@@ -3,7 +3,6 @@ pub mod Inner
 pub mod Machines
 pub mod Uleb128
 pub mod WriteErrors
-
 -- the definitions that public contracts of the crates below cite
 pub use Rattle.linker_base.specs.Bits
 pub use Rattle.linker_base.specs.Blocks
@@ -53,7 +52,6 @@ pub use Rattle.linker_loongarch64.specs.LoongArchRewrites
 pub use Rattle.linker_ppc64.specs.Ppc64Rewrites
 pub use Rattle.linker_x86_64.specs.X86Rewrites
 pub use Rattle.linker_x86_64.specs.X86RelocationsAfter
-
 -- the types whose values these definitions and contracts name
 pub use Rattle.linker_base.specs.declared.bit_misc.BitRange
 pub use Rattle.linker_base.specs.declared.relaxation.OutOfMemory
