@@ -1,5 +1,5 @@
 -- Steps of a search: what one test says of all other elements, and how many probes they take.
-use Rattle.std.proofs.Common.{◌≡◌, ℕ, ◌+◌, ◌*◌, ◌<◌, ◌≤◌, true, false, sym, ap, ◌∙◌, inl, inr, arith}
+use Rattle.std.proofs.Common.{◌≡◌, ℕ, zero, suc, ◌+◌, ◌*◌, ◌<◌, ◌≤◌, true, false, sym, ap, ◌∙◌, inl, inr, arith}
 use Rattle.std.specs.Prelude.{◌^◌}
 use Rattle.std.proofs.lemmas.Bool.{cases_Bool, cases_order, false≢true}
 use Rattle.std.proofs.lemmas.Nat.{pow_below}
@@ -16,7 +16,23 @@ digits_above exponent digits n low high = elim (cases_order exponent digits) [
   | inr (inr above) ↦ absurd (omega (arith, pow_below digits exponent above))
 ]
 
+-- where each step takes a probe only of more indexes than its width, they are as many as the digits
+pub few_spent : (count a b c d e f g : ℕ) → b ≤ a + 1 → c ≤ b + 1 → d ≤ c + 1 → e ≤ d + 1 → f ≤ e + 1 → g ≤ f + 1
+    → (count ≤ 32 → b ≤ a) → (count ≤ 16 → c ≤ b) → (count ≤ 8 → d ≤ c) → (count ≤ 4 → e ≤ d) → (count ≤ 2 → f ≤ e) → (count ≤ 1 → g ≤ f)
+    → (digits : ℕ) → count ≤ 2 ^ digits → g ≤ a + digits
+few_spent count a b c d e f g i1 i2 i3 i4 i5 i6 n1 n2 n3 n4 n5 n6 zero few = omega arith
+few_spent count a b c d e f g i1 i2 i3 i4 i5 i6 n1 n2 n3 n4 n5 n6 (suc zero) few = omega arith
+few_spent count a b c d e f g i1 i2 i3 i4 i5 i6 n1 n2 n3 n4 n5 n6 (suc (suc zero)) few = omega arith
+few_spent count a b c d e f g i1 i2 i3 i4 i5 i6 n1 n2 n3 n4 n5 n6 (suc (suc (suc zero))) few = omega arith
+few_spent count a b c d e f g i1 i2 i3 i4 i5 i6 n1 n2 n3 n4 n5 n6 (suc (suc (suc (suc zero)))) few = omega arith
+few_spent count a b c d e f g i1 i2 i3 i4 i5 i6 n1 n2 n3 n4 n5 n6 (suc (suc (suc (suc (suc zero))))) few = omega arith
+few_spent count a b c d e f g i1 i2 i3 i4 i5 i6 _ _ _ _ _ _ (suc (suc (suc (suc (suc (suc digits)))))) few = omega arith
+
 module _ (s : Subject) (level : Level) (test : Test) where
+  -- one index is left
+  pub narrowed_point : (first : ℕ) → IsNarrowed s level test first 1 → IsPointOf s level test first
+  narrowed_point first known = record { before = known.before; after = λ k low high. known.after k (omega arith) high }
+
   -- before the first probe all indexes are left
   pub narrowed_all : (len : ℕ) → len ≡ size_of s level → IsNarrowed s level test 0 (len + 1)
   narrowed_all len is = record { before = λ k low. absurd (omega arith); after = λ k low high. absurd (omega arith) }
@@ -39,11 +55,11 @@ module _ (s : Subject) (test : Test) where
   ]
 
   -- the last head that passes is the first delta of the block in which those that pass end
-  pub block_narrowed : IsPartitioned s Deltas test → HeadsAgree s test → (h b others : ℕ)
+  pub block_narrowed : IsPartitioned s Deltas test → HeadsAgree s test → (h b count : ℕ)
       → b + 1 ≡ h → h ≤ size_of s Heads → IsPointOf s Heads test h
-      → (64 * b + 1 + others < size_of s Deltas → 63 ≤ others)
-      → IsNarrowed s Deltas test (64 * b + 1) (others + 1)
-  block_narrowed parted agree h b others next bound point whole = record {
+      → (64 * b + count < size_of s Deltas → 64 ≤ count)
+      → IsNarrowed s Deltas test (64 * b + 1) count
+  block_narrowed parted agree h b count next bound point whole = record {
     before = λ k low. parted k (64 * b) (omega arith) (omega arith) (sym (agree b (omega arith)) ∙ point.before b (omega arith));
-    after = λ k low high. let full : 63 ≤ others = whole (omega arith) in fails_after parted agree h point k (omega arith) high;
+    after = λ k low high. let full : 64 ≤ count = whole (omega arith) in fails_after parted agree h point k (omega arith) high;
   }

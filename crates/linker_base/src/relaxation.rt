@@ -282,7 +282,7 @@ impl SectionRelaxDeltas {
     /// How many kept bytes lie below `input_offset`, which is the offset in the output section of
     /// what is there. For an offset inside a deletion it is that of what follows the deletion.
     /// The search takes O(log n).
-    #[inline]
+    #[inline(never)]
     pub fn input_to_output_offset(&self, input_offset: u64) -> u64
         ensures { result ≡ rank self.now input_offset }
     {
@@ -310,7 +310,7 @@ impl SectionRelaxDeltas {
     /// bytes of all deletions whose output offset is at most that.
     ///
     /// Requires an offset that `output_fits` accepts. The search takes O(log n).
-    #[inline]
+    #[inline(never)]
     pub fn output_to_input_offset(&self, output_offset: u64) -> u64
         requires { HasInput self.now output_offset }
         ensures { IsSelected self.now output_offset result }

@@ -249,7 +249,7 @@ impl SectionRelaxDeltas {
     /// what is there. For an offset inside a deletion it is that of what follows the deletion.
     /// The search takes O(log n).
     #[must_use]
-    #[inline]
+    #[inline(never)]
     pub fn input_to_output_offset(&self, input_offset: u64) -> u64 {
         input_to_output_counted(&mut self.counted(), input_offset)
     }
@@ -283,7 +283,7 @@ impl SectionRelaxDeltas {
     /// - `self.output_fits(output_offset)`
     #[must_use]
     #[cfg_attr(debug_assertions, track_caller)]
-    #[inline]
+    #[inline(never)]
     pub fn output_to_input_offset(&self, output_offset: u64) -> u64 {
         debug_assert!(self.output_fits(output_offset));
         output_to_input_counted(&mut self.counted(), output_offset)

@@ -39,21 +39,60 @@ pub(super) trait Probe {
     fn read(&mut self, level: Level, at: usize) -> BlockHead;
 }
 
-/// How many pass, where all before `start` do and none does from `len` further on. It takes as many
-/// probes as `len` has binary digits. After the first, 2^left - 1 elements are left. What is added
-/// is a shift, as LLVM makes a branch of what a loop selects, and that is mispredicted half the
-/// time.
+/// Of at most `2 * width` indexes from `first` on, at one of which the point is, the first of those
+/// that are left, `width` at most. No probe is taken where no more are there. Where the widths are
+/// constants, LLVM compiles a step to a comparison and a sum, without a branch.
 #[inline(always)]
-fn narrow<P: Probe>(probe: &mut P, level: Level, test: Test, start: usize, len: usize) -> usize {
-    let Some(mut left) = len.checked_ilog2() else {
-        return start;
-    };
-    let middle = start + (len - (1 << left));
-    let mut first = start;
+fn halve<P: Probe>(
+    probe: &mut P,
+    level: Level,
+    test: Test,
+    first: usize,
+    count: usize,
+    width: usize,
+) -> usize {
+    if count >= 2 * width {
+        let passes = test.passes(probe.read(level, first + (width - 1)));
+        return first + width * usize::from(passes);
+    }
+    if count > width {
+        let others = count - width;
+        let passes = test.passes(probe.read(level, first + (others - 1)));
+        return first + others * usize::from(passes);
+    }
+    first
+}
+
+/// How many pass, where the point is at one of `count` indexes from `first` on, 64 at most. The
+/// steps are written out, as LLVM makes a branch of what a loop selects, and that is mispredicted
+/// half the time.
+#[inline(always)]
+fn narrow_few<P: Probe>(
+    probe: &mut P,
+    level: Level,
+    test: Test,
+    first: usize,
+    count: usize,
+) -> usize {
+    let half = halve(probe, level, test, first, count, 32);
+    let fourth = halve(probe, level, test, half, count, 16);
+    let eighth = halve(probe, level, test, fourth, count, 8);
+    let sixteenth = halve(probe, level, test, eighth, count, 4);
+    let last = halve(probe, level, test, sixteenth, count, 2);
+    halve(probe, level, test, last, count, 1)
+}
+
+/// The first of 64 indexes, at one of which the point is, where none passes from `len` on. After the
+/// first probe, 2^left indexes are left. What is added is a shift, which LLVM makes no branch of.
+#[inline(always)]
+fn approach<P: Probe>(probe: &mut P, level: Level, test: Test, len: usize, exponent: u32) -> usize {
+    let mut left = exponent;
+    let middle = len - (1 << left);
+    let mut first = 0;
     if test.passes(probe.read(level, middle)) {
         first = middle + 1;
     }
-    while left > 0 {
+    while left > 6 {
         left -= 1;
         let head = probe.read(level, first + ((1 << left) - 1));
         first += usize::from(test.passes(head)) << left;
@@ -61,19 +100,25 @@ fn narrow<P: Probe>(probe: &mut P, level: Level, test: Test, start: usize, len: 
     first
 }
 
+/// How many of the `len` pass. It takes as many probes as `len` has binary digits.
+#[inline(always)]
+fn narrow<P: Probe>(probe: &mut P, level: Level, test: Test, len: usize) -> usize {
+    if len < BLOCK_LEN {
+        return narrow_few(probe, level, test, 0, len + 1);
+    }
+    let first = approach(probe, level, test, len, len.ilog2());
+    narrow_few(probe, level, test, first, BLOCK_LEN)
+}
+
 /// How many deltas pass. With B blocks it takes at most as many probes as B has binary digits, and
 /// six.
 #[inline(always)]
 pub(super) fn count_passing<P: Probe>(probe: &mut P, test: Test) -> usize {
     let len = probe.len();
-    let Some(block) = narrow(probe, Level::Heads, test, 0, count_blocks(len)).checked_sub(1) else {
+    let Some(block) = narrow(probe, Level::Heads, test, count_blocks(len)).checked_sub(1) else {
         return 0;
     };
     let second = BLOCK_LEN * block + 1;
-    let others = (len - second).min(BLOCK_LEN - 1);
-    // Of a whole block the count of steps is a constant, so that LLVM unrolls them.
-    if others == BLOCK_LEN - 1 {
-        return narrow(probe, Level::Deltas, test, second, BLOCK_LEN - 1);
-    }
-    narrow(probe, Level::Deltas, test, second, others)
+    let count = (len - second + 1).min(BLOCK_LEN);
+    narrow_few(probe, Level::Deltas, test, second, count)
 }

@@ -3,26 +3,14 @@ use Rattle.linker_base.specs.declared.relaxation.search.Level.TheVariants.{Heads
 use Rattle.linker_base.proofs.Halving.{heads_partitioned, narrowed_all, block_narrowed}
 use Rattle.linker_base.proofs.relaxation.search.count_passing.Goals as goal
 
-pub returns-then-others-clause-point : goal.returns-then-others-clause-point
-returns-then-others-clause-point g c parted agree =
-    let s = (g.P.Probe.state c.args.probe.now).subject in
-    let point = c.narrow.ensures.point (heads_partitioned s c.args.test parted agree) (narrowed_all s Heads c.args.test c.count_blocks.result (omega (arith, c.count_blocks.ensures, c.len-len.ensures))) in
-    let found = rw c.narrow.ensures.probes.same at c.narrow-then-others.ensures.point in
-    let next : c.in-Some.block + 1 ≡ c.narrow.result = omega (arith, c.in-Some.ensures.0, c.in-Some.ensures.1) in
-    found parted (block_narrowed s c.args.test parted agree c.narrow.result c.in-Some.block 63 next (omega (arith, c.narrow.ensures.within, c.count_blocks.ensures, c.len-len.ensures)) point (λ low. omega arith))
-
-pub returns-then-others-clause-spent : goal.returns-then-others-clause-spent
-returns-then-others-clause-spent g c digits fits =
-    omega (arith, c.narrow.ensures.spent digits (omega (arith, fits, c.count_blocks.ensures, c.len-len.ensures)), c.narrow-then-others.ensures.spent 6 (omega arith))
-
 pub returns-clause-point : goal.returns-clause-point
 returns-clause-point g c parted agree =
     let s = (g.P.Probe.state c.args.probe.now).subject in
     let point = c.narrow.ensures.point (heads_partitioned s c.args.test parted agree) (narrowed_all s Heads c.args.test c.count_blocks.result (omega (arith, c.count_blocks.ensures, c.len-len.ensures))) in
-    let found = rw c.narrow.ensures.probes.same at c.narrow-2.ensures.point in
+    let found = rw c.narrow.ensures.probes.same at c.narrow_few.ensures.point in
     let next : c.in-Some.block + 1 ≡ c.narrow.result = omega (arith, c.in-Some.ensures.0, c.in-Some.ensures.1) in
-    found parted (block_narrowed s c.args.test parted agree c.narrow.result c.in-Some.block c.min-others.result next (omega (arith, c.narrow.ensures.within, c.count_blocks.ensures, c.len-len.ensures)) point (λ low. omega (arith, c.min-others.ensures, c.len-len.ensures)))
+    found parted (block_narrowed s c.args.test parted agree c.narrow.result c.in-Some.block c.min-count.result next (omega (arith, c.narrow.ensures.within, c.count_blocks.ensures, c.len-len.ensures)) point (λ low. omega (arith, c.min-count.ensures, c.len-len.ensures)))
 
 pub returns-clause-spent : goal.returns-clause-spent
 returns-clause-spent g c digits fits =
-    omega (arith, c.narrow.ensures.spent digits (omega (arith, fits, c.count_blocks.ensures, c.len-len.ensures)), c.narrow-2.ensures.spent 6 (omega (arith, c.min-others.ensures)))
+    omega (arith, c.narrow.ensures.spent digits (omega (arith, fits, c.count_blocks.ensures, c.len-len.ensures)), c.narrow_few.ensures.spent 6 (omega (arith, c.min-count.ensures)))
