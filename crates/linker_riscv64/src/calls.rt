@@ -8,9 +8,9 @@ ghost use Rattle.linker_riscv64.specs.Inner.Packing.{IsJumpOf};
 ghost use Rattle.linker_riscv64.specs.Packing.{IsCallInSection};
 ghost use Rattle.linker_riscv64.specs.RiscVCalls.{IsEven, IsJalDistance, JumpsAndLinks, JumpsAt};
 ghost use Rattle.linker_riscv64.specs.RiscVCalls.{IsInSection, IsSiteKept, output_distance};
-ghost use Rattle.linker_riscv64.specs.RiscVCalls.{IsCallPair};
-ghost use Rattle.linker_riscv64.specs.RiscVCalls.{IsPlainCall, call_len, NamesRegister};
-ghost use Rattle.linker_riscv64.specs.RiscVCalls.{link_register};
+ghost use Rattle.linker_riscv64.specs.RiscVCalls.{IsCallPair, IsPlainCall, NamesRegister};
+ghost use Rattle.linker_riscv64.specs.RiscVCalls.{call_len, link_register};
+ghost use Rattle.linker_riscv64.specs.declared.calls.JumpError.{JumpError};
 
 use super::fields::{base, destination, function, opcode};
 use linker_base::relaxation::{DeltaSlice, SectionRelaxDeltas};
@@ -178,9 +178,7 @@ pub enum JumpError {
 }
 
 impl From<CallError> for JumpError {
-    ghost use Rattle.linker_riscv64.specs.declared.calls.JumpError.TheVariants.{Call};
-
-    ghost from_gives = { λ error e. e ≡ Call error };
+    ghost from_gives = { λ error e. e ≡ JumpError.Call error };
 
     fn from(error: CallError) -> JumpError {
         JumpError::Call(error)

@@ -163,16 +163,8 @@ fn reaches(from: u64, to: u64) -> bool
     ensures { IsTrue result
         ↔ (IsEven (pos to -ℤ pos from) × IsJalDistance (pos to -ℤ pos from)) }
 {
-    let distance = to.abs_diff(from);
-    if distance >= 1 << 63 {
-        return false;
-    }
-    let distance = if from <= to {
-        distance as i64
-    } else {
-        -(distance as i64)
-    };
-    test_distance(distance).is_ok()
+    let distance = to.wrapping_sub(from).cast_signed();
+    (from <= to) == (distance >= 0) && test_distance(distance).is_ok()
 }
 
 /// Whether a `jal` from the output offset of a call's site to that of its target reaches, once so
@@ -224,40 +216,6 @@ fn is_in_reach<C: AsCall, A: AsChoice>(
     reaches_over(from, to, index, split, count)
 }
 
-/// Drops the call at an index from the choice where it is out of reach. Whether it was dropped.
-#[inline(always)]
-fn drop_unreached<C: AsCall, A: AsChoice>(
-    deltas: &[RelaxDelta],
-    calls: &[C],
-    answer: &mut [A],
-    runs: &mut Runs,
-    index: usize,
-) -> bool
-    requires within { index < length calls.now }
-    requires one_each { length answer.old ≡ length calls.now }
-    requires runs { AreRunsOf runs.old (map A.choice answer.old) }
-    ensures runs { AreRunsOf runs.new (map A.choice answer.new) }
-    ensures keeps { AreValidDeltas deltas.now
-        → AreShrinkable (deletions_of deltas.now) (map C.call calls.now)
-        → KeepsOthers (deletions_of deltas.now) (map C.call calls.now) (map A.choice answer.old)
-        (map A.choice answer.new) }
-    ensures in_reach { AreValidDeltas deltas.now
-        → AreShrinkable (deletions_of deltas.now) (map C.call calls.now)
-        → IsFalse result → IsChosen (map A.choice answer.new) index
-        → IsInReachAt (deletions_of deltas.now) (map C.call calls.now) (map A.choice answer.new)
-        index }
-    ensures same { IsFalse result → answer.new ≡ answer.old }
-    ensures fewer { IsTrue result
-        → chosen_count (map A.choice answer.new) < chosen_count (map A.choice answer.old) }
-    ensures written { All A.is_written answer.old → All A.is_written answer.new }
-{
-    if !answer[index].as_choice() || is_in_reach(deltas, calls, answer, runs, index) {
-        return false;
-    }
-    runs.drop_call(answer, index);
-    true
-}
-
 /// Drops from the choice each call that is out of reach, one after the other, up from the first
 /// call or down from the last. Whether one was dropped.
 fn sweep<C: AsCall, A: AsChoice>(
@@ -286,7 +244,8 @@ fn sweep<C: AsCall, A: AsChoice>(
     let mut dropped = false;
     for turn in 0..calls.len() {
         let index = if down { calls.len() - 1 - turn } else { turn };
-        if drop_unreached(deltas, calls, answer, runs, index) {
+        if answer[index].as_choice() && !is_in_reach(deltas, calls, answer, runs, index) {
+            runs.drop_call(answer, index);
             dropped = true;
         }
     }
