@@ -2,7 +2,7 @@
 
 ghost use Rattle.std.specs.Prelude.{◌≡◌, ◌≤◌, ◌<◌, ◌+◌, ◌-◌, ◌*◌, ◌++◌, ◌∷◌, [], ◌↔◌, ℕ, Bool};
 ghost use Rattle.std.specs.Prelude.{false, nat_lt, slice_set, map, take, length, pos, ◌-ℤ◌, All};
-ghost use Rattle.std.specs.Prelude.{IsTrue, IsFalse, IfOk, IfSome, MatchOption};
+ghost use Rattle.std.specs.Prelude.{IsTrue, IsFalse, IfOk, IfSome, MatchOption, ⊤};
 ghost use Rattle.linker_base.specs.Deletions.{AreDisjoint, AreKept};
 ghost use Rattle.linker_base.specs.Deltas.{deletions_of};
 ghost use Rattle.linker_base.specs.Listed.{AreValidDeltas};
@@ -38,8 +38,6 @@ pub trait AsChoice: Copy {
 }
 
 impl AsChoice for bool {
-    ghost use Rattle.std.specs.Prelude.{⊤};
-
     ghost choice = { λ chosen. chosen };
 
     ghost is_written = { λ _. ⊤ };
@@ -268,11 +266,10 @@ fn is_shrinkable_site(deltas: &[RelaxDelta], site: u64) -> bool
         ↔ (AreKept (deletions_of deltas.now) site 8
         × AreDisjoint (deletions_of deltas.now ++ (site + 4, 4) ∷ []))) }
 {
-    if site > u64::MAX - 8 {
-        return false;
-    }
     let deltas = DeltaSlice::new(deltas);
-    deltas.kept_output_offset(site, 8).is_some() && deltas.can_merge(&[(site + 4, 4)])
+    site <= u64::MAX - 8
+        && deltas.kept_output_offset(site, 8).is_some()
+        && deltas.can_merge(&[(site + 4, 4)])
 }
 
 /// Whether the site of the call at an index is at least 8 above the one before it, if there is one.
