@@ -263,11 +263,11 @@ pub fn calls_shrinkable(deltas: &SectionRelaxDeltas, calls: &[(u64, u64)]) -> bo
 ///
 /// All calls are chosen at first. Sweeps over them, up and down in turn, drop those out of reach
 /// until one sweep drops none. Their order doesn't matter, since more deletions never take a call
-/// out of reach. Where each call that is dropped takes one above it out of reach, or each one below
-/// it, two or three sweeps do. A chain that turns around n times may take n sweeps. For k calls and
-/// n deltas a test of a call takes O(log n + log k + k / 1024): the chosen calls between a site and
-/// its target are counted by runs of k / 1024 calls, and only where the call is in reach with all
-/// of them and out of reach with none.
+/// out of reach. Where each drop takes the next call above out of reach, or each the next one below,
+/// three sweeps do. A chain that turns around n times may take n sweeps. For k calls and n deltas a
+/// test of a call takes O(log n + log k + k / 1024): the chosen calls between a site and its target
+/// are counted by runs of k / 1024 calls, and only where the call is in reach with all of them and
+/// out of reach with none.
 ///
 /// # Requires
 ///
@@ -299,8 +299,8 @@ pub fn shrink_calls_into<C: AsCall, A: AsChoice>(
 /// rejects none of its calls for its distance (`shrunk_calls_are_accepted`).
 ///
 /// Requires calls that `calls_shrinkable` accepts. It allocates once, for what it returns, before
-/// anything else. `shrink_calls_into` says how long it takes. Where calls depend on each other, and
-/// more than sites need deletions, `relax` of a run is the call for a linker.
+/// anything else. `shrink_calls_into` says how long it takes. `relax` of a run, which knows of
+/// alignments and of other sites, is the call for a linker.
 ///
 /// # Requires
 ///
