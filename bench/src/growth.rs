@@ -69,29 +69,22 @@ fn rejected_merges(report: &mut Report) {
 fn cascades(report: &mut Report) {
     const REACH: u64 = 1 << 20;
     let site = |k: usize| 2 * REACH + 8 * k as u64;
-    // its target is in reach if the bytes of so many calls behind it, or its own, are deleted
-    let ahead = |k, needed: u64| Call {
+    // its target is in reach if its own bytes and those of one call behind it are deleted
+    let ahead = |k| Call {
         site: site(k),
-        target: site(k) + REACH - 2 + 4 * needed,
+        target: site(k) + REACH + 6,
     };
     // its target is in reach if the bytes of one call between are deleted
     let behind = |k| Call {
         site: site(k),
         target: site(k) - REACH - 4,
     };
-    let of_next = |count| (0..count).map(|k| ahead(k, 2)).collect();
+    let of_next = |count| (0..count).map(ahead).collect();
     let of_last = |count| (0..count).map(behind).collect();
-    // out of reach once those behind it are of which the turn comes first
-    let in_any_order = |count| {
-        let mut turns: Vec<u32> = (0..count as u32).collect();
-        Random::new(16).shuffle(&mut turns);
-        let left = |k: usize| turns[k..].iter().filter(|turn| **turn >= turns[k]).count() as u64;
-        (0..count).map(|k| ahead(k, left(k) + 1)).collect()
-    };
-    let chains: [(&str, &dyn Fn(usize) -> Vec<Call>); 3] = [
+    // chains that turn around take a sweep for each turn, and aren't measured
+    let chains: [(&str, &dyn Fn(usize) -> Vec<Call>); 2] = [
         ("each out of reach without the next", &of_next),
         ("each out of reach without the one before", &of_last),
-        ("each out of reach without others, in any order", &in_any_order),
     ];
     for (name, calls) in chains {
         let of = |count: usize| {

@@ -1,16 +1,16 @@
 //! RISC-V: calls that become jumps.
 
-ghost use Rattle.std.specs.Prelude.{◌≡◌, ◌≤◌, ◌<◌, ◌+◌, ◌^◌, ◌↔◌, ◌⊎◌, ℕ, IsTrue, IsOk, OnOk};
-ghost use Rattle.std.specs.Prelude.{OnErr, IfOk, IfErr, IsNone, IfSome, length, pos, ◌-ℤ◌};
+ghost use Rattle.std.specs.Prelude.{◌≡◌, ◌≤◌, ◌<◌, ◌+◌, ◌↔◌, ◌⊎◌, ℕ, IsTrue, IsOk, OnOk};
+ghost use Rattle.std.specs.Prelude.{OnErr, IfOk, IfErr, IsNone, IfSome, length};
 ghost use Rattle.linker_base.specs.Deltas.{deletions_of};
 ghost use Rattle.linker_base.specs.Blocks.{IsValidView};
 ghost use Rattle.linker_riscv64.specs.Inner.Packing.{IsJumpOf};
-ghost use Rattle.linker_riscv64.specs.Packing.{IsCallInSection};
+ghost use Rattle.linker_riscv64.specs.Packing.{call_of, IsCallInSection};
 ghost use Rattle.linker_riscv64.specs.RiscVCalls.{IsEven, IsJalDistance, JumpsAndLinks, JumpsAt};
 ghost use Rattle.linker_riscv64.specs.RiscVCalls.{IsInSection, IsSiteKept, output_distance};
-ghost use Rattle.linker_riscv64.specs.RiscVCalls.{IsCallPair};
-ghost use Rattle.linker_riscv64.specs.RiscVCalls.{IsPlainCall, call_len, NamesRegister};
-ghost use Rattle.linker_riscv64.specs.RiscVCalls.{link_register};
+ghost use Rattle.linker_riscv64.specs.RiscVCalls.{IsCallPair, IsPlainCall, NamesRegister};
+ghost use Rattle.linker_riscv64.specs.RiscVCalls.{call_len, link_register};
+ghost use Rattle.linker_riscv64.specs.declared.calls.JumpError.{JumpError};
 
 use super::fields::{base, destination, function, opcode};
 use linker_base::relaxation::{DeltaSlice, SectionRelaxDeltas};
@@ -83,8 +83,6 @@ pub trait AsCall: Copy {
 }
 
 impl AsCall for Call {
-    ghost use Rattle.linker_riscv64.specs.Packing.{call_of};
-
     ghost call = { call_of };
 
     #[inline(always)]
@@ -178,21 +176,11 @@ pub enum JumpError {
 }
 
 impl From<CallError> for JumpError {
-    ghost use Rattle.linker_riscv64.specs.declared.calls.JumpError.TheVariants.{Call};
-
-    ghost from_gives = { λ error e. e ≡ Call error };
+    ghost from_gives = { λ error e. e ≡ JumpError.Call error };
 
     fn from(error: CallError) -> JumpError {
         JumpError::Call(error)
     }
-}
-
-/// The distance from one offset to another, where both are below 2^63.
-#[inline(always)]
-pub(crate) fn distance_between(from: u64, to: u64) -> i64
-    ensures { from < 2 ^ 63 → to < 2 ^ 63 → result ≡ pos to -ℤ pos from }
-{
-    to.wrapping_sub(from).cast_signed()
 }
 
 /// Whether a `jal` jumps by a distance in bytes. The errors are `OddDistance` and `TooFar`, the
@@ -323,9 +311,10 @@ pub(super) fn jump_of(
         return Err(CallError::SiteDeleted);
     };
     let to = deltas.input_to_output_offset(target);
+    let distance = to.wrapping_sub(output_offset).cast_signed();
     Ok(Jump {
         output_offset,
-        distance: distance_between(output_offset, to),
+        distance,
     })
 }
 

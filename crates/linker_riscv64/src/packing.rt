@@ -10,8 +10,8 @@ ghost use Rattle.linker_base.specs.Inner.Packing.{IsFilled};
 ghost use Rattle.linker_riscv64.specs.Packing.{AreApart, IsFirstNotApart, CanJump, IsRejected};
 ghost use Rattle.linker_riscv64.specs.Packing.{IsFirstRejected, IsFirstFailing, IsPacked};
 ghost use Rattle.linker_riscv64.specs.Packing.{PackedCallsReachTargets};
-ghost use Rattle.linker_riscv64.specs.RiscVCalls.{JumpsAndLinks, link_register};
-ghost use Rattle.linker_riscv64.specs.RiscVCalls.{output_distance};
+ghost use Rattle.linker_riscv64.specs.RiscVCalls.{JumpsAndLinks, link_register, output_distance};
+ghost use Rattle.linker_riscv64.specs.declared.packing.PackError.{PackError};
 
 use super::calls::{AsCall, CallError, JumpError, LinkRegister, jal_site, jump_of, test_distance};
 use linker_base::packing::copy_kept;
@@ -43,9 +43,7 @@ pub enum PackError {
 }
 
 impl From<AllocError> for PackError {
-    ghost use Rattle.linker_riscv64.specs.declared.packing.PackError.TheVariants.{OutOfMemory};
-
-    ghost from_gives = { λ _ e. e ≡ OutOfMemory };
+    ghost from_gives = { λ _ e. e ≡ PackError.OutOfMemory };
 
     fn from(_error: AllocError) -> PackError {
         PackError::OutOfMemory
@@ -53,9 +51,7 @@ impl From<AllocError> for PackError {
 }
 
 impl<T: Drop> From<AllocFailed<T>> for PackError {
-    ghost use Rattle.linker_riscv64.specs.declared.packing.PackError.TheVariants.{OutOfMemory};
-
-    ghost from_gives = { λ _ e. e ≡ OutOfMemory };
+    ghost from_gives = { λ _ e. e ≡ PackError.OutOfMemory };
 
     fn from(_error: AllocFailed<T>) -> PackError {
         PackError::OutOfMemory

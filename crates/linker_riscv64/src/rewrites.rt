@@ -1,6 +1,5 @@
 //! RISC-V: relaxation rewrites.
 
-ghost use Rattle.linker_riscv64.specs.RiscVRewrites.{riscv_rewrites};
 ghost use Rattle.std.proofs.Common.{ap};
 ghost use Rattle.std.specs.Prelude.{slice_get, ◌≡◌, ◌≤◌, ◌↔◌, IsTrue, Some, length, ◌≢◌, ◌+◌, ◌++◌};
 ghost use Rattle.std.specs.Prelude.{take, drop, IfSome, IfNone};
@@ -8,21 +7,17 @@ ghost use Rattle.std.specs.Int.{from_le_bytes, to_le_bytes, w16, w32};
 ghost use Rattle.linker_base.specs.Rewrite.{CanRewrite, rewritten, offset_after, addend_after};
 ghost use Rattle.linker_base.specs.RewriteWindow.{window_of_rewrite};
 ghost use Rattle.linker_base.specs.Bits.{field, signed};
-ghost use Rattle.linker_riscv64.specs.RiscVRewrites.{riscv_rewrite, riscv_modifier, hi20, lo12};
-ghost use Rattle.linker_riscv64.specs.RiscVRewrites.{IsSigned32};
-ghost use Rattle.linker_riscv64.specs.RiscVRewrites.{FitsClui, HoldsHigh, riscv_deleted, with_rs1};
-ghost use Rattle.linker_riscv64.specs.RiscVRewrites.{tp};
-ghost use Rattle.linker_riscv64.specs.RiscVRewrites.{opcode_of, funct3_of, adds_low12, IsTailCall};
-ghost use Rattle.linker_riscv64.specs.RiscVRewrites.{IsLui, IsAuipc, IsLd, IsAddTp, IsAddiToA0};
-ghost use Rattle.linker_riscv64.specs.RiscVRewrites.{IsCallOfDescriptor, riscv_matches};
-ghost use Rattle.linker_riscv64.specs.RiscVRewrites.{IsClui};
 ghost use Rattle.linker_elf.specs.Agrees.{RowFits};
 ghost use Rattle.linker_elf.specs.Readings.{RowReadsNoOther};
 ghost use Rattle.linker_elf.specs.RiscVRelocations.{clui_row};
-ghost use Rattle.linker_riscv64.specs.RiscVRewrites.{riscv_skipped, riscv_may_be_skipped};
+ghost use Rattle.linker_riscv64.specs.RiscVRewrites.{riscv_rewrite, riscv_rewrites, riscv_modifier};
+ghost use Rattle.linker_riscv64.specs.RiscVRewrites.{riscv_matches, riscv_deleted, riscv_skipped};
+ghost use Rattle.linker_riscv64.specs.RiscVRewrites.{riscv_may_be_skipped, hi20, lo12, IsSigned32};
+ghost use Rattle.linker_riscv64.specs.RiscVRewrites.{FitsClui, HoldsHigh, with_rs1, tp, adds_low12};
+ghost use Rattle.linker_riscv64.specs.RiscVRewrites.{opcode_of, funct3_of, IsTailCall, IsClui, IsLd};
+ghost use Rattle.linker_riscv64.specs.RiscVRewrites.{IsLui, IsAuipc, IsAddTp, IsAddiToA0};
+ghost use Rattle.linker_riscv64.specs.RiscVRewrites.{IsCallOfDescriptor};
 ghost use Rattle.linker_riscv64.specs.declared.rewrites.RelaxationKind.TheVariants.{NoOp};
-ghost use Rattle.linker_base.specs.declared.relaxation.RelocationModifier.TheVariants.{Normal};
-ghost use Rattle.linker_base.specs.declared.relaxation.RelocationModifier.TheVariants.{SkipNextRelocation};
 
 use super::calls::{is_call_pair, is_plain_call};
 use super::fields::{base, destination, function, opcode, word_at};
@@ -54,8 +49,7 @@ pub enum RelaxationKind {
     /// Clears bits 15 to 19: the source register of the instruction that adds the low part becomes
     /// x0.
     Lo12Rs1ToZero,
-    /// Turns the `auipc` of a tail call, whose `jalr` links no register, into a `jal x0` of
-    /// distance
+    /// Turns the `auipc` of a tail call, whose `jalr` links no register, into a `jal x0` of distance
     /// 0. The caller deletes the `jalr` after it.
     TailToJal,
     /// Turns the first two bytes of a tail call into a `c.j` of distance 0. Requires the C
@@ -103,7 +97,8 @@ fn half_at(section: &[u8], offset: u64) -> u16
     ensures whole { result ≡ from_le_bytes w16 (drop offset section.now) }
     ensures window { result ≡ from_le_bytes w16 (take 2 (drop offset section.now)) }
 {
-    u16_from_slice(&section[offset as usize..])
+    let start = offset as usize;
+    u16::from_le_bytes([section[start], section[start + 1]])
 }
 
 /// Writes an instruction at an offset of the section.
@@ -290,7 +285,7 @@ impl RelaxationKind {
                 put_word(section_bytes, offset, jal);
             }
             RelaxationKind::Hi20ToCLui => {
-                let lui = u16_from_slice(&section_bytes[offset as usize..]);
+                let lui = half_at(section_bytes, offset);
                 let c_lui = 0x6001 | (lui >> 7 & 0x1f) << 7;
                 put_half(section_bytes, offset, c_lui);
             }
@@ -412,15 +407,13 @@ impl RelaxationKind {
     #[inline]
     pub fn skipped_offset(self) -> Option<u64>
         ensures exactly { result ≡ riscv_skipped self }
-        ensures skipped { IfSome result (λ _. riscv_modifier self ≡ SkipNextRelocation) }
-        ensures kept { IfNone result (riscv_modifier self ≡ Normal) }
+        ensures skipped { IfSome result
+            (λ _. riscv_modifier self ≡ RelocationModifier.SkipNextRelocation) }
+        ensures kept { IfNone result (riscv_modifier self ≡ RelocationModifier.Normal) }
     {
-        match self {
-            RelaxationKind::CallToJal
-            | RelaxationKind::Hi20Delete
-            | RelaxationKind::TailToJal
-            | RelaxationKind::TailToCJ => Some(0),
-            _ => None,
+        match self.next_modifier() {
+            RelocationModifier::SkipNextRelocation => Some(0),
+            RelocationModifier::Normal => None,
         }
     }
 
@@ -469,7 +462,9 @@ impl RelaxationKind {
         ensures compressed { IsTrue result → HoldsHigh RiscVInstruction.CluiType value }
         ensures whole { IsTrue result → HoldsHigh RiscVInstruction.UType value }
     {
-        has_clui_high(value)
+        // above the least such value, with the bit flipped that parts those below 0 from the others
+        let flipped = value.wrapping_add(0x2_0800) ^ 0x2_0000;
+        flipped.wrapping_sub(0x1000) < 0x3_f000
     }
 
     /// Whether a register can be the destination of `c.lui`: neither x0 nor x2, the stack pointer.
@@ -534,21 +529,4 @@ impl InstructionRewrite for RelaxationKind {
     fn is_no_op(self) -> bool {
         matches!(self, RelaxationKind::NoOp)
     }
-}
-
-#[inline(always)]
-fn has_clui_high(value: u64) -> bool
-    ensures { IsTrue result ↔ FitsClui value }
-{
-    // above the least such value, with the bit flipped that parts those below 0 from the others
-    let flipped = value.wrapping_add(0x2_0800) ^ 0x2_0000;
-    flipped.wrapping_sub(0x1000) < 0x3_f000
-}
-
-#[inline(always)]
-fn u16_from_slice(bytes: &[u8]) -> u16
-    requires { 2 ≤ length bytes.now }
-    ensures { result ≡ from_le_bytes w16 bytes.now }
-{
-    u16::from_le_bytes([bytes[0], bytes[1]])
 }

@@ -2,7 +2,7 @@
 
 ghost use Rattle.std.specs.Prelude.{◌≡◌, ◌≤◌, ◌<◌, ◌+◌, ◌-◌, ◌*◌, ◌++◌, ◌∷◌, [], ◌↔◌, ℕ, Bool};
 ghost use Rattle.std.specs.Prelude.{false, nat_lt, slice_set, map, take, length, pos, ◌-ℤ◌, All};
-ghost use Rattle.std.specs.Prelude.{IsTrue, IsFalse, IfOk, IfSome, MatchOption};
+ghost use Rattle.std.specs.Prelude.{IsTrue, IsFalse, IfOk, IfSome, MatchOption, ⊤};
 ghost use Rattle.linker_base.specs.Deletions.{AreDisjoint, AreKept};
 ghost use Rattle.linker_base.specs.Deltas.{deletions_of};
 ghost use Rattle.linker_base.specs.Listed.{AreValidDeltas};
@@ -38,8 +38,6 @@ pub trait AsChoice: Copy {
 }
 
 impl AsChoice for bool {
-    ghost use Rattle.std.specs.Prelude.{⊤};
-
     ghost choice = { λ chosen. chosen };
 
     ghost is_written = { λ _. ⊤ };
@@ -163,16 +161,8 @@ fn reaches(from: u64, to: u64) -> bool
     ensures { IsTrue result
         ↔ (IsEven (pos to -ℤ pos from) × IsJalDistance (pos to -ℤ pos from)) }
 {
-    let distance = to.abs_diff(from);
-    if distance >= 1 << 63 {
-        return false;
-    }
-    let distance = if from <= to {
-        distance as i64
-    } else {
-        -(distance as i64)
-    };
-    test_distance(distance).is_ok()
+    let distance = to.wrapping_sub(from).cast_signed();
+    (from <= to) == (distance >= 0) && test_distance(distance).is_ok()
 }
 
 /// Whether a `jal` from the output offset of a call's site to that of its target reaches, once so
@@ -224,40 +214,6 @@ fn is_in_reach<C: AsCall, A: AsChoice>(
     reaches_over(from, to, index, split, count)
 }
 
-/// Drops the call at an index from the choice where it is out of reach. Whether it was dropped.
-#[inline(always)]
-fn drop_unreached<C: AsCall, A: AsChoice>(
-    deltas: &[RelaxDelta],
-    calls: &[C],
-    answer: &mut [A],
-    runs: &mut Runs,
-    index: usize,
-) -> bool
-    requires within { index < length calls.now }
-    requires one_each { length answer.old ≡ length calls.now }
-    requires runs { AreRunsOf runs.old (map A.choice answer.old) }
-    ensures runs { AreRunsOf runs.new (map A.choice answer.new) }
-    ensures keeps { AreValidDeltas deltas.now
-        → AreShrinkable (deletions_of deltas.now) (map C.call calls.now)
-        → KeepsOthers (deletions_of deltas.now) (map C.call calls.now) (map A.choice answer.old)
-        (map A.choice answer.new) }
-    ensures in_reach { AreValidDeltas deltas.now
-        → AreShrinkable (deletions_of deltas.now) (map C.call calls.now)
-        → IsFalse result → IsChosen (map A.choice answer.new) index
-        → IsInReachAt (deletions_of deltas.now) (map C.call calls.now) (map A.choice answer.new)
-        index }
-    ensures same { IsFalse result → answer.new ≡ answer.old }
-    ensures fewer { IsTrue result
-        → chosen_count (map A.choice answer.new) < chosen_count (map A.choice answer.old) }
-    ensures written { All A.is_written answer.old → All A.is_written answer.new }
-{
-    if !answer[index].as_choice() || is_in_reach(deltas, calls, answer, runs, index) {
-        return false;
-    }
-    runs.drop_call(answer, index);
-    true
-}
-
 /// Drops from the choice each call that is out of reach, one after the other, up from the first
 /// call or down from the last. Whether one was dropped.
 fn sweep<C: AsCall, A: AsChoice>(
@@ -286,7 +242,8 @@ fn sweep<C: AsCall, A: AsChoice>(
     let mut dropped = false;
     for turn in 0..calls.len() {
         let index = if down { calls.len() - 1 - turn } else { turn };
-        if drop_unreached(deltas, calls, answer, runs, index) {
+        if answer[index].as_choice() && !is_in_reach(deltas, calls, answer, runs, index) {
+            runs.drop_call(answer, index);
             dropped = true;
         }
     }
@@ -309,11 +266,10 @@ fn is_shrinkable_site(deltas: &[RelaxDelta], site: u64) -> bool
         ↔ (AreKept (deletions_of deltas.now) site 8
         × AreDisjoint (deletions_of deltas.now ++ (site + 4, 4) ∷ []))) }
 {
-    if site > u64::MAX - 8 {
-        return false;
-    }
     let deltas = DeltaSlice::new(deltas);
-    deltas.kept_output_offset(site, 8).is_some() && deltas.can_merge(&[(site + 4, 4)])
+    site <= u64::MAX - 8
+        && deltas.kept_output_offset(site, 8).is_some()
+        && deltas.can_merge(&[(site + 4, 4)])
 }
 
 /// Whether the site of the call at an index is at least 8 above the one before it, if there is one.
@@ -423,11 +379,11 @@ pub fn calls_shrinkable(deltas: &SectionRelaxDeltas, calls: &[(u64, u64)]) -> bo
 ///
 /// All calls are chosen at first. Sweeps over them, up and down in turn, drop those out of reach
 /// until one sweep drops none. Their order doesn't matter, since more deletions never take a call
-/// out of reach. Where each call that is dropped takes one above it out of reach, or each one below
-/// it, two or three sweeps do. A chain that turns around n times may take n sweeps. For k calls and
-/// n deltas a test of a call takes O(log n + log k + k / 1024): the chosen calls between a site and
-/// its target are counted by runs of k / 1024 calls, and only where the call is in reach with all
-/// of them and out of reach with none.
+/// out of reach. Where each drop takes the next call above out of reach, or each the next one below,
+/// three sweeps do. A chain that turns around n times may take n sweeps. For k calls and n deltas a
+/// test of a call takes O(log n + log k + k / 1024): the chosen calls between a site and its target
+/// are counted by runs of k / 1024 calls, and only where the call is in reach with all of them and
+/// out of reach with none.
 pub fn shrink_calls_into<C: AsCall, A: AsChoice>(
     deltas: &[RelaxDelta],
     calls: &[C],
@@ -458,8 +414,8 @@ pub fn shrink_calls_into<C: AsCall, A: AsChoice>(
 /// rejects none of its calls for its distance (`shrunk_calls_are_accepted`).
 ///
 /// Requires calls that `calls_shrinkable` accepts. It allocates once, for what it returns, before
-/// anything else. `shrink_calls_into` says how long it takes. Where calls depend on each other, and
-/// more than sites need deletions, `relax` of a run is the call for a linker.
+/// anything else. `shrink_calls_into` says how long it takes. `relax` of a run, which knows of
+/// alignments and of other sites, is the call for a linker.
 pub fn shrink_calls(
     alloc: Global,
     deltas: &SectionRelaxDeltas,

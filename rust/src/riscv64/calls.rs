@@ -161,12 +161,6 @@ impl From<CallError> for JumpError {
     }
 }
 
-/// The distance from one offset to another, where both are below 2^63.
-#[inline(always)]
-pub(crate) fn distance_between(from: u64, to: u64) -> i64 {
-    to.wrapping_sub(from).cast_signed()
-}
-
 /// Whether a `jal` jumps by a distance in bytes. The errors are `OddDistance` and `TooFar`, the
 /// first of them that applies.
 #[inline(always)]
@@ -245,9 +239,10 @@ pub(super) fn jump_of(
         return Err(CallError::SiteDeleted);
     };
     let to = deltas.input_to_output_offset(target);
+    let distance = to.wrapping_sub(output_offset).cast_signed();
     Ok(Jump {
         output_offset,
-        distance: distance_between(output_offset, to),
+        distance,
     })
 }
 

@@ -31,8 +31,7 @@ pub enum RelaxationKind {
     /// Clears bits 15 to 19: the source register of the instruction that adds the low part becomes
     /// x0.
     Lo12Rs1ToZero,
-    /// Turns the `auipc` of a tail call, whose `jalr` links no register, into a `jal x0` of
-    /// distance
+    /// Turns the `auipc` of a tail call, whose `jalr` links no register, into a `jal x0` of distance
     /// 0. The caller deletes the `jalr` after it.
     TailToJal,
     /// Turns the first two bytes of a tail call into a `c.j` of distance 0. Requires the C
@@ -73,7 +72,8 @@ fn window_at(section: &[u8], offset: u64) -> u32 {
 /// The two bytes at an offset of the section.
 #[inline(always)]
 fn half_at(section: &[u8], offset: u64) -> u16 {
-    u16_from_slice(&section[offset as usize..])
+    let start = offset as usize;
+    u16::from_le_bytes([section[start], section[start + 1]])
 }
 
 /// Writes an instruction at an offset of the section.
@@ -227,7 +227,7 @@ impl RelaxationKind {
                 put_word(section_bytes, offset, jal);
             }
             RelaxationKind::Hi20ToCLui => {
-                let lui = u16_from_slice(&section_bytes[offset as usize..]);
+                let lui = half_at(section_bytes, offset);
                 let c_lui = 0x6001 | (lui >> 7 & 0x1f) << 7;
                 put_half(section_bytes, offset, c_lui);
             }
@@ -344,12 +344,9 @@ impl RelaxationKind {
     #[must_use]
     #[inline]
     pub fn skipped_offset(self) -> Option<u64> {
-        match self {
-            RelaxationKind::CallToJal
-            | RelaxationKind::Hi20Delete
-            | RelaxationKind::TailToJal
-            | RelaxationKind::TailToCJ => Some(0),
-            _ => None,
+        match self.next_modifier() {
+            RelocationModifier::SkipNextRelocation => Some(0),
+            RelocationModifier::Normal => None,
         }
     }
 
@@ -392,7 +389,9 @@ impl RelaxationKind {
     #[must_use]
     #[inline]
     pub fn hi20_fits_clui(value: u64) -> bool {
-        has_clui_high(value)
+        // above the least such value, with the bit flipped that parts those below 0 from the others
+        let flipped = value.wrapping_add(0x2_0800) ^ 0x2_0000;
+        flipped.wrapping_sub(0x1000) < 0x3_f000
     }
 
     /// Whether a register can be the destination of `c.lui`: neither x0 nor x2, the stack pointer.
@@ -446,16 +445,4 @@ impl InstructionRewrite for RelaxationKind {
     fn is_no_op(self) -> bool {
         matches!(self, RelaxationKind::NoOp)
     }
-}
-
-#[inline(always)]
-fn has_clui_high(value: u64) -> bool {
-    // above the least such value, with the bit flipped that parts those below 0 from the others
-    let flipped = value.wrapping_add(0x2_0800) ^ 0x2_0000;
-    flipped.wrapping_sub(0x1000) < 0x3_f000
-}
-
-#[inline(always)]
-fn u16_from_slice(bytes: &[u8]) -> u16 {
-    u16::from_le_bytes([bytes[0], bytes[1]])
 }

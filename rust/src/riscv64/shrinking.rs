@@ -106,16 +106,8 @@ impl Runs {
 
 /// Whether a `jal` at an output offset reaches another.
 fn reaches(from: u64, to: u64) -> bool {
-    let distance = to.abs_diff(from);
-    if distance >= 1 << 63 {
-        return false;
-    }
-    let distance = if from <= to {
-        distance as i64
-    } else {
-        -(distance as i64)
-    };
-    test_distance(distance).is_ok()
+    let distance = to.wrapping_sub(from).cast_signed();
+    (from <= to) == (distance >= 0) && test_distance(distance).is_ok()
 }
 
 /// Whether a `jal` from the output offset of a call's site to that of its target reaches, once so
@@ -155,22 +147,6 @@ fn is_in_reach<C: AsCall, A: AsChoice>(
     reaches_over(from, to, index, split, count)
 }
 
-/// Drops the call at an index from the choice where it is out of reach. Whether it was dropped.
-#[inline(always)]
-fn drop_unreached<C: AsCall, A: AsChoice>(
-    deltas: &[RelaxDelta],
-    calls: &[C],
-    answer: &mut [A],
-    runs: &mut Runs,
-    index: usize,
-) -> bool {
-    if !answer[index].as_choice() || is_in_reach(deltas, calls, answer, runs, index) {
-        return false;
-    }
-    runs.drop_call(answer, index);
-    true
-}
-
 /// Drops from the choice each call that is out of reach, one after the other, up from the first
 /// call or down from the last. Whether one was dropped.
 fn sweep<C: AsCall, A: AsChoice>(
@@ -183,7 +159,8 @@ fn sweep<C: AsCall, A: AsChoice>(
     let mut dropped = false;
     for turn in 0..calls.len() {
         let index = if down { calls.len() - 1 - turn } else { turn };
-        if drop_unreached(deltas, calls, answer, runs, index) {
+        if answer[index].as_choice() && !is_in_reach(deltas, calls, answer, runs, index) {
+            runs.drop_call(answer, index);
             dropped = true;
         }
     }
@@ -199,11 +176,10 @@ fn choose_all<A: AsChoice>(answer: &mut [A]) {
 
 /// Whether a call's eight bytes are kept, and the four that it loses may be deleted.
 fn is_shrinkable_site(deltas: &[RelaxDelta], site: u64) -> bool {
-    if site > u64::MAX - 8 {
-        return false;
-    }
     let deltas = DeltaSlice::new(deltas);
-    deltas.kept_output_offset(site, 8).is_some() && deltas.can_merge(&[(site + 4, 4)])
+    site <= u64::MAX - 8
+        && deltas.kept_output_offset(site, 8).is_some()
+        && deltas.can_merge(&[(site + 4, 4)])
 }
 
 /// Whether the site of the call at an index is at least 8 above the one before it, if there is one.
@@ -287,11 +263,11 @@ pub fn calls_shrinkable(deltas: &SectionRelaxDeltas, calls: &[(u64, u64)]) -> bo
 ///
 /// All calls are chosen at first. Sweeps over them, up and down in turn, drop those out of reach
 /// until one sweep drops none. Their order doesn't matter, since more deletions never take a call
-/// out of reach. Where each call that is dropped takes one above it out of reach, or each one below
-/// it, two or three sweeps do. A chain that turns around n times may take n sweeps. For k calls and
-/// n deltas a test of a call takes O(log n + log k + k / 1024): the chosen calls between a site and
-/// its target are counted by runs of k / 1024 calls, and only where the call is in reach with all
-/// of them and out of reach with none.
+/// out of reach. Where each drop takes the next call above out of reach, or each the next one below,
+/// three sweeps do. A chain that turns around n times may take n sweeps. For k calls and n deltas a
+/// test of a call takes O(log n + log k + k / 1024): the chosen calls between a site and its target
+/// are counted by runs of k / 1024 calls, and only where the call is in reach with all of them and
+/// out of reach with none.
 ///
 /// # Requires
 ///
@@ -323,8 +299,8 @@ pub fn shrink_calls_into<C: AsCall, A: AsChoice>(
 /// rejects none of its calls for its distance (`shrunk_calls_are_accepted`).
 ///
 /// Requires calls that `calls_shrinkable` accepts. It allocates once, for what it returns, before
-/// anything else. `shrink_calls_into` says how long it takes. Where calls depend on each other, and
-/// more than sites need deletions, `relax` of a run is the call for a linker.
+/// anything else. `shrink_calls_into` says how long it takes. `relax` of a run, which knows of
+/// alignments and of other sites, is the call for a linker.
 ///
 /// # Requires
 ///

@@ -1,4 +1,6 @@
-use Rattle.std.proofs.Common.{◌∙◌, refl, arith, rules}
+use Rattle.std.proofs.Common.{◌∙◌, ap, sym, refl, arith, rules}
+use Rattle.std.specs.Int.{w16, from_le_bytes}
+use Rattle.std.proofs.lemmas.List.{take_rest}
 use Rattle.linker_base.specs.Rewrite.{replaces}
 use Rattle.linker_base.proofs.Rewrites.{overwritten}
 use Rattle.linker_riscv64.specs.RiscVRewrites.{two_nops, call_to_jal, hi20_to_clui, rs1_to_zero}
@@ -26,7 +28,7 @@ pub returns-in-Hi20ToCLui-clause-bytes : goal.returns-in-Hi20ToCLui-clause-bytes
 returns-in-Hi20ToCLui-clause-bytes c =
     let s = c.args.section_bytes.now in
     let o = c.args.offset_in_section.now in
-    let made = clui_made s _ o c.u16_from_slice-lui.result c.u16_from_slice-lui.ensures refl in
+    let made = clui_made s _ o c.half_at-lui.result (c.half_at-lui.ensures.whole ∙ ap (from_le_bytes w16) (sym (take_rest s o))) refl in
     rewritten_as c.args.self Hi20ToCLui (replaces 0 2 hi20_to_clui) s c.put_half.new.section o c.in-Hi20ToCLui.is refl
     (c.put_half.ensures ∙ overwritten (replaces 0 2 hi20_to_clui) s _ o o (omega arith) (search rules) made)
 
