@@ -4,13 +4,14 @@ pub mod Bounds
 pub mod ChoiceTables
 pub mod Choices
 pub mod Clearing
+pub mod Codes
 pub mod Entries
 pub mod Halves
 pub mod LoongArch
 pub mod LoongArchAddresses
 pub mod LoongArchNumbers
 pub mod LoongArchSequences
-pub mod MovedBits
+pub mod ReadNumbers
 pub mod Placed
 pub mod PlainRows
 pub mod Ppc64Forms
@@ -22,8 +23,8 @@ pub mod RiscV
 pub mod RowTables
 pub mod RowsAgree
 pub mod RowsFit
-pub mod Runs
 pub mod SameNames
 pub mod Taken
+pub mod Steps
 pub mod WrittenNumbers
 pub mod WrittenRows

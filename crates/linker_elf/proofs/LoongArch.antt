@@ -1,10 +1,9 @@
 -- The LoongArch forms keep the laws of forms.
-use Rattle.std.proofs.Common.{◌≡◌, ℕ, ◌+◌, ◌-◌, ◌*◌, ◌/◌, ◌%◌, ◌^◌, ◌<◌, ◌≤◌, Bool, true, false, refl, sym, ap, ◌∙◌, subst, arith, List, [], ◌∷◌, ◌++◌, ◌≢◌, int_lt, pos, ◌+ℤ◌, ◌*ℤ◌}
-use Rattle.std.specs.Int.{w32, w64, from_le_bytes, bit_at, cast_unsigned, int_rem_euclid}
-use Rattle.std.proofs.lemmas.Bool.{le-ltb}
+use Rattle.std.proofs.Common.{◌≡◌, ℕ, ◌+◌, ◌-◌, ◌*◌, ◌/◌, ◌%◌, ◌^◌, ◌<◌, ◌≤◌, Bool, true, refl, sym, ap, ◌∙◌, arith, List, ◌++◌, pos, ◌+ℤ◌, ◌*ℤ◌}
+use Rattle.std.specs.Int.{w64, bit_at, cast_unsigned, int_rem_euclid}
 use Rattle.std.proofs.lemmas.List.Elements.{All-take, All-drop}
 use Rattle.linker_base.specs.Bits.{field, signed}
-use Rattle.linker_base.specs.Form.{window_of, ImmediateBit, BitsWritten, bit_for, placed_bit, Fits, Written, MachineReads, place_sum, replaced, cleared, consecutive_bits, one_field}
+use Rattle.linker_base.specs.Form.{ImmediateBit, BitsWritten, bit_for, placed_bit, Fits, Written, MachineReads, place_sum, replaced, one_field}
 use Rattle.linker_base.proofs.Immediates.{layout_machine, place_sum_below, fills, none_ored, place_sum_laid, always_clear}
 use Rattle.linker_base.proofs.Places.{adds}
 use Rattle.linker_base.proofs.Parts.{ArePlaced, all_replaced, part_laid}
@@ -12,15 +11,19 @@ use Rattle.linker_base.proofs.ConsecutiveBits.{consecutive_bits_sum}
 use Rattle.linker_elf.proofs.LoongArchNumbers.{pair_number, near_pair, far_pair}
 use Rattle.linker_elf.specs.LoongArch.{loongarch_form, loongarch_layout, shift10_low, shift10_imm16, call36_high, call36_low, pcaddu18i_imm, jirl_imm, ReadsLow, Reaches, IsDistanceModulo}
 use Rattle.linker_elf.specs.declared.loongarch64.forms.LoongArch64Instruction.{LoongArch64Instruction}
-use Rattle.linker_elf.specs.declared.loongarch64.forms.LoongArch64Instruction.TheVariants.{Shift5, Shift10, Branch26, Branch21, Call30, Call36}
-use Rattle.linker_elf.specs.declared.loongarch64.forms.WordBits.{WordBits}
-use Rattle.linker_elf.specs.Inner.Immediates.{is_one_word, loongarch_bits, loongarch_read}
-use Rattle.linker_elf.specs.Inner.Runs.{words_below}
-use Rattle.linker_elf.proofs.MovedBits.{signed_wide, Moved, up, down, laid, masks_write, masks_read, written_by_masks, read_by_masks}
-use Rattle.linker_elf.proofs.Runs.{laid_below, mask_cleared}
-use Rattle.std.specs.Int.RustNames.{bit_or}
+use Rattle.linker_elf.specs.declared.loongarch64.forms.LoongArch64Instruction.TheVariants.{Shift5, Shift10, Call30, Call36}
+use Rattle.std.proofs.Common.{inl, inr, ◌-ℤ◌}
+use Rattle.std.proofs.lemmas.Int.{ints, int_rem_euclid_is}
+use Rattle.std.proofs.lemmas.Nat.{and_mask, mod_below, pow_pos}
+use Rattle.std.proofs.lemmas.Nat.Bits.{and_pow}
+use Rattle.std.specs.Int.Bits.{and_zero_r}
 use lib.Bits.{bit_and}
-use Rattle.std.specs.Int.Bits.{or_zero_l}
+use Rattle.linker_base.specs.Form.{or_bits_to, ored}
+use Rattle.linker_base.proofs.Pairs.{signed_cases}
+use Rattle.linker_base.proofs.Places.{sums}
+use Rattle.linker_elf.specs.Inner.Runs.{code_of}
+use Rattle.linker_elf.specs.declared.elf.RelocationInstruction.TheVariants.{LoongArch64}
+use Rattle.linker_elf.proofs.ReadNumbers.{value_of}
 
 abbrev pub shift5_places : List ImmediateBit
 shift5_places = (loongarch_form Shift5).places 0
@@ -60,10 +63,6 @@ shift10_low_field x = consecutive_bits_sum replaced 12 0 10 0 x refl ∙ omega a
 
 pub shift10_field : (v before after : ℕ) → v < 2 ^ 12 → BitsWritten shift10_places v before after → field after 10 22 ≡ v
 shift10_field v before after h laid = sym (shift10_low_field after) ∙ shift10_low_sum v before after (omega arith) laid ∙ omega arith
-
--- an immediate of 16 bits without those that are only ORed
-pub shift10_cleared : (x : ℕ) → x < 2 ^ 32 → BitsWritten (consecutive_bits 4 12 22 0 cleared) 0 x (bit_and x (2 ^ 64 - 1 - 0x3c00000))
-shift10_cleared x small = mask_cleared 4 12 22 0 x (omega arith) (omega arith) (omega arith)
 
 -- ---- `pcaddu18i` and `jirl`
 
@@ -119,117 +118,48 @@ pub loongarch_reaches : (f : LoongArch64Instruction) (v : ℕ) (neg : Bool) (bef
 loongarch_reaches Call36 v neg before after h laid = call36_reaches v before after h laid
 loongarch_reaches f v neg before after h laid = tt
 
--- what a read returns, of a form that is known
-pub number_of : (f known : LoongArch64Instruction) (number : ℕ) (bytes : List ℕ) → f ≡ known
-    → number ≡ cast_unsigned w64 ((loongarch_form known).reading (window_of (loongarch_form known) bytes))
-    → number ≡ cast_unsigned w64 ((loongarch_form f).reading (window_of (loongarch_form f) bytes))
-number_of f known number bytes e h = subst (λ (g : LoongArch64Instruction). number ≡ cast_unsigned w64 ((loongarch_form g).reading (window_of (loongarch_form g) bytes))) (sym e) h
+-- ---- what is read
 
--- ---- the forms of one word, by a table of masks
+-- the lowest 12 bits of a `Shift10`
+pub shift10_value : (x : ℕ) → value_of (code_of (LoongArch64 Shift10)).0 (place_sum shift10_places x) ≡ cast_unsigned w64 ((loongarch_form Shift10).reading x)
+shift10_value x =
+    let n = place_sum shift10_places x in
+    let low = place_sum shift10_low x in
+    let high : place_sum (or_bits_to 12 15 22) x ≡ x / 2 ^ 22 % 2 ^ 4 * 2 ^ 12 = consecutive_bits_sum ored 4 12 22 0 x refl in
+    let all : n ≡ low + x / 2 ^ 22 % 2 ^ 4 * 2 ^ 12 = sums shift10_low (or_bits_to 12 15 22) x ∙ ap (λ y. low + y) high in
+    let small = place_sum_below shift10_low 12 x refl refl in
+    let wide = place_sum_below shift10_places 16 x refl refl in
+    ap (λ b. bit_and (((n + (2 ^ 64 - b * 2 % 2 ^ 64)) % 2 ^ 64 + (2 ^ 64 - 0)) % 2 ^ 64) 0xfff) (and_zero_r n)
+    ∙ and_mask (((n + (2 ^ 64 - 0 * 2 % 2 ^ 64)) % 2 ^ 64 + (2 ^ 64 - 0)) % 2 ^ 64) 12
+    ∙ omega (arith, all, small, wide)
 
-abbrev pub laid_bits : WordBits → List Moved
-laid_bits b =
-    record { way = up 5; mask = b.up_5 } ∷ record { way = up 10; mask = b.up_10 }
-    ∷ record { way = up 10; mask = b.ored_10 } ∷ record { way = down 16; mask = b.down_16 } ∷ []
+call36_rem : (h l n : ℕ) → n ≡ h * 2 ^ 16 + l → h < 2 ^ 20 → l < 2 ^ 16
+    → ((n + (2 ^ 64 - bit_at l 15 * 2 ^ 15 * 2 % 2 ^ 64)) % 2 ^ 64 + (2 ^ 64 - 0)) % 2 ^ 64 % 2 ^ 36
+    ≡ cast_unsigned w64 (int_rem_euclid (pos (h * 2 ^ 16) +ℤ signed 16 l) (pos (2 ^ 36)))
+call36_rem h l n e a b =
+    elim (signed_cases 16 l) [
+      | inl c ↦
+          let less = c.0 in
+          let sum = ap (λ z. int_rem_euclid (pos (h * 2 ^ 16) +ℤ z) (pos (2 ^ 36))) c.1
+          ∙ int_rem_euclid_is (pos (h * 2 ^ 16) +ℤ pos l) (pos (2 ^ 36)) (2 ^ 36) 0 (h * 2 ^ 16 + l) (omega arith) refl (omega (arith, ints)) in
+          omega arith ∙ sym (ap (cast_unsigned w64) sum)
+      | inr c ↦
+          let most = c.0 in
+          let sum = ap (λ z. int_rem_euclid (pos (h * 2 ^ 16) +ℤ z) (pos (2 ^ 36))) c.1
+          ∙ int_rem_euclid_is (pos (h * 2 ^ 16) +ℤ (pos l -ℤ pos (2 ^ 16))) (pos (2 ^ 36)) (2 ^ 36) 1 (h * 2 ^ 16 + l + 2 ^ 36 - 2 ^ 16) (omega arith) refl (omega (arith, ints)) in
+          omega arith ∙ sym (ap (cast_unsigned w64) sum)
+    ]
 
-abbrev pub taken_bits : WordBits → List Moved
-taken_bits b =
-    record { way = up 5; mask = b.up_5 } ∷ record { way = up 10; mask = b.up_10 } ∷ record { way = down 16; mask = b.down_16 } ∷ []
-
-unfoldable pub WritesWord : WordBits → ℕ → ℕ → List ImmediateBit → Type 0
-WritesWord b v x ps =
-    BitsWritten ps v x (laid (laid_bits b) v (bit_and x b.kept)) × (laid (laid_bits b) v (bit_and x b.kept) < 2 ^ 32)
-
-written_word : (b : WordBits) (v x : ℕ) (ps : List ImmediateBit) → v < 2 ^ 64 → x < 2 ^ 32 → masks_write 32 0 b.kept (laid_bits b) ps ≡ true → words_below 32 ps ≡ true
-    → WritesWord b v x ps
-unfolding WritesWord
-written_word b v x ps wide small h inside =
-    let whole : (v + 0) % 2 ^ 64 ≡ v = omega arith in
-    let bits = subst (λ n. BitsWritten ps v x (laid (laid_bits b) n (bit_and x b.kept))) whole
-    (written_by_masks 0 b.kept (laid_bits b) v x 32 ps h small) in
-    (bits, laid_below ps 32 v x (laid (laid_bits b) v (bit_and x b.kept)) inside bits small)
-
-pub writes_word : (f : LoongArch64Instruction) (v x : ℕ) → is_one_word f ≡ true → v < 2 ^ 64 → x < 2 ^ 32
-    → WritesWord (loongarch_bits f) v x ((loongarch_form f).places 0)
-writes_word Shift5 v x o h small = written_word (loongarch_bits Shift5) v x ((loongarch_form Shift5).places 0) h small refl refl
-writes_word Shift10 v x o h small = written_word (loongarch_bits Shift10) v x ((loongarch_form Shift10).places 0) h small refl refl
-writes_word Branch26 v x o h small = written_word (loongarch_bits Branch26) v x ((loongarch_form Branch26).places 0) h small refl refl
-writes_word Branch21 v x o h small = written_word (loongarch_bits Branch21) v x ((loongarch_form Branch21).places 0) h small refl refl
-writes_word Call30 v x o h small = cc
-writes_word Call36 v x o h small = cc
-
-unfoldable pub ReadsWord : WordBits → ℕ → List ImmediateBit → Type 0
-ReadsWord b x ps =
-    bit_or (bit_or (bit_and x b.up_5 / 2 ^ 5) (bit_and x b.up_10 / 2 ^ 10)) (bit_and x b.down_16 * 2 ^ 16 % 2 ^ 64) ≡ place_sum ps x
-
-read_word : (b : WordBits) (x : ℕ) (ps : List ImmediateBit) → x < 2 ^ 32 → masks_read (taken_bits b) ps ≡ true → ReadsWord b x ps
-unfolding ReadsWord
-read_word b x ps small h =
-    ap (λ y. bit_or (bit_or y (bit_and x b.up_10 / 2 ^ 10)) (bit_and x b.down_16 * 2 ^ 16 % 2 ^ 64)) (sym (or_zero_l (bit_and x b.up_5 / 2 ^ 5)))
-    ∙ read_by_masks (taken_bits b) ps x h (omega arith)
-
-pub reads_word : (f : LoongArch64Instruction) (x : ℕ) → is_one_word f ≡ true → x < 2 ^ 32 → ReadsWord (loongarch_bits f) x (loongarch_read f)
-reads_word Shift5 x o small = read_word (loongarch_bits Shift5) x (loongarch_read Shift5) small refl
-reads_word Shift10 x o small = read_word (loongarch_bits Shift10) x (loongarch_read Shift10) small refl
-reads_word Branch26 x o small = read_word (loongarch_bits Branch26) x (loongarch_read Branch26) small refl
-reads_word Branch21 x o small = read_word (loongarch_bits Branch21) x (loongarch_read Branch21) small refl
-reads_word Call30 x o small = cc
-reads_word Call36 x o small = cc
-
--- what is read
-word_reading : (f : LoongArch64Instruction) (x : ℕ) → is_one_word f ≡ true
-    → signed (loongarch_bits f).sign_bits (place_sum (loongarch_read f) x) ≡ (loongarch_form f).reading x
-word_reading Shift5 x o = signed_wide (place_sum (loongarch_read Shift5) x) (place_sum_below (loongarch_read Shift5) 20 x refl refl)
-word_reading Shift10 x o = signed_wide (place_sum (loongarch_read Shift10) x) (place_sum_below (loongarch_read Shift10) 20 x refl refl)
-word_reading Branch26 x o = refl
-word_reading Branch21 x o = refl
-word_reading Call30 x o = cc
-word_reading Call36 x o = cc
-
-not_below : (n : ℕ) → int_lt (pos n) (pos 0) ≡ false
-not_below n = le-ltb n 0 (omega arith)
-
-word_flag : (f : LoongArch64Instruction) (x : ℕ) → is_one_word f ≡ true
-    → int_lt (signed (loongarch_bits f).sign_bits (place_sum (loongarch_read f) x)) (pos 0) ≡ (loongarch_form f).flag x
-word_flag Shift5 x o = ap (λ z. int_lt z (pos 0)) (word_reading Shift5 x o) ∙ not_below (place_sum (loongarch_read Shift5) x)
-word_flag Shift10 x o = ap (λ z. int_lt z (pos 0)) (word_reading Shift10 x o) ∙ not_below (place_sum (loongarch_read Shift10) x)
-word_flag Branch26 x o = refl
-word_flag Branch21 x o = refl
-word_flag Call30 x o = cc
-word_flag Call36 x o = cc
-
-word_of : (f : LoongArch64Instruction) (bytes : List ℕ) → is_one_word f ≡ true → window_of (loongarch_form f) bytes ≡ from_le_bytes w32 bytes
-word_of Call30 bytes o = cc
-word_of Call36 bytes o = cc
-word_of f bytes o = refl
-
-one_word : (f : LoongArch64Instruction) → f ≢ Call30 → f ≢ Call36 → is_one_word f ≡ true
-one_word Call30 a b = absurd (a refl)
-one_word Call36 a b = absurd (b refl)
-one_word f a b = refl
-
--- what the code returns of the number in the bits, which it reads as one of so many bits
-pub read_of_word : (f : LoongArch64Instruction) (bytes : List ℕ) (x number bits value : ℕ) (flag : Bool) → f ≢ Call30 → f ≢ Call36 → x ≡ from_le_bytes w32 bytes
-    → number ≡ place_sum (loongarch_read f) x → bits ≡ (loongarch_bits f).sign_bits
-    → value ≡ cast_unsigned w64 (signed bits number) → flag ≡ int_lt (signed bits number) (pos 0)
-    → (value ≡ cast_unsigned w64 ((loongarch_form f).reading (window_of (loongarch_form f) bytes)))
-    × (flag ≡ (loongarch_form f).flag (window_of (loongarch_form f) bytes))
-read_of_word f bytes x number bits value flag a b w n s v g =
-    let o = one_word f a b in
-    let at : x ≡ window_of (loongarch_form f) bytes = w ∙ sym (word_of f bytes o) in
-    let same : signed bits number ≡ signed (loongarch_bits f).sign_bits (place_sum (loongarch_read f) x) =
-    ap (signed bits) n ∙ ap (λ k. signed k (place_sum (loongarch_read f) x)) s in (
-      v ∙ ap (cast_unsigned w64) (same ∙ word_reading f x o) ∙ ap (λ y. cast_unsigned w64 ((loongarch_form f).reading y)) at,
-      g ∙ ap (λ z. int_lt z (pos 0)) same ∙ word_flag f x o ∙ ap (loongarch_form f).flag at,
-    )
-
-pub sign_is : (f : LoongArch64Instruction) (b : WordBits) → b ≡ loongarch_bits f → b.sign ≡ 2 ^ (b.sign_bits - 1)
-sign_is f b e = subst (λ c. c.sign ≡ 2 ^ (c.sign_bits - 1)) (sym e) (known f)
-  where
-    known : (g : LoongArch64Instruction) → (loongarch_bits g).sign ≡ 2 ^ ((loongarch_bits g).sign_bits - 1)
-    known Shift5 = refl
-    known Shift10 = refl
-    known Branch26 = refl
-    known Branch21 = refl
-    known Call30 = refl
-    known Call36 = refl
+pub call36_value : (x : ℕ) → value_of (code_of (LoongArch64 Call36)).0 (place_sum call36_places x) ≡ cast_unsigned w64 ((loongarch_form Call36).reading x)
+call36_value x =
+    let n = place_sum call36_places x in
+    let l = place_sum call36_low x in
+    let f = x / 2 ^ 5 % 2 ^ 20 in
+    let high : place_sum call36_high x ≡ f * 2 ^ 16 = consecutive_bits_sum replaced 20 16 5 0x8000 x refl in
+    let all : n ≡ f * 2 ^ 16 + l = sums call36_high call36_low x ∙ ap (λ y. y + l) high in
+    let small : l < 2 ^ 16 = place_sum_below call36_low 16 x refl refl in
+    let bit : bit_at n 15 ≡ bit_at l 15 = omega (arith, all) in
+    ap (λ b. bit_and (((n + (2 ^ 64 - b * 2 % 2 ^ 64)) % 2 ^ 64 + (2 ^ 64 - 0)) % 2 ^ 64) (2 ^ 36 - 1)) (and_pow n 15 ∙ ap (λ b. b * 2 ^ 15) bit)
+    ∙ and_mask (((n + (2 ^ 64 - bit_at l 15 * 2 ^ 15 * 2 % 2 ^ 64)) % 2 ^ 64 + (2 ^ 64 - 0)) % 2 ^ 64) 36
+    ∙ call36_rem f l n all (mod_below (x / 2 ^ 5) (2 ^ 20) (pow_pos 20)) small
+    ∙ ap (λ h. cast_unsigned w64 (int_rem_euclid (pos h +ℤ signed 16 l) (pos (2 ^ 36)))) (sym high)

@@ -22,7 +22,7 @@ use Rattle.linker_elf.specs.declared.elf.RelocationInstruction.{RelocationInstru
 use Rattle.linker_elf.specs.declared.elf.RelocationInstruction.TheVariants.{Ppc64}
 use Rattle.linker_elf.specs.declared.elf.RelocationInstruction.TheVariants.{AArch64}
 use Rattle.linker_elf.proofs.Clearing.{same_window}
-use Rattle.linker_elf.proofs.Runs.{consecutive_bits_outside}
+use Rattle.linker_elf.proofs.Steps.{consecutive_bits_outside}
 
 -- ---- DQ-form
 

@@ -46,7 +46,7 @@ use Rattle.linker_elf.specs.declared.riscv64.forms.RiscVInstruction.TheVariants.
 use Rattle.linker_elf.specs.declared.riscv64.forms.RiscVInstruction.TheVariants.{CluiType, UiType}
 use Rattle.linker_elf.proofs.Clearing.{same_window, clear_after}
 use Rattle.linker_elf.proofs.Agreement.{rem_rem, from_zero, layout_agrees}
-use Rattle.linker_elf.proofs.MovedBits.{signed_fits}
+use Rattle.linker_elf.proofs.ReadNumbers.{signed_fits}
 use Rattle.linker_elf.proofs.Placed.{reads_as}
 use Rattle.linker_elf.proofs.Taken.{taken_is_field, taken_below, taken_in_units}
 

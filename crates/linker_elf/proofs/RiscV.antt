@@ -1,23 +1,27 @@
 -- What the machine reads of the RISC-V forms, and pairs make their value.
-use Rattle.std.proofs.Common.{◌≡◌, ℕ, suc, ◌+◌, ◌-◌, ◌*◌, ◌/◌, ◌%◌, ◌^◌, ◌<◌, ◌≤◌, Bool, true, false, refl, ap, sym, subst, ◌∙◌, arith, List, [], ◌∷◌, ◌⊎◌, inl, inr, ℤ, pos, negsuc, ◌+ℤ◌, ◌-ℤ◌, ◌≤ℤ◌, ◌<ℤ◌}
-use Rattle.std.specs.Int.{w16, w32, w64, cast_unsigned, from_le_bytes, bit_at, int_rem_euclid}
+use Rattle.std.proofs.Common.{◌≡◌, ℕ, suc, ◌+◌, ◌-◌, ◌*◌, ◌/◌, ◌%◌, ◌^◌, ◌<◌, ◌≤◌, Bool, true, false, refl, ap, sym, subst, ◌∙◌, arith, List, ◌⊎◌, inl, inr, ℤ, pos, negsuc, ◌+ℤ◌, ◌-ℤ◌, ◌≤ℤ◌, ◌<ℤ◌}
+use Rattle.std.specs.Int.{w16, w32, w64, cast_unsigned, bit_at, int_rem_euclid}
 use Rattle.std.specs.List.{All}
 use Rattle.std.proofs.lemmas.Bool.{cases_lt}
 use Rattle.std.proofs.lemmas.Int.{ints, int_rem_euclid_is}
 use Rattle.linker_base.specs.Bits.{signed}
-use Rattle.linker_base.specs.Form.{window_of, ImmediateBit, BitsWritten, placed_bit, bit_for, Written, MachineReads, place_sum}
+use Rattle.linker_base.specs.Form.{ImmediateBit, BitsWritten, placed_bit, bit_for, Written, MachineReads, place_sum}
 use Rattle.linker_base.proofs.Immediates.{layout_laid, layout_machine, place_sum_placed, place_sum_below, always_clear}
 use Rattle.linker_base.proofs.Pairs.{signed_cases, added, all_left, all_right}
 use Rattle.linker_base.proofs.Rounded.{IsSoundPart, sound_part, rounded_machine}
 use Rattle.linker_elf.specs.RiscV.{riscv_form, riscv_layout, riscv_places, ui_high, ui_low, ui_sum, IsPairRange, IsPairOf, PairReads}
 use Rattle.linker_elf.specs.declared.riscv64.forms.RiscVInstruction.{RiscVInstruction}
-use Rattle.linker_elf.specs.declared.riscv64.forms.WordBits.{WordBits}
-use Rattle.linker_elf.specs.Inner.Immediates.{is_by_masks, riscv_bits}
-use Rattle.linker_elf.specs.Inner.Runs.{words_below}
-use Rattle.linker_elf.proofs.MovedBits.{Moved, up, laid, masks_write, written_by_masks}
-use Rattle.linker_elf.proofs.Runs.{laid_below}
 use Rattle.std.specs.Int.RustNames.{bit_or}
 use lib.Bits.{bit_and}
+use Rattle.std.proofs.Common.{pow_mono}
+use Rattle.std.proofs.lemmas.Nat.{mod_below, pow_pos, or_shifted}
+use Rattle.std.proofs.lemmas.Nat.Bits.{bit_at-lt, bit_at_and, bit_at_or, and_pow, same_from_bits}
+use Rattle.linker_base.specs.Form.{replaced}
+use Rattle.linker_base.proofs.ConsecutiveBits.{consecutive_bits_sum}
+use Rattle.linker_base.proofs.Places.{sums}
+use Rattle.linker_elf.specs.Inner.Runs.{code_of}
+use Rattle.linker_elf.specs.declared.elf.RelocationInstruction.TheVariants.{RiscV}
+use Rattle.linker_elf.proofs.ReadNumbers.{value_of, whole, sign_taken_off}
 use Rattle.linker_elf.specs.declared.riscv64.forms.RiscVInstruction.TheVariants.{UType, IType, SType, JType, CluiType, UiType}
 
 abbrev pub jtype_places : List ImmediateBit
@@ -141,13 +145,6 @@ riscv_pair f v neg before after h laid = tt
 pub jtype_below : (x : ℕ) → place_sum jtype_places x < 2 ^ 21
 jtype_below x = place_sum_below jtype_places 21 x refl refl
 
--- ---- a form that is known
-
-pub number_as : (f known : RiscVInstruction) (number : ℕ) (bytes : List ℕ) → f ≡ known
-    → number ≡ cast_unsigned w64 ((riscv_form known).reading (window_of (riscv_form known) bytes))
-    → number ≡ cast_unsigned w64 ((riscv_form f).reading (window_of (riscv_form f) bytes))
-number_as f known number bytes e = subst (λ g. number ≡ cast_unsigned w64 ((riscv_form g).reading (window_of (riscv_form g) bytes))) (sym e)
-
 -- ---- sums at 64 bits
 
 abbrev IsShort : ℤ → Type 0
@@ -200,55 +197,67 @@ less_0x800 n s number h l e =
     minus_0x800 : (z : ℤ) → z +ℤ negsuc 2047 ≡ z -ℤ pos 0x800
     minus_0x800 z = omega (arith, ints)
 
-pub u_read : (bytes : List ℕ) (number : ℕ) → number ≡ cast_unsigned w64 (signed 32 (place_sum (riscv_places UType) (from_le_bytes w32 bytes)))
-    → (number + 18446744073709549568) % 2 ^ 64 ≡ cast_unsigned w64 ((riscv_form UType).reading (window_of (riscv_form UType) bytes))
-u_read bytes number e =
-    let x = from_le_bytes w32 bytes in
-    less_0x800 32 (place_sum (riscv_places UType) x) number (place_sum_below (riscv_places UType) 32 x refl refl) (omega arith) e
+-- what is read of `UType` and `CluiType`
+rounded_value : (n s m : ℕ) → 0 < n → n < 33 → s < 2 ^ n → m ≡ 2 ^ (n - 1)
+    → bit_and (((s + (2 ^ 64 - bit_and s m * 2 % 2 ^ 64)) % 2 ^ 64 + (2 ^ 64 - 0x800)) % 2 ^ 64) (2 ^ 64 - 1) ≡ cast_unsigned w64 (signed n s -ℤ pos 0x800)
+rounded_value n s m some short small is =
+    let t = (s + (2 ^ 64 - bit_and s m * 2 % 2 ^ 64)) % 2 ^ 64 in
+    whole t 0x800
+    ∙ less_0x800 n s t small (pow_mono {i = n} {j = 32} (omega arith)) (sign_taken_off n s m some (omega arith) small is)
 
-pub clui_read : (bytes : List ℕ) (number : ℕ) → number ≡ cast_unsigned w64 (signed 18 (place_sum (riscv_places CluiType) (from_le_bytes w16 bytes)))
-    → (number + 18446744073709549568) % 2 ^ 64 ≡ cast_unsigned w64 ((riscv_form CluiType).reading (window_of (riscv_form CluiType) bytes))
-clui_read bytes number e =
-    let x = from_le_bytes w16 bytes in
-    less_0x800 18 (place_sum (riscv_places CluiType) x) number (place_sum_below (riscv_places CluiType) 18 x refl refl) (omega arith) e
+pub u_value : (x : ℕ) → value_of (code_of (RiscV UType)).0 (place_sum ui_high x) ≡ cast_unsigned w64 ((riscv_form UType).reading x)
+u_value x = rounded_value 32 (place_sum ui_high x) (2 ^ 31) (omega arith) (omega arith) (place_sum_below ui_high 32 x refl refl) refl
 
-pub ui_read : (bytes : List ℕ) (high low : ℕ) → high ≡ cast_unsigned w64 (signed 32 (place_sum (riscv_places UType) (from_le_bytes w64 bytes)))
-    → low ≡ cast_unsigned w64 (signed 12 (place_sum ui_low (from_le_bytes w64 bytes)))
-    → (high + low) % 2 ^ 64 ≡ cast_unsigned w64 ((riscv_form UiType).reading (window_of (riscv_form UiType) bytes))
-ui_read bytes high low e f =
-    let x = from_le_bytes w64 bytes in
-    let h = place_sum (riscv_places UType) x in
+pub clui_value : (x : ℕ) → value_of (code_of (RiscV CluiType)).0 (place_sum (riscv_places CluiType) x) ≡ cast_unsigned w64 ((riscv_form CluiType).reading x)
+clui_value x = rounded_value 18 (place_sum (riscv_places CluiType) x) (2 ^ 17) (omega arith) (omega arith) (place_sum_below (riscv_places CluiType) 18 x refl refl) refl
+
+-- a mask of two bits
+and_both : (n a b : ℕ) → bit_and n (bit_or a b) ≡ bit_or (bit_and n a) (bit_and n b)
+and_both n a b =
+    same_from_bits (bit_and n (bit_or a b)) (bit_or (bit_and n a) (bit_and n b)) (λ i.
+    bit_at_and n (bit_or a b) i
+    ∙ omega (arith, bit_at_or a b i, bit_at_or (bit_and n a) (bit_and n b) i, bit_at_and n a i, bit_at_and n b i))
+
+-- bits 31 and 11, as `UiType` has its signs
+two_signs : (n : ℕ) → bit_and n (2 ^ 31 + 2 ^ 11) ≡ bit_at n 31 * 2 ^ 31 + bit_at n 11 * 2 ^ 11
+two_signs n =
+    let low : bit_at n 11 * 2 ^ 11 < 2 ^ 31 = omega (arith, bit_at-lt n 11) in
+    and_both n (2 ^ 31) (2 ^ 11)
+    ∙ ap (λ y. bit_or y (bit_and n (2 ^ 11))) (and_pow n 31)
+    ∙ ap (bit_or (bit_at n 31 * 2 ^ 31)) (and_pow n 11)
+    ∙ or_shifted (bit_at n 31) 31 (bit_at n 11 * 2 ^ 11) low
+
+-- both signs taken off at once
+both_signs : (h l n : ℕ) → n ≡ h * 4096 + l → h < 1048576 → l < 4096
+    → (n + (2 ^ 64 - (bit_at n 31 * 2 ^ 31 + bit_at n 11 * 2 ^ 11) * 2 % 2 ^ 64)) % 2 ^ 64
+    ≡ ((h * 4096 + (2 ^ 64 - bit_at (h * 4096) 31 * 2 ^ 31 * 2 % 2 ^ 64)) % 2 ^ 64 + (l + (2 ^ 64 - bit_at l 11 * 2 ^ 11 * 2 % 2 ^ 64)) % 2 ^ 64) % 2 ^ 64
+both_signs h l n e a b = omega arith
+
+pub ui_value : (x : ℕ) → value_of (code_of (RiscV UiType)).0 (place_sum (riscv_places UiType) x) ≡ cast_unsigned w64 ((riscv_form UiType).reading x)
+ui_value x =
+    let n = place_sum (riscv_places UiType) x in
+    let h = place_sum ui_high x in
     let l = place_sum ui_low x in
-    ap (λ y. (y + low) % 2 ^ 64) e
-    ∙ ap (λ y. (cast_unsigned w64 (signed 32 h) + y) % 2 ^ 64) f
-    ∙ cast_add (signed 32 h) (signed 12 l)
-    (signed_short 32 h (place_sum_below (riscv_places UType) 32 x refl refl) (omega arith))
-    (signed_short 12 l (place_sum_below ui_low 12 x refl refl) (omega arith))
-
--- ---- the forms of one word that a table of masks writes
-
-abbrev pub moved_bits : WordBits → List Moved
-moved_bits b =
-    record { way = up 0; mask = b.up_0 } ∷ record { way = up 7; mask = b.up_7 } ∷ record { way = up 20; mask = b.up_20 } ∷ []
-
-unfoldable pub WritesWord : WordBits → ℕ → ℕ → List ImmediateBit → Type 0
-WritesWord b v x ps =
-    let sum = (v + b.added) % 2 ^ 64 in
-    let after = bit_or (bit_or (bit_or (bit_and x b.kept) (bit_and sum b.up_0)) (bit_and (sum * 2 ^ 7 % 2 ^ 64) b.up_7)) (bit_and (sum * 2 ^ 20 % 2 ^ 64) b.up_20) in
-    BitsWritten ps v x after × (after < 2 ^ 32)
-
-written_word : (b : WordBits) (v x : ℕ) (ps : List ImmediateBit) → x < 2 ^ 32 → masks_write 32 b.added b.kept (moved_bits b) ps ≡ true → words_below 32 ps ≡ true
-    → WritesWord b v x ps
-unfolding WritesWord
-written_word b v x ps small h inside =
-    let sum = (v + b.added) % 2 ^ 64 in
-    let same : sum * 2 ^ 0 % 2 ^ 64 ≡ sum = omega arith in
-    let bits = subst (λ s. BitsWritten ps v x (bit_or (bit_or (bit_or (bit_and x b.kept) (bit_and s b.up_0)) (bit_and (sum * 2 ^ 7 % 2 ^ 64) b.up_7)) (bit_and (sum * 2 ^ 20 % 2 ^ 64) b.up_20))) same
-    (written_by_masks b.added b.kept (moved_bits b) v x 32 ps h small) in
-    (bits, laid_below ps 32 v x (bit_or (bit_or (bit_or (bit_and x b.kept) (bit_and sum b.up_0)) (bit_and (sum * 2 ^ 7 % 2 ^ 64) b.up_7)) (bit_and (sum * 2 ^ 20 % 2 ^ 64) b.up_20)) inside bits small)
-
-pub writes_word : (f : RiscVInstruction) (v x : ℕ) → is_by_masks f ≡ true → x < 2 ^ 32 → WritesWord (riscv_bits f) v x ((riscv_form f).places 0)
-writes_word UType v x o small = written_word (riscv_bits UType) v x (riscv_places UType) small refl refl
-writes_word IType v x o small = written_word (riscv_bits IType) v x (riscv_places IType) small refl refl
-writes_word SType v x o small = written_word (riscv_bits SType) v x (riscv_places SType) small refl refl
-writes_word f v x o small = cc
+    let f = x / 2 ^ 12 % 2 ^ 20 in
+    let t = (n + (2 ^ 64 - bit_and n (2 ^ 31 + 2 ^ 11) * 2 % 2 ^ 64)) % 2 ^ 64 in
+    let high : h ≡ f * 4096 = consecutive_bits_sum replaced 20 12 12 0x800 x refl in
+    let high_small = place_sum_below ui_high 32 x refl refl in
+    let low_small = place_sum_below ui_low 12 x refl refl in
+    let all : n ≡ f * 4096 + l = sums ui_high ui_low x ∙ ap (λ y. y + l) high in
+    let high_off : (f * 4096 + (2 ^ 64 - bit_at (f * 4096) 31 * 2 ^ 31 * 2 % 2 ^ 64)) % 2 ^ 64 ≡ cast_unsigned w64 (signed 32 h) =
+    ap (λ b. (f * 4096 + (2 ^ 64 - b * 2 % 2 ^ 64)) % 2 ^ 64) (sym (and_pow (f * 4096) 31))
+    ∙ ap (λ y. (y + (2 ^ 64 - bit_and y (2 ^ 31) * 2 % 2 ^ 64)) % 2 ^ 64) (sym high)
+    ∙ sign_taken_off 32 h (2 ^ 31) (omega arith) (omega arith) high_small refl in
+    let low_off : (l + (2 ^ 64 - bit_at l 11 * 2 ^ 11 * 2 % 2 ^ 64)) % 2 ^ 64 ≡ cast_unsigned w64 (signed 12 l) =
+    ap (λ b. (l + (2 ^ 64 - b * 2 % 2 ^ 64)) % 2 ^ 64) (sym (and_pow l 11))
+    ∙ sign_taken_off 12 l (2 ^ 11) (omega arith) (omega arith) low_small refl in
+    let both : t ≡ cast_unsigned w64 ((riscv_form UiType).reading x) =
+    ap (λ b. (n + (2 ^ 64 - b * 2 % 2 ^ 64)) % 2 ^ 64) (two_signs n)
+    ∙ both_signs f l n all (mod_below (x / 2 ^ 12) (2 ^ 20) (pow_pos 20)) low_small
+    ∙ ap (λ y. (y + (l + (2 ^ 64 - bit_at l 11 * 2 ^ 11 * 2 % 2 ^ 64)) % 2 ^ 64) % 2 ^ 64) high_off
+    ∙ ap (λ y. (cast_unsigned w64 (signed 32 h) + y) % 2 ^ 64) low_off
+    ∙ cast_add (signed 32 h) (signed 12 l) (signed_short 32 h high_small (omega arith)) (signed_short 12 l low_small (omega arith)) in
+    whole t 0 ∙ again (n + (2 ^ 64 - bit_and n (2 ^ 31 + 2 ^ 11) * 2 % 2 ^ 64)) ∙ both
+  where
+    again : (y : ℕ) → (y % 2 ^ 64 + (2 ^ 64 - 0)) % 2 ^ 64 ≡ y % 2 ^ 64
+    again y = omega arith

@@ -1,6 +1,5 @@
 pub mod ChoiceTables
 pub mod Entries
 pub mod FormLaws
-pub mod Immediates
 pub mod RowTables
 pub mod Runs

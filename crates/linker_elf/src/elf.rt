@@ -30,7 +30,6 @@ pub use crate::loongarch64::LoongArch64Instruction;
 pub use crate::ppc64::Ppc64Instruction;
 pub use crate::riscv64::RiscVInstruction;
 pub use choice::{Choice, LinkFacts, OtherRelocation};
-pub(crate) use instruction::bits;
 use linker_base::bit_misc::BitRange;
 use linker_base::relaxation::RelocationModifier;
 pub use linker_base::rewrite::RewriteWindow;

@@ -18,7 +18,6 @@ pub use crate::linker_elf::loongarch64::LoongArch64Instruction;
 pub use crate::linker_elf::ppc64::Ppc64Instruction;
 pub use crate::linker_elf::riscv64::RiscVInstruction;
 pub use choice::{Choice, LinkFacts, OtherRelocation};
-pub(crate) use instruction::bits;
 use crate::linker_base::bit_misc::BitRange;
 use crate::linker_base::relaxation::RelocationModifier;
 pub use crate::linker_base::rewrite::RewriteWindow;

@@ -1,17 +1,31 @@
--- Runs of places, as the engine keeps them.
-use Rattle.std.specs.Prelude.{ℕ, ◌+◌, Bool, true, false, not, ◌&&◌, ◌||◌, ◌==◌, nat_le, nat_lt}
-use Rattle.std.specs.Prelude.{List, [], ◌∷◌}
-use Rattle.std.specs.List.{list_all, flat_map}
-use Rattle.std.specs.Int.{Width, w16, w32, w64}
-use Rattle.linker_base.specs.Form.{ImmediateBit, consecutive_bits, replaced, ored, cleared}
-use Rattle.linker_base.specs.Form.{values_apart, Sign, unsigned, twos_complement, Layout, one_field}
-use Rattle.linker_base.specs.Form.{own_form}
-use Rattle.linker_base.specs.Form as form
-use Rattle.linker_elf.specs.declared.elf.engine.Mark.{Mark}
-use Rattle.linker_elf.specs.declared.elf.engine.Mark.TheVariants.{Replaced, Ored, Cleared}
-use Rattle.linker_elf.specs.declared.elf.engine.Run.{Run}
+-- Steps of bits between a value and a window, as the engine has them, and the tables of the forms.
+use Rattle.std.specs.Prelude.{ℕ, ◌+◌, ◌-◌, ◌%◌, ◌^◌, Bool, true, false, not, ◌&&◌, ◌||◌, ◌==◌}
+use Rattle.std.specs.Prelude.{nat_lt, List, [], ◌∷◌, slice_index_or}
+use Rattle.std.specs.List.{list_all}
+use Rattle.std.specs.Int.{Width, w16, w32, w64, bit_at}
+use denote.Enum.Declared.{tag_of}
+use Rattle.std.proofs.lemmas.Bool.{agree_below}
+use Rattle.linker_base.specs.Form.{ImmediateBit, Mark, replaced, ored, cleared, is_of, is_placed}
+use Rattle.linker_base.specs.Form.{values_apart, values_below}
+use Rattle.linker_elf.specs.contracts.aarch64.forms.AArch64Instruction as aarch64
+use Rattle.linker_elf.specs.contracts.loongarch64.forms.LoongArch64Instruction as loongarch64
+use Rattle.linker_elf.specs.contracts.ppc64.forms.Ppc64Instruction as ppc64
+use Rattle.linker_elf.specs.contracts.riscv64.forms.RiscVInstruction as riscv64
+use Rattle.linker_elf.specs.Elf.{relocation_form}
+use Rattle.linker_elf.specs.declared.aarch64.forms.TheConstants as aarch64_table
+use Rattle.linker_elf.specs.declared.aarch64.forms.AArch64Instruction.TheVariants.{Movnz}
+use Rattle.linker_elf.specs.declared.aarch64.forms.AArch64Instruction.TheVariants.{MachOLow12}
+use Rattle.linker_elf.specs.declared.elf.RelocationInstruction.{RelocationInstruction}
+use Rattle.linker_elf.specs.declared.elf.RelocationInstruction.TheVariants.{AArch64, LoongArch64}
+use Rattle.linker_elf.specs.declared.elf.RelocationInstruction.TheVariants.{Ppc64, RiscV}
+use Rattle.linker_elf.specs.declared.elf.engine.Encoding.{Encoding}
+use Rattle.linker_elf.specs.declared.elf.engine.Step.{Step}
+use Rattle.linker_elf.specs.declared.elf.engine.TheConstants.{UNSIGNED}
 use Rattle.linker_elf.specs.declared.elf.engine.Window.{Window}
 use Rattle.linker_elf.specs.declared.elf.engine.Window.TheVariants.{Two, Four, Eight}
+use Rattle.linker_elf.specs.declared.loongarch64.forms.TheConstants as loongarch64_table
+use Rattle.linker_elf.specs.declared.ppc64.forms.TheConstants as ppc64_table
+use Rattle.linker_elf.specs.declared.riscv64.forms.TheConstants as riscv64_table
 
 abbrev pub width_of : Window → Width
 width_of Two = w16
@@ -23,51 +37,92 @@ bits_of Two = 16
 bits_of Four = 32
 bits_of Eight = 64
 
-abbrev pub mark_of : Mark → form.Mark
-mark_of Replaced = replaced
-mark_of Ored = ored
-mark_of Cleared = cleared
-
--- the places of a run, bit by bit
-abbrev pub run_places : Run → List ImmediateBit
-run_places r = consecutive_bits r.len r.value r.insn_bit r.added (mark_of r.mark)
-
--- the places of all runs
-abbrev pub spread : List Run → List ImmediateBit
-spread rs = flat_map run_places rs
-
--- a run of 1 to 63 bits lies in 64 bits of the value and of the window
-abbrev pub run_fits : Run → Bool
-run_fits r =
-    nat_lt 0 r.len
-    && (nat_lt r.len 64 && (nat_le (r.value + r.len) 64 && nat_le (r.insn_bit + r.len) 64))
-
--- the n numbers from a up are none of the m from b up
-abbrev pub is_apart : ℕ → ℕ → ℕ → ℕ → Bool
-is_apart a n b m = nat_le (a + n) b || nat_le (b + m) a
-
-abbrev pub are_apart : Run → Run → Bool
-are_apart a b = is_apart a.insn_bit a.len b.insn_bit b.len
-
--- runs that fit, no two of which share a bit of the window
-abbrev pub runs_fit : List Run → Bool
-runs_fit [] = true
-runs_fit (r ∷ rs) = run_fits r && (list_all (are_apart r) rs && runs_fit rs)
-
--- the runs can be read: no two share a bit of the value
-abbrev pub runs_read : List Run → Bool
-runs_read rs = list_all run_fits rs && values_apart (spread rs)
-
 -- the places lie in n bits of the window
 abbrev pub words_below : ℕ → List ImmediateBit → Bool
 words_below n ps = list_all (λ (p : ImmediateBit). nat_lt p.insn_bit n) ps
 
--- how `read_value` reads a form of one field: without a sign, or n bits in two's complement, where
--- the flag is false or says that the number is below 0
-abbrev pub is_unsigned : Sign → Bool
-is_unsigned unsigned = true
-is_unsigned twos_complement = false
+-- ---- the tables
 
-abbrev pub reads_flagged : ℕ → Layout → Bool
-reads_flagged n (one_field d) = not (is_unsigned d.read) && (d.flags && d.bits == n)
-reads_flagged n (own_form form) = false
+abbrev pub code_of : RelocationInstruction → Encoding × List Step
+code_of (AArch64 f) =
+    let k = tag_of aarch64.the_type f in
+    (slice_index_or aarch64_table.CODES k UNSIGNED, slice_index_or aarch64_table.STEPS k [])
+code_of (RiscV f) =
+    let k = tag_of riscv64.the_type f in
+    (slice_index_or riscv64_table.CODES k UNSIGNED, slice_index_or riscv64_table.STEPS k [])
+code_of (Ppc64 f) =
+    let k = tag_of ppc64.the_type f in
+    (slice_index_or ppc64_table.CODES k UNSIGNED, slice_index_or ppc64_table.STEPS k [])
+code_of (LoongArch64 f) =
+    let k = tag_of loongarch64.the_type f in
+    (slice_index_or loongarch64_table.CODES k UNSIGNED, slice_index_or loongarch64_table.STEPS k [])
+
+-- the form's places hold the value, in any window
+abbrev pub is_plain : RelocationInstruction → Bool
+is_plain (AArch64 Movnz) = false
+is_plain (AArch64 MachOLow12) = false
+is_plain f = true
+
+-- ---- to a window
+
+-- no step moves a bit to window bit i
+abbrev pub none_to : List Step → ℕ → Bool
+none_to ss i = list_all (λ (s : Step). bit_at s.mask i == 0) ss
+
+-- value bit k moves to window bit i after r is added, and no other does
+abbrev pub one_to : List Step → ℕ → ℕ → ℕ → Bool
+one_to [] k r i = false
+one_to (s ∷ ss) k r i =
+    (bit_at s.mask i == 0 && one_to ss k r i)
+    || (bit_at s.mask i == 1 && (s.added == r && ((i + (64 - s.up)) % 64 == k && none_to ss i)))
+
+-- a place has the bit that its mark says, where the window's bits of a mask are replaced
+abbrev pub is_laid : ℕ → List Step → ImmediateBit → Mark → Bool
+is_laid mask ss p replaced = bit_at mask p.insn_bit == 1 && one_to ss p.value p.added p.insn_bit
+is_laid mask ss p ored = bit_at mask p.insn_bit == 0 && one_to ss p.value p.added p.insn_bit
+is_laid mask ss p cleared = bit_at mask p.insn_bit == 1 && none_to ss p.insn_bit
+
+-- the steps are rotations to windows of n bits
+abbrev pub steps_fit : ℕ → List Step → Bool
+steps_fit n ss = list_all (λ (s : Step). nat_lt s.up 64 && nat_lt s.mask (2 ^ n)) ss
+
+-- A write of these steps is one at these places, in windows of n bits.
+abbrev pub writes : ℕ → Encoding → List Step → List ImmediateBit → Bool
+writes n code ss ps =
+    nat_lt n 65
+    && (nat_lt code.replaced (2 ^ n)
+    && (steps_fit n ss
+    && (list_all (λ (p : ImmediateBit). nat_lt p.insn_bit n && is_laid code.replaced ss p p.mark) ps
+    && agree_below
+    (λ i. is_placed ps i || (bit_at code.replaced i == 0 && none_to ss i)) (λ _. true) n)))
+
+-- ---- from a window
+
+-- no window bit moves to value bit k
+abbrev pub none_from : List Step → ℕ → Bool
+none_from ss k = list_all (λ (s : Step). bit_at s.mask ((k + s.up) % 64) == 0) ss
+
+-- window bit i moves to value bit k, and no other does
+abbrev pub one_from : List Step → ℕ → ℕ → Bool
+one_from [] k i = false
+one_from (s ∷ ss) k i =
+    (bit_at s.mask ((k + s.up) % 64) == 0 && one_from ss k i)
+    || (bit_at s.mask i == 1 && ((k + s.up) % 64 == i && none_from ss k))
+
+-- value bit k comes from its place, or from nowhere
+abbrev pub comes_from : List ImmediateBit → List Step → ℕ → Bool
+comes_from [] ss k = none_from ss k
+comes_from (p ∷ ps) ss k =
+    (is_of p k && one_from ss k p.insn_bit) || (not (is_of p k) && comes_from ps ss k)
+
+-- A read of these steps is one at these places.
+abbrev pub reads : List Step → List ImmediateBit → Bool
+reads ss ps =
+    values_apart ps
+    && (values_below 64 ps && (steps_fit 64 ss && agree_below (comes_from ps ss) (λ _. true) 64))
+
+-- Steps of a form, spread bit by bit, are its places: they write and read them.
+abbrev pub moves_places : RelocationInstruction → List Step → Bool
+moves_places f ss =
+    let places = (relocation_form f).places 0 in
+    writes (bits_of (code_of f).0.window) (code_of f).0 ss places && reads ss places

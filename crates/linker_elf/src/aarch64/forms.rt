@@ -1,10 +1,10 @@
 //! AArch64 instructions that hold a value.
 
-ghost use Rattle.std.specs.Prelude.{slice_get, ◌≡◌, ◌≤◌, ◌<◌, ◌+◌, ◌∷◌, []};
-ghost use Rattle.std.specs.Prelude.{length, drop, true, ◌*◌, ◌^◌};
+ghost use Rattle.std.specs.Prelude.{slice_get, ◌≡◌, ◌≤◌, ◌<◌, ◌-◌, ◌∷◌, []};
+ghost use Rattle.std.specs.Prelude.{length, drop, ◌*◌, ◌^◌};
 ghost use Rattle.std.specs.Int.{byte_len, cast_unsigned, w64};
 ghost use Rattle.linker_elf.specs.AArch64.{aarch64_forms};
-ghost use Rattle.linker_base.specs.Form.{window_of, place_sum, BitsWritten, Fits, Written};
+ghost use Rattle.linker_base.specs.Form.{window_of, BitsWritten, Fits, Written};
 ghost use Rattle.linker_base.specs.Form.{MachineReads, IsReadBack};
 ghost use Rattle.linker_elf.specs.Inner.FormLaws.{aarch64_keeps, aarch64_restored};
 ghost use Rattle.linker_elf.specs.AArch64.{aarch64_form};
@@ -14,10 +14,10 @@ ghost use Rattle.linker_elf.specs.Entries.{is_aarch64_branch};
 ghost use Rattle.linker_elf.specs.Forms.{aarch64_mask, immediate_of};
 ghost use Rattle.linker_elf.specs.Reach.{aarch64_reach};
 ghost use Rattle.linker_elf.specs.Relocate.{ored_cleared, is_32_bit_move, is_movk};
-ghost use Rattle.linker_elf.specs.Inner.Immediates.{is_ored_alone, aarch64_immediate};
+ghost use Rattle.linker_elf.specs.Inner.Runs.{code_of};
 
-use crate::elf::engine::{self, Mark, Run, Window, run};
-use crate::elf::{AllowedRange, InstructionForm, RelocationInstruction, Sign, bits};
+use crate::elf::engine::{self, Encoding, Step, Window, form};
+use crate::elf::{AllowedRange, InstructionForm, RelocationInstruction, Sign};
 use linker_base::bit_misc::{BitExtraction, BitRange};
 
 /// AArch64 instructions with an immediate (Arm Architecture Reference Manual for A-profile, DDI
@@ -59,63 +59,29 @@ pub enum AArch64Instruction {
     MachOLow12,
 }
 
-/// Where a form has its `width` bits that are ORed to the instruction: `mask` takes them from the
-/// value moved up by `shift`, and `low` takes `adr`'s lowest two, which are at bit 29 and up. The
-/// number is read in two's complement of `sign_bits` bits, of which `sign` is the highest: of 63,
-/// if it is read without a sign.
-#[derive(Clone, Copy)]
-struct Immediate {
-    width: u32,
-    sign_bits: u32,
-    sign: u64,
-    low: u64,
-    shift: u32,
-    mask: u64,
-}
-
-/// The lowest bits of the value: the instruction's bit that they stand from, and how many.
-macro_rules! immediate {
-    ($insn_bit:literal, $len:literal) => {
-        immediate!($insn_bit, $len, $len)
-    };
-    (unsigned $insn_bit:literal, $len:literal) => {
-        immediate!($insn_bit, $len, 63)
-    };
-    ($insn_bit:literal, $len:literal, $sign_bits:literal) => {
-        Immediate {
-            width: $len,
-            sign_bits: $sign_bits,
-            sign: 1 << ($sign_bits - 1),
-            low: 0,
-            shift: $insn_bit,
-            mask: ((1 << $len) - 1) << $insn_bit,
-        }
+/// The forms, in the order of their enum.
+macro_rules! aarch64_forms {
+    ($($part:tt)+) => {
+        [
+            form!([$($part)+] Four, 0..21, [0, 29, 2 or] [2, 5, 19 or]; signs: 1 << 20),
+            form!([$($part)+] Four, 0..16, [0, 5, 16 or]; signs: 1 << 15),
+            form!([$($part)+] Four, 0..16, [0, 5, 16]),
+            form!([$($part)+] Four, 0..19, [0, 5, 19 or]; signs: 1 << 18),
+            form!([$($part)+] Four, 0..12, [0, 10, 12 or]),
+            form!([$($part)+] Four, 0..12, [0, 10, 12 or]),
+            form!([$($part)+] Four, 0..12, [0, 10, 12 or]; signs: 1 << 11),
+            form!([$($part)+] Four, 0..14, [0, 5, 14 or]; signs: 1 << 13),
+            form!([$($part)+] Four, 0..19, [0, 5, 19 or]; signs: 1 << 18),
+            form!([$($part)+] Four, 0..26, [0, 0, 26 or]; signs: 1 << 25),
+            form!([$($part)+] Four, 0..12, [0, 10, 12]),
+        ]
     };
 }
 
-/// By the forms' places in their enum. `Movnz` and `MachOLow12` OR nothing.
-static IMMEDIATES: [Immediate; 11] = [
-    Immediate {
-        width: 21,
-        sign_bits: 21,
-        sign: 1 << 20,
-        low: 3,
-        shift: 3,
-        mask: 0x00ff_ffe0,
-    },
-    immediate!(5, 16),
-    immediate!(unsigned 0, 0),
-    immediate!(5, 19),
-    immediate!(unsigned 10, 12),
-    immediate!(unsigned 10, 12),
-    immediate!(10, 12),
-    immediate!(5, 14),
-    immediate!(5, 19),
-    immediate!(0, 26),
-    immediate!(unsigned 0, 0),
-];
+// Tables, since with a match LLVM would jump by the form.
+const CODES: [Encoding; 11] = aarch64_forms!(code);
 
-const MOVE: [Run; 1] = [run!(0, 5, 16)];
+const STEPS: [[Step; 2]; 11] = aarch64_forms!(2 steps);
 
 /// The 16 bits and the opcode that `Movnz` writes, the latter where it stands in the instruction
 /// (DDI 0487, "MOVN" and "MOVZ").
@@ -149,40 +115,33 @@ fn scale_of(word: u64) -> u32
     }
 }
 
-/// The run of the 12 bits of an offset from its scale up.
+/// The step of an offset's 12 bits, from its scale up.
 #[inline(always)]
-fn offset_run(scale: u32) -> [Run; 1]
-    ensures { result
-        ≡ record { value = scale; insn_bit = 10; len = 12; added = 0; mark = Mark.Replaced } ∷ [] }
+fn scaled(step: Step, scale: u32) -> [Step; 1]
+    requires { scale ≤ step.up }
+    ensures { result ≡ record step { up = step.up - scale } ∷ [] }
 {
-    [Run {
-        value: scale,
-        insn_bit: 10,
-        len: 12,
-        added: 0,
-        mark: Mark::Replaced,
+    [Step {
+        up: step.up - scale,
+        ..step
     }]
 }
 
 impl AArch64Instruction {
-    /// Where the form has its bits. A table, since a match of runs would be a jump by the form.
+    /// What the form is beside its steps.
     #[inline(always)]
-    fn immediate(self) -> Immediate
-        ensures { result ≡ aarch64_immediate self }
+    fn code(self) -> &'static Encoding
+        ensures { result.now ≡ (code_of (RelocationInstruction.AArch64 self)).0 }
     {
-        IMMEDIATES[self as usize]
+        &CODES[self as usize]
     }
 
-    /// An instruction with the bits of a value ORed to it.
+    /// How its bits move.
     #[inline(always)]
-    fn or_immediate(self, value: u64, word: u64) -> u64
-        requires plain { is_ored_alone self ≡ true }
-        requires small { word < 2 ^ 32 }
-        ensures small { result < 2 ^ 32 }
-        ensures written { BitsWritten ((aarch64_form self).places 0) value word result }
+    fn steps(self) -> &'static [Step; 2]
+        ensures { result.now ≡ (code_of (RelocationInstruction.AArch64 self)).1 }
     {
-        let immediate = self.immediate();
-        word | (value & immediate.low) << 29 | value << immediate.shift & immediate.mask
+        &STEPS[self as usize]
     }
 
     /// An instruction with the bits cleared that the form only ORs.
@@ -193,19 +152,7 @@ impl AArch64Instruction {
         ensures clears { BitsWritten (ored_cleared ((aarch64_form self).places word))
             0 word result }
     {
-        let immediate = self.immediate();
-        word & !(immediate.low << 29) & !immediate.mask
-    }
-
-    /// The number in the form's bits.
-    #[inline(always)]
-    fn extract(self, word: u64) -> u64
-        requires { is_ored_alone self ≡ true }
-        ensures number { result ≡ place_sum ((aarch64_form self).places 0) word }
-        ensures small { result < 2 ^ (aarch64_immediate self).sign_bits }
-    {
-        let immediate = self.immediate();
-        word >> 29 & immediate.low | (word & immediate.mask) >> immediate.shift
+        word & !self.code().ored
     }
 
     /// An instruction with a value in the form's bits.
@@ -215,15 +162,16 @@ impl AArch64Instruction {
         ensures small { result < 2 ^ 32 }
         ensures written { Written (aarch64_form self) value negative word result }
     {
+        let (code, steps) = (self.code(), self.steps());
         match self {
             AArch64Instruction::Movnz => {
                 let (bits, opcode) = move_bits(value, negative);
-                engine::window_with(&MOVE, bits, word & 0x007f_ffff | opcode)
+                engine::window_with(code, steps, bits, word & 0x007f_ffff | opcode)
             }
             AArch64Instruction::MachOLow12 => {
-                engine::window_with(&offset_run(scale_of(word)), value, word)
+                engine::window_with(code, &scaled(steps[0], scale_of(word)), value, word)
             }
-            _ => self.or_immediate(value, word),
+            _ => engine::window_with(code, steps, value, word),
         }
     }
 
@@ -259,25 +207,29 @@ impl AArch64Instruction {
         ensures flag { result.1
             ≡ (aarch64_form self).flag (window_of (aarch64_form self) bytes.now) }
     {
+        let (code, steps) = (self.code(), self.steps());
+        let word = Window::Four.load(bytes);
         match self {
             AArch64Instruction::Movnz => {
-                let moved = engine::read(Window::Four, &MOVE, bytes);
-                if Window::Four.load(bytes).extract_bit(30) == 0 {
+                let moved = engine::number_in(steps, word);
+                if word.extract_bit(30) == 0 {
                     (!moved, true)
                 } else {
                     (moved, false)
                 }
             }
             AArch64Instruction::MachOLow12 => {
-                let scale = scale_of(Window::Four.load(bytes));
-                (engine::read(Window::Four, &offset_run(scale), bytes), false)
+                (
+                    engine::number_in(&scaled(steps[0], scale_of(word)), word),
+                    false,
+                )
             }
-            _ => {
-                let number = self.extract(Window::Four.load(bytes));
-                let immediate = self.immediate();
-                let (value, _) = engine::signed_by(number, immediate.sign_bits, immediate.sign);
-                (value, false)
-            }
+            _ => engine::read(
+                RelocationInstruction::AArch64(self),
+                self.code(),
+                self.steps(),
+                bytes,
+            ),
         }
     }
 }
@@ -290,14 +242,13 @@ impl AArch64Instruction {
     pub fn field_mask(self) -> u64
         ensures { result ≡ aarch64_mask self }
     {
-        match self {
-            AArch64Instruction::Movnz => 0x7f9f_ffe0,
-            AArch64Instruction::MachOLow12 => 0x003f_fc00,
-            _ => {
-                let immediate = self.immediate();
-                immediate.low << 29 | immediate.mask
-            }
-        }
+        let code = self.code();
+        let opcode = if let AArch64Instruction::Movnz = self {
+            0x7f80_0000
+        } else {
+            0
+        };
+        code.replaced | code.ored | opcode
     }
 
     /// Which bits of its number the immediate has.
@@ -305,17 +256,7 @@ impl AArch64Instruction {
     pub fn value_bits(self) -> BitRange
         ensures { result ≡ immediate_of (RelocationInstruction.AArch64 self) }
     {
-        match self {
-            AArch64Instruction::Adr => bits(0, 21),
-            AArch64Instruction::Movkz | AArch64Instruction::Movnz => bits(0, 16),
-            AArch64Instruction::Ldr | AArch64Instruction::Bcond => bits(0, 19),
-            AArch64Instruction::LdrRegister
-            | AArch64Instruction::Add
-            | AArch64Instruction::LdSt
-            | AArch64Instruction::MachOLow12 => bits(0, 12),
-            AArch64Instruction::TstBr => bits(0, 14),
-            AArch64Instruction::JumpCall => bits(0, 26),
-        }
+        self.code().bits
     }
 
     /// Whether the form is that of a branch.
@@ -380,8 +321,9 @@ impl InstructionForm for AArch64Instruction {
     fn fits(self, value: u64, bytes: &[u8]) -> bool {
         match self {
             AArch64Instruction::Movnz => true,
-            AArch64Instruction::MachOLow12 => value >> scale_of(Window::Four.load(bytes)) < 1 << 12,
-            _ => value >> self.immediate().width == 0,
+            AArch64Instruction::MachOLow12 => value
+                < 1 << (12 + scale_of(Window::Four.load(bytes))),
+            _ => value < 1 << self.code().bits.end,
         }
     }
 

@@ -10,14 +10,6 @@ ghost use Rattle.linker_elf.specs.Forms.{instruction_mask, immediate_of};
 use crate::elf::{InstructionForm, RelocationInstruction};
 use linker_base::bit_misc::BitRange;
 
-/// Bits `start` and up, below `end`.
-#[inline(always)]
-pub(crate) fn bits(start: u8, end: u8) -> BitRange
-    ensures { result ≡ record { start = start; end = end } }
-{
-    BitRange { start, end }
-}
-
 impl RelocationInstruction {
     /// The bits that a write of a row may change in the instruction that `bytes` begins with, where
     /// those of a range are taken.

@@ -20,7 +20,7 @@ ghost use Rattle.linker_elf.specs.Relocate.{IsInWords, IsEncoded};
 ghost use Rattle.linker_elf.specs.Inner.RowTables.{is_over};
 
 use crate::aarch64::is_movk;
-use crate::elf::engine::{self, Window};
+use crate::elf::engine::Window;
 use crate::elf::{
     AArch64Instruction, InstructionForm, LoongArch64Instruction, Operands, RelocationInstruction,
     RelocationKind, RelocationKindInfo, RelocationSize, RiscVInstruction,
@@ -275,7 +275,7 @@ fn low_part(value: i64) -> i64
     ensures { result ≡ low_part value }
 {
     let low = taken_bits(BitRange { start: 0, end: 12 }, value);
-    engine::signed_number(low, 12).0.cast_signed()
+    low.low_bits_signed(12).cast_signed()
 }
 
 /// Writes bits of a value into an instruction: a MOVK stays one, and a `jirl` gets the low part of

@@ -1,19 +1,19 @@
 //! PowerPC64 instructions that hold a value.
 
-ghost use Rattle.std.specs.Prelude.{slice_get, ◌≡◌, ◌<◌, ◌≤◌, ◌^◌, ◌-◌, length};
-ghost use Rattle.std.specs.Prelude.{drop};
+ghost use Rattle.std.specs.Prelude.{slice_get, ◌≡◌, ◌≤◌, length, drop, IsTrue};
 ghost use Rattle.std.specs.Int.{byte_len, cast_unsigned, w64};
 ghost use Rattle.linker_elf.specs.Ppc64.{ppc64_forms};
 ghost use Rattle.linker_base.specs.Form.{window_of, Written, MachineReads, IsReadBack};
 ghost use Rattle.linker_elf.specs.Inner.FormLaws.{ppc64_keeps, ppc64_restored};
+ghost use Rattle.linker_elf.specs.Inner.Runs.{code_of, moves_places};
 ghost use Rattle.linker_elf.specs.Entries.{is_ppc64_branch};
-ghost use Rattle.linker_elf.specs.Forms.{ppc64_word_mask, ppc64_mask, is_dq_at, immediate_of};
+ghost use Rattle.linker_elf.specs.Forms.{ppc64_mask, is_dq_at, immediate_of};
 ghost use Rattle.linker_elf.specs.Ppc64.{ppc64_form};
 ghost use Rattle.linker_elf.specs.Reach.{ppc64_reach};
 ghost use Rattle.linker_elf.specs.Relocate.{number_placed};
 
-use crate::elf::engine::{self, Run, Window, run};
-use crate::elf::{AllowedRange, InstructionForm, RelocationInstruction, Sign, bits};
+use crate::elf::engine::{self, Encoding, Step, Window, form};
+use crate::elf::{AllowedRange, InstructionForm, RelocationInstruction, Sign};
 use linker_base::bit_misc::BitRange;
 
 /// PowerPC64 instructions that hold a displacement. The window is 4 bytes, and 8 for `Prefixed`.
@@ -43,22 +43,41 @@ pub enum Ppc64Instruction {
     DUnsigned,
 }
 
-/// The bits that each form holds in its word. A match of them would be merged with that of
-/// `write_to_value`, into a jump by the form, and a constant would be written to the stack at each
-/// use.
-static MASKS: [u64; 6] = [0xffff, 0xfffc, 0xfffc, 0x03ff_fffc, 0, 0xffff];
+/// The forms, in the order of their enum.
+macro_rules! ppc64_forms {
+    ($($part:tt)+) => {
+        [
+            form!([$($part)+] Four, 0..16, [0, 0, 16]),
+            form!([$($part)+] Four, 2..16, [2, 2, 14]),
+            form!([$($part)+] Four, 2..16, [2, 2, 14]),
+            form!([$($part)+] Four, 2..26, [2, 2, 24]),
+            form!([$($part)+] Eight, 0..34, [0, 32, 16] [16, 0, 18]),
+            form!([$($part)+] Four, 0..16, [0, 0, 16]),
+        ]
+    };
+}
 
-const PREFIXED: [Run; 2] = [run!(0, 32, 16), run!(16, 0, 18)];
+// Tables, since with a match LLVM would jump by the form.
+const CODES: [Encoding; 6] = ppc64_forms!(code);
+
+const STEPS: [[Step; 2]; 6] = ppc64_forms!(2 steps);
 
 impl Ppc64Instruction {
-    /// The bits of the word that a form of one word holds: they stand there where they stand in the
-    /// value.
+    /// What the form is beside its steps.
     #[inline(always)]
-    fn mask(self) -> u64
-        ensures is { result ≡ ppc64_word_mask self }
-        ensures small { result < 2 ^ 32 }
+    fn code(self) -> &'static Encoding
+        ensures { result.now ≡ (code_of (RelocationInstruction.Ppc64 self)).0 }
     {
-        MASKS[self as usize]
+        &CODES[self as usize]
+    }
+
+    /// How its bits move.
+    #[inline(always)]
+    fn steps(self) -> &'static [Step; 2]
+        ensures moves { result.now ≡ (code_of (RelocationInstruction.Ppc64 self)).1 }
+        ensures places { IsTrue (moves_places (RelocationInstruction.Ppc64 self) result.now) }
+    {
+        &STEPS[self as usize]
     }
 
     /// Writes a value into the instruction that `dest` begins with. Only the form's bits change.
@@ -76,24 +95,15 @@ impl Ppc64Instruction {
             (window_of (ppc64_form self) dest.old)
             → dest.new ≡ dest.old }
     {
-        match self {
-            Ppc64Instruction::Prefixed => {
-                let insn = RelocationInstruction::Ppc64(self);
-                engine::write(
-                    insn,
-                    Window::Eight,
-                    &PREFIXED,
-                    extracted_value,
-                    negative,
-                    dest,
-                );
-            }
-            _ => {
-                let mask = self.mask();
-                let word = Window::Four.load(dest) & !mask | extracted_value & mask;
-                Window::Four.store(word, dest);
-            }
-        }
+        let insn = RelocationInstruction::Ppc64(self);
+        engine::write(
+            insn,
+            self.code(),
+            self.steps(),
+            extracted_value,
+            negative,
+            dest,
+        );
     }
 
     /// The value in the instruction that `bytes` begins with, unsigned: bits of the value that the
@@ -106,10 +116,12 @@ impl Ppc64Instruction {
             ((ppc64_form self).reading (window_of (ppc64_form self) bytes.now)) }
         ensures flag { result.1 ≡ (ppc64_form self).flag (window_of (ppc64_form self) bytes.now) }
     {
-        match self {
-            Ppc64Instruction::Prefixed => { (engine::read(Window::Eight, &PREFIXED, bytes), false) }
-            _ => (Window::Four.load(bytes) & self.mask(), false),
-        }
+        engine::read(
+            RelocationInstruction::Ppc64(self),
+            self.code(),
+            self.steps(),
+            bytes,
+        )
     }
 }
 
@@ -141,15 +153,11 @@ impl Ppc64Instruction {
         requires { byte_len (ppc64_form self).window ≤ length bytes.now }
         ensures { result ≡ ppc64_mask self (window_of (ppc64_form self) bytes.now) }
     {
-        match self {
-            Ppc64Instruction::Prefixed => 0xffff_0003_ffff,
-            _ => {
-                if self.is_dq_form(bytes) {
-                    self.mask() & !(DQ_UNIT - 1)
-                } else {
-                    self.mask()
-                }
-            }
+        let mask = self.code().replaced;
+        if self.is_dq_form(bytes) {
+            mask & !(DQ_UNIT - 1)
+        } else {
+            mask
         }
     }
 
@@ -158,12 +166,7 @@ impl Ppc64Instruction {
     pub fn value_bits(self) -> BitRange
         ensures { result ≡ immediate_of (RelocationInstruction.Ppc64 self) }
     {
-        match self {
-            Ppc64Instruction::D | Ppc64Instruction::DUnsigned => bits(0, 16),
-            Ppc64Instruction::Ds | Ppc64Instruction::Branch14 => bits(2, 16),
-            Ppc64Instruction::Branch24 => bits(2, 26),
-            Ppc64Instruction::Prefixed => bits(0, 34),
-        }
+        self.code().bits
     }
 
     /// Whether the form is that of a branch.

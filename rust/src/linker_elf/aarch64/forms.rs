@@ -1,8 +1,8 @@
 // Made by tools/erase of crates/linker_elf/src/aarch64/forms.rt.
 //! AArch64 instructions that hold a value.
 
-use crate::linker_elf::elf::engine::{self, Mark, Run, Window, run};
-use crate::linker_elf::elf::{AllowedRange, InstructionForm, RelocationInstruction, Sign, bits};
+use crate::linker_elf::elf::engine::{self, Encoding, Step, Window, form};
+use crate::linker_elf::elf::{AllowedRange, InstructionForm, RelocationInstruction, Sign};
 use crate::linker_base::bit_misc::{BitExtraction, BitRange};
 
 /// AArch64 instructions with an immediate (Arm Architecture Reference Manual for A-profile, DDI
@@ -44,63 +44,29 @@ pub enum AArch64Instruction {
     MachOLow12,
 }
 
-/// Where a form has its `width` bits that are ORed to the instruction: `mask` takes them from the
-/// value moved up by `shift`, and `low` takes `adr`'s lowest two, which are at bit 29 and up. The
-/// number is read in two's complement of `sign_bits` bits, of which `sign` is the highest: of 63,
-/// if it is read without a sign.
-#[derive(Clone, Copy)]
-struct Immediate {
-    width: u32,
-    sign_bits: u32,
-    sign: u64,
-    low: u64,
-    shift: u32,
-    mask: u64,
-}
-
-/// The lowest bits of the value: the instruction's bit that they stand from, and how many.
-macro_rules! immediate {
-    ($insn_bit:literal, $len:literal) => {
-        immediate!($insn_bit, $len, $len)
-    };
-    (unsigned $insn_bit:literal, $len:literal) => {
-        immediate!($insn_bit, $len, 63)
-    };
-    ($insn_bit:literal, $len:literal, $sign_bits:literal) => {
-        Immediate {
-            width: $len,
-            sign_bits: $sign_bits,
-            sign: 1 << ($sign_bits - 1),
-            low: 0,
-            shift: $insn_bit,
-            mask: ((1 << $len) - 1) << $insn_bit,
-        }
+/// The forms, in the order of their enum.
+macro_rules! aarch64_forms {
+    ($($part:tt)+) => {
+        [
+            form!([$($part)+] Four, 0..21, [0, 29, 2 or] [2, 5, 19 or]; signs: 1 << 20),
+            form!([$($part)+] Four, 0..16, [0, 5, 16 or]; signs: 1 << 15),
+            form!([$($part)+] Four, 0..16, [0, 5, 16]),
+            form!([$($part)+] Four, 0..19, [0, 5, 19 or]; signs: 1 << 18),
+            form!([$($part)+] Four, 0..12, [0, 10, 12 or]),
+            form!([$($part)+] Four, 0..12, [0, 10, 12 or]),
+            form!([$($part)+] Four, 0..12, [0, 10, 12 or]; signs: 1 << 11),
+            form!([$($part)+] Four, 0..14, [0, 5, 14 or]; signs: 1 << 13),
+            form!([$($part)+] Four, 0..19, [0, 5, 19 or]; signs: 1 << 18),
+            form!([$($part)+] Four, 0..26, [0, 0, 26 or]; signs: 1 << 25),
+            form!([$($part)+] Four, 0..12, [0, 10, 12]),
+        ]
     };
 }
 
-/// By the forms' places in their enum. `Movnz` and `MachOLow12` OR nothing.
-static IMMEDIATES: [Immediate; 11] = [
-    Immediate {
-        width: 21,
-        sign_bits: 21,
-        sign: 1 << 20,
-        low: 3,
-        shift: 3,
-        mask: 0x00ff_ffe0,
-    },
-    immediate!(5, 16),
-    immediate!(unsigned 0, 0),
-    immediate!(5, 19),
-    immediate!(unsigned 10, 12),
-    immediate!(unsigned 10, 12),
-    immediate!(10, 12),
-    immediate!(5, 14),
-    immediate!(5, 19),
-    immediate!(0, 26),
-    immediate!(unsigned 0, 0),
-];
+// Tables, since with a match LLVM would jump by the form.
+const CODES: [Encoding; 11] = aarch64_forms!(code);
 
-const MOVE: [Run; 1] = [run!(0, 5, 16)];
+const STEPS: [[Step; 2]; 11] = aarch64_forms!(2 steps);
 
 /// The 16 bits and the opcode that `Movnz` writes, the latter where it stands in the instruction
 /// (DDI 0487, "MOVN" and "MOVZ").
@@ -128,58 +94,47 @@ fn scale_of(word: u64) -> u32 {
     }
 }
 
-/// The run of the 12 bits of an offset from its scale up.
+/// The step of an offset's 12 bits, from its scale up.
 #[inline(always)]
-fn offset_run(scale: u32) -> [Run; 1] {
-    [Run {
-        value: scale,
-        insn_bit: 10,
-        len: 12,
-        added: 0,
-        mark: Mark::Replaced,
+fn scaled(step: Step, scale: u32) -> [Step; 1] {
+    [Step {
+        up: step.up - scale,
+        ..step
     }]
 }
 
 impl AArch64Instruction {
-    /// Where the form has its bits. A table, since a match of runs would be a jump by the form.
+    /// What the form is beside its steps.
     #[inline(always)]
-    fn immediate(self) -> Immediate {
-        IMMEDIATES[self as usize]
+    fn code(self) -> &'static Encoding {
+        &CODES[self as usize]
     }
 
-    /// An instruction with the bits of a value ORed to it.
+    /// How its bits move.
     #[inline(always)]
-    fn or_immediate(self, value: u64, word: u64) -> u64 {
-        let immediate = self.immediate();
-        word | (value & immediate.low) << 29 | value << immediate.shift & immediate.mask
+    fn steps(self) -> &'static [Step; 2] {
+        &STEPS[self as usize]
     }
 
     /// An instruction with the bits cleared that the form only ORs.
     #[inline(always)]
     pub(crate) fn clear_immediate(self, word: u64) -> u64 {
-        let immediate = self.immediate();
-        word & !(immediate.low << 29) & !immediate.mask
-    }
-
-    /// The number in the form's bits.
-    #[inline(always)]
-    fn extract(self, word: u64) -> u64 {
-        let immediate = self.immediate();
-        word >> 29 & immediate.low | (word & immediate.mask) >> immediate.shift
+        word & !self.code().ored
     }
 
     /// An instruction with a value in the form's bits.
     #[inline(always)]
     pub(crate) fn word_with(self, value: u64, negative: bool, word: u64) -> u64 {
+        let (code, steps) = (self.code(), self.steps());
         match self {
             AArch64Instruction::Movnz => {
                 let (bits, opcode) = move_bits(value, negative);
-                engine::window_with(&MOVE, bits, word & 0x007f_ffff | opcode)
+                engine::window_with(code, steps, bits, word & 0x007f_ffff | opcode)
             }
             AArch64Instruction::MachOLow12 => {
-                engine::window_with(&offset_run(scale_of(word)), value, word)
+                engine::window_with(code, &scaled(steps[0], scale_of(word)), value, word)
             }
-            _ => self.or_immediate(value, word),
+            _ => engine::window_with(code, steps, value, word),
         }
     }
 
@@ -211,25 +166,29 @@ impl AArch64Instruction {
     #[inline]
     pub fn read_value(self, bytes: &[u8]) -> (u64, bool) {
         debug_assert!(self.window() <= bytes.len());
+        let (code, steps) = (self.code(), self.steps());
+        let word = Window::Four.load(bytes);
         match self {
             AArch64Instruction::Movnz => {
-                let moved = engine::read(Window::Four, &MOVE, bytes);
-                if Window::Four.load(bytes).extract_bit(30) == 0 {
+                let moved = engine::number_in(steps, word);
+                if word.extract_bit(30) == 0 {
                     (!moved, true)
                 } else {
                     (moved, false)
                 }
             }
             AArch64Instruction::MachOLow12 => {
-                let scale = scale_of(Window::Four.load(bytes));
-                (engine::read(Window::Four, &offset_run(scale), bytes), false)
+                (
+                    engine::number_in(&scaled(steps[0], scale_of(word)), word),
+                    false,
+                )
             }
-            _ => {
-                let number = self.extract(Window::Four.load(bytes));
-                let immediate = self.immediate();
-                let (value, _) = engine::signed_by(number, immediate.sign_bits, immediate.sign);
-                (value, false)
-            }
+            _ => engine::read(
+                RelocationInstruction::AArch64(self),
+                self.code(),
+                self.steps(),
+                bytes,
+            ),
         }
     }
 }
@@ -242,14 +201,13 @@ impl AArch64Instruction {
     #[must_use]
     #[inline]
     pub fn field_mask(self) -> u64 {
-        match self {
-            AArch64Instruction::Movnz => 0x7f9f_ffe0,
-            AArch64Instruction::MachOLow12 => 0x003f_fc00,
-            _ => {
-                let immediate = self.immediate();
-                immediate.low << 29 | immediate.mask
-            }
-        }
+        let code = self.code();
+        let opcode = if let AArch64Instruction::Movnz = self {
+            0x7f80_0000
+        } else {
+            0
+        };
+        code.replaced | code.ored | opcode
     }
 
     /// Which bits of its number the immediate has.
@@ -257,17 +215,7 @@ impl AArch64Instruction {
     #[must_use]
     #[inline]
     pub fn value_bits(self) -> BitRange {
-        match self {
-            AArch64Instruction::Adr => bits(0, 21),
-            AArch64Instruction::Movkz | AArch64Instruction::Movnz => bits(0, 16),
-            AArch64Instruction::Ldr | AArch64Instruction::Bcond => bits(0, 19),
-            AArch64Instruction::LdrRegister
-            | AArch64Instruction::Add
-            | AArch64Instruction::LdSt
-            | AArch64Instruction::MachOLow12 => bits(0, 12),
-            AArch64Instruction::TstBr => bits(0, 14),
-            AArch64Instruction::JumpCall => bits(0, 26),
-        }
+        self.code().bits
     }
 
     /// Whether the form is that of a branch.
@@ -319,8 +267,9 @@ impl InstructionForm for AArch64Instruction {
         debug_assert!(self.window() <= bytes.len());
         match self {
             AArch64Instruction::Movnz => true,
-            AArch64Instruction::MachOLow12 => value >> scale_of(Window::Four.load(bytes)) < 1 << 12,
-            _ => value >> self.immediate().width == 0,
+            AArch64Instruction::MachOLow12 => value
+                < 1 << (12 + scale_of(Window::Four.load(bytes))),
+            _ => value < 1 << self.code().bits.end,
         }
     }
 

@@ -1,56 +1,137 @@
 // Made by tools/erase of crates/linker_elf/src/elf/engine.rt.
-//! Writes runs of a value's bits into the window of an instruction, and reads them.
+//! Writes the bits of a value into the window of an instruction, and reads them.
 
 use crate::linker_elf::elf::RelocationInstruction;
+use crate::linker_base::bit_misc::BitRange;
 
-/// What a write does to the window's bits of a run.
-#[allow(dead_code)]
+/// Runs of a value's bits that move to the window by the same distance.
 #[derive(Clone, Copy)]
-pub(crate) enum Mark {
-    /// They become the value's bits.
-    Replaced,
-    /// The value's bits are ORed to them. Forms with such bits are written by tables, and only the
-    /// proofs of these name it.
-    Ored,
-    /// They become 0, and are no bits of the value.
-    Cleared,
-}
-
-/// `len` bits, from bit `value` of the value plus `added` up, belong to the window's bits from
-/// `insn_bit` up.
-#[derive(Clone, Copy)]
-pub(crate) struct Run {
-    pub(crate) value: u32,
-    pub(crate) insn_bit: u32,
-    pub(crate) len: u32,
+pub(crate) struct Step {
+    /// What is added to the value first.
     pub(crate) added: u64,
-    pub(crate) mark: Mark,
+    /// How far up the bits move, modulo 64.
+    pub(crate) up: u32,
+    /// The window's bits that they are moved to.
+    pub(crate) mask: u64,
 }
 
-/// A run of bits, replaced unless said otherwise: value bit, window bit and length; or window bit
-/// and length of a run that is only cleared.
-macro_rules! run {
-    ($value:literal, $insn_bit:literal, $len:literal) => {
-        $crate::linker_elf::elf::engine::run!($value, $insn_bit, $len, 0, Replaced)
-    };
-    (added $added:literal: $value:literal, $insn_bit:literal, $len:literal) => {
-        $crate::linker_elf::elf::engine::run!($value, $insn_bit, $len, $added, Replaced)
-    };
-    (cleared $insn_bit:literal, $len:literal) => {
-        $crate::linker_elf::elf::engine::run!(0, $insn_bit, $len, 0, Cleared)
-    };
-    ($value:literal, $insn_bit:literal, $len:literal, $added:literal, $mark:ident) => {
-        $crate::linker_elf::elf::engine::Run {
-            value: $value,
-            insn_bit: $insn_bit,
-            len: $len,
-            added: $added,
-            mark: $crate::linker_elf::elf::engine::Mark::$mark,
+/// What a form is beside its steps.
+#[derive(Clone, Copy)]
+pub(crate) struct Encoding {
+    pub(crate) window: Window,
+    /// Which bits of its number the immediate has.
+    pub(crate) bits: BitRange,
+    /// The window's bits that become the value's, or 0 where no step has them.
+    pub(crate) replaced: u64,
+    /// The window's bits that the value's are only ORed to.
+    pub(crate) ored: u64,
+    /// The bits of the number in the window that stand for what they are worth below 0, as the
+    /// highest in two's complement.
+    pub(crate) signs: u64,
+    /// What a read takes off the number.
+    pub(crate) rounded: u64,
+    /// The bits that a read returns of what is left.
+    pub(crate) returned: u64,
+    /// A read's flag is whether the number is at least this.
+    pub(crate) flag: u64,
+}
+
+/// What is read without a sign, and what each form is but for what `form!` says of it.
+pub(crate) const UNSIGNED: Encoding = Encoding {
+    window: Window::Four,
+    bits: BitRange { start: 0, end: 0 },
+    replaced: 0,
+    ored: 0,
+    signs: 0,
+    rounded: 0,
+    returned: !0,
+    flag: !0,
+};
+
+/// One part of a form: with `code` what it is beside its steps, with `2 steps` or `6 steps` these,
+/// and as many that move nothing as are left. The form is its window, which bits of its number the
+/// immediate has, its steps and how it is read. A step is its runs, each a bit of the value, one of
+/// the window, and their length; with `or` a run is only ORed.
+macro_rules! form {
+    (
+        [code] $window:ident, $start:literal .. $end:literal,
+        $([$(added $added:literal:)? $($from:literal, $to:literal, $len:literal $($or:ident)?);+])+
+        $(clear $clear:literal, $clear_len:literal)?
+        $(; $($field:ident: $read:expr),+)?
+    ) => {
+        $crate::linker_elf::elf::engine::Encoding {
+            window: $crate::linker_elf::elf::engine::Window::$window,
+            bits: BitRange { start: $start, end: $end },
+            replaced: $($($crate::linker_elf::elf::engine::run!(replaced $to, $len $($or)?) |)+)+
+                $($crate::linker_elf::elf::engine::run!(bits $clear, $clear_len) |)? 0,
+            ored: $($($crate::linker_elf::elf::engine::run!(ored $to, $len $($or)?) |)+)+ 0,
+            $($($field: $read,)+)?
+            ..$crate::linker_elf::elf::engine::UNSIGNED
         }
     };
+    (
+        [$slots:tt steps] $window:ident, $start:literal .. $end:literal,
+        $([$(added $added:literal:)? $($from:literal, $to:literal, $len:literal $($or:ident)?);+])+
+        $(clear $clear:literal, $clear_len:literal)?
+        $(; $($field:ident: $read:expr),+)?
+    ) => {
+        $crate::linker_elf::elf::engine::steps!(
+            $slots []
+            $([0 $(+ $added)?; $($from, $to, $len);+])+
+        )
+    };
 }
 
+/// The steps, and in the slots that are left such as move nothing. A step moves by the distance of
+/// its first run. The mask would be another if that of a further run were another.
+macro_rules! steps {
+    (2 $($rest:tt)*) => { $crate::linker_elf::elf::engine::steps!([none none] $($rest)*) };
+    (6 $($rest:tt)*) => {
+        $crate::linker_elf::elf::engine::steps!([none none none none none none] $($rest)*)
+    };
+    ([$($slot:ident)*] [$($step:expr,)*]) => {
+        [$($step,)* $($crate::linker_elf::elf::engine::steps!($slot)),*]
+    };
+    (none) => {
+        $crate::linker_elf::elf::engine::Step { added: 0, up: 0, mask: 0 }
+    };
+    (
+        [none $($slot:ident)*] [$($step:expr,)*]
+        [
+            $added:expr; $from:literal, $to:literal, $len:literal
+            $(; $more:literal, $more_to:literal, $more_len:literal)*
+        ]
+        $($rest:tt)*
+    ) => {
+        $crate::linker_elf::elf::engine::steps!(
+            [$($slot)*]
+            [
+                $($step,)*
+                $crate::linker_elf::elf::engine::Step {
+                    added: $added,
+                    up: (64 + $to - $from) % 64,
+                    mask: $crate::linker_elf::elf::engine::run!(bits $to, $len)
+                        $(| $crate::linker_elf::elf::engine::run!(bits $more_to, $more_len)
+                            << ((128 + $more_to - $more - (64 + $to - $from) % 64) % 64))*,
+                },
+            ]
+            $($rest)*
+        )
+    };
+}
+
+/// A run's bits of the window: all, those that are replaced, and those that are only ORed.
+macro_rules! run {
+    (bits $to:literal, $len:literal) => { (((1 << $len) - 1) << $to) };
+    (replaced $to:literal, $len:literal) => { $crate::linker_elf::elf::engine::run!(bits $to, $len) };
+    (replaced $to:literal, $len:literal or) => { 0 };
+    (ored $to:literal, $len:literal) => { 0 };
+    (ored $to:literal, $len:literal or) => { $crate::linker_elf::elf::engine::run!(bits $to, $len) };
+}
+
+pub(crate) use form;
 pub(crate) use run;
+pub(crate) use steps;
 
 /// The length of a window in bytes.
 #[derive(Clone, Copy)]
@@ -94,101 +175,55 @@ impl Window {
     }
 }
 
-/// The window after one run of the value is written.
+/// The window after a value is written. A step that moves nothing ORs nothing.
 #[inline(always)]
-fn put(run: &Run, value: u64, window: u64) -> u64 {
-    let ones = (1u64 << run.len) - 1;
-    let bits = ((value.wrapping_add(run.added) >> run.value) & ones) << run.insn_bit;
-    match run.mark {
-        Mark::Replaced => window & !(ones << run.insn_bit) | bits,
-        Mark::Ored => window | bits,
-        Mark::Cleared => window & !(ones << run.insn_bit),
-    }
-}
-
-/// The value's bits in one run.
-#[inline(always)]
-fn take(run: &Run, window: u64) -> u64 {
-    let ones = (1u64 << run.len) - 1;
-    match run.mark {
-        Mark::Replaced | Mark::Ored => ((window >> run.insn_bit) & ones) << run.value,
-        Mark::Cleared => 0,
-    }
-}
-
-/// The window after all runs of the value are written.
-#[inline(always)]
-pub(crate) fn window_with(runs: &[Run], value: u64, window: u64) -> u64 {
-    let mut written = window;
-    for run in runs {
-        written = put(run, value, written);
+pub(crate) fn window_with(code: &Encoding, steps: &[Step], value: u64, window: u64) -> u64 {
+    let mut written = window & !code.replaced;
+    for step in steps {
+        written |= value.wrapping_add(step.added).rotate_left(step.up) & step.mask;
     }
     written
 }
 
-/// The number in the runs of a window.
+/// The number in the bits of a window.
 #[inline(always)]
-fn extract(runs: &[Run], window: u64) -> u64 {
+pub(crate) fn number_in(steps: &[Step], window: u64) -> u64 {
     let mut number = 0;
-    for run in runs {
-        number |= take(run, window);
+    for step in steps {
+        number |= (window & step.mask).rotate_right(step.up);
     }
     number
 }
 
-/// A number of `_bits` bits in two's complement, at 64 bits, and whether it is below 0. `sign` is
-/// its highest bit; only the contract uses `_bits`.
-#[inline(always)]
-pub(crate) fn signed_by(number: u64, _bits: u32, sign: u64) -> (u64, bool) {
-    // no branch, since the sign of what is read is unpredictable
-    (number.wrapping_sub((number & sign) << 1), number >= sign)
-}
-
-/// The same by shifts, which LLVM merges with those that take the number from its window, where
-/// `bits` is a constant.
-#[inline(always)]
-pub(crate) fn signed_number(number: u64, bits: u32) -> (u64, bool) {
-    let extended = (number << (64 - bits)).cast_signed() >> (64 - bits);
-    (extended.cast_unsigned(), extended < 0)
-}
-
-/// Writes a value into the instruction that `dest` begins with. The runs are those of its form.
-/// Only the contract uses `_insn` and `_negative`.
+/// Writes a value into the instruction that `dest` begins with. The contract alone uses `_insn` and
+/// `_negative`.
 #[inline(always)]
 pub(crate) fn write(
     _insn: RelocationInstruction,
-    window: Window,
-    runs: &[Run],
+    code: &Encoding,
+    steps: &[Step],
     value: u64,
     _negative: bool,
     dest: &mut [u8],
 ) {
-    let number = window_with(runs, value, window.load(dest));
-    window.store(number, dest);
+    let window = window_with(code, steps, value, code.window.load(dest));
+    code.window.store(window, dest);
 }
 
-/// Reads the number in the runs of the window that `bytes` begins with.
+/// The value in the instruction that `bytes` begins with, modulo 2^64, and a flag. The contract
+/// alone uses `_insn`.
 #[inline(always)]
-pub(crate) fn read(window: Window, runs: &[Run], bytes: &[u8]) -> u64 {
-    extract(runs, window.load(bytes))
-}
-
-/// Reads the value in the instruction that `bytes` begins with, of a form that is read in two's
-/// complement and flags a number below 0. The runs are the form's.
-#[inline(always)]
-pub(crate) fn read_flagged_form(
+pub(crate) fn read(
     _insn: RelocationInstruction,
-    window: Window,
-    runs: &[Run],
-    bits: u32,
+    code: &Encoding,
+    steps: &[Step],
     bytes: &[u8],
 ) -> (u64, bool) {
-    read_signed(window, runs, bits, bytes)
-}
-
-/// Reads the number of `bits` bits in the runs of the window that `bytes` begins with, in two's
-/// complement at 64 bits, and whether it is below 0.
-#[inline(always)]
-pub(crate) fn read_signed(window: Window, runs: &[Run], bits: u32, bytes: &[u8]) -> (u64, bool) {
-    signed_number(read(window, runs, bytes), bits)
+    let number = number_in(steps, code.window.load(bytes));
+    // no branch, since the sign of what is read is unpredictable
+    let value = number.wrapping_sub((number & code.signs) << 1);
+    (
+        value.wrapping_sub(code.rounded) & code.returned,
+        number >= code.flag,
+    )
 }

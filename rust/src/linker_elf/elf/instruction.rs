@@ -4,12 +4,6 @@
 use crate::linker_elf::elf::{InstructionForm, RelocationInstruction};
 use crate::linker_base::bit_misc::BitRange;
 
-/// Bits `start` and up, below `end`.
-#[inline(always)]
-pub(crate) fn bits(start: u8, end: u8) -> BitRange {
-    BitRange { start, end }
-}
-
 impl RelocationInstruction {
     /// The bits that a write of a row may change in the instruction that `bytes` begins with, where
     /// those of a range are taken.

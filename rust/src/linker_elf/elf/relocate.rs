@@ -2,7 +2,7 @@
 //! Writes the value of a relocation.
 
 use crate::linker_elf::aarch64::is_movk;
-use crate::linker_elf::elf::engine::{self, Window};
+use crate::linker_elf::elf::engine::Window;
 use crate::linker_elf::elf::{
     AArch64Instruction, InstructionForm, LoongArch64Instruction, Operands, RelocationInstruction,
     RelocationKind, RelocationKindInfo, RelocationSize, RiscVInstruction,
@@ -226,7 +226,7 @@ const JUMP_BITS: BitRange = BitRange { start: 2, end: 18 };
 #[inline(always)]
 fn low_part(value: i64) -> i64 {
     let low = taken_bits(BitRange { start: 0, end: 12 }, value);
-    engine::signed_number(low, 12).0.cast_signed()
+    low.low_bits_signed(12).cast_signed()
 }
 
 /// Writes bits of a value into an instruction: a MOVK stays one, and a `jirl` gets the low part of

@@ -1,9 +1,9 @@
 // Made by tools/erase of crates/linker_elf/src/loongarch64/forms.rt.
 //! LoongArch: the immediates of instructions.
 
-use crate::linker_elf::elf::engine::{self, Run, Window, run};
-use crate::linker_elf::elf::{AllowedRange, InstructionForm, RelocationInstruction, bits};
-use crate::linker_base::bit_misc::{BitExtraction, BitRange};
+use crate::linker_elf::elf::engine::{self, Encoding, Step, Window, form};
+use crate::linker_elf::elf::{AllowedRange, InstructionForm, RelocationInstruction};
+use crate::linker_base::bit_misc::BitRange;
 
 /// LoongArch instructions with an immediate, and the pairs of long calls (LoongArch Reference
 /// Manual, volume 1, "Instruction Encoding"). The window is 4 bytes, and 8 for a pair.
@@ -32,126 +32,39 @@ pub enum LoongArch64Instruction {
     Call36,
 }
 
-/// Where a form of one word has its bits. The masks are of the word's bits: `kept` of those that a
-/// write leaves, the others of those that stand so many bits further up or down than in the value.
-/// The bits of `ored_10` are only ORed, and not read. The number is read in two's complement of
-/// `sign_bits` bits, of which `sign` is the highest: of 63, if it is read without a sign. Values
-/// below `end` fit.
-#[derive(Clone, Copy)]
-struct WordBits {
-    end: u64,
-    sign_bits: u32,
-    sign: u64,
-    kept: u64,
-    up_5: u64,
-    up_10: u64,
-    ored_10: u64,
-    down_16: u64,
+/// The forms, in the order of their enum.
+macro_rules! loongarch_forms {
+    ($($part:tt)+) => {
+        [
+            form!([$($part)+] Four, 0..20, [0, 5, 20]),
+            form!([$($part)+] Four, 0..16, [0, 10, 12; 12, 22, 4 or]; returned: 0xfff),
+            form!([$($part)+] Four, 0..26, [0, 10, 16] [16, 0, 10]; signs: 1 << 25, flag: 1 << 25),
+            form!([$($part)+] Four, 0..21, [0, 10, 16] [16, 0, 5]; signs: 1 << 20, flag: 1 << 20),
+            form!([$($part)+] Eight, 0..20, [9, 14, 11] [0, 42, 9] clear 5, 9),
+            form!(
+                [$($part)+] Eight, 0..36,
+                [added 0x8000: 16, 5, 20] [0, 42, 16]; signs: 1 << 15, returned: (1 << 36) - 1
+            ),
+        ]
+    };
 }
 
-const PAIR: WordBits = WordBits {
-    end: 0,
-    sign_bits: 63,
-    sign: 1 << 62,
-    kept: 0xffff_ffff,
-    up_5: 0,
-    up_10: 0,
-    ored_10: 0,
-    down_16: 0,
-};
+// Tables, since with a match LLVM would jump by the form.
+const CODES: [Encoding; 6] = loongarch_forms!(code);
 
-/// By the forms' places in their enum: a match of runs would be a jump by the form.
-static WORD_BITS: [WordBits; 6] = [
-    WordBits {
-        end: 1 << 20,
-        kept: 0xfe00_001f,
-        up_5: 0x01ff_ffe0,
-        ..PAIR
-    },
-    WordBits {
-        end: 1 << 16,
-        kept: 0xffc0_03ff,
-        up_10: 0x003f_fc00,
-        ored_10: 0x03c0_0000,
-        ..PAIR
-    },
-    WordBits {
-        end: 1 << 26,
-        sign_bits: 26,
-        sign: 1 << 25,
-        kept: 0xfc00_0000,
-        up_10: 0x03ff_fc00,
-        down_16: 0x03ff,
-        ..PAIR
-    },
-    WordBits {
-        end: 1 << 21,
-        sign_bits: 21,
-        sign: 1 << 20,
-        kept: 0xfc00_03e0,
-        up_10: 0x03ff_fc00,
-        down_16: 0x001f,
-        ..PAIR
-    },
-    WordBits {
-        end: 1 << 20,
-        ..PAIR
-    },
-    WordBits {
-        end: 1 << 36,
-        ..PAIR
-    },
-];
-
-const CALL_30: [Run; 3] = [run!(9, 14, 11), run!(0, 42, 9), run!(cleared 5, 9)];
-
-const CALL_36: [Run; 2] = [run!(added 0x8000: 16, 5, 20), run!(0, 42, 16)];
-
-const CALL_36_HIGH: [Run; 1] = [run!(added 0x8000: 16, 5, 20)];
-
-const CALL_36_LOW: [Run; 1] = [run!(0, 42, 16)];
+const STEPS: [[Step; 2]; 6] = loongarch_forms!(2 steps);
 
 impl LoongArch64Instruction {
-    /// Where the form has its bits.
+    /// What the form is beside its steps.
     #[inline(always)]
-    fn bits(self) -> WordBits {
-        WORD_BITS[self as usize]
+    fn code(self) -> &'static Encoding {
+        &CODES[self as usize]
     }
 
-    /// An instruction with the bits of a value.
+    /// How its bits move.
     #[inline(always)]
-    fn word_with(self, value: u64, word: u64) -> u64 {
-        let bits = self.bits();
-        word & bits.kept
-            | value << 5 & bits.up_5
-            | value << 10 & bits.up_10
-            | value << 10 & bits.ored_10
-            | value >> 16 & bits.down_16
-    }
-
-    /// The number in the bits that are read.
-    #[inline(always)]
-    fn extract(self, word: u64) -> u64 {
-        let bits = self.bits();
-        (word & bits.up_5) >> 5 | (word & bits.up_10) >> 10 | (word & bits.down_16) << 16
-    }
-
-    /// Writes the bits of a value.
-    #[inline(always)]
-    fn insert_into(self, value: u64, negative: bool, dest: &mut [u8]) {
-        let insn = RelocationInstruction::LoongArch64(self);
-        match self {
-            LoongArch64Instruction::Call30 => {
-                engine::write(insn, Window::Eight, &CALL_30, value, negative, dest);
-            }
-            LoongArch64Instruction::Call36 => {
-                engine::write(insn, Window::Eight, &CALL_36, value, negative, dest);
-            }
-            _ => {
-                let word = self.word_with(value, Window::Four.load(dest));
-                Window::Four.store(word, dest);
-            }
-        }
+    fn steps(self) -> &'static [Step; 2] {
+        &STEPS[self as usize]
     }
 
     /// Writes a value into the instruction or pair that `dest` begins with. Only the form's bits
@@ -166,7 +79,15 @@ impl LoongArch64Instruction {
     pub fn write_to_value(self, extracted_value: u64, negative: bool, dest: &mut [u8]) {
         debug_assert!(self.window() <= dest.len());
         debug_assert!(self.fits(extracted_value, dest));
-        self.insert_into(extracted_value, negative, dest);
+        let insn = RelocationInstruction::LoongArch64(self);
+        engine::write(
+            insn,
+            self.code(),
+            self.steps(),
+            extracted_value,
+            negative,
+            dest,
+        );
     }
 
     /// The value in the instruction or pair that `bytes` begins with, modulo 2^64, and a flag: for
@@ -180,17 +101,12 @@ impl LoongArch64Instruction {
     #[inline]
     pub fn read_value(self, bytes: &[u8]) -> (u64, bool) {
         debug_assert!(self.window() <= bytes.len());
-        match self {
-            LoongArch64Instruction::Call30 => {
-                (engine::read(Window::Eight, &CALL_30, bytes), false)
-            }
-            LoongArch64Instruction::Call36 => (read_call_36(bytes), false),
-            _ => {
-                let number = self.extract(Window::Four.load(bytes));
-                let bits = self.bits();
-                engine::signed_by(number, bits.sign_bits, bits.sign)
-            }
-        }
+        engine::read(
+            RelocationInstruction::LoongArch64(self),
+            self.code(),
+            self.steps(),
+            bytes,
+        )
     }
 }
 
@@ -217,18 +133,11 @@ impl LoongArch64Instruction {
     #[must_use]
     #[inline]
     pub fn field_mask(self, range: BitRange) -> u64 {
-        match self {
-            LoongArch64Instruction::Call30 => 0x0007_fc00_01ff_ffe0,
-            LoongArch64Instruction::Call36 => 0x03ff_fc00_01ff_ffe0,
-            _ => {
-                let word = self.bits();
-                let read = word.up_5 | word.up_10 | word.down_16;
-                if has_16_bits(range) {
-                    read | word.ored_10
-                } else {
-                    read
-                }
-            }
+        let code = self.code();
+        if has_16_bits(range) {
+            code.replaced | code.ored
+        } else {
+            code.replaced
         }
     }
 
@@ -237,13 +146,7 @@ impl LoongArch64Instruction {
     #[must_use]
     #[inline]
     pub fn value_bits(self) -> BitRange {
-        match self {
-            LoongArch64Instruction::Shift5 | LoongArch64Instruction::Call30 => bits(0, 20),
-            LoongArch64Instruction::Shift10 => bits(0, 16),
-            LoongArch64Instruction::Branch26 => bits(0, 26),
-            LoongArch64Instruction::Branch21 => bits(0, 21),
-            LoongArch64Instruction::Call36 => bits(0, 36),
-        }
+        self.code().bits
     }
 
     /// Whether the form is that of a branch, where bits of a range are taken. Other instructions
@@ -278,19 +181,11 @@ impl LoongArch64Instruction {
     pub(crate) fn clear_immediate(self, range: BitRange, dest: &mut [u8]) {
         if let LoongArch64Instruction::Shift10 = self {
             if has_16_bits(range) {
-                let word = Window::Four.load(dest) & !self.bits().ored_10;
+                let word = Window::Four.load(dest) & !self.code().ored;
                 Window::Four.store(word, dest);
             }
         }
     }
-}
-
-/// The high part of a `Call36` times 2^16 plus its signed low part, modulo 2^36.
-#[inline(always)]
-fn read_call_36(bytes: &[u8]) -> u64 {
-    let high = engine::read(Window::Eight, &CALL_36_HIGH, bytes);
-    let (low, _) = engine::read_signed(Window::Eight, &CALL_36_LOW, 16, bytes);
-    high.wrapping_add(low).low_bits(36)
 }
 
 impl InstructionForm for LoongArch64Instruction {
@@ -306,7 +201,7 @@ impl InstructionForm for LoongArch64Instruction {
     #[inline]
     fn fits(self, value: u64, _bytes: &[u8]) -> bool {
         debug_assert!(self.window() <= _bytes.len());
-        value < self.bits().end
+        value < 1 << self.code().bits.end
     }
 
     #[cfg_attr(debug_assertions, track_caller)]

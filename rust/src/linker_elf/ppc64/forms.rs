@@ -1,8 +1,8 @@
 // Made by tools/erase of crates/linker_elf/src/ppc64/forms.rt.
 //! PowerPC64 instructions that hold a value.
 
-use crate::linker_elf::elf::engine::{self, Run, Window, run};
-use crate::linker_elf::elf::{AllowedRange, InstructionForm, RelocationInstruction, Sign, bits};
+use crate::linker_elf::elf::engine::{self, Encoding, Step, Window, form};
+use crate::linker_elf::elf::{AllowedRange, InstructionForm, RelocationInstruction, Sign};
 use crate::linker_base::bit_misc::BitRange;
 
 /// PowerPC64 instructions that hold a displacement. The window is 4 bytes, and 8 for `Prefixed`.
@@ -32,18 +32,36 @@ pub enum Ppc64Instruction {
     DUnsigned,
 }
 
-/// The bits that each form holds in its word. A match of them would be merged with that of
-/// `write_to_value`, into a jump by the form.
-const MASKS: &[u64; 6] = &[0xffff, 0xfffc, 0xfffc, 0x03ff_fffc, 0, 0xffff];
+/// The forms, in the order of their enum.
+macro_rules! ppc64_forms {
+    ($($part:tt)+) => {
+        [
+            form!([$($part)+] Four, 0..16, [0, 0, 16]),
+            form!([$($part)+] Four, 2..16, [2, 2, 14]),
+            form!([$($part)+] Four, 2..16, [2, 2, 14]),
+            form!([$($part)+] Four, 2..26, [2, 2, 24]),
+            form!([$($part)+] Eight, 0..34, [0, 32, 16] [16, 0, 18]),
+            form!([$($part)+] Four, 0..16, [0, 0, 16]),
+        ]
+    };
+}
 
-const PREFIXED: [Run; 2] = [run!(0, 32, 16), run!(16, 0, 18)];
+// Tables, since with a match LLVM would jump by the form.
+const CODES: [Encoding; 6] = ppc64_forms!(code);
+
+const STEPS: [[Step; 2]; 6] = ppc64_forms!(2 steps);
 
 impl Ppc64Instruction {
-    /// The bits of the word that a form of one word holds: they stand there where they stand in the
-    /// value.
+    /// What the form is beside its steps.
     #[inline(always)]
-    fn mask(self) -> u64 {
-        MASKS[self as usize]
+    fn code(self) -> &'static Encoding {
+        &CODES[self as usize]
+    }
+
+    /// How its bits move.
+    #[inline(always)]
+    fn steps(self) -> &'static [Step; 2] {
+        &STEPS[self as usize]
     }
 
     /// Writes a value into the instruction that `dest` begins with. Only the form's bits change.
@@ -56,24 +74,15 @@ impl Ppc64Instruction {
     #[inline]
     pub fn write_to_value(self, extracted_value: u64, negative: bool, dest: &mut [u8]) {
         debug_assert!(self.window() <= dest.len());
-        match self {
-            Ppc64Instruction::Prefixed => {
-                let insn = RelocationInstruction::Ppc64(self);
-                engine::write(
-                    insn,
-                    Window::Eight,
-                    &PREFIXED,
-                    extracted_value,
-                    negative,
-                    dest,
-                );
-            }
-            _ => {
-                let mask = self.mask();
-                let word = Window::Four.load(dest) & !mask | extracted_value & mask;
-                Window::Four.store(word, dest);
-            }
-        }
+        let insn = RelocationInstruction::Ppc64(self);
+        engine::write(
+            insn,
+            self.code(),
+            self.steps(),
+            extracted_value,
+            negative,
+            dest,
+        );
     }
 
     /// The value in the instruction that `bytes` begins with, unsigned: bits of the value that the
@@ -87,10 +96,12 @@ impl Ppc64Instruction {
     #[inline]
     pub fn read_value(self, bytes: &[u8]) -> (u64, bool) {
         debug_assert!(self.window() <= bytes.len());
-        match self {
-            Ppc64Instruction::Prefixed => { (engine::read(Window::Eight, &PREFIXED, bytes), false) }
-            _ => (Window::Four.load(bytes) & self.mask(), false),
-        }
+        engine::read(
+            RelocationInstruction::Ppc64(self),
+            self.code(),
+            self.steps(),
+            bytes,
+        )
     }
 }
 
@@ -132,15 +143,11 @@ impl Ppc64Instruction {
     #[inline]
     pub fn field_mask(self, bytes: &[u8]) -> u64 {
         debug_assert!(self.window() <= bytes.len());
-        match self {
-            Ppc64Instruction::Prefixed => 0xffff_0003_ffff,
-            _ => {
-                if self.is_dq_form(bytes) {
-                    self.mask() & !(DQ_UNIT - 1)
-                } else {
-                    self.mask()
-                }
-            }
+        let mask = self.code().replaced;
+        if self.is_dq_form(bytes) {
+            mask & !(DQ_UNIT - 1)
+        } else {
+            mask
         }
     }
 
@@ -149,12 +156,7 @@ impl Ppc64Instruction {
     #[must_use]
     #[inline]
     pub fn value_bits(self) -> BitRange {
-        match self {
-            Ppc64Instruction::D | Ppc64Instruction::DUnsigned => bits(0, 16),
-            Ppc64Instruction::Ds | Ppc64Instruction::Branch14 => bits(2, 16),
-            Ppc64Instruction::Branch24 => bits(2, 26),
-            Ppc64Instruction::Prefixed => bits(0, 34),
-        }
+        self.code().bits
     }
 
     /// Whether the form is that of a branch.

@@ -1,8 +1,8 @@
 // Made by tools/erase of crates/linker_elf/src/riscv64/forms.rt.
 //! RISC-V: the immediates of instructions.
 
-use crate::linker_elf::elf::engine::{self, Run, Window, run};
-use crate::linker_elf::elf::{AllowedRange, InstructionForm, RelocationInstruction, SIZE_2GB, bits};
+use crate::linker_elf::elf::engine::{self, Encoding, Step, form};
+use crate::linker_elf::elf::{AllowedRange, InstructionForm, RelocationInstruction, SIZE_2GB};
 use crate::linker_base::bit_misc::BitRange;
 
 /// RISC-V instructions with an immediate (RISC-V unprivileged ISA, "Immediate Encoding Variants"
@@ -36,142 +36,88 @@ pub enum RiscVInstruction {
     UiType,
 }
 
-const U_TYPE: [Run; 1] = [run!(added 0x800: 12, 12, 20)];
-
-const I_TYPE: [Run; 1] = [run!(0, 20, 12)];
-
-const S_TYPE: [Run; 2] = [run!(0, 7, 5), run!(5, 25, 7)];
-
-const B_TYPE: [Run; 4] = [
-    run!(11, 7, 1),
-    run!(1, 8, 4),
-    run!(5, 25, 6),
-    run!(12, 31, 1),
-];
-
-const J_TYPE: [Run; 4] = [
-    run!(12, 12, 8),
-    run!(11, 20, 1),
-    run!(1, 21, 10),
-    run!(20, 31, 1),
-];
-
-const CB_TYPE: [Run; 5] = [
-    run!(5, 2, 1),
-    run!(1, 3, 2),
-    run!(6, 5, 2),
-    run!(3, 10, 2),
-    run!(8, 12, 1),
-];
-
-const CJ_TYPE: [Run; 8] = [
-    run!(5, 2, 1),
-    run!(1, 3, 3),
-    run!(7, 6, 1),
-    run!(6, 7, 1),
-    run!(10, 8, 1),
-    run!(8, 9, 2),
-    run!(4, 11, 1),
-    run!(11, 12, 1),
-];
-
-const CLUI_TYPE: [Run; 2] = [run!(added 0x800: 12, 2, 5), run!(added 0x800: 17, 12, 1)];
-
-const UI_TYPE: [Run; 2] = [run!(added 0x800: 12, 12, 20), run!(0, 52, 12)];
-
-const UI_LOW: [Run; 1] = [run!(0, 52, 12)];
-
-/// Where `UType`, `IType` and `SType` have the bits of the value plus `added`. The masks are of the
-/// word's bits: `kept` of those that a write leaves, the others of those that stand so many bits
-/// further up than in the sum.
-#[derive(Clone, Copy)]
-struct WordBits {
-    added: u64,
-    kept: u64,
-    up_0: u64,
-    up_7: u64,
-    up_20: u64,
+/// The forms, in the order of their enum.
+macro_rules! riscv_forms {
+    ($($part:tt)+) => {
+        [
+            form!(
+                [$($part)+] Four, 12..32,
+                [added 0x800: 12, 12, 20]; signs: 1 << 31, rounded: 0x800
+            ),
+            form!([$($part)+] Four, 0..12, [0, 20, 12]; signs: 1 << 11, flag: 1 << 11),
+            form!([$($part)+] Four, 0..12, [0, 7, 5] [5, 25, 7]; signs: 1 << 11, flag: 1 << 11),
+            form!(
+                [$($part)+] Four, 1..13,
+                [11, 7, 1] [1, 8, 4] [5, 25, 6] [12, 31, 1]; signs: 1 << 12, flag: 1 << 12
+            ),
+            form!(
+                [$($part)+] Four, 1..21,
+                [12, 12, 8] [11, 20, 1] [1, 21, 10] [20, 31, 1]; signs: 1 << 20, flag: 1 << 20
+            ),
+            form!(
+                [$($part)+] Two, 1..9,
+                [5, 2, 1] [1, 3, 2] [6, 5, 2] [3, 10, 2] [8, 12, 1]; signs: 1 << 8, flag: 1 << 8
+            ),
+            form!(
+                [$($part)+] Two, 1..12,
+                [5, 2, 1] [1, 3, 3] [7, 6, 1] [6, 7, 1; 8, 9, 2; 11, 12, 1] [10, 8, 1] [4, 11, 1];
+                signs: 1 << 11, flag: 1 << 11
+            ),
+            form!(
+                [$($part)+] Two, 12..18,
+                [added 0x800: 12, 2, 5] [added 0x800: 17, 12, 1];
+                signs: 1 << 17, rounded: 0x800, flag: 1 << 17
+            ),
+            form!(
+                [$($part)+] Eight, 0..32,
+                [added 0x800: 12, 12, 20] [0, 52, 12]; signs: 1 << 31 | 1 << 11
+            ),
+        ]
+    };
 }
 
-const OTHER: WordBits = WordBits {
-    added: 0,
-    kept: 0xffff_ffff,
-    up_0: 0,
-    up_7: 0,
-    up_20: 0,
-};
+const CODES: [Encoding; 9] = riscv_forms!(code);
 
-/// By the forms' places in their enum: a match of runs would be a jump by the form. With the bits
-/// of `BType` and `JType`, or for reads, a single form would take longer.
-static WORD_BITS: [WordBits; 9] = [
-    WordBits {
-        added: 0x800,
-        kept: 0x0fff,
-        up_0: 0xffff_f000,
-        ..OTHER
-    },
-    WordBits {
-        kept: 0x000f_ffff,
-        up_20: 0xfff0_0000,
-        ..OTHER
-    },
-    WordBits {
-        kept: 0x01ff_f07f,
-        up_7: 0x0f80,
-        up_20: 0xfe00_0000,
-        ..OTHER
-    },
-    OTHER,
-    OTHER,
-    OTHER,
-    OTHER,
-    OTHER,
-    OTHER,
-];
+const STEPS: [[Step; 6]; 9] = riscv_forms!(6 steps);
+
+/// What is done with a form, in an arm for each, so that LLVM knows the form's steps.
+macro_rules! by_form {
+    ($self:expr, $form:ident: $done:expr) => {
+        by_form!(
+            $self, $form: $done, UType IType SType BType JType CbType CjType CluiType UiType
+        )
+    };
+    ($self:expr, $form:ident: $done:expr, $($variant:ident)+) => {
+        match $self {
+            $(RiscVInstruction::$variant => {
+                let $form = RiscVInstruction::$variant;
+                $done
+            })+
+        }
+    };
+}
 
 impl RiscVInstruction {
-    /// Where the form has its bits.
+    /// What the form is beside its steps.
     #[inline(always)]
-    fn bits(self) -> WordBits {
-        WORD_BITS[self as usize]
+    fn code(self) -> &'static Encoding {
+        &CODES[self as usize]
     }
 
-    /// An instruction with the bits of a value.
+    /// How its bits move.
     #[inline(always)]
-    fn word_with(self, value: u64, word: u64) -> u64 {
-        let bits = self.bits();
-        let sum = value.wrapping_add(bits.added);
-        word & bits.kept | sum & bits.up_0 | sum << 7 & bits.up_7 | sum << 20 & bits.up_20
+    fn steps(self) -> &'static [Step; 6] {
+        &STEPS[self as usize]
     }
 
     /// Writes the bits of a value.
     #[inline(always)]
     fn insert_into(self, value: u64, negative: bool, dest: &mut [u8]) {
         let insn = RelocationInstruction::RiscV(self);
-        match self {
-            RiscVInstruction::BType => {
-                engine::write(insn, Window::Four, &B_TYPE, value, negative, dest);
-            }
-            RiscVInstruction::JType => {
-                engine::write(insn, Window::Four, &J_TYPE, value, negative, dest);
-            }
-            RiscVInstruction::CbType => {
-                engine::write(insn, Window::Two, &CB_TYPE, value, negative, dest);
-            }
-            RiscVInstruction::CjType => {
-                engine::write(insn, Window::Two, &CJ_TYPE, value, negative, dest);
-            }
-            RiscVInstruction::CluiType => {
-                engine::write(insn, Window::Two, &CLUI_TYPE, value, negative, dest);
-            }
-            RiscVInstruction::UiType => {
-                engine::write(insn, Window::Eight, &UI_TYPE, value, negative, dest);
-            }
-            _ => {
-                let word = self.word_with(value, Window::Four.load(dest));
-                Window::Four.store(word, dest);
-            }
-        }
+        by_form!(
+            self,
+            form: engine::write(insn, form.code(), form.steps(), value, negative, dest)
+        );
     }
 
     /// Writes a value into the instruction that `dest` begins with. Only the form's bits change.
@@ -205,39 +151,7 @@ impl RiscVInstruction {
     pub fn read_value(self, bytes: &[u8]) -> (u64, bool) {
         debug_assert!(self.window() <= bytes.len());
         let insn = RelocationInstruction::RiscV(self);
-        match self {
-            RiscVInstruction::UType => {
-                let (high, _) = engine::read_signed(Window::Four, &U_TYPE, 32, bytes);
-                (high.wrapping_sub(0x800), false)
-            }
-            RiscVInstruction::IType => {
-                engine::read_flagged_form(insn, Window::Four, &I_TYPE, 12, bytes)
-            }
-            RiscVInstruction::SType => {
-                engine::read_flagged_form(insn, Window::Four, &S_TYPE, 12, bytes)
-            }
-            RiscVInstruction::BType => {
-                engine::read_flagged_form(insn, Window::Four, &B_TYPE, 13, bytes)
-            }
-            RiscVInstruction::JType => {
-                engine::read_flagged_form(insn, Window::Four, &J_TYPE, 21, bytes)
-            }
-            RiscVInstruction::CbType => {
-                engine::read_flagged_form(insn, Window::Two, &CB_TYPE, 9, bytes)
-            }
-            RiscVInstruction::CjType => {
-                engine::read_flagged_form(insn, Window::Two, &CJ_TYPE, 12, bytes)
-            }
-            RiscVInstruction::CluiType => {
-                let (high, negative) = engine::read_signed(Window::Two, &CLUI_TYPE, 18, bytes);
-                (high.wrapping_sub(0x800), negative)
-            }
-            RiscVInstruction::UiType => {
-                let (high, _) = engine::read_signed(Window::Eight, &U_TYPE, 32, bytes);
-                let (low, _) = engine::read_signed(Window::Eight, &UI_LOW, 12, bytes);
-                (high.wrapping_add(low), false)
-            }
-        }
+        by_form!(self, form: engine::read(insn, form.code(), form.steps(), bytes))
     }
 }
 
@@ -252,15 +166,7 @@ impl RiscVInstruction {
     #[must_use]
     #[inline]
     pub fn field_mask(self) -> u64 {
-        match self {
-            RiscVInstruction::UType | RiscVInstruction::JType => 0xffff_f000,
-            RiscVInstruction::IType => 0xfff0_0000,
-            RiscVInstruction::SType | RiscVInstruction::BType => 0xfe00_0f80,
-            RiscVInstruction::CbType => 0x1c7c,
-            RiscVInstruction::CjType => 0x1ffc,
-            RiscVInstruction::CluiType => 0x107c,
-            RiscVInstruction::UiType => 0xfff0_0000_ffff_f000,
-        }
+        self.code().replaced
     }
 
     /// Which bits of its number the immediate has.
@@ -268,16 +174,7 @@ impl RiscVInstruction {
     #[must_use]
     #[inline]
     pub fn value_bits(self) -> BitRange {
-        match self {
-            RiscVInstruction::UType => bits(12, 32),
-            RiscVInstruction::IType | RiscVInstruction::SType => bits(0, 12),
-            RiscVInstruction::BType => bits(1, 13),
-            RiscVInstruction::JType => bits(1, 21),
-            RiscVInstruction::CbType => bits(1, 9),
-            RiscVInstruction::CjType => bits(1, 12),
-            RiscVInstruction::CluiType => bits(12, 18),
-            RiscVInstruction::UiType => bits(0, 32),
-        }
+        self.code().bits
     }
 
     /// Whether the form is that of a branch.

@@ -1,10 +1,23 @@
-use Rattle.linker_elf.proofs.Runs.{fits_at, laid_more}
+use Rattle.std.proofs.Common.{◌∙◌, ap, subst, sym, take, get_or, arith, ◌-◌, ◌^◌}
+use Rattle.std.specs.Prelude.{bit_or, bit_and}
+use Rattle.std.proofs.lemmas.List.{take_all}
+use Rattle.linker_base.specs.Form.{BitsWritten}
+use Rattle.linker_elf.specs.declared.elf.engine.Step.{Step}
+use Rattle.linker_elf.proofs.Steps.{laid, laid_more, written_by}
 use Rattle.linker_elf.proofs.elf.engine.window_with.Goals as goal
 
-pub put-written-requires : goal.put-written-requires
-put-written-requires c = fits_at c.args.runs.now c.loop-run.run-index _ c.requires c.loop-run-test.true
+pub loop-step-preserved : goal.loop-step-preserved
+loop-step-preserved c =
+    let x = bit_and c.args.window (2 ^ 64 - 1 - c.args.code.now.replaced) in
+    let none : Step = record { added = 0; up = 0; mask = 0 } in
+    let mask = (get_or c.args.steps.now c.loop-step.step-index none).mask in
+    ap (λ y. bit_or y (bit_and c.rotate_left.result mask)) c.loop-step.invariant
+    ∙ ap (λ t. bit_or (laid (take c.loop-step.step-index c.args.steps.now) c.args.value x) (bit_and t mask)) c.rotate_left.ensures
+    ∙ laid_more c.args.steps.now c.loop-step.step-index none c.args.value x c.loop-step-test.true
 
-pub loop-run-preserved : goal.loop-run-preserved
-loop-run-preserved c =
-    laid_more c.args.runs.now c.loop-run.run-index _ c.args.value c.args.window c.loop-run.written c.put-written.result
-    c.requires c.loop-run-test.true c.loop-run.invariant c.put-written.ensures
+pub returns : goal.returns
+returns c = λ n places h small.
+    let x = bit_and c.args.window (2 ^ 64 - 1 - c.args.code.now.replaced) in
+    let all = take_all c.loop-step.step-index c.args.steps.now (let past = c.loop-step-test.false in omega arith) in
+    subst (BitsWritten places c.args.value c.args.window) (sym (c.loop-step.invariant ∙ ap (λ ss. laid ss c.args.value x) all))
+    (written_by n c.args.code.now c.args.steps.now places c.args.value c.args.window h small)

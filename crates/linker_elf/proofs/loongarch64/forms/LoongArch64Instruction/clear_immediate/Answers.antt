@@ -1,24 +1,16 @@
-use Rattle.std.proofs.Common.{refl, sym, subst, ap, ◌∙◌, ◌-◌, ◌^◌}
+use Rattle.std.proofs.Common.{sym, subst, ap, ◌∙◌, ◌-◌, ◌^◌}
 use Rattle.std.specs.Prelude.{bit_and}
 use Rattle.linker_base.specs.Form.{BitsWritten, consecutive_bits, cleared}
-use Rattle.linker_elf.specs.Inner.Immediates.{loongarch_bits}
-use Rattle.linker_elf.proofs.LoongArch.{shift10_cleared}
-use Rattle.linker_elf.proofs.Runs.{laid_below}
+use Rattle.linker_elf.specs.Inner.Runs.{code_of}
+use Rattle.linker_elf.specs.declared.elf.RelocationInstruction.TheVariants.{LoongArch64}
+use Rattle.linker_elf.proofs.Codes.{shift10_cleared}
 use Rattle.linker_elf.proofs.loongarch64.forms.LoongArch64Instruction.clear_immediate.Goals as goal
-
-pub store-requires-clause-fits : goal.store-requires-clause-fits
-store-requires-clause-fits c =
-    let x = c.load.result in
-    let laid = subst (λ m. BitsWritten (consecutive_bits 4 12 22 0 cleared) 0 x (bit_and x (2 ^ 64 - 1 - m)))
-    (sym (ap (λ b. b.ored_10) c.bits.ensures ∙ ap (λ f. (loongarch_bits f).ored_10) c.in-Shift10.is))
-    (shift10_cleared x c.load.ensures.small) in
-    laid_below (consecutive_bits 4 12 22 0 cleared) 32 0 x _ refl laid c.load.ensures.small
 
 pub returns-then-has_16_bits-clause-clears : goal.returns-then-has_16_bits-clause-clears
 returns-then-has_16_bits-clause-clears c =
     let x = c.load.result in
     let laid = subst (λ m. BitsWritten (consecutive_bits 4 12 22 0 cleared) 0 x (bit_and x (2 ^ 64 - 1 - m)))
-    (sym (ap (λ b. b.ored_10) c.bits.ensures ∙ ap (λ f. (loongarch_bits f).ored_10) c.in-Shift10.is))
+    (sym (ap (λ k. k.ored) c.code.ensures ∙ ap (λ f. (code_of (LoongArch64 f)).0.ored) c.in-Shift10.is))
     (shift10_cleared x c.load.ensures.small) in
     rw (c.in-Shift10.is, sym c.has_16_bits.ensures ∙ c.if-has_16_bits.true, sym c.load.ensures.loaded, c.store.ensures.stored)
     laid

@@ -10,14 +10,14 @@ returns c =
     let v = c.args.extracted_value in
     let neg = c.args.negative in
     let old = window_of (loongarch_form f) c.args.dest.now in
-    let new = window_of (loongarch_form f) c.insert_into.new.dest in
+    let new = window_of (loongarch_form f) c.write.new.dest in
     let small = c.ranges.extracted_value.fits in
-    let laid = c.insert_into.ensures.written in
+    let laid = c.write.ensures.written in
     record {
       written = laid;
-      rest = c.insert_into.ensures.rest;
+      rest = c.write.ensures.rest;
       machine = loongarch_machine f v neg old new small c.requires.fits laid;
       low = loongarch_low f v neg old new small laid;
       reaches = loongarch_reaches f v neg old new small laid;
-      restored = λ back. c.insert_into.ensures.same (loongarch_restored f v neg old new small laid back);
+      restored = λ back. c.write.ensures.same (loongarch_restored f v neg old new small laid back);
     }
