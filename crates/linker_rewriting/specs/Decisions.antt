@@ -273,16 +273,18 @@ pub record IsOverlapping (s : Setting) (kept : List KeptGroups) (bytes section :
   pub overlap : start_by decision (relocation_in bytes n).offset
       < end_at bytes decisions before
 
--- Those below the index are decided. That at the index isn't.
+-- Those below the index are decided. That at the index isn't, though there is room for all.
 abbrev pub IsRejectedIn : Setting → List KeptGroups → List ℕ → List ℕ → List Decision
     → RewritingError → Type 0
 IsRejectedIn s kept bytes section decisions TooShort = length decisions < length bytes / 24
 IsRejectedIn s kept bytes section decisions (NotSurveyed n) =
     (n < length bytes / 24) × AreDecidedIn s kept bytes section decisions n
     × IsNotSurveyed s kept bytes section n (relocation_in bytes n)
+    × (length bytes / 24 ≤ length decisions)
 IsRejectedIn s kept bytes section decisions (Overlaps n) =
     (n < length bytes / 24) × AreDecidedIn s kept bytes section decisions n
     × IsOverlapping s kept bytes section decisions n
+    × (length bytes / 24 ≤ length decisions)
 
 -- before addresses are known
 abbrev pub IsRejected : Architecture → OutputFacts → List SymbolFacts → List KeptGroups → List ℕ

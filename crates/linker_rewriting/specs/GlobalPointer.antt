@@ -1,7 +1,7 @@
 -- RISC-V's addresses within 2 KiB of the global pointer or of 0 (RISC-V ELF psABI, "Global-pointer
 -- Relaxation" and "Zero-page Relaxation"). Their `lui` and `auipc` are deleted, and each low part
 -- takes x3 or x0 as its base: all of a symbol, or none.
-use Rattle.std.specs.Prelude.{◌≡◌, ◌↔◌, ℕ, zero, suc, ◌+◌, ◌<◌, ◌/◌, ◌⊎◌, ◌==◌, ◌&&◌, ◌||◌}
+use Rattle.std.specs.Prelude.{◌≡◌, ◌↔◌, ℕ, zero, suc, ◌+◌, ◌<◌, ◌≤◌, ◌/◌, ◌⊎◌, ◌==◌, ◌&&◌, ◌||◌}
 use Rattle.std.specs.Prelude.{nat_le, nat_lt, not, if◌then◌else◌, Bool, true, false, IsTrue, List}
 use Rattle.std.specs.Prelude.{length, Option, None, Some, slice_get, is_some}
 use Rattle.std.specs.Int.{w64, cast_signed, cast_unsigned}
@@ -297,8 +297,8 @@ ArePartsWholeAcross =
 
 -- ---- errors
 
--- Those below the index are decided. That at the index isn't. There may also be less room for
--- deletions than there are.
+-- Those below the index are decided. That at the index isn't, though there is room for all. There
+-- may also be less room for deletions than there are.
 abbrev pub ArePartsRejected : Setting → ℕ → List Bool → List ℕ → List ℕ → List Decision → ℕ
     → RewritingError → Type 0
 ArePartsRejected s gp kept bytes section decisions room TooShort =
@@ -308,6 +308,7 @@ ArePartsRejected s gp kept bytes section decisions room TooShort =
 ArePartsRejected s gp kept bytes section decisions room (NotSurveyed n) =
     (n < length bytes / 24) × ArePartsDecided s gp kept bytes section decisions n
     × IsPartDecided s gp kept bytes section n (relocation_in bytes n) None
+    × (length bytes / 24 ≤ length decisions)
 ArePartsRejected s gp kept bytes section decisions room (Overlaps n) = ⊥
 
 -- an error that a section wasn't surveyed comes only where what it keeps isn't all noted

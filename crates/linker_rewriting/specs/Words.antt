@@ -1,7 +1,7 @@
 -- Instructions that load addresses from the words of a section, as from those of PowerPC64's `.toc`
 -- (64-bit ELF V2 ABI for Power, "TOC"). Nothing changes such a word, so that the instructions may
 -- compute its address: all that load it, or none.
-use Rattle.std.specs.Prelude.{◌≡◌, ℕ, ℤ, ◌<◌, ◌/◌, ◌⊎◌, ◌==◌, if◌then◌else◌, Bool, true}
+use Rattle.std.specs.Prelude.{◌≡◌, ℕ, ℤ, ◌<◌, ◌≤◌, ◌/◌, ◌⊎◌, ◌==◌, if◌then◌else◌, Bool, true}
 use Rattle.std.specs.Prelude.{false, List, length, Option, None, Some, slice_get}
 use Rattle.std.specs.Int.{w64, cast_unsigned}
 use Rattle.linker_elf.specs.ElfNames.{code_of}
@@ -195,7 +195,7 @@ pub record IsLoadOverlapping (s : Setting) (start : ℕ) (words : List ℕ) (kep
   pub overlap : start_by decision (relocation_in bytes n).offset
       < end_at bytes decisions before
 
--- Those below the index are decided. That at the index isn't.
+-- Those below the index are decided. That at the index isn't, though there is room for all.
 abbrev pub AreLoadsRejected : Setting → ℕ → List ℕ → List Bool → List ℕ → List ℕ → List Decision
     → RewritingError → Type 0
 AreLoadsRejected s start words kept bytes section decisions TooShort =
@@ -203,9 +203,11 @@ AreLoadsRejected s start words kept bytes section decisions TooShort =
 AreLoadsRejected s start words kept bytes section decisions (NotSurveyed n) =
     (n < length bytes / 24) × AreLoadsDecided s start words kept bytes section decisions n
     × IsLoadNotSurveyed s start words kept bytes section n (relocation_in bytes n)
+    × (length bytes / 24 ≤ length decisions)
 AreLoadsRejected s start words kept bytes section decisions (Overlaps n) =
     (n < length bytes / 24) × AreLoadsDecided s start words kept bytes section decisions n
     × IsLoadOverlapping s start words kept bytes section decisions n
+    × (length bytes / 24 ≤ length decisions)
 
 -- an error that a section wasn't surveyed comes only where what it keeps isn't all noted
 abbrev pub MeansWordsUnsurveyed : Setting → ℕ → List ℕ → List ℕ → List ℕ → List Bool

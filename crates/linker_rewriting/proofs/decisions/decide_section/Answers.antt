@@ -1,4 +1,4 @@
-use Rattle.std.proofs.Common.{◌≡◌, ◌<◌, ◌+◌, ◌/◌, ◌∙◌, length, map, take, slice_set, ap, sym, subst, arith, true, Some, None}
+use Rattle.std.proofs.Common.{◌≡◌, ◌<◌, ◌≤◌, ◌+◌, ◌/◌, ◌∙◌, length, map, take, slice_set, ap, sym, subst, arith, true, Some, None}
 use Rattle.std.specs.Prelude.{IfSome, All}
 use Rattle.std.proofs.lemmas.List.{length-map, map-set, drop-set-lt, get_or-map}
 use Rattle.linker_riscv64.proofs.Shrunk.{written_more}
@@ -17,6 +17,8 @@ returns-in_default-clause-rejected g c =
     let a = c.args in
     let k = c.loop-index.index in
     let r = c.relocation_in-relocation.result in
+    let enough : length a.relocations.now / 24 ≤ length (map g.D.AsDecision.decision c.loop-index.decisions) =
+    (let e = c.relocations_len-len.ensures in let f = c.if-decisions-len.false in let l = c.loop-index.auto.decisions in let m = length-map c.loop-index.decisions g.D.AsDecision.decision in omega arith) in
     let less : k < length a.relocations.now / 24 =
     (let t = c.loop-index-test.true in let e = c.relocations_len-len.ensures in omega arith) in (
       less,
@@ -24,6 +26,7 @@ returns-in_default-clause-rejected g c =
       not_surveyed (setting_of a.setting.now) a.kept.now a.relocations.now a.section.now k r c.loop-index.is_taken
           (subst (IsDecisionAfter (setting_of a.setting.now) a.kept.now a.relocations.now a.section.now k r c.loop-index.is_taken) c.in_default.is c.decide_after.ensures.decision)
           c.relocation_in-relocation.ensures,
+      enough,
     )
 
 pub returns-in_default-end_behind-clause-rejected : goal.returns-in_default-end_behind-clause-rejected
@@ -31,6 +34,8 @@ returns-in_default-end_behind-clause-rejected g c =
     let a = c.args in
     let k = c.loop-index.index in
     let r = c.relocation_in-relocation.result in
+    let enough : length a.relocations.now / 24 ≤ length (map g.D.AsDecision.decision c.loop-index.decisions) =
+    (let e = c.relocations_len-len.ensures in let f = c.if-decisions-len.false in let l = c.loop-index.auto.decisions in let m = length-map c.loop-index.decisions g.D.AsDecision.decision in omega arith) in
     let less : k < length a.relocations.now / 24 =
     (let t = c.loop-index-test.true in let e = c.relocations_len-len.ensures in omega arith) in (
       less,
@@ -41,6 +46,7 @@ returns-in_default-end_behind-clause-rejected g c =
           (subst (λ x. IsEndBehind (x.0) (x.1) c.loop-index.end None) c.span_of-start.ensures
           (subst (IsEndBehind (c.span_of-start.result.0) (c.span_of-start.result.1) c.loop-index.end) c.in_default-end_behind.is c.end_behind.ensures))
           c.loop-index.invariant.decided.ends,
+      enough,
     )
 
 pub loop-index-preserved : goal.loop-index-preserved

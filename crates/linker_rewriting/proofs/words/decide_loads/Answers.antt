@@ -1,4 +1,4 @@
-use Rattle.std.proofs.Common.{◌≡◌, ◌<◌, ◌+◌, ◌/◌, ◌∙◌, length, map, take, slice_set, ap, sym, subst, arith, Some, None}
+use Rattle.std.proofs.Common.{◌≡◌, ◌<◌, ◌≤◌, ◌+◌, ◌/◌, ◌∙◌, length, map, take, slice_set, ap, sym, subst, arith, Some, None}
 use Rattle.std.specs.Prelude.{IfSome, All}
 use Rattle.std.proofs.lemmas.List.{length-map, map-set, drop-set-lt}
 use Rattle.linker_riscv64.proofs.Shrunk.{written_more}
@@ -14,12 +14,15 @@ returns-in_default-clause-rejected g c =
     let a = c.args in
     let k = c.loop-index.index in
     let s = setting_of a.setting.now in
+    let enough : length a.relocations.now / 24 ≤ length (map g.D.AsDecision.decision c.loop-index.decisions) =
+    (let e = c.relocations_len-len.ensures in let f = c.if-decisions-len.false in let l = c.loop-index.auto.decisions in let m = length-map c.loop-index.decisions g.D.AsDecision.decision in omega arith) in
     let less : k < length a.relocations.now / 24 =
     (let t = c.loop-index-test.true in let e = c.relocations_len-len.ensures in omega arith) in (
       less,
       c.loop-index.invariant.decided.decided,
       subst (IsLoadNotSurveyed s a.start a.words.now a.kept.now a.relocations.now a.section.now k) c.relocation_in-relocation.ensures
           (subst (IsLoadDecided s a.start a.words.now a.kept.now a.relocations.now a.section.now k c.relocation_in-relocation.result) c.in_default.is c.decide_load.ensures.decision),
+      enough,
     )
 
 pub returns-in_default-end_behind-clause-rejected : goal.returns-in_default-end_behind-clause-rejected
@@ -27,6 +30,8 @@ returns-in_default-end_behind-clause-rejected g c =
     let a = c.args in
     let k = c.loop-index.index in
     let s = setting_of a.setting.now in
+    let enough : length a.relocations.now / 24 ≤ length (map g.D.AsDecision.decision c.loop-index.decisions) =
+    (let e = c.relocations_len-len.ensures in let f = c.if-decisions-len.false in let l = c.loop-index.auto.decisions in let m = length-map c.loop-index.decisions g.D.AsDecision.decision in omega arith) in
     let less : k < length a.relocations.now / 24 =
     (let t = c.loop-index-test.true in let e = c.relocations_len-len.ensures in omega arith) in (
       less,
@@ -37,6 +42,7 @@ returns-in_default-end_behind-clause-rejected g c =
           (subst (λ x. IsEndBehind (x.0) (x.1) c.loop-index.end None) c.span_of-begin.ensures
           (subst (IsEndBehind (c.span_of-begin.result.0) (c.span_of-begin.result.1) c.loop-index.end) c.in_default-end_behind.is c.end_behind.ensures))
           c.loop-index.invariant.decided.ends,
+      enough,
     )
 
 pub loop-index-preserved : goal.loop-index-preserved
