@@ -434,7 +434,8 @@ struct linker_utils_requirements {
 
 /* What a relocation requires, into `required`, before addresses are known. `is_thread_local` says
  * whether its symbol is (STT_TLS). Where a relocation is rewritten, ask for the one that it
- * becomes. LINKER_UTILS_UNKNOWN_ARCHITECTURE; LINKER_UTILS_UNKNOWN_RELOCATION. */
+ * becomes. RISC-V's TLS descriptors are rewritten later: a group that won't stay requires no entry.
+ * LINKER_UTILS_UNKNOWN_ARCHITECTURE; LINKER_UTILS_UNKNOWN_RELOCATION. */
 uint32_t linker_utils_needs(uint16_t machine, uint32_t r_type, int64_t addend,
                             bool is_thread_local, struct linker_utils_requirements *required);
 
@@ -625,9 +626,10 @@ static inline uint32_t linker_utils_survey_placed_section(
 /* Rewrites the instructions of a section of code in a phase once addresses are known, and turns its
  * relocations into those after it, as `linker_utils_rewrite_section` does before. `kept` is what
  * `linker_utils_survey_placed_section` noted of all sections of code of the object in the phase,
- * with the same facts and addresses. Each address has to be that by which values are written later,
- * or differ from it by less than the reach that is left. A linker that deletes bytes afterwards
- * makes distances shorter, never longer.
+ * with the same facts and addresses. All decisions are written anew: those of an earlier phase are
+ * lost. Each address has to be that by which values are written later, or differ from it by less
+ * than the reach that is left. A linker that deletes bytes afterwards makes distances shorter,
+ * never longer.
  *
  * What is to be deleted is in the first `deleted_used` elements of `deleted`, ascending, as
  * `linker_utils_deltas_create` takes it. They are bytes of the section, apart from each other and

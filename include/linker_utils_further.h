@@ -568,6 +568,11 @@ static inline uint32_t linker_utils_fits(uint16_t machine, uint32_t form, uint64
 
 /* Writes a value into the instruction that `dest` begins with, and changes no other bit. `negative`
  * is the value's sign, which matters only to LINKER_UTILS_AARCH64_FORM_MOVNZ.
+ *
+ * Some bits are only ORed: a bit that is 1 before stays 1. They have to be 0 before. These are all
+ * bits of AArch64's forms, except for LINKER_UTILS_AARCH64_FORM_MOVNZ and
+ * LINKER_UTILS_AARCH64_FORM_MACH_O_LOW12, and the upper 4 of a branch's 16 bits at
+ * LINKER_UTILS_LOONGARCH64_FORM_SHIFT10. `linker_utils_relocate` clears them first.
  * LINKER_UTILS_TOO_SHORT, LINKER_UTILS_DOES_NOT_FIT. */
 static inline uint32_t linker_utils_write(uint16_t machine, uint32_t form, uint64_t value,
                                           bool negative, uint8_t *dest, size_t dest_len);

@@ -4,6 +4,10 @@
 #ifndef LINKER_UTILS_LISTS_H
 #define LINKER_UTILS_LISTS_H
 
+#if defined(__BYTE_ORDER__) && __BYTE_ORDER__ != __ORDER_LITTLE_ENDIAN__
+#error "linker_utils.h is for little-endian hosts: relocations are those of the file, as they stand"
+#endif
+
 /* What a call returns: names, numbers and `linker_utils_status_text`. 11 and 16 are unused. */
 #define LINKER_UTILS_STATUSES(STATUS) \
     STATUS(OK, 0, "Success.") \

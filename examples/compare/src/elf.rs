@@ -91,8 +91,9 @@ pub struct Linked<'a> {
     pub got: Vec<(u64, Entry)>,
     /// The entries of each content.
     pub got_of: HashMap<u64, Vec<u64>>,
-    /// What addresses of the GOT count from: on PowerPC64 the TOC pointer.
-    pub got_base: u64,
+    /// What addresses of the GOT count from: on PowerPC64 the TOC pointer. `None` where nothing says
+    /// where the TOC is.
+    pub got_base: Option<u64>,
     pub stubs: Stubs,
     /// Names, addresses and bytes of the sections.
     sections: Vec<(Cow<'a, str>, u64, &'a [u8])>,
@@ -371,12 +372,15 @@ pub fn read_linked<'a>(bytes: &'a [u8]) -> Result<Linked<'a>, Reason> {
         }
     }
     let mut got = Vec::new();
-    let mut got_start = None;
+    let (mut got_start, mut toc_start) = (None, None);
     let mut sections = Vec::new();
     for section in table.iter() {
         let (name, bytes) = name_and_bytes(&table, section, bytes)?;
         if section.sh_flags(LE) & u64::from(elf::SHF_ALLOC) != 0 {
             sections.push((name.clone(), section.sh_addr(LE), bytes));
+        }
+        if name == ".toc" {
+            toc_start.get_or_insert(section.sh_addr(LE));
         }
         if !name.starts_with(".got") || section.sh_type(LE) != elf::SHT_PROGBITS {
             continue;
@@ -398,14 +402,17 @@ pub fn read_linked<'a>(bytes: &'a [u8]) -> Result<Linked<'a>, Reason> {
             got_of.entry(content).or_default().push(*at);
         }
     }
-    let got_start = got_start.unwrap_or(0);
     let address = |name: &str| first_of(&globals, &locals, name).map(|one| one.address);
     let got_base = match architecture {
-        // the psABI: the TOC base is 0x8000 bytes behind the GOT's start
-        Architecture::Ppc64 => address(".TOC.").unwrap_or(got_start.wrapping_add(0x8000)),
-        _ => address("_GLOBAL_OFFSET_TABLE_").unwrap_or(got_start),
+        // the psABI: the TOC base is 0x8000 bytes behind the GOT's start. Where that is empty `.toc` is
+        // the first section of the TOC
+        Architecture::Ppc64 => {
+            let behind_start = |start: u64| start.wrapping_add(0x8000);
+            address(".TOC.").or_else(|| got_start.or(toc_start).map(behind_start))
+        }
+        _ => Some(address("_GLOBAL_OFFSET_TABLE_").or(got_start).unwrap_or(0)),
     };
-    let stubs = Stubs::new(architecture, &code, &resolvers, got_base);
+    let stubs = Stubs::new(architecture, &code, &resolvers, got_base.unwrap_or(0));
     Ok(Linked {
         architecture,
         segments,

@@ -8,7 +8,8 @@ use crate::targets::Pending;
 use linker_utils::elf::Architecture;
 use linker_utils::recognise::{FieldBits, field_bits};
 use object::elf::{
-    R_PPC64_ADDR64, R_PPC64_GOT16_HA, R_PPC64_GOT16_LO_DS, R_PPC64_TOC16_HA, R_PPC64_TOC16_LO_DS,
+    R_PPC64_ADDR64, R_PPC64_GOT16_HA, R_PPC64_GOT16_LO_DS, R_PPC64_TLS, R_PPC64_TOC16_HA,
+    R_PPC64_TOC16_LO_DS,
 };
 use std::cell::{Cell, OnceCell, RefCell};
 
@@ -151,12 +152,18 @@ impl Side<'_> {
             Architecture::X86_64 => &[(6, 12), (4, 12), (6, len), (3, len), (0, len)],
             _ => &[(4, 8), (0, 8), (4, 4), (0, 4), (0, len)],
         };
+        // the psABI: behind a prefixed instruction the mark is one byte into its own
+        let into = match one.code {
+            R_PPC64_TLS if architecture == Architecture::Ppc64 => one.offset % 4,
+            _ => 0,
+        };
+        let instruction = one.offset - into;
         let mut others = Vec::with_capacity(OTHERS);
         let mut try_windows = |windows: &[(u64, u64)], pass| {
             let mut best = None;
             for (back, forward) in windows {
-                let start = one.offset.saturating_sub(*back);
-                let end = (one.offset + forward.max(&len)).min(at.it.bytes.len() as u64);
+                let start = instruction.saturating_sub(*back);
+                let end = (instruction + forward.max(&len)).min(at.it.bytes.len() as u64);
                 self.recognise_in(at, one, (start, end), pass, &mut others, &mut best);
                 if best.is_some() {
                     break;

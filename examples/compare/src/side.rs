@@ -230,7 +230,7 @@ impl<'a> Side<'a> {
                 Some((self.address_in(object, section, symbol.value)?, symbol.other))
             }
             Home::Absolute => Some((symbol.value, 0)),
-            Home::Undefined if symbol.name == ".TOC." => Some((self.linked.got_base, 0)),
+            Home::Undefined if symbol.name == ".TOC." => Some((self.linked.got_base?, 0)),
             Home::Undefined if symbol.is_weak => {
                 let is_hidden = self.definers.of.contains_key(&*symbol.name);
                 let hidden = || local().filter(|_| is_hidden);

@@ -41,6 +41,10 @@ impl<'a> Side<'a> {
     /// What a field leads to, and whether that is what the relocation says.
     fn target(&self, field: &Field, symbol: Option<(u64, u8)>, operands: &Operands) -> Target {
         let linked = self.linked;
+        let from = |got_base| field.row.value(&Operands { got_base, ..*operands });
+        if linked.got_base.is_none() && from(0) != from(1) {
+            return self.bits(field); // nothing says what it counts from
+        }
         let base = match field.base {
             Base::Nothing => 0,
             Base::GlobalPointer => linked.address_of("__global_pointer$").unwrap_or(0),
@@ -120,7 +124,7 @@ impl<'a> Side<'a> {
         let operands = Operands {
             addend: field.addend,
             place: field.place,
-            got_base: self.linked.got_base,
+            got_base: self.linked.got_base.unwrap_or(0),
             symbol_size: symbol.size,
             ..Operands::default()
         };

@@ -10,14 +10,16 @@ use std::fs;
 use std::path::{Path, PathBuf};
 
 /// Folders, the names of both linked files, and how many relocations aren't in the files: those of
-/// the member of the archive that isn't linked.
-const PROGRAMS: [(&str, [&str; 2], usize); 6] = [
+/// the member of the archive that isn't linked, and of `.toc` where nothing leads to it any more.
+const PROGRAMS: [(&str, [&str; 2], usize); 8] = [
     ("aarch64", ["lld", "gnu"], 2),
     ("loongarch64", ["lld", "gnu"], 2),
     ("powerpc64le", ["lld", "gnu"], 2),
     ("riscv64", ["lld", "gnu"], 2),
     ("x86_64", ["lld", "gnu"], 2),
     ("descriptors", ["no-relax", "relax"], 0),
+    ("prefixed", ["lld", "gnu"], 0),
+    ("toc", ["lld", "without_got"], 2),
 ];
 
 fn path(folder: &str, name: &str) -> PathBuf {
@@ -143,7 +145,7 @@ const MODULE: &str = "PcalaToPcaddi (through the GOT) to the GOT entry of 0x1";
 
 /// What is said of a relocation, by its name and the instruction that `tests/gnu/instructions.py`
 /// found at its place. `deleted` is none.
-const SAID: [(&str, &str, &str); 123] = [
+const SAID: [(&str, &str, &str); 133] = [
     ("R_AARCH64_ADR_GOT_PAGE", "adrp x0, N", "as it was (through the GOT)"),
     ("R_AARCH64_ADR_GOT_PAGE", "nop", "part of another's rewrite"),
     ("R_AARCH64_CALL26", "bl N", "as it was (direct)"),
@@ -184,6 +186,9 @@ const SAID: [(&str, &str, &str); 123] = [
     ("R_PPC64_GOT_TPREL16_LO_DS", "addis 3, 13, 0", "LdToAddisThread (direct)"),
     ("R_PPC64_GOT_TPREL16_LO_DS", "addis 9, 13, 0", "LdToAddisThread (direct)"),
     ("R_PPC64_GOT_TPREL16_LO_DS", "nop", "LdToNop"),
+    ("R_PPC64_GOT_TPREL_PCREL34", "paddi 3, 13, N, 0", "PldToPaddiThread (direct)"),
+    ("R_PPC64_GOT_TPREL_PCREL34", "paddi 4, 13, N, 0", "PldToPaddiThread (direct)"),
+    ("R_PPC64_GOT_TPREL_PCREL34", "paddi 6, 13, N, 0", "PldToPaddiThread (direct)"),
     ("R_PPC64_REL16_HA", "addis 2, 12, 1", "as it was (direct)"),
     ("R_PPC64_REL16_HA", "lis 2, N", "AddisToLis (direct)"),
     ("R_PPC64_REL16_LO", "addi 2, 2, N", "AddiBehindLis (direct)"),
@@ -198,12 +203,19 @@ const SAID: [(&str, &str, &str); 123] = [
     ("R_PPC64_TLS", "addi 3, 3, N", "AddToAddi (direct)"),
     ("R_PPC64_TLS", "lwz 4, N(13)", "IndexedToD, BaseToThread (direct)"),
     ("R_PPC64_TLS", "lwz 4, N(9)", "IndexedToD (direct)"),
+    ("R_PPC64_TLS", "lwz 5, 0(4)", "IndexedToDirect"),
+    ("R_PPC64_TLS", "nop", "AddToMove"),
     ("R_PPC64_TLS", "std 4, N(10)", "IndexedToDs (direct)"),
     ("R_PPC64_TLS", "std 4, N(13)", "IndexedToDs, BaseToThread (direct)"),
+    ("R_PPC64_TLS", "std 5, 0(6)", "IndexedToDirect"),
     ("R_PPC64_TLSGD", "addi 3, 13, N", "CallToAddi, BaseToThread (direct)"),
     ("R_PPC64_TLSGD", "nop", "CallToAddi (direct)"),
     ("R_PPC64_TLSLD", "addi 3, 13, N", "CallToAddi4096, BaseToThread"),
     ("R_PPC64_TLSLD", "nop", "CallToAddi4096"),
+    ("R_PPC64_TOC16_HA", "addis 3, 2, N", "as it was (direct)"),
+    ("R_PPC64_TOC16_HA", "addis 4, 2, N", "as it was (direct)"),
+    ("R_PPC64_TOC16_LO_DS", "addi 3, 3, N", "LdToAddi (direct)"),
+    ("R_PPC64_TOC16_LO_DS", "addi 4, 4, N", "LdToAddi (direct)"),
     ("R_PPC64_TPREL16_HA", "addis 5, 13, 0", "as it was (direct)"),
     ("R_PPC64_TPREL16_HA", "addis 6, 13, 0", "as it was (direct)"),
     ("R_PPC64_TPREL16_HA", "nop", "AddisThreadToNop"),
