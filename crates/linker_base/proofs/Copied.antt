@@ -9,7 +9,7 @@ use Rattle.linker_base.specs.Deletions.{IsValid, covers, is_kept, rank}
 use Rattle.linker_base.specs.Deltas.{deletion_of}
 use Rattle.linker_base.specs.Listed.{AreValidDeltas}
 use Rattle.linker_base.specs.declared.relaxation.RelaxDelta.{RelaxDelta}
-use Rattle.linker_base.specs.Inner.Packing.{AreBegun, delta_at, no_delta, IsRunStart, IsFirstRun, IsFilledTo, IsFilled, IsCopied}
+use Rattle.linker_base.specs.Inner.Packing.{AreBegun, no_delta, IsRunStart, IsFirstRun, IsFilledTo, IsFilled, IsCopied}
 use Rattle.linker_base.proofs.Rank.{rank_kept, rank_gone, rank-mono, rank_all_kept}
 
 -- ---- bytes put over others

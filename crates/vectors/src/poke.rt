@@ -17,6 +17,8 @@ ghost use Rattle.linker_utils.specs.Form.{window_of};
 ghost use Rattle.vectors.specs.Poke.{window_at, HasWindow, CanPoke, IsPoked, value_at, flag_at};
 
 use linker_utils::elf::InstructionForm;
+#[cfg(test)]
+use linker_utils::elf::RiscVInstruction;
 
 fn has_window<F: InstructionForm>(form: F, section: &[u8], offset: usize) -> bool
     ensures { IsTrue result ↔ HasWindow (F.form form) section.now offset }
@@ -84,4 +86,15 @@ pub fn write_back<F: InstructionForm>(form: F, section: &mut [u8], offset: usize
     let (value, negative) = form.read(bytes);
     let field = truncate(form, value, bytes);
     poke(form, field, negative, section, offset)
+}
+
+// jal x0, 0 at offset 4 becomes jal x0, 8, and stays so
+#[test]
+fn a_jump_is_poked_and_written_back(rt: HostRuntime) {
+    let mut section = [0, 0, 0, 0, 0x6f, 0, 0, 0];
+    let jump = [0, 0, 0, 0, 0x6f, 0, 0x80, 0];
+    assert!(rt; poke(RiscVInstruction::JType, 8, false, &mut section, 4));
+    assert_eq!(rt; section, jump);
+    assert!(rt; write_back(RiscVInstruction::JType, &mut section, 4));
+    assert_eq!(rt; section, jump);
 }

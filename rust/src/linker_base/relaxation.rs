@@ -22,7 +22,7 @@ pub use cursor::RelaxCursor;
 pub use delta_slice::DeltaSlice;
 pub(crate) use delta_slice::rank_past;
 pub use map::RelaxDeltaMap;
-use merge::{all_pairs, copy_pairs, count_pairs, insert_ascending, sorted};
+use merge::{all_pairs, copy_deletions, count_pairs, insert_ascending, sorted};
 use overlap::{can_batches_be_merged, can_be_merged};
 pub use overlap::{AsDeletion, first_invalid};
 
@@ -143,7 +143,7 @@ impl SectionRelaxDeltas {
             insert_ascending(deltas, heads, additional);
             return Ok(());
         }
-        let pairs = sorted(copy_pairs(additional)?);
+        let pairs = sorted(copy_deletions(additional)?);
         insert_ascending(deltas, heads, &pairs);
         Ok(())
     }

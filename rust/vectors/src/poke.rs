@@ -13,6 +13,8 @@
 //! ```
 
 use linker_utils::elf::InstructionForm;
+#[cfg(test)]
+use linker_utils::elf::RiscVInstruction;
 
 fn has_window<F: InstructionForm>(form: F, section: &[u8], offset: usize) -> bool {
     let window = form.window();
@@ -62,4 +64,15 @@ pub fn write_back<F: InstructionForm>(form: F, section: &mut [u8], offset: usize
     let (value, negative) = form.read(bytes);
     let field = truncate(form, value, bytes);
     poke(form, field, negative, section, offset)
+}
+
+// jal x0, 0 at offset 4 becomes jal x0, 8, and stays so
+#[test]
+fn a_jump_is_poked_and_written_back() {
+    let mut section = [0, 0, 0, 0, 0x6f, 0, 0, 0];
+    let jump = [0, 0, 0, 0, 0x6f, 0, 0x80, 0];
+    assert!(poke(RiscVInstruction::JType, 8, false, &mut section, 4));
+    assert_eq!(section, jump);
+    assert!(write_back(RiscVInstruction::JType, &mut section, 4));
+    assert_eq!(section, jump);
 }

@@ -1,17 +1,15 @@
 -- What holds of the fields of deltas and of a cursor, and of what searches and tests in them find.
 use Rattle.std.specs.Prelude.{◌≡◌, ℕ, ◌+◌, ◌-◌, ◌<◌, ◌≤◌, List, length, map, take, slice_index_or}
-use Rattle.std.specs.Prelude.{slice_index, All, AllPairs, Any, Bool, true}
-use Rattle.std.specs.Prelude.{false, ◌++◌, drop, IsPermutation, ◌%◌, ◌^◌}
-use Rattle.std.specs.List.Sorted.{IsNonDecreasing}
+use Rattle.std.specs.Prelude.{All, AllPairs, Any, Bool, true}
+use Rattle.std.specs.Prelude.{false, ◌++◌, drop, IsPermutation}
 use Rattle.linker_base.specs.declared.relaxation.RelaxDelta.{RelaxDelta}
 use Rattle.linker_base.specs.declared.relaxation.blocks.BlockHead.{BlockHead}
 use Rattle.linker_base.specs.declared.relaxation.walk.Reached.{Reached}
 use Rattle.linker_base.specs.Deletions.{IsBefore, DoNotOverlap, EndFits, AreDisjoint, IsValid}
-use Rattle.linker_base.specs.Deletions.{bytes_of, rank}
+use Rattle.linker_base.specs.Deletions.{bytes_of}
 use Rattle.linker_base.specs.Deltas.{deletion_of}
 use Rattle.linker_base.specs.Blocks.{AreHeads}
 use Rattle.linker_base.specs.Listed.{AreValidDeltas, AreValidTogether}
-use Rattle.linker_base.specs.Walk.{walk_at, IsAhead, AreAhead}
 
 -- what holds of the fields of a section's deltas
 pub record IsSound (list : List RelaxDelta) (blocks : List BlockHead) : Type 0 where

@@ -40,18 +40,6 @@ pub(super) fn all_pairs(
     Ok(pairs)
 }
 
-// A copy of the pairs.
-pub(super) fn copy_pairs(
-    alloc: Global,
-    pairs: &[(u64, u32)],
-) -> Result<Vec<(u64, u32)>, OutOfMemory>
-    ensures { IfOk result (λ copy. copy.items ≡ pairs.now) }
-{
-    let mut copy = Vec::with_capacity(alloc, pairs.len())?;
-    copy.extend_from_slice(pairs)?;
-    Ok(copy)
-}
-
 // The deletions as pairs.
 pub(super) fn copy_deletions<D: AsDeletion>(
     alloc: Global,

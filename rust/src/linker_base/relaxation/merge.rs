@@ -28,15 +28,6 @@ pub(super) fn all_pairs(
     Ok(pairs)
 }
 
-// A copy of the pairs.
-pub(super) fn copy_pairs(
-    pairs: &[(u64, u32)],
-) -> Result<Vec<(u64, u32)>, OutOfMemory> {
-    let mut copy = Vec::fallible_with_capacity(pairs.len())?;
-    copy.fallible_extend_from_slice(pairs)?;
-    Ok(copy)
-}
-
 // The deletions as pairs.
 pub(super) fn copy_deletions<D: AsDeletion>(
     deletions: &[D],

@@ -1,6 +1,4 @@
-use Rattle.std.proofs.Common.{◌≡◌, subst, arith}
-use Rattle.linker_runs.specs.Relaxing.{item_at, end_of}
-use Rattle.std.specs.Prelude.{◌<◌}
+use Rattle.std.proofs.Common.{◌≡◌, arith}
 use Rattle.linker_runs.proofs.Choices.{place_unique}
 use Rattle.linker_runs.proofs.items.list.ItemList.place_of.Goals as goal
 
