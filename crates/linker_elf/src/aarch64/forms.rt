@@ -1,7 +1,7 @@
 //! AArch64 instructions that hold a value.
 
 ghost use Rattle.std.specs.Prelude.{slice_get, ◌≡◌, ◌≤◌, ◌<◌, ◌-◌, ◌∷◌, []};
-ghost use Rattle.std.specs.Prelude.{length, drop, ◌*◌, ◌^◌};
+ghost use Rattle.std.specs.Prelude.{IsTrue, length, drop, ◌*◌, ◌^◌};
 ghost use Rattle.std.specs.Int.{byte_len, cast_unsigned, w64};
 ghost use Rattle.linker_elf.specs.AArch64.{aarch64_forms};
 ghost use Rattle.linker_base.specs.Form.{window_of, BitsWritten, Fits, Written};
@@ -14,7 +14,7 @@ ghost use Rattle.linker_elf.specs.Entries.{is_aarch64_branch};
 ghost use Rattle.linker_elf.specs.Forms.{aarch64_mask, immediate_of};
 ghost use Rattle.linker_elf.specs.Reach.{aarch64_reach};
 ghost use Rattle.linker_elf.specs.Relocate.{ored_cleared, is_32_bit_move, is_movk};
-ghost use Rattle.linker_elf.specs.Inner.Runs.{code_of};
+ghost use Rattle.linker_elf.specs.Inner.Runs.{code_of, moves_places};
 
 use crate::elf::engine::{self, Encoding, Step, Window, form};
 use crate::elf::{AllowedRange, InstructionForm, RelocationInstruction, Sign};
@@ -139,7 +139,8 @@ impl AArch64Instruction {
     /// How its bits move.
     #[inline(always)]
     fn steps(self) -> &'static [Step; 2]
-        ensures { result.now ≡ (code_of (RelocationInstruction.AArch64 self)).1 }
+        ensures moves { result.now ≡ (code_of (RelocationInstruction.AArch64 self)).1 }
+        ensures places { IsTrue (moves_places (RelocationInstruction.AArch64 self) result.now) }
     {
         &STEPS[self as usize]
     }
