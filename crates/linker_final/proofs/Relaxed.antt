@@ -10,13 +10,11 @@ use Rattle.linker_base.specs.Deltas.{RecordsDeletions}
 use Rattle.linker_base.specs.Listed.{AreValidDeltas}
 use Rattle.linker_base.specs.declared.relaxation.RelaxDelta.{RelaxDelta}
 use Rattle.linker_elf.specs.Value.{sum_64}
-use Rattle.linker_final.proofs.PackedBytes.{addresses, same_items}
-use Rattle.linker_final.specs.Packed.{Packed, IsPackCause, IsPacked}
-use Rattle.linker_final.specs.Relaxed.{AreRelaxedAndPacked, IsRelaxCause, packed_of}
+use Rattle.linker_final.proofs.PackedBytes.{addresses}
+use Rattle.linker_final.specs.Packed.{Packed, IsPacked}
+use Rattle.linker_final.specs.Relaxed.{AreRelaxedAndPacked, packed_of}
 use Rattle.linker_final.specs.Relaxed.{Run, AlignmentsHold, Holds, HoldsIn, IsAligned, IsOfRun, IsSkipped, LeadsInto, SectionsAreAligned}
 use Rattle.linker_final.specs.Relaxed.{code_at, code_index, padding_at, padding_index, padding_len}
-use Rattle.linker_final.specs.declared.packed.PackError.{PackError}
-use Rattle.linker_final.specs.declared.packed.RelaxError.TheVariants.{Packing}
 use Rattle.linker_final.specs.declared.packed.RunSection.{RunSection}
 use Rattle.linker_runs.proofs.First.{first_bytes}
 use Rattle.linker_runs.proofs.Layouts.{freed_fits}
@@ -218,39 +216,16 @@ listed_deltas lost deltas valid listing =
       listing = subst (λ ds. RecordsDeletions ds deltas) same listing;
     }
 
-module _ (s : RunSection) (items : List Item) (start : ℕ) (places : Addresses) (symbols : List Symbol)
-    (shapes stays gone : List ℕ) (lost deletions : List (ℕ × ℕ)) (are : AreItems start items)
-    (is : IsRelaxation start (map (λ i. i) items) shapes stays gone)
-    (lost_is : lost ≡ deletions_of_run (map (λ i. i) items) stays) (same : deletions ≡ lost) where
-  abbrev whole_run : Run
-  whole_run = record { items = items; shapes = shapes; kept = stays; freed = gone }
-
-  relaxed : IsRelaxation start items shapes stays gone
-  relaxed = subst (λ xs. IsRelaxation start xs shapes stays gone) (same_items items) is
-
-  of_run : deletions ≡ deletions_of_run items stays
-  of_run = same ∙ lost_is ∙ ap (λ xs. deletions_of_run xs stays) (same_items items)
-
-  pub packed_run : (final : List ℕ)
-      → ((packed : List ℕ) × IsPacked (packed_of s deletions start packed places symbols final))
-      → AreRelaxedAndPacked s items start places symbols final
-  packed_run final made =
-      record {
-        run = whole_run;
-        of_items = refl;
-        packed = made.0;
-        is_packed = subst (λ d. IsPacked (packed_of s d start made.0 places symbols final)) of_run made.1;
-        of_run = record { accepted = are; relaxed = relaxed; lost = refl };
-      }
-
-  pub packing_cause : (error : PackError)
-      → IsPackCause s.machine (section_of s.bytes.now s.base deletions start) s.items.now s.relocations.now
-      s.translated.now places symbols error
-      → IsRelaxCause s items start places symbols (Packing error)
-  packing_cause error cause = (
-    whole_run,
-    refl,
-    relaxed,
-    subst (λ d. IsPackCause s.machine (section_of s.bytes.now s.base d start) s.items.now s.relocations.now
-        s.translated.now places symbols error) of_run cause,
-  )
+pub packed_run : (s : RunSection) (items : List Item) (start : ℕ) (places : Addresses) (symbols : List Symbol)
+    (shapes stays gone : List ℕ) (deletions : List (ℕ × ℕ)) → AreItems start items → IsRelaxation start items shapes stays gone
+    → deletions ≡ deletions_of_run items stays → (final : List ℕ)
+    → ((packed : List ℕ) × IsPacked (packed_of s deletions start packed places symbols final))
+    → AreRelaxedAndPacked s items start places symbols final
+packed_run s items start places symbols shapes stays gone deletions are relaxed of_run final made =
+    record {
+      run = record { items = items; shapes = shapes; kept = stays; freed = gone };
+      of_items = refl;
+      packed = made.0;
+      is_packed = subst (λ d. IsPacked (packed_of s d start made.0 places symbols final)) of_run made.1;
+      of_run = record { accepted = are; relaxed = relaxed; lost = refl };
+    }

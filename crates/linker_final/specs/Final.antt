@@ -10,7 +10,8 @@ use Rattle.linker_final.specs.declared.sections.PhaseError.{PhaseError}
 use Rattle.linker_final.specs.declared.sections.PhaseError.TheVariants as phase_errors
 use Rattle.linker_rewriting.specs.Decisions.{IsRejected, IsRejectedIn, IsRejectedPlaced}
 use Rattle.linker_rewriting.specs.Decisions.{AreDecidedIn, decision_at, start_at, written_end_at}
-use Rattle.linker_rewriting.specs.Facts.{Setting}
+use Rattle.linker_rewriting.specs.Decisions.{deletions_by}
+use Rattle.linker_rewriting.specs.Facts.{Setting, early}
 use Rattle.linker_rewriting.specs.Kept.{IsWritingCause}
 use Rattle.linker_rewriting.specs.Rewritten.{AreRelocationsAfter, AreDone, OthersStay}
 use Rattle.linker_rewriting.specs.declared.decisions.Decision.{Decision}
@@ -210,24 +211,47 @@ IsLinkCause architecture output facts groups kept addresses symbols relocations 
     × (relocations_after ≡ relocations) × (bytes ≡ section)
 IsLinkCause architecture output facts groups kept addresses symbols relocations section decisions
     relocations_after bytes (Writing error) =
-    IsWritingCause architecture output facts kept addresses relocations_after symbols bytes error
+    HasRewritten
+    (rewriting_phase (early architecture output facts) groups relocations section decisions
+    relocations_after bytes)
+    × IsWritingCause architecture output facts kept addresses relocations_after symbols bytes error
 
--- why a section isn't linked in two phases, of which the second has room for so many deletions
-abbrev pub IsPhaseCause : Setting → List KeptGroups → Setting → List KeptGroups → ℕ
-    → List KeptFacts → Addresses → List Symbol → List ℕ → List ℕ → List Decision → List Decision
-    → List ℕ → List ℕ → PhaseError → Type 0
-IsPhaseCause first groups second placed_groups room kept addresses symbols relocations section
-    decisions placed_decisions relocations_after bytes (phase_errors.First error) =
+-- what a phase deletes
+abbrev pub deletions_in : RewritingPhase → List (ℕ × ℕ)
+deletions_in p = deletions_by p.relocations p.decisions (count_of p)
+
+-- An array begins with what a phase deletes, and is as before after that.
+pub record AreListed (p : RewritingPhase) (before after : List (ℕ × ℕ)) : Type 0 where
+  pub len : ℕ
+  pub listed : take len after ≡ deletions_in p
+  pub others : drop len after ≡ drop len before
+
+-- why a section isn't linked in two phases, and what is in an array for what the second one deletes
+abbrev pub IsPhaseCause : Setting → List KeptGroups → Setting → List KeptGroups → List KeptFacts
+    → Addresses → List Symbol → List ℕ → List ℕ → List Decision → List Decision → List ℕ → List ℕ
+    → List (ℕ × ℕ) → List (ℕ × ℕ) → PhaseError → Type 0
+IsPhaseCause first groups second placed_groups kept addresses symbols relocations section
+    decisions placed_decisions relocations_after bytes array deleted (phase_errors.First error) =
     IsRejectedIn first groups relocations section decisions error
-    × (relocations_after ≡ relocations) × (bytes ≡ section)
-IsPhaseCause first groups second placed_groups room kept addresses symbols relocations section
-    decisions placed_decisions relocations_after bytes (phase_errors.Second error) =
+    × (relocations_after ≡ relocations) × (bytes ≡ section) × (deleted ≡ array)
+IsPhaseCause first groups second placed_groups kept addresses symbols relocations section
+    decisions placed_decisions relocations_after bytes array deleted (phase_errors.Second error) =
     HasRewritten
     (rewriting_phase first groups relocations section decisions relocations_after bytes)
-    × IsRejectedPlaced second placed_groups relocations_after bytes placed_decisions room error
-IsPhaseCause first groups second placed_groups room kept addresses symbols relocations section
-    decisions placed_decisions relocations_after bytes (phase_errors.Writing error) =
-    IsWritingCause second.architecture second.output second.symbols kept addresses
+    × IsRejectedPlaced second placed_groups relocations_after bytes placed_decisions (length array)
+    error
+IsPhaseCause first groups second placed_groups kept addresses symbols relocations section
+    decisions placed_decisions relocations_after bytes array deleted (phase_errors.Writing error) =
+    (relocations_between : List ℕ) × (between : List ℕ)
+    × HasRewritten
+    (rewriting_phase first groups relocations section decisions relocations_between between)
+    × HasRewritten
+    (rewriting_phase second placed_groups relocations_between between placed_decisions
+    relocations_after bytes)
+    × AreListed
+    (rewriting_phase second placed_groups relocations_between between placed_decisions
+    relocations_after bytes) array deleted
+    × IsWritingCause second.architecture second.output second.symbols kept addresses
     relocations_after symbols bytes error
 
 -- Later phases leave alone the relocation at an index and so many bytes from a start on. Where

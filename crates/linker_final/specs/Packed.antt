@@ -109,26 +109,37 @@ abbrev pub IsAtPlace : List (ℕ × ℕ) → ℕ → Rela → Rela → Type 0
 IsAtPlace deletions base before after =
     (base + before.offset < 2 ^ 64) × IsTranslated deletions base before after
 
+-- those of the relocations with an index below a limit are
+abbrev pub AreAtPlaces : List (ℕ × ℕ) → ℕ → List ℕ → List ℕ → ℕ → Type 0
+AreAtPlaces deletions base relocations after limit =
+    (i : ℕ) → i < limit
+    → IsAtPlace deletions base (relocation_in relocations i) (relocation_in after i)
+
 -- the relocation at an index is the first that isn't
 pub record IsFirstUntranslated (deletions : List (ℕ × ℕ)) (base : ℕ) (relocations after : List ℕ)
     (at : ℕ) : Type 0 where
   pub within : at < length after / 24
-  pub before : (i : ℕ) → i < at
-      → IsAtPlace deletions base (relocation_in relocations i) (relocation_in after i)
+  pub before : AreAtPlaces deletions base relocations after at
   pub here : ¬ IsAtPlace deletions base (relocation_in relocations at) (relocation_in after at)
 
--- why a section isn't packed and written
+-- Why a section isn't packed and written: the first that applies, in this order. The output is as
+-- it was, or packed.
 abbrev pub IsPackCause : Machine → Section → List Item → List ℕ → List ℕ → Addresses
-    → List Symbol → PackError → Type 0
-IsPackCause machine s items relocations after addresses symbols Misplaced =
-    addresses.section ≢ address_of s s.base
-IsPackCause machine s items relocations after addresses symbols (Untranslated at) =
-    IsFirstUntranslated s.deletions s.base relocations after at
-IsPackCause machine s items relocations after addresses symbols (Packing rejected) =
-    IsFirstRejected machine s items rejected
-IsPackCause machine s items relocations after addresses symbols (Writing error) =
-    (packed : List ℕ) × IsPackedRun machine s items packed
-    × IsFirstFault (architecture_of machine) addresses after symbols packed error
+    → List Symbol → List ℕ → List ℕ → PackError → Type 0
+IsPackCause machine s items relocations after addresses symbols old new Misplaced =
+    (addresses.section ≢ address_of s s.base) × (new ≡ old)
+IsPackCause machine s items relocations after addresses symbols old new (Untranslated at) =
+    (addresses.section ≡ address_of s s.base)
+    × IsFirstUntranslated s.deletions s.base relocations after at × (new ≡ old)
+IsPackCause machine s items relocations after addresses symbols old new (Packing rejected) =
+    (addresses.section ≡ address_of s s.base)
+    × AreAtPlaces s.deletions s.base relocations after (length after / 24)
+    × IsFirstRejected machine s items rejected × (new ≡ old)
+IsPackCause machine s items relocations after addresses symbols old new (Writing error) =
+    (addresses.section ≡ address_of s s.base)
+    × AreAtPlaces s.deletions s.base relocations after (length after / 24)
+    × IsPackedRun machine s items new
+    × IsFirstFault (architecture_of machine) addresses after symbols new error
 
 -- ---- which bytes are whose
 

@@ -1,11 +1,9 @@
 -- Sections that are packed with what `relax` returned of their run: each alignment holds in the
 -- final bytes.
-use Rattle.std.specs.Prelude.{◌≡◌, ◌≢◌, ◌⊎◌, ⊤, ℕ, ◌+◌, ◌%◌, ◌<◌, ◌≤◌, List, length}
+use Rattle.std.specs.Prelude.{◌≡◌, ◌≢◌, ◌⊎◌, ℕ, ◌+◌, ◌%◌, ◌<◌, ◌≤◌, List, length}
 use Rattle.std.specs.Prelude.{MatchOption, None}
 use Rattle.linker_elf.specs.Value.{sum_64}
-use Rattle.linker_final.specs.Packed.{Packed, IsPackCause, IsPacked, packed_as}
-use Rattle.linker_final.specs.declared.packed.RelaxError.{RelaxError}
-use Rattle.linker_final.specs.declared.packed.RelaxError.TheVariants.{OutOfMemory, Packing}
+use Rattle.linker_final.specs.Packed.{Packed, IsPacked, packed_as}
 use Rattle.linker_final.specs.declared.packed.RunSection.{RunSection}
 use Rattle.linker_runs.specs.Choosing.{AreItems, IsRelaxation}
 use Rattle.linker_runs.specs.Deleting.{deletions_of_run}
@@ -125,14 +123,3 @@ pub record AreRelaxedAndPacked (s : RunSection) (items : List Item) (start : ℕ
       symbols final)
   pub of_run : IsOfRun (packed_of s (deletions_of_run run.items run.kept) start packed addresses
       symbols final) run
-
--- why there are no final bytes: of a section that isn't packed, with what the run loses
-abbrev pub IsRelaxCause : RunSection → List Item → ℕ → Addresses → List Symbol → RelaxError
-    → Type 0
-IsRelaxCause s items start addresses symbols OutOfMemory = ⊤
-IsRelaxCause s items start addresses symbols (Packing error) =
-    (run : Run) × (run.items ≡ items)
-    × IsRelaxation start run.items run.shapes run.kept run.freed
-    × IsPackCause s.machine
-    (section_of s.bytes.now s.base (deletions_of_run run.items run.kept) start) s.items.now
-    s.relocations.now s.translated.now addresses symbols error

@@ -2,7 +2,7 @@
 //! other, and laws of the bytes that they leave, by architecture.
 
 ghost use Rattle.std.specs.Prelude.{◌≡◌, ◌≤◌, ◌<◌, ◌+◌, ◌-◌, ◌/◌, ◌^◌, ◌↔◌, ℕ, List, length};
-ghost use Rattle.std.specs.Prelude.{IsTrue, IfErr, IfNone, IfOk, IfSome, OnOk};
+ghost use Rattle.std.specs.Prelude.{IsTrue, IfErr, IfNone, IfSome, OnOk};
 ghost use Rattle.linker_base.specs.Deletions.{rank};
 ghost use Rattle.linker_base.specs.Deltas.{deletions_of};
 ghost use Rattle.linker_base.specs.Listed.{AreValidDeltas};
@@ -11,24 +11,24 @@ ghost use Rattle.linker_final.specs.Branches.{LoongArchBranchesGo, RiscVBranches
 ghost use Rattle.linker_final.specs.LoongArchJoined as loongarch_joined;
 ghost use Rattle.linker_final.specs.LoongArchPacked as loongarch_packed;
 ghost use Rattle.linker_final.specs.Packed as packed;
-ghost use Rattle.linker_final.specs.Packed.{architecture_of, packed_as, IsAtPlace};
+ghost use Rattle.linker_final.specs.Packed.{architecture_of, packed_as, AreAtPlaces, IsAtPlace};
 ghost use Rattle.linker_final.specs.Packed.{IsFirstUntranslated, IsPackCause, IsPacked};
 ghost use Rattle.linker_final.specs.Relaxed as relaxed;
-ghost use Rattle.linker_final.specs.Relaxed.{AreRelaxedAndPacked, IsRelaxCause};
+ghost use Rattle.linker_final.specs.Relaxed.{AreRelaxedAndPacked};
 ghost use Rattle.linker_final.specs.RiscVJoined as riscv_joined;
 ghost use Rattle.linker_final.specs.RiscVPacked as riscv_packed;
-ghost use Rattle.linker_runs.specs.Choosing.{AreItems};
+ghost use Rattle.linker_runs.specs.Choosing.{AreItems, IsRelaxation};
+ghost use Rattle.linker_runs.specs.Deleting.{deletions_of_run};
 ghost use Rattle.linker_runs.specs.Packing.{packed_offset, section_of};
 ghost use Rattle.linker_section.specs.Relocations.{relocation_in};
 
-use linker_base::relaxation::{DeltaSlice, OutOfMemory, RelaxDelta};
-use linker_runs::packing::{Machine, RejectedItem, pack_run, packed_run_len};
-use linker_runs::relaxation::{Item, relax};
+use linker_base::relaxation::{DeltaSlice, RelaxDelta};
+use linker_runs::packing::{Machine, RejectedItem, pack_run};
+use linker_runs::relaxation::{Item, Plan};
 use linker_section::facts::{Addresses, Symbol};
 use linker_section::relocations::{Rela, relocation_at, relocations_len};
-use linker_section::sections::{SectionError, memory_len, relocate_section};
+use linker_section::sections::{SectionError, relocate_section};
 use linker_utils::elf::Architecture;
-use std::alloc::{AllocError, Global};
 
 /// Why a section isn't packed and written.
 #[derive(Debug, Clone, Copy, PartialEq, Eq)]
@@ -121,9 +121,8 @@ fn first_untranslated(
 ) -> Option<usize>
     requires { length translated.now ≡ length relocations.now }
     ensures none { AreValidDeltas deltas.now
-        → IfNone result ((i : ℕ) → i < length translated.now / 24
-        → IsAtPlace (deletions_of deltas.now) base (relocation_in relocations.now i)
-        (relocation_in translated.now i)) }
+        → IfNone result (AreAtPlaces (deletions_of deltas.now) base relocations.now translated.now
+        (length translated.now / 24)) }
     ensures some { AreValidDeltas deltas.now
         → IfSome result (IsFirstUntranslated (deletions_of deltas.now) base relocations.now
         translated.now) }
@@ -144,10 +143,11 @@ fn first_untranslated(
 ///
 /// # Errors
 ///
-/// `Misplaced`: the section isn't at the address where its first byte goes. `Untranslated`: a
-/// relocation isn't at its translated place. `Packing`: an item can't be written. `Writing`: the
-/// section is packed, and no value is written. The contract of each error requires valid deltas, as
-/// that of `pack_run` does.
+/// The first that applies, in this order. `Misplaced`: the section isn't at the address where its
+/// first byte goes. `Untranslated`: a relocation isn't at its translated place. `Packing`: an item
+/// can't be written. `Writing`: no value is written, and `out` has the packed section. With each of
+/// the others `out` is as it was. The contract of each error requires valid deltas, as that of
+/// `pack_run` does.
 pub fn pack_section(
     machine: Machine,
     section: &[u8],
@@ -176,7 +176,7 @@ pub fn pack_section(
     ensures cause { AreValidDeltas deltas.now
         → IfErr result (IsPackCause machine
         (section_of section.now base (deletions_of deltas.now) start) items.now relocations.now
-        translated.now addresses.now symbols.now) }
+        translated.now addresses.now symbols.now out.old out.new) }
 {
     if addresses.section != address_of(deltas, start, base) {
         return Err(PackError::Misplaced);
@@ -217,82 +217,58 @@ pub struct RunSection<'a> {
     pub translated: &'a [u8],
 }
 
-/// Why a section of a run isn't packed.
-#[derive(Debug, Clone, Copy, PartialEq, Eq)]
-pub enum RelaxError {
-    /// Out of memory.
-    OutOfMemory,
-    /// The run is relaxed, but the section isn't packed and written.
-    Packing(PackError),
-}
-
-impl From<OutOfMemory> for RelaxError {
-    ghost use Rattle.linker_final.specs.declared.packed.RelaxError.TheVariants as errors;
-
-    ghost from_gives = { λ _ e. e ≡ errors.OutOfMemory };
-
-    fn from(_error: OutOfMemory) -> RelaxError {
-        RelaxError::OutOfMemory
-    }
-}
-
-impl From<AllocError> for RelaxError {
-    ghost use Rattle.linker_final.specs.declared.packed.RelaxError.TheVariants as errors;
-
-    ghost from_gives = { λ _ e. e ≡ errors.OutOfMemory };
-
-    fn from(_error: AllocError) -> RelaxError {
-        RelaxError::OutOfMemory
-    }
-}
-
-/// Relaxes a run by `relax`, and then packs one of its sections by `pack_section`, with what the
-/// run loses. It returns the section's final bytes, in which each alignment of the run holds
-/// (`shorter_sections`). The run begins at the address `start`. A linker calls both itself: in
-/// between it translates relocations and symbols by what `relax` returned, and it packs each
-/// section.
+/// Packs a section of a run that `relax` relaxed, by `pack_section`, with what the run loses. It
+/// leaves the section's final bytes in `out`, in which each alignment of the run holds
+/// (`shorter_sections`). The run begins at the address `start`. A linker calls `relax` and
+/// `pack_section` itself: in between it translates relocations and symbols by what `relax`
+/// returned, and it packs each section.
 ///
 /// # Errors
 ///
-/// `OutOfMemory`. `Packing`: as `pack_section` returns it.
-pub fn relax_and_pack_section(
-    alloc: Global,
+/// Those of `pack_section`.
+pub fn pack_relaxed_section(
     items: &[Item],
     start: u64,
+    plan: &Plan,
     section: &RunSection<'_>,
     addresses: &Addresses,
     symbols: &[Symbol],
-) -> Result<Vec<u8>, RelaxError>
+    out: &mut [u8],
+    memory: &mut [u64],
+) -> Result<(), PackError>
     requires items { AreItems start items.now }
+    requires relaxed { IsRelaxation start items.now plan.now.shapes.items plan.now.kept.items
+        plan.now.freed.items }
+    requires deleted { plan.now.deletions ≡ deletions_of_run items.now plan.now.kept.items }
     requires small { section.now.base + length section.now.bytes.now < 2 ^ 64 }
+    requires room { length out.old
+        ≡ packed_offset (section_of section.now.bytes.now section.now.base
+        (deletions_of_run items.now plan.now.kept.items) start)
+        (section.now.base + length section.now.bytes.now) }
     requires as_many { length section.now.translated.now ≡ length section.now.relocations.now }
-    ensures packed { IfOk result (λ final. AreRelaxedAndPacked section.now items.now start
-        addresses.now symbols.now final.items) }
-    ensures cause { IfErr result (IsRelaxCause section.now items.now start addresses.now
-        symbols.now) }
+    requires memory { length section.now.translated.now / 24 ≤ length memory.old }
+    ensures packed { OnOk result (AreRelaxedAndPacked section.now items.now start addresses.now
+        symbols.now out.new) }
+    ensures cause { IfErr result (IsPackCause section.now.machine
+        (section_of section.now.bytes.now section.now.base
+        (deletions_of_run items.now plan.now.kept.items) start) section.now.items.now
+        section.now.relocations.now section.now.translated.now addresses.now symbols.now
+        out.old out.new) }
 {
-    let plan = relax(alloc, items, start)?;
-    let deltas = plan.deletions.deltas();
-    let len = packed_run_len(section.base, section.bytes.len(), deltas);
-    let mut out = vec![in alloc; 0; len]?;
-    let mut memory = vec![in alloc; 0; memory_len(section.translated)]?;
-    match pack_section(
+    pack_section(
         section.machine,
         section.bytes,
         section.base,
         section.items,
-        deltas,
+        plan.deletions.deltas(),
         start,
         section.relocations,
         section.translated,
         addresses,
         symbols,
-        &mut out,
-        &mut memory,
-    ) {
-        Ok(()) => Ok(out),
-        Err(error) => Err(RelaxError::Packing(error)),
-    }
+        out,
+        memory,
+    )
 }
 
 /// Each section that was packed: a byte that stays is at its translated place, and those that are

@@ -2,7 +2,7 @@
 
 ghost use Rattle.std.specs.Prelude.{◌≤◌, ◌/◌, ℕ, List, [], ◌∷◌, length, IfErr, OnOk};
 ghost use Rattle.linker_final.specs.Final.{IsLinked, IsLinkCause, linked};
-ghost use Rattle.linker_final.specs.Final.{AreLinked, IsPhaseCause, rewriting_phase};
+ghost use Rattle.linker_final.specs.Final.{AreLinked, AreListed, IsPhaseCause, rewriting_phase};
 ghost use Rattle.linker_rewriting.specs.Facts.{early, setting};
 
 use linker_rewriting::decisions::{Decision, RewritingError};
@@ -92,13 +92,15 @@ pub enum PhaseError {
 
 /// Rewrites the instructions of a section by `rewrite_section`, then in another phase by
 /// `rewrite_placed_section`, and writes its values last. Each phase is one that the laws are about,
-/// and the second takes what the first left (`AreLinked`). Bytes that it deletes are in `deleted`:
-/// they are still in the section. A linker makes its GOT in between, and calls all three itself.
+/// and the second takes what the first left (`AreLinked`). Bytes that it deletes are listed from the
+/// begin of `deleted` on: they are still in the section. A linker makes its GOT in between, and
+/// calls all three itself.
 ///
 /// # Errors
 ///
-/// `First`: the section and its relocations are as before. `Second`: they are as the first phase
-/// left them. `Writing`: they are as the second left them, and no value is written.
+/// `First`: the section, its relocations and `deleted` are as before. `Second`: the section and its
+/// relocations are as the first phase left them. `Writing`: all three are as the second left them,
+/// and no value is written.
 pub fn link_section_in_two_phases(
     architecture: Architecture,
     phase: Phase,
@@ -124,11 +126,14 @@ pub fn link_section_in_two_phases(
         ∷ rewriting_phase (setting architecture phase output.now facts.now addresses.now
         symbols.now) placed_groups.now relocations_between between placed_decisions.new
         relocations.new rewritten ∷ []) relocations.old section.old relocations.new rewritten
-        addresses.now symbols.now section.new) }
+        addresses.now symbols.now section.new
+        × AreListed (rewriting_phase (setting architecture phase output.now facts.now addresses.now
+        symbols.now) placed_groups.now relocations_between between placed_decisions.new
+        relocations.new rewritten) deleted.old deleted.new) }
     ensures cause { IfErr result (IsPhaseCause (early architecture output.now facts.now) groups.now
         (setting architecture phase output.now facts.now addresses.now symbols.now)
-        placed_groups.now (length deleted.old) kept.now addresses.now symbols.now relocations.old
-        section.old decisions.new placed_decisions.new relocations.new section.new) }
+        placed_groups.now kept.now addresses.now symbols.now relocations.old section.old
+        decisions.new placed_decisions.new relocations.new section.new deleted.old deleted.new) }
 {
     if let Err(error) = rewrite_section(
         architecture,

@@ -1,32 +1,34 @@
-use Rattle.std.proofs.Common.{subst, sym, arith}
-use Rattle.std.proofs.lemmas.List.{with_items_is}
+use Rattle.std.proofs.Common.{◌≡◌, ◌∙◌, ◌+◌, ℕ, List, length, refl, subst, sym}
+use Rattle.std.specs.Prelude.{IfErr}
+use Rattle.std.proofs.lemmas.Result.{on_ok_weaker}
 use Rattle.linker_base.specs.Deltas.{deletions_of}
-use Rattle.linker_final.proofs.Relaxed.{listed_deltas, packed_run, packing_cause}
-use Rattle.linker_final.specs.Relaxed.{AreRelaxedAndPacked}
-use Rattle.linker_final.proofs.packed.relax_and_pack_section.Goals as goal
+use Rattle.linker_final.proofs.Relaxed.{listed_deltas, packed_run}
+use Rattle.linker_final.specs.Packed.{IsPackCause}
+use Rattle.linker_runs.specs.Deleting.{deletions_of_run}
+use Rattle.linker_runs.specs.Packing.{packed_offset, section_of}
+use Rattle.linker_final.proofs.packed.pack_relaxed_section.Goals as goal
 
-pub returns-in-Ok-clause-packed : goal.returns-in-Ok-clause-packed
-returns-in-Ok-clause-packed c =
-    let plan = c.in_ok-plan.plan in
-    let relaxed = c.in_ok-plan.ensures in
-    let deltas = c.deltas-deltas.result.now in
-    let listed = c.deltas-deltas.ensures in
-    let valid = listed_deltas plan.deletions deltas listed.valid listed.listing in
-    let final = c.pack_section.new.out in
-    let long = c.pack_section.auto.out in
-    subst (AreRelaxedAndPacked c.args.section.now c.args.items.now c.args.start c.args.addresses.now c.args.symbols.now)
-    (sym (with_items_is c.in_ok-out.out final (omega arith)))
-    (packed_run c.args.section.now c.args.items.now c.args.start c.args.addresses.now c.args.symbols.now
-    plan.shapes.items plan.kept.items plan.freed.items plan.deletions (deletions_of deltas) c.requires.items
-    relaxed.relaxed relaxed.deleted listed.listing.same final (c.in-Ok.ensures.packed valid))
+pub pack_section-requires-clause-room : goal.pack_section-requires-clause-room
+pack_section-requires-clause-room c valid =
+    let lost : deletions_of c.deltas.result.now ≡ deletions_of_run c.args.items.now c.args.plan.now.kept.items = c.deltas.ensures.listing.same ∙ c.requires.deleted in
+    let s = c.args.section.now in
+    c.requires.room ∙ sym (subst (λ d. packed_offset (section_of s.bytes.now s.base (deletions_of c.deltas.result.now) c.args.start) (s.base + length s.bytes.now) ≡ packed_offset (section_of s.bytes.now s.base d c.args.start) (s.base + length s.bytes.now)) lost refl)
+
+pub returns-clause-packed : goal.returns-clause-packed
+returns-clause-packed c =
+    let plan = c.args.plan.now in
+    let listed = c.deltas.ensures in
+    let valid = listed_deltas plan.deletions c.deltas.result.now listed.valid listed.listing in
+    on_ok_weaker _ (packed_run c.args.section.now c.args.items.now c.args.start c.args.addresses.now c.args.symbols.now
+    plan.shapes.items plan.kept.items plan.freed.items (deletions_of c.deltas.result.now) c.requires.items
+    c.requires.relaxed (listed.listing.same ∙ c.requires.deleted) c.pack_section.new.out) (c.pack_section.ensures.packed valid)
 
 pub returns-clause-cause : goal.returns-clause-cause
 returns-clause-cause c =
-    let plan = c.in_ok-plan.plan in
-    let relaxed = c.in_ok-plan.ensures in
-    let deltas = c.deltas-deltas.result.now in
-    let listed = c.deltas-deltas.ensures in
-    let valid = listed_deltas plan.deletions deltas listed.valid listed.listing in
-    packing_cause c.args.section.now c.args.items.now c.args.start c.args.addresses.now c.args.symbols.now
-    plan.shapes.items plan.kept.items plan.freed.items plan.deletions (deletions_of deltas) c.requires.items
-    relaxed.relaxed relaxed.deleted listed.listing.same c.in-Err.error (c.in-Err.ensures.cause valid)
+    let plan = c.args.plan.now in
+    let listed = c.deltas.ensures in
+    let valid = listed_deltas plan.deletions c.deltas.result.now listed.valid listed.listing in
+    let lost : deletions_of c.deltas.result.now ≡ deletions_of_run c.args.items.now plan.kept.items = listed.listing.same ∙ c.requires.deleted in
+    let s = c.args.section.now in
+    subst (λ d. IfErr c.pack_section.result (IsPackCause s.machine (section_of s.bytes.now s.base d c.args.start) s.items.now s.relocations.now s.translated.now
+    c.args.addresses.now c.args.symbols.now c.args.out.now c.pack_section.new.out)) lost (c.pack_section.ensures.cause valid)

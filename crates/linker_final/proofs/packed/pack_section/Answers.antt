@@ -1,7 +1,8 @@
-use Rattle.std.proofs.Common.{ℕ, ◌^◌, ◌<◌, get_or, subst, rules}
+use Rattle.std.proofs.Common.{◌≡◌, ℕ, ◌^◌, ◌<◌, get_or, subst, sym, rules}
 use Rattle.linker_base.specs.Deltas.{deletions_of}
 use Rattle.linker_final.proofs.PackedBytes.{are_bytes, same_items}
-use Rattle.linker_runs.specs.Packing.{IsPackedRun, section_of}
+use Rattle.linker_final.specs.Packed.{architecture_of}
+use Rattle.linker_runs.specs.Packing.{IsFirstRejected, IsPackedRun, section_of}
 use Rattle.linker_section.specs.WrittenFields.{AreWritten, IsFirstFault}
 use Rattle.linker_final.proofs.packed.pack_section.Goals as goal
 
@@ -26,8 +27,22 @@ returns-in-Ok-clause-packed c valid =
 pub returns-in-Err-relocate_section-clause-cause : goal.returns-in-Err-relocate_section-clause-cause
 returns-in-Err-relocate_section-clause-cause c valid =
     let s = section_of c.args.section.now c.args.base (deletions_of c.args.deltas.now) c.args.start in
-    let packed = c.pack_run.new.out in (
-      packed,
-      subst (λ items. IsPackedRun c.args.machine s items packed) (same_items c.args.items.now) (c.in_default-pack_run.ensures.packed valid),
-      subst (λ a. IsFirstFault a c.args.addresses.now c.args.translated.now c.args.symbols.now packed c.in-Err-relocate_section.error) c.architecture_of.ensures c.in-Err-relocate_section.ensures.fault,
+    let packed = c.pack_run.new.out in
+    let same : c.relocate_section.new.section ≡ packed = c.in-Err-relocate_section.ensures.unchanged in
+    let run : IsPackedRun c.args.machine s c.args.items.now packed = subst (λ items. IsPackedRun c.args.machine s items packed) (same_items c.args.items.now) (c.in_default-pack_run.ensures.packed valid) in
+    let fault : IsFirstFault (architecture_of c.args.machine) c.args.addresses.now c.args.translated.now c.args.symbols.now packed c.in-Err-relocate_section.error =
+    subst (λ a. IsFirstFault a c.args.addresses.now c.args.translated.now c.args.symbols.now packed c.in-Err-relocate_section.error) c.architecture_of.ensures c.in-Err-relocate_section.ensures.fault in (
+      search (rules, valid),
+      c.in_default.ensures.none valid,
+      subst (IsPackedRun c.args.machine s c.args.items.now) (sym same) run,
+      subst (λ bytes. IsFirstFault (architecture_of c.args.machine) c.args.addresses.now c.args.translated.now c.args.symbols.now bytes c.in-Err-relocate_section.error) (sym same) fault,
+    )
+
+pub returns-in-Err-clause-cause : goal.returns-in-Err-clause-cause
+returns-in-Err-clause-cause c valid =
+    let s = section_of c.args.section.now c.args.base (deletions_of c.args.deltas.now) c.args.start in (
+      search (rules, valid),
+      c.in_default.ensures.none valid,
+      subst (λ items. IsFirstRejected c.args.machine s items c.in-Err.rejected) (same_items c.args.items.now) (c.in-Err.ensures.rejected valid),
+      c.in-Err.ensures.unchanged,
     )

@@ -1,8 +1,10 @@
-use Rattle.std.proofs.Common.{ℕ, ◌/◌, ◌^◌, ◌<◌, length, get_or, refl, subst, rules}
+use Rattle.std.proofs.Common.{ℕ, ◌/◌, ◌^◌, ◌<◌, length, get_or, refl, subst, sym, rules}
 use Rattle.linker_final.proofs.PackedBytes.{are_bytes}
 use Rattle.linker_final.proofs.SameDecisions.{same_decisions}
 use Rattle.linker_rewriting.specs.Decisions.{AreDecidedIn, IsRejected}
+use Rattle.linker_final.specs.Final.{HasRewritten, rewriting_phase}
 use Rattle.linker_rewriting.specs.Facts.{early}
+use Rattle.linker_rewriting.specs.Kept.{IsWritingCause}
 use Rattle.linker_rewriting.specs.Rewritten.{AreRelocationsAfter, AreDone, OthersStay}
 use Rattle.linker_final.proofs.sections.link_section.Goals as goal
 
@@ -37,4 +39,28 @@ returns-in-Ok-clause-linked c =
         section_bytes = are_bytes section object;
         final_bytes = are_bytes c.relocate_rewritten_section.new.section final;
       },
+    )
+
+pub returns-in-Err-relocate_rewritten_section-clause-cause : goal.returns-in-Err-relocate_rewritten_section-clause-cause
+returns-in-Err-relocate_rewritten_section-clause-cause c =
+    let same = same_decisions c.rewrite_section.new.decisions in
+    let before = c.args.relocations.now in
+    let section = c.args.section.now in
+    let bytes = c.rewrite_section.new.section in
+    let after = c.rewrite_section.new.relocations in
+    let count = length before / 24 in
+    let s = early c.args.architecture c.args.output.now c.args.facts.now in
+    let made = c.in_default.ensures in
+    let stopped = c.in-Err-relocate_rewritten_section in
+    let rewritten : HasRewritten (rewriting_phase s c.args.groups.now before section c.rewrite_section.new.decisions after bytes) =
+    record {
+      decided = subst (λ ds. AreDecidedIn s c.args.groups.now before section ds count) same made.decided;
+      relocations = subst (λ ds. AreRelocationsAfter ds before after count) same made.relocations;
+      done = subst (λ ds. AreDone before ds section bytes count) same made.done;
+      others = subst (λ ds. OthersStay before ds section bytes count) same made.others;
+      as_many = search rules;
+      same_length = search rules;
+    } in (
+      subst (λ xs. HasRewritten (rewriting_phase s c.args.groups.now before section c.rewrite_section.new.decisions after xs)) (sym stopped.ensures.unchanged) rewritten,
+      subst (λ xs. IsWritingCause c.args.architecture c.args.output.now c.args.facts.now c.args.kept.now c.args.addresses.now after c.args.symbols.now xs stopped.error) (sym stopped.ensures.unchanged) stopped.ensures.cause,
     )

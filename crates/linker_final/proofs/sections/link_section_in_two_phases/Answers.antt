@@ -1,9 +1,10 @@
-use Rattle.std.proofs.Common.{◌≡◌, ℕ, ◌/◌, ◌^◌, ◌<◌, length, get_or, refl, sym, subst, rules}
+use Rattle.std.proofs.Common.{◌≡◌, ℕ, ◌/◌, ◌^◌, ◌<◌, List, length, take, map, get_or, refl, sym, subst, rules}
 use Rattle.linker_final.proofs.PackedBytes.{are_bytes}
-use Rattle.linker_final.proofs.SameDecisions.{same_decisions}
-use Rattle.linker_final.specs.Final.{HasRewritten, rewriting_phase}
-use Rattle.linker_rewriting.specs.Decisions.{AreDecidedIn, IsRejected, IsRejectedPlaced}
+use Rattle.linker_final.proofs.SameDecisions.{same_decisions, same_deletions}
+use Rattle.linker_final.specs.Final.{AreListed, HasRewritten, RewritingPhase, deletions_in, rewriting_phase}
+use Rattle.linker_rewriting.specs.Decisions.{AreDecidedIn, IsRejected, IsRejectedPlaced, deletions_by}
 use Rattle.linker_rewriting.specs.Facts.{early, setting}
+use Rattle.linker_rewriting.specs.Kept.{IsWritingCause}
 use Rattle.linker_rewriting.specs.Rewritten.{AreRelocationsAfter, AreDone, OthersStay}
 use Rattle.linker_final.proofs.sections.link_section_in_two_phases.Goals as goal
 
@@ -13,6 +14,7 @@ returns-in-Err-clause-cause c = (
       (same_decisions c.rewrite_section.new.decisions) c.in-Err.ensures.rejected,
   c.in-Err.ensures.entries,
   c.in-Err.ensures.section,
+  refl,
 )
 
 pub returns-in-Err-rewrite_placed_section-clause-cause :
@@ -114,4 +116,59 @@ returns-in-Ok-clause-linked c =
           tt,
         ),
       ),
+      record {
+        len = c.in_default-rewrite_placed_section.field-0;
+        listed = subst (λ ds. take c.in_default-rewrite_placed_section.field-0 ds ≡ deletions_in (rewriting_phase second c.args.placed_groups.now between bytes c.rewrite_placed_section.new.decisions last rewritten)) (same_deletions c.rewrite_placed_section.new.deleted)
+            (subst (λ ds. take c.in_default-rewrite_placed_section.field-0 (map (λ d. d) c.rewrite_placed_section.new.deleted) ≡ deletions_by between ds count_too) same_too placed.listed);
+        others = placed.deletions_stay;
+      },
+    )
+
+pub returns-in-Err-relocate_rewritten_section-clause-cause : goal.returns-in-Err-relocate_rewritten_section-clause-cause
+returns-in-Err-relocate_rewritten_section-clause-cause c =
+    let same = same_decisions c.rewrite_section.new.decisions in
+    let same_too = same_decisions c.rewrite_placed_section.new.decisions in
+    let first = early c.args.architecture c.args.output.now c.args.facts.now in
+    let second = setting c.args.architecture c.args.phase c.args.output.now c.args.facts.now c.args.addresses.now c.args.symbols.now in
+    let before = c.args.relocations.now in
+    let section = c.args.section.now in
+    let between = c.rewrite_section.new.relocations in
+    let bytes = c.rewrite_section.new.section in
+    let last = c.rewrite_placed_section.new.relocations in
+    let rewritten = c.rewrite_placed_section.new.section in
+    let count = length before / 24 in
+    let count_too = length between / 24 in
+    let made = c.in_default.ensures in
+    let placed = c.in_default-rewrite_placed_section.ensures in
+    let stopped = c.in-Err-relocate_rewritten_section in
+    let phase : List ℕ → RewritingPhase = rewriting_phase second c.args.placed_groups.now between bytes c.rewrite_placed_section.new.decisions last in
+    let after : HasRewritten (phase rewritten) =
+    record {
+      decided = subst (λ ds. AreDecidedIn second c.args.placed_groups.now between bytes ds count_too) same_too placed.decided;
+      relocations = subst (λ ds. AreRelocationsAfter ds between last count_too) same_too placed.relocations;
+      done = subst (λ ds. AreDone between ds bytes rewritten count_too) same_too placed.done;
+      others = subst (λ ds. OthersStay between ds bytes rewritten count_too) same_too placed.others;
+      as_many = search rules;
+      same_length = search rules;
+    } in
+    let listed : AreListed (phase rewritten) c.args.deleted.now c.rewrite_placed_section.new.deleted =
+    record {
+      len = c.in_default-rewrite_placed_section.field-0;
+      listed = subst (λ ds. take c.in_default-rewrite_placed_section.field-0 ds ≡ deletions_in (phase rewritten)) (same_deletions c.rewrite_placed_section.new.deleted)
+          (subst (λ ds. take c.in_default-rewrite_placed_section.field-0 (map (λ d. d) c.rewrite_placed_section.new.deleted) ≡ deletions_by between ds count_too) same_too placed.listed);
+      others = placed.deletions_stay;
+    } in (
+      between,
+      bytes,
+      record {
+        decided = subst (λ ds. AreDecidedIn first c.args.groups.now before section ds count) same made.decided;
+        relocations = subst (λ ds. AreRelocationsAfter ds before between count) same made.relocations;
+        done = subst (λ ds. AreDone before ds section bytes count) same made.done;
+        others = subst (λ ds. OthersStay before ds section bytes count) same made.others;
+        as_many = search rules;
+        same_length = search rules;
+      },
+      subst (λ xs. HasRewritten (phase xs)) (sym stopped.ensures.unchanged) after,
+      subst (λ xs. AreListed (phase xs) c.args.deleted.now c.rewrite_placed_section.new.deleted) (sym stopped.ensures.unchanged) listed,
+      subst (λ xs. IsWritingCause c.args.architecture c.args.output.now c.args.facts.now c.args.kept.now c.args.addresses.now last c.args.symbols.now xs stopped.error) (sym stopped.ensures.unchanged) stopped.ensures.cause,
     )
