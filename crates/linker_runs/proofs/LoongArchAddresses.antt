@@ -72,7 +72,7 @@ module _ (section : List ℕ) (o start from to : ℕ) (here : IsPcalaAt section 
   high_near far =
       let v = cast_signed w64 (difference_64 (page (sum_64 (sum_64 (sum_64 start to) 0) 0x800)) (page (sum_64 start from))) in
       far v refl
-      (record { supported = refl; long = long; aligned = (whole v, tt, λ e. none e); reached = (tt, holds (BitMasking (record { start = 12; end = 32 }) (OfLoongArch Shift5)) v (take 4 (drop o section)) (loongarch_fits R_LARCH_PCALA_HI20), tt) })
+      (record { supported = refl; long = long; aligned = (whole v, tt, λ e. none e); reached = (tt, holds (BitMasking (record { start = 12; end = 32 }) (OfLoongArch Shift5)) v (take 4 (drop o section)) (loongarch_fits R_LARCH_PCALA_HI20).size, tt) })
     where
       long : 4 ≤ length (take 4 (drop o section))
       long = let a = length-take 4 (drop o section) in let b = length-drop o section in omega arith
@@ -85,7 +85,7 @@ module _ (section : List ℕ) (o start from to : ℕ) (here : IsPcalaAt section 
         supported = refl;
         long = long;
         aligned = (whole v, tt, λ e. none (sym (no_jirl section o here) ∙ e));
-        reached = (tt, holds (BitMasking (record { start = 0; end = 12 }) (OfLoongArch Shift10)) v (take 4 (drop (o + 4) section)) (loongarch_fits R_LARCH_PCALA_LO12), tt);
+        reached = (tt, holds (BitMasking (record { start = 0; end = 12 }) (OfLoongArch Shift10)) v (take 4 (drop (o + 4) section)) (loongarch_fits R_LARCH_PCALA_LO12).size, tt);
       })
     where
       long : 4 ≤ length (take 4 (drop (o + 4) section))

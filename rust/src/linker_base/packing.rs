@@ -52,12 +52,6 @@ pub fn position_from(deltas: &[RelaxDelta], from: &Position, input_offset: u64) 
     position_at(deltas, begun, input_offset)
 }
 
-/// As `position_of`; from which position is of no account.
-#[must_use]
-pub fn position_near(deltas: &[RelaxDelta], _from: &Position, input_offset: u64) -> Position {
-    position_of(deltas, input_offset)
-}
-
 /// The bytes of a section from an input offset up to another, as far as they lie in it.
 #[inline(always)]
 fn between(section: &[u8], base: u64, from: u64, to: u64) -> &[u8] {
