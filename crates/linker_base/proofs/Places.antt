@@ -2,11 +2,11 @@
 use Rattle.std.proofs.Common.{◌≡◌, ℕ, zero, suc, ◌+◌, ◌*◌, ◌%◌, ◌^◌, ◌<◌, max, Bool, true, false, not, ◌&&◌, eqb, List, [], ◌∷◌, ◌++◌, refl, sym, ◌∙◌, ap, subst, arith, inl, inr, cond}
 use Rattle.std.specs.Int.{bit_at}
 use Rattle.std.specs.List.{All}
-use Rattle.std.proofs.lemmas.Bool.{or_cases, or_from, and_from, not_from_false, or_parts, and_parts, cases_Bool, eqb-true, cond-false, not-true, cases_eq, eq-eqb, ne_eqb}
+use Rattle.std.proofs.lemmas.Bool.{or_parts, and_parts, cases_Bool, eqb-true, cond-false, not-true, cases_eq, eq-eqb, ne_eqb}
 use Rattle.std.proofs.lemmas.List.Elements.{All-head, All-tail}
 use Rattle.std.proofs.lemmas.List.Sums.{sum_by-cons, sum_by-append}
 use Rattle.std.proofs.lemmas.Nat.{or_disjoint}
-use Rattle.std.proofs.lemmas.Nat.Bits.{bit_at_and, same_from_bits, bit_at-lt, bit_at_or, bit_at-pow_same, bit_at-pow_other, bit_at-zero, and_pow}
+use Rattle.std.proofs.lemmas.Nat.Bits.{bit_at-lt, bit_at_or, bit_at-pow_same, bit_at-pow_other, bit_at-zero, and_pow}
 use lib.Bits.{bit_and, bit_or}
 use Rattle.linker_base.specs.Form.{holds_value_bit, is_of, has_value, values_apart, Mark, replaced, ored, cleared, ImmediateBit, placed_bit, bit_for, worth, place_sum, IsClear, is_clear_at}
 
@@ -100,57 +100,6 @@ value_bit_laid (p ∷ ps) r v before after k u h c =
 
 -- ---- places side by side
 
-has_value-append : (ps qs : List ImmediateBit) (k : ℕ) → has_value (ps ++ qs) k ≡ false → (has_value ps k ≡ false) × (has_value qs k ≡ false)
-has_value-append [] qs k h = (refl, h)
-has_value-append (p ∷ ps) qs k h =
-    let parts = or_parts (is_of p k) (has_value (ps ++ qs) k) h in
-    let rest = has_value-append ps qs k parts.1 in
-    (or_from (is_of p k) (has_value ps k) parts.0 rest.0, rest.1)
-
-pub values_apart_left : (ps qs : List ImmediateBit) → values_apart (ps ++ qs) ≡ true → values_apart ps ≡ true
-values_apart_left [] qs h = refl
-values_apart_left (p ∷ ps) qs h =
-    let parts = and_parts (not (holds_value_bit p.mark && has_value (ps ++ qs) p.value)) (values_apart (ps ++ qs)) h in
-    and_from (not (holds_value_bit p.mark && has_value ps p.value)) (values_apart ps)
-    (not_from_false (holds_value_bit p.mark && has_value ps p.value) (none_of (holds_value_bit p.mark) (has_value (ps ++ qs) p.value) (has_value ps p.value)
-    (λ f. (has_value-append ps qs p.value f).0) (not-true (holds_value_bit p.mark && has_value (ps ++ qs) p.value) parts.0)))
-    (values_apart_left ps qs parts.1)
-  where
-    none_of : (a b c : Bool) → (b ≡ false → c ≡ false) → (a && b) ≡ false → (a && c) ≡ false
-    none_of true b c g e = g e
-    none_of false b c g e = refl
-
-pub values_apart_right : (ps qs : List ImmediateBit) → values_apart (ps ++ qs) ≡ true → values_apart qs ≡ true
-values_apart_right [] qs h = h
-values_apart_right (p ∷ ps) qs h =
-    values_apart_right ps qs (and_parts (not (holds_value_bit p.mark && has_value (ps ++ qs) p.value)) (values_apart (ps ++ qs)) h).1
-
--- a value bit that has a place among the first has none among the others
-values_disjoint : (ps qs : List ImmediateBit) (k : ℕ) → values_apart (ps ++ qs) ≡ true → has_value ps k ≡ true → has_value qs k ≡ false
-values_disjoint [] qs k h t = cc
-values_disjoint (p ∷ ps) qs k h t =
-    let parts = and_parts (not (holds_value_bit p.mark && has_value (ps ++ qs) p.value)) (values_apart (ps ++ qs)) h in
-    elim (or_cases (is_of p k) (has_value ps k) t) [
-      | inl here ↦
-          let both = and_parts (holds_value_bit p.mark) (eqb p.value k) here in
-          let none : has_value (ps ++ qs) p.value ≡ false = rw both.0 at (not-true (holds_value_bit p.mark && has_value (ps ++ qs) p.value) parts.0) in
-          subst (λ j. has_value qs j ≡ false) (eqb-true p.value k both.1) (has_value-append ps qs p.value none).1
-      | inr later ↦ values_disjoint ps qs k parts.1 later
-    ]
-
 pub sums : (ps qs : List ImmediateBit) (x : ℕ) → place_sum (ps ++ qs) x ≡ place_sum ps x + place_sum qs x
 unfolding place_sum
 sums ps qs x = sum_by-append (λ (p : ImmediateBit). worth p.mark p.value (bit_at x p.insn_bit)) ps qs
-
--- the number at all places, from the numbers at the first and at the others
-pub place_sum-append : (ps qs : List ImmediateBit) (x : ℕ) → values_apart (ps ++ qs) ≡ true → place_sum (ps ++ qs) x ≡ bit_or (place_sum ps x) (place_sum qs x)
-place_sum-append ps qs x h =
-    let disjoint : bit_and (place_sum ps x) (place_sum qs x) ≡ 0 =
-    same_from_bits (bit_and (place_sum ps x) (place_sum qs x)) 0 (λ k.
-    bit_at_and (place_sum ps x) (place_sum qs x) k
-    ∙ elim (cases_Bool (has_value ps k)) [
-      | inl t ↦ omega (arith, bit_at-place_sum qs x k (values_apart_right ps qs h) ∙ value_bit_none qs k x (values_disjoint ps qs k h t))
-      | inr f ↦ omega (arith, bit_at-place_sum ps x k (values_apart_left ps qs h) ∙ value_bit_none ps k x f)
-    ]
-    ∙ sym (bit_at-zero k)) in
-    sums ps qs x ∙ sym (or_disjoint (place_sum ps x) (place_sum qs x) disjoint)
