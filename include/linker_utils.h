@@ -72,8 +72,8 @@
  *     const uint64_t rela[3] = {0, ELF64_R_INFO(UINT64_C(1), R_AARCH64_CALL26), 0}; size_t faulty;
  *     static struct linker_utils_symbol symbols[2]; symbols[1].address = 0x402000;
  *     static struct linker_utils_addresses here; here.section = 0x401000; uint64_t memory[1];
- *     status = linker_utils_relocate_section(EM_AARCH64, &here, (const uint8_t *)rela, sizeof rela,
- *                                            symbols, 2, bl, sizeof bl, memory, 1, &faulty);
+ *     status = linker_utils_relocate_section(EM_AARCH64, &here, rela, 1, symbols, 2, bl, sizeof bl,
+ *                                            memory, 1, &faulty);
  *     assert(status == LINKER_UTILS_OK && bl[1] == 0x04);
  * Reading back:
  *     struct linker_utils_field_value known, from; uint32_t reference;
@@ -407,11 +407,10 @@ static inline uint32_t linker_utils_deltas_output_to_input(
 
 /* ---- Sections: what each relocation requires, its value, and the values of all of them.
  *
- * Relocations are the bytes of a section of relocations as the file has them: 24 bytes each, ELF's
- * `Elf64_Rela`, little-endian and at any alignment. `relocations_len` counts bytes; those behind
- * the last whole relocation count for nothing. Symbols are an array, by the indexes that
- * relocations name (`r_sym`). A linker says what it knows of symbols and of the output; the library
- * knows which of it a relocation takes. */
+ * Relocations are those of a section as the file has them: 24 bytes each, ELF's `Elf64_Rela`,
+ * little-endian and at any alignment. `relocations_len` counts relocations. Symbols are an array,
+ * by the indexes that relocations name (`r_sym`). A linker says what it knows of symbols and of the
+ * output; the library knows which of it a relocation takes. */
 
 /* What a relocation requires of a linker. A fact holds where its number is 1; else it is 0. */
 struct linker_utils_requirements {
@@ -485,13 +484,13 @@ struct linker_utils_addresses {
  * index of its symbol, or of its high part's, isn't below `symbols_len`; LINKER_UTILS_NO_HIGH_PART;
  * LINKER_UTILS_NO_ENTRY. O(1), and of a low part O(log n) for n relocations. */
 static inline uint32_t linker_utils_value_at(
-    uint16_t machine, const struct linker_utils_addresses *addresses, const uint8_t *relocations,
+    uint16_t machine, const struct linker_utils_addresses *addresses, const void *relocations,
     size_t relocations_len, const struct linker_utils_symbol *symbols, size_t symbols_len,
     size_t index, int64_t *value);
 
 /* How many elements of memory `linker_utils_relocate_section` needs for these relocations: one for
  * each. */
-static inline size_t linker_utils_relocate_memory(const uint8_t *relocations,
+static inline size_t linker_utils_relocate_memory(const void *relocations,
                                                   size_t relocations_len);
 
 /* Writes the values of a section's relocations, or none of them: with any status but
@@ -512,7 +511,7 @@ static inline size_t linker_utils_relocate_memory(const uint8_t *relocations,
  * relocations that ascend by offset it takes O(n), and in any other order O(n log n), each beside
  * O(log n) of a low part. */
 static inline uint32_t linker_utils_relocate_section(
-    uint16_t machine, const struct linker_utils_addresses *addresses, const uint8_t *relocations,
+    uint16_t machine, const struct linker_utils_addresses *addresses, const void *relocations,
     size_t relocations_len, const struct linker_utils_symbol *symbols, size_t symbols_len,
     uint8_t *section, size_t section_len, uint64_t *memory, size_t memory_len, size_t *faulty);
 
@@ -587,7 +586,7 @@ struct linker_utils_decision {
 static inline uint32_t linker_utils_survey(
     uint16_t machine, const struct linker_utils_output_facts *output,
     const struct linker_utils_symbol_facts *symbols, size_t symbols_len,
-    const uint8_t *relocations, size_t relocations_len, const uint8_t *section, size_t section_len,
+    const void *relocations, size_t relocations_len, const uint8_t *section, size_t section_len,
     struct linker_utils_kept_groups *kept, size_t kept_len);
 
 /* Rewrites the instructions of a section of code as `linker_utils_choose` says before addresses are
@@ -607,7 +606,7 @@ static inline uint32_t linker_utils_survey(
 static inline uint32_t linker_utils_rewrite_section(
     uint16_t machine, const struct linker_utils_output_facts *output,
     const struct linker_utils_symbol_facts *symbols, size_t symbols_len,
-    const struct linker_utils_kept_groups *kept, size_t kept_len, uint8_t *relocations,
+    const struct linker_utils_kept_groups *kept, size_t kept_len, void *relocations,
     size_t relocations_len, uint8_t *section, size_t section_len,
     struct linker_utils_decision *decisions, size_t decisions_len, size_t *faulty);
 
@@ -620,7 +619,7 @@ static inline uint32_t linker_utils_survey_placed_section(
     uint16_t machine, uint32_t phase, const struct linker_utils_output_facts *output,
     const struct linker_utils_symbol_facts *symbols, size_t symbols_len,
     const struct linker_utils_addresses *addresses, const struct linker_utils_symbol *values,
-    size_t values_len, const uint8_t *relocations, size_t relocations_len, const uint8_t *section,
+    size_t values_len, const void *relocations, size_t relocations_len, const uint8_t *section,
     size_t section_len, struct linker_utils_kept_groups *kept, size_t kept_len);
 
 /* Rewrites the instructions of a section of code in a phase once addresses are known, and turns its
@@ -647,7 +646,7 @@ static inline uint32_t linker_utils_rewrite_placed_section(
     const struct linker_utils_symbol_facts *symbols, size_t symbols_len,
     const struct linker_utils_addresses *addresses, const struct linker_utils_symbol *values,
     size_t values_len, const struct linker_utils_kept_groups *kept, size_t kept_len,
-    uint8_t *relocations, size_t relocations_len, uint8_t *section, size_t section_len,
+    void *relocations, size_t relocations_len, uint8_t *section, size_t section_len,
     struct linker_utils_decision *decisions, size_t decisions_len,
     struct linker_utils_deletion *deleted, size_t deleted_len, size_t *deleted_used,
     size_t *faulty);

@@ -238,8 +238,8 @@ static inline uint32_t linker_utils_survey_address_loads(
     uint16_t machine, const struct linker_utils_output_facts *output,
     const struct linker_utils_symbol_facts *symbols, size_t symbols_len,
     const struct linker_utils_addresses *addresses, const struct linker_utils_symbol *values,
-    size_t values_len, uint64_t words_start, const uint8_t *words, size_t words_len,
-    const uint8_t *relocations, size_t relocations_len, const uint8_t *section, size_t section_len,
+    size_t values_len, uint64_t words_start, const void *words, size_t words_len,
+    const void *relocations, size_t relocations_len, const uint8_t *section, size_t section_len,
     bool *kept, size_t kept_len);
 
 /* Has the instructions of a section of code compute the addresses that they load from such words:
@@ -252,8 +252,8 @@ static inline uint32_t linker_utils_rewrite_address_loads(
     uint16_t machine, const struct linker_utils_output_facts *output,
     const struct linker_utils_symbol_facts *symbols, size_t symbols_len,
     const struct linker_utils_addresses *addresses, const struct linker_utils_symbol *values,
-    size_t values_len, uint64_t words_start, const uint8_t *words, size_t words_len, const bool *kept,
-    size_t kept_len, uint8_t *relocations, size_t relocations_len, uint8_t *section,
+    size_t values_len, uint64_t words_start, const void *words, size_t words_len, const bool *kept,
+    size_t kept_len, void *relocations, size_t relocations_len, uint8_t *section,
     size_t section_len, struct linker_utils_decision *decisions, size_t decisions_len,
     size_t *faulty);
 
@@ -275,7 +275,7 @@ static inline uint32_t linker_utils_survey_global_pointer(
     uint16_t machine, const struct linker_utils_output_facts *output,
     const struct linker_utils_symbol_facts *symbols, size_t symbols_len,
     const struct linker_utils_addresses *addresses, const struct linker_utils_symbol *values,
-    size_t values_len, uint64_t global_pointer, const uint8_t *relocations, size_t relocations_len,
+    size_t values_len, uint64_t global_pointer, const void *relocations, size_t relocations_len,
     const uint8_t *section, size_t section_len, bool *kept, size_t kept_len);
 
 /* Has the high parts go of the symbols that don't stay by `kept`, which
@@ -295,7 +295,7 @@ static inline uint32_t linker_utils_rewrite_global_pointer(
     const struct linker_utils_symbol_facts *symbols, size_t symbols_len,
     const struct linker_utils_addresses *addresses, const struct linker_utils_symbol *values,
     size_t values_len, uint64_t global_pointer, const bool *kept, size_t kept_len,
-    uint8_t *relocations, size_t relocations_len, const uint8_t *section, size_t section_len,
+    void *relocations, size_t relocations_len, const uint8_t *section, size_t section_len,
     struct linker_utils_decision *decisions, size_t decisions_len,
     struct linker_utils_deletion *deleted, size_t deleted_len, size_t *deleted_used,
     size_t *faulty);
@@ -309,7 +309,7 @@ static inline uint32_t linker_utils_rewrite_global_pointer(
  * one run (`linker_utils_relax`), since no distance gets longer there. */
 static inline uint32_t linker_utils_from_global_pointer(
     const struct linker_utils_addresses *addresses, const struct linker_utils_symbol *values,
-    size_t values_len, uint64_t global_pointer, uint8_t *relocations, size_t relocations_len,
+    size_t values_len, uint64_t global_pointer, void *relocations, size_t relocations_len,
     uint8_t *section, size_t section_len, size_t *faulty);
 
 /* A symbol that a linker defines if an object refers to it. */
@@ -447,7 +447,7 @@ struct linker_utils_route {
  * LINKER_UTILS_NO_ROOM; and where it can't be written, and no stub may serve it, the status of
  * `linker_utils_relocate`. */
 static inline uint32_t linker_utils_route_at(
-    uint16_t machine, const struct linker_utils_addresses *addresses, const uint8_t *relocations,
+    uint16_t machine, const struct linker_utils_addresses *addresses, const void *relocations,
     size_t relocations_len, const struct linker_utils_symbol *symbols, size_t symbols_len,
     size_t index, const uint8_t *section, size_t section_len, struct linker_utils_route *route);
 
@@ -456,7 +456,7 @@ static inline uint32_t linker_utils_route_at(
  * the TOC pointer. LINKER_UTILS_TOO_SHORT where there is no relocation at the index;
  * LINKER_UTILS_NOT_A_BRANCH; LINKER_UTILS_NO_ROOM. */
 static inline uint32_t linker_utils_route_by_word(uint16_t machine, uint64_t word,
-                                                  const uint8_t *relocations,
+                                                  const void *relocations,
                                                   size_t relocations_len, size_t index,
                                                   const uint8_t *section, size_t section_len,
                                                   struct linker_utils_route *route);
@@ -658,7 +658,7 @@ static inline uint32_t linker_utils_relocate_rewritten_section(
     uint16_t machine, const struct linker_utils_output_facts *output,
     const struct linker_utils_symbol_facts *facts, size_t facts_len,
     const struct linker_utils_kept_facts *kept, size_t kept_len,
-    const struct linker_utils_addresses *addresses, const uint8_t *relocations,
+    const struct linker_utils_addresses *addresses, const void *relocations,
     size_t relocations_len, const struct linker_utils_symbol *symbols, size_t symbols_len,
     uint8_t *section, size_t section_len, uint64_t *memory, size_t memory_len, size_t *faulty);
 

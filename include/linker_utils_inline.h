@@ -25,6 +25,9 @@ static inline struct linker_utils_operands linker_utils_operands_of(
 static uint64_t linker_utils_no_elements[1];
 #define LINKER_UTILS_SLICE(element, slice) \
     ((slice) ? (slice) : (element *)linker_utils_no_elements)
+/* The bytes of relocations, and how many these are. */
+#define LINKER_UTILS_RELAS(byte, slice) \
+    (byte *)((slice) ? (slice) : (void *)linker_utils_no_elements), 24 * slice##_len
 
 uint32_t linker_utils_fits_nonnull(uint16_t machine, uint32_t form, uint64_t value,
                                    const uint8_t *bytes, size_t bytes_len);
@@ -143,19 +146,18 @@ uint32_t linker_utils_value_at_nonnull(
     size_t relocations_len, const struct linker_utils_symbol *symbols, size_t symbols_len,
     size_t index, int64_t *value);
 static inline uint32_t linker_utils_value_at(
-    uint16_t machine, const struct linker_utils_addresses *addresses, const uint8_t *relocations,
+    uint16_t machine, const struct linker_utils_addresses *addresses, const void *relocations,
     size_t relocations_len, const struct linker_utils_symbol *symbols, size_t symbols_len,
     size_t index, int64_t *value) {
     return linker_utils_value_at_nonnull(
-        machine, addresses, LINKER_UTILS_SLICE(const uint8_t, relocations), relocations_len,
+        machine, addresses, LINKER_UTILS_RELAS(const uint8_t, relocations),
         LINKER_UTILS_SLICE(const struct linker_utils_symbol, symbols), symbols_len, index, value);
 }
 
 size_t linker_utils_relocate_memory_nonnull(const uint8_t *relocations, size_t relocations_len);
-static inline size_t linker_utils_relocate_memory(const uint8_t *relocations,
+static inline size_t linker_utils_relocate_memory(const void *relocations,
                                                   size_t relocations_len) {
-    return linker_utils_relocate_memory_nonnull(LINKER_UTILS_SLICE(const uint8_t, relocations),
-                                                relocations_len);
+    return linker_utils_relocate_memory_nonnull(LINKER_UTILS_RELAS(const uint8_t, relocations));
 }
 
 uint32_t linker_utils_relocate_section_nonnull(
@@ -163,12 +165,12 @@ uint32_t linker_utils_relocate_section_nonnull(
     size_t relocations_len, const struct linker_utils_symbol *symbols, size_t symbols_len,
     uint8_t *section, size_t section_len, uint64_t *memory, size_t memory_len, size_t *faulty);
 static inline uint32_t linker_utils_relocate_section(
-    uint16_t machine, const struct linker_utils_addresses *addresses, const uint8_t *relocations,
+    uint16_t machine, const struct linker_utils_addresses *addresses, const void *relocations,
     size_t relocations_len, const struct linker_utils_symbol *symbols, size_t symbols_len,
     uint8_t *section, size_t section_len, uint64_t *memory, size_t memory_len, size_t *faulty) {
     size_t ignored;
     return linker_utils_relocate_section_nonnull(
-        machine, addresses, LINKER_UTILS_SLICE(const uint8_t, relocations), relocations_len,
+        machine, addresses, LINKER_UTILS_RELAS(const uint8_t, relocations),
         LINKER_UTILS_SLICE(const struct linker_utils_symbol, symbols), symbols_len,
         LINKER_UTILS_SLICE(uint8_t, section), section_len, LINKER_UTILS_SLICE(uint64_t, memory),
         memory_len, faulty ? faulty : &ignored);
@@ -182,11 +184,11 @@ uint32_t linker_utils_survey_nonnull(
 static inline uint32_t linker_utils_survey(
     uint16_t machine, const struct linker_utils_output_facts *output,
     const struct linker_utils_symbol_facts *symbols, size_t symbols_len,
-    const uint8_t *relocations, size_t relocations_len, const uint8_t *section, size_t section_len,
+    const void *relocations, size_t relocations_len, const uint8_t *section, size_t section_len,
     struct linker_utils_kept_groups *kept, size_t kept_len) {
     return linker_utils_survey_nonnull(
         machine, output, LINKER_UTILS_SLICE(const struct linker_utils_symbol_facts, symbols),
-        symbols_len, LINKER_UTILS_SLICE(const uint8_t, relocations), relocations_len,
+        symbols_len, LINKER_UTILS_RELAS(const uint8_t, relocations),
         LINKER_UTILS_SLICE(const uint8_t, section), section_len,
         LINKER_UTILS_SLICE(struct linker_utils_kept_groups, kept), kept_len);
 }
@@ -200,14 +202,14 @@ uint32_t linker_utils_rewrite_section_nonnull(
 static inline uint32_t linker_utils_rewrite_section(
     uint16_t machine, const struct linker_utils_output_facts *output,
     const struct linker_utils_symbol_facts *symbols, size_t symbols_len,
-    const struct linker_utils_kept_groups *kept, size_t kept_len, uint8_t *relocations,
+    const struct linker_utils_kept_groups *kept, size_t kept_len, void *relocations,
     size_t relocations_len, uint8_t *section, size_t section_len,
     struct linker_utils_decision *decisions, size_t decisions_len, size_t *faulty) {
     size_t ignored;
     return linker_utils_rewrite_section_nonnull(
         machine, output, LINKER_UTILS_SLICE(const struct linker_utils_symbol_facts, symbols),
         symbols_len, LINKER_UTILS_SLICE(const struct linker_utils_kept_groups, kept), kept_len,
-        LINKER_UTILS_SLICE(uint8_t, relocations), relocations_len,
+        LINKER_UTILS_RELAS(uint8_t, relocations),
         LINKER_UTILS_SLICE(uint8_t, section), section_len,
         LINKER_UTILS_SLICE(struct linker_utils_decision, decisions), decisions_len,
         faulty ? faulty : &ignored);
@@ -223,12 +225,12 @@ static inline uint32_t linker_utils_survey_placed_section(
     uint16_t machine, uint32_t phase, const struct linker_utils_output_facts *output,
     const struct linker_utils_symbol_facts *symbols, size_t symbols_len,
     const struct linker_utils_addresses *addresses, const struct linker_utils_symbol *values,
-    size_t values_len, const uint8_t *relocations, size_t relocations_len, const uint8_t *section,
+    size_t values_len, const void *relocations, size_t relocations_len, const uint8_t *section,
     size_t section_len, struct linker_utils_kept_groups *kept, size_t kept_len) {
     return linker_utils_survey_placed_section_nonnull(
         machine, phase, output, LINKER_UTILS_SLICE(const struct linker_utils_symbol_facts, symbols),
         symbols_len, addresses, LINKER_UTILS_SLICE(const struct linker_utils_symbol, values),
-        values_len, LINKER_UTILS_SLICE(const uint8_t, relocations), relocations_len,
+        values_len, LINKER_UTILS_RELAS(const uint8_t, relocations),
         LINKER_UTILS_SLICE(const uint8_t, section), section_len,
         LINKER_UTILS_SLICE(struct linker_utils_kept_groups, kept), kept_len);
 }
@@ -247,7 +249,7 @@ static inline uint32_t linker_utils_rewrite_placed_section(
     const struct linker_utils_symbol_facts *symbols, size_t symbols_len,
     const struct linker_utils_addresses *addresses, const struct linker_utils_symbol *values,
     size_t values_len, const struct linker_utils_kept_groups *kept, size_t kept_len,
-    uint8_t *relocations, size_t relocations_len, uint8_t *section, size_t section_len,
+    void *relocations, size_t relocations_len, uint8_t *section, size_t section_len,
     struct linker_utils_decision *decisions, size_t decisions_len,
     struct linker_utils_deletion *deleted, size_t deleted_len, size_t *deleted_used,
     size_t *faulty) {
@@ -256,7 +258,7 @@ static inline uint32_t linker_utils_rewrite_placed_section(
         machine, phase, output, LINKER_UTILS_SLICE(const struct linker_utils_symbol_facts, symbols),
         symbols_len, addresses, LINKER_UTILS_SLICE(const struct linker_utils_symbol, values),
         values_len, LINKER_UTILS_SLICE(const struct linker_utils_kept_groups, kept), kept_len,
-        LINKER_UTILS_SLICE(uint8_t, relocations), relocations_len,
+        LINKER_UTILS_RELAS(uint8_t, relocations),
         LINKER_UTILS_SLICE(uint8_t, section), section_len,
         LINKER_UTILS_SLICE(struct linker_utils_decision, decisions), decisions_len,
         LINKER_UTILS_SLICE(struct linker_utils_deletion, deleted), deleted_len, deleted_used,
@@ -288,14 +290,14 @@ static inline uint32_t linker_utils_relocate_rewritten_section(
     uint16_t machine, const struct linker_utils_output_facts *output,
     const struct linker_utils_symbol_facts *facts, size_t facts_len,
     const struct linker_utils_kept_facts *kept, size_t kept_len,
-    const struct linker_utils_addresses *addresses, const uint8_t *relocations,
+    const struct linker_utils_addresses *addresses, const void *relocations,
     size_t relocations_len, const struct linker_utils_symbol *symbols, size_t symbols_len,
     uint8_t *section, size_t section_len, uint64_t *memory, size_t memory_len, size_t *faulty) {
     size_t ignored;
     return linker_utils_relocate_rewritten_section_nonnull(
         machine, output, LINKER_UTILS_SLICE(const struct linker_utils_symbol_facts, facts),
         facts_len, LINKER_UTILS_SLICE(const struct linker_utils_kept_facts, kept), kept_len, addresses,
-        LINKER_UTILS_SLICE(const uint8_t, relocations), relocations_len,
+        LINKER_UTILS_RELAS(const uint8_t, relocations),
         LINKER_UTILS_SLICE(const struct linker_utils_symbol, symbols), symbols_len,
         LINKER_UTILS_SLICE(uint8_t, section), section_len, LINKER_UTILS_SLICE(uint64_t, memory),
         memory_len, faulty ? faulty : &ignored);
@@ -328,14 +330,14 @@ static inline uint32_t linker_utils_survey_address_loads(
     uint16_t machine, const struct linker_utils_output_facts *output,
     const struct linker_utils_symbol_facts *symbols, size_t symbols_len,
     const struct linker_utils_addresses *addresses, const struct linker_utils_symbol *values,
-    size_t values_len, uint64_t words_start, const uint8_t *words, size_t words_len,
-    const uint8_t *relocations, size_t relocations_len, const uint8_t *section, size_t section_len,
+    size_t values_len, uint64_t words_start, const void *words, size_t words_len,
+    const void *relocations, size_t relocations_len, const uint8_t *section, size_t section_len,
     bool *kept, size_t kept_len) {
     return linker_utils_survey_address_loads_nonnull(
         machine, output, LINKER_UTILS_SLICE(const struct linker_utils_symbol_facts, symbols),
         symbols_len, addresses, LINKER_UTILS_SLICE(const struct linker_utils_symbol, values),
-        values_len, words_start, LINKER_UTILS_SLICE(const uint8_t, words), words_len,
-        LINKER_UTILS_SLICE(const uint8_t, relocations), relocations_len,
+        values_len, words_start, LINKER_UTILS_RELAS(const uint8_t, words),
+        LINKER_UTILS_RELAS(const uint8_t, relocations),
         LINKER_UTILS_SLICE(const uint8_t, section), section_len, LINKER_UTILS_SLICE(bool, kept),
         kept_len);
 }
@@ -352,17 +354,16 @@ static inline uint32_t linker_utils_rewrite_address_loads(
     uint16_t machine, const struct linker_utils_output_facts *output,
     const struct linker_utils_symbol_facts *symbols, size_t symbols_len,
     const struct linker_utils_addresses *addresses, const struct linker_utils_symbol *values,
-    size_t values_len, uint64_t words_start, const uint8_t *words, size_t words_len, const bool *kept,
-    size_t kept_len, uint8_t *relocations, size_t relocations_len, uint8_t *section,
+    size_t values_len, uint64_t words_start, const void *words, size_t words_len, const bool *kept,
+    size_t kept_len, void *relocations, size_t relocations_len, uint8_t *section,
     size_t section_len, struct linker_utils_decision *decisions, size_t decisions_len,
     size_t *faulty) {
     size_t ignored;
     return linker_utils_rewrite_address_loads_nonnull(
         machine, output, LINKER_UTILS_SLICE(const struct linker_utils_symbol_facts, symbols),
         symbols_len, addresses, LINKER_UTILS_SLICE(const struct linker_utils_symbol, values),
-        values_len, words_start, LINKER_UTILS_SLICE(const uint8_t, words), words_len,
-        LINKER_UTILS_SLICE(const bool, kept), kept_len, LINKER_UTILS_SLICE(uint8_t, relocations),
-        relocations_len, LINKER_UTILS_SLICE(uint8_t, section), section_len,
+        values_len, words_start, LINKER_UTILS_RELAS(const uint8_t, words),
+        LINKER_UTILS_SLICE(const bool, kept), kept_len, LINKER_UTILS_RELAS(uint8_t, relocations), LINKER_UTILS_SLICE(uint8_t, section), section_len,
         LINKER_UTILS_SLICE(struct linker_utils_decision, decisions), decisions_len,
         faulty ? faulty : &ignored);
 }
@@ -377,12 +378,12 @@ static inline uint32_t linker_utils_survey_global_pointer(
     uint16_t machine, const struct linker_utils_output_facts *output,
     const struct linker_utils_symbol_facts *symbols, size_t symbols_len,
     const struct linker_utils_addresses *addresses, const struct linker_utils_symbol *values,
-    size_t values_len, uint64_t global_pointer, const uint8_t *relocations, size_t relocations_len,
+    size_t values_len, uint64_t global_pointer, const void *relocations, size_t relocations_len,
     const uint8_t *section, size_t section_len, bool *kept, size_t kept_len) {
     return linker_utils_survey_global_pointer_nonnull(
         machine, output, LINKER_UTILS_SLICE(const struct linker_utils_symbol_facts, symbols),
         symbols_len, addresses, LINKER_UTILS_SLICE(const struct linker_utils_symbol, values),
-        values_len, global_pointer, LINKER_UTILS_SLICE(const uint8_t, relocations), relocations_len,
+        values_len, global_pointer, LINKER_UTILS_RELAS(const uint8_t, relocations),
         LINKER_UTILS_SLICE(const uint8_t, section), section_len, LINKER_UTILS_SLICE(bool, kept),
         kept_len);
 }
@@ -401,7 +402,7 @@ static inline uint32_t linker_utils_rewrite_global_pointer(
     const struct linker_utils_symbol_facts *symbols, size_t symbols_len,
     const struct linker_utils_addresses *addresses, const struct linker_utils_symbol *values,
     size_t values_len, uint64_t global_pointer, const bool *kept, size_t kept_len,
-    uint8_t *relocations, size_t relocations_len, const uint8_t *section, size_t section_len,
+    void *relocations, size_t relocations_len, const uint8_t *section, size_t section_len,
     struct linker_utils_decision *decisions, size_t decisions_len,
     struct linker_utils_deletion *deleted, size_t deleted_len, size_t *deleted_used,
     size_t *faulty) {
@@ -410,7 +411,7 @@ static inline uint32_t linker_utils_rewrite_global_pointer(
         machine, output, LINKER_UTILS_SLICE(const struct linker_utils_symbol_facts, symbols),
         symbols_len, addresses, LINKER_UTILS_SLICE(const struct linker_utils_symbol, values),
         values_len, global_pointer, LINKER_UTILS_SLICE(const bool, kept), kept_len,
-        LINKER_UTILS_SLICE(uint8_t, relocations), relocations_len,
+        LINKER_UTILS_RELAS(uint8_t, relocations),
         LINKER_UTILS_SLICE(const uint8_t, section), section_len,
         LINKER_UTILS_SLICE(struct linker_utils_decision, decisions), decisions_len,
         LINKER_UTILS_SLICE(struct linker_utils_deletion, deleted), deleted_len, deleted_used,
@@ -423,12 +424,12 @@ uint32_t linker_utils_from_global_pointer_nonnull(
     uint8_t *section, size_t section_len, size_t *faulty);
 static inline uint32_t linker_utils_from_global_pointer(
     const struct linker_utils_addresses *addresses, const struct linker_utils_symbol *values,
-    size_t values_len, uint64_t global_pointer, uint8_t *relocations, size_t relocations_len,
+    size_t values_len, uint64_t global_pointer, void *relocations, size_t relocations_len,
     uint8_t *section, size_t section_len, size_t *faulty) {
     size_t ignored;
     return linker_utils_from_global_pointer_nonnull(
         addresses, LINKER_UTILS_SLICE(const struct linker_utils_symbol, values), values_len,
-        global_pointer, LINKER_UTILS_SLICE(uint8_t, relocations), relocations_len,
+        global_pointer, LINKER_UTILS_RELAS(uint8_t, relocations),
         LINKER_UTILS_SLICE(uint8_t, section), section_len, faulty ? faulty : &ignored);
 }
 
@@ -491,11 +492,11 @@ uint32_t linker_utils_route_at_nonnull(
     size_t relocations_len, const struct linker_utils_symbol *symbols, size_t symbols_len,
     size_t index, const uint8_t *section, size_t section_len, struct linker_utils_route *route);
 static inline uint32_t linker_utils_route_at(
-    uint16_t machine, const struct linker_utils_addresses *addresses, const uint8_t *relocations,
+    uint16_t machine, const struct linker_utils_addresses *addresses, const void *relocations,
     size_t relocations_len, const struct linker_utils_symbol *symbols, size_t symbols_len,
     size_t index, const uint8_t *section, size_t section_len, struct linker_utils_route *route) {
     return linker_utils_route_at_nonnull(
-        machine, addresses, LINKER_UTILS_SLICE(const uint8_t, relocations), relocations_len,
+        machine, addresses, LINKER_UTILS_RELAS(const uint8_t, relocations),
         LINKER_UTILS_SLICE(const struct linker_utils_symbol, symbols), symbols_len, index,
         LINKER_UTILS_SLICE(const uint8_t, section), section_len, route);
 }
@@ -504,10 +505,10 @@ uint32_t linker_utils_route_by_word_nonnull(
     uint16_t machine, uint64_t word, const uint8_t *relocations, size_t relocations_len,
     size_t index, const uint8_t *section, size_t section_len, struct linker_utils_route *route);
 static inline uint32_t linker_utils_route_by_word(
-    uint16_t machine, uint64_t word, const uint8_t *relocations, size_t relocations_len,
+    uint16_t machine, uint64_t word, const void *relocations, size_t relocations_len,
     size_t index, const uint8_t *section, size_t section_len, struct linker_utils_route *route) {
     return linker_utils_route_by_word_nonnull(
-        machine, word, LINKER_UTILS_SLICE(const uint8_t, relocations), relocations_len, index,
+        machine, word, LINKER_UTILS_RELAS(const uint8_t, relocations), index,
         LINKER_UTILS_SLICE(const uint8_t, section), section_len, route);
 }
 

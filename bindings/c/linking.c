@@ -16,8 +16,7 @@ static const uint64_t places[3] = {0x401000, 0x403000, 0x403008};
 static int link_section(uint16_t machine, uint8_t *code, size_t len, Elf64_Rela *rela, size_t count,
                         const struct linker_utils_symbol_facts *facts,
                         struct linker_utils_symbol *symbols, uint64_t *got) {
-    uint8_t *table = (uint8_t *)rela;
-    size_t table_len = count * sizeof *rela, faulty, deleted_len;
+    size_t faulty, deleted_len;
     int words = 0;
     struct linker_utils_output_facts output = {true, true, true}; /* fixed, and less than 2 GiB */
     struct linker_utils_kept_groups kept[SYMBOLS];
@@ -25,10 +24,10 @@ static int link_section(uint16_t machine, uint8_t *code, size_t len, Elf64_Rela 
     struct linker_utils_deletion deleted[MOST];
     /* 1 and 2: rewrites that need no address */
     memset(kept, 0, sizeof kept);
-    if (linker_utils_survey(machine, &output, facts, SYMBOLS, table, table_len, code, len, kept,
+    if (linker_utils_survey(machine, &output, facts, SYMBOLS, rela, count, code, len, kept,
                             SYMBOLS) ||
-        linker_utils_rewrite_section(machine, &output, facts, SYMBOLS, kept, SYMBOLS, table,
-                                     table_len, code, len, decisions, MOST, &faulty))
+        linker_utils_rewrite_section(machine, &output, facts, SYMBOLS, kept, SYMBOLS, rela,
+                                     count, code, len, decisions, MOST, &faulty))
         return -1;
     /* 3 to 6: which entries of the GOT are still needed, and what they hold */
     struct linker_utils_origins origins;
@@ -60,18 +59,18 @@ static int link_section(uint16_t machine, uint8_t *code, size_t len, Elf64_Rela 
          phase++) {
         memset(kept, 0, sizeof kept);
         if (linker_utils_survey_placed_section(machine, phase, &output, facts, SYMBOLS, &at, symbols,
-                                               SYMBOLS, table, table_len, code, len, kept,
+                                               SYMBOLS, rela, count, code, len, kept,
                                                SYMBOLS) ||
             linker_utils_rewrite_placed_section(machine, phase, &output, facts, SYMBOLS, &at,
-                                                symbols, SYMBOLS, kept, SYMBOLS, table, table_len,
+                                                symbols, SYMBOLS, kept, SYMBOLS, rela, count,
                                                 code, len, decisions, MOST, deleted, MOST,
                                                 &deleted_len, &faulty))
             return -1;
     }
     /* 9 and 10: values */
     uint64_t memory[MOST];
-    if (linker_utils_relocate_memory(table, table_len) > MOST) return -1;
-    return linker_utils_relocate_section(machine, &at, table, table_len, symbols, SYMBOLS, code, len,
+    if (linker_utils_relocate_memory(rela, count) > MOST) return -1;
+    return linker_utils_relocate_section(machine, &at, rela, count, symbols, SYMBOLS, code, len,
                                          memory, MOST, &faulty)
                ? -1
                : words;

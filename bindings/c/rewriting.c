@@ -25,14 +25,14 @@ int main(void) {
             const struct linker_utils_kept_groups all = {false, false, false, false, false};
             kept[i] = all;
         }
-        if (linker_utils_survey(EM_X86_64, &output, symbols, 3, (const uint8_t *)given,
-                                sizeof given, section, sizeof section, kept, 3))
+        if (linker_utils_survey(EM_X86_64, &output, symbols, 3, given, 2, section, sizeof section,
+                                kept, 3))
             return 1;
         struct linker_utils_decision decisions[2];
         size_t faulty = 0;
         uint32_t status = linker_utils_rewrite_section(
-            EM_X86_64, &output, symbols, 3, kept, 3, (uint8_t *)given, sizeof given, section,
-            sizeof section, decisions, 2, &faulty);
+            EM_X86_64, &output, symbols, 3, kept, 3, given, 2, section, sizeof section, decisions,
+            2, &faulty);
         for (int i = 0; i < 13; i++) printf("%02x ", (unsigned)section[i]);
         printf("%s\n", linker_utils_status_text(status));
         for (int i = 0; i < 2; i++)

@@ -28,14 +28,13 @@ int main(void) {
     symbols[2].address = 0x401000;
     symbols[3].address = 0x402000;
     const struct linker_utils_addresses addresses = {0x401000, 0x413000, 0, 0, 0};
-    const uint8_t *relocations = (const uint8_t *)relas;
     uint64_t memory[6];
-    if (linker_utils_relocate_memory(relocations, sizeof relas) > 6) return 1;
+    if (linker_utils_relocate_memory(relas, 3) > 6) return 1;
     for (int step = 0; step < 2; step++) {
         size_t faulty = 0;
         uint32_t status = linker_utils_relocate_section(
-            EM_RISCV, &addresses, relocations, sizeof relas, symbols, 4, (uint8_t *)code, sizeof code,
-            memory, 6, &faulty);
+            EM_RISCV, &addresses, relas, 3, symbols, 4, (uint8_t *)code, sizeof code, memory, 6,
+            &faulty);
         for (int i = 0; i < 4; i++) printf("%08x ", (unsigned)code[i]);
         printf("%s", linker_utils_status_text(status));
         if (status) printf(" It is relocation %zu.", faulty);

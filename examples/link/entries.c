@@ -85,7 +85,7 @@ static int64_t entered_at(const struct section *s, const Elf64_Rela *r) {
     bool is_own = !to->is_imported || (is_defined(to) && to->object == s->object);
     struct linker_utils_stub stub;
     struct linker_utils_route route;
-    uint32_t status = linker_utils_route_by_word(machine, 0, (const uint8_t *)r, sizeof *r, 0,
+    uint32_t status = linker_utils_route_by_word(machine, 0, r, 1, 0,
                                                  BYTES_OF(s), &route);
     if (status == LINKER_UTILS_NO_ROOM && (is_own || !strcmp(to->name, "__libc_start_main")))
         return 0;
@@ -195,7 +195,7 @@ static bool add_thunk(struct section *s, Elf64_Rela *r, const struct linker_util
     Elf64_Rela one = {r->r_offset, ELF64_R_INFO(UINT64_C(1), type_of(r)), r->r_addend};
     struct linker_utils_symbol known[2] = {{.address = 0}, known_symbol(to, 0)};
     struct linker_utils_addresses here = addresses_of(s);
-    uint32_t status = linker_utils_route_at(machine, &here, (const uint8_t *)&one, sizeof one,
+    uint32_t status = linker_utils_route_at(machine, &here, &one, 1,
                                             known, 2, 0, BYTES_OF(s), &route);
     if (status == LINKER_UTILS_NO_ROOM) check(s, r, status);
     *is_direct |= is_near && !status && !route.is_by_stub;

@@ -67,7 +67,7 @@ enum { RANK_HEADERS, RANK_FIXED, RANK_CODE, RANK_TLS, RANK_TLS_BSS, RANK_ARRAYS,
 
 /* the bytes of a section in the linked file, and its relocations, as the library takes them */
 #define BYTES_OF(s) (s)->output->bytes + (s)->offset, (s)->len
-#define TABLE_OF(s) (uint8_t *)(s)->relocations, (s)->relocations_len * sizeof(Elf64_Rela)
+#define TABLE_OF(s) (s)->relocations, (s)->relocations_len
 
 /* Sections that are relaxed together, one behind the other from `start` on: all of the linked file,
  * as far as the addresses of the command line allow it. Their offsets in it count from before bytes

@@ -14,6 +14,9 @@ bool is_dynamic, shrinks, relaxes = true, has_short_offsets, relaxes_near, has_c
 struct output *headers, *got, *stubs, *slots, *rela, *frames, *index_of, *interpreter, *dynamic;
 struct output *dynsym, *dynstr, *hash_table, *versym, *verneed;
 
+static const char usage[] =
+    "usage: link [-s] [--no-relax | --short-offsets | --relax-gp] [-pie | -shared [-soname NAME]] "
+    "-o OUTPUT [--section-start=NAME=ADDRESS]... FILE...";
 static const char *path; /* of the output */
 static bool has_symbols = true, is_placed = false;
 
@@ -100,6 +103,9 @@ static void read_arguments(char **argument) {
         }
         const char *next = argument[1] ? argument[1] : "";
         bool protects = !strcmp(next, "now") || !strcmp(next, "relro"); /* all outputs are so */
+        if (!strcmp(it, "--help")) exit(puts(usage) < 0);
+        if (!strcmp(it, "--version"))
+            exit(printf("link, with linker_utils %s\n", linker_utils_version()) < 0);
         if (!strcmp(it, "-s")) has_symbols = false;
         else if (!strcmp(it, "--no-relax")) relaxes = false;
         else if (!strcmp(it, "--short-offsets")) has_short_offsets = true;
@@ -119,9 +125,7 @@ int main(int argc, char **argv) {
     is_dynamic = libraries || !linked.is_fixed;
     if (is_dynamic && is_placed) fail("--section-start is for static executables");
     make_sections();
-    if (!path || !objects)
-        fail("usage: link [-s] [--no-relax | --short-offsets | --relax-gp] [-pie | -shared [-soname "
-             "NAME]] -o OUTPUT [--section-start=NAME=ADDRESS]... FILE...");
+    if (!path || !objects) fail("%s", usage);
     if (!is_placed) make_room(headers, 8, HEADERS);
     shrinks = !linker_utils_section_items(machine, NULL, 0, 0, NULL, 0, NULL, 0, NULL, 0, &none,
                                           NULL);

@@ -189,7 +189,7 @@ static void relocation_at(const struct given *it, size_t i, uint64_t words[3]) {
 }
 
 static uint32_t value_at(const struct given *it, size_t i, int64_t *value) {
-    return linker_utils_value_at(it->machine, &it->addresses, it->relocations, it->relocations_len,
+    return linker_utils_value_at(it->machine, &it->addresses, it->relocations, it->relocations_len / 24,
                                  it->symbols, it->symbols_len, i, value);
 }
 
@@ -309,7 +309,7 @@ static bool ascends(const struct given *it) {
 
 /* Relocates a section in one call and one by one. Returns the status. */
 static uint32_t relocate(const struct given *it) {
-    size_t memory_len = linker_utils_relocate_memory(it->relocations, it->relocations_len);
+    size_t memory_len = linker_utils_relocate_memory(it->relocations, it->relocations_len / 24);
     size_t faulty = SIZE_MAX, first = SIZE_MAX;
     uint64_t *memory = room(3, memory_len * sizeof *memory);
     uint8_t *copy = room(4, it->len);
@@ -320,7 +320,7 @@ static uint32_t relocate(const struct given *it) {
     size_t count = it->relocations_len / 24, overlapping = 0;
     while (overlapping < count && !overlaps(it, overlapping)) overlapping++;
     uint32_t status = linker_utils_relocate_section(
-        it->machine, &it->addresses, it->relocations, it->relocations_len, it->symbols, it->symbols_len,
+        it->machine, &it->addresses, it->relocations, it->relocations_len / 24, it->symbols, it->symbols_len,
         it->section, it->len, memory, memory_len, &faulty);
     bool is_kept = !it->len || !memcmp(was, it->section, it->len);
     bool is_same = !it->len || !memcmp(copy, it->section, it->len);

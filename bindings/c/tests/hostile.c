@@ -807,6 +807,7 @@ static struct buffer *addresses(void) {
 }
 
 #define SYMBOLS(buffer) (buffer)->given, LEN(buffer, struct linker_utils_symbol)
+#define RELAS(buffer) (buffer)->given, (buffer)->len / 24
 #define NO_VALUE_AT NO_RELOCATION OR(NO_SYMBOL) OR(NO_ENTRY) OR(NO_HIGH_PART)
 
 static void call_value_at(void) {
@@ -815,7 +816,7 @@ static void call_value_at(void) {
     struct buffer *given = relocations(READ, machine, 40, LEN(known, struct linker_utils_symbol));
     size_t index = once_in(8) ? (size_t)any_number() : below(given->len / 24 + 1);
     int64_t *value = output(sizeof(int64_t));
-    uint32_t status = CALL(value_at, machine, where->given, given->given, given->len, SYMBOLS(known),
+    uint32_t status = CALL(value_at, machine, where->given, RELAS(given), SYMBOLS(known),
                            index, value);
     expect((status != LINKER_UTILS_TOO_SHORT) | (index >= given->len / 24), "a relocation is there");
     finish_with(status, 0 NO_VALUE_AT OR(TOO_SHORT) OR(NO_VALUE));
@@ -827,14 +828,14 @@ static void call_relocate_section(void) {
     struct buffer *known = symbols(any_len(8)), *where = addresses();
     struct buffer *given =
         relocations(READ, machine, section->len, LEN(known, struct linker_utils_symbol));
-    size_t needed = CALL(relocate_memory, given->given, given->len);
+    size_t needed = CALL(relocate_memory, RELAS(given));
     expect(needed == given->len / 24, "it needs other memory");
     size_t count = needed + (once_in(4) ? below(4) : 0);
     bool is_short = needed > 0 && once_in(16);
     if (is_short) count = below(needed);
     struct buffer *memory = place(SCRATCH, count, sizeof(uint64_t));
     size_t *faulty = any_faulty();
-    uint32_t status = CALL(relocate_section, machine, where->given, given->given, given->len,
+    uint32_t status = CALL(relocate_section, machine, where->given, RELAS(given),
                            SYMBOLS(known), section->given, section->len, memory->given, count, faulty);
     expect_status(status, 0 NO_VALUE_AT NOT_RELOCATED OR(ULEB128_ENDED) OR(ULEB128_TOO_LARGE)
                               OR(DOES_NOT_FIT) OR(OVERLAPS) OR(SHORT_MEMORY));
@@ -885,7 +886,7 @@ static void call_survey(void) {
     struct buffer *kept = kept_groups(WRITTEN, any_len(8));
     size_t symbols_len = LEN(known, struct linker_utils_symbol_facts);
     struct buffer *given = relocations(READ, machine, section->len, symbols_len);
-    uint32_t status = CALL(survey, machine, facts->given, FACTS(known), given->given, given->len,
+    uint32_t status = CALL(survey, machine, facts->given, FACTS(known), RELAS(given),
                            section->given, section->len, KEPT(kept));
     /* what stays already stays */
     const uint8_t *now = filled(kept);
@@ -934,7 +935,7 @@ static void call_relocate_rewritten_section(void) {
     struct buffer *memory = place(SCRATCH, count, sizeof(uint64_t));
     size_t *faulty = any_faulty();
     uint32_t status = CALL(relocate_rewritten_section, machine, output->given, FACTS(facts),
-                           KEPT_FACTS(kept), where->given, given->given, given->len, SYMBOLS(known),
+                           KEPT_FACTS(kept), where->given, RELAS(given), SYMBOLS(known),
                            section->given, section->len, memory->given, count, faulty);
     expect_status(status, 0 NO_VALUE_AT NOT_RELOCATED OR(ULEB128_ENDED) OR(ULEB128_TOO_LARGE)
                               OR(DOES_NOT_FIT) OR(OVERLAPS) OR(SHORT_MEMORY) OR(FACTS_CHANGED));
@@ -990,7 +991,7 @@ static void call_rewrite_section(void) {
     changes(decisions, 0, needed * sizeof(struct linker_utils_decision));
     size_t *faulty = any_faulty();
     uint32_t status = CALL(rewrite_section, machine, facts->given, FACTS(known), KEPT(kept),
-                           given->given, given->len, section->given, section->len, decisions->given,
+                           RELAS(given), section->given, section->len, decisions->given,
                            count, faulty);
     expect_status(status,
                   0 OR(UNKNOWN_ARCHITECTURE) OR(SHORT_MEMORY) OR(NOT_SURVEYED) OR(OVERLAPS));
@@ -1024,7 +1025,7 @@ static void call_survey_placed_section(void) {
     size_t symbols_len = LEN(known, struct linker_utils_symbol_facts);
     struct buffer *given = relocations(READ, machine, section->len, symbols_len);
     uint32_t status = CALL(survey_placed_section, machine, any_phase(), facts->given, FACTS(known),
-                           where->given, SYMBOLS(values), given->given, given->len, section->given,
+                           where->given, SYMBOLS(values), RELAS(given), section->given,
                            section->len, KEPT(kept));
     const uint8_t *now = filled(kept);
     for (size_t i = 0; i < kept->len; i++) expect(now[i] <= 1 && now[i] >= kept->was[i], "no flags");
@@ -1049,7 +1050,7 @@ static void call_rewrite_placed_section(void) {
     changes(decisions, 0, needed * sizeof(struct linker_utils_decision));
     size_t *faulty = any_faulty();
     uint32_t status = CALL(rewrite_placed_section, machine, any_phase(), facts->given, FACTS(known),
-                           where->given, SYMBOLS(values), KEPT(kept), given->given, given->len,
+                           where->given, SYMBOLS(values), KEPT(kept), RELAS(given),
                            section->given, section->len, decisions->given, count, deleted->given,
                            room, deleted_used, faulty);
     expect_status(status, 0 OR(UNKNOWN_ARCHITECTURE) OR(UNKNOWN_PHASE) OR(SHORT_MEMORY)
@@ -1094,8 +1095,8 @@ static void call_survey_address_loads(void) {
     struct buffer *kept = kept_words(WRITTEN, any_len(8));
     struct buffer *given = relocations(READ, machine, section->len, symbols_len);
     uint32_t status = CALL(survey_address_loads, machine, facts->given, FACTS(known), where->given,
-                           SYMBOLS(values), any_number(), words->given, words->len, given->given,
-                           given->len, section->given, section->len, kept->given, kept->len);
+                           SYMBOLS(values), any_number(), RELAS(words), RELAS(given),
+                           section->given, section->len, kept->given, kept->len);
     const uint8_t *now = filled(kept);
     for (size_t i = 0; i < kept->len; i++) expect(now[i] <= 1 && now[i] >= kept->was[i], "no flags");
     finish_with(status, 0 OR(UNKNOWN_ARCHITECTURE));
@@ -1118,8 +1119,8 @@ static void call_rewrite_address_loads(void) {
     changes(decisions, 0, needed * sizeof(struct linker_utils_decision));
     size_t *faulty = any_faulty();
     uint32_t status = CALL(rewrite_address_loads, machine, facts->given, FACTS(known), where->given,
-                           SYMBOLS(values), any_number(), words->given, words->len, kept->given,
-                           kept->len, given->given, given->len, section->given, section->len,
+                           SYMBOLS(values), any_number(), RELAS(words), kept->given,
+                           kept->len, RELAS(given), section->given, section->len,
                            decisions->given, count, faulty);
     expect_status(status,
                   0 OR(UNKNOWN_ARCHITECTURE) OR(SHORT_MEMORY) OR(NOT_SURVEYED) OR(OVERLAPS));
@@ -1145,7 +1146,7 @@ static void call_survey_global_pointer(void) {
     struct buffer *kept = kept_words(WRITTEN, any_len(8));
     struct buffer *given = relocations(READ, machine, section->len, symbols_len);
     uint32_t status = CALL(survey_global_pointer, machine, facts->given, FACTS(known), where->given,
-                           SYMBOLS(values), any_number(), given->given, given->len, section->given,
+                           SYMBOLS(values), any_number(), RELAS(given), section->given,
                            section->len, kept->given, kept->len);
     const uint8_t *now = filled(kept);
     for (size_t i = 0; i < kept->len; i++) expect(now[i] <= 1 && now[i] >= kept->was[i], "no flags");
@@ -1170,8 +1171,8 @@ static void call_rewrite_global_pointer(void) {
     changes(decisions, 0, needed * sizeof(struct linker_utils_decision));
     size_t *faulty = any_faulty();
     uint32_t status = CALL(rewrite_global_pointer, machine, facts->given, FACTS(known), where->given,
-                           SYMBOLS(values), any_number(), kept->given, kept->len, given->given,
-                           given->len, section->given, section->len, decisions->given, count,
+                           SYMBOLS(values), any_number(), kept->given, kept->len, RELAS(given),
+                           section->given, section->len, decisions->given, count,
                            deleted->given, room, deleted_used, faulty);
     expect_status(status, 0 OR(UNKNOWN_ARCHITECTURE) OR(SHORT_MEMORY) OR(NOT_SURVEYED));
     expect((status == LINKER_UTILS_SHORT_MEMORY) <= (is_short || has_little_room),
@@ -1205,7 +1206,7 @@ static void call_from_global_pointer(void) {
     changes(given, 0, 24 * needed);
     size_t *faulty = any_faulty();
     uint32_t status = CALL(from_global_pointer, where->given, SYMBOLS(values), any_number(),
-                           given->given, given->len, section->given, section->len, faulty);
+                           RELAS(given), section->given, section->len, faulty);
     expect_status(status, 0 OR(OUT_OF_REACH));
     finish_faulty(faulty, status == LINKER_UTILS_OUT_OF_REACH, needed);
     finish(status == LINKER_UTILS_OK);
@@ -1422,7 +1423,7 @@ static void call_route_at(void) {
     struct buffer *section = bytes(READ, any_len(48));
     size_t index = once_in(8) ? (size_t)any_number() : below(given->len / 24 + 1);
     struct linker_utils_route *route = output(sizeof *route);
-    uint32_t status = CALL(route_at, machine, where->given, given->given, given->len, SYMBOLS(known),
+    uint32_t status = CALL(route_at, machine, where->given, RELAS(given), SYMBOLS(known),
                            index, section->given, section->len, route);
     expect(status || is_route(route), "no route");
     finish_with(status, 0 UNKNOWN OR(TOO_SHORT) OR(NO_SYMBOL) OR(NO_ENTRY) OR(NOT_A_BRANCH)
@@ -1436,7 +1437,7 @@ static void call_route_by_word(void) {
     size_t index = once_in(8) ? (size_t)any_number() : below(given->len / 24 + 1);
     uint64_t word = any_number();
     struct linker_utils_route *route = output(sizeof *route);
-    uint32_t status = CALL(route_by_word, machine, word, given->given, given->len, index,
+    uint32_t status = CALL(route_by_word, machine, word, RELAS(given), index,
                            section->given, section->len, route);
     expect(status || (is_route(route) && route->is_by_stub && route->target == word), "no route");
     finish_with(status, 0 UNKNOWN OR(TOO_SHORT) OR(NOT_A_BRANCH) OR(NO_ROOM));

@@ -369,19 +369,39 @@ fn the_functions_are_those_of_the_library() {
     assert_eq!(called, wrappers.keys().map(String::as_str).collect());
     for (name, (wrapper, body)) in &wrappers {
         let export = format!("{name}_nonnull");
-        assert_eq!(*wrapper, exports[&export], "{name}");
+        assert_eq!(of_bytes(wrapper), exports[&export], "{name}");
         let at = body.find(&export).expect("it calls the export") + export.len();
         let (arguments, _) = bracketed(&body[at..]);
         assert_eq!(passed(arguments), names(wrapper), "{name}");
         for (parameter, kind) in &wrapper.parameters {
             let is_slice = names(wrapper).contains(&format!("{parameter}_len"));
+            // relocations of a file are counted by wrappers, and their bytes by exports
+            let (kind, guard) = match kind.strip_suffix("()") {
+                Some(pointer) if is_slice => (format!("{pointer}u8"), "LINKER_UTILS_RELAS"),
+                _ => (kind.clone(), "LINKER_UTILS_SLICE"),
+            };
             let element = kind.replace("*const ", "").replace("*mut ", "");
-            let guard = format!("LINKER_UTILS_SLICE({}", c_element(kind, &element));
+            let guard = format!("{guard}({}", c_element(&kind, &element));
             assert!(
                 !is_slice || arguments.contains(&format!("{guard}, {parameter})")),
                 "{name}"
             );
         }
+    }
+}
+
+/// A wrapper as its export is, which takes relocations of a file as bytes.
+fn of_bytes(wrapper: &Function) -> Function {
+    let bytes = |(name, kind): &(String, String)| {
+        let kind = match kind.strip_suffix(" ()") {
+            Some(pointer) => format!("{pointer} u8"),
+            None => kind.clone(),
+        };
+        (name.clone(), kind)
+    };
+    Function {
+        parameters: wrapper.parameters.iter().map(bytes).collect(),
+        result: wrapper.result.clone(),
     }
 }
 
@@ -393,6 +413,12 @@ fn names(function: &Function) -> Vec<String> {
 /// The parameters that the arguments of a wrapper's call are made of.
 fn passed(arguments: &str) -> Vec<String> {
     let mut text = arguments.to_string();
+    while let Some(at) = text.find("LINKER_UTILS_RELAS(") {
+        let (inner, _) = bracketed(&text[at + "LINKER_UTILS_RELAS".len()..]);
+        let slice = inner.split(',').next_back().expect("a slice").trim();
+        let both = format!("{slice}, {slice}_len");
+        text.replace_range(at..at + "LINKER_UTILS_RELAS()".len() + inner.len(), &both);
+    }
     while let Some(at) = text.find("LINKER_UTILS_SLICE(") {
         let (inner, _) = bracketed(&text[at + "LINKER_UTILS_SLICE".len()..]);
         let slice = inner
