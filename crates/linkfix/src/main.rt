@@ -8,6 +8,8 @@ mod deletions;
 mod input;
 mod program;
 mod sections;
+#[cfg(test)]
+mod tests;
 
 use std::process::ExitCode;
 
