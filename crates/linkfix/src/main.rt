@@ -7,6 +7,8 @@ mod commands;
 mod input;
 mod program;
 mod sections;
+#[cfg(test)]
+mod tests;
 
 use std::process::ExitCode;
 
