@@ -144,10 +144,10 @@ struct linker_utils_operands {
     uint64_t symbol_size; /* Z */
     /* The origin of offsets of TLS symbols, as an address in the TLS segment's image. For an offset
      * from the thread pointer it is the thread pointer's. On AArch64 that is the image's address
-     * less 16 rounded up to the segment's alignment, and on RISC-V and LoongArch the image's
-     * address. On PowerPC64 it is that plus 0x7000, and on x86-64 that plus the segment's size
-     * rounded up to its alignment. For an offset in the module's TLS block it is the image's
-     * address; plus 0x8000 on PowerPC64, and plus 0x800 on RISC-V. */
+     * less 16, rounded down to the segment's alignment. On RISC-V and LoongArch it is the image's
+     * address rounded down so, on PowerPC64 that plus 0x7000, and on x86-64 the image's end rounded
+     * up. For an offset in the module's TLS block it is the image's address, aligned or not; plus
+     * 0x8000 on PowerPC64, and plus 0x800 on RISC-V. */
     uint64_t tls_base;
 };
 
@@ -495,21 +495,23 @@ static inline size_t linker_utils_relocate_memory(const void *relocations,
 
 /* Writes the values of a section's relocations, or none of them: with any status but
  * LINKER_UTILS_OK all bytes of the section are unchanged. What `memory` holds afterwards isn't
- * specified with any status. Its elements need not be initialised.
+ * specified. Its elements need not be initialised.
  *
  * The bytes that a relocation writes are its field; one without a value has none. Relocations whose
  * fields overlap have to compose. They are at one offset, and change the number that those before
  * them set or change, as R_RISCV_ADD32 and R_RISCV_SUB32 do. Or they are a pair at a ULEB128
- * number, next to each other.
+ * number, next to each other. The texts of LINKER_UTILS_NOT_ALIGNED, LINKER_UTILS_NEEDS_STUB and
+ * LINKER_UTILS_OTHER_LENGTH say which code would be wrong with its value, and isn't written. A
+ * linker that removes the nops of an alignment itself sets the relocation's type to 0.
  *
  * LINKER_UTILS_UNKNOWN_ARCHITECTURE; LINKER_UTILS_SHORT_MEMORY where `memory_len` is below
  * `linker_utils_relocate_memory`. Else `faulty` is the first relocation that can't be written, and
- * the status is the first that applies. It is one of `linker_utils_value_at` except for
- * LINKER_UTILS_NO_VALUE; or LINKER_UTILS_OVERLAPS; or one of `linker_utils_relocate`, and of a pair
- * one of `linker_utils_write_uleb128`. LINKER_UTILS_TOO_SHORT is also an offset past the section's
- * end, and LINKER_UTILS_UNSUPPORTED a relocation of a ULEB128 number that isn't of a pair. For n
- * relocations that ascend by offset it takes O(n), and in any other order O(n log n), each beside
- * O(log n) of a low part. */
+ * the status is the first that applies: one of `linker_utils_value_at` but LINKER_UTILS_NO_VALUE;
+ * LINKER_UTILS_NOT_ALIGNED; LINKER_UTILS_NEEDS_STUB; LINKER_UTILS_OVERLAPS;
+ * LINKER_UTILS_OTHER_LENGTH; one of `linker_utils_relocate`, or of `linker_utils_write_uleb128`.
+ * LINKER_UTILS_TOO_SHORT is also an offset past the section's end, and LINKER_UTILS_UNSUPPORTED a
+ * ULEB128 number's relocation that isn't of a pair. For n relocations that ascend by offset it
+ * takes O(n), and in any other order O(n log n), each beside O(log n) of a low part. */
 static inline uint32_t linker_utils_relocate_section(
     uint16_t machine, const struct linker_utils_addresses *addresses, const void *relocations,
     size_t relocations_len, const struct linker_utils_symbol *symbols, size_t symbols_len,

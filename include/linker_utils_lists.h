@@ -145,7 +145,14 @@
            "The branch reaches neither its target nor a boundary for a stub.") \
     STATUS(STUB_TOO_FAR, 78, "A stub of the target does not reach it.") \
     STATUS(FACTS_CHANGED, 79, \
-           "The facts of the relocation's symbol, or of the output, are not those that were kept.")
+           "The facts of the relocation's symbol, or of the output, are not those that were kept.") \
+    STATUS(NOT_ALIGNED, 80, \
+           "What is behind the nops of the alignment is not aligned: the section was not packed.") \
+    STATUS(NEEDS_STUB, 81, \
+           "The function may return with another TOC pointer, and its symbol has no stub that " \
+           "keeps the caller's.") \
+    STATUS(OTHER_LENGTH, 82, \
+           "The instruction there is shorter or longer than that of the relocation.")
 
 enum linker_utils_status {
 #define LINKER_UTILS_STATUS(name, number, text) LINKER_UTILS_##name = number,

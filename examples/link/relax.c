@@ -75,9 +75,9 @@ static uint64_t pack(struct section *s, uint8_t *packed) {
         uint64_t start = items[i].offset - base;
         if (stay[i] == items[i].len) continue;
         len -= items[i].len - stay[i];
-        size_t k = items[i].shapes.count ? makers[i] : s->relocations_len;
-        for (; k < s->relocations_len && s->relocations[k].r_offset - start < items[i].len; k++)
-            drop(&s->relocations[k]); /* its value is written here */
+        for (size_t k = makers[i]; /* whose relocation says what is done here */
+             k < s->relocations_len && s->relocations[k].r_offset - start < items[i].len; k++)
+            drop(&s->relocations[k]);
         items[last] = items[i];
         stay[last] = stay[i];
         makers[last++] = makers[i];

@@ -370,6 +370,13 @@ impl Display for section::ValueError {
             section::ValueError::NoHighPart => {
                 "no high part is at the label that the symbol of the relocation is"
             }
+            section::ValueError::NotAligned => {
+                "what is behind the nops of the alignment is not aligned: the section was not packed"
+            }
+            section::ValueError::NeedsStub => {
+                "the function may return with another TOC pointer, and its symbol has no stub that \
+                 keeps the caller's"
+            }
         })
     }
 }
@@ -383,6 +390,9 @@ impl Display for RelocationError {
             RelocationError::Value(error) => error.fmt(f),
             RelocationError::Overlaps => f.write_str(
                 "the relocation's field overlaps that of one before it, and the two do not compose",
+            ),
+            RelocationError::OtherLength => f.write_str(
+                "the instruction there is shorter or longer than that of the relocation",
             ),
             RelocationError::Write(error) => error.fmt(f),
             RelocationError::Uleb128(error) => error.fmt(f),

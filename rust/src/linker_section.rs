@@ -4,6 +4,7 @@
 
 mod ascending;
 mod codes;
+mod conditions;
 pub mod facts;
 mod fields;
 mod known;

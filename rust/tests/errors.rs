@@ -245,7 +245,10 @@ fn errors_of_sections_are_printed() {
         (RelocationError::Value(section::ValueError::NoSymbol), "NO_SYMBOL"),
         (RelocationError::Value(section::ValueError::NoEntry), "NO_ENTRY"),
         (RelocationError::Value(section::ValueError::NoHighPart), "NO_HIGH_PART"),
+        (RelocationError::Value(section::ValueError::NotAligned), "NOT_ALIGNED"),
+        (RelocationError::Value(section::ValueError::NeedsStub), "NEEDS_STUB"),
         (RelocationError::Overlaps, "OVERLAPS"),
+        (RelocationError::OtherLength, "OTHER_LENGTH"),
         (RelocationError::Write(RelocateError::Misaligned), "MISALIGNED"),
     ] {
         let place = "the relocation at index 7 is not written";

@@ -873,6 +873,146 @@ fn the_second_of_a_pair_without_a_value_is_the_error() {
     assert_eq!(result, Err(SectionError { index: 1, error }));
 }
 
+fn rela(offset: u64, code: u32, symbol: u32, addend: i64) -> Rela {
+    Rela {
+        offset,
+        code,
+        symbol,
+        addend,
+    }
+}
+
+/// What `.p2align` leaves of a section that isn't packed. The offsets and addends are those that
+/// GNU as and llvm-mc wrote, and where what is behind an alignment goes is what ld.lld 19 left.
+#[test]
+fn alignments_that_were_not_packed_hold_or_are_errors() {
+    let of = |architecture, at, listed: &[Rela]| {
+        let addresses = Addresses {
+            section: at,
+            ..ADDRESSES
+        };
+        let symbols = [Symbol::default(), SYMBOL];
+        relocate_section(architecture, &addresses, &bytes_of(listed), &symbols, &mut [])
+    };
+    let unaligned = |index| {
+        let error = RelocationError::Value(ValueError::NotAligned);
+        Err(SectionError { index, error })
+    };
+    // c.nop, `.p2align 3` and c.addi: ld.lld puts it at 8, as it stands; `.p2align 4` and c.addi:
+    // ld.lld puts it at 0x10, and here it is at 0x18
+    let listed = [rela(2, 43, 0, 6), rela(0xa, 43, 0, 14)];
+    assert_eq!(of(RiscV, 0x10000, &listed[..1]), Ok(()));
+    assert_eq!(of(RiscV, 0x10000, &listed), unaligned(1));
+    assert_eq!(of(RiscV, 0x10004, &listed), unaligned(0));
+    assert_eq!(of(RiscV, 0x10008, &listed[1..]), Ok(()));
+    // code without compressed instructions has 12 bytes of nops for 16
+    assert_eq!(of(RiscV, 0x10000, &[rela(4, 43, 0, 12)]), Ok(()));
+    assert_eq!(of(RiscV, 0x10000, &[rela(8, 43, 0, 12)]), unaligned(0));
+    // nothing is aligned by 0 bytes, and no psABI has a negative count
+    assert_eq!(of(RiscV, 0x10002, &[rela(0, 43, 0, 0)]), Ok(()));
+    assert_eq!(of(RiscV, 0x10000, &[rela(0, 43, 0, -4)]), unaligned(0));
+
+    // nop, `.p2align 4` and addi.d: ld.lld puts it at 0x10, as it stands
+    assert_eq!(of(LoongArch64, 0x10000, &[rela(4, 102, 0, 12)]), Ok(()));
+    assert_eq!(of(LoongArch64, 0x10004, &[rela(4, 102, 0, 12)]), unaligned(0));
+    // `.p2align 5, , 8` at 0x14: 12 bytes would be needed, and ld.lld aligns nothing
+    assert_eq!(of(LoongArch64, 0x10000, &[rela(0x14, 102, 1, 0x805)]), Ok(()));
+    // 8 bytes from 0x18 are needed, which it allows; without a limit 12 are too
+    assert_eq!(of(LoongArch64, 0x10000, &[rela(0x18, 102, 1, 0x805)]), unaligned(0));
+    assert_eq!(of(LoongArch64, 0x10000, &[rela(0x14, 102, 1, 5)]), unaligned(0));
+    assert_eq!(of(LoongArch64, 0x10000, &[rela(4, 102, 1, 5)]), Ok(()));
+    assert_eq!(of(LoongArch64, 0x10000, &[rela(0, 102, 1, 63)]), unaligned(0));
+}
+
+/// `bl f` of a function with `.localentry f,1`, beside what ld.lld 19 and GNU ld 2.40 made of it:
+/// both go by a stub with `std 2,24(1)`.
+#[test]
+fn calls_that_may_change_the_toc_pointer_go_by_a_stub() {
+    // bl f; ld 2,24(1), at 0x10010014; f is at 0x1001002c, and __toc_save_f at 0x10010040
+    let addresses = Addresses {
+        section: 0x1001_0014,
+        ..ADDRESSES
+    };
+    let call = |code, symbol| {
+        let mut section = [1, 0, 0, 0x48, 0x18, 0, 0x41, 0xe8];
+        let relocations = bytes_of(&[rela(0, code, 1, 0)]);
+        let symbols = [Symbol::default(), symbol];
+        relocate_section(Ppc64, &addresses, &relocations, &symbols, &mut section)?;
+        Ok(u32::from_le_bytes(section[..4].try_into().unwrap()))
+    };
+    let function = Symbol {
+        address: 0x1001_002c,
+        other: 0x20,
+        ..Symbol::default()
+    };
+    let error = RelocationError::Value(ValueError::NeedsStub);
+    assert_eq!(call(10, function), Err(SectionError { index: 0, error }));
+    let by_stub = Symbol {
+        stub: 0x1001_0040,
+        ..function
+    };
+    assert_eq!(call(10, by_stub), Ok(0x4800_002d));
+    // R_PPC64_REL24_NOTOC has no TOC pointer to keep
+    assert_eq!(call(116, function), Ok(0x4800_0019));
+    // a function with the same TOC pointer, entered at its local entry point or at its only one
+    let local = |other| Symbol { other, ..function };
+    assert_eq!(call(10, local(0)), Ok(0x4800_0019));
+    assert_eq!(call(10, local(0x60)), Ok(0x4800_0021));
+    // nothing defines `__gmon_start__`: the call stays where it is, as both linkers leave it
+    let missing = Symbol {
+        is_undefined_weak: true,
+        ..function
+    };
+    assert_eq!(call(10, missing), Ok(0x4800_0001));
+}
+
+/// The low two bits of an instruction of RISC-V say its length (The RISC-V Instruction Set Manual,
+/// volume I, "Expanded Instruction-Length Encoding"), and primary opcode 1 is that of a prefix
+/// (Power ISA, "Prefixed Instructions"). The words are those of assemblers.
+#[test]
+fn instructions_are_as_long_as_their_forms() {
+    let relocate = |architecture, code, section: &[u8]| {
+        let mut section = section.to_vec();
+        let relocations = bytes_of(&[rela(0, code, 1, 0)]);
+        let symbol = Symbol {
+            address: SECTION + 0x10,
+            ..SYMBOL
+        };
+        let symbols = [Symbol::default(), symbol];
+        relocate_section(architecture, &ADDRESSES, &relocations, &symbols, &mut section)?;
+        Ok(section)
+    };
+    let other = Err(SectionError {
+        index: 0,
+        error: RelocationError::OtherLength,
+    });
+    // R_RISCV_JAL at jal ra, and at c.nop with one behind it
+    assert_eq!(relocate(RiscV, 17, &[0xef, 0, 0, 0]), Ok(vec![0xef, 0, 0, 1]));
+    assert_eq!(relocate(RiscV, 17, &[1, 0, 1, 0]), other);
+    // R_RISCV_RVC_JUMP at c.j, and at jal ra
+    assert_eq!(relocate(RiscV, 45, &[1, 0xa0]), Ok(vec![1, 0xa8]));
+    assert_eq!(relocate(RiscV, 45, &[0xef, 0, 0, 0]), other);
+    // R_RISCV_RVC_BRANCH at beq, R_RISCV_CALL_PLT, R_RISCV_BRANCH, R_RISCV_HI20, R_RISCV_LO12_S and
+    // R_RISCV_TPREL_LO12_I at compressed instructions
+    assert_eq!(relocate(RiscV, 44, &[0x63, 0, 0xb5, 0]), other);
+    for code in [19, 16, 26, 28, 30] {
+        assert_eq!(relocate(RiscV, code, &[1, 0, 1, 0, 0xe7, 0x80, 0, 0]), other);
+    }
+    // the section ends before the field does
+    let short = RelocationError::Write(RelocateError::TooShort);
+    let short = Err(SectionError { index: 0, error: short });
+    assert_eq!(relocate(RiscV, 17, &[1, 0]), short);
+    assert_eq!(relocate(RiscV, 17, &[]), short);
+    // a number of RISC-V, R_RISCV_32, is no instruction
+    assert_eq!(relocate(RiscV, 1, &[0; 4]), Ok(vec![0x10, 0x10, 0x40, 0]));
+    // R_PPC64_PCREL34 at pld 3,0(0),1, and at addi 3,3,0 and ld 3,0(3)
+    let pld = [0, 0, 0x10, 4, 0, 0, 0x60, 0xe4];
+    assert_eq!(relocate(Ppc64, 132, &pld), Ok(vec![0, 0, 0x10, 4, 0x10, 0, 0x60, 0xe4]));
+    assert_eq!(relocate(Ppc64, 132, &[0, 0, 0x63, 0x38, 0, 0, 0x63, 0xe8]), other);
+    // any word of another architecture's form, as R_AARCH64_CALL26's
+    assert_eq!(relocate(AArch64, 283, &[0, 0, 0, 0x94]), Ok(vec![4, 0, 0, 0x94]));
+}
+
 /// Numbers by a seed.
 struct Random(u64);
 

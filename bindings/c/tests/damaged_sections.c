@@ -5,7 +5,8 @@
  * and of symbols, their order, bytes and lengths, and calls `linker_utils_relocate_section`. With an error all
  * bytes of the section are unchanged. The error is that of the first relocation which
  * `linker_utils_value_at` or `linker_utils_relocate` rejects, or LINKER_UTILS_OVERLAPS of the first
- * whose field has bytes of the field of one before it, with which it doesn't compose. Else the section
+ * whose field has bytes of the field of one before it, with which it doesn't compose; or that of an
+ * alignment, a call or an instruction that would be wrong. Else the section
  * is what these calls make of it. Each buffer ends before an inaccessible page; with -DMALLOC they are blocks
  * of `malloc`, for valgrind, of which `memory` isn't initialised. */
 #define _GNU_SOURCE
@@ -262,6 +263,39 @@ static bool overlaps(const struct given *it, size_t k) {
     return false;
 }
 
+/* Whether what is behind the nops of R_RISCV_ALIGN (43) or R_LARCH_ALIGN (102) is aligned, or needs more
+ * bytes than a limit allows. */
+static bool is_aligned(const struct given *it, const uint64_t *words) {
+    uint32_t type = (uint32_t)words[1];
+    bool is_stated = it->machine == EM_LOONGARCH && words[1] >> 32;
+    if (type != (it->machine == EM_RISCV ? 43 : it->machine == EM_LOONGARCH ? 102 : UINT32_MAX)) return true;
+    uint64_t place = it->addresses.section + words[0], power = 1, nops = words[2], most = 0;
+    if (is_stated) {
+        if (words[2] % 256 > 32) return false;
+        power = UINT64_C(1) << words[2] % 256, most = words[2] / 256;
+        nops = power < 4 ? 0 : power - 4;
+    } else {
+        while (power <= nops && power <= UINT32_MAX) power *= 2;
+        if (power <= nops) return false;
+    }
+    return !((place + nops) % power) || (most && -place % power > most);
+}
+
+/* Whether R_PPC64_REL24 (10) has a symbol that says another TOC pointer, and no stub. */
+static bool loses_toc(const struct given *it, const uint64_t *words) {
+    const struct linker_utils_symbol *symbol = &it->symbols[words[1] >> 32];
+    return it->machine == EM_PPC64 && (uint32_t)words[1] == 10 && !symbol->stub &&
+           !symbol->is_undefined_weak && symbol->other >> 5 == 1;
+}
+
+/* Whether the bytes are an instruction as long as that of a relocation, as far as it shows. */
+static bool has_length(const struct given *it, uint32_t type, const uint8_t *bytes) {
+    if (it->machine == EM_PPC64) return type < 128 || type > 151 || bytes[3] >> 2 == 1;
+    if (it->machine != EM_RISCV) return true;
+    if (type >= 44 && type <= 46) return (bytes[0] & 3) != 3;
+    return !((type >= 16 && type < 32) || (type >= 62 && type <= 64)) || (bytes[0] & 3) == 3;
+}
+
 /* Writes the values one by one, up to the first that is rejected. */
 static uint32_t one_by_one(const struct given *it, uint8_t *section, size_t *at) {
     size_t count = it->relocations_len / 24;
@@ -271,8 +305,10 @@ static uint32_t one_by_one(const struct given *it, uint8_t *section, size_t *at)
         *at = i;
         relocation_at(it, i, words);
         uint32_t status = value_at(it, i, &value), role = role_of(it, i, words[0]);
+        if (status == LINKER_UTILS_NO_VALUE && !is_aligned(it, words)) return LINKER_UTILS_NOT_ALIGNED;
         if (status == LINKER_UTILS_NO_VALUE) continue;
         if (status) return status;
+        if (loses_toc(it, words)) return LINKER_UTILS_NEEDS_STUB;
         bool is_inside = words[0] <= it->len;
         uint8_t *dest = is_inside && section ? section + words[0] : NULL;
         size_t len = is_inside ? it->len - words[0] : 0, used;
@@ -289,6 +325,8 @@ static uint32_t one_by_one(const struct given *it, uint8_t *section, size_t *at)
             i++;
             continue;
         }
+        if (len && len >= field_len(it, i) && !has_length(it, (uint32_t)words[1], dest))
+            return LINKER_UTILS_OTHER_LENGTH;
         status = is_inside ? linker_utils_relocate(it->machine, (uint32_t)words[1], value, dest, len)
                            : LINKER_UTILS_TOO_SHORT;
         if (status) return status;
@@ -374,6 +412,8 @@ static struct given damaged(const struct input *input, size_t places) {
     if (it.len) memcpy(it.section, input->bytes, it.len);
     if (it.relocations_len) memcpy(it.relocations, input->relocations, it.relocations_len);
     if (it.symbols_len) memcpy(it.symbols, input->symbols, it.symbols_len * sizeof *it.symbols);
+    for (size_t i = 0; (!places || below(4)) && i < it.relocations_len / 24; i++) /* not packed */
+        if (kind_of(&it, i) == LINKER_UTILS_KIND_ALIGNMENT) memset(it.relocations + 24 * i + 8, 0, 4);
     if (places && below(4) == 0) reorder(it.relocations, it.relocations_len);
     for (size_t i = 0; i < places; i++) {
         if (below(4)) damage_relocation(it.relocations, it.relocations_len);
@@ -395,7 +435,7 @@ int main(int count, char **arguments) {
         for (size_t i = 0; i < inputs_len; i++)
             if (inputs[i].machine == machines[m]) of[of_len++] = i;
         expect(of_len > 0, "no section of an architecture");
-        for (size_t i = 0; i < of_len; i++) { /* as they are */
+        for (size_t i = 0; i < of_len; i++) { /* as they are but for alignments */
             reading = inputs[of[i]].path;
             struct given it = damaged(&inputs[of[i]], 0);
             whole += relocate(&it) == LINKER_UTILS_OK;

@@ -838,7 +838,8 @@ static void call_relocate_section(void) {
     uint32_t status = CALL(relocate_section, machine, where->given, RELAS(given),
                            SYMBOLS(known), section->given, section->len, memory->given, count, faulty);
     expect_status(status, 0 NO_VALUE_AT NOT_RELOCATED OR(ULEB128_ENDED) OR(ULEB128_TOO_LARGE)
-                              OR(DOES_NOT_FIT) OR(OVERLAPS) OR(SHORT_MEMORY));
+                              OR(DOES_NOT_FIT) OR(OVERLAPS) OR(SHORT_MEMORY) OR(NOT_ALIGNED)
+                              OR(NEEDS_STUB) OR(OTHER_LENGTH));
     expect((status == LINKER_UTILS_SHORT_MEMORY) <= is_short, "the memory is long enough");
     bool is_of_entry = status != LINKER_UTILS_OK && status != LINKER_UTILS_UNKNOWN_ARCHITECTURE &&
                        status != LINKER_UTILS_SHORT_MEMORY;
@@ -938,7 +939,8 @@ static void call_relocate_rewritten_section(void) {
                            KEPT_FACTS(kept), where->given, RELAS(given), SYMBOLS(known),
                            section->given, section->len, memory->given, count, faulty);
     expect_status(status, 0 NO_VALUE_AT NOT_RELOCATED OR(ULEB128_ENDED) OR(ULEB128_TOO_LARGE)
-                              OR(DOES_NOT_FIT) OR(OVERLAPS) OR(SHORT_MEMORY) OR(FACTS_CHANGED));
+                              OR(DOES_NOT_FIT) OR(OVERLAPS) OR(SHORT_MEMORY) OR(FACTS_CHANGED)
+                              OR(NOT_ALIGNED) OR(NEEDS_STUB) OR(OTHER_LENGTH));
     expect((status == LINKER_UTILS_SHORT_MEMORY) <= is_short, "the memory is long enough");
     bool is_of_entry = status != LINKER_UTILS_OK && status != LINKER_UTILS_UNKNOWN_ARCHITECTURE &&
                        status != LINKER_UTILS_SHORT_MEMORY;

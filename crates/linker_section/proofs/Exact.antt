@@ -23,14 +23,16 @@ use Rattle.linker_section.proofs.Sized.{is_composing, first_composes, instructio
 use Rattle.linker_section.proofs.Stepping.{len_alone}
 use Rattle.linker_section.specs.Fields.{IsField, begins_pair, ends_pair, is_of_pair, Composes, of_number, of_pair, AreApart}
 use Rattle.linker_section.specs.Relocations.{relocation_in, relocation_at}
-use Rattle.linker_section.specs.Sections.{HasValue, IsRowValue, IsNotAccepted, IsPairRejected, IsNumberOfPair, IsCauseAt, IsOfValue, BeginsPair}
+use Rattle.linker_section.proofs.Lengths.{pair_shows}
+use Rattle.linker_section.proofs.Valued.{mark_none}
+use Rattle.linker_section.specs.Sections.{HasValue, IsRowValue, IsValueless, no_value, not_filled, no_stub, IsOtherLength, IsNotAccepted, IsPairRejected, IsNumberOfPair, IsCauseAt, IsOfValue, BeginsPair}
 use Rattle.linker_section.specs.Values.{IsAscending, offset_at, is_auipc, is_high_kind, is_high_part, names_label, IsHighPart, IsHighPartAt, low_value, IsLowValue, IsValueBy, IsValueIn, IsValue}
 use Rattle.linker_section.specs.WrittenFields.{CanBeWritten, IsFirstFault, PairFits}
 use Rattle.linker_section.specs.declared.facts.Addresses.{Addresses}
 use Rattle.linker_section.specs.declared.facts.Symbol.{Symbol}
 use Rattle.linker_section.specs.declared.relocations.Rela.{Rela}
 use Rattle.linker_section.specs.declared.sections.RelocationError.{RelocationError}
-use Rattle.linker_section.specs.declared.sections.RelocationError.TheVariants.{Value, Overlaps, Write, Uleb128}
+use Rattle.linker_section.specs.declared.sections.RelocationError.TheVariants.{Value, Overlaps, OtherLength, Write, Uleb128}
 use Rattle.linker_section.specs.declared.sections.SectionError.{SectionError}
 use Rattle.linker_section.specs.declared.values.ValueError.{ValueError}
 use Rattle.linker_utils.specs.Architectures.{IsRow}
@@ -199,7 +201,7 @@ module _ (architecture : Architecture) (addresses : Addresses) (bytes : List ℕ
 
   found_value : (r : Rela) (found : Option (RelocationKindInfo × ℤ)) → IsRowValue architecture addresses bytes symbols r (Ok found)
       → (x : Option ℤ) × IsValue architecture addresses bytes symbols r (Ok x)
-  found_value r None is = (None, is)
+  found_value r None is = (None, mark_none architecture addresses bytes symbols r is)
   found_value r (Some f) is = (Some (f.1), value_of_has r (f.0) (f.1) is)
 
   none_has : (r : Rela) (row : RelocationKindInfo) (v : ℤ) → IsValue architecture addresses bytes symbols r (Ok None)
@@ -215,7 +217,7 @@ module _ (architecture : Architecture) (addresses : Addresses) (bytes : List ℕ
   found_is : (r : Rela) (found : Option (RelocationKindInfo × ℤ)) (row : RelocationKindInfo) (v : ℤ)
       → IsRowValue architecture addresses bytes symbols r (Ok found)
       → HasValue architecture addresses bytes symbols r row v → found ≡ Some (row, v)
-  found_is r None row v is has = absurd (none_has r row v is has)
+  found_is r None row v is has = absurd (none_has r row v (mark_none architecture addresses bytes symbols r is) has)
   found_is r (Some f) row v is has =
       ap (λ x. Some (x, f.1)) (one_info architecture r.code (f.0) row is.is_row has.is_row)
       ∙ ap (λ x. Some (row, x)) (ap (first_of v) (ap (of_ok None) (one_value r (Ok (Some (f.1))) (Ok (Some v)) (value_of_has r (f.0) (f.1) is) (value_of_has r row v has))))
@@ -224,6 +226,27 @@ module _ (architecture : Architecture) (addresses : Addresses) (bytes : List ℕ
       → IsRowValue architecture addresses bytes symbols r (Ok found) → found ≡ Some (row, v)
       → HasValue architecture addresses bytes symbols r row v
   has_found r found row v is same = subst (λ x. IsRowValue architecture addresses bytes symbols r (Ok x)) same is
+
+  some_none : (r : Rela) (v : ℤ) → IsValue architecture addresses bytes symbols r (Ok (Some v))
+      → IsValue architecture addresses bytes symbols r (Ok None) → ⊥
+  some_none r v some none =
+      subst IsNone (ap (of_ok None) (one_value r (Ok None) (Ok (Some v)) none some)) tt
+    where
+      IsNone : Option ℤ → Type 0
+      IsNone None = Unit
+      IsNone (Some v) = ⊥
+
+  -- what is found has a value or is a mark
+  no_valueless : (r : Rela) (found : Option (RelocationKindInfo × ℤ)) (why : ValueError)
+      → IsRowValue architecture addresses bytes symbols r (Ok found)
+      → IsValueless architecture addresses bytes symbols r why → ⊥
+  no_valueless r found why is (no_value fails) =
+      let one = found_value r found is in
+      true≢false (ap is_ok (one_value r (Ok (one.0)) (Err why) (one.1) fails))
+  no_valueless r None _ is (not_filled none isnt) = true≢false (sym (is.3) ∙ isnt)
+  no_valueless r (Some f) _ is (not_filled none isnt) = some_none r (f.1) (value_of_has r (f.0) (f.1) is) none
+  no_valueless r None _ is (no_stub {v} some lacks) = some_none r v some (mark_none architecture addresses bytes symbols r is)
+  no_valueless r (Some f) _ is (no_stub some lacks) = true≢false (sym lacks ∙ is.keeps_toc)
 
 -- ---- what is accepted isn't rejected
 
@@ -299,10 +322,9 @@ module _ (architecture : Architecture) (addresses : Addresses) (bytes : List ℕ
       has_found architecture addresses bytes symbols section can.apart ascending (relocation_in bytes i) (can.found i) row v (can.are_found i within) is
 
   no_value_error : (i : ℕ) (why : ValueError) → i < length bytes / 24
-      → IsValue architecture addresses bytes symbols (relocation_in bytes i) (Err why) → ⊥
-  no_value_error i why within is =
-      let one = found_value architecture addresses bytes symbols section can.apart ascending (relocation_in bytes i) (can.found i) (can.are_found i within) in
-      true≢false (ap is_ok (one_value architecture addresses bytes symbols section can.apart ascending (relocation_in bytes i) (Ok (one.0)) (Err why) (one.1) is))
+      → IsValueless architecture addresses bytes symbols (relocation_in bytes i) why → ⊥
+  no_value_error i why within valueless =
+      no_valueless architecture addresses bytes symbols section can.apart ascending (relocation_in bytes i) (can.found i) why (can.are_found i within) valueless
 
   -- the second of a pair isn't the first that is rejected
   no_second : (first : ℕ) (fits : PairFits can.found bytes section first) → first + 1 < length bytes / 24
@@ -352,6 +374,17 @@ module _ (architecture : Architecture) (addresses : Addresses) (bytes : List ℕ
             ]
       ]
 
+  no_other_length : (i : ℕ) → i < length bytes / 24
+      → IsOtherLength architecture addresses bytes symbols i section → ⊥
+  no_other_length i within not =
+      let row = not.row in
+      let is = found_at i row not.value within not.has_value in
+      let accepts = can.accepted i row not.value within is in
+      elim (cases_Bool (is_of_pair row)) [
+        | inr alone ↦ true≢false (sym ((accepts.0 alone).length_shown not.inside not.long) ∙ not.other)
+        | inl paired ↦ true≢false (sym (pair_shows row (drop (offset_at bytes i) section) paired) ∙ not.other)
+      ]
+
   no_number : (i : ℕ) (why : Uleb128Error) → i < length bytes / 24
       → IsPairRejected architecture addresses bytes symbols (relocation_in bytes i) (relocation_in bytes (i + 1)) section why → ⊥
   no_number i why within rejected =
@@ -389,6 +422,7 @@ module _ (architecture : Architecture) (addresses : Addresses) (bytes : List ℕ
   no_cause i (Value why) within next cause = no_value_error i why within cause
   no_cause i Overlaps within next cause =
       cause.apart (can.apart cause.earlier i cause.row cause.other cause.order within cause.is_field cause.is_other cause.overlap)
+  no_cause i OtherLength within next cause = no_other_length i within (cause.1)
   no_cause i (Write why) within (inl is) cause = no_write i why within is (cause.1)
   no_cause i (Write why) within (inr is) cause = is.2
   no_cause i (Uleb128 why) within (inl is) cause = no_number i why within (cause.1)

@@ -14,20 +14,21 @@ use Rattle.linker_elf.specs.declared.elf.relocate.RelocateError.{RelocateError}
 use Rattle.linker_elf.specs.declared.elf.relocate.RelocateError.TheVariants.{Unsupported, TooShort, Misaligned, OutOfReach}
 use Rattle.linker_section.proofs.All.{untouched, pair_first, same_uleb}
 use Rattle.linker_section.proofs.Composing.{begun_has_value}
-use Rattle.linker_section.proofs.Fielded.{found_of, uses, found_are, are_accepted, same_at}
+use Rattle.linker_section.proofs.Fielded.{found_of, uses, found_are, are_accepted, front_at, same_at}
 use Rattle.linker_section.proofs.Fronts.{HaveSameWindow, multiple_same, reached_same}
 use Rattle.linker_section.proofs.Held.{field_untouched}
+use Rattle.linker_section.proofs.Lengths.{length_same, shows_same}
 use Rattle.linker_section.proofs.Stepping.{len_paired}
 use Rattle.linker_section.proofs.Ulebs.{some_uleb, uleb_len_is, uleb_same, pair_number_from}
 use Rattle.linker_section.specs.Fields.{IsField, field_len, begins_pair, ends_pair, uleb_len, AreApart}
 use Rattle.linker_section.specs.Relocations.{relocation_in}
-use Rattle.linker_section.specs.Sections.{AreRelocated, IsRejected, IsPairRejected, IsNotAccepted, IsCauseAt, BeginsPair, IsOfValue, IsFirstRejected}
+use Rattle.linker_section.specs.Sections.{AreRelocated, IsRejected, IsPairRejected, IsNotAccepted, IsOtherLength, IsCauseAt, BeginsPair, IsOfValue, IsFirstRejected}
 use Rattle.linker_section.specs.Values.{offset_at}
 use Rattle.linker_section.specs.WrittenFields.{IsFirstFault}
 use Rattle.linker_section.specs.declared.facts.Addresses.{Addresses}
 use Rattle.linker_section.specs.declared.facts.Symbol.{Symbol}
 use Rattle.linker_section.specs.declared.sections.RelocationError.{RelocationError}
-use Rattle.linker_section.specs.declared.sections.RelocationError.TheVariants.{Value, Overlaps, Write, Uleb128}
+use Rattle.linker_section.specs.declared.sections.RelocationError.TheVariants.{Value, Overlaps, OtherLength, Write, Uleb128}
 use Rattle.linker_section.specs.declared.sections.SectionError.{SectionError}
 use Rattle.linker_utils.specs.declared.elf.Architecture.{Architecture}
 
@@ -139,10 +140,34 @@ module _ (architecture : Architecture) (addresses : Addresses) (bytes : List ℕ
         row = row;
         value = not.value;
         has_value = not.has_value;
+        length_shown = length_same row (offset_at bytes n) now before
+            (front_at architecture addresses bytes symbols before (n + 1) apart (found_of relocated) row not.value row.size refl (omega arith) relocated not.has_value)
+            (so_far.0) not.length_shown;
         rejected = rejected_same row not.value (offset_at bytes n) now before error
             (same_at architecture addresses bytes symbols before (n + 1) apart (found_of relocated) row not.value row.size refl (omega arith) relocated not.has_value)
             (so_far.0) not.rejected;
         alone = not.alone;
+      }
+
+  length_cause : (n : ℕ) → AreRelocated architecture addresses bytes symbols before n now
+      → AreApart architecture bytes before (n + 1)
+      → IsOtherLength architecture addresses bytes symbols n now
+      → IsOtherLength architecture addresses bytes symbols n before
+  length_cause n relocated apart other =
+      let so_far = untouched architecture addresses bytes before symbols (λ i j x y less under. apart i j x y less (omega (arith, under))) relocated in
+      let row = other.row in
+      let o = offset_at bytes n in
+      let d = length-drop o before in let dn = length-drop o now in let len = so_far.0 in
+      let inside = other.inside in let long = other.long in
+      record {
+        row = row;
+        value = other.value;
+        has_value = other.has_value;
+        inside = omega (arith, inside, len);
+        long = omega (arith, long, d, dn, len);
+        other = sym (shows_same row.size (drop o now) (drop o before)
+            (front_at architecture addresses bytes symbols before (n + 1) apart (found_of relocated) row other.value row.size refl (omega arith) relocated other.has_value))
+            ∙ other.other;
       }
 
   number_cause : (n : ℕ) (error : Uleb128Error)
@@ -206,6 +231,11 @@ module _ (architecture : Architecture) (addresses : Addresses) (bytes : List ℕ
       → IsCauseAt architecture addresses bytes symbols before i before error
   by_before written i (Value error) next relocated cause = cause
   by_before written i Overlaps next relocated cause = cause
+  by_before written i OtherLength (inl is) relocated cause = (
+    cause.0,
+    length_cause i (subst (λ n. AreRelocated architecture addresses bytes symbols before n now) (sym is) relocated) (cause.0) (cause.1),
+  )
+  by_before written i OtherLength (inr is) relocated cause = absurd (is.2)
   by_before written i (Write error) (inl is) relocated cause = (
     cause.0,
     write_cause i error (subst (λ n. AreRelocated architecture addresses bytes symbols before n now) (sym is) relocated) (cause.0) (cause.1),

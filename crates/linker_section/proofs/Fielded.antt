@@ -12,6 +12,7 @@ use Rattle.linker_section.proofs.All.{AreUntouched, IsFirstAt, pair_place, pair_
 use Rattle.linker_section.proofs.Composing.{begun_has_value, begun_ends_none, first_is_none, second_is_none}
 use Rattle.linker_section.proofs.Fronts.{HaveSameWindow, same_window, accepted_same, some_window}
 use Rattle.linker_section.proofs.Held.{IsMet, is_ahead, is_behind, is_same, is_later, is_earlier, meet, field_untouched, IsJoined, is_kept, is_own, is_joined, step, pair_kept}
+use Rattle.linker_section.proofs.Lengths.{IsSameFront, length_same}
 use Rattle.linker_section.proofs.Local.{small_bytes, takes}
 use Rattle.linker_section.proofs.Numbers.{is_word6, holds_first, holds_next, number_small}
 use Rattle.linker_section.proofs.Rows.{one_info}
@@ -557,6 +558,24 @@ module _ (architecture : Architecture) (addresses : Addresses) (bytes : List ℕ
 
   -- ---- values that are accepted
 
+  pub front_at : {n : ℕ} {middle : List ℕ} (other : RelocationKindInfo) (v : ℤ) (size : RelocationSize)
+      → other.size ≡ size → n + 1 ≤ total
+      → AreRelocated architecture addresses bytes symbols before n middle
+      → HasValue architecture addresses bytes symbols (relocation_in bytes n) other v
+      → IsSameFront size (drop (offset_at bytes n) middle) (drop (offset_at bytes n) before)
+  front_at other v (ByteSize k) is most relocated has = tt
+  front_at {n} {middle} other v (BitMasking bits insn) is most relocated has =
+      let p = offset_at bytes n in
+      let alone : is_of_pair other ≡ false = ap (λ x. begins_pair x other.kind || ends_pair x other.kind) is in
+      let some = some_value architecture addresses bytes symbols (relocation_in bytes n) other v has in
+      let len : field_len other (drop p before) ≡ size_len (BitMasking bits insn) = len_alone other (drop p before) some alone ∙ ap size_len is in
+      let width = some_window insn in
+      let is_field : IsField architecture bytes before n other = record { is_row = has.is_row; some = subst (λ k. 0 < k) (sym len) width } in
+      subst (λ k. take k (drop p middle) ≡ take k (drop p before)) len
+      (field_untouched architecture bytes before n other middle (untouched_at (omega (arith, most)) relocated)
+      (alone_first architecture bytes before n other (fewer_apart n (n + 1) most) is_field
+      (instruction_alone architecture _ other bits insn has.is_row is, alone)))
+
   pub same_at : {n : ℕ} {middle : List ℕ} (other : RelocationKindInfo) (v : ℤ) (size : RelocationSize)
       → other.size ≡ size → n + 1 ≤ total
       → AreRelocated architecture addresses bytes symbols before n middle
@@ -564,17 +583,8 @@ module _ (architecture : Architecture) (addresses : Addresses) (bytes : List ℕ
       → HaveSameWindow size (drop (offset_at bytes n) middle) (drop (offset_at bytes n) before)
   same_at other v (ByteSize k) is most relocated has = tt
   same_at {n} {middle} other v (BitMasking bits insn) is most relocated has =
-      let p = offset_at bytes n in
-      let alone : is_of_pair other ≡ false = ap (λ x. begins_pair x other.kind || ends_pair x other.kind) is in
-      let some = some_value architecture addresses bytes symbols (relocation_in bytes n) other v has in
-      let len : field_len other (drop p before) ≡ size_len (BitMasking bits insn) = len_alone other (drop p before) some alone ∙ ap size_len is in
-      let width = some_window insn in
-      let is_field : IsField architecture bytes before n other = record { is_row = has.is_row; some = subst (λ k. 0 < k) (sym len) width } in
-      same_window (BitMasking bits insn) (drop p middle) (drop p before)
-      (subst (λ k. take k (drop p middle) ≡ take k (drop p before)) len
-      (field_untouched architecture bytes before n other middle (untouched_at (omega (arith, most)) relocated)
-      (alone_first architecture bytes before n other (fewer_apart n (n + 1) most) is_field
-      (instruction_alone architecture _ other bits insn has.is_row is, alone))))
+      same_window (BitMasking bits insn) (drop (offset_at bytes n) middle) (drop (offset_at bytes n) before)
+      (front_at other v (BitMasking bits insn) is most relocated has)
 
   accepted_more : (n m i : ℕ) (row : RelocationKindInfo) {v : ℤ} → n ≤ m
       → (is_of_pair row ≡ false → IsAcceptedAt row v (offset_at bytes i) before)
@@ -604,6 +614,8 @@ module _ (architecture : Architecture) (addresses : Addresses) (bytes : List ℕ
             let here : IsAcceptedAt other w p before =
             record {
               inside = omega (arith, inside, len);
+              length_shown = length_same other p middle before
+                  (front_at other w other.size refl (omega (arith, most)) relocated has) len written.length_shown;
               accepted = accepted_same other w (drop p middle) (drop p before)
                   (same_at other w other.size refl (omega (arith, most)) relocated has) (omega (arith, long, d, dm, len)) written.written.accepted;
             } in (

@@ -7,6 +7,7 @@ pub mod Faults
 pub mod Fielded
 pub mod Fronts
 pub mod Held
+pub mod Lengths
 pub mod Local
 pub mod Numbers
 pub mod QuickValues

@@ -7,6 +7,7 @@ use Rattle.linker_elf.specs.Value.{difference_64, value_of}
 use Rattle.linker_elf.specs.declared.elf.RelocationKind.TheVariants as kinds
 use Rattle.linker_elf.specs.declared.elf.RelocationKindInfo.{RelocationKindInfo}
 use Rattle.linker_elf.specs.declared.elf.value.Operands.{Operands}
+use Rattle.linker_section.specs.Conditions.{lacks_stub}
 use Rattle.linker_section.specs.Fields.{is_of_pair}
 use Rattle.linker_section.specs.Inner.Codes.{When, SaysWay, is_plain, is_high, is_low, is_quick}
 use Rattle.linker_section.specs.Inner.Quick.{IsPlainValue, IsQuickValue, IsHighValue, HasHighValue}
@@ -37,9 +38,10 @@ plain_some architecture addresses symbols row r operands (Some v) found is =
 pub plain_quick : (architecture : Architecture) (addresses : Addresses) (bytes : List ℕ)
     (symbols : List Symbol) (r : Rela) (row : RelocationKindInfo) (number : ℕ) (v : ℤ)
     → IsRow architecture r.code (Some row) → SaysWay architecture r.code number row
-    → is_plain number ≡ true → IsPlainValue architecture addresses symbols row r v
+    → is_plain number ≡ true → lacks_stub architecture symbols r ≡ false
+    → IsPlainValue architecture addresses symbols row r v
     → IsQuickValue architecture addresses bytes symbols r row v
-plain_quick architecture addresses bytes symbols r row number v is_row way plain value =
+plain_quick architecture addresses bytes symbols r row number v is_row way plain keeps value =
     let quick : is_quick number ≡ true = or_left (is_plain number) (is_low number) plain in
     let valued = when_true (is_quick number) (has_value row.kind) true way.has_value quick in
     let label = when_true (is_plain number) (names_label row.size row.kind) false way.unlabelled plain in
@@ -49,6 +51,7 @@ plain_quick architecture addresses bytes symbols r row number v is_row way plain
       has = record {
         is_row = is_row;
         is_value = subst (λ b. IsValueBy b architecture addresses bytes symbols row r (Ok (Some v))) (sym label) own;
+        keeps_toc = keeps;
       };
       valued = valued;
       single = when_true (is_quick number) (is_of_pair row) false way.single quick;
@@ -61,10 +64,10 @@ pub low_quick : (architecture : Architecture) (addresses : Addresses) (bytes : L
     (symbols : List Symbol) (r : Rela) (row : RelocationKindInfo) (number : ℕ) (v : ℤ)
     (high : Option HighPart) → IsRow architecture r.code (Some row)
     → SaysWay architecture r.code number row → is_low number ≡ true
-    → IfSome high (IsHighValue architecture addresses bytes symbols)
+    → lacks_stub architecture symbols r ≡ false → IfSome high (IsHighValue architecture addresses bytes symbols)
     → HasHighValue addresses symbols r high v
     → IsQuickValue architecture addresses bytes symbols r row v
-low_quick architecture addresses bytes symbols r row number v high is_row way low highs value =
+low_quick architecture addresses bytes symbols r row number v high is_row way low keeps highs value =
     let quick : is_quick number ≡ true = or_right (is_plain number) (is_low number) low in
     let part = subst (λ x. IfSome x (IsHighValue architecture addresses bytes symbols)) value.is_part highs in
     let kind = when_true (is_low number) row.kind kinds.RelativeRiscVLow12 way.labelled low in
@@ -83,6 +86,7 @@ low_quick architecture addresses bytes symbols r row number v high is_row way lo
         is_row = is_row;
         is_value = subst (λ b. IsValueBy b architecture addresses bytes symbols row r (Ok (Some v))) (sym label)
             (subst (λ l. IsLowValue architecture addresses bytes symbols row l (Ok (Some v))) (sym value.is_label) (found, at, is));
+        keeps_toc = keeps;
       };
       valued = when_true (is_quick number) (has_value row.kind) true way.has_value quick;
       single = when_true (is_quick number) (is_of_pair row) false way.single quick;

@@ -8,7 +8,7 @@ use Rattle.linker_elf.specs.declared.elf.RelocationKindInfo.{RelocationKindInfo}
 use Rattle.linker_elf.specs.declared.elf.RelocationSize.{RelocationSize}
 use Rattle.linker_elf.specs.declared.elf.value.Operands.{Operands}
 use Rattle.linker_section.proofs.Rows.{one_row}
-use Rattle.linker_section.specs.Sections.{HasValue}
+use Rattle.linker_section.specs.Sections.{HasValue, IsMark}
 use Rattle.linker_section.specs.Values.{has_value, names_label, own_value, value_by, low_by, low_value, operands_of, IsValueBy, IsLowValue, IsValueIn, IsValue}
 use Rattle.linker_section.specs.declared.facts.Addresses.{Addresses}
 use Rattle.linker_section.specs.declared.facts.Symbol.{Symbol}
@@ -115,6 +115,12 @@ in_none : (architecture : Architecture) (addresses : Addresses) (bytes : List �
 in_none architecture addresses bytes symbols r row other same is =
     by_label_none (names_label other.size other.kind) architecture addresses bytes symbols other r
     (subst (λ x. IsValueIn architecture addresses bytes symbols r x (Ok None)) same is)
+
+-- what a mark says of the value
+pub mark_none : (architecture : Architecture) (addresses : Addresses) (bytes : List ℕ)
+    (symbols : List Symbol) (r : Rela) → IsMark architecture addresses bytes symbols r
+    → IsValue architecture addresses bytes symbols r (Ok None)
+mark_none architecture addresses bytes symbols r is = (is.0, is.1, is.2)
 
 -- a relocation without a value is of a kind without one
 pub no_value : (architecture : Architecture) (addresses : Addresses) (bytes : List ℕ)

@@ -5,17 +5,18 @@ use Rattle.std.specs.Prelude.{Result, Ok, Err, OnOk, IfErr}
 use Rattle.linker_elf.specs.Relocate.{WritesRow, RejectsValue}
 use Rattle.linker_elf.specs.declared.elf.RelocationKindInfo.{RelocationKindInfo}
 use Rattle.linker_elf.specs.declared.elf.relocate.RelocateError.{RelocateError}
+use Rattle.linker_section.specs.Conditions.{HasLength}
 use Rattle.linker_section.specs.Sections.{IsWrittenAt}
 
 pub written_at : (row : RelocationKindInfo) (v : ℤ) (offset : ℕ) (before after rest : List ℕ)
-    (result : Result Unit RelocateError) → offset ≤ length before
+    (result : Result Unit RelocateError) → offset ≤ length before → HasLength row offset before
     → after ≡ take offset before ++ rest → length after ≡ length before
     → OnOk result (WritesRow row v (drop offset before) rest)
     → IfErr result (RejectsValue row v (drop offset before) rest)
     → IsWrittenAt row v offset before after result
-written_at row v offset before after rest (Ok u) inside around len ok err =
-    record { inside = inside; rest = rest; around = around; same_length = len; written = ok }
-written_at row v offset before after rest (Err error) inside around len ok err = (
+written_at row v offset before after rest (Ok u) inside shown around len ok err =
+    record { inside = inside; rest = rest; around = around; same_length = len; length_shown = shown; written = ok }
+written_at row v offset before after rest (Err error) inside shown around len ok err = (
   record {
     outside = λ past. absurd (omega arith);
     inside = λ _. err.0;

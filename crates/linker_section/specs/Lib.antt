@@ -1,3 +1,4 @@
+pub mod Conditions
 pub mod Fields
 pub mod Inner
 pub mod Needed

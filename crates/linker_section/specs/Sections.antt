@@ -1,11 +1,11 @@
 -- The values of a section's relocations, written.
-use Rattle.std.specs.Prelude.{◌≡◌, ◌⊎◌, ℕ, ◌+◌, ◌/◌, ◌<◌, ◌≤◌, true, ℤ, List}
+use Rattle.std.specs.Prelude.{◌≡◌, ◌⊎◌, ℕ, ◌+◌, ◌/◌, ◌<◌, ◌≤◌, true, false, ℤ, List}
 use Rattle.std.specs.Prelude.{◌++◌, length, take, drop, slice_index, Option, Some, None, Result}
 use Rattle.std.specs.Prelude.{Ok, Err, ⊤}
 use Rattle.std.specs.Int.{w64, cast_unsigned}
 use Rattle.linker_base.specs.Uleb.{IsUlebWritten, IsUlebCause}
 use Rattle.linker_base.specs.declared.utils.Uleb128Error.{Uleb128Error}
-use Rattle.linker_elf.specs.Relocate.{WritesRow, IsCause}
+use Rattle.linker_elf.specs.Relocate.{WritesRow, IsCause, window_len}
 use Rattle.linker_elf.specs.declared.elf.RelocationKind.{RelocationKind}
 use Rattle.linker_elf.specs.declared.elf.RelocationKind.TheVariants.{PairSubtractionULEB128LoongArch}
 use Rattle.linker_elf.specs.declared.elf.RelocationKindInfo.{RelocationKindInfo}
@@ -13,6 +13,7 @@ use Rattle.linker_elf.specs.declared.elf.Uleb128Role.{Uleb128Role}
 use Rattle.linker_elf.specs.declared.elf.Uleb128Role.TheVariants.{Sets, Adds}
 use Rattle.linker_elf.specs.declared.elf.relocate.RelocateError.{RelocateError}
 use Rattle.linker_elf.specs.declared.elf.relocate.RelocateError.TheVariants.{TooShort}
+use Rattle.linker_section.specs.Conditions.{HasLength, is_filled, lacks_stub, shows_length}
 use Rattle.linker_section.specs.Fields.{begins_pair, ends_pair, field_end, IsField}
 use Rattle.linker_section.specs.Fields.{AreApart, IsOverlapped}
 use Rattle.linker_section.specs.Relocations.{relocation_in}
@@ -23,8 +24,10 @@ use Rattle.linker_section.specs.declared.relocations.Rela.{Rela}
 use Rattle.linker_section.specs.declared.sections.RelocationError.{RelocationError}
 use Rattle.linker_section.specs.declared.sections.RelocationError.TheVariants.{Value, Overlaps}
 use Rattle.linker_section.specs.declared.sections.RelocationError.TheVariants.{Write, Uleb128}
+use Rattle.linker_section.specs.declared.sections.RelocationError.TheVariants.{OtherLength}
 use Rattle.linker_section.specs.declared.sections.SectionError.{SectionError}
 use Rattle.linker_section.specs.declared.values.ValueError.{ValueError}
+use Rattle.linker_section.specs.declared.values.ValueError.TheVariants.{NotAligned, NeedsStub}
 use Rattle.linker_utils.specs.Architectures.{IsRow}
 use Rattle.linker_utils.specs.Uleb128.{IsPairNumber}
 use Rattle.linker_utils.specs.declared.elf.Architecture.{Architecture}
@@ -39,6 +42,7 @@ pub record IsWritten (row : RelocationKindInfo) (v : ℤ) (offset : ℕ) (before
   pub rest : List ℕ
   pub around : after ≡ take offset before ++ rest
   pub same_length : length after ≡ length before
+  pub length_shown : HasLength row offset before
   pub written : WritesRow row v (drop offset before) rest
 
 -- the row rejects the value there, or the offset is past the end
@@ -60,6 +64,27 @@ pub record HasValue (architecture : Architecture) (addresses : Addresses) (bytes
     (symbols : List Symbol) (r : Rela) (row : RelocationKindInfo) (v : ℤ) : Type 0 where
   pub is_row : IsRow architecture r.code (Some row)
   pub is_value : IsValueIn architecture addresses bytes symbols r (Some row) (Ok (Some v))
+  pub keeps_toc : lacks_stub architecture symbols r ≡ false
+
+-- A relocation has no value of its own, and if it is an alignment, it holds.
+abbrev pub IsMark : Architecture → Addresses → List ℕ → List Symbol → Rela → Type 0
+IsMark architecture addresses bytes symbols r =
+    (row : Option RelocationKindInfo) × IsRow architecture r.code row
+    × IsValueIn architecture addresses bytes symbols r row (Ok None)
+    × (is_filled architecture addresses r ≡ true)
+
+-- There is no value to write: the relocation has none, an alignment doesn't hold, or a call may
+-- lose its TOC pointer.
+pub data IsValueless (architecture : Architecture) (addresses : Addresses) (bytes : List ℕ)
+    (symbols : List Symbol) (r : Rela) : ValueError → Type 0 where
+  no_value : {error : ValueError} → IsValue architecture addresses bytes symbols r (Err error)
+      → IsValueless architecture addresses bytes symbols r error
+  not_filled : IsValue architecture addresses bytes symbols r (Ok None)
+      → is_filled architecture addresses r ≡ false
+      → IsValueless architecture addresses bytes symbols r NotAligned
+  no_stub : {v : ℤ} → IsValue architecture addresses bytes symbols r (Ok (Some v))
+      → lacks_stub architecture symbols r ≡ true
+      → IsValueless architecture addresses bytes symbols r NeedsStub
 
 -- its row and value, or none of a relocation without a value, or why there is none
 abbrev pub IsRowValue : Architecture → Addresses → List ℕ → List Symbol → Rela
@@ -67,9 +92,9 @@ abbrev pub IsRowValue : Architecture → Addresses → List ℕ → List Symbol 
 IsRowValue architecture addresses bytes symbols r (Ok (Some found)) =
     HasValue architecture addresses bytes symbols r (found.0) (found.1)
 IsRowValue architecture addresses bytes symbols r (Ok None) =
-    IsValue architecture addresses bytes symbols r (Ok None)
+    IsMark architecture addresses bytes symbols r
 IsRowValue architecture addresses bytes symbols r (Err error) =
-    IsValue architecture addresses bytes symbols r (Err error)
+    IsValueless architecture addresses bytes symbols r error
 
 -- ---- a pair at a ULEB128 number
 
@@ -145,7 +170,7 @@ pub data AreRelocated (architecture : Architecture) (addresses : Addresses) (byt
   none : AreRelocated architecture addresses bytes symbols before 0 before
   mark : {n : ℕ} {middle : List ℕ}
       → AreRelocated architecture addresses bytes symbols before n middle
-      → IsValue architecture addresses bytes symbols (relocation_in bytes n) (Ok None)
+      → IsMark architecture addresses bytes symbols (relocation_in bytes n)
       → AreRelocated architecture addresses bytes symbols before (n + 1) middle
   one : {n : ℕ} {middle after : List ℕ} {row : RelocationKindInfo} {v : ℤ}
       → AreRelocated architecture addresses bytes symbols before n middle
@@ -184,16 +209,31 @@ pub record IsNotAccepted (architecture : Architecture) (addresses : Addresses) (
   pub row : RelocationKindInfo
   pub value : ℤ
   pub has_value : HasValue architecture addresses bytes symbols (relocation_in bytes i) row value
+  pub length_shown : HasLength row (offset_at bytes i) now
   pub rejected : IsRejected row value (offset_at bytes i) now error
   pub alone : ¬ BeginsPair architecture bytes i
 
--- The value is tested first, then the field, and then the bytes there.
+-- the instruction there is shorter or longer than its form
+pub record IsOtherLength (architecture : Architecture) (addresses : Addresses) (bytes : List ℕ)
+    (symbols : List Symbol) (i : ℕ) (now : List ℕ) : Type 0 where
+  pub row : RelocationKindInfo
+  pub value : ℤ
+  pub has_value : HasValue architecture addresses bytes symbols (relocation_in bytes i) row value
+  pub inside : offset_at bytes i ≤ length now
+  pub long : window_len row ≤ length (drop (offset_at bytes i) now)
+  pub other : shows_length row.size (drop (offset_at bytes i) now) ≡ false
+
+-- The value is tested first, then the field, and then the bytes there: first the length of the
+-- instruction.
 abbrev pub IsCauseAt : Architecture → Addresses → List ℕ → List Symbol → List ℕ → ℕ → List ℕ
     → RelocationError → Type 0
 IsCauseAt architecture addresses bytes symbols before i now (Value error) =
-    IsValue architecture addresses bytes symbols (relocation_in bytes i) (Err error)
+    IsValueless architecture addresses bytes symbols (relocation_in bytes i) error
 IsCauseAt architecture addresses bytes symbols before i now Overlaps =
     IsOverlapped architecture bytes before i
+IsCauseAt architecture addresses bytes symbols before i now OtherLength =
+    AreApart architecture bytes before (i + 1)
+    × IsOtherLength architecture addresses bytes symbols i now
 IsCauseAt architecture addresses bytes symbols before i now (Write error) =
     AreApart architecture bytes before (i + 1)
     × IsNotAccepted architecture addresses bytes symbols i now error

@@ -8,6 +8,7 @@ ghost use Rattle.linker_section.specs.Inner.Steps.{IsStopped, Reached, AreWritte
 ghost use Rattle.linker_section.specs.Relocations.{relocation_in};
 ghost use Rattle.linker_section.specs.declared.fields.Field.{Field};
 
+use crate::conditions::has_length;
 use crate::facts::{Addresses, Symbol};
 use crate::fields::Field;
 use crate::known::{KnownCode, learn, no_codes, place_of};
@@ -76,6 +77,9 @@ fn write_quickly(
     let Some(word) = whole_word_at(section, offset) else {
         return None;
     };
+    if !has_length(row, offset, section) {
+        return None;
+    }
     memory[index] = word;
     if write_at(row, value, offset, section).is_err() {
         return None;

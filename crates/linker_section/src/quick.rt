@@ -15,6 +15,7 @@ ghost use Rattle.linker_section.specs.Values.{offset_at, operands_with, target_o
 ghost use Rattle.linker_utils.specs.Architectures.{IsRow};
 
 use crate::codes::{HIGH, LOW, NO_ENTRY, PLAIN, way_of};
+use crate::conditions::lacks_stub;
 use crate::facts::{Addresses, Symbol};
 use crate::needed::entry_by;
 use crate::relocations::Rela;
@@ -223,6 +224,9 @@ pub(crate) fn quick_value(
     ensures { IfSome result (IsQuickValue architecture addresses.now _relocations.now symbols.now
         relocation.now row.now) }
 {
+    if lacks_stub(architecture, symbols, relocation) {
+        return None;
+    }
     let way = way_of(number);
     if way == PLAIN || (way == HIGH && matches!(architecture, Architecture::RiscV)) {
         plain_value(architecture, addresses, symbols, number, row, relocation)

@@ -3,6 +3,7 @@
 ghost use Rattle.std.specs.Prelude.{◌≡◌, ◌≤◌, ◌<◌, ◌+◌, ◌/◌, ℕ, List, length, drop, IfErr, IfSome};
 ghost use Rattle.std.specs.Prelude.{IfNone, OnOk, IsOk, take, true, ◌↔◌, Some, None};
 ghost use Rattle.linker_base.specs.Uleb.{Uleb};
+ghost use Rattle.linker_section.specs.Conditions.{HasLength};
 ghost use Rattle.linker_section.specs.Fields.{uleb_len, begins_pair};
 ghost use Rattle.linker_section.specs.Relocations.{relocation_in};
 ghost use Rattle.linker_section.specs.Sections.{IsWrittenAt, IsRowValue, IsNumberOfPair};
@@ -19,6 +20,7 @@ ghost use Rattle.linker_elf.specs.declared.elf.RelocationKindInfo.{RelocationKin
 
 use crate::ascending::write_ascending_of;
 use crate::codes::number_of;
+use crate::conditions::{has_length, is_filled, lacks_stub};
 use crate::facts::{Addresses, Symbol};
 use crate::fields::{Field, begins_pair, ends_pair, is_of_pair, uleb_len};
 use crate::order::first_overlap;
@@ -35,6 +37,9 @@ pub enum RelocationError {
     Value(ValueError),
     /// Its field has a byte of that of an earlier relocation, with which it doesn't compose.
     Overlaps,
+    /// The instruction there is shorter or longer than its form: one of RISC-V, or one of PowerPC64
+    /// without a prefix at a relocation of 34 bits.
+    OtherLength,
     /// Its value can't be written, as `Row::write` says. An offset past the section's end is
     /// `TooShort`. A relocation of a ULEB128 number is `Unsupported` where it isn't of a pair.
     Write(RelocateError),
@@ -59,6 +64,7 @@ pub(crate) fn write_at(
     offset: u64,
     section: &mut [u8],
 ) -> Result<(), RelocateError>
+    requires { HasLength row.now offset section.old }
     ensures { IsWrittenAt row.now value offset section.old section.new result }
 {
     if (section.len() as u64) < offset {
@@ -92,8 +98,20 @@ fn row_value(
         &info,
         relocation,
     ) {
-        Ok(Some(value)) => Ok(Some((row, value))),
-        Ok(None) => Ok(None),
+        Ok(Some(value)) => {
+            if lacks_stub(architecture, symbols, relocation) {
+                Err(ValueError::NeedsStub)
+            } else {
+                Ok(Some((row, value)))
+            }
+        }
+        Ok(None) => {
+            if is_filled(architecture, addresses, relocation) {
+                Ok(None)
+            } else {
+                Err(ValueError::NotAligned)
+            }
+        }
         Err(error) => Err(error),
     }
 }
@@ -354,6 +372,10 @@ pub(crate) fn write_one(
         let index = index + 2;
         return Ok(Step { index, last });
     }
+    if !has_length(&row, relocation.offset, section) {
+        let error = RelocationError::OtherLength;
+        return Err(SectionError { index, error });
+    }
     if let Err(error) = write_at(&row, value, relocation.offset, section) {
         let error = RelocationError::Write(error);
         return Err(SectionError { index, error });
@@ -528,15 +550,17 @@ pub fn memory_len(relocations: &[u8]) -> usize
 ///   of 24 bits; and `R_RISCV_SET6`, `R_RISCV_SUB6`, `R_LARCH_ADD6` and `R_LARCH_SUB6`), or
 /// - to be a pair at a ULEB128 number, next to each other.
 ///
-/// A relocation without a value, as `R_RISCV_RELAX`, has no field. n relocations that ascend by
+/// A relocation without a value, as `R_RISCV_RELAX`, has no field. Where code would be wrong with its
+/// value, it isn't written (`NotAligned`, `NeedsStub`, `OtherLength`). A linker that removes the
+/// nops of an alignment itself sets the relocation's code to 0. n relocations that ascend by
 /// offset take time in proportion to n. In any other order their indexes are sorted in `memory`
 /// first, and the time is in proportion to n log n.
 ///
 /// # Errors
 ///
 /// Nothing is written, and the error has the least index of a relocation that has no value, whose
-/// field overlaps that of an earlier one with which it doesn't compose, or whose value can't be
-/// written, and the first of these that applies.
+/// field overlaps that of an earlier one with which it doesn't compose, whose instruction has
+/// another length, or whose value can't be written, and the first of these that applies.
 ///
 /// ```
 /// use linker_section::facts::{Addresses, Symbol};

@@ -16,6 +16,7 @@ use Rattle.linker_section.specs.declared.relocations.Rela.{Rela}
 use Rattle.linker_section.specs.declared.sections.RelocationError.{RelocationError}
 use Rattle.linker_section.specs.declared.sections.RelocationError.TheVariants.{Value, Write}
 use Rattle.linker_section.specs.declared.sections.RelocationError.TheVariants.{Overlaps, Uleb128}
+use Rattle.linker_section.specs.declared.sections.RelocationError.TheVariants.{OtherLength}
 use Rattle.linker_section.specs.declared.sections.SectionError.{SectionError}
 use Rattle.linker_section.specs.declared.values.ValueError.{ValueError}
 use Rattle.linker_section.specs.declared.values.ValueError.TheVariants as value_errors
@@ -75,6 +76,8 @@ value_status value_errors.UnknownType = UnknownRelocation
 value_status value_errors.NoSymbol = NoSymbol
 value_status value_errors.NoEntry = NoEntry
 value_status value_errors.NoHighPart = NoHighPart
+value_status value_errors.NotAligned = statuses.NotAligned
+value_status value_errors.NeedsStub = statuses.NeedsStub
 
 abbrev pub IsValueReturned : Result (Option ℤ) ValueError → ℕ → ℤ → ℤ → Type 0
 IsValueReturned (Ok (Some v)) status old new = (status ≡ code Success) × (new ≡ v)
@@ -96,6 +99,7 @@ IsValueAt architecture addresses bytes symbols (Some r) status old new =
 abbrev pub relocation_status : RelocationError → Status
 relocation_status (Value error) = value_status error
 relocation_status Overlaps = statuses.Overlaps
+relocation_status OtherLength = statuses.OtherLength
 relocation_status (Write error) = write_status (Err error)
 relocation_status (Uleb128 error) = uleb_status (Err error)
 

@@ -48,6 +48,8 @@ use Rattle.linker_utils_c.specs.declared.status.Status.TheVariants.{NotABranch, 
 use Rattle.linker_utils_c.specs.declared.status.Status.TheVariants.{StubWithoutLength, NoTarget}
 use Rattle.linker_utils_c.specs.declared.status.Status.TheVariants.{CodeTooLong, NoBoundary}
 use Rattle.linker_utils_c.specs.declared.status.Status.TheVariants.{StubTooFar, FactsChanged}
+use Rattle.linker_utils_c.specs.declared.status.Status.TheVariants.{NotAligned, NeedsStub}
+use Rattle.linker_utils_c.specs.declared.status.Status.TheVariants.{OtherLength}
 
 abbrev pub code : Status → ℕ
 code Success = 0
@@ -128,6 +130,9 @@ code CodeTooLong = 76
 code NoBoundary = 77
 code StubTooFar = 78
 code FactsChanged = 79
+code NotAligned = 80
+code NeedsStub = 81
+code OtherLength = 82
 
 -- the status is one of these
 abbrev pub IsOneOf : List Status → ℕ → Type 0

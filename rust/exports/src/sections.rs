@@ -89,6 +89,8 @@ pub(crate) fn value_status_of(error: ValueError) -> Status {
         ValueError::NoSymbol => Status::NoSymbol,
         ValueError::NoEntry => Status::NoEntry,
         ValueError::NoHighPart => Status::NoHighPart,
+        ValueError::NotAligned => Status::NotAligned,
+        ValueError::NeedsStub => Status::NeedsStub,
     }
 }
 
@@ -130,6 +132,7 @@ pub(crate) fn status_of_error(error: RelocationError) -> u32 {
     match error {
         RelocationError::Value(error) => value_status_of(error).number(),
         RelocationError::Overlaps => Status::Overlaps.number(),
+        RelocationError::OtherLength => Status::OtherLength.number(),
         RelocationError::Write(error) => status_of(Err(error)),
         RelocationError::Uleb128(error) => uleb_status_of(Err(error)),
     }

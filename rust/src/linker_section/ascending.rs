@@ -1,6 +1,7 @@
 // Made by tools/erase of crates/linker_section/src/ascending.rt.
 //! The values of relocations that ascend by offset, written.
 
+use crate::linker_section::conditions::has_length;
 use crate::linker_section::facts::{Addresses, Symbol};
 use crate::linker_section::fields::Field;
 use crate::linker_section::known::{KnownCode, learn, no_codes, place_of};
@@ -53,6 +54,9 @@ fn write_quickly(
     let Some(word) = whole_word_at(section, offset) else {
         return None;
     };
+    if !has_length(row, offset, section) {
+        return None;
+    }
     memory[index] = word;
     if write_at(row, value, offset, section).is_err() {
         return None;

@@ -46,10 +46,11 @@ pub struct Addresses {
     /// What offsets from the GOT count from, as `Operands::got_base` says.
     pub got_base: u64,
     /// Where the thread pointer points to, as an address in the TLS segment's image: what offsets
-    /// from the thread pointer count from. On PowerPC64 the image's address plus 0x7000.
+    /// from the thread pointer count from. It goes by the segment's alignment, as
+    /// `linker_utils::output::Target::origins` says.
     pub thread_origin: u64,
-    /// What offsets in the module's TLS block count from: the image's address; plus 0x8000 on
-    /// PowerPC64, and plus 0x800 on RISC-V.
+    /// What offsets in the module's TLS block count from: the image's address, aligned or not; plus
+    /// 0x8000 on PowerPC64, and plus 0x800 on RISC-V.
     pub module_origin: u64,
     /// The address of the output's entry of the class `Module`; 0 if there is none.
     pub module_entry: u64,

@@ -5,6 +5,7 @@
 //! these return nothing, `value_of` says what the value is, and why there is none.
 
 use crate::linker_section::codes::{HIGH, LOW, NO_ENTRY, PLAIN, way_of};
+use crate::linker_section::conditions::lacks_stub;
 use crate::linker_section::facts::{Addresses, Symbol};
 use crate::linker_section::needed::entry_by;
 use crate::linker_section::relocations::Rela;
@@ -174,6 +175,9 @@ pub(crate) fn quick_value(
     relocation: &Rela,
     high: Option<HighPart>,
 ) -> Option<i64> {
+    if lacks_stub(architecture, symbols, relocation) {
+        return None;
+    }
     let way = way_of(number);
     if way == PLAIN || (way == HIGH && matches!(architecture, Architecture::RiscV)) {
         plain_value(architecture, addresses, symbols, number, row, relocation)

@@ -3,6 +3,7 @@
 
 use crate::linker_section::ascending::write_ascending_of;
 use crate::linker_section::codes::number_of;
+use crate::linker_section::conditions::{has_length, is_filled, lacks_stub};
 use crate::linker_section::facts::{Addresses, Symbol};
 use crate::linker_section::fields::{Field, begins_pair, ends_pair, is_of_pair, uleb_len};
 use crate::linker_section::order::first_overlap;
@@ -19,6 +20,9 @@ pub enum RelocationError {
     Value(ValueError),
     /// Its field has a byte of that of an earlier relocation, with which it doesn't compose.
     Overlaps,
+    /// The instruction there is shorter or longer than its form: one of RISC-V, or one of PowerPC64
+    /// without a prefix at a relocation of 34 bits.
+    OtherLength,
     /// Its value can't be written, as `Row::write` says. An offset past the section's end is
     /// `TooShort`. A relocation of a ULEB128 number is `Unsupported` where it isn't of a pair.
     Write(RelocateError),
@@ -71,8 +75,20 @@ fn row_value(
         &info,
         relocation,
     ) {
-        Ok(Some(value)) => Ok(Some((row, value))),
-        Ok(None) => Ok(None),
+        Ok(Some(value)) => {
+            if lacks_stub(architecture, symbols, relocation) {
+                Err(ValueError::NeedsStub)
+            } else {
+                Ok(Some((row, value)))
+            }
+        }
+        Ok(None) => {
+            if is_filled(architecture, addresses, relocation) {
+                Ok(None)
+            } else {
+                Err(ValueError::NotAligned)
+            }
+        }
         Err(error) => Err(error),
     }
 }
@@ -287,6 +303,10 @@ pub(crate) fn write_one(
         let index = index + 2;
         return Ok(Step { index, last });
     }
+    if !has_length(&row, relocation.offset, section) {
+        let error = RelocationError::OtherLength;
+        return Err(SectionError { index, error });
+    }
     if let Err(error) = write_at(&row, value, relocation.offset, section) {
         let error = RelocationError::Write(error);
         return Err(SectionError { index, error });
@@ -433,15 +453,17 @@ pub fn memory_len(relocations: &[u8]) -> usize {
 ///   of 24 bits; and `R_RISCV_SET6`, `R_RISCV_SUB6`, `R_LARCH_ADD6` and `R_LARCH_SUB6`), or
 /// - to be a pair at a ULEB128 number, next to each other.
 ///
-/// A relocation without a value, as `R_RISCV_RELAX`, has no field. n relocations that ascend by
+/// A relocation without a value, as `R_RISCV_RELAX`, has no field. Where code would be wrong with its
+/// value, it isn't written (`NotAligned`, `NeedsStub`, `OtherLength`). A linker that removes the
+/// nops of an alignment itself sets the relocation's code to 0. n relocations that ascend by
 /// offset take time in proportion to n. In any other order their indexes are sorted in `memory`
 /// first, and the time is in proportion to n log n.
 ///
 /// # Errors
 ///
 /// Nothing is written, and the error has the least index of a relocation that has no value, whose
-/// field overlaps that of an earlier one with which it doesn't compose, or whose value can't be
-/// written, and the first of these that applies.
+/// field overlaps that of an earlier one with which it doesn't compose, whose instruction has
+/// another length, or whose value can't be written, and the first of these that applies.
 ///
 /// ```
 /// use linker_utils::section::{Addresses, Symbol};

@@ -21,6 +21,13 @@ pub enum ValueError {
     NoEntry,
     /// It is a low part of RISC-V, and no high part is at the label that its symbol is.
     NoHighPart,
+    /// `R_RISCV_ALIGN` or `R_LARCH_ALIGN`: what is behind its nops isn't aligned, since the section
+    /// wasn't packed. Only of `relocate_section`.
+    NotAligned,
+    /// `R_PPC64_REL24` of a function that may return with another TOC pointer (the high three bits
+    /// of `st_other` are 1), and that has no stub, which would keep the caller's. Only of
+    /// `relocate_section`.
+    NeedsStub,
 }
 
 /// The address of a symbol's entry of a class; 0 for none.

@@ -9,8 +9,8 @@ use Rattle.linker_section.specs.Inner.Claims.{AreClaimed, is_clear_of}
 use Rattle.linker_section.specs.Inner.Saved.{Restores}
 use Rattle.linker_section.specs.Relocations.{relocation_in}
 use Rattle.linker_section.specs.Sections.{IsFirstRejected, IsPairWritten, IsPairRejected}
-use Rattle.linker_section.specs.Sections.{AreRelocated, AreAllRelocated}
-use Rattle.linker_section.specs.Values.{IsValue, offset_at}
+use Rattle.linker_section.specs.Sections.{AreRelocated, AreAllRelocated, IsValueless}
+use Rattle.linker_section.specs.Values.{offset_at}
 use Rattle.linker_section.specs.declared.facts.Addresses.{Addresses}
 use Rattle.linker_section.specs.declared.facts.Symbol.{Symbol}
 use Rattle.linker_section.specs.declared.fields.Field.{Field}
@@ -54,7 +54,7 @@ abbrev pub IsPairCause : Architecture → Addresses → List ℕ → List Symbol
     → SectionError → Type 0
 IsPairCause architecture addresses bytes symbols i before error =
     ((why : ValueError) × (error ≡ record { index = i + 1; error = Value why })
-    × IsValue architecture addresses bytes symbols (relocation_in bytes (i + 1)) (Err why))
+    × IsValueless architecture addresses bytes symbols (relocation_in bytes (i + 1)) why)
     ⊎ ((why : Uleb128Error) × (error ≡ record { index = i; error = Uleb128 why })
     × IsPairRejected architecture addresses bytes symbols (relocation_in bytes i)
     (relocation_in bytes (i + 1)) before why)

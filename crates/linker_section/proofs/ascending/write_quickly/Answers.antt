@@ -2,6 +2,7 @@ use Rattle.std.proofs.Common.{◌<◌, ◌^◌, ◌∙◌, refl, sym, ap, subst,
 use Rattle.std.specs.Int.{w64}
 use Rattle.std.proofs.lemmas.Int.{to_z-of_z}
 use Rattle.linker_elf.specs.Relocate.{window_len}
+use Rattle.linker_section.proofs.Lengths.{length_of}
 use Rattle.linker_section.proofs.Local.{one_local}
 use Rattle.linker_section.proofs.Reaching.{is_written, not_written, reached_kept, reached_quickly}
 use Rattle.linker_section.specs.Inner.Quick.{IsQuickValue}
@@ -21,6 +22,10 @@ returns-then-is_err-clause-step c before last within reached =
     (sym c.is_err.ensures.value ∙ c.if-is_err.true) c.write_at.ensures in
     subst (λ now. Reached a.architecture a.addresses.now a.relocations.now a.symbols.now None before now memory a.index last) (sym same)
     (reached_kept a.architecture a.addresses.now a.relocations.now a.symbols.now None before section a.memory.now a.index c.in-Some-whole_word_at.word last reached)
+
+pub write_at-requires : goal.write_at-requires
+write_at-requires c =
+    length_of c.in-Some.row c.args.relocation.now.offset c.args.section.now c.has_length.result c.has_length.ensures c.if-not-has_length.false
 
 pub overflow_add-result : goal.overflow_add-result
 overflow_add-result c =

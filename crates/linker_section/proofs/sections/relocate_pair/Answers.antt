@@ -12,7 +12,7 @@ use Rattle.linker_section.specs.declared.relocations.Rela.{Rela}
 use Rattle.linker_utils.specs.declared.elf.Architecture.{Architecture}
 use Rattle.linker_section.proofs.Composing.{ended_has_value}
 use Rattle.linker_section.proofs.Rows.{one_info}
-use Rattle.linker_section.proofs.Valued.{no_value}
+use Rattle.linker_section.proofs.Valued.{mark_none, no_value}
 use Rattle.linker_section.proofs.sections.relocate_pair.Goals as goal
 
 pub returns-in-Ok-None : goal.returns-in-Ok-None
@@ -22,7 +22,8 @@ returns-in-Ok-None c =
     let none = subst (λ result. IsRowValue a.architecture a.addresses.now a.relocations.now a.symbols.now a.second.now result) (c.in-Ok-None.is ∙ ap Ok c.in-Ok-None.field-0-is) c.row_value.ensures in
     absurd (true≢false (sym (ended_has_value pair.other.size pair.other.kind pair.ends)
     ∙ no_value a.architecture a.addresses.now a.relocations.now a.symbols.now (relocation_in a.relocations.now (a.index + 1)) pair.other
-    (subst (λ r. IsRowValue a.architecture a.addresses.now a.relocations.now a.symbols.now r (Ok None)) c.requires.second none) pair.is_other))
+    (mark_none a.architecture a.addresses.now a.relocations.now a.symbols.now (relocation_in a.relocations.now (a.index + 1))
+    (subst (λ r. IsRowValue a.architecture a.addresses.now a.relocations.now a.symbols.now r (Ok None)) c.requires.second none)) pair.is_other))
 
 -- what makes a pair of the two relocations
 pub pair_is : (architecture : Architecture) (addresses : Addresses) (bytes : List ℕ)

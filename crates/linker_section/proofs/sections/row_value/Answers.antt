@@ -1,6 +1,9 @@
-use Rattle.std.proofs.Common.{sym, subst}
+use Rattle.std.proofs.Common.{sym, ap, subst, refl, ◌∙◌, Some, None, Ok}
 use Rattle.linker_section.proofs.CodeNumbers.{says}
 use Rattle.linker_section.specs.Inner.Codes.{SaysNeeds}
+use Rattle.linker_elf.specs.declared.elf.RelocationKindInfo.{RelocationKindInfo}
+use Rattle.linker_section.specs.Sections.{IsValueless}
+use Rattle.linker_section.specs.Values.{names_label, IsValue, IsValueBy}
 use Rattle.linker_utils.specs.Architectures.{IsRow}
 use Rattle.linker_section.proofs.sections.row_value.Goals as goal
 
@@ -10,3 +13,43 @@ value_of-requires c =
     subst (SaysNeeds c.number_of.result) (sym c.info-info.ensures.row)
     (says a.architecture a.relocation.now.code c.number_of.result c.in-Some.row c.number_of.ensures
     (subst (IsRow a.architecture a.relocation.now.code) c.in-Some.is c.row.ensures))
+
+pub returns-in_default : goal.returns-in_default
+returns-in_default c =
+    let a = c.args in
+    IsValueless.no_value (None, subst (IsRow a.architecture a.relocation.now.code) c.in_default.is c.row.ensures, refl)
+
+pub returns-then-lacks_stub : goal.returns-then-lacks_stub
+returns-then-lacks_stub c =
+    let a = c.args in
+    let value : IsValue a.architecture a.addresses.now a.relocations.now a.symbols.now a.relocation.now c.value_of.result = (
+      Some c.in-Some.row,
+      subst (IsRow a.architecture a.relocation.now.code) c.in-Some.is c.row.ensures,
+      subst (λ (info : RelocationKindInfo). IsValueBy (names_label info.size info.kind) a.architecture a.addresses.now a.relocations.now a.symbols.now info a.relocation.now c.value_of.result) c.info-info.ensures.row c.value_of.ensures,
+    ) in
+    IsValueless.no_stub
+    (subst (IsValue a.architecture a.addresses.now a.relocations.now a.symbols.now a.relocation.now) (c.in-Ok-Some.is ∙ ap Ok c.in-Ok-Some.field-0-is) value)
+    (sym c.lacks_stub.ensures ∙ c.if-lacks_stub.true)
+
+pub returns-else-is_filled : goal.returns-else-is_filled
+returns-else-is_filled c =
+    let a = c.args in
+    let value : IsValue a.architecture a.addresses.now a.relocations.now a.symbols.now a.relocation.now c.value_of.result = (
+      Some c.in-Some.row,
+      subst (IsRow a.architecture a.relocation.now.code) c.in-Some.is c.row.ensures,
+      subst (λ (info : RelocationKindInfo). IsValueBy (names_label info.size info.kind) a.architecture a.addresses.now a.relocations.now a.symbols.now info a.relocation.now c.value_of.result) c.info-info.ensures.row c.value_of.ensures,
+    ) in
+    IsValueless.not_filled
+    (subst (IsValue a.architecture a.addresses.now a.relocations.now a.symbols.now a.relocation.now) (c.in-Ok-None.is ∙ ap Ok c.in-Ok-None.field-0-is) value)
+    (sym c.is_filled.ensures ∙ c.if-is_filled.false)
+
+pub returns-in-Err : goal.returns-in-Err
+returns-in-Err c =
+    let a = c.args in
+    let value : IsValue a.architecture a.addresses.now a.relocations.now a.symbols.now a.relocation.now c.value_of.result = (
+      Some c.in-Some.row,
+      subst (IsRow a.architecture a.relocation.now.code) c.in-Some.is c.row.ensures,
+      subst (λ (info : RelocationKindInfo). IsValueBy (names_label info.size info.kind) a.architecture a.addresses.now a.relocations.now a.symbols.now info a.relocation.now c.value_of.result) c.info-info.ensures.row c.value_of.ensures,
+    ) in
+    IsValueless.no_value
+    (subst (IsValue a.architecture a.addresses.now a.relocations.now a.symbols.now a.relocation.now) c.in-Err.is value)

@@ -16,7 +16,7 @@ returns c =
     let rest = c.write.new.dest in
     let inside : offset ≤ length section = let l = c.if-section-offset.false in omega arith in
     let value = to_z-of_z w64 c.args.value c.ranges.value in
-    written_at row c.args.value offset section _ rest c.write.result inside
+    written_at row c.args.value offset section _ rest c.write.result inside c.requires
     (sym (take_all (offset + length rest) _ (search rules)) ∙ take-put_mid offset (length section - offset) section rest (offset + length rest) refl inside)
     (search rules)
     (subst (λ v. OnOk c.write.result (WritesRow row v (drop offset section) rest)) value (rw (take_rest section offset) at c.write.ensures.ok))

@@ -1,4 +1,4 @@
-use Rattle.std.proofs.Common.{◌≡◌, ◌+◌, ◌<◌, ◌≤◌, ◌∙◌, refl, sym, ap, subst, arith, length, rules, FitsSigned, to_z, of_z, inl, inr, true, false, Ok, Err, None}
+use Rattle.std.proofs.Common.{◌≡◌, ◌+◌, ◌<◌, ◌≤◌, ◌∙◌, refl, sym, ap, subst, arith, length, rules, FitsSigned, to_z, of_z, inl, inr, true, false, true≢false, Ok, Err, None}
 use Rattle.linker_section.proofs.Stepping.{mark_order, mark_restores, one_order, one_restores, pair_order, pair_restores, apart_now, apart_next, overlap_now, stop, set_above}
 use Rattle.std.specs.Int.{w64}
 use Rattle.std.proofs.lemmas.Int.{to_z-of_z}
@@ -6,7 +6,7 @@ use Rattle.std.proofs.Common.{◌^◌, set}
 use Rattle.std.specs.Prelude.{IfNone, IfSome}
 use Rattle.linker_elf.specs.Value.{sum_64}
 use Rattle.linker_section.proofs.Local.{pair_local}
-use Rattle.linker_section.proofs.Valued.{some_value}
+use Rattle.linker_section.proofs.Valued.{mark_none, some_value}
 use Rattle.linker_section.specs.Inner.Saved.{IsSavedAt}
 use Rattle.linker_section.specs.Inner.Steps.{clear_in, field_of_row, IsInOrder, IsPairOutcome, IsStopped}
 use Rattle.linker_section.specs.Inner.Claims.{next_field}
@@ -14,6 +14,8 @@ use Rattle.linker_section.specs.declared.sections.Stopped.{Stopped}
 use Rattle.linker_section.specs.declared.sections.RelocationError.TheVariants.{Write}
 use Rattle.linker_section.specs.Relocations.{relocation_in}
 use Rattle.linker_section.specs.Sections.{IsRowValue, HasValue, AreRelocated, IsWrittenAt, IsFirstRejected, BeginsPair}
+use Rattle.linker_section.proofs.Lengths.{length_of, other_length}
+use Rattle.linker_section.specs.Conditions.{HasLength}
 use Rattle.linker_section.specs.Values.{offset_at}
 use Rattle.linker_section.proofs.sections.write_one.Goals as goal
 
@@ -27,14 +29,15 @@ returns-in-Ok-None-clause-step c before inv =
     let same = c.relocation_in-relocation.ensures in
     let value = subst (λ r. IsRowValue a.architecture a.addresses.now bytes a.symbols.now r (Ok None)) same
     (subst (IsRowValue a.architecture a.addresses.now bytes a.symbols.now c.relocation_in-relocation.result) (c.in-Ok-None.is ∙ ap Ok c.in-Ok-None.field-0-is) c.row_value.ensures) in
+    let none = mark_none a.architecture a.addresses.now bytes a.symbols.now (relocation_in bytes i) value in
     let saved = subst (λ r. IsSavedAt r.offset a.section.now c.word_at.result) same c.word_at.ensures in (
       (omega arith),
       record {
         is_limit = inv.is_limit;
         within = omega (arith, there);
         relocated = AreRelocated.mark inv.relocated value;
-        restores = mark_restores a.architecture a.addresses.now bytes a.memory.now before a.section.now a.symbols.now i c.word_at.result (omega (arith, there, room)) value saved inv.restores;
-        order = mark_order a.limit a.architecture a.addresses.now bytes before a.section.now a.symbols.now i a.last inv.is_limit inv.order there value;
+        restores = mark_restores a.architecture a.addresses.now bytes a.memory.now before a.section.now a.symbols.now i c.word_at.result (omega (arith, there, room)) none saved inv.restores;
+        order = mark_order a.limit a.architecture a.addresses.now bytes before a.section.now a.symbols.now i a.last inv.is_limit inv.order there none;
         same_length = inv.same_length;
       },
     )
@@ -184,6 +187,48 @@ relocate_pair-requires-clause-value c =
     let fits : FitsSigned w64 (found.1) = search rules in
     (row, subst (HasValue a.architecture a.addresses.now bytes a.symbols.now (relocation_in bytes i) row) (sym (to_z-of_z w64 (found.1) fits)) has)
 
+pub write_at-requires : goal.write_at-requires
+write_at-requires c =
+    length_of (c.in-Ok-Some.found.0) c.relocation_in-relocation.result.offset c.args.section.now c.has_length.result c.has_length.ensures c.if-not-has_length.false
+
+pub returns-then-not-has_length-clause-step : goal.returns-then-not-has_length-clause-step
+returns-then-not-has_length-clause-step c before inv =
+    let a = c.args in
+    let i = a.index in
+    let bytes = a.relocations.now in
+    let section = a.section.now in
+    let last = a.last in
+    let memory = a.memory.now in
+    let there = c.requires.within in
+    let room = c.requires.room in
+    let same = c.relocation_in-relocation.ensures in
+    let saved = subst (λ r. IsSavedAt r.offset section c.word_at.result) same c.word_at.ensures in
+    let found = c.in-Ok-Some.found in
+    let row = found.0 in
+    let has : HasValue a.architecture a.addresses.now bytes a.symbols.now (relocation_in bytes i) row (found.1) =
+    subst (λ r. HasValue a.architecture a.addresses.now bytes a.symbols.now r row (found.1)) same
+    (subst (IsRowValue a.architecture a.addresses.now bytes a.symbols.now c.relocation_in-relocation.result) (c.in-Ok-Some.is ∙ ap Ok c.in-Ok-Some.field-0-is) c.row_value.ensures) in
+    let some = some_value a.architecture a.addresses.now bytes a.symbols.now (relocation_in bytes i) row (found.1) has in
+    let field = field_of_row row (offset_at bytes i) section in
+    let field_is : c.field_at-field.result ≡ field = c.field_at-field.ensures ∙ ap (λ r. field_of_row row r.offset section) same in
+    let clear : clear_in a.limit i field last ≡ true =
+    ap (λ f. clear_in a.limit i f last) (sym field_is) ∙ (sym c.is_clear.ensures ∙ c.if-not-is_clear.false) in
+    stop a.architecture a.addresses.now bytes before section memory _ a.symbols.now i _ inv.within
+    (set_above memory i i c.word_at.result (omega arith)) inv.restores
+    (record {
+      within = there;
+      apart = apart_now a.limit a.architecture bytes before section i last inv.is_limit inv.order;
+      written = i;
+      is_next = inl refl;
+      now = section;
+      relocated = inv.relocated;
+      cause = (
+        apart_next a.limit a.architecture bytes before section i last row inv.is_limit inv.order there c.requires.after inv.same_length has.is_row some clear,
+        other_length a.architecture a.addresses.now bytes a.symbols.now i section row (found.1) has
+            (λ shown. true≢false (sym ((c.has_length.ensures).1 (subst (λ r. HasLength row r.offset section) (sym same) shown)) ∙ c.if-not-has_length.true)),
+      );
+    })
+
 pub returns-in-Err-write_at-clause-step : goal.returns-in-Err-write_at-clause-step
 returns-in-Err-write_at-clause-step c before inv =
     let a = c.args in
@@ -208,6 +253,8 @@ returns-in-Err-write_at-clause-step c before inv =
     let clear : clear_in a.limit i field last ≡ true =
     ap (λ f. clear_in a.limit i f last) (sym field_is) ∙ (sym c.is_clear.ensures ∙ c.if-not-is_clear.false) in
     let why = c.in-Err-write_at.error in
+    let shown : HasLength row (offset_at bytes i) section =
+    subst (λ r. HasLength row r.offset section) same (length_of row c.relocation_in-relocation.result.offset section c.has_length.result c.has_length.ensures c.if-not-has_length.false) in
     let rejected = subst (λ v. IsWrittenAt row v (offset_at bytes i) section c.write_at.new.section (Err why)) (to_z-of_z w64 (found.1) fits)
     (subst (λ r. IsWrittenAt row (to_z w64 (of_z w64 (found.1))) r.offset section c.write_at.new.section (Err why)) same
     (subst (IsWrittenAt row (to_z w64 (of_z w64 (found.1))) c.relocation_in-relocation.result.offset section c.write_at.new.section) c.in-Err-write_at.is c.write_at.ensures)) in
@@ -225,7 +272,7 @@ returns-in-Err-write_at-clause-step c before inv =
       relocated = inv.relocated;
       cause = (
         apart_next a.limit a.architecture bytes before section i last row inv.is_limit inv.order there c.requires.after inv.same_length has.is_row some clear,
-        record { row = row; value = found.1; has_value = has; rejected = rejected.0; alone = alone },
+        record { row = row; value = found.1; has_value = has; length_shown = shown; rejected = rejected.0; alone = alone },
       );
     }))
 

@@ -1,0 +1,85 @@
+-- Whether an instruction is as long as the form of its relocation.
+use Rattle.std.proofs.Common.{◌≡◌, ℕ, ℤ, ◌<◌, List, length, take, drop, Bool, true, false, true≢false, eqb, ◌/◌, refl, sym, ap, ◌∙◌, inl, inr, arith}
+use Rattle.std.proofs.lemmas.Bool.{cases_Bool, cases_lt}
+use Rattle.std.proofs.lemmas.List.{get_or-take, length-drop}
+use Rattle.std.specs.Prelude.{slice_index, ◌↔◌, IsTrue}
+use Rattle.linker_elf.specs.Relocate.{size_len, window_len}
+use Rattle.linker_elf.specs.declared.elf.RelocationInstruction.TheVariants.{RiscV, Ppc64}
+use Rattle.linker_elf.specs.declared.elf.RelocationKindInfo.{RelocationKindInfo}
+use Rattle.linker_elf.specs.declared.elf.RelocationSize.{RelocationSize}
+use Rattle.linker_elf.specs.declared.elf.RelocationSize.TheVariants.{ByteSize, BitMasking}
+use Rattle.linker_elf.specs.declared.ppc64.forms.Ppc64Instruction.TheVariants.{Prefixed}
+use Rattle.linker_section.proofs.Fronts.{some_window}
+use Rattle.linker_section.specs.Conditions.{HasLength, riscv_shows, shows_length}
+use Rattle.linker_section.specs.Fields.{is_of_pair}
+use Rattle.linker_section.specs.Relocations.{relocation_in}
+use Rattle.linker_section.specs.Sections.{HasValue, IsOtherLength}
+use Rattle.linker_section.specs.Values.{offset_at}
+use Rattle.linker_section.specs.declared.facts.Addresses.{Addresses}
+use Rattle.linker_section.specs.declared.facts.Symbol.{Symbol}
+use Rattle.linker_utils.specs.declared.elf.Architecture.{Architecture}
+
+-- ---- what a test says
+
+pub length_of : (row : RelocationKindInfo) (offset : ℕ) (section : List ℕ) (result : Bool)
+    → (IsTrue result ↔ HasLength row offset section) → result ≡ true
+    → HasLength row offset section
+length_of row offset section result is holds = is.0 holds
+
+-- what isn't so is another length, in the section
+pub other_length : (architecture : Architecture) (addresses : Addresses) (bytes : List ℕ)
+    (symbols : List Symbol) (i : ℕ) (now : List ℕ) (row : RelocationKindInfo) (v : ℤ)
+    → HasValue architecture addresses bytes symbols (relocation_in bytes i) row v
+    → (HasLength row (offset_at bytes i) now → ⊥)
+    → IsOtherLength architecture addresses bytes symbols i now
+other_length architecture addresses bytes symbols i now row v has isnt =
+    let o = offset_at bytes i in
+    elim (cases_lt (length now) o) [
+      | inl past ↦ absurd (isnt (λ inside. absurd (omega (arith, past, inside))))
+      | inr inside ↦ elim (cases_lt (length (drop o now)) (window_len row)) [
+        | inl short ↦ absurd (isnt (λ _ long. absurd (omega (arith, short, long))))
+        | inr long ↦ elim (cases_Bool (shows_length row.size (drop o now))) [
+          | inl shown ↦ absurd (isnt (λ _ _. shown))
+          | inr other ↦ record { row = row; value = v; has_value = has; inside = inside; long = long; other = other }
+        ]
+      ]
+    ]
+
+-- ---- bytes with the same front
+
+abbrev pub IsSameFront : RelocationSize → List ℕ → List ℕ → Type 0
+IsSameFront (ByteSize n) xs ys = Unit
+IsSameFront (BitMasking bits insn) xs ys =
+    take (size_len (BitMasking bits insn)) xs ≡ take (size_len (BitMasking bits insn)) ys
+
+byte_same : (n j : ℕ) (xs ys : List ℕ) → j < n → take n xs ≡ take n ys
+    → slice_index xs j ≡ slice_index ys j
+byte_same n j xs ys below same =
+    sym (get_or-take n xs j 0 below) ∙ (ap (λ l. slice_index l j) same ∙ get_or-take n ys j 0 below)
+
+pub shows_same : (size : RelocationSize) (xs ys : List ℕ) → IsSameFront size xs ys
+    → shows_length size xs ≡ shows_length size ys
+shows_same (ByteSize n) xs ys same = refl
+shows_same (BitMasking bits (RiscV insn)) xs ys same =
+    ap (riscv_shows insn) (byte_same (size_len (BitMasking bits (RiscV insn))) 0 xs ys (some_window (RiscV insn)) same)
+shows_same (BitMasking bits (Ppc64 Prefixed)) xs ys same =
+    ap (λ byte. eqb (byte / 4) 1) (byte_same 8 3 xs ys (omega arith) same)
+shows_same (BitMasking bits insn) xs ys same = refl
+
+pub length_same : (row : RelocationKindInfo) (o : ℕ) (now before : List ℕ)
+    → IsSameFront row.size (drop o now) (drop o before) → length now ≡ length before
+    → HasLength row o now → HasLength row o before
+length_same row o now before same len is inside long =
+    let d = length-drop o before in let dn = length-drop o now in
+    sym (shows_same row.size (drop o now) (drop o before) same)
+    ∙ is (omega (arith, inside, len)) (omega (arith, long, d, dn, len))
+
+-- numbers of whole bytes have any length
+pub pair_shows : (row : RelocationKindInfo) (there : List ℕ) → is_of_pair row ≡ true
+    → shows_length row.size there ≡ true
+pair_shows row there paired = size_shows row.size paired
+  where
+    size_shows : (size : RelocationSize) → is_of_pair (record row { size = size }) ≡ true
+        → shows_length size there ≡ true
+    size_shows (ByteSize n) is = refl
+    size_shows (BitMasking bits insn) is = absurd (true≢false (sym is))
