@@ -121,7 +121,7 @@ BlockIsReplaced l i q row =
     (symbol : Symbol) (entry : ℕ) (s : State) (changed : ℕ → Bool) (returned : ℕ → ℕ)
     (original : List ℕ)
     → let operands = operands_with X86_64 l.addresses row symbol r entry in
-    AreAddresses operands → l.addresses.thread_origin < 2 ^ 64 → r.addend ≡ neg_ℤ (pos 4)
+    AreAddresses operands → l.addresses.thread_origin < 2 ^ 64
     → s.ip ≡ difference_64 operands.place q.back
     → HasThreadPointer s
     → returned entry

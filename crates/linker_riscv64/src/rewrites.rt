@@ -13,6 +13,7 @@ ghost use Rattle.linker_riscv64.specs.RiscVRewrites.{IsSigned32};
 ghost use Rattle.linker_riscv64.specs.RiscVRewrites.{FitsClui, HoldsHigh, riscv_deleted, with_rs1};
 ghost use Rattle.linker_riscv64.specs.RiscVRewrites.{tp};
 ghost use Rattle.linker_riscv64.specs.RiscVRewrites.{opcode_of, funct3_of, adds_low12, IsTailCall};
+ghost use Rattle.linker_riscv64.specs.RiscVRewrites.{IsLowOverOther};
 ghost use Rattle.linker_riscv64.specs.RiscVRewrites.{IsLui, IsAuipc, IsLd, IsAddTp, IsAddiToA0};
 ghost use Rattle.linker_riscv64.specs.RiscVRewrites.{IsCallOfDescriptor, riscv_matches};
 ghost use Rattle.linker_riscv64.specs.RiscVRewrites.{IsClui};
@@ -25,7 +26,7 @@ ghost use Rattle.linker_base.specs.declared.relaxation.RelocationModifier.TheVar
 ghost use Rattle.linker_base.specs.declared.relaxation.RelocationModifier.TheVariants.{SkipNextRelocation};
 
 use super::calls::{is_call_pair, is_plain_call};
-use super::fields::{base, destination, function, opcode, word_at};
+use super::fields::{base, destination, function, opcode, stores_base, word_at};
 use linker_base::bit_misc::BitExtraction;
 use linker_base::relaxation::RelocationModifier;
 use linker_base::rewrite::{DeletedBytes, RewriteWindow, has_window, overwrite, window_is_in};
@@ -212,6 +213,15 @@ fn adds_immediate(word: u32) -> bool
         0x07 | 0x27 => 0 < funct3 && funct3 < 5,
         _ => false,
     }
+}
+
+/// Whether an instruction adds a signed immediate of 12 bits to a register that another one can
+/// replace.
+#[inline(always)]
+pub(super) fn is_low_over_other(word: u32) -> bool
+    ensures { IsTrue result ↔ IsLowOverOther word }
+{
+    adds_immediate(word) && !stores_base(word)
 }
 
 /// Whether the eight bytes at an offset of the section are a tail call: an `auipc`, and a `jalr`
