@@ -141,7 +141,7 @@ expected s gp a bytes section n r part subject is =
     (and_second s.output.is_fixed _ (and_second s.output.is_executable _ (and_second a _ is))))
 
 -- what fits can be made
-pub part_made : (s : Setting) (gp : ℕ) (a : Bool) (bytes section : List ℕ) (n : ℕ) (r : Rela)
+part_made : (s : Setting) (gp : ℕ) (a : Bool) (bytes section : List ℕ) (n : ℕ) (r : Rela)
     (part : Part) (subject : Rela) → fits s gp a bytes section n r (part, subject) ≡ true
     → CanBeMade (part_decision part subject) section r.offset
 part_made s gp a bytes section n r (High opcode) subject is =
@@ -150,7 +150,7 @@ part_made s gp a bytes section n r (Low code) subject is = (tt, refl)
 part_made s gp a bytes section n r (Labelled code) subject is = (tt, refl)
 
 -- and its instruction is in the section
-pub part_inside : (s : Setting) (gp : ℕ) (a : Bool) (bytes section : List ℕ) (n : ℕ) (r : Rela)
+part_inside : (s : Setting) (gp : ℕ) (a : Bool) (bytes section : List ℕ) (n : ℕ) (r : Rela)
     (part : Part) (subject : Rela) → fits s gp a bytes section n r (part, subject) ≡ true
     → part_end (part_decision part subject) r.offset ≤ length section
 part_inside s gp a bytes section n r (High opcode) subject is =
@@ -159,6 +159,19 @@ part_inside s gp a bytes section n r (Low code) subject is =
     leb-true (r.offset + 4) (length section) (and_first _ _ (expected s gp a bytes section n r (Low code) subject is))
 part_inside s gp a bytes section n r (Labelled code) subject is =
     leb-true (r.offset + 4) (length section) (and_first _ _ (expected s gp a bytes section n r (Labelled code) subject is))
+
+pub member_made : (s : Setting) (gp : ℕ) (a : Bool) (bytes section : List ℕ) (n : ℕ) (r : Rela)
+    (member : Part × Rela) → fits s gp a bytes section n r member ≡ true
+    → CanBeMade (part_decision (member.0) (member.1)) section r.offset
+member_made s gp a bytes section n r (part, subject) is =
+    part_made s gp a bytes section n r part subject is
+
+pub member_ends : (s : Setting) (gp : ℕ) (a : Bool) (bytes section : List ℕ) (n : ℕ) (r : Rela)
+    (member : Part × Rela) → fits s gp a bytes section n r member ≡ true
+    → (limit : ℕ) → r.offset ≤ limit → length section ≤ limit
+    → part_end (part_decision (member.0) (member.1)) r.offset ≤ limit
+member_ends s gp a bytes section n r (part, subject) is limit low long =
+    let e = part_inside s gp a bytes section n r part subject is in omega (arith, e, long)
 
 -- ---- apart
 

@@ -504,7 +504,8 @@ fn decided_by(
     ensures decision { result ≡ decided_by (setting_of setting.now) gp ascends kept.now
         relocations.now section.now index relocation.now member }
     ensures made { IfSome result (λ d. CanBeMade d section.now relocation.now.offset) }
-    ensures ends { IfSome result (λ d. part_end d relocation.now.offset ≤ u64.MAX) }
+    ensures ends { IfSome result (λ d. (limit : ℕ) → relocation.now.offset ≤ limit
+        → length section.now ≤ limit → part_end d relocation.now.offset ≤ limit) }
 {
     let Some(member) = member else {
         return Some(Decision::Kept);
@@ -544,7 +545,8 @@ fn decide_part(
     ensures decision { IsPartDecided (setting_of setting.now) gp kept.now relocations.now
         section.now index relocation.now result }
     ensures made { IfSome result (λ d. CanBeMade d section.now relocation.now.offset) }
-    ensures ends { IfSome result (λ d. part_end d relocation.now.offset ≤ u64.MAX) }
+    ensures ends { IfSome result (λ d. (limit : ℕ) → relocation.now.offset ≤ limit
+        → length section.now ≤ limit → part_end d relocation.now.offset ≤ limit) }
 {
     let member = member_of(setting, relocations, relocation);
     decided_by(

@@ -2,9 +2,7 @@
 //! RISC-V: which rewrite a linker chooses for a relocation.
 
 use super::fields::word_at;
-use super::rewrites::{
-    is_add_tp, is_addi_to_a0, is_auipc, is_ld, is_low_over_other, is_lui,
-};
+use super::rewrites::{is_add_tp, is_addi_to_a0, is_auipc, is_ld, is_low_over_other, is_lui};
 use super::{RelaxationKind, RiscVRelocation, RiscVRelocation as Names};
 use crate::linker_base::rewrite::has_window;
 use crate::linker_elf::elf::choice_table::{

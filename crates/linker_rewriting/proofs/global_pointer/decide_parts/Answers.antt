@@ -1,4 +1,4 @@
-use Rattle.std.proofs.Common.{◌≡◌, ◌<◌, ◌+◌, ◌/◌, ◌∙◌, length, map, take, slice_set, ap, sym, subst, arith, Some, None}
+use Rattle.std.proofs.Common.{◌≡◌, ℕ, ◌<◌, ◌≤◌, ◌+◌, ◌/◌, ◌∙◌, length, map, take, slice_set, ap, sym, subst, arith, Some, None}
 use Rattle.std.specs.Prelude.{IfSome, All}
 use Rattle.std.proofs.lemmas.List.{length-map, map-set, drop-set-lt}
 use Rattle.linker_riscv64.proofs.Shrunk.{written_more}
@@ -103,3 +103,10 @@ returns-clause-decided g c =
     let t = c.loop-index-test.false in
     let e = c.relocations_len-len.ensures in
     λ n less. c.loop-index.invariant.decided n (omega (arith, t, e, less))
+
+pub part_end-own-requires : goal.part_end-own-requires
+part_end-own-requires g c =
+    let a = c.args in
+    let o = c.relocation_in-relocation.result.offset in
+    subst (λ x. IfSome x (λ d. (limit : ℕ) → o ≤ limit → length a.section.now ≤ limit → part_end d o ≤ limit))
+    c.in-Some.is c.decide_part.ensures.ends 0xffffffffffffffff (omega arith) (omega arith)
