@@ -1,5 +1,5 @@
 -- Each rewrite that is chosen for an instruction with an operand in the GOT has a law.
-use Rattle.std.proofs.Common.{◌≡◌, ℕ, ℤ, pos, neg_ℤ, ◌+◌, ◌-◌, ◌≤◌, List, [], ◌∷◌, length, Bool, true, false, IsTrue, eqb, cond, refl, sym, ap, subst, ◌∙◌, inl, inr, arith, Option, Some, None}
+use Rattle.std.proofs.Common.{◌≡◌, ℕ, ℤ, pos, neg_ℤ, ◌+◌, ◌≤◌, List, [], ◌∷◌, length, Bool, true, false, IsTrue, eqb, cond, refl, sym, ap, subst, ◌∙◌, inl, inr, arith, Option, Some, None}
 use Rattle.std.specs.Prelude.{⊤}
 use Rattle.linker_elf.specs.Choices.{AllHold, choice}
 use Rattle.linker_elf.specs.ElfNames.{code_of}

@@ -1,8 +1,7 @@
 -- x86-64: in the final bytes of a section the sequences for thread-local variables do what the
 -- object's do with the values of their relocations (x86-64 psABI, "ELF Handling For Thread-Local
 -- Storage").
-use Rattle.std.specs.Prelude.{◌≡◌, ◌≢◌, ℕ, ◌+◌, ◌-◌, ◌^◌, ◌<◌, ◌≤◌, Bool, true, false, ⊤, neg_ℤ}
-use Rattle.std.specs.Prelude.{pos}
+use Rattle.std.specs.Prelude.{◌≡◌, ◌≢◌, ℕ, ◌+◌, ◌-◌, ◌^◌, ◌<◌, ◌≤◌, Bool, true, false, ⊤}
 use Rattle.std.specs.Prelude.{List, drop, Option, Some, None, IsSomeAnd, slice_get}
 use Rattle.linker_elf.specs.ElfNames.{IsNameOf}
 use Rattle.linker_elf.specs.Relocate.{number_of_bytes}
