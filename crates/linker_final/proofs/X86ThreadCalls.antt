@@ -171,7 +171,7 @@ module _ (l : Linked) (linked : IsLinked l) (x86 : l.setting.architecture ≡ X8
 
   -- of a module
   block : (count : ℕ) → ReplacesModuleCall call count kind → back ≡ 3 → chosen.relocation ≡ 0
-      → BlockIsReplaced l i (record { back = back; call = call; count = count }) tls_module_row
+      → r.addend ≡ neg_ℤ (pos 4) → BlockIsReplaced l i (record { back = back; call = call; count = count }) tls_module_row
   block count law three code addend symbol entry s changed returned original addresses small ip thread returns was =
       let operands = operands_with X86_64 l.addresses tls_module_row symbol r entry in
       let image = l.addresses.module_origin in
