@@ -1,9 +1,9 @@
 -- Addresses near the global pointer, in the numbers that C sees.
 use Rattle.std.specs.Prelude.{◌≡◌, ◌⊎◌, ℕ, ◌<◌, ◌/◌, List, Bool, true, length, take, drop, All}
 use Rattle.linker_rewriting.specs.Facts.{Setting}
-use Rattle.linker_rewriting.specs.GlobalPointer.{ArePartsApart, ArePartsDecided, ArePartsWhole}
-use Rattle.linker_rewriting.specs.GlobalPointer.{ArePartsRejected, AreBased, AreRelocationsBy}
-use Rattle.linker_rewriting.specs.GlobalPointer.{is_placed, section_based, IsFirstUnplaced}
+use Rattle.linker_rewriting.specs.GlobalPointer.{ArePartsDecided, ArePartsWhole, AreRelocationsBy}
+use Rattle.linker_rewriting.specs.GlobalPointer.{ArePartsRejected, AreBased, section_based}
+use Rattle.linker_rewriting.specs.GlobalPointer.{is_placed, IsFirstUnplaced}
 use Rattle.linker_rewriting.specs.declared.decisions.Decision.{Decision}
 use Rattle.linker_section.specs.Relocations.{relocation_in}
 use Rattle.linker_section.specs.declared.facts.Addresses.{Addresses}
@@ -20,7 +20,6 @@ pub record ArePartsRewrittenAs (s : Setting) (gp : ℕ) (kept : List Bool)
     (bytes bytes_after section : List ℕ) (decisions : List Decision) : Type 0 where
   pub decided : ArePartsDecided s gp kept bytes section decisions (length bytes / 24)
   pub whole : ArePartsWhole s bytes decisions (length bytes / 24)
-  pub apart : ArePartsApart bytes decisions (length bytes / 24)
   pub relocations : AreRelocationsBy decisions bytes bytes_after (length bytes / 24)
 
 abbrev pub ArePartsReturned : Setting → ℕ → List Bool → List ℕ → List ℕ → List ℕ
