@@ -603,33 +603,34 @@ enum linker_utils_modifier {
  *       known, or TLSIE_ADR_GOTTPREL_PAGE21 at -12 in reach if known
  *
  * RISC-V, with the prefixes R_RISCV_ and LINKER_UTILS_RISCV_REWRITE_:
- *   CALL, CALL_PLT              TAIL_TO_C_J            RVC_JUMP      (1)
- *                               TAIL_TO_JAL            JAL           (2)
- *                               CALL_TO_JAL            JAL           (2)
- *   GOT_HI20                    NO_OP                  PCREL_HI20    (3)
- *   PCREL_LO12_I                LD_TO_ADDI             PCREL_LO12_I  (4)
- *   HI20                        HI20_DELETE            NONE          (5)
- *                               HI20_TO_C_LUI          RVC_LUI       (6)
- *   LO12_I, LO12_S              LO12_RS1_TO_ZERO       the same      (5)
- *   TPREL_HI20                  DELETE                 NONE          (7)
- *   TPREL_LO12_I, TPREL_LO12_S  BASE_TO_TP             the same      (7)
- *   TPREL_ADD                   DELETE                 NONE          (7)
- *   RVC_LUI                     C_LUI_TO_C_LI          NONE          (8)
- *   TLSDESC_HI20                DELETE                 NONE          (9)
- *                               REPLACE_WITH_LONG_NOP  NONE          (10)
- *                               DELETE                 NONE          (11)
- *                               REPLACE_WITH_LONG_NOP  NONE          (12)
- *   TLSDESC_LOAD_LO12           DELETE                 NONE          (9)
- *                               REPLACE_WITH_LONG_NOP  NONE          (10)
- *                               DELETE                 NONE          (11)
- *                               REPLACE_WITH_LONG_NOP  NONE          (12)
- *   TLSDESC_ADD_LO12            DELETE                 NONE          (13)
- *                               REPLACE_WITH_LONG_NOP  NONE          (14)
- *                               ADDI_TO_LUI            TPREL_HI20    (10)
- *                               ADDI_TO_AUIPC          TLS_GOT_HI20  (12)
- *   TLSDESC_CALL                CALL_TO_ADDI_ZERO      TPREL_LO12_I  (14)
- *                               CALL_TO_ADDI           TPREL_LO12_I  (10)
- *                               CALL_TO_LD             PCREL_LO12_I  (12)
+ *   CALL, CALL_PLT     TAIL_TO_C_J            RVC_JUMP      (1)
+ *                      TAIL_TO_JAL            JAL           (2)
+ *                      CALL_TO_JAL            JAL           (2)
+ *   GOT_HI20           NO_OP                  PCREL_HI20    (3)
+ *   PCREL_LO12_I       LD_TO_ADDI             PCREL_LO12_I  (4)
+ *   HI20               HI20_DELETE            NONE          (5)
+ *                      HI20_TO_C_LUI          RVC_LUI       (6)
+ *   LO12_I, LO12_S     LO12_RS1_TO_ZERO       the same      (5)
+ *   TPREL_HI20         DELETE                 NONE          (7)
+ *   TPREL_LO12_I       BASE_TO_TP             TPREL_LO12_I  (7)
+ *   TPREL_LO12_S       BASE_TO_TP             TPREL_LO12_S  (7)
+ *   TPREL_ADD          DELETE                 NONE          (7)
+ *   RVC_LUI            C_LUI_TO_C_LI          NONE          (8)
+ *   TLSDESC_HI20       DELETE                 NONE          (9)
+ *                      REPLACE_WITH_LONG_NOP  NONE          (10)
+ *                      DELETE                 NONE          (11)
+ *                      REPLACE_WITH_LONG_NOP  NONE          (12)
+ *   TLSDESC_LOAD_LO12  DELETE                 NONE          (9)
+ *                      REPLACE_WITH_LONG_NOP  NONE          (10)
+ *                      DELETE                 NONE          (11)
+ *                      REPLACE_WITH_LONG_NOP  NONE          (12)
+ *   TLSDESC_ADD_LO12   DELETE                 NONE          (13)
+ *                      REPLACE_WITH_LONG_NOP  NONE          (14)
+ *                      ADDI_TO_LUI            TPREL_HI20    (10)
+ *                      ADDI_TO_AUIPC          TLS_GOT_HI20  (12)
+ *   TLSDESC_CALL       CALL_TO_ADDI_ZERO      TPREL_LO12_I  (14)
+ *                      CALL_TO_ADDI           TPREL_LO12_I  (10)
+ *                      CALL_TO_LD             PCREL_LO12_I  (12)
  *   (1) has_fixed_distance, may_compress, is_relaxable, plt_entry is symbol, RVC_JUMP in reach
  *   (2) has_fixed_distance, is_relaxable, plt_entry is symbol, JAL in reach
  *   (3) is_local, not is_ifunc, has_fixed_distance, is_label_relaxable, addend 0, PCREL_HI20 in
@@ -762,54 +763,53 @@ enum linker_utils_modifier {
  *                 TLS_LD_TO_LOCAL_EXEC_NO_PLT    NONE      (5)
  *                 TLS_LD_TO_LOCAL_EXEC64         NONE      (5)
  *   DTPOFF32      NO_OP                          TPOFF32   (6)
- *   GOTTPOFF (n = 3), CODE_4_GOTTPOFF (n = 4), CODE_5_GOTTPOFF (n = 5), CODE_6_GOTTPOFF (n = 6)
+ *   GOTTPOFF (n = 3), CODE_4_GOTTPOFF (n = 4), CODE_6_GOTTPOFF (n = 6)
  *                 REX_ADD_INDIRECT_TO_ABSOLUTE   TPOFF32   (7)
  *                 REX_MOV_INDIRECT_TO_ABSOLUTE   TPOFF32   (7)
- *   GOTPC32_TLSDESC (n = 3), CODE_4_GOTPC32_TLSDESC (n = 4), CODE_5_GOTPC32_TLSDESC (n = 5),
- *     CODE_6_GOTPC32_TLSDESC (n = 6)
+ *   GOTPC32_TLSDESC (n = 3), CODE_4_GOTPC32_TLSDESC (n = 4)
  *                 TLS_DESC_TO_LOCAL_EXEC         TPOFF32   (3)
  *                 TLS_DESC_TO_INITIAL_EXEC       GOTTPOFF  (4)
- *   TLSDESC_CALL  SKIP_TLS_DESC_CALL             NONE      (5)
- *   GOTPCRELX     REX_ADD_INDIRECT_TO_ABSOLUTE   32        (8)
- *                 REX_OR_INDIRECT_TO_ABSOLUTE    32        (8)
- *                 REX_ADC_INDIRECT_TO_ABSOLUTE   32        (8)
- *                 REX_SBB_INDIRECT_TO_ABSOLUTE   32        (8)
- *                 REX_AND_INDIRECT_TO_ABSOLUTE   32        (8)
- *                 REX_SUB_INDIRECT_TO_ABSOLUTE   32        (8)
- *                 REX_XOR_INDIRECT_TO_ABSOLUTE   32        (8)
- *                 REX_CMP_INDIRECT_TO_ABSOLUTE   32        (8)
- *                 REX_TEST_INDIRECT_TO_ABSOLUTE  32        (8)
- *                 MOV_INDIRECT_TO_ABSOLUTE       32        (9)
+ *   TLSDESC_CALL  SKIP_TLS_DESC_CALL             NONE      (8)
+ *   GOTPCRELX     REX_ADD_INDIRECT_TO_ABSOLUTE   32        (9)
+ *                 REX_OR_INDIRECT_TO_ABSOLUTE    32        (9)
+ *                 REX_ADC_INDIRECT_TO_ABSOLUTE   32        (9)
+ *                 REX_SBB_INDIRECT_TO_ABSOLUTE   32        (9)
+ *                 REX_AND_INDIRECT_TO_ABSOLUTE   32        (9)
+ *                 REX_SUB_INDIRECT_TO_ABSOLUTE   32        (9)
+ *                 REX_XOR_INDIRECT_TO_ABSOLUTE   32        (9)
+ *                 REX_CMP_INDIRECT_TO_ABSOLUTE   32        (9)
+ *                 REX_TEST_INDIRECT_TO_ABSOLUTE  32        (9)
+ *                 MOV_INDIRECT_TO_ABSOLUTE       32        (10)
  *                 MOV_INDIRECT_TO_LEA            PC32      (1)
  *                 CALL_INDIRECT_TO_RELATIVE      PC32      (1)
  *                 JMP_INDIRECT_TO_RELATIVE       PC32      (1)
- *   REX_GOTPCRELX (n = 3), CODE_4_GOTPCRELX (n = 4), CODE_5_GOTPCRELX (n = 5), CODE_6_GOTPCRELX
- *     (n = 6)
- *                 REX_ADD_INDIRECT_TO_ABSOLUTE   32S       (10)
- *                 REX_OR_INDIRECT_TO_ABSOLUTE    32S       (10)
- *                 REX_ADC_INDIRECT_TO_ABSOLUTE   32S       (10)
- *                 REX_SBB_INDIRECT_TO_ABSOLUTE   32S       (10)
- *                 REX_AND_INDIRECT_TO_ABSOLUTE   32S       (10)
- *                 REX_SUB_INDIRECT_TO_ABSOLUTE   32S       (10)
- *                 REX_XOR_INDIRECT_TO_ABSOLUTE   32S       (10)
- *                 REX_CMP_INDIRECT_TO_ABSOLUTE   32S       (10)
- *                 REX_TEST_INDIRECT_TO_ABSOLUTE  32S       (10)
- *                 REX_MOV_INDIRECT_TO_ABSOLUTE   32S       (11)
+ *   REX_GOTPCRELX (n = 3), CODE_4_GOTPCRELX (n = 4), CODE_6_GOTPCRELX (n = 6)
+ *                 REX_ADD_INDIRECT_TO_ABSOLUTE   32S       (11)
+ *                 REX_OR_INDIRECT_TO_ABSOLUTE    32S       (11)
+ *                 REX_ADC_INDIRECT_TO_ABSOLUTE   32S       (11)
+ *                 REX_SBB_INDIRECT_TO_ABSOLUTE   32S       (11)
+ *                 REX_AND_INDIRECT_TO_ABSOLUTE   32S       (11)
+ *                 REX_SUB_INDIRECT_TO_ABSOLUTE   32S       (11)
+ *                 REX_XOR_INDIRECT_TO_ABSOLUTE   32S       (11)
+ *                 REX_CMP_INDIRECT_TO_ABSOLUTE   32S       (11)
+ *                 REX_TEST_INDIRECT_TO_ABSOLUTE  32S       (11)
+ *                 REX_MOV_INDIRECT_TO_ABSOLUTE   32S       (12)
  *                 MOV_INDIRECT_TO_LEA            PC32      (1)
  *   (1) is_local, not is_ifunc, has_fixed_distance, addend -4, PC32 in reach if known
  *   (2) is_executable, has_local_exec_base, TPOFF64 in reach if known
  *   (3) is_local, not is_ifunc, is_executable, group_fits, addend -4, TPOFF32 in reach if known
  *   (4) is_executable, group_fits, addend -4, GOTTPOFF in reach if known
- *   (5) is_executable, group_fits
+ *   (5) is_executable, group_fits, addend -4
  *   (6) is_executable, has_local_exec_base, TPOFF32 in reach if known
  *   (7) is_local, not is_ifunc, is_executable, addend -4, TPOFF32 in reach if known
- *   (8) has_fixed_address, addend -4, 32 in reach if known, and either is_local and not is_ifunc,
+ *   (8) is_executable, group_fits
+ *   (9) has_fixed_address, addend -4, 32 in reach if known, and either is_local and not is_ifunc,
  *       or is_undefined_weak
- *   (9) has_fixed_address, addend -4, 32 in reach, and either is_local and not is_ifunc, or
+ *   (10) has_fixed_address, addend -4, 32 in reach, and either is_local and not is_ifunc, or
  *       is_undefined_weak
- *   (10) has_fixed_address, addend -4, 32S in reach if known, and either is_local and not is_ifunc,
+ *   (11) has_fixed_address, addend -4, 32S in reach if known, and either is_local and not is_ifunc,
  *       or is_undefined_weak
- *   (11) has_fixed_address, addend -4, 32S in reach, and either is_local and not is_ifunc, or
+ *   (12) has_fixed_address, addend -4, 32S in reach, and either is_local and not is_ifunc, or
  *       is_undefined_weak
  *
  * End of the tables of choices. */

@@ -186,6 +186,9 @@ fn instructions(architecture: Architecture, originals: &str) -> String {
         (Architecture::RiscV, "Auipc", []) => "`auipc`".into(),
         (Architecture::RiscV, "Ld", []) => "`ld`".into(),
         (Architecture::RiscV, "AddiToA0", []) => "`addi a0, rs1`".into(),
+        (Architecture::RiscV | Architecture::LoongArch64, "LowOverOther", []) => {
+            "any but an integer store of its own base".into()
+        }
         (Architecture::LoongArch64, "Load", [0]) => "`pcalau12i rd` before `ld.d rd, rd`".into(),
         (Architecture::LoongArch64, "Load", [4]) => "`ld.d rd, rd` behind `pcalau12i rd`".into(),
         (Architecture::LoongArch64, "Sum", [0]) => "`pcalau12i rd` before `addi.d rd, rd`".into(),

@@ -205,6 +205,34 @@ fn loads_from_the_got_are_rewritten_alone() {
     expect(X86_64, &before, &after);
 }
 
+#[test]
+fn what_has_evex_is_no_mov() {
+    // vpcompressd %zmm0, x@GOTPCREL(%rip), which ld.lld 19 leaves, and behind it
+    // mov x@GOTPCREL(%rip), %rax
+    let evex = [0x62, 0xf2, 0x7d, 0x48, 0x8b, 0x05, 0, 0, 0, 0];
+    let mov = [0x48, 0x8b, 0x05, 0, 0, 0, 0];
+    let before = Section {
+        bytes: [&evex[..], &mov].concat(),
+        relocations: vec![rela(6, 9, 1, -4), rela(13, 9, 1, -4)],
+    };
+    let mut after = before.clone();
+    after.bytes[11] = 0x8d;
+    after.relocations[1].code = 2;
+    expect(X86_64, &before, &after);
+    // with fewer bytes before the field there is no EVEX prefix
+    for bytes in [&evex[1..], &evex[3..]] {
+        let offset = bytes.len() as u64 - 4;
+        let before = Section {
+            bytes: bytes.to_vec(),
+            relocations: vec![rela(offset, 9, 1, -4)],
+        };
+        let mut after = before.clone();
+        after.bytes[offset as usize - 2] = 0x8d;
+        after.relocations[0].code = 2;
+        expect(X86_64, &before, &after);
+    }
+}
+
 /// lea x@tlsld(%rip), %rdi; call __tls_get_addr@PLT
 fn local_dynamic() -> Section {
     Section {
@@ -229,16 +257,20 @@ fn local_dynamic_of_an_object_is_one_group() {
     assert_eq!(made[0].0.relocations[0].code, 0);
     assert_eq!(made[0].0.relocations[1].code, 0);
     assert_eq!(made[1].0.relocations, [rela(3, 23, 3, 0)]);
-    // where one call isn't there, all stay
+    // where one call isn't there, or one argument isn't the entry's address, all stay
     let mut damaged = local_dynamic();
     damaged.relocations[1].symbol = 3;
-    let sections = [&offsets, &local_dynamic(), &damaged];
-    for (made, before) in rewritten(X86_64, &symbols(), &sections)
-        .iter()
-        .zip(sections)
-    {
-        assert_eq!(made.0.bytes, before.bytes);
-        assert_eq!(made.0.relocations, before.relocations);
+    let mut moved = local_dynamic();
+    moved.relocations[0].addend = -12;
+    for other in [damaged, moved] {
+        let sections = [&offsets, &local_dynamic(), &other];
+        for (made, before) in rewritten(X86_64, &symbols(), &sections)
+            .iter()
+            .zip(sections)
+        {
+            assert_eq!(made.0.bytes, before.bytes);
+            assert_eq!(made.0.relocations, before.relocations);
+        }
     }
 }
 
@@ -1081,6 +1113,74 @@ fn short_thread_offsets_of_loongarch_lose_their_high_part() {
 }
 
 #[test]
+fn stores_of_their_own_base_keep_its_high_part() {
+    let addresses = Addresses {
+        thread_origin: 0x8000,
+        ..Addresses::default()
+    };
+    let values = values(0x8008, 0);
+    let made = |architecture, section: &Section| {
+        let phase = Phase::ThreadOffsets;
+        let made = placed(architecture, phase, &addresses, &values, &[section]);
+        let deletes = !made[0].1.is_empty();
+        assert_eq!(deletes, made[0].0.bytes != section.bytes);
+        deletes
+    };
+    let riscv = |store| {
+        let mut section = thread_offset(1);
+        section.bytes[12..].copy_from_slice(&u32::to_le_bytes(store));
+        section
+    };
+    // sb, sh, sw and sd a0, %tprel_lo(x)(a0) store the address: what GNU ld 2.40 links of sd, and
+    // qemu runs, stores another number
+    for store in [0x00a5_0023, 0x00a5_1023, 0x00a5_2023, 0x00a5_3023] {
+        assert!(!made(RiscV, &riscv(store)), "{store:x}");
+    }
+    // fsw and fsd fa0, %tprel_lo(x)(a0), and sd a1, %tprel_lo(x)(a0)
+    for store in [0x00a5_2027, 0x00a5_3027, 0x00b5_3023] {
+        assert!(made(RiscV, &riscv(store)), "{store:x}");
+    }
+    // lu12i.w a0, %le_hi20_r(x); add.d a0, a0, tp, %le_add_r(x), and a store over a0
+    let loongarch = |store| {
+        let relocation = |at: u64| {
+            let code = [121, 122, 123][at as usize];
+            [rela(4 * at, code, 1, 0), rela(4 * at, 100, 0, 0)]
+        };
+        Section {
+            bytes: words(&[0x1400_0004, 0x0010_8884, store]),
+            relocations: (0..3).flat_map(relocation).collect(),
+        }
+    };
+    // st.b, st.h, st.w and st.d a0, a0, %le_lo12_r(x)
+    for store in [0x2900_0084, 0x2940_0084, 0x2980_0084, 0x29c0_0084] {
+        assert!(!made(LoongArch64, &loongarch(store)), "{store:x}");
+    }
+    // fst.s and fst.d fa4, a0, %le_lo12_r(x); st.d a1, a0, %le_lo12_r(x); ld.d a0, a0, %le_lo12_r(x)
+    for access in [0x2b40_0084, 0x2bc0_0084, 0x29c0_0085, 0x28c0_0084] {
+        assert!(made(LoongArch64, &loongarch(access)), "{access:x}");
+    }
+}
+
+#[test]
+fn stores_of_their_own_base_keep_the_high_part_of_ppc64() {
+    // addis 9,13,x@tprel@ha, and std 9,x@tprel@l(9) or std 3,x@tprel@l(9)
+    let section = |store| Section {
+        bytes: words(&[0x3d2d_0000, store]),
+        relocations: vec![rela(0, 72, 1, 0), rela(4, 96, 1, 0)],
+    };
+    let addresses = Addresses {
+        thread_origin: 0x8000,
+        ..Addresses::default()
+    };
+    let values = values(0x1008, 0);
+    for (store, stays) in [(0xf929_0000, true), (0xf869_0000, false)] {
+        let phase = Phase::ThreadOffsets;
+        let made = placed(Ppc64, phase, &addresses, &values, &[&section(store)]);
+        assert_eq!(made[0].0.bytes == section(store).bytes, stays, "{store:x}");
+    }
+}
+
+#[test]
 fn short_thread_offsets_of_ppc64_lose_their_high_part() {
     // addis 9,13,x@tprel@ha; lwz 3,x@tprel@l(9); addi 4,9,x@tprel@l
     let section = |last| Section {
@@ -1852,6 +1952,66 @@ fn a_symbol_stays_where_one_of_its_parts_does() {
         &words(&[0x0000_0517, 0x0006_2583]),
         1,
     );
+}
+
+#[test]
+fn parts_near_the_global_pointer_are_apart() {
+    let known = [SymbolFacts {
+        is_local: true,
+        ..SymbolFacts::default()
+    }; 4];
+    let addresses = Addresses {
+        section: 0x1_1000,
+        ..Addresses::default()
+    };
+    let rewritten = |code: &[u8], parts: &[(u64, u32, u32, bool)]| {
+        let mut entries = marked(parts);
+        let before = entries.clone();
+        let made = rewrite_global_pointer(
+            RiscV,
+            &EXECUTABLE,
+            &known,
+            &addresses,
+            &near_symbols(),
+            GLOBAL_POINTER,
+            &[false; 4],
+            &mut entries,
+            code,
+            &mut [Decision::Kept; 8],
+            &mut [(0, 0); 4],
+        );
+        assert!(made.is_ok() || entries == before);
+        made
+    };
+    // lui a0 and lui a1 behind it; and lui a0 with two relocations, of which one instruction of four
+    // bytes can be deleted once
+    let code = words(&[0x0000_0537, 0x0000_05b7]);
+    let parts = [(0, 26, 1, true), (4, 26, 1, true)];
+    assert_eq!(rewritten(&code, &parts), Ok(2));
+    let twice = [(0, 26, 1, true), (0, 26, 1, true)];
+    assert_eq!(rewritten(&code, &twice), Err(RewritingError::Overlaps(2)));
+    // lui a0, whose last two bytes are the first of lw a1, 0(a1)
+    let code = [0x37, 0x05, 0x83, 0xa5, 0x05, 0];
+    let parts = [(0, 26, 1, true), (2, 27, 1, true)];
+    assert_eq!(rewritten(&code, &parts), Err(RewritingError::Overlaps(2)));
+    // the second lui stays where it isn't near the global pointer
+    let parts = [(0, 26, 1, true), (2, 27, 0, false)];
+    let symbols_stay = [true, false, false, false];
+    let mut entries = marked(&parts);
+    let made = rewrite_global_pointer(
+        RiscV,
+        &EXECUTABLE,
+        &known,
+        &addresses,
+        &near_symbols(),
+        GLOBAL_POINTER,
+        &symbols_stay,
+        &mut entries,
+        &code,
+        &mut [Decision::Kept; 8],
+        &mut [(0, 0); 4],
+    );
+    assert_eq!(made, Ok(1));
 }
 
 #[test]

@@ -221,7 +221,7 @@ moved_low_parts laws l all done loongarch i chosen below is_name decided x y bas
     let by = part_entry l.section o chosen
     (by_table l all loongarch i chosen below decided names.R_LARCH_TLS_LE_LO12_R tt is_name) in
     laws.low_offset x y s t differing (instruction_at l.section o) (instruction_at l.rewritten o)
-    (subst (λ word. IsTrue (adds_low12 (word / 2 ^ 22))) (word_same l.section o) (by.asked.1)) alike over stores same short
+    (subst (λ word. IsTrue (adds_low12 (word / 2 ^ 22))) (word_same l.section o) (by.asked.1.0)) alike over stores same short
     (becomes l done i chosen below decided kinds.BaseToTp by.kind_is (λ word. word - rj_of word * 2 ^ 5 + tp * 2 ^ 5) refl)
     low base of_low of_base
 

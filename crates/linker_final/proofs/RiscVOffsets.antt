@@ -152,13 +152,13 @@ module _ (laws : Laws) (name : RiscVRelocation) (a : IsAfter name) (of : IsOfIns
 pub low_parts : Laws → LowParts
 low_parts laws = (
   low_parts_of laws names.R_RISCV_TPREL_LO12_I low_i of_low_i refl refl (λ section o asked. asked) (λ addresses r symbol. refl),
-  low_parts_of laws names.R_RISCV_TPREL_LO12_S low_s of_low_s refl refl (λ section o asked. asked) (λ addresses r symbol. refl),
+  low_parts_of laws names.R_RISCV_TPREL_LO12_S low_s of_low_s refl refl (λ section o asked. (asked.0, asked.1.0)) (λ addresses r symbol. refl),
 )
 
 pub low_parts_anywhere : Laws → LowPartsAnywhere
 low_parts_anywhere laws = (
   anywhere_of laws names.R_RISCV_TPREL_LO12_I low_i of_low_i refl refl (λ section o asked. asked) (λ addresses r symbol. refl),
-  anywhere_of laws names.R_RISCV_TPREL_LO12_S low_s of_low_s refl refl (λ section o asked. asked) (λ addresses r symbol. refl),
+  anywhere_of laws names.R_RISCV_TPREL_LO12_S low_s of_low_s refl refl (λ section o asked. (asked.0, asked.1.0)) (λ addresses r symbol. refl),
 )
 
 -- ---- what is deleted

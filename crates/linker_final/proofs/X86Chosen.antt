@@ -1,6 +1,5 @@
 -- The rewrite that is chosen for a relocation of x86-64.
-use Rattle.std.proofs.Common.{◌≡◌, ℕ, ℤ, ◌-◌, ◌<◌, List, [], ◌∷◌, refl, sym, ap, subst, ◌∙◌, inl, inr, ◌⊎◌}
-use Rattle.std.specs.Prelude.{slice_index}
+use Rattle.std.proofs.Common.{◌≡◌, ℕ, ℤ, ◌<◌, List, [], ◌∷◌, refl, sym, ap, subst, ◌∙◌, inl, inr, ◌⊎◌}
 use Rattle.linker_elf.specs.Choices.{AllHold, Applies, IsFirst, choice}
 use Rattle.linker_elf.specs.ElfNames.{IsNamed, IsNameOf, code_of}
 use Rattle.linker_elf.specs.X86Relocations.{x86_64_name, x86_64_row}
@@ -18,7 +17,7 @@ use Rattle.linker_utils.specs.Architectures.{IsArchitectureChoice, relaxation_no
 use Rattle.linker_utils.specs.declared.architecture.Relaxation.{Relaxation}
 use Rattle.linker_utils.specs.declared.architecture.Relaxation.TheVariants as relaxations
 use Rattle.linker_utils.specs.declared.elf.Architecture.TheVariants.{X86_64}
-use Rattle.linker_x86_64.specs.X86Rewrites.{IsAskedFor, IsX86Choice, Original, Table, X86Entry, x86_64_after, x86_64_table}
+use Rattle.linker_x86_64.specs.X86Rewrites.{IsAskedFor, IsX86Choice, Original, Table, X86Entry, opcode_at, x86_64_after, x86_64_table}
 use Rattle.linker_x86_64.specs.declared.rewrites.RelaxationKind.{RelaxationKind}
 use Rattle.linker_x86_64.specs.declared.rewrites.RelaxationKind.TheVariants as kinds
 
@@ -68,7 +67,7 @@ pub of_table : (l : Linked) → IsLinked l → l.setting.architecture ≡ X86_64
     → decision_at l.decisions i ≡ Rewritten chosen
     → (name : X86_64Relocation) → IsNamed (x86_64_name name)
     → IsNameOf x86_64_name (relocation_in l.relocations i).code name
-    → IsOfTable (x86_64_table name (slice_index l.section ((relocation_in l.relocations i).offset - 2)))
+    → IsOfTable (x86_64_table name (opcode_at name l.section (relocation_in l.relocations i).offset))
     l.section (relocation_in l.relocations i).offset (relocation_in l.relocations i).addend chosen
 of_table l linked x86 i chosen below decided name named is_name =
     let r = relocation_in l.relocations i in
@@ -76,7 +75,7 @@ of_table l linked x86 i chosen below decided name named is_name =
     (λ scope is. unlabelled l.setting.phase r.code scope (subst (λ x. IsScopeIn x l.setting.phase r.code scope) x86 is)) in
     let h = subst (λ x. IsArchitectureChoice x r.code l.section r.offset c.facts chosen) x86 c.is_choice in
     let same : h.name ≡ name = h.is_name.named name named is_name.code_is in
-    let t = x86_64_table name (slice_index l.section (r.offset - 2)) in
+    let t = x86_64_table name (opcode_at name l.section r.offset) in
     by_first name l.section r.offset c.facts r.addend c.addend chosen h.named h.kind_is h.code_is
     (λ e. c.changed (
       subst relaxation_no_op (sym (h.kind_is ∙ ap (λ (q : Choice RelaxationKind X86_64Relocation). relaxations.X86_64 q.kind) e)) refl,

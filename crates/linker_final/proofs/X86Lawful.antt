@@ -1,6 +1,6 @@
 -- Each rewrite that is chosen for an instruction with an operand in the GOT has a law.
-use Rattle.std.proofs.Common.{◌≡◌, ℕ, ℤ, pos, neg_ℤ, ◌+◌, ◌-◌, ◌≤◌, List, [], ◌∷◌, length, Bool, true, false, IsTrue, eqb, cond, refl, sym, ap, subst, ◌∙◌, inl, inr, arith, Option, Some, None}
-use Rattle.std.specs.Prelude.{slice_index, ⊤}
+use Rattle.std.proofs.Common.{◌≡◌, ℕ, ℤ, pos, neg_ℤ, ◌+◌, ◌≤◌, List, [], ◌∷◌, length, Bool, true, false, IsTrue, eqb, cond, refl, sym, ap, subst, ◌∙◌, inl, inr, arith, Option, Some, None}
+use Rattle.std.specs.Prelude.{⊤}
 use Rattle.linker_elf.specs.Choices.{AllHold, choice}
 use Rattle.linker_elf.specs.ElfNames.{code_of}
 use Rattle.linker_elf.specs.X86Relocations.{x86_64_name, x86_64_row}
@@ -18,7 +18,7 @@ use Rattle.linker_utils.specs.declared.architecture.Relaxation.{Relaxation}
 use Rattle.linker_utils.specs.declared.architecture.Relaxation.TheVariants as relaxations
 use Rattle.linker_x86_64.specs.X86RelocationsAfter.{x86_64_relocation_after, immediate_of}
 use Rattle.linker_x86_64.specs.X86Rewrites as x86
-use Rattle.linker_x86_64.specs.X86Rewrites.{Original, is_one_at, legacy, x86_64_matches, x86_64_originals, x86_64_rewrite, x86_64_after, x86_64_table, IsAskedFor, X86Entry, Table}
+use Rattle.linker_x86_64.specs.X86Rewrites.{Original, is_one_at, legacy, x86_64_matches, opcode_at, x86_64_originals, x86_64_rewrite, x86_64_after, x86_64_table, IsAskedFor, X86Entry, Table}
 use Rattle.linker_x86_64.specs.declared.rewrites.RelaxationKind.{RelaxationKind}
 use Rattle.linker_x86_64.specs.declared.rewrites.RelaxationKind.TheVariants as kinds
 
@@ -399,10 +399,10 @@ module _ (laws : Laws) where
   -- each choice of a table
   pub of_choice : (name : X86_64Relocation) (operand : GotOperand) → got_operand name ≡ Some operand
       → (section : List ℕ) (o : ℕ) (addend : ℤ) (chosen : Choice Relaxation ℕ)
-      → IsOfTable (x86_64_table name (slice_index section (o - 2))) section o addend chosen
+      → IsOfTable (x86_64_table name (opcode_at name section o)) section o addend chosen
       → IsServed operand.back name operand.held section o addend chosen
   of_choice name operand wanted section o addend chosen is =
-      let opcode = slice_index section (o - 2) in
+      let opcode = opcode_at name section o in
       let t = x86_64_table name opcode in
       by_entries operand.back name operand.held t.instructions t.entries section o addend chosen
       (serves name operand wanted opcode).serves is

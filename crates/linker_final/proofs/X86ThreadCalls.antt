@@ -171,8 +171,8 @@ module _ (l : Linked) (linked : IsLinked l) (x86 : l.setting.architecture ≡ X8
 
   -- of a module
   block : (count : ℕ) → ReplacesModuleCall call count kind → back ≡ 3 → chosen.relocation ≡ 0
-      → BlockIsReplaced l i (record { back = back; call = call; count = count }) tls_module_row
-  block count law three code symbol entry s changed returned original addresses small addend ip thread returns was =
+      → r.addend ≡ neg_ℤ (pos 4) → BlockIsReplaced l i (record { back = back; call = call; count = count }) tls_module_row
+  block count law three code addend symbol entry s changed returned original addresses small ip thread returns was =
       let operands = operands_with X86_64 l.addresses tls_module_row symbol r entry in
       let image = l.addresses.module_origin in
       let pointed = l.addresses.thread_origin in
@@ -235,15 +235,18 @@ local_dynamic_too law l linked x86 i chosen below is_name decided =
         subst (Module l i) (sym this.kind_is) (λ alone.
         block l linked x86 i chosen below decided kinds.TlsLdToLocalExec this.kind_is 3 5
         (own_window 3 9 (x86_64_rewrite kinds.TlsLdToLocalExec) (puts 3 12 _ _ _) refl (λ window. refl) (omega arith) (omega arith))
-        ((refl, refl), tt) refl this.asked_for alone 1 (law.0) refl this.code_is)
+        ((refl, refl), tt) refl this.asked_for alone 1 (law.0) refl this.code_is
+        (sym this.same_addend ∙ this.hold.1.1.0))
     by_entry (inr (inl this)) =
         subst (Module l i) (sym this.kind_is) (λ alone.
         block l linked x86 i chosen below decided kinds.TlsLdToLocalExecNoPlt this.kind_is 3 6
         (own_window 3 10 (x86_64_rewrite kinds.TlsLdToLocalExecNoPlt) (puts 3 13 _ _ _) refl (λ window. refl) (omega arith) (omega arith))
-        ((refl, refl), tt) refl this.asked_for alone 1 (law.1) refl this.code_is)
+        ((refl, refl), tt) refl this.asked_for alone 1 (law.1) refl this.code_is
+        (sym this.same_addend ∙ this.hold.1.1.0))
     by_entry (inr (inr (inl this))) =
         subst (Module l i) (sym this.kind_is) (λ alone.
         block l linked x86 i chosen below decided kinds.TlsLdToLocalExec64 this.kind_is 3 15
         (own_window 3 19 (x86_64_rewrite kinds.TlsLdToLocalExec64) (puts 3 22 _ _ _) refl (λ window. refl) (omega arith) (omega arith))
-        ((refl, refl), ((refl, refl), tt)) refl this.asked_for alone 2 (law.2) refl this.code_is)
+        ((refl, refl), ((refl, refl), tt)) refl this.asked_for alone 2 (law.2) refl this.code_is
+        (sym this.same_addend ∙ this.hold.1.1.0))
     by_entry (inr (inr (inr nothing))) = absurd nothing

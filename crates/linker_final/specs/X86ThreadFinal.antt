@@ -1,8 +1,7 @@
 -- x86-64: in the final bytes of a section the sequences for thread-local variables do what the
 -- object's do with the values of their relocations (x86-64 psABI, "ELF Handling For Thread-Local
 -- Storage").
-use Rattle.std.specs.Prelude.{◌≡◌, ◌≢◌, ℕ, ◌+◌, ◌-◌, ◌^◌, ◌<◌, ◌≤◌, Bool, true, false, ⊤, neg_ℤ}
-use Rattle.std.specs.Prelude.{pos}
+use Rattle.std.specs.Prelude.{◌≡◌, ◌≢◌, ℕ, ◌+◌, ◌-◌, ◌^◌, ◌<◌, ◌≤◌, Bool, true, false, ⊤}
 use Rattle.std.specs.Prelude.{List, drop, Option, Some, None, IsSomeAnd, slice_get}
 use Rattle.linker_elf.specs.ElfNames.{IsNameOf}
 use Rattle.linker_elf.specs.Relocate.{number_of_bytes}
@@ -121,7 +120,7 @@ BlockIsReplaced l i q row =
     (symbol : Symbol) (entry : ℕ) (s : State) (changed : ℕ → Bool) (returned : ℕ → ℕ)
     (original : List ℕ)
     → let operands = operands_with X86_64 l.addresses row symbol r entry in
-    AreAddresses operands → l.addresses.thread_origin < 2 ^ 64 → r.addend ≡ neg_ℤ (pos 4)
+    AreAddresses operands → l.addresses.thread_origin < 2 ^ 64
     → s.ip ≡ difference_64 operands.place q.back
     → HasThreadPointer s
     → returned entry

@@ -68,7 +68,7 @@ meant r.R_LARCH_TLS_DESC_LD s o = (λ a. (a.0, tt), (λ a. (a.0, tt), tt))
 meant r.R_LARCH_TLS_DESC_CALL s o = (λ a. (a.0, tt), (λ a. (a.0, tt), tt))
 meant r.R_LARCH_TLS_LE_HI20_R s o = (λ a. (a.0, tt), tt)
 meant r.R_LARCH_TLS_LE_ADD_R s o = (λ a. (a.0, tt), tt)
-meant r.R_LARCH_TLS_LE_LO12_R s o = (λ a. a, tt)
+meant r.R_LARCH_TLS_LE_LO12_R s o = (λ a. (a.0, a.1.0), tt)
 meant name s o = tt
 
 first_meant : (name : LoongArch64Relocation) (s : List ℕ) (o : ℕ) (facts : LinkFacts) (es : List LoongArchEntry) (otherwise c : LoongArchChoice)

@@ -2,7 +2,7 @@
 -- storage; LoongArch Reference Manual, volume 1).
 use Rattle.std.specs.Prelude.{ℕ, ◌+◌, ◌-◌, ◌*◌, ◌^◌, List, [], ◌∷◌, Option, None, Some, ◌≡◌, ◌≢◌}
 use Rattle.std.specs.Prelude.{◌≤◌, ◌/◌, length, drop, Bool, true, ◌==◌, ◌||◌, ◌&&◌, nat_le, IsTrue}
-use Rattle.std.specs.Prelude.{⊤}
+use Rattle.std.specs.Prelude.{⊤, not}
 use Rattle.std.specs.Prelude.{◌⊎◌, ◌<◌, ◌++◌, ℤ, pos, neg_ℤ}
 use Rattle.std.specs.Int.{w32, from_le_bytes, to_le_bytes}
 use Rattle.linker_base.specs.Bits.{field}
@@ -127,6 +127,16 @@ abbrev pub adds_low12 : ℕ → Bool
 adds_low12 opcode =
     opcode == 0x00a || opcode == 0x00b || nat_le 0x0a0 opcode && nat_le opcode 0x0b3
 
+-- a store of what its own base holds, by `st.b`, `st.h`, `st.w` or `st.d`
+abbrev pub stores_base : ℕ → Bool
+stores_base word =
+    nat_le 0x0a4 (word / 2 ^ 22) && nat_le (word / 2 ^ 22) 0x0a7 && rd_of word == rj_of word
+
+-- The instruction adds such an immediate, and another register than its source can be the source:
+-- it doesn't store that.
+abbrev pub IsLowOverOther : ℕ → Type 0
+IsLowOverOther word = IsTrue (adds_low12 (word / 2 ^ 22)) × IsTrue (not (stores_base word))
+
 -- ---- pairs
 
 -- The source register is the destination register, and isn't `zero`.
@@ -226,6 +236,7 @@ IsAskedFor r.R_LARCH_TLS_DESC_LD kind = IsSingle IsLoadOfDescriptor
 IsAskedFor r.R_LARCH_TLS_DESC_CALL kind = IsSingle IsCallOfDescriptor
 IsAskedFor r.R_LARCH_TLS_LE_HI20_R kind = IsSingle IsLu12i
 IsAskedFor r.R_LARCH_TLS_LE_ADD_R kind = IsSingle IsAddTp
+IsAskedFor r.R_LARCH_TLS_LE_LO12_R kind = IsSingle IsLowOverOther
 -- what the rewrite is meant for
 IsAskedFor name kind = loongarch_matches kind
 

@@ -12,6 +12,7 @@ ghost use Rattle.linker_loongarch64.specs.LoongArchRewrites.{loongarch_rewrite};
 ghost use Rattle.linker_loongarch64.specs.LoongArchRewrites.{loongarch_modifier, loongarch_deleted};
 ghost use Rattle.linker_loongarch64.specs.LoongArchRewrites.{rd_of, rj_of};
 ghost use Rattle.linker_loongarch64.specs.LoongArchRewrites.{loongarch_matches, adds_low12};
+ghost use Rattle.linker_loongarch64.specs.LoongArchRewrites.{stores_base, IsLowOverOther};
 ghost use Rattle.linker_loongarch64.specs.LoongArchRewrites.{IsAddi, IsLd, IsPcalau12i};
 ghost use Rattle.linker_loongarch64.specs.LoongArchRewrites.{IsIntoOwnSource, AreOfOneRegister};
 ghost use Rattle.linker_loongarch64.specs.LoongArchRewrites.{IsCall};
@@ -143,6 +144,25 @@ fn adds_immediate(word: u32) -> bool
 {
     let opcode = word >> 22;
     opcode == 0x00a || opcode == 0x00b || 0x0a0 <= opcode && opcode <= 0x0b3
+}
+
+/// Whether an instruction is a store of the register that is its base: `st.b`, `st.h`, `st.w` or
+/// `st.d`.
+#[inline(always)]
+fn stores_base(word: u32) -> bool
+    ensures { result ≡ stores_base word }
+{
+    let opcode = word >> 22;
+    0x0a4 <= opcode && opcode <= 0x0a7 && destination(word) == source(word)
+}
+
+/// Whether an instruction adds a signed immediate of 12 bits to a register that another one can
+/// replace.
+#[inline(always)]
+pub(super) fn is_low_over_other(word: u32) -> bool
+    ensures { IsTrue result ↔ IsLowOverOther word }
+{
+    adds_immediate(word) && !stores_base(word)
 }
 
 /// Whether the source register is the destination register, and isn't `zero`.

@@ -1,18 +1,18 @@
 -- What is recognised of x86-64.
-use Rattle.std.specs.Prelude.{ℕ, ◌-◌, List, slice_index}
+use Rattle.std.specs.Prelude.{ℕ, List}
 use Rattle.linker_elf.specs.Choices.{Applies}
 use Rattle.linker_elf.specs.X86Relocations.{x86_64_name, x86_64_row}
 use Rattle.linker_elf.specs.declared.x86_64.relocations.X86_64Relocation.{X86_64Relocation}
 use Rattle.linker_reading.specs.Recognised.{Recogniser}
 use Rattle.linker_utils.specs.declared.architecture.Relaxation.TheVariants as relaxations
 use Rattle.linker_x86_64.specs.X86Rewrites.{Table, IsAskedFor as IsAskedForByX86}
-use Rattle.linker_x86_64.specs.X86Rewrites.{x86_64_after, x86_64_table}
+use Rattle.linker_x86_64.specs.X86Rewrites.{opcode_at, x86_64_after, x86_64_table}
 use Rattle.linker_x86_64.specs.declared.rewrites.RelaxationKind.TheVariants as of_x86_64
 use Rattle.linker_x86_64.specs.declared.rewrites.RelaxationKind.{RelaxationKind as X86Kind}
 
--- by the opcode two bytes before the offset
+-- by the opcode before the offset
 abbrev pub x86_64_table_at : X86_64Relocation → List ℕ → ℕ → Table
-x86_64_table_at name original o = x86_64_table name (slice_index original (o - 2))
+x86_64_table_at name original o = x86_64_table name (opcode_at name original o)
 
 abbrev pub x86_64 : Recogniser X86Kind X86_64Relocation
 x86_64 =

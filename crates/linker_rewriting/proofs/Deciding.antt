@@ -8,7 +8,7 @@ use Rattle.linker_base.specs.RewriteWindow.{window_of_rewrite}
 use Rattle.linker_base.specs.declared.rewrite.DeletedBytes.{DeletedBytes}
 use Rattle.linker_utils.specs.Architectures.{relaxation_rewrite, relaxation_deleted}
 use Rattle.linker_rewriting.specs.Candidates.{deletes_within}
-use Rattle.linker_rewriting.specs.Decisions.{deleted_end, CanBeMade, AllCanBeMade, AreApart, decision_at, is_taken, takes_next, start_by, end_by, start_at, end_at, IsDecidedAfter, IsDecidedAlone, IsDecisionAfter, IsNotSurveyed, IsOverlapping, AreDecidedIn, IsEndBehind}
+use Rattle.linker_rewriting.specs.Decisions.{deleted_end, CanBeMade, AllCanBeMade, AreApart, decision_at, is_taken, takes_next, start_by, end_by, IsDecidedAfter, IsDecidedAlone, IsDecisionAfter, IsNotSurveyed, IsOverlapping, AreDecidedIn, IsEndBehind}
 use Rattle.linker_rewriting.specs.Facts.{Setting}
 use Rattle.linker_rewriting.specs.Labels.{IsLabelNote}
 use Rattle.linker_rewriting.specs.Notes.{is_note, AreLabelsNoted}
@@ -19,21 +19,40 @@ use Rattle.linker_section.specs.Relocations.{relocation_in}
 use Rattle.linker_section.specs.declared.relocations.Rela.{Rela}
 use borrow.Author.Count.{below_more}
 
+-- where the bytes of a decision begin or end, by its relocation's offset
+abbrev pub Bound : Type 0
+Bound = Decision → ℕ → ℕ
+
 -- those of a relocation with an index
-abbrev pub start_of : List ℕ → ℕ → Decision → ℕ
-start_of bytes n d = start_by d (relocation_in bytes n).offset
+abbrev pub bound_at : Bound → List ℕ → ℕ → Decision → ℕ
+bound_at B bytes n d = B d (relocation_in bytes n).offset
 
-abbrev pub end_of : List ℕ → ℕ → Decision → ℕ
-end_of bytes n d = end_by d (relocation_in bytes n).offset
+abbrev pub IsSome : Bound → Bound → List ℕ → ℕ → Decision → Type 0
+IsSome S E bytes n d = bound_at S bytes n d < bound_at E bytes n d
 
-abbrev pub IsSome : List ℕ → ℕ → Decision → Type 0
-IsSome bytes n d = start_of bytes n d < end_of bytes n d
+-- what is some is apart
+abbrev pub AreApartBy : Bound → Bound → List ℕ → List Decision → ℕ → Type 0
+AreApartBy S E bytes decisions limit =
+    (i j : ℕ) → i < j → j < limit → IsSome S E bytes i (decision_at decisions i)
+    → IsSome S E bytes j (decision_at decisions j)
+    → bound_at E bytes i (decision_at decisions i) ≤ bound_at S bytes j (decision_at decisions j)
+
+-- one of the windows ends there
+abbrev pub IsReached : Bound → Bound → List ℕ → List Decision → ℕ → ℕ → Type 0
+IsReached S E bytes decisions end k =
+    (end ≡ 0)
+    ⊎ ((n : ℕ) × (n < k) × (IsSome S E bytes n (decision_at decisions n))
+    × (bound_at E bytes n (decision_at decisions n) ≡ end))
 
 -- windows so far end at or below the limit, which one of them reaches
-pub record EndsAt (bytes : List ℕ) (decisions : List Decision) (end k : ℕ) : Type 0 where
-  pub below : (n : ℕ) → n < k → IsSome bytes n (decision_at decisions n) → end_at bytes decisions n ≤ end
-  pub reached : (end ≡ 0)
-      ⊎ ((n : ℕ) × (n < k) × (IsSome bytes n (decision_at decisions n)) × (end_at bytes decisions n ≡ end))
+pub record EndsAt (S E : Bound) (bytes : List ℕ) (decisions : List Decision) (end k : ℕ) : Type 0 where
+  pub below : (n : ℕ) → n < k → IsSome S E bytes n (decision_at decisions n)
+      → bound_at E bytes n (decision_at decisions n) ≤ end
+  pub reached : IsReached S E bytes decisions end k
+
+pub none_ends : (S E : Bound) (bytes : List ℕ) (decisions : List Decision) → EndsAt S E bytes decisions 0 0
+none_ends S E bytes decisions =
+    record { below = λ n less. absurd (omega (arith, less)); reached = inl refl }
 
 pub record AreDecidedTo (s : Setting) (kept : List KeptGroups) (bytes section : List ℕ)
     (decisions : List Decision) (end : ℕ) (taken : Bool) (k : ℕ) : Type 0 where
@@ -41,7 +60,7 @@ pub record AreDecidedTo (s : Setting) (kept : List KeptGroups) (bytes section : 
   pub made : AllCanBeMade bytes section decisions k
   pub apart : AreApart bytes decisions k
   pub taken_is : taken ≡ is_taken decisions k
-  pub ends : EndsAt bytes decisions end k
+  pub ends : EndsAt start_by end_by bytes decisions end k
   pub notes : AreLabelsNoted s bytes section decisions k
 
 pub none_decided : (s : Setting) (kept : List KeptGroups) (bytes section : List ℕ)
@@ -54,7 +73,7 @@ none_decided s kept bytes section decisions notes =
       made = λ n less. absurd (omega arith);
       apart = λ i j ij less. absurd (omega arith);
       taken_is = refl;
-      ends = record { below = λ n less. absurd (omega arith); reached = inl refl };
+      ends = none_ends start_by end_by bytes decisions;
     }
 
 -- the decisions below an index are the same
@@ -73,82 +92,76 @@ taken_next decisions k =
     subst (λ n. is_taken decisions n ≡ takes_next (decision_at decisions k)) e refl
 
 -- the end of one more window, as `end_behind` gives it
-abbrev pub IsGrown : List ℕ → ℕ → Decision → ℕ → ℕ → Type 0
-IsGrown bytes k d end new =
-    ((end_of bytes k d ≤ start_of bytes k d) × (new ≡ end))
-    ⊎ (IsSome bytes k d × (end ≤ start_of bytes k d) × (new ≡ end_of bytes k d))
+abbrev pub IsGrown : Bound → Bound → List ℕ → ℕ → Decision → ℕ → ℕ → Type 0
+IsGrown S E bytes k d end new =
+    IsEndBehind (bound_at S bytes k d) (bound_at E bytes k d) end (Some new)
 
-grown_le : (bytes : List ℕ) (k : ℕ) (d : Decision) (end new : ℕ) → IsGrown bytes k d end new
-    → end ≤ new
-grown_le bytes k d end new (inl stays) = let e = stays.1 in omega arith
-grown_le bytes k d end new (inr grows) =
+grown_le : (S E : Bound) (bytes : List ℕ) (k : ℕ) (d : Decision) (end new : ℕ)
+    → IsGrown S E bytes k d end new → end ≤ new
+grown_le S E bytes k d end new (inl stays) = let e = stays.1 in omega arith
+grown_le S E bytes k d end new (inr grows) =
     let a = grows.1 in let b = grows.2 in omega arith
 
-grown_start : (bytes : List ℕ) (k : ℕ) (d : Decision) (end new : ℕ) → IsGrown bytes k d end new
-    → IsSome bytes k d → end ≤ start_of bytes k d
-grown_start bytes k d end new (inl stays) some = let e = stays.0 in absurd (omega arith)
-grown_start bytes k d end new (inr grows) some = grows.1
+grown_start : (S E : Bound) (bytes : List ℕ) (k : ℕ) (d : Decision) (end new : ℕ)
+    → IsGrown S E bytes k d end new → IsSome S E bytes k d → end ≤ bound_at S bytes k d
+grown_start S E bytes k d end new (inl stays) some = let e = stays.0 in absurd (omega arith)
+grown_start S E bytes k d end new (inr grows) some = grows.1
 
-grown_end : (bytes : List ℕ) (k : ℕ) (d : Decision) (end new : ℕ) → IsGrown bytes k d end new
-    → IsSome bytes k d → end_of bytes k d ≤ new
-grown_end bytes k d end new (inl stays) some = let e = stays.0 in absurd (omega arith)
-grown_end bytes k d end new (inr grows) some = let e = grows.2 in omega arith
+grown_end : (S E : Bound) (bytes : List ℕ) (k : ℕ) (d : Decision) (end new : ℕ)
+    → IsGrown S E bytes k d end new → IsSome S E bytes k d → bound_at E bytes k d ≤ new
+grown_end S E bytes k d end new (inl stays) some = let e = stays.0 in absurd (omega arith)
+grown_end S E bytes k d end new (inr grows) some = let e = grows.2 in omega arith
 
--- one of the windows ends there
-abbrev pub IsReached : List ℕ → List Decision → ℕ → ℕ → Type 0
-IsReached bytes decisions end k =
-    (end ≡ 0)
-    ⊎ ((n : ℕ) × (n < k) × (IsSome bytes n (decision_at decisions n)) × (end_at bytes decisions n ≡ end))
-
-reached_on : (bytes : List ℕ) (old new : List Decision) (k end : ℕ) → AreSame old new k
-    → IsReached bytes old end k → IsReached bytes new end (k + 1)
-reached_on bytes old new k end same (inl none) = inl none
-reached_on bytes old new k end same (inr one) =
+reached_on : (S E : Bound) (bytes : List ℕ) (old new : List Decision) (k end : ℕ)
+    → AreSame old new k → IsReached S E bytes old end k → IsReached S E bytes new end (k + 1)
+reached_on S E bytes old new k end same (inl none) = inl none
+reached_on S E bytes old new k end same (inr one) =
     inr (
       one.0,
       omega (arith, one.1),
-      subst (λ x. IsSome bytes (one.0) x) (sym (same (one.0) (one.1))) (one.2),
-      ap (end_of bytes (one.0)) (same (one.0) (one.1)) ∙ one.3,
+      subst (λ x. IsSome S E bytes (one.0) x) (sym (same (one.0) (one.1))) (one.2),
+      ap (bound_at E bytes (one.0)) (same (one.0) (one.1)) ∙ one.3,
     )
 
-reached_more : (bytes : List ℕ) (old new : List Decision) (k end grown : ℕ) (d : Decision)
-    → AreSame old new k → decision_at new k ≡ d → IsReached bytes old end k
-    → IsGrown bytes k d end grown → IsReached bytes new grown (k + 1)
-reached_more bytes old new k end grown d same here reached (inl stays) =
-    subst (λ e. IsReached bytes new e (k + 1)) (sym (stays.1))
-    (reached_on bytes old new k end same reached)
-reached_more bytes old new k end grown d same here reached (inr grows) =
+reached_more : (S E : Bound) (bytes : List ℕ) (old new : List Decision) (k end grown : ℕ) (d : Decision)
+    → AreSame old new k → decision_at new k ≡ d → IsReached S E bytes old end k
+    → IsGrown S E bytes k d end grown → IsReached S E bytes new grown (k + 1)
+reached_more S E bytes old new k end grown d same here reached (inl stays) =
+    subst (λ e. IsReached S E bytes new e (k + 1)) (sym (stays.1))
+    (reached_on S E bytes old new k end same reached)
+reached_more S E bytes old new k end grown d same here reached (inr grows) =
     inr (
       k,
       omega arith,
-      subst (λ x. IsSome bytes k x) (sym here) (grows.0),
-      ap (end_of bytes k) here ∙ sym (grows.2),
+      subst (λ x. IsSome S E bytes k x) (sym here) (grows.0),
+      ap (bound_at E bytes k) here ∙ sym (grows.2),
     )
 
-pub ends_more : (bytes : List ℕ) (old new : List Decision) (k end grown : ℕ) (d : Decision)
-    → AreSame old new k → decision_at new k ≡ d → EndsAt bytes old end k
-    → IsGrown bytes k d end grown → EndsAt bytes new grown (k + 1)
-ends_more bytes old new k end grown d same here ends grow =
+pub ends_more : (S E : Bound) (bytes : List ℕ) (old new : List Decision) (k end grown : ℕ) (d : Decision)
+    → AreSame old new k → decision_at new k ≡ d → EndsAt S E bytes old end k
+    → IsGrown S E bytes k d end grown → EndsAt S E bytes new grown (k + 1)
+ends_more S E bytes old new k end grown d same here ends grow =
     record {
-      below = below_more (λ n. IsSome bytes n (decision_at new n) → end_at bytes new n ≤ grown) k
-          (λ n less. subst (λ x. IsSome bytes n x → end_of bytes n x ≤ grown) (sym (same n less))
-          (λ some. let a = ends.below n less some in let b = grown_le bytes k d end grown grow in omega arith))
-          (subst (λ x. IsSome bytes k x → end_of bytes k x ≤ grown) (sym here)
-          (grown_end bytes k d end grown grow));
-      reached = reached_more bytes old new k end grown d same here ends.reached grow;
+      below = below_more (λ n. IsSome S E bytes n (decision_at new n) → bound_at E bytes n (decision_at new n) ≤ grown) k
+          (λ n less. subst (λ x. IsSome S E bytes n x → bound_at E bytes n x ≤ grown) (sym (same n less))
+          (λ some. let a = ends.below n less some in let b = grown_le S E bytes k d end grown grow in omega arith))
+          (subst (λ x. IsSome S E bytes k x → bound_at E bytes k x ≤ grown) (sym here)
+          (grown_end S E bytes k d end grown grow));
+      reached = reached_more S E bytes old new k end grown d same here ends.reached grow;
     }
 
-pub apart_more : (bytes : List ℕ) (old new : List Decision) (k end grown : ℕ) (d : Decision)
-    → AreSame old new k → decision_at new k ≡ d → EndsAt bytes old end k → AreApart bytes old k
-    → IsGrown bytes k d end grown → AreApart bytes new (k + 1)
-apart_more bytes old new k end grown d same here ends apart grow i j ij less =
-    below_more (λ m. (n : ℕ) → n < m → IsSome bytes n (decision_at new n) → IsSome bytes m (decision_at new m) → end_at bytes new n ≤ start_at bytes new m) k
-    (λ m mk n nm. subst (λ x. IsSome bytes n x → IsSome bytes m (decision_at new m) → end_of bytes n x ≤ start_at bytes new m) (sym (same n (omega arith)))
-    (subst (λ x. IsSome bytes n (decision_at old n) → IsSome bytes m x → end_at bytes old n ≤ start_of bytes m x) (sym (same m mk))
+pub apart_more : (S E : Bound) (bytes : List ℕ) (old new : List Decision) (k end grown : ℕ) (d : Decision)
+    → AreSame old new k → decision_at new k ≡ d → EndsAt S E bytes old end k
+    → AreApartBy S E bytes old k
+    → IsGrown S E bytes k d end grown → AreApartBy S E bytes new (k + 1)
+apart_more S E bytes old new k end grown d same here ends apart grow i j ij less =
+    below_more (λ m. (n : ℕ) → n < m → IsSome S E bytes n (decision_at new n) → IsSome S E bytes m (decision_at new m) → bound_at E bytes n (decision_at new n) ≤ bound_at S bytes m (decision_at new m)) k
+    (λ m mk n nm. subst (λ x. IsSome S E bytes n x → IsSome S E bytes m (decision_at new m) → bound_at E bytes n x ≤ bound_at S bytes m (decision_at new m)) (sym (same n (omega arith)))
+    (subst (λ x. IsSome S E bytes n (decision_at old n) → IsSome S E bytes m x → bound_at E bytes n (decision_at old n) ≤ bound_at S bytes m x) (sym (same m mk))
     (apart n m nm mk)))
-    (λ n nk. subst (λ x. IsSome bytes n x → IsSome bytes k (decision_at new k) → end_of bytes n x ≤ start_at bytes new k) (sym (same n nk))
-    (subst (λ x. IsSome bytes n (decision_at old n) → IsSome bytes k x → end_at bytes old n ≤ start_of bytes k x) (sym here)
-    (λ some_n some_k. let a = ends.below n nk some_n in let b = grown_start bytes k d end grown grow some_k in omega arith)))
+    (λ n nk. subst (λ x. IsSome S E bytes n x → IsSome S E bytes k (decision_at new k) → bound_at E bytes n x ≤ bound_at S bytes k (decision_at new k)) (sym (same n nk))
+    (subst (λ x. IsSome S E bytes n (decision_at old n) → IsSome S E bytes k x → bound_at E bytes n (decision_at old n) ≤ bound_at S bytes k x) (sym here)
+    (λ some_n some_k. let a = ends.below n nk some_n in let b = grown_start S E bytes k d end grown grow some_k in omega arith)))
     j less i ij
 
 pub more_decided : (s : Setting) (kept : List KeptGroups) (bytes section : List ℕ)
@@ -157,7 +170,7 @@ pub more_decided : (s : Setting) (kept : List KeptGroups) (bytes section : List 
     → k < length old
     → IsDecidedAfter s kept bytes section k taken d
     → CanBeMade d section (relocation_in bytes k).offset
-    → IsGrown bytes k d end grown
+    → IsGrown start_by end_by bytes k d end grown
     → AreDecidedTo s kept bytes section (slice_set old k d) grown
     (takes_next d) (k + 1)
 more_decided s kept bytes section old end grown taken k d before within is can grow =
@@ -174,9 +187,9 @@ more_decided s kept bytes section old end grown taken k d before within is can g
       made = below_more (λ n. CanBeMade (decision_at new n) section (relocation_in bytes n).offset) k
           (λ n less. subst (λ x. CanBeMade x section (relocation_in bytes n).offset) (sym (same n less)) (before.made n less))
           (subst (λ x. CanBeMade x section (relocation_in bytes k).offset) (sym here) can);
-      apart = apart_more bytes old new k end grown d same here before.ends before.apart grow;
+      apart = apart_more start_by end_by bytes old new k end grown d same here before.ends before.apart grow;
       taken_is = ap takes_next (sym here) ∙ sym (taken_next new k);
-      ends = ends_more bytes old new k end grown d same here before.ends grow;
+      ends = ends_more start_by end_by bytes old new k end grown d same here before.ends grow;
       notes = λ n from less in_label. subst (λ x. IsLabelNote s bytes section (relocation_in bytes n) (is_note x))
           (sym (get_or-set_other old k n d Kept (λ e. absurd (omega (arith, e, from)))))
           (before.notes n (omega (arith, from)) less in_label);
@@ -244,8 +257,8 @@ decided_after s kept bytes section k r false d is same =
 overlapping_one : (s : Setting) (kept : List KeptGroups) (bytes section : List ℕ)
     (decisions : List Decision) (end k : ℕ) (d : Decision)
     → IsDecidedAlone s kept bytes section k (relocation_in bytes k) d
-    → IsEndBehind (start_of bytes k d) (end_of bytes k d) end None
-    → IsReached bytes decisions end k
+    → IsEndBehind (bound_at start_by bytes k d) (bound_at end_by bytes k d) end None
+    → IsReached start_by end_by bytes decisions end k
     → IsOverlapping s kept bytes section decisions k
 overlapping_one s kept bytes section decisions end k d decided behind (inl none) =
     absurd (let e = behind.1 in omega arith)
@@ -264,7 +277,7 @@ pub overlapping : (s : Setting) (kept : List KeptGroups) (bytes section : List �
     (decisions : List Decision) (end k : ℕ) (r : Rela) (taken : Bool) (d : Decision)
     → IsDecisionAfter s kept bytes section k r taken (Some d)
     → r ≡ relocation_in bytes k → IsEndBehind (start_by d r.offset) (end_by d r.offset) end None
-    → EndsAt bytes decisions end k
+    → EndsAt start_by end_by bytes decisions end k
     → IsOverlapping s kept bytes section decisions k
 overlapping s kept bytes section decisions end k r true d is same behind ends =
     absurd (let none : d ≡ TakenAlong = (let e : Some d ≡ Some TakenAlong = is in cc) in

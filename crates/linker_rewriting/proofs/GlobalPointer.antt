@@ -4,9 +4,11 @@ use Rattle.std.proofs.Common.{◌≡◌, ◌≢◌, ℕ, suc, nat_le, is_some, �
 use Rattle.std.proofs.lemmas.List.{get_or-set_same, get_or-set_other}
 use Rattle.linker_rewriting.proofs.LabelGroups.{one_high_from}
 use Rattle.linker_rewriting.proofs.WordsNoted.{AreWordsKeptToo, stays_on, stays_now}
-use Rattle.linker_rewriting.specs.Decisions.{CanBeMade, decision_at}
+use Rattle.linker_rewriting.proofs.Deciding.{AreSame, EndsAt, IsGrown, IsReached, bound_at, none_ends, apart_more, ends_more}
+use Rattle.std.proofs.lemmas.Bool.{leb-true}
+use Rattle.linker_rewriting.specs.Decisions.{CanBeMade, IsEndBehind, decision_at}
 use Rattle.linker_rewriting.specs.Facts.{Setting}
-use Rattle.linker_rewriting.specs.GlobalPointer.{relative_high, IsLabelled, IsSubject, IsMemberBy, IsMember, part_of, is_reached, is_expected, fits, kept_by, IsKeepingSymbol, IsSymbolNoted, AreSymbolsSurveyed, part_decision, decided_by, IsPartDecided, ArePartsDecided, ArePartsRejected, MeansSymbolsUnsurveyed, ArePartsWhole, ArePartsWholeAcross, low_code, base_of, is_placed_by, is_placed, based_section, section_based}
+use Rattle.linker_rewriting.specs.GlobalPointer.{relative_high, IsLabelled, IsSubject, IsMemberBy, IsMember, part_of, is_reached, is_expected, fits, kept_by, IsKeepingSymbol, IsSymbolNoted, AreSymbolsSurveyed, part_decision, decided_by, IsPartDecided, ArePartsDecided, ArePartsApart, IsPartOverlapping, part_end, ArePartsRejected, MeansSymbolsUnsurveyed, ArePartsWhole, ArePartsWholeAcross, low_code, base_of, is_placed_by, is_placed, based_section, section_based}
 use Rattle.linker_rewriting.specs.Inner.Words.{IsThatWord}
 use Rattle.linker_rewriting.specs.Labels.{offset_of_label}
 use Rattle.linker_rewriting.specs.Rewritten.{IsRewritten}
@@ -139,13 +141,96 @@ expected s gp a bytes section n r part subject is =
     (and_second s.output.is_fixed _ (and_second s.output.is_executable _ (and_second a _ is))))
 
 -- what fits can be made
-pub part_made : (s : Setting) (gp : ℕ) (a : Bool) (bytes section : List ℕ) (n : ℕ) (r : Rela)
+part_made : (s : Setting) (gp : ℕ) (a : Bool) (bytes section : List ℕ) (n : ℕ) (r : Rela)
     (part : Part) (subject : Rela) → fits s gp a bytes section n r (part, subject) ≡ true
     → CanBeMade (part_decision part subject) section r.offset
 part_made s gp a bytes section n r (High opcode) subject is =
     (tt, and_first _ _ (expected s gp a bytes section n r (High opcode) subject is))
 part_made s gp a bytes section n r (Low code) subject is = (tt, refl)
 part_made s gp a bytes section n r (Labelled code) subject is = (tt, refl)
+
+-- and its instruction is in the section
+part_inside : (s : Setting) (gp : ℕ) (a : Bool) (bytes section : List ℕ) (n : ℕ) (r : Rela)
+    (part : Part) (subject : Rela) → fits s gp a bytes section n r (part, subject) ≡ true
+    → part_end (part_decision part subject) r.offset ≤ length section
+part_inside s gp a bytes section n r (High opcode) subject is =
+    leb-true (r.offset + 4) (length section) (and_first _ _ (expected s gp a bytes section n r (High opcode) subject is))
+part_inside s gp a bytes section n r (Low code) subject is =
+    leb-true (r.offset + 4) (length section) (and_first _ _ (expected s gp a bytes section n r (Low code) subject is))
+part_inside s gp a bytes section n r (Labelled code) subject is =
+    leb-true (r.offset + 4) (length section) (and_first _ _ (expected s gp a bytes section n r (Labelled code) subject is))
+
+pub member_made : (s : Setting) (gp : ℕ) (a : Bool) (bytes section : List ℕ) (n : ℕ) (r : Rela)
+    (member : Part × Rela) → fits s gp a bytes section n r member ≡ true
+    → CanBeMade (part_decision (member.0) (member.1)) section r.offset
+member_made s gp a bytes section n r (part, subject) is =
+    part_made s gp a bytes section n r part subject is
+
+pub member_ends : (s : Setting) (gp : ℕ) (a : Bool) (bytes section : List ℕ) (n : ℕ) (r : Rela)
+    (member : Part × Rela) → fits s gp a bytes section n r member ≡ true
+    → (limit : ℕ) → r.offset ≤ limit → length section ≤ limit
+    → part_end (part_decision (member.0) (member.1)) r.offset ≤ limit
+member_ends s gp a bytes section n r (part, subject) is limit low long =
+    let e = part_inside s gp a bytes section n r part subject is in omega (arith, e, long)
+
+-- ---- apart
+
+abbrev pub part_start : Decision → ℕ → ℕ
+part_start d o = o
+
+-- the instructions of parts that are rewritten so far are apart, and end there
+pub record ArePartsApartTo (bytes : List ℕ) (decisions : List Decision) (end k : ℕ) : Type 0 where
+  pub apart : ArePartsApart bytes decisions k
+  pub ends : EndsAt part_start part_end bytes decisions end k
+
+pub none_apart : (bytes : List ℕ) (decisions : List Decision) → ArePartsApartTo bytes decisions 0 0
+none_apart bytes decisions =
+    record {
+      apart = λ i j ij less. absurd (omega (arith, less));
+      ends = none_ends part_start part_end bytes decisions;
+    }
+
+pub more_apart : (bytes : List ℕ) (old : List Decision) (end grown k : ℕ) (d : Decision)
+    → ArePartsApartTo bytes old end k → k < length old
+    → IsGrown part_start part_end bytes k d end grown
+    → ArePartsApartTo bytes (slice_set old k d) grown (k + 1)
+more_apart bytes old end grown k d before within grow =
+    let new : List Decision = slice_set old k d in
+    let same : AreSame old new k =
+    λ n less. get_or-set_other old k n d Kept (λ e. absurd (omega (arith, e, less))) in
+    let here : decision_at new k ≡ d = get_or-set_same old k d Kept within in
+    record {
+      apart = apart_more part_start part_end bytes old new k end grown d same here before.ends before.apart grow;
+      ends = ends_more part_start part_end bytes old new k end grown d same here before.ends grow;
+    }
+
+overlapping_one : (s : Setting) (gp : ℕ) (kept : List Bool) (bytes section : List ℕ)
+    (decisions : List Decision) (end k : ℕ) (d : Decision)
+    → IsPartDecided s gp kept bytes section k (relocation_in bytes k) (Some d)
+    → IsEndBehind (bound_at part_start bytes k d) (bound_at part_end bytes k d) end None
+    → IsReached part_start part_end bytes decisions end k
+    → IsPartOverlapping s gp kept bytes section decisions k
+overlapping_one s gp kept bytes section decisions end k d decided behind (inl none) =
+    absurd (let e = behind.1 in omega (arith, e, none))
+overlapping_one s gp kept bytes section decisions end k d decided behind (inr one) =
+    record {
+      decision = d;
+      decided = decided;
+      is_rewritten = behind.0;
+      before = one.0;
+      is_before = one.1;
+      is_rewritten_too = one.2;
+      overlap = let e = behind.1 in let reach = one.3 in omega (arith, e, reach);
+    }
+
+pub parts_overlap : (s : Setting) (gp : ℕ) (kept : List Bool) (bytes section : List ℕ)
+    (decisions : List Decision) (end k : ℕ) (d : Decision)
+    → IsPartDecided s gp kept bytes section k (relocation_in bytes k) (Some d)
+    → IsEndBehind (bound_at part_start bytes k d) (bound_at part_end bytes k d) end None
+    → ArePartsApartTo bytes decisions end k
+    → IsPartOverlapping s gp kept bytes section decisions k
+parts_overlap s gp kept bytes section decisions end k d decided behind are =
+    overlapping_one s gp kept bytes section decisions end k d decided behind are.ends.reached
 
 -- ---- decided
 
@@ -280,7 +365,7 @@ means_unsurveyed s gp kept bytes section decisions room (NotSurveyed n) is =
     (one_member s bytes r keeping.member this.member up keeping.is_member this.is_member)
     (subst (λ a. here.symbol ≡ kept_by s gp a bytes section n r keeping.member) flag keeping.keeps))
     here.stays
-means_unsurveyed s gp kept bytes section decisions room (Overlaps n) is = absurd is
+means_unsurveyed s gp kept bytes section decisions room (Overlaps n) is = tt
 
 -- ---- bases
 

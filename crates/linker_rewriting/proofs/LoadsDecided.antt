@@ -1,7 +1,7 @@
 -- Decisions of loads from words, relocation by relocation.
-use Rattle.std.proofs.Common.{◌≡◌, ℕ, ◌+◌, ◌<◌, inl, inr, List, length, sym, subst, arith, refl, Bool, None, slice_set}
+use Rattle.std.proofs.Common.{◌≡◌, ℕ, ◌+◌, ◌<◌, inl, inr, List, length, sym, subst, arith, Bool, None, slice_set}
 use Rattle.std.proofs.lemmas.List.{get_or-set_same, get_or-set_other}
-use Rattle.linker_rewriting.proofs.Deciding.{AreSame, EndsAt, IsGrown, IsReached, start_of, end_of, apart_more, ends_more}
+use Rattle.linker_rewriting.proofs.Deciding.{AreSame, EndsAt, IsGrown, IsReached, bound_at, none_ends, apart_more, ends_more}
 use Rattle.linker_rewriting.specs.Decisions.{CanBeMade, AllCanBeMade, AreApart, IsEndBehind, decision_at, start_by, end_by}
 use Rattle.linker_rewriting.specs.Facts.{Setting}
 use Rattle.linker_rewriting.specs.Words.{AreLoadsDecided, IsLoadDecision, IsLoadOverlapping}
@@ -16,7 +16,7 @@ pub record AreLoadsDecidedTo (s : Setting) (start : ℕ) (words : List ℕ) (kep
   pub decided : AreLoadsDecided s start words kept bytes section decisions k
   pub made : AllCanBeMade bytes section decisions k
   pub apart : AreApart bytes decisions k
-  pub ends : EndsAt bytes decisions end k
+  pub ends : EndsAt start_by end_by bytes decisions end k
 
 pub no_loads : (s : Setting) (start : ℕ) (words : List ℕ) (kept : List Bool)
     (bytes section : List ℕ) (decisions : List Decision)
@@ -26,7 +26,7 @@ no_loads s start words kept bytes section decisions =
       decided = λ n less. absurd (omega (arith, less));
       made = λ n less. absurd (omega (arith, less));
       apart = λ i j ij less. absurd (omega (arith, less));
-      ends = record { below = λ n less. absurd (omega (arith, less)); reached = inl refl };
+      ends = none_ends start_by end_by bytes decisions;
     }
 
 pub more_loads : (s : Setting) (start : ℕ) (words : List ℕ) (kept : List Bool)
@@ -35,7 +35,7 @@ pub more_loads : (s : Setting) (start : ℕ) (words : List ℕ) (kept : List Boo
     → k < length old
     → IsLoadDecision s start words kept bytes section k (relocation_in bytes k) d
     → CanBeMade d section (relocation_in bytes k).offset
-    → IsGrown bytes k d end grown
+    → IsGrown start_by end_by bytes k d end grown
     → AreLoadsDecidedTo s start words kept bytes section (slice_set old k d) grown (k + 1)
 more_loads s start words kept bytes section old end grown k d before within is can grow =
     let new : List Decision = slice_set old k d in
@@ -49,15 +49,15 @@ more_loads s start words kept bytes section old end grown k d before within is c
       made = below_more (λ n. CanBeMade (decision_at new n) section (relocation_in bytes n).offset) k
           (λ n less. subst (λ x. CanBeMade x section (relocation_in bytes n).offset) (sym (same n less)) (before.made n less))
           (subst (λ x. CanBeMade x section (relocation_in bytes k).offset) (sym here) can);
-      apart = apart_more bytes old new k end grown d same here before.ends before.apart grow;
-      ends = ends_more bytes old new k end grown d same here before.ends grow;
+      apart = apart_more start_by end_by bytes old new k end grown d same here before.ends before.apart grow;
+      ends = ends_more start_by end_by bytes old new k end grown d same here before.ends grow;
     }
 
 overlapping_one : (s : Setting) (start : ℕ) (words : List ℕ) (kept : List Bool)
     (bytes section : List ℕ) (decisions : List Decision) (end k : ℕ) (d : Decision)
     → IsLoadDecision s start words kept bytes section k (relocation_in bytes k) d
-    → IsEndBehind (start_of bytes k d) (end_of bytes k d) end None
-    → IsReached bytes decisions end k
+    → IsEndBehind (bound_at start_by bytes k d) (bound_at end_by bytes k d) end None
+    → IsReached start_by end_by bytes decisions end k
     → IsLoadOverlapping s start words kept bytes section decisions k
 overlapping_one s start words kept bytes section decisions end k d decided behind (inl none) =
     absurd (let e = behind.1 in omega (arith, e, none))
@@ -76,7 +76,7 @@ pub loads_overlap : (s : Setting) (start : ℕ) (words : List ℕ) (kept : List 
     (bytes section : List ℕ) (decisions : List Decision) (end k : ℕ) (r : Rela) (d : Decision)
     → IsLoadDecision s start words kept bytes section k r d
     → r ≡ relocation_in bytes k → IsEndBehind (start_by d r.offset) (end_by d r.offset) end None
-    → EndsAt bytes decisions end k
+    → EndsAt start_by end_by bytes decisions end k
     → IsLoadOverlapping s start words kept bytes section decisions k
 loads_overlap s start words kept bytes section decisions end k r d decided same behind ends =
     overlapping_one s start words kept bytes section decisions end k d

@@ -13,7 +13,7 @@ use Rattle.linker_elf.specs.Value.{sum_64, difference_64}
 use Rattle.linker_elf.specs.declared.riscv64.relocations.RiscVRelocation.TheVariants as riscv64
 use Rattle.linker_riscv64.specs.RiscVCalls.{word_at}
 use Rattle.linker_riscv64.specs.RiscVRewrites.{opcode_of, funct3_of, rd_of, adds_low12, with_rs1}
-use Rattle.linker_riscv64.specs.RiscVRewrites.{rewrites_word, rs1_of, rs2_of}
+use Rattle.linker_riscv64.specs.RiscVRewrites.{rewrites_word, rs1_of, stores_base}
 use Rattle.linker_riscv64.specs.declared.rewrites.RelaxationKind.TheVariants as kinds
 use Rattle.linker_rewriting.specs.Decisions.{decision_at, deletions_by}
 use Rattle.linker_rewriting.specs.Facts.{Setting, address_in}
@@ -142,10 +142,6 @@ abbrev pub writes_none : ℕ → Bool
 writes_none word =
     (opcode_of word == 0x23) || ((opcode_of word == 0x27) || (opcode_of word == 0x07))
 
--- a store of what its own base holds
-abbrev pub stores_base : ℕ → Bool
-stores_base word = (opcode_of word == 0x23) && (rs2_of word == rs1_of word)
-
 -- an instruction that adds 12 bits to another register than x0, doesn't store what that holds, and
 -- doesn't write x3
 abbrev pub is_low_word : ℕ → Bool
@@ -246,6 +242,25 @@ ArePartsDecided s gp kept bytes section decisions limit =
     → IsPartDecided s gp kept bytes section n (relocation_in bytes n)
     (Some (decision_at decisions n))
 
+-- ---- instructions that are apart
+
+-- Where the instruction of a part ends, by its offset. That of a part that stays has no bytes here.
+abbrev pub part_end : Decision → ℕ → ℕ
+part_end (Rewritten chosen) offset = offset + 4
+part_end (Redirected chosen subject) offset = offset + 4
+part_end decision offset = offset
+
+abbrev pub part_end_at : List ℕ → List Decision → ℕ → ℕ
+part_end_at bytes decisions n = part_end (decision_at decisions n) (relocation_in bytes n).offset
+
+-- Those of each part that is rewritten end before those of the next ones begin.
+abbrev pub ArePartsApart : List ℕ → List Decision → ℕ → Type 0
+ArePartsApart bytes decisions limit =
+    (i j : ℕ) → i < j → j < limit
+    → (relocation_in bytes i).offset < part_end_at bytes decisions i
+    → (relocation_in bytes j).offset < part_end_at bytes decisions j
+    → part_end_at bytes decisions i ≤ (relocation_in bytes j).offset
+
 -- a relocation after what became of it, where no bytes are rewritten
 abbrev pub relocation_by : Decision → Rela → Rela
 relocation_by Kept r = r
@@ -297,6 +312,18 @@ ArePartsWholeAcross =
 
 -- ---- errors
 
+-- The instruction of the part with an index overlaps that of one before it, or lies below it.
+pub record IsPartOverlapping (s : Setting) (gp : ℕ) (kept : List Bool) (bytes section : List ℕ)
+    (decisions : List Decision) (n : ℕ) : Type 0 where
+  pub decision : Decision
+  pub decided : IsPartDecided s gp kept bytes section n (relocation_in bytes n) (Some decision)
+  pub is_rewritten : (relocation_in bytes n).offset
+      < part_end decision (relocation_in bytes n).offset
+  pub before : ℕ
+  pub is_before : before < n
+  pub is_rewritten_too : (relocation_in bytes before).offset < part_end_at bytes decisions before
+  pub overlap : (relocation_in bytes n).offset < part_end_at bytes decisions before
+
 -- Those below the index are decided. That at the index isn't, though there is room for all. There
 -- may also be less room for deletions than there are.
 abbrev pub ArePartsRejected : Setting → ℕ → List Bool → List ℕ → List ℕ → List Decision → ℕ
@@ -309,7 +336,10 @@ ArePartsRejected s gp kept bytes section decisions room (NotSurveyed n) =
     (n < length bytes / 24) × ArePartsDecided s gp kept bytes section decisions n
     × IsPartDecided s gp kept bytes section n (relocation_in bytes n) None
     × (length bytes / 24 ≤ length decisions)
-ArePartsRejected s gp kept bytes section decisions room (Overlaps n) = ⊥
+ArePartsRejected s gp kept bytes section decisions room (Overlaps n) =
+    (n < length bytes / 24) × ArePartsDecided s gp kept bytes section decisions n
+    × IsPartOverlapping s gp kept bytes section decisions n
+    × (length bytes / 24 ≤ length decisions)
 
 -- an error that a section wasn't surveyed comes only where what it keeps isn't all noted
 abbrev pub MeansSymbolsUnsurveyed : Setting → ℕ → List ℕ → List ℕ → List Bool → RewritingError

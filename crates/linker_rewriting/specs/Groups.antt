@@ -96,11 +96,9 @@ x86_64_scope x86_64.R_X86_64_GOTPCREL = Alone
 x86_64_scope x86_64.R_X86_64_GOTPCRELX = Alone
 x86_64_scope x86_64.R_X86_64_REX_GOTPCRELX = Alone
 x86_64_scope x86_64.R_X86_64_CODE_4_GOTPCRELX = Alone
-x86_64_scope x86_64.R_X86_64_CODE_5_GOTPCRELX = Alone
 x86_64_scope x86_64.R_X86_64_CODE_6_GOTPCRELX = Alone
 x86_64_scope x86_64.R_X86_64_GOTTPOFF = Alone
 x86_64_scope x86_64.R_X86_64_CODE_4_GOTTPOFF = Alone
-x86_64_scope x86_64.R_X86_64_CODE_5_GOTTPOFF = Alone
 x86_64_scope x86_64.R_X86_64_CODE_6_GOTTPOFF = Alone
 x86_64_scope x86_64.R_X86_64_TLSGD = Alone
 x86_64_scope x86_64.R_X86_64_TLSLD = Grouped LocalDynamic
@@ -108,6 +106,8 @@ x86_64_scope x86_64.R_X86_64_DTPOFF32 = Grouped LocalDynamic
 x86_64_scope x86_64.R_X86_64_DTPOFF64 = Grouped LocalDynamic
 x86_64_scope x86_64.R_X86_64_GOTPC32_TLSDESC = Grouped Descriptor
 x86_64_scope x86_64.R_X86_64_CODE_4_GOTPC32_TLSDESC = Grouped Descriptor
+-- No `lea` has so many bytes before its field. One that claims to keeps the descriptors of its
+-- symbol.
 x86_64_scope x86_64.R_X86_64_CODE_5_GOTPC32_TLSDESC = Grouped Descriptor
 x86_64_scope x86_64.R_X86_64_CODE_6_GOTPC32_TLSDESC = Grouped Descriptor
 x86_64_scope x86_64.R_X86_64_TLSDESC_CALL = Grouped Descriptor

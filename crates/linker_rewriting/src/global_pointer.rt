@@ -14,12 +14,13 @@ ghost use Rattle.linker_rewriting.specs.Labels.{offset_of_label};
 ghost use Rattle.linker_rewriting.specs.GlobalPointer.{is_near, is_bound, address_of, has_word};
 ghost use Rattle.linker_rewriting.specs.GlobalPointer.{is_reached_by, is_high_word};
 ghost use Rattle.linker_rewriting.specs.GlobalPointer.{writes_none, is_low_word, is_expected};
-ghost use Rattle.linker_rewriting.specs.GlobalPointer.{stores_base, kept_by, decided_by};
+ghost use Rattle.linker_rewriting.specs.GlobalPointer.{kept_by, decided_by};
 ghost use Rattle.linker_rewriting.specs.GlobalPointer.{fits, IsKeepingSymbol, part_decision};
 ghost use Rattle.linker_rewriting.specs.GlobalPointer.{AreSymbolsSurveyed, IsPartDecided};
 ghost use Rattle.linker_rewriting.specs.GlobalPointer.{ArePartsDecided, ArePartsRejected};
 ghost use Rattle.linker_rewriting.specs.GlobalPointer.{MeansSymbolsUnsurveyed, relocation_by};
 ghost use Rattle.linker_rewriting.specs.GlobalPointer.{AreRelocationsBy, ArePartsWhole};
+ghost use Rattle.linker_rewriting.specs.GlobalPointer.{ArePartsApart, part_end};
 ghost use Rattle.linker_rewriting.specs.GlobalPointer.{low_code, base_for, base_of, is_placed};
 ghost use Rattle.linker_rewriting.specs.GlobalPointer.{based_relocation, based_section};
 ghost use Rattle.linker_rewriting.specs.GlobalPointer.{section_based, AreBased, IsFirstUnplaced};
@@ -29,7 +30,7 @@ ghost use Rattle.linker_riscv64.specs.RiscVRewrites.{rs1_of, with_rs1};
 ghost use Rattle.linker_section.specs.Relocations.{relocation_in};
 ghost use Rattle.linker_section.specs.Values.{IsAscending};
 
-use crate::decisions::{AsDecision, Decision, FromDeletion, RewritingError};
+use crate::decisions::{AsDecision, Decision, FromDeletion, RewritingError, end_behind};
 use crate::facts::{OutputFacts, Setting, SymbolFacts, address_in};
 use crate::labels::high_at;
 use crate::phases::Phase;
@@ -42,7 +43,7 @@ use linker_section::facts::{Addresses, Symbol};
 use linker_section::relocations::{Rela, is_ascending, relocations_len};
 use linker_utils::architecture::Relaxation;
 use linker_utils::elf::{Architecture, Choice};
-use linker_utils::riscv64::fields::{base, destination, opcode, source, word_at};
+use linker_utils::riscv64::fields::{base, destination, opcode, stores_base, word_at};
 use linker_utils::riscv64::{RelaxationKind, RiscVRelocation};
 use linker_utils::utils::u32_from_slice;
 
@@ -226,14 +227,6 @@ fn window_at(section: &[u8], offset: u64) -> u32
     ensures { result ≡ from_le_bytes w32 (take 4 (drop offset section.now)) }
 {
     u32_from_slice(&section[offset as usize..])
-}
-
-/// Whether an instruction stores what its own base holds.
-#[inline(always)]
-fn stores_base(word: u32) -> bool
-    ensures { result ≡ stores_base word }
-{
-    opcode(word) == 0x23 && source(word) == base(word)
 }
 
 /// Whether an instruction has an opcode, and is of another register than x0 and x3.
@@ -511,6 +504,8 @@ fn decided_by(
     ensures decision { result ≡ decided_by (setting_of setting.now) gp ascends kept.now
         relocations.now section.now index relocation.now member }
     ensures made { IfSome result (λ d. CanBeMade d section.now relocation.now.offset) }
+    ensures ends { IfSome result (λ d. (limit : ℕ) → relocation.now.offset ≤ limit
+        → length section.now ≤ limit → part_end d relocation.now.offset ≤ limit) }
 {
     let Some(member) = member else {
         return Some(Decision::Kept);
@@ -550,6 +545,8 @@ fn decide_part(
     ensures decision { IsPartDecided (setting_of setting.now) gp kept.now relocations.now
         section.now index relocation.now result }
     ensures made { IfSome result (λ d. CanBeMade d section.now relocation.now.offset) }
+    ensures ends { IfSome result (λ d. (limit : ℕ) → relocation.now.offset ≤ limit
+        → length section.now ≤ limit → part_end d relocation.now.offset ≤ limit) }
 {
     let member = member_of(setting, relocations, relocation);
     decided_by(
@@ -563,6 +560,19 @@ fn decide_part(
         relocation,
         member,
     )
+}
+
+/// Where the instruction of a part ends, by its offset. That of a part that stays has no bytes
+/// here.
+#[inline(always)]
+fn part_end(decision: &Decision, offset: u64) -> u64
+    requires { part_end decision.now offset ≤ u64.MAX }
+    ensures { result ≡ part_end decision.now offset }
+{
+    match decision {
+        Decision::Rewritten(_) | Decision::Redirected(_, _) => offset + 4,
+        Decision::Kept | Decision::TakenAlong => offset,
+    }
 }
 
 /// Decides what becomes of each relocation of a section, in the caller's memory.
@@ -579,6 +589,8 @@ fn decide_parts<D: AsDecision>(
         relocations.now section.now (map D.decision decisions.new) (length relocations.now / 24)) }
     ensures made { OnOk result (AllCanBeMade relocations.now section.now
         (map D.decision decisions.new) (length relocations.now / 24)) }
+    ensures apart { OnOk result (ArePartsApart relocations.now (map D.decision decisions.new)
+        (length relocations.now / 24)) }
     ensures form { OnOk result
         (All D.is_written (take (length relocations.now / 24) decisions.new)) }
     ensures others_stay { drop (length relocations.now / 24) decisions.new
@@ -591,6 +603,7 @@ fn decide_parts<D: AsDecision>(
         return Err(RewritingError::TooShort);
     }
     let ascends = is_ascending(relocations);
+    let mut end = 0;
     for index in 0..len {
         let relocation = relocation_in(relocations, index);
         let Some(decision) = decide_part(
@@ -605,6 +618,11 @@ fn decide_parts<D: AsDecision>(
         ) else {
             return Err(RewritingError::NotSurveyed(index));
         };
+        let own = part_end(&decision, relocation.offset);
+        let Some(new_end) = end_behind(relocation.offset, own, end) else {
+            return Err(RewritingError::Overlaps(index));
+        };
+        end = new_end;
         decisions[index] = D::from_decision(decision);
     }
     Ok(())
@@ -669,7 +687,8 @@ fn turn_all<D: AsDecision>(decisions: &[D], relocations: &mut [u8])
 /// The relocations are as before. `TooShort`: there are more relocations than `decisions`, or
 /// `deleted` has less room than there are deletions. `NotSurveyed`: a relocation of a symbol that
 /// doesn't stay can't be rewritten; it never comes where the section was surveyed into the table
-/// with the same facts.
+/// with the same facts. `Overlaps`: the instruction of the relocation with the index overlaps one
+/// of a relocation before it that is rewritten too.
 ///
 /// ```
 /// use linker_rewriting::decisions::Decision;
@@ -722,6 +741,8 @@ pub fn rewrite_global_pointer<D: AsDecision, L: FromDeletion>(
         (length relocations.old / 24)) }
     ensures within { OnOk result (AllCanBeMade relocations.old section.now
         (map D.decision decisions.new) (length relocations.old / 24)) }
+    ensures apart { OnOk result (ArePartsApart relocations.old (map D.decision decisions.new)
+        (length relocations.old / 24)) }
     ensures relocations { OnOk result (AreRelocationsBy (map D.decision decisions.new)
         relocations.old relocations.new (length relocations.old / 24)) }
     ensures listed { IfOk result (λ len. take len (map L.deletion deleted.new)

@@ -205,11 +205,9 @@ fn x86_64_scope(name: X86_64Relocation) -> Scope
         | X86_64Relocation::R_X86_64_GOTPCRELX
         | X86_64Relocation::R_X86_64_REX_GOTPCRELX
         | X86_64Relocation::R_X86_64_CODE_4_GOTPCRELX
-        | X86_64Relocation::R_X86_64_CODE_5_GOTPCRELX
         | X86_64Relocation::R_X86_64_CODE_6_GOTPCRELX
         | X86_64Relocation::R_X86_64_GOTTPOFF
         | X86_64Relocation::R_X86_64_CODE_4_GOTTPOFF
-        | X86_64Relocation::R_X86_64_CODE_5_GOTTPOFF
         | X86_64Relocation::R_X86_64_CODE_6_GOTTPOFF
         | X86_64Relocation::R_X86_64_TLSGD => Scope::Alone,
         X86_64Relocation::R_X86_64_TLSLD

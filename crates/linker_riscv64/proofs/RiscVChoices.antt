@@ -46,6 +46,7 @@ each_matches : (name : RiscVRelocation) (section : List ℕ) (o : ℕ) (facts : 
     → OfEach (AppliesToRiscV (IsAskedFor name) section o facts) (λ c. riscv_matches c.kind section o) (riscv_entries name)
 each_matches r.R_RISCV_TPREL_HI20 section o facts = (λ a. (a.0.0, tt), tt)
 each_matches r.R_RISCV_TPREL_ADD section o facts = (λ a. (a.0.0, tt), tt)
+each_matches r.R_RISCV_TPREL_LO12_S section o facts = (λ a. (a.0.0, a.0.1.0), tt)
 each_matches r.R_RISCV_TLSDESC_HI20 section o facts =
     (λ a. (a.0.0, tt), (λ a. (a.0.0, tt), (λ a. (a.0.0, tt), (λ a. (a.0.0, tt), tt))))
 each_matches r.R_RISCV_TLSDESC_LOAD_LO12 section o facts =

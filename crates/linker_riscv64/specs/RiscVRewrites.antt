@@ -2,7 +2,7 @@
 -- Relaxation").
 use Rattle.std.specs.Prelude.{◌≡◌, ℕ, ◌+◌, ◌*◌, List, Option, None, Some, ℤ, pos, negsuc, ◌≤ℤ◌, ◌≢◌}
 use Rattle.std.specs.Prelude.{◌-◌, ◌%◌, ◌^◌, Bool, [], ◌∷◌, ◌<ℤ◌, ◌+ℤ◌, ◌≤◌, length, ◌==◌, ◌&&◌}
-use Rattle.std.specs.Prelude.{◌||◌, nat_lt, IsTrue, ⊤, drop, ◌⊎◌, ◌++◌, true, false}
+use Rattle.std.specs.Prelude.{◌||◌, nat_lt, not, IsTrue, ⊤, drop, ◌⊎◌, ◌++◌, true, false}
 use Rattle.std.specs.Int.{w32, from_le_bytes, to_le_bytes, w16, w64, int_div_euclid, cast_signed}
 use Rattle.linker_elf.specs.RiscV.{riscv_form}
 use Rattle.linker_base.specs.Bits.{field, signed}
@@ -209,6 +209,16 @@ adds_low12 opcode funct3 =
     || opcode == 0x23 && nat_lt funct3 4
     || (opcode == 0x07 || opcode == 0x27) && nat_lt 0 funct3 && nat_lt funct3 5
 
+-- a store of what its own base holds
+abbrev pub stores_base : ℕ → Bool
+stores_base word = (opcode_of word == 0x23) && (rs2_of word == rs1_of word)
+
+-- The instruction adds such an immediate, and another register than its base can be the base: it
+-- doesn't store that.
+abbrev pub IsLowOverOther : ℕ → Type 0
+IsLowOverOther word =
+    IsTrue (adds_low12 (opcode_of word) (funct3_of word)) × IsTrue (not (stores_base word))
+
 -- `lui rd`
 abbrev pub IsLui : ℕ → Type 0
 IsLui word = opcode_of word ≡ 0x37
@@ -401,6 +411,7 @@ riscv_entries name = []
 abbrev pub IsAskedFor : RiscVRelocation → RelaxationKind → List ℕ → ℕ → Type 0
 IsAskedFor r.R_RISCV_TPREL_HI20 = λ kind section o. HasWord section o IsLui
 IsAskedFor r.R_RISCV_TPREL_ADD = λ kind section o. HasWord section o IsAddTp
+IsAskedFor r.R_RISCV_TPREL_LO12_S = λ kind section o. HasWord section o IsLowOverOther
 IsAskedFor r.R_RISCV_TLSDESC_HI20 = λ kind section o. HasWord section o IsAuipc
 IsAskedFor r.R_RISCV_TLSDESC_LOAD_LO12 = λ kind section o. HasWord section o IsLd
 IsAskedFor r.R_RISCV_TLSDESC_ADD_LO12 = λ kind section o. HasWord section o IsAddiToA0

@@ -13,6 +13,7 @@
 ghost use Rattle.std.specs.Prelude.{◌≡◌, ◌≤◌, ◌+◌, length};
 ghost use Rattle.linker_riscv64.specs.RiscVCalls.{word_at};
 ghost use Rattle.linker_riscv64.specs.RiscVRewrites.{opcode_of, funct3_of, rd_of, rs1_of, rs2_of};
+ghost use Rattle.linker_riscv64.specs.RiscVRewrites.{stores_base};
 
 use linker_base::utils::u32_from_slice;
 
@@ -66,4 +67,12 @@ pub fn source(word: u32) -> u32
     ensures { result ≡ rs2_of word }
 {
     (word >> 20) % 0x20
+}
+
+/// Whether an instruction is a store of the register that is its base: `sb`, `sh`, `sw` or `sd`.
+#[inline(always)]
+pub fn stores_base(word: u32) -> bool
+    ensures { result ≡ stores_base word }
+{
+    opcode(word) == 0x23 && source(word) == base(word)
 }

@@ -16,11 +16,11 @@ ghost use Rattle.linker_riscv64.specs.RiscVRewrites.{riscv_may_be_skipped, hi20,
 ghost use Rattle.linker_riscv64.specs.RiscVRewrites.{FitsClui, HoldsHigh, with_rs1, tp, adds_low12};
 ghost use Rattle.linker_riscv64.specs.RiscVRewrites.{opcode_of, funct3_of, IsTailCall, IsClui, IsLd};
 ghost use Rattle.linker_riscv64.specs.RiscVRewrites.{IsLui, IsAuipc, IsAddTp, IsAddiToA0};
-ghost use Rattle.linker_riscv64.specs.RiscVRewrites.{IsCallOfDescriptor};
+ghost use Rattle.linker_riscv64.specs.RiscVRewrites.{IsCallOfDescriptor, IsLowOverOther};
 ghost use Rattle.linker_riscv64.specs.declared.rewrites.RelaxationKind.TheVariants.{NoOp};
 
 use super::calls::{is_call_pair, is_plain_call};
-use super::fields::{base, destination, function, opcode, word_at};
+use super::fields::{base, destination, function, opcode, stores_base, word_at};
 use linker_base::bit_misc::BitExtraction;
 use linker_base::relaxation::RelocationModifier;
 use linker_base::rewrite::{DeletedBytes, RewriteWindow, has_window, overwrite, window_is_in};
@@ -207,6 +207,15 @@ fn adds_immediate(word: u32) -> bool
         0x07 | 0x27 => 0 < funct3 && funct3 < 5,
         _ => false,
     }
+}
+
+/// Whether an instruction adds a signed immediate of 12 bits to a register that another one can
+/// replace.
+#[inline(always)]
+pub(super) fn is_low_over_other(word: u32) -> bool
+    ensures { IsTrue result ↔ IsLowOverOther word }
+{
+    adds_immediate(word) && !stores_base(word)
 }
 
 /// Whether the eight bytes at an offset of the section are a tail call: an `auipc`, and a `jalr`

@@ -62,9 +62,9 @@ pub extern "C" fn linker_utils_survey_global_pointer_nonnull(
 /// `deleted_used` elements of `deleted`; the elements behind these are unchanged.
 ///
 /// The first that applies of `UnknownArchitecture`; `ShortMemory`, where there are fewer decisions
-/// than relocations; `NotSurveyed`, of the relocation at `faulty`; and `ShortMemory`, where there
-/// are fewer elements of `deleted` than deletions. Then the relocations and `deleted_used` are
-/// unchanged.
+/// than relocations; `NotSurveyed` or `Overlaps`, of the relocation at `faulty`; and `ShortMemory`,
+/// where there are fewer elements of `deleted` than deletions. Then the relocations and
+/// `deleted_used` are unchanged.
 #[unsafe(no_mangle)]
 pub extern "C" fn linker_utils_rewrite_global_pointer_nonnull(
     machine: u16,

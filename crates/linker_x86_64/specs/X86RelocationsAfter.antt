@@ -11,7 +11,6 @@ abbrev pub after_got : X86_64Relocation → X86_64Relocation → Option X86_64Re
 after_got after r.R_X86_64_GOTPCRELX = Some after
 after_got after r.R_X86_64_REX_GOTPCRELX = Some after
 after_got after r.R_X86_64_CODE_4_GOTPCRELX = Some after
-after_got after r.R_X86_64_CODE_5_GOTPCRELX = Some after
 after_got after r.R_X86_64_CODE_6_GOTPCRELX = Some after
 after_got after before = None
 
@@ -24,15 +23,12 @@ after_load after before = after_got after before
 abbrev pub after_got_or_tp : X86_64Relocation → X86_64Relocation → Option X86_64Relocation
 after_got_or_tp after r.R_X86_64_GOTTPOFF = Some r.R_X86_64_TPOFF32
 after_got_or_tp after r.R_X86_64_CODE_4_GOTTPOFF = Some r.R_X86_64_TPOFF32
-after_got_or_tp after r.R_X86_64_CODE_5_GOTTPOFF = Some r.R_X86_64_TPOFF32
 after_got_or_tp after r.R_X86_64_CODE_6_GOTTPOFF = Some r.R_X86_64_TPOFF32
 after_got_or_tp after before = after_got after before
 
 abbrev pub after_descriptor : X86_64Relocation → X86_64Relocation → Option X86_64Relocation
 after_descriptor after r.R_X86_64_GOTPC32_TLSDESC = Some after
 after_descriptor after r.R_X86_64_CODE_4_GOTPC32_TLSDESC = Some after
-after_descriptor after r.R_X86_64_CODE_5_GOTPC32_TLSDESC = Some after
-after_descriptor after r.R_X86_64_CODE_6_GOTPC32_TLSDESC = Some after
 after_descriptor after before = None
 
 abbrev pub after_general_dynamic : X86_64Relocation → X86_64Relocation → Option X86_64Relocation

@@ -469,6 +469,10 @@ sequence_to_initial_exec_by kind =
 abbrev pub unrelocated_by : RelaxationKind → X86Entry
 unrelocated_by kind = entry kind r.R_X86_64_NONE (executable ∷ group_fits ∷ [])
 
+-- The same of a call for the module's TLS block. With another addend it is not for that.
+abbrev pub module_by : RelaxationKind → X86Entry
+module_by kind = entry kind r.R_X86_64_NONE (executable ∷ group_fits ∷ from_end_of_field ∷ [])
+
 -- an offset in the module's TLS block becomes one from the thread pointer
 abbrev pub from_thread_pointer : X86_64Relocation → X86Entry
 from_thread_pointer after =
@@ -547,8 +551,8 @@ general_dynamic_table =
 abbrev pub local_dynamic_table : Table
 local_dynamic_table =
     any_entry
-    (unrelocated_by kinds.TlsLdToLocalExec ∷ unrelocated_by kinds.TlsLdToLocalExecNoPlt
-    ∷ unrelocated_by kinds.TlsLdToLocalExec64 ∷ [])
+    (module_by kinds.TlsLdToLocalExec ∷ module_by kinds.TlsLdToLocalExecNoPlt
+    ∷ module_by kinds.TlsLdToLocalExec64 ∷ [])
 
 abbrev pub descriptor_table : ℕ → Table
 descriptor_table n =
@@ -556,18 +560,17 @@ descriptor_table n =
     (sequence_to_local_exec_by (kinds.TlsDescToLocalExec n)
     ∷ sequence_to_initial_exec_by kinds.TlsDescToInitialExec ∷ [])
 
--- by the relocation's name, and the opcode, which is two bytes before the field
+-- By the relocation's name and an opcode. No instruction has five bytes before its field, and no
+-- `lea` has six, so R_X86_64_CODE_5_GOTPCRELX and the like have no entries.
 abbrev pub x86_64_table : X86_64Relocation → ℕ → Table
 x86_64_table r.R_X86_64_GOTPCREL opcode = load_table opcode
 x86_64_table r.R_X86_64_GOTPCRELX opcode =
     if opcode == 0xff then branch_table else got_table 2 opcode
 x86_64_table r.R_X86_64_REX_GOTPCRELX opcode = got_table 3 opcode
 x86_64_table r.R_X86_64_CODE_4_GOTPCRELX opcode = got_table 4 opcode
-x86_64_table r.R_X86_64_CODE_5_GOTPCRELX opcode = got_table 5 opcode
 x86_64_table r.R_X86_64_CODE_6_GOTPCRELX opcode = got_table 6 opcode
 x86_64_table r.R_X86_64_GOTTPOFF opcode = initial_exec_table 3 opcode
 x86_64_table r.R_X86_64_CODE_4_GOTTPOFF opcode = initial_exec_table 4 opcode
-x86_64_table r.R_X86_64_CODE_5_GOTTPOFF opcode = initial_exec_table 5 opcode
 x86_64_table r.R_X86_64_CODE_6_GOTTPOFF opcode = initial_exec_table 6 opcode
 x86_64_table r.R_X86_64_TLSGD opcode = general_dynamic_table
 x86_64_table r.R_X86_64_TLSLD opcode = local_dynamic_table
@@ -577,12 +580,21 @@ x86_64_table r.R_X86_64_DTPOFF64 opcode =
     any_entry (from_thread_pointer r.R_X86_64_TPOFF64 ∷ [])
 x86_64_table r.R_X86_64_GOTPC32_TLSDESC opcode = descriptor_table 3
 x86_64_table r.R_X86_64_CODE_4_GOTPC32_TLSDESC opcode = descriptor_table 4
-x86_64_table r.R_X86_64_CODE_5_GOTPC32_TLSDESC opcode = descriptor_table 5
-x86_64_table r.R_X86_64_CODE_6_GOTPC32_TLSDESC opcode = descriptor_table 6
 x86_64_table r.R_X86_64_TLSDESC_CALL opcode = any_entry (unrelocated_by kinds.SkipTlsDescCall ∷ [])
 x86_64_table name opcode = any_entry []
 
 -- ---- the choice
+
+-- An EVEX prefix may begin six bytes before an offset. The last of its four bytes may look like REX.
+abbrev pub may_have_evex : List ℕ → ℕ → Bool
+may_have_evex section o = nat_le 6 o && slice_index section (o - 6) == 0x62
+
+-- The opcode is two bytes before the field. R_X86_64_GOTPCREL is at any instruction, and with EVEX
+-- an opcode is of another one: 0x8b is no `mov`. So it is 0 there, for which no table has entries.
+abbrev pub opcode_at : X86_64Relocation → List ℕ → ℕ → ℕ
+opcode_at r.R_X86_64_GOTPCREL section o =
+    if may_have_evex section o then 0 else slice_index section (o - 2)
+opcode_at name section o = slice_index section (o - 2)
 
 -- What is required with a rewrite: one of some instructions is there, and the rewrite matches.
 abbrev pub IsAskedFor : List Original → RelaxationKind → List ℕ → ℕ → Type 0
@@ -601,4 +613,4 @@ IsByTable t name section o facts chosen =
 abbrev pub IsX86Choice : X86_64Relocation → List ℕ → ℕ → LinkFacts
     → Choice RelaxationKind X86_64Relocation → Type 0
 IsX86Choice name section o facts chosen =
-    IsByTable (x86_64_table name (slice_index section (o - 2))) name section o facts chosen
+    IsByTable (x86_64_table name (opcode_at name section o)) name section o facts chosen

@@ -5,7 +5,7 @@ ghost use Rattle.linker_elf.specs.Choices.{Fits, choice};
 ghost use Rattle.linker_elf.specs.Inner.ChoiceTables.{IsTableOf};
 ghost use Rattle.linker_elf.proofs.SameNames.{equalities, exact_code};
 ghost use Rattle.linker_elf.specs.contracts.x86_64.relocations.X86_64Relocation.{enum as names};
-ghost use Rattle.linker_x86_64.specs.Inner.X86Tables.{StandAt, no_entries, x86_64_tables};
+ghost use Rattle.linker_x86_64.specs.Inner.X86Tables.{StandAt, none_sampled, x86_64_tables};
 ghost use Rattle.linker_x86_64.specs.X86Rewrites as rewrites;
 ghost use Rattle.linker_x86_64.specs.declared.rewrites.RelaxationKind.TheVariants as kinds;
 
@@ -111,6 +111,10 @@ macro_rules! when {
     (unrelocated) => {
         conditions!(EXECUTABLE + GROUP_FITS)
     };
+    // the same of a call for the module's TLS block
+    (module) => {
+        conditions!(EXECUTABLE + GROUP_FITS, Some(END_OF_FIELD))
+    };
     // an offset in the module's TLS block becomes one from the thread pointer
     (from_thread_pointer $name:ident) => {
         conditions!(EXECUTABLE + LOCAL_EXEC_BASE, InReachIfKnown($name))
@@ -128,9 +132,9 @@ macro_rules! choices {
                 TlsGdToInitialExec => R_X86_64_GOTTPOFF, to_initial_exec;
             ]
             R_X86_64_TLSLD: [
-                TlsLdToLocalExec => R_X86_64_NONE, unrelocated;
-                TlsLdToLocalExecNoPlt => R_X86_64_NONE, unrelocated;
-                TlsLdToLocalExec64 => R_X86_64_NONE, unrelocated;
+                TlsLdToLocalExec => R_X86_64_NONE, module;
+                TlsLdToLocalExecNoPlt => R_X86_64_NONE, module;
+                TlsLdToLocalExec64 => R_X86_64_NONE, module;
             ]
             R_X86_64_DTPOFF32: [NoOp => R_X86_64_TPOFF32, from_thread_pointer(R_X86_64_TPOFF32)]
             R_X86_64_DTPOFF64: [NoOp => R_X86_64_TPOFF64, from_thread_pointer(R_X86_64_TPOFF64)]
@@ -143,16 +147,6 @@ macro_rules! choices {
                 TlsDescToLocalExec(4) at LeaOfDescriptor(4)
                     => R_X86_64_TPOFF32, local_exec(GROUP_FITS);
                 TlsDescToInitialExec at LeaOfDescriptor(4) => R_X86_64_GOTTPOFF, to_initial_exec;
-            ]
-            R_X86_64_CODE_5_GOTPC32_TLSDESC: [
-                TlsDescToLocalExec(5) at LeaOfDescriptor(5)
-                    => R_X86_64_TPOFF32, local_exec(GROUP_FITS);
-                TlsDescToInitialExec at LeaOfDescriptor(5) => R_X86_64_GOTTPOFF, to_initial_exec;
-            ]
-            R_X86_64_CODE_6_GOTPC32_TLSDESC: [
-                TlsDescToLocalExec(6) at LeaOfDescriptor(6)
-                    => R_X86_64_TPOFF32, local_exec(GROUP_FITS);
-                TlsDescToInitialExec at LeaOfDescriptor(6) => R_X86_64_GOTTPOFF, to_initial_exec;
             ]
             R_X86_64_TLSDESC_CALL: [SkipTlsDescCall => R_X86_64_NONE, unrelocated]
         }
@@ -237,17 +231,15 @@ macro_rules! by_name {
             }
             Names::R_X86_64_REX_GOTPCRELX => by_opcode!(3; $opcode, $table => $use),
             Names::R_X86_64_CODE_4_GOTPCRELX => by_opcode!(4; $opcode, $table => $use),
-            Names::R_X86_64_CODE_5_GOTPCRELX => by_opcode!(5; $opcode, $table => $use),
             Names::R_X86_64_CODE_6_GOTPCRELX => by_opcode!(6; $opcode, $table => $use),
             Names::R_X86_64_GOTTPOFF => by_opcode!(access 3; $opcode, $table => $use),
             Names::R_X86_64_CODE_4_GOTTPOFF => by_opcode!(access 4; $opcode, $table => $use),
-            Names::R_X86_64_CODE_5_GOTTPOFF => by_opcode!(access 5; $opcode, $table => $use),
             Names::R_X86_64_CODE_6_GOTTPOFF => by_opcode!(access 6; $opcode, $table => $use),
         ))
     };
 }
 
-/// The entries of a relocation, by the opcode, which is two bytes before the field.
+/// The entries of a relocation, by an opcode.
 #[inline(always)]
 fn entries_by(name: Names, opcode: u8) -> Table<RelaxationKind>
     ensures table { IsTableOf StandAt
@@ -272,42 +264,60 @@ fn choice_by_opcode(
         (rewrites.IsAskedFor (rewrites.x86_64_table name opcode).instructions)
         table.now (rewrites.x86_64_table name opcode).entries }
     requires few { length table.now ≤ 5 }
-    requires opcode { opcode ≡ slice_index section.now (offset - 2) }
+    requires opcode { opcode ≡ rewrites.opcode_at name section.now offset }
     ensures { rewrites.IsX86Choice name section.now offset facts.now result }
 {
     choice_by(table, name, section, offset, facts)
 }
 
-/// The byte two before an offset, which is the opcode of an instruction whose field is there.
+/// The byte so many before an offset, if there is one.
 #[inline(always)]
-fn opcode_before(section: &[u8], offset: u64) -> u8
-    ensures { result ≡ slice_index section.now (offset - 2) }
+fn byte_before(section: &[u8], offset: u64, n: u64) -> u8
+    ensures { result ≡ slice_index section.now (offset - n) }
 {
     section
-        .get(offset.saturating_sub(2) as usize)
+        .get(offset.saturating_sub(n) as usize)
         .copied()
         .unwrap_or(0)
 }
 
+/// The opcode of a relocation's instruction, two bytes before the offset. At `R_X86_64_GOTPCREL` it
+/// is 0 where an EVEX prefix may begin six bytes before: 0x8b is then no `mov`.
+#[inline(always)]
+fn opcode_at(name: Names, section: &[u8], offset: u64) -> u8
+    ensures { result ≡ rewrites.opcode_at name section.now offset }
+{
+    let opcode = byte_before(section, offset, 2);
+    match name {
+        Names::R_X86_64_GOTPCREL if offset >= 6 && byte_before(section, offset, 6) == 0x62 => 0,
+        _ => opcode,
+    }
+}
+
 impl ChosenByTable for RelaxationKind {
-    ghost sampled = { λ name none section o. no_entries name (slice_index section (o - 2)) none };
+    ghost sampled = { λ name none section o. none_sampled name none (rewrites.opcode_at name section o) };
 
     #[inline(always)]
     fn entries(name: Names, section: &[u8], offset: u64) -> Table<Self> {
-        entries_by(name, opcode_before(section, offset))
+        entries_by(name, opcode_at(name, section, offset))
     }
 
     #[inline(never)]
     fn choose_listed(name: Names, section: &[u8], offset: u64, facts: &LinkFacts) -> Chosen<Self> {
-        // what compilers write most, by its own test
-        if name == Names::R_X86_64_REX_GOTPCRELX && is_legacy(section, offset, 3, 0x8b) {
-            let table: Table<Self> = moves!(3, RexMovIndirectToAbsolute(3) => R_X86_64_32S);
-            return choice_by_opcode(table, name, 0x8b, section, offset, facts);
+        match name {
+            // what compilers write most, by its own test
+            Names::R_X86_64_REX_GOTPCRELX if is_legacy(section, offset, 3, 0x8b) => {
+                let table: Table<Self> = moves!(3, RexMovIndirectToAbsolute(3) => R_X86_64_32S);
+                choice_by_opcode(table, name, 0x8b, section, offset, facts)
+            }
+            _ => {
+                let opcode = opcode_at(name, section, offset);
+                by_name!(
+                    name, opcode,
+                    table => choice_by_opcode(table, name, opcode, section, offset, facts)
+                )
+            }
         }
-        let opcode = opcode_before(section, offset);
-        by_name!(
-            name, opcode, table => choice_by_opcode(table, name, opcode, section, offset, facts)
-        )
     }
 }
 

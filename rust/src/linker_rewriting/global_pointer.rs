@@ -2,7 +2,7 @@
 //! RISC-V's addresses within 2 KiB of the global pointer or of 0. They need no `lui` and no
 //! `auipc`: each low part takes x3 or x0 as its base, all of a symbol or none.
 
-use crate::linker_rewriting::decisions::{AsDecision, Decision, FromDeletion, RewritingError};
+use crate::linker_rewriting::decisions::{AsDecision, Decision, FromDeletion, RewritingError, end_behind};
 use crate::linker_rewriting::facts::{OutputFacts, Setting, SymbolFacts, address_in};
 use crate::linker_rewriting::labels::high_at;
 use crate::linker_rewriting::phases::Phase;
@@ -15,7 +15,7 @@ use crate::linker_section::facts::{Addresses, Symbol};
 use crate::linker_section::relocations::{Rela, is_ascending, relocations_len};
 use crate::architecture::Relaxation;
 use crate::elf::{Architecture, Choice};
-use crate::riscv64::fields::{base, destination, opcode, source, word_at};
+use crate::riscv64::fields::{base, destination, opcode, stores_base, word_at};
 use crate::riscv64::{RelaxationKind, RiscVRelocation};
 use crate::utils::u32_from_slice;
 
@@ -172,12 +172,6 @@ fn has_word(section: &[u8], offset: u64) -> bool {
 #[inline(always)]
 fn window_at(section: &[u8], offset: u64) -> u32 {
     u32_from_slice(&section[offset as usize..])
-}
-
-/// Whether an instruction stores what its own base holds.
-#[inline(always)]
-fn stores_base(word: u32) -> bool {
-    opcode(word) == 0x23 && source(word) == base(word)
 }
 
 /// Whether an instruction has an opcode, and is of another register than x0 and x3.
@@ -462,6 +456,16 @@ fn decide_part(
     )
 }
 
+/// Where the instruction of a part ends, by its offset. That of a part that stays has no bytes
+/// here.
+#[inline(always)]
+fn part_end(decision: &Decision, offset: u64) -> u64 {
+    match decision {
+        Decision::Rewritten(_) | Decision::Redirected(_, _) => offset + 4,
+        Decision::Kept | Decision::TakenAlong => offset,
+    }
+}
+
 /// Decides what becomes of each relocation of a section, in the caller's memory.
 fn decide_parts<D: AsDecision>(
     setting: &Setting<'_>,
@@ -476,6 +480,7 @@ fn decide_parts<D: AsDecision>(
         return Err(RewritingError::TooShort);
     }
     let ascends = is_ascending(relocations);
+    let mut end = 0;
     for index in 0..len {
         let relocation = relocation_in(relocations, index);
         let Some(decision) = decide_part(
@@ -490,6 +495,11 @@ fn decide_parts<D: AsDecision>(
         ) else {
             return Err(RewritingError::NotSurveyed(index));
         };
+        let own = part_end(&decision, relocation.offset);
+        let Some(new_end) = end_behind(relocation.offset, own, end) else {
+            return Err(RewritingError::Overlaps(index));
+        };
+        end = new_end;
         decisions[index] = D::from_decision(decision);
     }
     Ok(())
@@ -548,7 +558,8 @@ fn turn_all<D: AsDecision>(decisions: &[D], relocations: &mut [u8]) {
 /// The relocations are as before. `TooShort`: there are more relocations than `decisions`, or
 /// `deleted` has less room than there are deletions. `NotSurveyed`: a relocation of a symbol that
 /// doesn't stay can't be rewritten; it never comes where the section was surveyed into the table
-/// with the same facts.
+/// with the same facts. `Overlaps`: the instruction of the relocation with the index overlaps one
+/// of a relocation before it that is rewritten too.
 ///
 /// ```
 /// use linker_utils::rewriting::Decision;

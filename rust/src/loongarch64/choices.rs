@@ -2,7 +2,8 @@
 //! LoongArch: which rewrite a linker chooses for a relocation.
 
 use super::rewrites::{
-    RelaxationKind, are_of_one_register, destination, is_addi, is_ld, is_pcalau12i, source, word_at,
+    RelaxationKind, are_of_one_register, destination, is_addi, is_ld, is_low_over_other,
+    is_pcalau12i, source, word_at,
 };
 use crate::linker_base::rewrite::has_window;
 use crate::linker_elf::elf::choice_table::{
@@ -47,6 +48,8 @@ pub enum AskedFor {
     Lu12i,
     /// `add.d rd, rj, tp`.
     AddTp,
+    /// What adds an immediate of 12 bits, other than a store of its own base.
+    LowOverOther,
 }
 
 impl ChosenKind for RelaxationKind {
@@ -75,6 +78,7 @@ impl ChosenKind for RelaxationKind {
             AskedFor::CallOfDescriptor => word_at(section, offset) == 0x4c00_0021,
             AskedFor::Lu12i => word_at(section, offset) >> 25 == 0x0a,
             AskedFor::AddTp => word_at(section, offset) >> 10 == 0x422,
+            AskedFor::LowOverOther => is_low_over_other(word_at(section, offset)),
         }
     }
 
@@ -205,7 +209,9 @@ macro_rules! choices {
             ]
             R_LARCH_TLS_LE_HI20_R: [Delete at Lu12i => R_LARCH_NONE, by_low_part]
             R_LARCH_TLS_LE_ADD_R: [Delete at AddTp => R_LARCH_NONE, by_low_part]
-            R_LARCH_TLS_LE_LO12_R: [BaseToTp => R_LARCH_TLS_LE_LO12_R, by_low_part]
+            R_LARCH_TLS_LE_LO12_R: [
+                BaseToTp at LowOverOther => R_LARCH_TLS_LE_LO12_R, by_low_part;
+            ]
         }
     };
 }

@@ -107,6 +107,21 @@ fn adds_immediate(word: u32) -> bool {
     opcode == 0x00a || opcode == 0x00b || 0x0a0 <= opcode && opcode <= 0x0b3
 }
 
+/// Whether an instruction is a store of the register that is its base: `st.b`, `st.h`, `st.w` or
+/// `st.d`.
+#[inline(always)]
+fn stores_base(word: u32) -> bool {
+    let opcode = word >> 22;
+    0x0a4 <= opcode && opcode <= 0x0a7 && destination(word) == source(word)
+}
+
+/// Whether an instruction adds a signed immediate of 12 bits to a register that another one can
+/// replace.
+#[inline(always)]
+pub(super) fn is_low_over_other(word: u32) -> bool {
+    adds_immediate(word) && !stores_base(word)
+}
+
 /// Whether the source register is the destination register, and isn't `zero`.
 #[inline(always)]
 fn is_into_own_source(word: u32) -> bool {

@@ -2,7 +2,7 @@
 //! RISC-V: which rewrite a linker chooses for a relocation.
 
 use super::fields::word_at;
-use super::rewrites::{is_add_tp, is_addi_to_a0, is_auipc, is_ld, is_lui};
+use super::rewrites::{is_add_tp, is_addi_to_a0, is_auipc, is_ld, is_low_over_other, is_lui};
 use super::{RelaxationKind, RiscVRelocation, RiscVRelocation as Names};
 use crate::linker_base::rewrite::has_window;
 use crate::linker_elf::elf::choice_table::{
@@ -19,6 +19,7 @@ pub enum AskedFor {
     Auipc,
     Ld,
     AddiToA0,
+    LowOverOther,
 }
 
 impl ChosenKind for RelaxationKind {
@@ -36,6 +37,7 @@ impl ChosenKind for RelaxationKind {
             AskedFor::Auipc => is_auipc(word_at(section, offset)),
             AskedFor::Ld => is_ld(word_at(section, offset)),
             AskedFor::AddiToA0 => is_addi_to_a0(word_at(section, offset)),
+            AskedFor::LowOverOther => is_low_over_other(word_at(section, offset)),
         }
     }
 
@@ -118,7 +120,9 @@ macro_rules! choices {
             R_RISCV_TPREL_HI20: [Delete at Lui => R_RISCV_NONE, by_low_offset]
             R_RISCV_TPREL_ADD: [Delete at AddTp => R_RISCV_NONE, by_low_offset]
             R_RISCV_TPREL_LO12_I: [BaseToTp => R_RISCV_TPREL_LO12_I, by_low_offset]
-            R_RISCV_TPREL_LO12_S: [BaseToTp => R_RISCV_TPREL_LO12_S, by_low_offset]
+            R_RISCV_TPREL_LO12_S: [
+                BaseToTp at LowOverOther => R_RISCV_TPREL_LO12_S, by_low_offset;
+            ]
             R_RISCV_TLSDESC_HI20: [
                 Delete at Auipc => R_RISCV_NONE, to_local_exec(RELAXABLE);
                 ReplaceWithLongNop at Auipc => R_RISCV_NONE, to_local_exec;

@@ -63,3 +63,10 @@ pub fn base(word: u32) -> u32 {
 pub fn source(word: u32) -> u32 {
     (word >> 20) % 0x20
 }
+
+/// Whether an instruction is a store of the register that is its base: `sb`, `sh`, `sw` or `sd`.
+#[must_use]
+#[inline(always)]
+pub fn stores_base(word: u32) -> bool {
+    opcode(word) == 0x23 && source(word) == base(word)
+}

@@ -2,7 +2,7 @@
 //! RISC-V: relaxation rewrites.
 
 use super::calls::{is_call_pair, is_plain_call};
-use super::fields::{base, destination, function, opcode, word_at};
+use super::fields::{base, destination, function, opcode, stores_base, word_at};
 use crate::linker_base::bit_misc::BitExtraction;
 use crate::linker_base::relaxation::RelocationModifier;
 use crate::linker_base::rewrite::{DeletedBytes, RewriteWindow, has_window, overwrite, window_is_in};
@@ -154,6 +154,13 @@ fn adds_immediate(word: u32) -> bool {
         0x07 | 0x27 => 0 < funct3 && funct3 < 5,
         _ => false,
     }
+}
+
+/// Whether an instruction adds a signed immediate of 12 bits to a register that another one can
+/// replace.
+#[inline(always)]
+pub(super) fn is_low_over_other(word: u32) -> bool {
+    adds_immediate(word) && !stores_base(word)
 }
 
 /// Whether the eight bytes at an offset of the section are a tail call: an `auipc`, and a `jalr`

@@ -6,7 +6,7 @@ use Rattle.linker_loongarch64.specs.LoongArchRewrites.{IsLowOfDescriptor, IsLoad
 use Rattle.linker_loongarch64.specs.LoongArchRewrites.{IsCallOfDescriptor, IsPcalau12i, IsPair}
 use Rattle.linker_loongarch64.specs.LoongArchRewrites.{IsAddi, IsLd, IsLu12i, IsAddTp}
 use Rattle.linker_loongarch64.specs.LoongArchRewrites.{loongarch_matches, loongarch_entries}
-use Rattle.linker_loongarch64.specs.LoongArchRewrites.{IsAskedFor}
+use Rattle.linker_loongarch64.specs.LoongArchRewrites.{IsAskedFor, IsLowOverOther}
 use Rattle.linker_loongarch64.specs.declared.choices.AskedFor.{AskedFor}
 use Rattle.linker_loongarch64.specs.declared.choices.AskedFor.TheVariants as asked
 use Rattle.linker_loongarch64.specs.declared.rewrites.RelaxationKind.{RelaxationKind}
@@ -25,6 +25,7 @@ is_asked_by asked.LoadOfDescriptor kind = IsSingle IsLoadOfDescriptor
 is_asked_by asked.CallOfDescriptor kind = IsSingle IsCallOfDescriptor
 is_asked_by asked.Lu12i kind = IsSingle IsLu12i
 is_asked_by asked.AddTp kind = IsSingle IsAddTp
+is_asked_by asked.LowOverOther kind = IsSingle IsLowOverOther
 
 -- the tables; no rewrite moves the place or changes the addend
 abbrev pub loongarch_tables : Tables RelaxationKind LoongArch64Relocation

@@ -3,7 +3,8 @@ use Rattle.std.specs.Prelude.{ℕ, List}
 use Rattle.linker_elf.specs.Inner.ChoiceTables.{Tables}
 use Rattle.linker_elf.specs.Originals.{HasWord}
 use Rattle.linker_riscv64.specs.RiscVRewrites.{riscv_matches, IsLui, IsAuipc, IsLd, IsAddTp}
-use Rattle.linker_riscv64.specs.RiscVRewrites.{IsAddiToA0, IsAskedFor, riscv_entries}
+use Rattle.linker_riscv64.specs.RiscVRewrites.{IsAddiToA0, IsLowOverOther, IsAskedFor}
+use Rattle.linker_riscv64.specs.RiscVRewrites.{riscv_entries}
 use Rattle.linker_riscv64.specs.declared.choices.AskedFor.{AskedFor}
 use Rattle.linker_riscv64.specs.declared.choices.AskedFor.TheVariants as originals
 use Rattle.linker_riscv64.specs.declared.rewrites.RelaxationKind.{RelaxationKind}
@@ -18,6 +19,7 @@ IsThere originals.AddTp kind section o = HasWord section o IsAddTp
 IsThere originals.Auipc kind section o = HasWord section o IsAuipc
 IsThere originals.Ld kind section o = HasWord section o IsLd
 IsThere originals.AddiToA0 kind section o = HasWord section o IsAddiToA0
+IsThere originals.LowOverOther kind section o = HasWord section o IsLowOverOther
 
 -- the tables; no rewrite moves the place or changes the addend
 abbrev pub riscv_tables : Tables RelaxationKind RiscVRelocation

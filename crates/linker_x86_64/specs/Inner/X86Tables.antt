@@ -1,8 +1,9 @@
 -- x86-64: the instructions that the entries of the code are for.
-use Rattle.std.specs.Prelude.{ℕ, ◌-◌, ◌≡◌, ⊤, List, [], ◌∷◌, slice_index}
-use Rattle.std.proofs.Common.{subst}
+use Rattle.std.specs.Prelude.{ℕ, ◌≡◌, ⊤, List, [], ◌∷◌}
+use Rattle.std.proofs.Common.{subst, refl}
 use Rattle.linker_elf.specs.Inner.ChoiceTables.{Tables}
 use Rattle.linker_x86_64.specs.X86Rewrites.{IsAskedFor, Table, x86_64_table, x86_64_after}
+use Rattle.linker_x86_64.specs.X86Rewrites.{opcode_at}
 use Rattle.linker_x86_64.specs.X86Rewrites.{Original, original, legacy, lea_of_descriptor}
 use Rattle.linker_x86_64.specs.declared.choices.AskedFor.{AskedFor}
 use Rattle.linker_x86_64.specs.declared.choices.AskedFor.TheVariants as asked
@@ -19,9 +20,9 @@ asked_instructions (asked.LeaOfDescriptor n) = lea_of_descriptor n
 abbrev pub StandAt : AskedFor → RelaxationKind → List ℕ → ℕ → Type 0
 StandAt originals = IsAskedFor (asked_instructions originals)
 
--- the table of a relocation at an offset, by the opcode two bytes before
+-- the table of a relocation at an offset
 abbrev pub table_at : X86_64Relocation → List ℕ → ℕ → Table
-table_at name section o = x86_64_table name (slice_index section (o - 2))
+table_at name section o = x86_64_table name (opcode_at name section o)
 
 -- the tables
 abbrev pub x86_64_tables : Tables RelaxationKind X86_64Relocation
@@ -43,7 +44,7 @@ some_entry : {A : Type 0} → (x : A) (xs : List A) → x ∷ xs ≡ [] → ⊥
 some_entry x xs none = subst IsListed none tt
 
 -- a relocation that has none with the opcode of `mov` has none with any
-pub no_entries : (name : X86_64Relocation) (opcode : ℕ) → (x86_64_table name 0x8b).entries ≡ []
+no_entries : (name : X86_64Relocation) (opcode : ℕ) → (x86_64_table name 0x8b).entries ≡ []
     → (x86_64_table name opcode).entries ≡ []
 no_entries r.R_X86_64_NONE opcode none = none
 no_entries r.R_X86_64_64 opcode none = none
@@ -79,10 +80,22 @@ no_entries r.R_X86_64_REX_GOTPCRELX opcode none = absurd (some_entry _ _ none)
 no_entries r.R_X86_64_CODE_4_GOTPCRELX opcode none = absurd (some_entry _ _ none)
 no_entries r.R_X86_64_CODE_4_GOTTPOFF opcode none = absurd (some_entry _ _ none)
 no_entries r.R_X86_64_CODE_4_GOTPC32_TLSDESC opcode none = none
-no_entries r.R_X86_64_CODE_5_GOTPCRELX opcode none = absurd (some_entry _ _ none)
-no_entries r.R_X86_64_CODE_5_GOTTPOFF opcode none = absurd (some_entry _ _ none)
+no_entries r.R_X86_64_CODE_5_GOTPCRELX opcode none = none
+no_entries r.R_X86_64_CODE_5_GOTTPOFF opcode none = none
 no_entries r.R_X86_64_CODE_5_GOTPC32_TLSDESC opcode none = none
 no_entries r.R_X86_64_CODE_6_GOTPCRELX opcode none = absurd (some_entry _ _ none)
 no_entries r.R_X86_64_CODE_6_GOTTPOFF opcode none = absurd (some_entry _ _ none)
 no_entries r.R_X86_64_CODE_6_GOTPC32_TLSDESC opcode none = none
 no_entries (r.Other code) opcode none = none
+
+sampled_opcode : (name : X86_64Relocation) → opcode_at name (0x8b ∷ []) 2 ≡ 0x8b
+sampled_opcode r.R_X86_64_GOTPCREL = refl
+sampled_opcode name = refl
+
+-- which is the opcode of a section of that byte
+pub none_sampled : (name : X86_64Relocation)
+    → (x86_64_table name (opcode_at name (0x8b ∷ []) 2)).entries ≡ []
+    → (opcode : ℕ) → (x86_64_table name opcode).entries ≡ []
+none_sampled name none opcode =
+    no_entries name opcode
+    (subst (λ n. (x86_64_table name n).entries ≡ []) (sampled_opcode name) none)

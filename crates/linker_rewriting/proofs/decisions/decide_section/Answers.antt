@@ -61,7 +61,7 @@ loop-index-preserved g c =
     (let t = c.loop-index-test.true in let e = c.relocations_len-len.ensures in omega arith) in
     let within : k < length c.loop-index.decisions =
     (let t = c.loop-index-test.true in let e = c.relocations_len-len.ensures in let f = c.if-decisions-len.false in let l = c.loop-index.auto.decisions in omega arith) in
-    let grow : IsGrown a.relocations.now k d c.loop-index.end end =
+    let grow : IsGrown start_by end_by a.relocations.now k d c.loop-index.end end =
     subst (λ x. IsEndBehind (start_by d x.offset) (end_by d x.offset) c.loop-index.end (Some end)) same
     (subst (λ x. IsEndBehind (x.0) (x.1) c.loop-index.end (Some end)) c.span_of-start.ensures
     (subst (IsEndBehind (c.span_of-start.result.0) (c.span_of-start.result.1) c.loop-index.end) c.in-Some-end_behind.is c.end_behind.ensures)) in
