@@ -1,12 +1,23 @@
 //! `poke`, which uses only the interface of instruction forms, what emulators made of instructions,
-//! and tests of calls that take memory, which have to run as the prover's compiler built them.
+//! values worked by hand, and tests of calls that take memory, which have to run as the prover's
+//! compiler built them.
 #![tactic(auto)]
 
+#[cfg(test)]
+mod calls;
+#[cfg(test)]
+mod deltas;
 pub mod emulated;
 pub mod poke;
 #[cfg(test)]
+mod readers;
+#[cfg(test)]
 mod refused_growth;
+#[cfg(test)]
+mod rewrites;
 #[cfg(test)]
 mod rows;
 #[cfg(test)]
 mod taken_memory;
+#[cfg(test)]
+mod words;
