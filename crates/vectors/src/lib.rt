@@ -1,13 +1,23 @@
 //! What a user of the library writes over it: `poke`, which uses only the interface of instruction
-//! forms, and `clients`; and tests of calls that take memory, which have to run as the prover's
-//! compiler built them. It uses `linker_utils` alone.
+//! forms, and `clients`; values worked by hand; and tests of calls that take memory, which have to
+//! run as the prover's compiler built them. It uses `linker_utils` alone.
 #![tactic(auto)]
 
+#[cfg(test)]
+mod calls;
 pub mod clients;
+#[cfg(test)]
+mod deltas;
 pub mod poke;
 #[cfg(test)]
+mod readers;
+#[cfg(test)]
 mod refused_growth;
+#[cfg(test)]
+mod rewrites;
 #[cfg(test)]
 mod rows;
 #[cfg(test)]
 mod taken_memory;
+#[cfg(test)]
+mod words;

@@ -1,4 +1,6 @@
-//! A comparison that names the row at fault, for tests.
+//! Comparisons that name the row at fault, for tests.
+
+ghost use Rattle.std.specs.Prelude.{IsTrue};
 
 use std::fmt::Debug;
 use std::process::Abort;
@@ -11,4 +13,11 @@ pub fn expect_eq<R: Copy + Debug, T: Copy + PartialEq + Debug>(
     expected: T,
 ) {
     assert_eq!(rt; found, expected, "{row:?}");
+}
+
+/// Requires that a condition holds in the row.
+pub fn expect<R: Copy + Debug>(rt: &impl Abort, row: R, condition: bool)
+    ensures { IsTrue condition }
+{
+    assert!(rt; condition, "{row:?}");
 }

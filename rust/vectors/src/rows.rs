@@ -1,5 +1,5 @@
 // Made by tools/erase of crates/vectors/src/rows.rt.
-//! A comparison that names the row at fault, for tests.
+//! Comparisons that name the row at fault, for tests.
 
 use core::fmt::Debug;
 
@@ -10,4 +10,9 @@ pub fn expect_eq<R: Copy + Debug, T: Copy + PartialEq + Debug>(
     expected: T,
 ) {
     assert_eq!(found, expected, "{row:?}");
+}
+
+/// Requires that a condition holds in the row.
+pub fn expect<R: Copy + Debug>(row: R, condition: bool) {
+    assert!(condition, "{row:?}");
 }

@@ -1,8 +1,8 @@
 //! Deletions and offsets, worked by hand: an offset's place is the count of kept bytes below it.
 
 use linker_utils::relaxation::{
-    BlockHead, DeltaSlice, Looks, RelaxDelta, RelaxDeltaMap, SectionRelaxDeltas, first_invalid,
-    input_to_output_counted, opt_input_to_output, output_to_input_counted,
+    BlockHead, DeltaSlice, Looks, RelaxDelta, SectionRelaxDeltas, first_invalid,
+    input_to_output_counted, output_to_input_counted,
 };
 
 fn deltas_of(raw: &[(u64, u32)]) -> SectionRelaxDeltas {
@@ -13,145 +13,6 @@ fn deltas_of(raw: &[(u64, u32)]) -> SectionRelaxDeltas {
 fn input(deltas: &SectionRelaxDeltas, output_offset: u64) -> u64 {
     assert!(deltas.output_fits(output_offset), "{output_offset:?}");
     deltas.output_to_input_offset(output_offset)
-}
-
-#[derive(Clone, Copy)]
-struct Row {
-    raw: &'static [(u64, u32)],
-    // input offset and output offset
-    outputs: &'static [(u64, u64)],
-    // output offset and input offset
-    inputs: &'static [(u64, u64)],
-}
-
-static ROWS: [Row; 7] = [
-    Row {
-        raw: &[(4, 4)],
-        outputs: &[(0, 0), (4, 4), (5, 4), (7, 4), (8, 4)],
-        inputs: &[(3, 3), (4, 8)],
-    },
-    Row { raw: &[(4, 4), (8, 4)], outputs: &[(8, 4), (12, 4)], inputs: &[(4, 12)] },
-    Row { raw: &[(4, 0), (6, 2)], outputs: &[(6, 6), (8, 6)], inputs: &[(4, 4), (6, 8)] },
-    Row { raw: &[(0, 4)], outputs: &[(2, 0)], inputs: &[(0, 4)] },
-    Row { raw: &[(4, 4), (12, 2)], outputs: &[(13, 8)], inputs: &[(8, 14)] },
-    Row {
-        raw: &[(u64::MAX - 3, 3)],
-        outputs: &[(u64::MAX - 1, u64::MAX - 3), (u64::MAX, u64::MAX - 3)],
-        inputs: &[(u64::MAX - 3, u64::MAX)],
-    },
-    Row {
-        raw: &[],
-        outputs: &[(0, 0), (u64::MAX, u64::MAX)],
-        inputs: &[(0, 0), (u64::MAX, u64::MAX)],
-    },
-];
-
-#[test]
-fn offsets_are_translated_both_ways() {
-    for row in &ROWS {
-        let deltas = deltas_of(row.raw);
-        for (from, to) in row.outputs {
-            assert_eq!(deltas.input_to_output_offset(*from), *to, "{from:?}, {:?}", row.raw);
-        }
-        for (from, to) in row.inputs {
-            assert_eq!(input(&deltas, *from), *to, "{from:?}, {:?}", row.raw);
-        }
-    }
-}
-
-#[test]
-fn deletions_of_no_bytes_are_listed() {
-    let deltas = deltas_of(&[(4, 0), (6, 2)]);
-    assert!(deltas.has_delta_at(4));
-    assert_eq!(deltas.delta_bytes_at(4), 0);
-    assert_eq!(deltas.delta_bytes_at(6), 2);
-    assert!(!deltas.has_delta_at(5));
-    assert!(!deltas.is_empty());
-}
-
-// `==` tells whether all fields are the same.
-fn are_equal(first: RelaxDelta, second: RelaxDelta) -> bool {
-    first == second
-}
-
-#[test]
-fn equal_deltas_have_equal_fields() {
-    let delta = RelaxDelta { input_offset: 4, cumulative_deleted: 6, bytes_deleted: 2 };
-    assert!(are_equal(delta, delta));
-    for other in [
-        RelaxDelta { input_offset: 5, ..delta },
-        RelaxDelta { cumulative_deleted: 2, ..delta },
-        RelaxDelta { bytes_deleted: 1, ..delta },
-    ] {
-        assert!(!are_equal(delta, other));
-    }
-}
-
-fn sums(deltas: &SectionRelaxDeltas) -> [Option<u64>; 4] {
-    let listed = deltas.deltas();
-    let sum = |delta: &RelaxDelta| delta.cumulative_deleted;
-    [
-        listed.first().map(sum),
-        listed.get(1).map(sum),
-        listed.get(2).map(sum),
-        listed.get(3).map(sum),
-    ]
-}
-
-#[test]
-fn merges_sort_and_sum() {
-    let mut merged = deltas_of(&[(8, 4)]);
-    let more = [(16, 4), (0, 2)];
-    assert!(merged.is_mergeable(&more));
-    merged.merge_additional(&more).unwrap();
-    assert_eq!(sums(&merged), [Some(2), Some(6), Some(10), None]);
-    assert_eq!(merged.total_deleted(), 10);
-    assert_eq!(merged.input_to_output_offset(20), 10);
-    assert_eq!(input(&merged, 0), 2);
-
-    let mut batched = deltas_of(&[(8, 4)]);
-    let (second, third) = ([(16, 4)].to_vec(), [(0, 2)].to_vec());
-    let batches = vec![Vec::new(), second, third];
-    assert!(batched.are_mergeable(&batches));
-    batched.merge_all(&batches).unwrap();
-    assert_eq!(batched.deltas(), merged.deltas());
-    assert_eq!(merged.try_clone().unwrap().deltas(), merged.deltas());
-}
-
-#[test]
-fn invalid_deletions_are_rejected() {
-    let valid: [&[(u64, u32)]; 4] =
-        [&[], &[(0, 4), (4, 1)], &[(u64::MAX, 0)], &[(u64::MAX - 1, 1)]];
-    for raw in valid {
-        assert!(SectionRelaxDeltas::is_valid(raw), "{raw:?}");
-    }
-    let invalid: [&[(u64, u32)]; 4] =
-        [&[(0, 5), (4, 1)], &[(4, 0), (4, 1)], &[(5, 1), (4, 1)], &[(u64::MAX, 1)]];
-    for raw in invalid {
-        assert!(!SectionRelaxDeltas::is_valid(raw), "{raw:?}");
-    }
-
-    let deltas = deltas_of(&[(4, 4)]);
-    let mergeable: [&[(u64, u32)]; 3] = [&[], &[(8, 0)], &[(8, 4), (0, 4)]];
-    for pairs in mergeable {
-        assert!(deltas.is_mergeable(pairs), "{pairs:?}");
-    }
-    let touching: [&[(u64, u32)]; 5] =
-        [&[(6, 1)], &[(4, 0)], &[(0, 5)], &[(9, 2), (8, 2)], &[(20, 1), (20, 1)]];
-    for pairs in touching {
-        assert!(!deltas.is_mergeable(pairs), "{pairs:?}");
-    }
-
-    let none = deltas_of(&[]);
-    let overlapping = vec![[(0, 4)].to_vec(), [(2, 1)].to_vec()];
-    assert!(!none.are_mergeable(&overlapping));
-
-    let first = deltas_of(&[(0, 4)]);
-    for (offset, inside) in [(0, false), (1, true), (3, true), (4, false)] {
-        assert_eq!(first.is_inside(offset), inside, "{offset:?}");
-    }
-    let last = deltas_of(&[(u64::MAX - 3, 3)]);
-    assert!(!last.output_fits(u64::MAX - 2));
 }
 
 #[test]
@@ -270,76 +131,12 @@ fn long_lists_are_searched_by_blocks() {
 }
 
 #[test]
-fn cursors_pass_each_deletion_once() {
+fn queries_that_ascend_are_translated_in_one_pass() {
     let deltas = deltas_of(&[(4, 4), (12, 2)]);
-    let mut cursor = deltas.cursor();
-    for (query, translated) in [(4, 4), (8, 4), (8, 4), (14, 8), (20, 14)] {
-        assert!(cursor.can_translate(query), "{query:?}");
-        assert_eq!(cursor.translate(query), translated, "{query:?}");
-    }
-    assert_eq!(cursor.turns(), 2);
-    // back again: what is passed stays passed
-    assert!(cursor.can_translate(12));
-    assert_eq!(cursor.translate(12), 6);
-    assert!(!cursor.can_translate(5));
-    assert!(cursor.can_translate(6));
-
-    let mut inside = deltas.cursor();
-    for (query, translated) in [(5, 4), (7, 4), (13, 8), (13, 8), (20, 14)] {
-        assert!(inside.can_translate(query), "{query:?}");
-        assert_eq!(inside.translate(query), translated, "{query:?}");
-    }
-    assert_eq!(inside.turns(), 2);
-    assert!(inside.can_translate(12));
-    assert_eq!(inside.translate(12), 6);
-    assert!(!inside.can_translate(5));
-
-    let mut walker = deltas.cursor();
-    let queries = [4, 8, 8, 14, 20];
-    let mut translated = [0; 5];
-    assert!(walker.can_translate_all(&queries));
-    walker.translate_all(&queries, &mut translated);
-    assert_eq!(translated, [4, 4, 4, 8, 14]);
-    assert_eq!(walker.turns(), 2);
-
     let queries = [5, 7, 13, 13, 20];
-    let mut walker = deltas.cursor();
-    assert!(walker.can_translate_all(&queries));
-    walker.translate_all(&queries, &mut translated);
-    assert_eq!(translated, [4, 4, 8, 8, 14]);
-    assert!(!walker.can_translate_all(&[12, 15]));
+    let mut translated = [0; 5];
     assert!(DeltaSlice::can_translate_all(&queries));
     DeltaSlice::new(deltas.deltas()).translate_all(&queries, &mut translated);
     assert_eq!(translated, [4, 4, 8, 8, 14]);
     assert!(!DeltaSlice::can_translate_all(&[5, 4]));
-}
-
-#[test]
-fn offsets_without_deltas_are_unchanged() {
-    assert_eq!(opt_input_to_output(None, 9), 9);
-    let deltas = deltas_of(&[(4, 4)]);
-    assert_eq!(opt_input_to_output(Some(&deltas), 9), 5);
-    assert_eq!(opt_input_to_output(Some(&deltas), 5), 4);
-}
-
-#[test]
-fn maps_keep_each_section() {
-    let mut map = RelaxDeltaMap::new();
-    assert!(map.is_empty());
-    assert_eq!(map.last_index(), None);
-    let third = deltas_of(&[(8, 2)]);
-    assert!(map.insert(3, third).is_ok(), "no memory");
-    assert!(map.get(1).is_none());
-    let first = deltas_of(&[(4, 4)]);
-    assert!(map.insert_sorted(1, first).is_ok(), "no memory");
-    assert_eq!(map.last_index(), Some(3));
-    assert!(map.get(2).is_none());
-    assert_eq!(map.get(1).map(|d| d.total_deleted()), Some(4));
-    assert_eq!(map.get(3).map(|d| d.total_deleted()), Some(2));
-    let lent = map.get_mut(1).unwrap();
-    assert!(lent.is_mergeable(&[(0, 2)]));
-    lent.merge_additional(&[(0, 2)]).unwrap();
-    assert_eq!(map.get(1).map(|d| d.total_deleted()), Some(6));
-    assert_eq!(map.get(3).map(|d| d.total_deleted()), Some(2));
-    assert_eq!(map.try_clone().unwrap().get(1).map(|d| d.total_deleted()), Some(6));
 }

@@ -1,43 +1,10 @@
 //! Calls that become jumps, worked by hand from the RISC-V unprivileged ISA's `jal`.
 
-use linker_utils::relaxation::SectionRelaxDeltas;
-use linker_utils::riscv64::{
-    CallError, JumpError, LinkRegister, jal_site, jal_site_with, relax_call,
-};
+use linker_utils::riscv64::{CallError, JumpError, LinkRegister, jal_site_with};
 use linker_utils::utils::u32_from_slice;
 
 /// `auipc ra, 0` and `jalr ra, 0(ra)`, and `nop`.
 const CALL: [u8; 12] = [0x97, 0x00, 0x00, 0x00, 0xe7, 0x80, 0x00, 0x00, 0x13, 0x00, 0x00, 0x00];
-
-#[test]
-fn sites_jump_by_the_distance() {
-    for (distance, word) in [(8, 0x0080_00ef), (-1_048_576, 0x8000_00ef), (1_048_574, 0x7fff_f0ef)]
-    {
-        let mut section = CALL;
-        assert_eq!(jal_site(&mut section, 0, distance), Ok(()), "{distance:?}");
-        assert_eq!(u32_from_slice(&section), word, "{distance:?}");
-        assert_eq!(&section[4..], &CALL[4..], "{distance:?}");
-    }
-}
-
-#[test]
-fn rejected_sites_are_unchanged() {
-    let rows = [
-        (0, 1_048_576, CallError::TooFar),
-        (0, -1_048_578, CallError::TooFar),
-        (0, 1_048_575, CallError::OddDistance),
-        (0, 1_048_577, CallError::OddDistance),
-        (9, 8, CallError::OutOfSection),
-        (9, 1_048_577, CallError::OutOfSection),
-        (u64::MAX, 8, CallError::OutOfSection),
-        (u64::MAX - 3, 8, CallError::OutOfSection),
-    ];
-    for (site, distance, error) in rows {
-        let mut section = CALL;
-        assert_eq!(jal_site(&mut section, site, distance), Err(error), "{site:?}, {distance:?}");
-        assert_eq!(section, CALL, "{site:?}, {distance:?}");
-    }
-}
 
 /// `tail f` and `call t0, f`: `auipc t1, 0`, and `jalr` with the base t1 and the destination x0 or
 /// t0.
@@ -92,49 +59,5 @@ fn only_a_call_has_a_jalr() {
         let result = jal_site_with(&mut section, site, distance, LinkRegister::OfJalr);
         assert_eq!(result, Err(JumpError::Call(error)), "{site:?}, {distance:?}");
         assert_eq!(section, TAIL, "{site:?}, {distance:?}");
-    }
-}
-
-#[derive(Clone, Copy)]
-struct Row {
-    raw: &'static [(u64, u32)],
-    site: u64,
-    target: u64,
-    result: Result<u32, CallError>,
-}
-
-static ROWS: [Row; 11] = [
-    Row { raw: &[], site: 0, target: 8, result: Ok(0x0080_00ef) },
-    Row { raw: &[(4, 4)], site: 0, target: 8, result: Ok(0x0040_00ef) },
-    Row { raw: &[(4, 4)], site: 0, target: 12, result: Ok(0x0080_00ef) },
-    Row { raw: &[(0, 4)], site: 0, target: 8, result: Err(CallError::SiteDeleted) },
-    Row { raw: &[(4, 4)], site: 3, target: 8, result: Err(CallError::SiteDeleted) },
-    Row { raw: &[(2, 0)], site: 0, target: 8, result: Ok(0x0080_00ef) },
-    Row { raw: &[(4, 4)], site: 0, target: 6, result: Ok(0x0040_00ef) },
-    Row { raw: &[(4, 1)], site: 0, target: 8, result: Err(CallError::OddDistance) },
-    Row { raw: &[(10, 4)], site: 0, target: 12, result: Ok(0x00a0_00ef) },
-    Row { raw: &[], site: 0, target: 13, result: Err(CallError::OutOfSection) },
-    Row { raw: &[], site: u64::MAX, target: 0, result: Err(CallError::OutOfSection) },
-];
-
-#[test]
-fn calls_jump_to_their_translated_target() {
-    for row in &ROWS {
-        assert!(SectionRelaxDeltas::is_valid(row.raw));
-        let deltas = SectionRelaxDeltas::new(row.raw).unwrap();
-        let mut section = CALL;
-        let result = relax_call(&mut section, &deltas, row.site, row.target);
-        assert_eq!(
-            result.map(|()| u32_from_slice(&section)),
-            row.result,
-            "{:?}, {:?}, {:?}",
-            row.site,
-            row.target,
-            row.raw
-        );
-        match row.result {
-            Ok(_) => assert_eq!(&section[4..], &CALL[4..], "{:?}, {:?}", row.site, row.target),
-            Err(_) => assert_eq!(section, CALL, "{:?}, {:?}", row.site, row.target),
-        }
     }
 }

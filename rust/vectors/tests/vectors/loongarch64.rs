@@ -12,8 +12,7 @@ use linker_utils::elf::{
     InstructionForm, LoongArch64Instruction, RelocateError, RelocationKind, RelocationSize,
 };
 use linker_utils::loongarch64::{
-    LoongArch64Relocation, RelaxationKind, highest_relocation_with_bias, relocation_type_from_raw,
-    row, write_address_sequence,
+    LoongArch64Relocation, relocation_type_from_raw, row, write_address_sequence,
 };
 use linker_utils::utils::u32_from_slice;
 
@@ -182,49 +181,6 @@ fn address_sequences_match_linkers() {
         );
         assert_eq!(e, 0x0010_9484, "{target:?}, {pc:?}");
     }
-    assert_eq!(highest_relocation_with_bias(0x800, 8), 0xffff_ffff_8000_1000);
-    assert_eq!(addressed([0; 20], 0, 0x800), [0x20, 0x0020_0000, 0x01ff_ffe0, 0x003f_fc00, 0]);
-    assert_eq!(highest_relocation_with_bias(0xffff_ffff_8000_0000, 0x1008), 0xffff_ffff_ffff_f000);
-    assert_eq!(
-        addressed([0; 20], 0x1000, 0xffff_ffff_8000_0000),
-        [0x00ff_ffe0, 0, 0x01ff_ffe0, 0x003f_fc00, 0]
-    );
-}
-
-#[test]
-fn calls_wrap_at_the_ends_of_their_range() {
-    let form = LoongArch64Instruction::Call36;
-    let last: u64 = (1 << 37) - (1 << 17) - 4;
-    assert_eq!(written(form, 0, last.extract_bit_range(2..38)), 0x01ff_fc00_00ff_ffe0);
-    assert_eq!(read(form, 0x01ff_fc00_00ff_ffe0), (last / 4, false));
-    let past: u64 = (1 << 37) - (1 << 17);
-    assert_eq!(written(form, 0, past.extract_bit_range(2..38)), 0x0200_0000_0100_0000);
-    let back = (-4i64).cast_unsigned().extract_bit_range(2..38);
-    assert_eq!(written(form, 0, back), 0x03ff_fc00_0000_0000);
-    assert_eq!(read(form, 0x03ff_fc00_0000_0000), ((1 << 36) - 1, false));
-    assert_eq!(written(LoongArch64Instruction::Call30, 0, 0xf_ffff), 0x0007_fc00_01ff_c000);
-    assert_eq!(read(LoongArch64Instruction::Call30, 0x0007_fc00_01ff_c000), (0xf_ffff, false));
-}
-
-#[test]
-fn fields_of_ones_are_written_and_read() {
-    assert_eq!(written(LoongArch64Instruction::Branch21, 0x4000_0000, 0x1f_ffff), 0x43ff_fc1f);
-    assert_eq!(read(LoongArch64Instruction::Branch21, 0x43ff_fc1f), (u64::MAX, true));
-    assert_eq!(written(LoongArch64Instruction::Shift10, 0x02c0_0000, 0x800), 0x02e0_0000);
-    assert_eq!(read(LoongArch64Instruction::Shift10, 0x02e0_0000), (0x800, false));
-}
-
-#[test]
-fn nops_are_written_and_other_names_have_no_meaning() {
-    let mut section = [0xff; 6];
-    let mut offset = 1;
-    let mut addend = 7;
-    assert!(RelaxationKind::ReplaceWithNop.can_apply(&section, 1));
-    RelaxationKind::ReplaceWithNop.apply(&mut section, &mut offset, &mut addend);
-    assert_eq!(section, [0xff, 0x00, 0x00, 0x40, 0x03, 0xff]);
-    assert_eq!((offset, addend), (1, 7));
-    assert!(relocation_type_from_raw(LoongArch64Relocation::Other(7)).is_none());
-    assert!(relocation_type_from_raw(LoongArch64Relocation::R_LARCH_TLS_LD_PCREL20_S2).is_none());
 }
 
 /// `jirl ra, t0, %pc_lo12(f)` and `jirl zero, t0, %pc_lo12(f)` as ld.lld 19.1.7 links them, with `f`

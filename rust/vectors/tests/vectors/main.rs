@@ -2,14 +2,12 @@
 //! random runs. Nothing here is proved: the library is, and these tests are of what no contract says.
 
 mod aarch64;
-mod bits;
 mod deltas;
 mod forms;
 mod growth;
 mod jumps;
 mod loongarch64;
 mod packing;
-mod poke;
 mod ppc64;
 mod ratio;
 mod readers;

@@ -2,14 +2,11 @@
 //! unprivileged ISA.
 
 use linker_utils::relaxation::{
-    PackError, RejectedCall, SectionRelaxDeltas, calls_apart, pack_into, pack_section, packed_len,
+    RejectedCall, SectionRelaxDeltas, calls_apart, pack_into, packed_len,
 };
 use linker_utils::riscv64::{CallError, JumpError, LinkRegister};
 
-/// `auipc ra, 0` and `jalr ra, 0(ra)`, and `nop`.
-const CALL: [u8; 12] = [0x97, 0x00, 0x00, 0x00, 0xe7, 0x80, 0x00, 0x00, 0x13, 0x00, 0x00, 0x00];
-
-/// Two such calls, and `nop`.
+/// `auipc ra, 0` and `jalr ra, 0(ra)`, twice, and `nop`.
 const TWO_CALLS: [u8; 20] = [
     0x97, 0x00, 0x00, 0x00, 0xe7, 0x80, 0x00, 0x00, 0x97, 0x00, 0x00, 0x00, 0xe7, 0x80, 0x00, 0x00,
     0x13, 0x00, 0x00, 0x00,
@@ -17,81 +14,6 @@ const TWO_CALLS: [u8; 20] = [
 
 /// `auipc t1, 0` and `jalr zero, 0(t1)`, which is `tail`, and `nop`.
 const TAIL: [u8; 12] = [0x17, 0x03, 0x00, 0x00, 0x67, 0x00, 0x03, 0x00, 0x13, 0x00, 0x00, 0x00];
-
-#[derive(Clone, Copy)]
-struct Row {
-    section: &'static [u8],
-    deletions: &'static [(u64, u32)],
-    calls: &'static [(u64, u64)],
-    packed: Result<&'static [u8], PackError>,
-}
-
-static ROWS: [Row; 8] = [
-    Row {
-        section: &CALL,
-        deletions: &[(4, 4)],
-        calls: &[(0, 8)],
-        packed: Ok(&[0xef, 0x00, 0x40, 0x00, 0x13, 0x00, 0x00, 0x00]),
-    },
-    Row {
-        section: &CALL,
-        deletions: &[(4, 4)],
-        calls: &[(0, 6)],
-        packed: Ok(&[0xef, 0x00, 0x40, 0x00, 0x13, 0x00, 0x00, 0x00]),
-    },
-    Row {
-        section: &CALL,
-        deletions: &[(4, 4)],
-        calls: &[(0, 8), (4, 0)],
-        packed: Err(PackError::Call { index: 1, error: CallError::SiteDeleted }),
-    },
-    Row {
-        section: &CALL,
-        deletions: &[(4, 4)],
-        calls: &[(0, 13), (4, 0)],
-        packed: Err(PackError::Call { index: 0, error: CallError::OutOfSection }),
-    },
-    Row {
-        section: &CALL,
-        deletions: &[(10, 4)],
-        calls: &[],
-        packed: Ok(&[0x97, 0x00, 0x00, 0x00, 0xe7, 0x80, 0x00, 0x00, 0x13, 0x00]),
-    },
-    Row { section: &CALL, deletions: &[(12, 4)], calls: &[], packed: Ok(&CALL) },
-    Row {
-        section: &TWO_CALLS,
-        deletions: &[(4, 4), (12, 4)],
-        calls: &[(0, 16), (8, 0)],
-        packed: Ok(&[0xef, 0x00, 0x80, 0x00, 0xef, 0xf0, 0xdf, 0xff, 0x13, 0x00, 0x00, 0x00]),
-    },
-    Row { section: &[], deletions: &[], calls: &[], packed: Ok(&[]) },
-];
-
-#[test]
-fn sections_are_packed() {
-    for row in &ROWS {
-        assert!(SectionRelaxDeltas::is_valid(row.deletions));
-        assert!(calls_apart(row.calls));
-        let deltas = SectionRelaxDeltas::new(row.deletions).unwrap();
-        let packed = pack_section(row.section, &deltas, row.calls);
-        match (packed, row.packed) {
-            (Ok(packed), Ok(want)) => assert_eq!(packed, want, "{:?}", row.calls),
-            (Err(error), Err(want)) => assert_eq!(error, want, "{:?}", row.calls),
-            (Ok(_), Err(_)) | (Err(_), Ok(_)) => panic!("{:?}", row.calls),
-        }
-    }
-}
-
-#[test]
-fn sites_ascend_by_four() {
-    let top = u64::MAX;
-    assert!(calls_apart(&[]));
-    assert!(calls_apart(&[(0, 8), (4, 0)]));
-    assert!(calls_apart(&[(top - 4, 0), (top, 0)]));
-    assert!(!calls_apart(&[(0, 8), (3, 0)]));
-    assert!(!calls_apart(&[(4, 0), (0, 8)]));
-    assert!(!calls_apart(&[(top - 1, 0), (top, 0)]));
-}
 
 #[test]
 fn packed_jumps_link_the_register_that_is_chosen() {

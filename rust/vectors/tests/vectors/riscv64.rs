@@ -7,14 +7,10 @@ mod pairs;
 mod words;
 
 use linker_utils::elf::{
-    AllowedRange, Bias, InstructionForm, Operands, RelocateError, RelocationInstruction,
-    RelocationSize, RiscVInstruction, Sign,
+    InstructionForm, Operands, RelocateError, RelocationInstruction, RiscVInstruction,
 };
 use linker_utils::relaxation::RelocationModifier;
-use linker_utils::riscv64::{
-    CallError, RelaxationKind, RiscVRelocation, clui_row, distance_fits_jal, is_plain_call,
-    jal_site, relocation_type_from_raw,
-};
+use linker_utils::riscv64::{RelaxationKind, clui_row, is_plain_call, jal_site};
 use linker_utils::utils::u32_from_slice;
 
 /// What `read_value` returns where the machine reads `machine`.
@@ -131,46 +127,6 @@ fn deleted_lui_match_gnu_ld() {
 }
 
 #[test]
-fn immediates_match_the_manual() {
-    let table: [(RiscVInstruction, u32, i64, u32, i64, bool); 19] = [
-        (RiscVInstruction::UType, 0x0000_0537, 0x800, 0x0000_1537, 0x800, false),
-        (RiscVInstruction::IType, 0x0005_0513, 0x800, 0x8005_0513, -2048, true),
-        (RiscVInstruction::BType, 0x0000_0063, -4096, 0x8000_0063, -4096, true),
-        (RiscVInstruction::BType, 0x0000_0063, 4094, 0x7e00_0fe3, 4094, false),
-        (RiscVInstruction::JType, 0x0000_006f, -1048576, 0x8000_006f, -1048576, true),
-        (RiscVInstruction::JType, 0x0000_006f, 1048574, 0x7fff_f06f, 1048574, false),
-        (RiscVInstruction::CbType, 0xc001, 254, 0xcc7d, 254, false),
-        (RiscVInstruction::CjType, 0xa001, -2, 0xbffd, -2, true),
-        (RiscVInstruction::CluiType, 0x6501, -0x1000, 0x757d, -0x1800, true),
-        (RiscVInstruction::UType, 0, -0x801, 0xffff_f000, -0x1800, false),
-        (RiscVInstruction::IType, 0, -1, 0xfff0_0000, -1, true),
-        (RiscVInstruction::SType, 0, -1, 0xfe00_0f80, -1, true),
-        (RiscVInstruction::BType, 0, -1, 0xfe00_0f80, -2, true),
-        (RiscVInstruction::JType, 0, -1, 0xffff_f000, -2, true),
-        (RiscVInstruction::CbType, 0, 0xffff, 0x1c7c, -2, true),
-        (RiscVInstruction::CjType, 0, 0xffff, 0x1ffc, -2, true),
-        (RiscVInstruction::UType, 0, 0xffff_fff6, 0, -0x800, false),
-        (RiscVInstruction::IType, 0, 0xffff_fff6, 0xff60_0000, -10, true),
-        (RiscVInstruction::UType, 0x0000_0037, 0x7fff_f7ff, 0x7fff_f037, 0x7fff_e800, false),
-    ];
-    for (form, before, value, after, read, negative) in table {
-        let mut bytes = before.to_le_bytes();
-        assert!(form.window() <= bytes.len(), "{form:?} of {value}");
-        form.write_to_value(value.cast_unsigned(), negative, &mut bytes);
-        assert_eq!(u32::from_le_bytes(bytes), after, "{form:?}, {value:?}");
-        assert_eq!(
-            form.read_value(&bytes),
-            (read.cast_unsigned(), negative),
-            "{form:?}, {value:?}"
-        );
-    }
-    let mut call = [0; 8];
-    RiscVInstruction::UiType.write_to_value(0x800, false, &mut call);
-    assert_eq!(call, both([0x0000_1000, 0x8000_0000]));
-    assert_eq!(RiscVInstruction::UiType.read_value(&call), (0x800, false));
-}
-
-#[test]
 fn trait_calls_match_calls_of_the_form() {
     let insn = RelocationInstruction::RiscV(RiscVInstruction::UiType);
     let mut call = both([0x0000_0097, 0x0000_80e7]);
@@ -179,53 +135,6 @@ fn trait_calls_match_calls_of_the_form() {
     insn.write(0x800, false, &mut call);
     assert_eq!(call, both([0x0000_1097, 0x8000_80e7]));
     assert_eq!(insn.read(&call), (0x800, false));
-}
-
-#[test]
-fn rewrites_of_one_instruction_match_worked_words() {
-    let table: [(RelaxationKind, u32, u32); 4] = [
-        (RelaxationKind::Hi20ToCLui, 0x0000_0537, 0x0000_6501),
-        (RelaxationKind::Lo12Rs1ToZero, 0x0005_0513, 0x0000_0513),
-        (RelaxationKind::ReplaceWithNop, 0x0005_0513, 0x0001_0001),
-        (RelaxationKind::CallToJal, 0x0000_0097, 0x0000_00ef),
-    ];
-    for (kind, before, after) in table {
-        let mut section = before.to_le_bytes();
-        assert!(kind.can_apply(&section, 0), "{kind:?}");
-        let mut offset = 0;
-        let mut addend = 5;
-        kind.apply(&mut section, &mut offset, &mut addend);
-        assert_eq!(u32::from_le_bytes(section), after, "{kind:?}");
-        assert_eq!((offset, addend), (0, 5), "{kind:?}");
-    }
-    let mut half = 0x0000_0537u32.to_le_bytes();
-    RelaxationKind::Hi20ToCLui.apply(&mut half, &mut 0, &mut 0);
-    RiscVInstruction::CluiType.write_to_value((-0x1000i64).cast_unsigned(), true, &mut half);
-    assert_eq!(u32::from_le_bytes(half), 0x757d);
-}
-
-#[test]
-fn high_parts_are_zero_or_fit_clui() {
-    for (value, want) in [(0x7ff, true), (1u64 << 32, true), (0x800, false)] {
-        assert_eq!(RelaxationKind::hi20_is_zero(value), want, "{value:?}");
-    }
-    let table: [(i64, bool); 9] = [
-        (-0x1000, true),
-        (-0x20800, true),
-        (-0x20801, false),
-        (-0x800, false),
-        (0x1f7ff, true),
-        (0x1f800, false),
-        (0x1000, true),
-        (0x20000, false),
-        (0, false),
-    ];
-    for (value, want) in table {
-        assert_eq!(RelaxationKind::hi20_fits_clui(value.cast_unsigned()), want, "{value:?}");
-    }
-    for (register, want) in [(0, false), (1, true), (2, false), (3, true), (31, true)] {
-        assert_eq!(RelaxationKind::rd_valid_for_clui(register), want, "{register:?}");
-    }
 }
 
 #[test]
@@ -307,34 +216,6 @@ fn rewrites_match_their_instructions() {
     for (word, want) in words {
         let section = word.to_le_bytes();
         assert_eq!(RelaxationKind::Lo12Rs1ToZero.matches(&section, 0), want, "{word:?}");
-    }
-}
-
-#[test]
-fn distances_that_jal_cannot_hold_are_rejected() {
-    for (distance, want) in [(-1048576, true), (1048575, true), (1048576, false)] {
-        assert_eq!(distance_fits_jal(distance), want, "{distance:?}");
-    }
-    let mut section = 0x0000_0097u32.to_le_bytes();
-    assert_eq!(jal_site(&mut section, 0, 1048576), Err(CallError::TooFar));
-    assert_eq!(jal_site(&mut section, 0, 1048575), Err(CallError::OddDistance));
-    assert_eq!(jal_site(&mut section, 1, 2), Err(CallError::OutOfSection));
-}
-
-#[test]
-fn relocations_have_their_meaning() {
-    assert!(relocation_type_from_raw(RiscVRelocation::Other(7)).is_none());
-    assert!(relocation_type_from_raw(RiscVRelocation::R_RISCV_TLSDESC_CALL).is_none());
-    let clui = RelaxationKind::clui_rel_info();
-    assert_eq!(clui.size, RelocationSize::bit_mask_riscv(0, 32, RiscVInstruction::CluiType));
-    for (value, want) in [(1048574, true), (1048575, false), (-1048576, true), (-1048577, false)] {
-        let jal = relocation_type_from_raw(RiscVRelocation::R_RISCV_JAL);
-        assert_eq!(jal.is_some_and(|info| info.range.contains(value)), want, "{value:?}");
-    }
-    assert!(Bias::from_value(0).is_none());
-    let signed = AllowedRange::from_bit_size(17, Sign::Signed);
-    for (value, want) in [(-65536, true), (65535, true), (65536, false), (-65537, false)] {
-        assert_eq!(signed.contains(value), want, "{value:?}");
     }
 }
 

@@ -5,34 +5,6 @@ use linker_utils::relaxation::{
     SectionRelaxDeltas, calls_apart, calls_shrinkable, pack_section, shrink_calls,
 };
 
-#[derive(Clone, Copy)]
-struct Row {
-    deletions: &'static [(u64, u32)],
-    calls: &'static [(u64, u64)],
-    chosen: &'static [bool],
-}
-
-static ROWS: [Row; 6] = [
-    Row { deletions: &[], calls: &[(0, 1048578)], chosen: &[true] },
-    Row { deletions: &[], calls: &[(0, 1048580)], chosen: &[false] },
-    Row { deletions: &[], calls: &[(0, 9)], chosen: &[false] },
-    Row { deletions: &[(16, 8)], calls: &[(0, 1048586)], chosen: &[true] },
-    // Each of the two needs the other.
-    Row { deletions: &[], calls: &[(100, 1048680), (1048580, 0)], chosen: &[true, true] },
-    Row { deletions: &[], calls: &[(100, 1048688), (1048580, 0)], chosen: &[false, false] },
-];
-
-#[test]
-fn choices_are_the_greatest_in_reach() {
-    for row in &ROWS {
-        assert!(SectionRelaxDeltas::is_valid(row.deletions));
-        let deltas = SectionRelaxDeltas::new(row.deletions).unwrap();
-        assert!(calls_shrinkable(&deltas, row.calls));
-        let chosen = shrink_calls(&deltas, row.calls).unwrap();
-        assert_eq!(chosen, row.chosen, "{:?}", row.calls);
-    }
-}
-
 /// A call at each multiple of 1000 of what is 8 bytes on, except the first. Those at 1052000
 /// and below lie before its target: 1053 calls, which lose 4212 bytes.
 #[test]
@@ -48,21 +20,6 @@ fn many_calls_are_chosen_at_once() {
             assert_eq!(found, is_chosen || at > 0, "{at:?}, {target:?}");
         }
     }
-}
-
-#[test]
-fn calls_of_eight_kept_bytes_are_shrinkable() {
-    let top = u64::MAX;
-    let none = SectionRelaxDeltas::new(&[]).unwrap();
-    assert!(calls_shrinkable(&none, &[(0, 8)]));
-    assert!(calls_shrinkable(&none, &[(top - 8, 0)]));
-    assert!(!calls_shrinkable(&none, &[(0, 6)]));
-    assert!(!calls_shrinkable(&none, &[(0, 16), (4, 16)]));
-    assert!(!calls_shrinkable(&none, &[(top - 7, 0)]));
-    let deletions = [(2, 1)];
-    assert!(SectionRelaxDeltas::is_valid(&deletions));
-    let one = SectionRelaxDeltas::new(&deletions).unwrap();
-    assert!(!calls_shrinkable(&one, &[(0, 16)]));
 }
 
 #[test]

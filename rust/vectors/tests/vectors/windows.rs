@@ -1,79 +1,10 @@
-//! Rewrites and writes near the end of a section and past it. A window is the bytes of the
-//! instructions that a rewrite or a relocation is of, whose lengths are those of the manuals.
+//! Writes near the end of a section and past it. A window is the bytes of the instructions that a
+//! relocation is of, whose lengths are those of the manuals.
 
 use linker_utils::elf::{
-    Architecture, InstructionRewrite, LoongArch64Instruction, RelocateError, RelocationInstruction,
-    RelocationKind, RelocationKindInfo, RelocationSize, RewriteWindow, RiscVInstruction, Row,
+    Architecture, LoongArch64Instruction, RelocateError, RelocationInstruction, RelocationKind,
+    RelocationKindInfo, RelocationSize, RiscVInstruction, Row,
 };
-use linker_utils::{aarch64, loongarch64, riscv64};
-use std::fmt::Debug;
-
-/// Requires that a rewrite's window is a whole section, of which the bytes from `back` on are the
-/// instruction at the offset, and that it may be applied there, and nowhere where a byte is missing.
-pub(crate) fn requires_window<R: InstructionRewrite + Copy + Debug>(
-    kind: R,
-    section: &[u8],
-    back: u64,
-) {
-    assert_eq!(kind.window(), RewriteWindow { back, len: section.len() as u64 }, "{kind:?}");
-    assert!(kind.can_apply(section, back), "{kind:?}");
-    for len in 0..section.len() {
-        assert!(!kind.can_apply(&section[..len], back), "{kind:?}, {len:?}");
-    }
-    for below in 0..back {
-        assert!(!kind.can_apply(section, below), "{kind:?}, {below:?}");
-    }
-    for far in 0..16 {
-        for offset in [back.wrapping_add(1 + far), (1 << 32) + far, u64::MAX - far] {
-            assert!(!kind.can_apply(section, offset), "{kind:?}, {offset:?}");
-        }
-    }
-}
-
-/// Requires that a rewrite of no bytes may be applied anywhere.
-fn requires_nothing<R: InstructionRewrite + Copy + Debug>(kind: R) {
-    assert_eq!(kind.window(), RewriteWindow::default(), "{kind:?}");
-    for offset in [0, 5, u64::MAX] {
-        assert!(kind.can_apply(&[], offset), "{kind:?}, {offset:?}");
-    }
-}
-
-#[test]
-fn rewrites_require_their_window() {
-    for kind in [
-        aarch64::RelaxationKind::ReplaceWithNop,
-        aarch64::RelaxationKind::MovzX0Lsl16,
-        aarch64::RelaxationKind::MovkX0,
-        aarch64::RelaxationKind::MovzXnLsl16,
-        aarch64::RelaxationKind::AdrpToAdr,
-        aarch64::RelaxationKind::AdrpX0,
-        aarch64::RelaxationKind::LdrX0,
-        aarch64::RelaxationKind::AddToAdr,
-        aarch64::RelaxationKind::LdrToAdr,
-        // `ldr x1, [x1]`
-        aarch64::RelaxationKind::MovkXn,
-        aarch64::RelaxationKind::LdrToAdd,
-    ] {
-        requires_window(kind, &0xf940_0021u32.to_le_bytes(), 0);
-    }
-    let pair = aarch64::RelaxationKind::AdrpAddToNopAdr;
-    requires_window(pair, &[0xff; 8], 4);
-    for kind in [
-        riscv64::RelaxationKind::ReplaceWithNop,
-        riscv64::RelaxationKind::CallToJal,
-        riscv64::RelaxationKind::Lo12Rs1ToZero,
-    ] {
-        requires_window(kind, &[0xff; 4], 0);
-    }
-    let c_lui = riscv64::RelaxationKind::Hi20ToCLui;
-    requires_window(c_lui, &[0xff; 2], 0);
-    let nop = loongarch64::RelaxationKind::ReplaceWithNop;
-    requires_window(nop, &[0xff; 4], 0);
-    requires_nothing(aarch64::RelaxationKind::NoOp);
-    requires_nothing(riscv64::RelaxationKind::NoOp);
-    requires_nothing(riscv64::RelaxationKind::Hi20Delete);
-    requires_nothing(loongarch64::RelaxationKind::NoOp);
-}
 
 /// How many bytes the relocations of a row write.
 fn window(row: &RelocationKindInfo) -> usize {

@@ -3,7 +3,6 @@
 
 mod choices;
 
-use crate::windows::requires_window;
 use linker_utils::elf::{AllowedRange, RelocationKind, RelocationKindInfo, RelocationSize};
 use linker_utils::relaxation::RelocationModifier;
 use linker_utils::x86_64::{RelaxationKind, X86_64Relocation, may_be_skipped, relocation_from_raw};
@@ -871,54 +870,6 @@ fn the_relocation_of_the_call_is_skipped() {
     for rewrite in &REWRITES {
         assert_eq!(rewrite.kind.skipped_offset(), None, "{:?}", rewrite.kind);
     }
-}
-
-#[test]
-fn indirect_jumps_become_direct() {
-    let mut section = [0xff, 0x25, 0, 0, 0, 0];
-    let mut offset = 2;
-    let mut addend = -4;
-    assert!(!RelaxationKind::JmpIndirectToRelative.can_apply(&section, 1));
-    assert!(!RelaxationKind::JmpIndirectToRelative.can_apply(&section, 3));
-    assert!(RelaxationKind::JmpIndirectToRelative.can_apply(&section, offset));
-    RelaxationKind::JmpIndirectToRelative.apply(&mut section, &mut offset, &mut addend);
-    assert_eq!(section, [0xe9, 0, 0, 0, 0, 0x90]);
-    assert_eq!((offset, addend), (1, -4));
-}
-
-/// Each rewrite, the offset in a section that is just its window, and the section's length.
-static WINDOWS: [(RelaxationKind, u64, usize); 21] = [
-    (RelaxationKind::MovIndirectToLea, 2, 1),
-    (RelaxationKind::MovIndirectToAbsolute, 2, 2),
-    (RelaxationKind::RexMovIndirectToAbsolute(3), 3, 3),
-    (RelaxationKind::RexAddIndirectToAbsolute(0), 2, 2),
-    (RelaxationKind::RexAddIndirectToAbsolute(3), 3, 3),
-    (RelaxationKind::RexAddIndirectToAbsolute(4), 3, 3),
-    (RelaxationKind::RexAddIndirectToAbsolute(6), 5, 5),
-    (RelaxationKind::RexSubIndirectToAbsolute(4), 3, 3),
-    (RelaxationKind::RexCmpIndirectToAbsolute(5), 3, 3),
-    (RelaxationKind::CallIndirectToRelative, 2, 2),
-    (RelaxationKind::JmpIndirectToRelative, 2, 6),
-    (RelaxationKind::TlsGdToLocalExec, 4, 12),
-    (RelaxationKind::TlsGdToLocalExecLarge, 3, 22),
-    (RelaxationKind::TlsLdToLocalExec, 3, 12),
-    (RelaxationKind::TlsLdToLocalExecNoPlt, 3, 13),
-    (RelaxationKind::TlsLdToLocalExec64, 3, 22),
-    (RelaxationKind::TlsGdToInitialExec, 4, 12),
-    (RelaxationKind::TlsDescToLocalExec(3), 3, 3),
-    (RelaxationKind::TlsDescToLocalExec(4), 3, 3),
-    (RelaxationKind::TlsDescToInitialExec, 2, 1),
-    (RelaxationKind::SkipTlsDescCall, 0, 2),
-];
-
-#[test]
-fn rewrites_require_their_window() {
-    let bytes = [0; 22];
-    for &(kind, offset, len) in &WINDOWS {
-        assert!(len <= 22);
-        requires_window(kind, &bytes[..len], offset);
-    }
-    assert!(RelaxationKind::NoOp.can_apply(&[], u64::MAX));
 }
 
 fn info(kind: RelocationKind, bytes: u8, range: AllowedRange) -> Option<RelocationKindInfo> {

@@ -1,0 +1,321 @@
+//! Rewrites of all architectures, and how many bytes they require. The instructions are worked by hand
+//! from the manuals.
+
+use crate::rows::{expect, expect_eq};
+use linker_utils::architecture::Relaxation::{self, AArch64, LoongArch64, Ppc64, RiscV, X86_64};
+use linker_utils::elf::InstructionRewrite;
+use linker_utils::relaxation::RelocationModifier;
+use linker_utils::{aarch64, loongarch64, ppc64, riscv64, x86_64};
+use std::process::Abort;
+
+/// A rewrite; bytes, an offset and an addend before; and these after.
+type Rewritten = (Relaxation, &'static [u8], u64, i64, &'static [u8], u64, i64);
+
+static REWRITTEN: [Rewritten; 16] = [
+    (
+        AArch64(aarch64::RelaxationKind::AdrpAddToNopAdr),
+        b"\x03\0\0\x90\x63\0\0\x91",
+        4,
+        7,
+        b"\x1f\x20\x03\xd5\x03\0\0\x10",
+        4,
+        7,
+    ),
+    (
+        AArch64(aarch64::RelaxationKind::LdrToAdd),
+        b"\x21\x04\x40\xf9",
+        0,
+        7,
+        b"\x21\x04\0\x91",
+        0,
+        7,
+    ),
+    (
+        AArch64(aarch64::RelaxationKind::MovkXn),
+        b"\x21\0\x40\xf9",
+        0,
+        7,
+        b"\x01\0\x80\xf2",
+        0,
+        7,
+    ),
+    (
+        AArch64(aarch64::RelaxationKind::LdrToAdr),
+        b"\0\0\x40\xf9",
+        0,
+        7,
+        b"\0\0\x40\x70",
+        0,
+        7,
+    ),
+    (
+        RiscV(riscv64::RelaxationKind::Hi20ToCLui),
+        b"\x37\x05\0\0",
+        0,
+        7,
+        b"\x01\x65\0\0",
+        0,
+        7,
+    ),
+    (
+        RiscV(riscv64::RelaxationKind::Lo12Rs1ToZero),
+        b"\x13\x05\x05\0",
+        0,
+        7,
+        b"\x13\x05\0\0",
+        0,
+        7,
+    ),
+    (
+        RiscV(riscv64::RelaxationKind::ReplaceWithNop),
+        b"\x13\x05\x05\0",
+        0,
+        7,
+        b"\x01\0\x01\0",
+        0,
+        7,
+    ),
+    (
+        RiscV(riscv64::RelaxationKind::CallToJal),
+        b"\x97\0\0\0",
+        0,
+        7,
+        b"\xef\0\0\0",
+        0,
+        7,
+    ),
+    (
+        LoongArch64(loongarch64::RelaxationKind::ReplaceWithNop),
+        &[0xff; 4],
+        0,
+        7,
+        b"\0\0\x40\x03",
+        0,
+        7,
+    ),
+    (
+        Ppc64(ppc64::RelaxationKind::NoOp),
+        b"\x01",
+        9,
+        7,
+        b"\x01",
+        9,
+        7,
+    ),
+    (
+        X86_64(x86_64::RelaxationKind::RexMovIndirectToAbsolute(3)),
+        b"\x4c\x8b\x15\0\0\0\0",
+        3,
+        7,
+        b"\x49\xc7\xc2\0\0\0\0",
+        3,
+        0,
+    ),
+    (
+        X86_64(x86_64::RelaxationKind::JmpIndirectToRelative),
+        b"\xff\x25\0\0\0\0",
+        2,
+        -4,
+        b"\xe9\0\0\0\0\x90",
+        1,
+        -4,
+    ),
+    (
+        X86_64(x86_64::RelaxationKind::RexAddIndirectToAbsolute(6)),
+        b"\x64\0\0\x03\x15",
+        5,
+        7,
+        b"\xdc\0\0\x81\xc2",
+        5,
+        0,
+    ),
+    (
+        X86_64(x86_64::RelaxationKind::RexSubIndirectToAbsolute(4)),
+        b"\x44\x2b\x0d",
+        3,
+        7,
+        b"\x11\x81\xe9",
+        3,
+        0,
+    ),
+    (
+        X86_64(x86_64::RelaxationKind::RexCmpIndirectToAbsolute(3)),
+        b"\x4c\x3b\x3d",
+        3,
+        7,
+        b"\x49\x81\xff",
+        3,
+        0,
+    ),
+    (
+        X86_64(x86_64::RelaxationKind::TlsGdToLocalExec),
+        &[0; 12],
+        4,
+        7,
+        b"\x64\x48\x8b\x04\x25\0\0\0\0\x48\x8d\x80",
+        12,
+        0,
+    ),
+];
+
+#[test]
+fn rewrites_leave_their_bytes(rt: HostRuntime) {
+    for (kind, before, offset, addend, after, offset_after, addend_after) in &REWRITTEN {
+        let (len, mut section) = (before.len(), [0; 12]);
+        expect(&rt, *kind, len <= 12);
+        section[..len].copy_from_slice(before);
+        expect(&rt, *kind, kind.can_apply(&section[..len], *offset));
+        let (mut offset, mut addend) = (*offset, *addend);
+        kind.apply(&mut section[..len], &mut offset, &mut addend);
+        expect_eq(&rt, *kind, &section[..len], *after);
+        expect_eq(&rt, *kind, (offset, addend), (*offset_after, *addend_after));
+    }
+    for (kind, modifier) in [
+        (
+            X86_64(x86_64::RelaxationKind::TlsGdToLocalExec),
+            RelocationModifier::SkipNextRelocation,
+        ),
+        (
+            X86_64(x86_64::RelaxationKind::SkipTlsDescCall),
+            RelocationModifier::Normal,
+        ),
+        (
+            RiscV(riscv64::RelaxationKind::CallToJal),
+            RelocationModifier::SkipNextRelocation,
+        ),
+    ] {
+        expect_eq(&rt, kind, kind.next_modifier(), modifier);
+    }
+}
+
+/// Rewrites of one instruction of AArch64: `ldr x1, [x1]` can be all of them.
+static OF_A_LOAD: [aarch64::RelaxationKind; 11] = [
+    aarch64::RelaxationKind::ReplaceWithNop,
+    aarch64::RelaxationKind::MovzX0Lsl16,
+    aarch64::RelaxationKind::MovkX0,
+    aarch64::RelaxationKind::MovzXnLsl16,
+    aarch64::RelaxationKind::AdrpToAdr,
+    aarch64::RelaxationKind::AdrpX0,
+    aarch64::RelaxationKind::LdrX0,
+    aarch64::RelaxationKind::AddToAdr,
+    aarch64::RelaxationKind::LdrToAdr,
+    aarch64::RelaxationKind::MovkXn,
+    aarch64::RelaxationKind::LdrToAdd,
+];
+
+/// Other rewrites, the offset in a section that is just their window, and the section's length.
+static WINDOWS: [(Relaxation, u64, usize); 27] = [
+    (AArch64(aarch64::RelaxationKind::AdrpAddToNopAdr), 4, 8),
+    (RiscV(riscv64::RelaxationKind::ReplaceWithNop), 0, 4),
+    (RiscV(riscv64::RelaxationKind::CallToJal), 0, 4),
+    (RiscV(riscv64::RelaxationKind::Lo12Rs1ToZero), 0, 4),
+    (RiscV(riscv64::RelaxationKind::Hi20ToCLui), 0, 2),
+    (
+        LoongArch64(loongarch64::RelaxationKind::ReplaceWithNop),
+        0,
+        4,
+    ),
+    (X86_64(x86_64::RelaxationKind::MovIndirectToLea), 2, 1),
+    (X86_64(x86_64::RelaxationKind::MovIndirectToAbsolute), 2, 2),
+    (
+        X86_64(x86_64::RelaxationKind::RexMovIndirectToAbsolute(3)),
+        3,
+        3,
+    ),
+    (
+        X86_64(x86_64::RelaxationKind::RexAddIndirectToAbsolute(0)),
+        2,
+        2,
+    ),
+    (
+        X86_64(x86_64::RelaxationKind::RexAddIndirectToAbsolute(3)),
+        3,
+        3,
+    ),
+    (
+        X86_64(x86_64::RelaxationKind::RexAddIndirectToAbsolute(4)),
+        3,
+        3,
+    ),
+    (
+        X86_64(x86_64::RelaxationKind::RexAddIndirectToAbsolute(6)),
+        5,
+        5,
+    ),
+    (
+        X86_64(x86_64::RelaxationKind::RexSubIndirectToAbsolute(4)),
+        3,
+        3,
+    ),
+    (
+        X86_64(x86_64::RelaxationKind::RexCmpIndirectToAbsolute(5)),
+        3,
+        3,
+    ),
+    (X86_64(x86_64::RelaxationKind::CallIndirectToRelative), 2, 2),
+    (X86_64(x86_64::RelaxationKind::JmpIndirectToRelative), 2, 6),
+    (X86_64(x86_64::RelaxationKind::TlsGdToLocalExec), 4, 12),
+    (X86_64(x86_64::RelaxationKind::TlsGdToLocalExecLarge), 3, 22),
+    (X86_64(x86_64::RelaxationKind::TlsLdToLocalExec), 3, 12),
+    (X86_64(x86_64::RelaxationKind::TlsLdToLocalExecNoPlt), 3, 13),
+    (X86_64(x86_64::RelaxationKind::TlsLdToLocalExec64), 3, 22),
+    (X86_64(x86_64::RelaxationKind::TlsGdToInitialExec), 4, 12),
+    (X86_64(x86_64::RelaxationKind::TlsDescToLocalExec(3)), 3, 3),
+    (X86_64(x86_64::RelaxationKind::TlsDescToLocalExec(4)), 3, 3),
+    (X86_64(x86_64::RelaxationKind::TlsDescToInitialExec), 2, 1),
+    (X86_64(x86_64::RelaxationKind::SkipTlsDescCall), 0, 2),
+];
+
+/// Rewrites of no bytes.
+static OF_NOTHING: [Relaxation; 6] = [
+    AArch64(aarch64::RelaxationKind::NoOp),
+    RiscV(riscv64::RelaxationKind::NoOp),
+    RiscV(riscv64::RelaxationKind::Hi20Delete),
+    LoongArch64(loongarch64::RelaxationKind::NoOp),
+    Ppc64(ppc64::RelaxationKind::NoOp),
+    X86_64(x86_64::RelaxationKind::NoOp),
+];
+
+/// Requires that a rewrite may be applied to a section that is just its window, of which the bytes
+/// from `back` on are the instruction at the offset, and not where a byte of it is missing.
+fn requires_window(rt: &impl Abort, kind: Relaxation, section: &[u8], back: u64) {
+    expect_eq(rt, kind, kind.can_apply(section, back), true);
+    for len in 0..section.len() {
+        expect_eq(
+            rt,
+            (kind, len),
+            kind.can_apply(&section[..len], back),
+            false,
+        );
+    }
+    for below in 0..back {
+        expect_eq(rt, kind, kind.can_apply(section, below), false);
+    }
+    for offset in [back.wrapping_add(1), back.wrapping_add(1 << 32), u64::MAX] {
+        expect_eq(rt, (kind, offset), kind.can_apply(section, offset), false);
+    }
+}
+
+#[test]
+fn rewrites_require_their_window(rt: HostRuntime) {
+    for kind in &OF_A_LOAD {
+        requires_window(&rt, AArch64(*kind), b"\x21\0\x40\xf9", 0);
+    }
+    let bytes = [0xff; 22];
+    for (kind, back, len) in &WINDOWS {
+        expect(&rt, *kind, *len <= 22);
+        requires_window(&rt, *kind, &bytes[..*len], *back);
+    }
+    for kind in &OF_NOTHING {
+        for offset in [0, 5, u64::MAX] {
+            expect_eq(&rt, (kind, offset), kind.can_apply(&[], offset), true);
+        }
+    }
+    // `ldr w1, [x1]`, and `ldr x1, [x2]`
+    for (kind, word) in [
+        (aarch64::RelaxationKind::LdrToAdd, b"\x21\x04\x40\xb9"),
+        (aarch64::RelaxationKind::MovkXn, b"\x41\0\x40\xf9"),
+    ] {
+        expect_eq(&rt, kind, kind.can_apply(word, 0), false);
+    }
+}
