@@ -147,12 +147,12 @@
     STATUS(FACTS_CHANGED, 79, \
            "The facts of the relocation's symbol, or of the output, are not those that were kept.") \
     STATUS(NOT_ALIGNED, 80, \
-           "What is behind the nops of the alignment is not aligned: the section was not packed.") \
+           "The code after the nops of an alignment is not aligned: the section was not packed.") \
     STATUS(NEEDS_STUB, 81, \
            "The function may return with another TOC pointer, and its symbol has no stub that " \
            "keeps the caller's.") \
     STATUS(OTHER_LENGTH, 82, \
-           "The instruction there is shorter or longer than that of the relocation.")
+           "The instruction there is shorter or longer than the one that the relocation is for.")
 
 enum linker_utils_status {
 #define LINKER_UTILS_STATUS(name, number, text) LINKER_UTILS_##name = number,

@@ -371,7 +371,7 @@ impl Display for section::ValueError {
                 "no high part is at the label that the symbol of the relocation is"
             }
             section::ValueError::NotAligned => {
-                "what is behind the nops of the alignment is not aligned: the section was not packed"
+                "the code after the nops of an alignment is not aligned: the section was not packed"
             }
             section::ValueError::NeedsStub => {
                 "the function may return with another TOC pointer, and its symbol has no stub that \
@@ -392,7 +392,7 @@ impl Display for RelocationError {
                 "the relocation's field overlaps that of one before it, and the two do not compose",
             ),
             RelocationError::OtherLength => f.write_str(
-                "the instruction there is shorter or longer than that of the relocation",
+                "the instruction there is shorter or longer than the one that the relocation is for",
             ),
             RelocationError::Write(error) => error.fmt(f),
             RelocationError::Uleb128(error) => error.fmt(f),

@@ -263,7 +263,7 @@ static bool overlaps(const struct given *it, size_t k) {
     return false;
 }
 
-/* Whether what is behind the nops of R_RISCV_ALIGN (43) or R_LARCH_ALIGN (102) is aligned, or needs more
+/* Whether what is after the nops of R_RISCV_ALIGN (43) or R_LARCH_ALIGN (102) is aligned, or needs more
  * bytes than a limit allows. */
 static bool is_aligned(const struct given *it, const uint64_t *words) {
     uint32_t type = (uint32_t)words[1];

@@ -1,4 +1,4 @@
--- What has to hold of a section's relocation besides that it has a value: what is behind the nops
+-- What has to hold of a section's relocation besides that it has a value: what is after the nops
 -- of an alignment is aligned, a call keeps its TOC pointer, and an instruction is as long as the
 -- relocation's form.
 use Rattle.std.specs.Prelude.{◌≡◌, ℕ, ◌-◌, ◌/◌, ◌%◌, ◌^◌, ◌≤◌, ◌==◌, ◌&&◌, ◌||◌, Bool, true}
@@ -43,7 +43,7 @@ is_stated place addend =
     && (sum_64 place (2 ^ (addend % 256) - 4) % 2 ^ (addend % 256) == 0
     || (nat_lt 0 (addend / 256) && nat_lt (addend / 256) (needed place (2 ^ (addend % 256)))))
 
--- What is behind the nops of an `R_RISCV_ALIGN` or `R_LARCH_ALIGN` is where it has to be (RISC-V
+-- What is after the nops of an `R_RISCV_ALIGN` or `R_LARCH_ALIGN` is where it has to be (RISC-V
 -- ELF psABI, "Alignment Relaxation"; LoongArch ELF psABI, "Relocation Types"). The addend is how
 -- many bytes the nops have; that of `R_LARCH_ALIGN` with a symbol says both.
 abbrev pub is_filled : Architecture → Addresses → Rela → Bool

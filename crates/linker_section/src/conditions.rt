@@ -78,7 +78,7 @@ fn is_stated(place: u64, addend: u64) -> bool
         || (most > 0 && most < needed(place, power))
 }
 
-/// Whether what is behind the nops of an alignment is where it has to be. True of any other
+/// Whether what is after the nops of an alignment is where it has to be. True of any other
 /// relocation.
 #[inline(always)]
 pub(crate) fn is_filled(

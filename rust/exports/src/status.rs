@@ -169,12 +169,12 @@ pub enum Status {
     StubTooFar,
     /// The facts of the relocation's symbol, or of the output, are not those that were kept.
     FactsChanged,
-    /// What is behind the nops of the alignment is not aligned: the section was not packed.
+    /// The code after the nops of an alignment is not aligned: the section was not packed.
     NotAligned,
     /// The function may return with another TOC pointer, and its symbol has no stub that keeps the
     /// caller's.
     NeedsStub,
-    /// The instruction there is shorter or longer than that of the relocation.
+    /// The instruction there is shorter or longer than the one that the relocation is for.
     OtherLength,
 }
 
