@@ -40,6 +40,22 @@ fn no_operation(architecture: Architecture) -> &'static [u8] {
     }
 }
 
+/// The relocations with type 0 for alignments, since nothing here removes their nops.
+fn without_alignments(architecture: Architecture, relocations: &[u8]) -> Vec<u8> {
+    let alignment = match architecture {
+        Architecture::RiscV => 43,
+        Architecture::LoongArch64 => 102,
+        _ => return relocations.to_vec(),
+    };
+    let mut relocations = relocations.to_vec();
+    for index in 0..relocations_len(&relocations) {
+        if relocation_at(&relocations, index).is_some_and(|one| one.code == alignment) {
+            relocations[24 * index + 8..][..4].fill(0);
+        }
+    }
+    relocations
+}
+
 fn relocated(
     object: &Object,
     layout: &Layout,
@@ -47,17 +63,18 @@ fn relocated(
     relocations: &[u8],
     mut bytes: Vec<u8>,
 ) -> Result<Vec<u8>, Box<dyn Error>> {
-    let mut memory = vec![0; memory_len(relocations)];
+    let relocations = without_alignments(object.architecture, relocations);
+    let mut memory = vec![0; memory_len(&relocations)];
     relocate_section(
         object.architecture,
         &layout.addresses(section),
-        relocations,
+        &relocations,
         &layout.symbols,
         &mut bytes,
         &mut memory,
     )
     .map_err(|error| {
-        let code = relocation_at(relocations, error.index).map(|relocation| relocation.code);
+        let code = relocation_at(&relocations, error.index).map(|relocation| relocation.code);
         format!("relocation {} of type {code:?}: {:?}", error.index, error.error)
     })?;
     Ok(bytes)

@@ -194,7 +194,7 @@ fn numbers_are_extended() {
 
 #[test]
 fn powerpc64_is_as_in_qemu() {
-    let table = include_str!("../../../../crates/vectors/specs/Ppc64Steps.antt");
+    let table = include_str!("../../../../crates/linker_final/specs/Ppc64Steps.antt");
     // no group has them: they are of stubs, of lazy PLTs and of functions that save registers
     let others = [
         "mflr",
@@ -216,7 +216,7 @@ fn powerpc64_is_as_in_qemu() {
 
 #[test]
 fn loongarch_is_as_in_qemu() {
-    let table = include_str!("../../../../crates/vectors/specs/LoongArchSteps.antt");
+    let table = include_str!("../../../../crates/linker_final/specs/LoongArchSteps.antt");
     let others = [
         // the interpreter has no vectors, and single precision only in stores
         "preld",
