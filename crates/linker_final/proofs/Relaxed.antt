@@ -1,5 +1,5 @@
 -- The alignments of a relaxed run, in the final bytes of its sections.
-use Rattle.std.proofs.Common.{◌≡◌, ◌≢◌, ℕ, ◌+◌, ◌-◌, ◌*◌, ◌/◌, ◌%◌, ◌^◌, ◌<◌, ◌≤◌, List, length, map, get_or, refl, sym, ap, subst, ◌∙◌, inl, inr, arith}
+use Rattle.std.proofs.Common.{◌≡◌, ◌≢◌, ℕ, ◌+◌, ◌-◌, ◌*◌, ◌/◌, ◌%◌, ◌^◌, ◌<◌, ◌≤◌, List, length, get_or, refl, sym, ap, subst, ◌∙◌, inl, inr, arith}
 use Rattle.std.specs.Prelude.{◌⊎◌, MatchOption, Option, None, Some}
 use Rattle.std.proofs.Math.Nat.{mod-lt, mod-eq_of_lt, mod_self}
 use Rattle.std.proofs.lemmas.Bool.{cases_lt}
@@ -22,7 +22,7 @@ use Rattle.linker_runs.proofs.Multiples.{needed_fills, no_rest}
 use Rattle.linker_runs.proofs.Translations.{translations_exact}
 use Rattle.linker_runs.specs.Choosing.{AreItems, IsExact, IsExactItem, IsRelaxation}
 use Rattle.linker_runs.specs.Deleting.{deletions_of_run}
-use Rattle.linker_runs.specs.Packing.{address_of, kept_len, packed_offset, section_of}
+use Rattle.linker_runs.specs.Packing.{address_of, kept_len, packed_offset}
 use Rattle.linker_runs.specs.Relaxing.{IsSound, choice_of, end_of, freed_before, item_at, needed, offset_of}
 use Rattle.linker_runs.specs.declared.relaxation.Alignment.{Alignment}
 use Rattle.linker_runs.specs.declared.relaxation.Item.{Item}
