@@ -629,8 +629,7 @@ static inline uint32_t linker_utils_survey_placed_section(
  * `linker_utils_survey_placed_section` noted of all sections of code of the object in the phase,
  * with the same facts and addresses. All decisions are written anew: those of an earlier phase are
  * lost. Each address has to be that by which values are written later, or differ from it by less
- * than the reach that is left. A linker that deletes bytes afterwards makes distances shorter,
- * never longer.
+ * than the reach that is left. Bytes that are deleted afterwards only make distances shorter.
  *
  * What is to be deleted is in the first `deleted_used` elements of `deleted`, ascending, as
  * `linker_utils_deltas_create` takes it. They are bytes of the section, apart from each other and
