@@ -88,6 +88,11 @@ fn input(
     for at in 0..count {
         let (r_type, name) = *random.one_of(&types);
         let offset = 40 * at + 4 * random.below(9) as usize;
+        if machine == RISCV {
+            // the low two bits say whether an instruction has 4 bytes
+            let low = if name.starts_with("RVC") { 1 } else { 3 };
+            section[offset] = section[offset] & !3 | low;
+        }
         let nearest = (offset + STEP / 2 - 1) / STEP;
         let is_short = name.contains("BRANCH") || name.contains("JUMP") || name.starts_with("B1");
         let mut symbol = match nearest {
