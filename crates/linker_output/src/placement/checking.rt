@@ -1,6 +1,6 @@
 //! Whether stubs can be placed in code, and whether those that are placed reach their targets.
 
-ghost use Rattle.std.specs.Prelude.{◌≡◌, ◌+◌, ◌*◌, ◌<◌, ◌≤◌, ◌^◌, ◌↔◌, ℕ, IsTrue, length, true};
+ghost use Rattle.std.specs.Prelude.{◌≡◌, ◌*◌, ◌<◌, ◌≤◌, ◌^◌, ◌↔◌, ℕ, IsTrue, length, true};
 ghost use Rattle.std.specs.Prelude.{false, IfOk, IfErr, IfSome, IfNone};
 ghost use Rattle.linker_output.specs.Placement.{branch_at, at, IsAscending, IsCode, IsDescent};
 ghost use Rattle.linker_output.specs.Placement.{HasTarget, IsLayout, IsPlaceCause, StubReaches};
