@@ -502,6 +502,7 @@ size_t linker_utils_most_stubs(size_t branches_len);
  *   first boundary above it.
  * With any status but LINKER_UTILS_OK only `faulty` is written, and only where it says so.
  *
+ * The first that applies of these, with the first index of it:
  * LINKER_UTILS_DIFFERENT_LENGTHS where `ways_len` isn't `branches_len`, or `before_len` isn't
  * `boundaries_len` + 1; LINKER_UTILS_SHORT_MEMORY where `stubs_len` is below
  * `linker_utils_most_stubs(branches_len)`; LINKER_UTILS_STUB_WITHOUT_LENGTH;

@@ -214,3 +214,38 @@ fn no_branch_fails_that_a_boundary_is_in_reach_of() {
     assert_eq!(counts.in_reach, 0);
     assert!(counts.with_stubs > cases / 4 && counts.none > 0 && counts.too_far > 0);
 }
+
+#[test]
+fn the_first_fault_is_returned() {
+    let branch = |offset, target| Branch {
+        offset,
+        target,
+        max_backward: 8,
+        max_forward: 8,
+    };
+    let shape = StubShape {
+        len: 8,
+        unit: 8,
+        max_backward: 1 << 32,
+        max_forward: 1 << 32,
+    };
+    let far = 1 << 62;
+    let whole = Code {
+        branches: &[branch(0, 0), branch(4, 1), branch(far, 2)],
+        targets: &[0x1000],
+        boundaries: &[16, 8, 4],
+        shape: StubShape { unit: 0, ..shape },
+    };
+    assert!(matches!(place_stubs(&whole), Err(PlaceError::NoLength)));
+    let code = Code { shape, ..whole };
+    assert!(matches!(place_stubs(&code), Err(PlaceError::NotAscending(0))));
+    let code = Code { boundaries: &[16], ..code };
+    assert!(matches!(place_stubs(&code), Err(PlaceError::NoTarget(1))));
+    let code = Code { targets: &[0x1000; 3], ..code };
+    assert!(matches!(place_stubs(&code), Err(PlaceError::TooLong)));
+    let code = Code { branches: &[branch(0, 0), branch(4, 1)], ..code };
+    assert!(matches!(place_stubs(&code), Err(PlaceError::NoBoundary(0, _))));
+    let near = StubShape { max_forward: 8, ..shape };
+    let code = Code { boundaries: &[4], shape: near, branches: &[branch(0, 0)], ..code };
+    assert!(matches!(place_stubs(&code), Err(PlaceError::StubTooFar(0, _))));
+}

@@ -15,8 +15,8 @@ use Rattle.linker_output.specs.declared.placement.State.{State}
 use Rattle.linker_output.specs.declared.placement.StubAt.{StubAt}
 use Rattle.linker_output.specs.declared.placement.Way.{Way}
 use Rattle.linker_output.specs.declared.placement.Way.TheVariants.{Direct, Far, Near}
-use Rattle.linker_output.specs.Placement.{group_at, branch_at, stub_at, stubs_in, HasPart, AreTwo, part_of}
-use Rattle.linker_output.specs.Inner.Placement.{IsCode, IsState, IsWay, IsNear, IsNewNear, level, level_of, way_at, with_one, new_way}
+use Rattle.linker_output.specs.Placement.{group_at, branch_at, stub_at, stubs_in, HasPart, AreTwo, part_of, IsCode}
+use Rattle.linker_output.specs.Inner.Placement.{IsState, IsWay, IsNear, IsNewNear, level, level_of, way_at, with_one, new_way}
 
 part_grows : (p part : Part) (g : Group) → part_of p g ≤ part_of p (with_one part g)
 part_grows Front Front g = omega arith

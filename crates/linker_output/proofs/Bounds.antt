@@ -10,8 +10,8 @@ use Rattle.linker_output.specs.declared.placement.Part.TheVariants.{Front, Middl
 use Rattle.linker_output.specs.declared.placement.State.{State}
 use Rattle.linker_output.specs.declared.placement.Way.{Way}
 use Rattle.linker_output.specs.declared.placement.Way.TheVariants.{Direct, Far, Near}
-use Rattle.linker_output.specs.Placement.{group_at, stub_at, stubs_in, part_of}
-use Rattle.linker_output.specs.Inner.Placement.{IsCode, IsState, level}
+use Rattle.linker_output.specs.Placement.{group_at, stub_at, stubs_in, part_of, IsCode}
+use Rattle.linker_output.specs.Inner.Placement.{IsState, level}
 
 pub level_most : (w : Way) → level w ≤ 2
 level_most Direct = omega arith

@@ -12,8 +12,8 @@ use Rattle.linker_output.specs.declared.placement.Part.{Part}
 use Rattle.linker_output.specs.declared.placement.Part.TheVariants.{Front, Middle, Back}
 use Rattle.linker_output.specs.declared.placement.State.{State}
 use Rattle.linker_output.specs.declared.placement.StubAt.{StubAt}
-use Rattle.linker_output.specs.Placement.{Reaches, at, branch_at, group_at, stub_at, stubs_in, passed, moved, place_in, place_of, start_of, end_of, HasPart, part_of, ReachesAt, IsLaidOut, IsLayout, IsStuck}
-use Rattle.linker_output.specs.Inner.Placement.{IsCode, IsState, IsNear, IsNearIn, IsStuckIn}
+use Rattle.linker_output.specs.Placement.{Reaches, at, branch_at, group_at, stub_at, stubs_in, passed, moved, place_in, place_of, start_of, end_of, HasPart, part_of, ReachesAt, IsLaidOut, IsLayout, IsStuck, IsCode}
+use Rattle.linker_output.specs.Inner.Placement.{IsState, IsNear, IsNearIn, IsStuckIn}
 use Rattle.linker_output.proofs.Apart.{fits_at, ends_before, inside_in}
 use Rattle.linker_output.proofs.Passed.{true_le, false_lt}
 

@@ -1,5 +1,5 @@
 -- Places of stubs between sections.
-use Rattle.std.specs.Prelude.{◌≡◌, ◌≢◌, ◌≤◌, ◌<◌, ◌+◌, ◌-◌, ◌*◌, ◌%◌, ◌^◌, ◌⊎◌, ℕ, ⊤, List, length}
+use Rattle.std.specs.Prelude.{◌≡◌, ◌≢◌, ◌≤◌, ◌<◌, ◌+◌, ◌-◌, ◌*◌, ◌%◌, ◌^◌, ◌⊎◌, ℕ, List, length}
 use Rattle.std.specs.Prelude.{nat_le}
 use Rattle.std.specs.Prelude.{Option, Some, None, slice_index_or}
 use Rattle.std.specs.List.{prefix_len, sum_by}
@@ -35,10 +35,49 @@ stub_at xs k = slice_index_or xs k (record { boundary = 0; part = Front; index =
 abbrev pub group_at : List Group → ℕ → Group
 group_at xs k = slice_index_or xs k (record { front = 0; middle = 0; back = 0 })
 
--- ---- the layout
+-- ---- the code
 
 abbrev pub IsAscending : List ℕ → Type 0
 IsAscending xs = (i j : ℕ) → i ≤ j → j < length xs → at xs i ≤ at xs j
+
+-- a stub has no bytes, or the unit is 0
+abbrev pub HasNoLength : StubShape → Type 0
+HasNoLength shape = (shape.len ≡ 0) ⊎ (shape.unit ≡ 0)
+
+-- the boundary after the one at an index is below it
+abbrev pub IsDescent : List ℕ → ℕ → Type 0
+IsDescent boundaries k = (k + 1 < length boundaries) × (at boundaries (k + 1) < at boundaries k)
+
+-- the target of a branch is in the table
+abbrev pub HasTarget : Code → ℕ → Type 0
+HasTarget code i = (branch_at code.branches.now i).target < length code.targets.now
+
+-- how many bytes all stubs take at most: two for each branch and one more, and a unit for each
+-- boundary
+abbrev pub most_bytes : Code → ℕ
+most_bytes code =
+    code.shape.unit * length code.boundaries.now
+    + code.shape.len * (2 * length code.branches.now + 1)
+
+-- an offset, or all that the stubs take at most, isn't below 2^62
+abbrev pub IsTooLong : Code → Type 0
+IsTooLong code = ((i : ℕ) × (2 ^ 62 ≤ (branch_at code.branches.now i).offset))
+    ⊎ ((t : ℕ) × (2 ^ 62 ≤ at code.targets.now t))
+    ⊎ ((k : ℕ) × (2 ^ 62 ≤ at code.boundaries.now k))
+    ⊎ (2 ^ 62 ≤ most_bytes code)
+
+-- stubs can be placed in the code
+pub record IsCode (code : Code) : Type 0 where
+  pub len : 0 < code.shape.len
+  pub unit : 0 < code.shape.unit
+  pub ascending : IsAscending code.boundaries.now
+  pub in_table : (i : ℕ) → i < length code.branches.now → HasTarget code i
+  pub branches : (i : ℕ) → (branch_at code.branches.now i).offset < 2 ^ 62
+  pub targets : (t : ℕ) → at code.targets.now t < 2 ^ 62
+  pub boundaries : (k : ℕ) → at code.boundaries.now k < 2 ^ 62
+  pub room : most_bytes code < 2 ^ 62
+
+-- ---- the layout
 
 -- how many boundaries, which ascend, are at or below an offset
 abbrev pub passed : List ℕ → ℕ → ℕ
@@ -154,6 +193,7 @@ StubReaches code layout j =
     (target_place code layout.before.items (stub_at layout.stubs.items j).target)
 
 pub record IsPlaced (code : Code) (placement : Placement) : Type 0 where
+  pub is_code : IsCode code
   pub layout : IsLayout code placement.layout
   pub one_each : length placement.stubs.items ≡ length code.branches.now
   pub goes : (i : ℕ) → i < length code.branches.now
@@ -183,25 +223,27 @@ pub record IsStuck (code : Code) (layout : Layout) (branch : Branch) : Type 0 wh
       + code.shape.len * ((group_at layout.groups.items k).back + 1))
       (end_of code.boundaries.now layout.before.items k)
 
--- an offset, or all that the stubs of two for each branch take, isn't below 2^62
-abbrev pub IsTooLong : Code → Type 0
-IsTooLong code = ((i : ℕ) × (2 ^ 62 ≤ (branch_at code.branches.now i).offset))
-    ⊎ ((t : ℕ) × (2 ^ 62 ≤ at code.targets.now t))
-    ⊎ ((k : ℕ) × (2 ^ 62 ≤ at code.boundaries.now k))
-    ⊎ (2 ^ 62 ≤ code.shape.unit * length code.boundaries.now
-    + code.shape.len * (2 * length code.branches.now + 1))
+-- the branches with an index below a limit reach their target or a stub of it
+abbrev pub AllGo : Code → Layout → ℕ → Type 0
+AllGo code layout limit = (i : ℕ) → i < limit
+    → (stub : Option ℕ) × Goes code layout (branch_at code.branches.now i) stub
 
--- why no stubs are placed
+-- Why no stubs are placed: the first that applies, in the order `NoLength`, `NotAscending`,
+-- `NoTarget`, `TooLong`, `OutOfMemory`, `NoBoundary`, `StubTooFar`, and the first index of it.
 abbrev pub IsPlaceCause : Code → PlaceError → Type 0
-IsPlaceCause code errors.OutOfMemory = ⊤
-IsPlaceCause code errors.NoLength = (code.shape.len ≡ 0) ⊎ (code.shape.unit ≡ 0)
-IsPlaceCause code (errors.NotAscending k) =
-    (k + 1 < length code.boundaries.now)
-    × (at code.boundaries.now (k + 1) < at code.boundaries.now k)
-IsPlaceCause code (errors.NoTarget i) = (i < length code.branches.now)
-    × (length code.targets.now ≤ (branch_at code.branches.now i).target)
-IsPlaceCause code errors.TooLong = IsTooLong code
-IsPlaceCause code (errors.NoBoundary i layout) = (i < length code.branches.now)
+IsPlaceCause code errors.NoLength = HasNoLength code.shape
+IsPlaceCause code (errors.NotAscending k) = (¬ HasNoLength code.shape)
+    × IsDescent code.boundaries.now k × ((j : ℕ) → j < k → ¬ IsDescent code.boundaries.now j)
+IsPlaceCause code (errors.NoTarget i) = (¬ HasNoLength code.shape)
+    × IsAscending code.boundaries.now × (i < length code.branches.now) × (¬ HasTarget code i)
+    × ((j : ℕ) → j < i → HasTarget code j)
+IsPlaceCause code errors.TooLong = (¬ HasNoLength code.shape) × IsAscending code.boundaries.now
+    × ((i : ℕ) → i < length code.branches.now → HasTarget code i) × IsTooLong code
+IsPlaceCause code errors.OutOfMemory = IsCode code
+IsPlaceCause code (errors.NoBoundary i layout) = IsCode code × (i < length code.branches.now)
     × IsLayout code layout × IsStuck code layout (branch_at code.branches.now i)
-IsPlaceCause code (errors.StubTooFar j layout) = (j < length layout.stubs.items)
-    × IsLayout code layout × ¬ StubReaches code layout j
+    × AllGo code layout i
+IsPlaceCause code (errors.StubTooFar j layout) = (j < length layout.stubs.items) × IsCode code
+    × IsLayout code layout × (¬ StubReaches code layout j)
+    × ((k : ℕ) → k < j → StubReaches code layout k)
+    × AllGo code layout (length code.branches.now)

@@ -7,8 +7,8 @@
 //! the nearest boundary stays where it is as seen from its branch, however many stubs are added.
 
 ghost use Rattle.std.specs.Prelude.{◌≡◌, ◌+◌, ◌*◌, ◌<◌, ◌≤◌, ◌^◌, ℕ, length, IfOk, IfErr, vec_len};
-ghost use Rattle.linker_output.specs.Placement.{at, IsPlaced, IsPlaceCause};
-ghost use Rattle.linker_output.specs.Inner.Placement.{IsCode, IsState, AreStubsOf};
+ghost use Rattle.linker_output.specs.Placement.{at, IsPlaced, IsPlaceCause, IsCode};
+ghost use Rattle.linker_output.specs.Inner.Placement.{IsState, AreStubsOf};
 ghost use Rattle.linker_output.specs.declared.placement.Way.TheVariants.{Near, Far};
 
 mod adding;
@@ -148,7 +148,8 @@ pub enum PlaceError {
     /// The branch at an index reaches neither its target nor a boundary, in the layout with the
     /// stubs that were added before.
     NoBoundary(usize, Layout),
-    /// The stub at an index of the layout doesn't reach its target.
+    /// The stub at an index of the layout doesn't reach its target. Each branch reaches its target
+    /// or a stub of it.
     StubTooFar(usize, Layout),
 }
 
@@ -261,7 +262,9 @@ fn zeros(alloc: Global, len: usize) -> Result<Vec<u64>, OutOfMemory>
 }
 
 /// Places stubs at boundaries, so that each branch reaches its target or a stub of it, and returns
-/// the layout and by which stub each branch goes. An error that is about a layout has it.
+/// the layout and by which stub each branch goes. An error is the first that applies of `NoLength`,
+/// `NotAscending`, `NoTarget`, `TooLong`, `OutOfMemory`, `NoBoundary` and `StubTooFar`, with the first
+/// index of it. One that is about a layout has it.
 ///
 /// A branch that doesn't reach its target shares the stub of it that was placed last, if that is in
 /// reach. Else a stub is placed for it within half of its reach ahead, or at the boundary next to

@@ -147,7 +147,8 @@ pub enum PlaceError {
     /// The branch at an index reaches neither its target nor a boundary, in the layout with the
     /// stubs that were added before.
     NoBoundary(usize, Layout),
-    /// The stub at an index of the layout doesn't reach its target.
+    /// The stub at an index of the layout doesn't reach its target. Each branch reaches its target
+    /// or a stub of it.
     StubTooFar(usize, Layout),
 }
 
@@ -242,7 +243,9 @@ fn zeros(len: usize) -> Result<Vec<u64>, OutOfMemory> {
 }
 
 /// Places stubs at boundaries, so that each branch reaches its target or a stub of it, and returns
-/// the layout and by which stub each branch goes. An error that is about a layout has it.
+/// the layout and by which stub each branch goes. An error is the first that applies of `NoLength`,
+/// `NotAscending`, `NoTarget`, `TooLong`, `OutOfMemory`, `NoBoundary` and `StubTooFar`, with the first
+/// index of it. One that is about a layout has it.
 ///
 /// A branch that doesn't reach its target shares the stub of it that was placed last, if that is in
 /// reach. Else a stub is placed for it within half of its reach ahead, or at the boundary next to

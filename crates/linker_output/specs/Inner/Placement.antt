@@ -1,9 +1,9 @@
 -- What holds while stubs are placed.
-use Rattle.std.specs.Prelude.{◌≡◌, ◌≤◌, ◌<◌, ◌+◌, ◌-◌, ◌*◌, ◌^◌, ◌⊎◌, ℕ, zero, suc, List, length}
+use Rattle.std.specs.Prelude.{◌≡◌, ◌≤◌, ◌<◌, ◌+◌, ◌-◌, ◌*◌, ◌⊎◌, ℕ, zero, suc, List, length}
 use Rattle.std.specs.Prelude.{slice_index_or, ⊤}
 use Rattle.std.specs.Prelude.{Option, Some, None}
 use Rattle.std.specs.List.{sum_by}
-use Rattle.linker_output.specs.Placement.{Reaches, at, branch_at, stub_at, group_at, IsAscending}
+use Rattle.linker_output.specs.Placement.{Reaches, at, branch_at, stub_at, group_at}
 use Rattle.linker_output.specs.Placement.{passed, stubs_in, size_of, place_of}
 use Rattle.linker_output.specs.Placement.{part_of, HasPart, AreTwo, ReachesAt, target_place}
 use Rattle.linker_output.specs.declared.placement.Branch.{Branch}
@@ -21,19 +21,6 @@ use Rattle.linker_output.specs.declared.placement.Visit.TheVariants as visits
 use Rattle.linker_output.specs.declared.placement.Visit.TheVariants.{Served, Raised, Lost}
 use Rattle.linker_output.specs.declared.placement.Way.{Way}
 use Rattle.linker_output.specs.declared.placement.Way.TheVariants.{Direct, Far, Near}
-
--- the code for which stubs are placed
-pub record IsCode (code : Code) : Type 0 where
-  pub len : 0 < code.shape.len
-  pub unit : 0 < code.shape.unit
-  pub ascending : IsAscending code.boundaries.now
-  pub branches : (i : ℕ) → (branch_at code.branches.now i).offset < 2 ^ 62
-  pub in_table : (i : ℕ) → i < length code.branches.now
-      → (branch_at code.branches.now i).target < length code.targets.now
-  pub targets : (t : ℕ) → at code.targets.now t < 2 ^ 62
-  pub boundaries : (k : ℕ) → at code.boundaries.now k < 2 ^ 62
-  pub room : code.shape.unit * length code.boundaries.now
-      + code.shape.len * (2 * length code.branches.now + 1) < 2 ^ 62
 
 abbrev pub way_at : List Way → ℕ → Way
 way_at xs k = slice_index_or xs k Direct
@@ -165,8 +152,9 @@ pub record SameStubs (old new : State) : Type 0 where
   pub groups : new.groups ≡ old.groups
   pub ways : new.ways ≡ old.ways
 
-abbrev pub AreServed : Code → List ℕ → List ℕ → List Way → Type 0
-AreServed code before places ways = (i : ℕ) → i < length code.branches.now
+-- the branches with an index below a limit reach what they go by
+abbrev pub AreServed : Code → List ℕ → List ℕ → List Way → ℕ → Type 0
+AreServed code before places ways limit = (i : ℕ) → i < limit
     → IsServedBy code before places (branch_at code.branches.now i) (way_at ways i)
 
 -- a branch reaches neither its target nor a boundary next to it, nor a stub of its target there
@@ -178,11 +166,12 @@ pub record IsStuckIn (code : Code) (before places : List ℕ) (state : State) (i
 
 abbrev pub Swept : Code → List ℕ → List ℕ → State → State → Sweep → Type 0
 Swept code before places old new Settled =
-    SameStubs old new × AreServed code before places new.ways.items
+    SameStubs old new × AreServed code before places new.ways.items (length code.branches.now)
 Swept code before places old new Changed =
     sum_by level old.ways.items < sum_by level new.ways.items
 Swept code before places old new (Stuck i) =
     SameStubs old new × IsStuckIn code before places new i
+    × AreServed code before places new.ways.items i
 
 abbrev pub stub_of_way : Way → Option ℕ
 stub_of_way Direct = None

@@ -3,8 +3,8 @@
 ghost use Rattle.std.specs.Prelude.{◌≡◌, ◌≢◌, ◌+◌, ◌<◌, ◌^◌, ℕ, length, true, false, IfOk, IfSome};
 ghost use Rattle.std.specs.Prelude.{IfNone};
 ghost use Rattle.std.specs.List.{sum_by};
-ghost use Rattle.linker_output.specs.Placement.{passed, branch_at, at, part_of};
-ghost use Rattle.linker_output.specs.Inner.Placement.{IsCode, IsState, level, way_at, level_of};
+ghost use Rattle.linker_output.specs.Placement.{passed, branch_at, at, part_of, IsCode};
+ghost use Rattle.linker_output.specs.Inner.Placement.{IsState, level, way_at, level_of};
 ghost use Rattle.linker_output.specs.Inner.Placement.{IsNewNear, IsWay, HasNoNear, with_one};
 ghost use Rattle.linker_output.specs.Inner.Placement.{new_way, IsUnreached, SameStubs};
 ghost use Rattle.linker_output.specs.declared.placement.Way.TheVariants.{Near, Far};

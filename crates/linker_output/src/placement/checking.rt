@@ -1,10 +1,10 @@
 //! Whether stubs can be placed in code, and whether those that are placed reach their targets.
 
-ghost use Rattle.std.specs.Prelude.{◌≡◌, ◌+◌, ◌*◌, ◌<◌, ◌≤◌, ◌^◌, ◌↔◌, ℕ, IsTrue, length, true};
+ghost use Rattle.std.specs.Prelude.{◌≡◌, ◌*◌, ◌<◌, ◌≤◌, ◌^◌, ◌↔◌, ℕ, IsTrue, length, true};
 ghost use Rattle.std.specs.Prelude.{false, IfOk, IfErr, IfSome, IfNone};
-ghost use Rattle.linker_output.specs.Placement.{branch_at, at, IsAscending, IsLayout, IsPlaceCause};
-ghost use Rattle.linker_output.specs.Placement.{StubReaches};
-ghost use Rattle.linker_output.specs.Inner.Placement.{IsCode};
+ghost use Rattle.linker_output.specs.Placement.{branch_at, at, IsAscending, IsCode, IsDescent};
+ghost use Rattle.linker_output.specs.Placement.{HasTarget, IsLayout, IsPlaceCause, StubReaches};
+ghost use Rattle.linker_output.specs.Placement.{most_bytes};
 
 use super::laying::reaches;
 use super::{Code, LIMIT, Layout, PlaceError};
@@ -25,8 +25,8 @@ fn are_low(numbers: &[u64]) -> bool
 /// The first index of a boundary that is above the next one.
 fn first_descent(boundaries: &[u64]) -> Option<usize>
     ensures none { IfNone result (IsAscending boundaries.now) }
-    ensures some { IfSome result (λ k. (k + 1 < length boundaries.now)
-        × (at boundaries.now (k + 1) < at boundaries.now k)) }
+    ensures some { IfSome result (λ k. IsDescent boundaries.now k
+        × ((j : ℕ) → j < k → ¬ IsDescent boundaries.now j)) }
 {
     for index in 0..boundaries.len() {
         if index > 0 && boundaries[index] < boundaries[index - 1] {
@@ -54,10 +54,10 @@ impl Code<'_> {
 
     /// The first branch whose target isn't in the table.
     fn first_without_target(&self) -> Option<usize>
-        ensures none { IfNone result ((i : ℕ) → i < length self.now.branches.now
-            → (branch_at self.now.branches.now i).target < length self.now.targets.now) }
+        ensures none { IfNone result
+            ((i : ℕ) → i < length self.now.branches.now → HasTarget self.now i) }
         ensures some { IfSome result (λ i. (i < length self.now.branches.now)
-            × (length self.now.targets.now ≤ (branch_at self.now.branches.now i).target)) }
+            × (¬ HasTarget self.now i) × ((j : ℕ) → j < i → HasTarget self.now j)) }
     {
         for (index, branch) in self.branches.iter().enumerate() {
             if branch.target >= self.targets.len() {
@@ -70,8 +70,7 @@ impl Code<'_> {
     /// Whether the bytes of all stubs that there may be are below 2^62.
     fn has_room(&self) -> bool
         requires { 0 < self.now.shape.len }
-        ensures { IsTrue result ↔ (self.now.shape.unit * length self.now.boundaries.now
-            + self.now.shape.len * (2 * length self.now.branches.now + 1) < 2 ^ 62) }
+        ensures { IsTrue result ↔ most_bytes self.now < 2 ^ 62 }
     {
         let stubs = (self.branches.len() as u64)
             .saturating_mul(2)
@@ -134,7 +133,8 @@ impl Layout {
         ensures none { IfNone result ((j : ℕ) → j < length self.now.stubs.items
             → StubReaches code.now self.now j) }
         ensures some { IfSome result (λ j. (j < length self.now.stubs.items)
-            × ¬ StubReaches code.now self.now j) }
+            × (¬ StubReaches code.now self.now j)
+            × ((k : ℕ) → k < j → StubReaches code.now self.now k)) }
     {
         for index in 0..self.stubs.len() {
             if !self.reaches(code, index) {

@@ -3,10 +3,10 @@
 ghost use Rattle.std.specs.Prelude.{◌≡◌, ◌+◌, ◌*◌, ◌<◌, ◌≤◌, ◌^◌, ◌↔◌, ℕ, IsTrue, length, true};
 ghost use Rattle.std.specs.Prelude.{false};
 ghost use Rattle.std.specs.List.{sum_by};
-ghost use Rattle.linker_output.specs.Placement.{Reaches, passed, size_of, stubs_in, IsLaidOut};
+ghost use Rattle.linker_output.specs.Placement.{Reaches, passed, size_of, stubs_in, IsLaidOut, IsCode};
 ghost use Rattle.linker_output.specs.Placement.{place_of, at, IsAscending, HasPart, ReachesAt};
 ghost use Rattle.linker_output.specs.Placement.{moved, start_of};
-ghost use Rattle.linker_output.specs.Inner.Placement.{IsCode, IsNear, IsLostBy, IsServedBy};
+ghost use Rattle.linker_output.specs.Inner.Placement.{IsNear, IsLostBy, IsServedBy};
 ghost use Rattle.linker_output.specs.declared.placement.Way.TheVariants.{Near, Far};
 
 use super::{Branch, Code, Group, Part, StubAt, StubShape, Way};

@@ -1,8 +1,8 @@
 //! Stubs are added until each branch reaches what it goes by.
 
 ghost use Rattle.std.specs.Prelude.{◌≡◌, ◌+◌, ◌<◌, ◌^◌, ℕ, length, true, false, IfOk, MatchOption};
-ghost use Rattle.linker_output.specs.Placement.{IsLaidOut, at};
-ghost use Rattle.linker_output.specs.Inner.Placement.{IsCode, IsState, ArePlaces, IsStuckIn};
+ghost use Rattle.linker_output.specs.Placement.{IsLaidOut, at, IsCode};
+ghost use Rattle.linker_output.specs.Inner.Placement.{IsState, ArePlaces, IsStuckIn};
 ghost use Rattle.linker_output.specs.Inner.Placement.{AreServed, Swept, Visited, narrowed};
 ghost use Rattle.linker_output.specs.Inner.Placement.{stub_of_way};
 ghost use Rattle.linker_output.specs.declared.placement.Way.TheVariants.{Near, Far};
@@ -160,8 +160,10 @@ impl State {
         ensures places { IfOk result
             (λ _. ArePlaces code.now self.new before.new places.new.items) }
         ensures settled { IfOk result (λ stuck.
-            MatchOption stuck (AreServed code.now before.new places.new.items self.new.ways.items)
-            (λ i. IsStuckIn code.now before.new places.new.items self.new i)) }
+            MatchOption stuck (AreServed code.now before.new places.new.items self.new.ways.items
+            (length code.now.branches.now))
+            (λ i. IsStuckIn code.now before.new places.new.items self.new i
+            × AreServed code.now before.new places.new.items self.new.ways.items i)) }
     {
         let mut passes = 0;
         loop {
