@@ -1054,10 +1054,13 @@ static inline uint32_t linker_utils_rewritten_items(
  * from LINKER_UTILS_ITEMS_OVERLAP on say what is required of them. The run's granularity is the
  * greatest of its short shapes, and 1 where there are none.
  *
- * The status is the first fault of the first faulty item, in the order of these statuses and with
- * LINKER_UTILS_MAY_BE_MISALIGNED as the last, and `faulty` is this item. Those from
- * LINKER_UTILS_UNEVEN_SHAPE on are returned only where no item has one of those before. O(n log n)
- * for n items.
+ * The status is the first fault of the first faulty item, in the order of these statuses, with
+ * LINKER_UTILS_MISALIGNED after LINKER_UTILS_UNEVEN_SHAPE and LINKER_UTILS_MAY_BE_MISALIGNED as the
+ * last, and `faulty` is this item. Those from LINKER_UTILS_UNEVEN_SHAPE on are returned only where
+ * no item has one of those before. O(n log n) for n items.
+ *
+ * LINKER_UTILS_MISALIGNED: an R_LARCH_CALL36, with its shapes, whose target is not a multiple of 4
+ * bytes away.
  *
  * LINKER_UTILS_MAY_BE_MISALIGNED: an alignment without a limit needs as many nops as it is itself
  * less the granularity. Fewer are accepted, as many as it less w, a power of two, where w divides

@@ -317,6 +317,7 @@ impl Display for Fault {
             Fault::UnevenShape => {
                 "a shape frees bytes that are not a multiple of the run's granularity"
             }
+            Fault::Misaligned => "the value is not a multiple of the relocation's alignment",
             Fault::AlignmentBelowGranularity => {
                 "the alignment is not a multiple of the run's granularity, and may keep other \
                  nops in other layouts"

@@ -180,6 +180,7 @@ fn errors_of_runs_are_printed() {
         (Fault::BadReach, "BAD_REACH"),
         (Fault::BadAlignment, "BAD_ALIGNMENT"),
         (Fault::UnevenShape, "UNEVEN_SHAPE"),
+        (Fault::Misaligned, "MISALIGNED"),
         (Fault::AlignmentBelowGranularity, "ALIGNMENT_BELOW_GRANULARITY"),
         (Fault::UnevenEnd, "UNEVEN_END"),
         (Fault::TooFewNops, "TOO_FEW_NOPS"),

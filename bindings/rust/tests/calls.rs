@@ -1607,6 +1607,7 @@ fn relaxes_runs() {
         (changed(|it| it.short[0].max_forward = 0), Status::BadReach),
         (Item::alignment(16, 4, 6, None), Status::BadAlignment),
         (changed(|it| it.short[0].kept = 3), Status::UnevenShape),
+        (site(16, 26, standard_shapes(ShapesName::LoongArchCall36)), Status::Misaligned),
         (Item::alignment(16, 3, 1, None), Status::AlignmentBelowGranularity),
         (Item::alignment(16, 3, 4, None), Status::UnevenEnd),
         (Item::alignment(16, 4, 16, Some(9)), Status::TooFewNops),

@@ -6,12 +6,12 @@ use Rattle.std.proofs.lemmas.Bool.Decides.{nat_tests}
 use Rattle.std.proofs.lemmas.List.{get_or_default}
 use Rattle.linker_runs.specs.declared.relaxation.Item.{Item}
 use Rattle.linker_runs.specs.declared.relaxation.Item.TheVariants.{Site, Aligned}
-use Rattle.linker_runs.specs.Relaxing.{len_of, end_of, item_at, no_item, shape_len, kept_by, freed_before, place_of, after_rounds, target_of, choice_of, item_reaches, IsSound, AreInOrder, AreRelaxed}
+use Rattle.linker_runs.specs.Relaxing.{len_of, end_of, item_at, no_item, shape_len, kept_by, freed_before, place_of, after_rounds, target_of, choice_of, item_reaches, IsSound, AreApart, AreInOrder, AreRelaxed}
 use Rattle.linker_runs.specs.Inner.Relaxing.{is_in_reach_cautiously, AreForced}
 use Rattle.linker_runs.specs.Choosing.{run_granularity, AreItems, IsSite, HaveNoAlignment, freed_cautiously, cautious_before, IsInReachCautiously, IsInReachExactly, AreNotLonger}
 use Rattle.linker_runs.specs.Inner.Validity.{ItemSuits}
 use Rattle.linker_runs.proofs.Units.{item_suits}
-use Rattle.linker_runs.proofs.Layouts.{freed_next, freed_none, ends_ascend, count_point}
+use Rattle.linker_runs.proofs.Layouts.{freed_next, freed_none, ends_apart, count_point}
 use Rattle.linker_runs.proofs.Multiples.{multiple_of}
 use Rattle.linker_runs.proofs.Nearer.{Frees, FreesLess, IsPlace}
 use Rattle.linker_runs.proofs.Bounds.{lens_ascend, len_fits, bound_next, all_nearer}
@@ -23,10 +23,10 @@ record IsSplit (items : List Item) (offset upto p : ℕ) : Type 0 where
   below : (j : ℕ) → j < p → end_of (item_at items j) ≤ offset
   others : (j : ℕ) → p ≤ j → j < upto → offset < end_of (item_at items j)
 
-split_upto : (start : ℕ) (items : List Item) (offset : ℕ) → AreInOrder start items → (upto : ℕ) → upto ≤ length items → (p : ℕ) × IsSplit items offset upto p
-split_upto start items offset order zero within = (0, record { within = omega arith; below = λ j h. absurd (omega arith); others = λ j h k. absurd (omega arith) })
-split_upto start items offset order (suc m) within =
-    let rest = split_upto start items offset order m (omega arith) in
+split_upto : (items : List Item) (offset : ℕ) → AreApart items → (upto : ℕ) → upto ≤ length items → (p : ℕ) × IsSplit items offset upto p
+split_upto items offset apart zero within = (0, record { within = omega arith; below = λ j h. absurd (omega arith); others = λ j h k. absurd (omega arith) })
+split_upto items offset apart (suc m) within =
+    let rest = split_upto items offset apart m (omega arith) in
     let up = rest.1.within in
     ⊎_elim
     (λ (past : offset < end_of (item_at items m)). (
@@ -44,16 +44,16 @@ split_upto start items offset order (suc m) within =
       suc m,
       record {
         within = omega arith;
-        below = λ j h. let a = ends_ascend start items order j m (omega arith) (omega arith) in omega arith;
+        below = λ j h. let a = ends_apart items apart j m (omega arith) (omega arith) in omega arith;
         others = λ j h k. absurd (omega arith);
       },
     ))
     (cases_lt offset (end_of (item_at items m)))
 
 -- the place of an offset
-pub place_is : (start : ℕ) (items : List Item) → AreInOrder start items → (offset : ℕ) → IsPlace items offset (place_of items offset)
-place_is start items order offset =
-    let split = split_upto start items offset order (length items) (omega arith) in
+pub place_apart : (items : List Item) → AreApart items → (offset : ℕ) → IsPlace items offset (place_of items offset)
+place_apart items apart offset =
+    let split = split_upto items offset apart (length items) (omega arith) in
     let p = split.0 in
     let in_items = split.1.within in
     let count : place_of items offset ≡ p = count_point (λ item. nat_le (end_of item) offset) items p in_items
@@ -75,19 +75,22 @@ place_is start items order offset =
         let e = ap end_of (get_or_default items k d no_item within) in
         let g : offset < end_of (get_or items k d) = omega arith in grind (arith, nat_tests)
 
+pub place_is : (start : ℕ) (items : List Item) → AreInOrder start items → (offset : ℕ) → IsPlace items offset (place_of items offset)
+place_is start items order = place_apart items order.apart
+
 -- an index behind an item that ends at or below an offset, at which one ends above it, is the place
-pub place_unique : (start : ℕ) (items : List Item) → AreInOrder start items → (offset p : ℕ) → p ≤ length items → (0 < p → end_of (item_at items (p - 1)) ≤ offset) → (p < length items → offset < end_of (item_at items p))
+pub place_unique : (items : List Item) → AreApart items → (offset p : ℕ) → p ≤ length items → (0 < p → end_of (item_at items (p - 1)) ≤ offset) → (p < length items → offset < end_of (item_at items p))
     → p ≡ place_of items offset
-place_unique start items order offset p within below above =
-    let place = place_is start items order offset in
+place_unique items apart offset p within below above =
+    let place = place_apart items apart offset in
     let q = place_of items offset in
     let inside = place.within in
     ⊎_elim
     (λ (same : p ≡ q). same)
-    (λ (apart : (p < q) ⊎ (q < p)). ⊎_elim
+    (λ (other : (p < q) ⊎ (q < p)). ⊎_elim
     (λ (low : p < q). let a = place.below p low in let b = above (omega arith) in absurd (omega arith))
     (λ (high : q < p). let a = place.others (p - 1) (omega arith) (omega arith) in let b = below (omega arith) in absurd (omega arith))
-    apart)
+    other)
     (cases_order p q)
 
 -- where alignments keep all, items free multiples of the granularity too

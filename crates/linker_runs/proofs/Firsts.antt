@@ -4,7 +4,7 @@ use Rattle.linker_runs.specs.declared.relaxation.Shape.{Shape}
 use Rattle.linker_runs.specs.declared.relaxation.Shapes.{Shapes}
 use Rattle.linker_runs.specs.declared.relaxation.Alignment.{Alignment}
 use Rattle.linker_runs.specs.declared.relaxation.faults.Fault.{Fault}
-use Rattle.linker_runs.specs.declared.relaxation.faults.Fault.TheVariants.{Overlaps, TooHigh, TooManyShapes, ShapeTooLong, ShapesNotAscending, BadGranularity, BadReach, BadAlignment, UnevenShape, AlignmentBelowGranularity, UnevenEnd, TooFewNops, UnevenNops, TargetInside, MayBeMisaligned}
+use Rattle.linker_runs.specs.declared.relaxation.faults.Fault.TheVariants.{Overlaps, TooHigh, TooManyShapes, ShapeTooLong, ShapesNotAscending, BadGranularity, BadReach, BadAlignment, UnevenShape, Misaligned, AlignmentBelowGranularity, UnevenEnd, TooFewNops, UnevenNops, TargetInside, MayBeMisaligned}
 use Rattle.linker_runs.specs.Relaxing.{short_shape}
 use Rattle.linker_runs.specs.Faults.{number_of, ShapesMeet, AlignmentMeets}
 
@@ -23,16 +23,16 @@ shapes_upto shapes len n few within ascending units reaches BadReach below = rea
 shapes_upto shapes len n few within ascending units reaches other below = tt
 
 -- and an alignment
-pub alignment_upto : (u start : ℕ) (alignment : Alignment) (n : ℕ) → (9 < n → AlignmentMeets u start alignment AlignmentBelowGranularity) → (10 < n → AlignmentMeets u start alignment UnevenEnd)
-    → (11 < n → AlignmentMeets u start alignment TooFewNops) → (12 < n → AlignmentMeets u start alignment UnevenNops) → (fault : Fault) → number_of fault < n → AlignmentMeets u start alignment fault
+pub alignment_upto : (u start : ℕ) (alignment : Alignment) (n : ℕ) → (10 < n → AlignmentMeets u start alignment AlignmentBelowGranularity) → (11 < n → AlignmentMeets u start alignment UnevenEnd)
+    → (12 < n → AlignmentMeets u start alignment TooFewNops) → (13 < n → AlignmentMeets u start alignment UnevenNops) → (fault : Fault) → number_of fault < n → AlignmentMeets u start alignment fault
 alignment_upto u start alignment n power end enough even AlignmentBelowGranularity below = power below
 alignment_upto u start alignment n power end enough even UnevenEnd below = end below
 alignment_upto u start alignment n power end enough even TooFewNops below = enough below
 alignment_upto u start alignment n power end enough even UnevenNops below = even below
 alignment_upto u start alignment n power end enough even other below = tt
 
--- the greatest number of a fault is 14
-pub numbers : (fault : Fault) → number_of fault < 15
+-- the greatest number of a fault is 15
+pub numbers : (fault : Fault) → number_of fault < 16
 numbers Overlaps = omega arith
 numbers TooHigh = omega arith
 numbers TooManyShapes = omega arith
@@ -42,6 +42,7 @@ numbers BadGranularity = omega arith
 numbers BadReach = omega arith
 numbers BadAlignment = omega arith
 numbers UnevenShape = omega arith
+numbers Misaligned = omega arith
 numbers AlignmentBelowGranularity = omega arith
 numbers UnevenEnd = omega arith
 numbers TooFewNops = omega arith

@@ -4,7 +4,7 @@ use Rattle.std.specs.Prelude.{◌⊎◌, count_by}
 use Rattle.std.specs.List.{AllWithin}
 use Rattle.std.proofs.lemmas.List.Sums.{sum_by-cons}
 use Rattle.linker_runs.specs.declared.relaxation.Item.{Item}
-use Rattle.linker_runs.specs.Relaxing.{offset_of, len_of, end_of, item_at, kept_by, freed_before, item_reaches, is_in_reach, lengthened, AreInOrder}
+use Rattle.linker_runs.specs.Relaxing.{offset_of, len_of, end_of, item_at, kept_by, freed_before, item_reaches, is_in_reach, lengthened, AreApart, AreInOrder}
 
 -- one item more frees what doesn't stay of it
 pub freed_next : (start : ℕ) (items : List Item) (choice : ℕ → ℕ) (i : ℕ) → freed_before start items choice (i + 1) ≡ freed_before start items choice i + (len_of (item_at items i) - kept_by start (item_at items i) (choice i) (freed_before start items choice i))
@@ -39,13 +39,13 @@ pub freed_ends : (start : ℕ) (items : List Item) (choice : ℕ → ℕ) → Ar
 freed_ends start items choice order i within = omega (arith, freed_fits start items choice order i within, freed_next start items choice i)
 
 -- the ends of the items ascend
-pub ends_ascend : (start : ℕ) (items : List Item) → AreInOrder start items → (i j : ℕ) → i ≤ j → j < length items → end_of (item_at items i) ≤ end_of (item_at items j)
-ends_ascend start items order zero zero below within = omega arith
-ends_ascend start items order (suc i) zero below within = absurd (omega arith)
-ends_ascend start items order i (suc j) below within =
+pub ends_apart : (items : List Item) → AreApart items → (i j : ℕ) → i ≤ j → j < length items → end_of (item_at items i) ≤ end_of (item_at items j)
+ends_apart items apart zero zero below within = omega arith
+ends_apart items apart (suc i) zero below within = absurd (omega arith)
+ends_apart items apart i (suc j) below within =
     ⊎_elim
-    (λ (before : i ≤ j). let rest = ends_ascend start items order i j before (omega arith) in
-    let apart : end_of (item_at items j) ≤ offset_of (item_at items (j + 1)) = order.apart j (omega arith) in
+    (λ (before : i ≤ j). let rest = ends_apart items apart i j before (omega arith) in
+    let next : end_of (item_at items j) ≤ offset_of (item_at items (j + 1)) = apart j (omega arith) in
     let bound : end_of (item_at items i) ≤ end_of (item_at items (j + 1)) = omega arith in
     rw add-one at bound)
     (λ (same : i ≡ suc j). rw same (omega arith))
@@ -53,6 +53,9 @@ ends_ascend start items order i (suc j) below within =
   where
     le_or_same : (i j : ℕ) → i ≤ suc j → (i ≤ j) ⊎ (i ≡ suc j)
     le_or_same i j below = grind arith
+
+pub ends_ascend : (start : ℕ) (items : List Item) → AreInOrder start items → (i j : ℕ) → i ≤ j → j < length items → end_of (item_at items i) ≤ end_of (item_at items j)
+ends_ascend start items order = ends_apart items order.apart
 
 -- AllWithin of what follows the first element
 within_tail : {X : Type 0} (P : X → Type 0) (x : X) (xs : List X) (a b : ℕ) → AllWithin P (x ∷ xs) (suc a) (suc b) → AllWithin P xs a b

@@ -1,6 +1,7 @@
 -- A call of LoongArch that stays long can be written in a run of less than 128 GiB less 128 KiB.
 use Rattle.std.proofs.Common.{◌≡◌, ℕ, zero, suc, ◌+◌, ◌-◌, ◌*◌, ◌%◌, ◌^◌, ◌<◌, ◌≤◌, ◌∙◌, true, false, List, length, take, drop, refl, ap, sym, subst, inl, ⊎_elim, arith, pos, negsuc, ◌-ℤ◌, mul_assoc}
 use Rattle.std.proofs.lemmas.Bool.{cases_lt}
+use Rattle.std.specs.Prelude.{nat_lt, if◌then◌else◌}
 use Rattle.std.proofs.lemmas.Int.{ints}
 use Rattle.std.proofs.lemmas.List.{length-take, length-drop}
 use Rattle.linker_elf.specs.Relocate.{IsAligned}
@@ -11,12 +12,13 @@ use Rattle.linker_runs.specs.declared.relaxation.Item.{Item}
 use Rattle.linker_runs.specs.declared.relaxation.Item.TheVariants.{Site, Aligned}
 use Rattle.linker_runs.specs.declared.shapes.loongarch64.TheConstants.{CALL36, PCALA}
 use Rattle.linker_runs.specs.Relaxing.{offset_of, target_of, item_at, short_shape, freed_before, choice_of, place_of}
-use Rattle.linker_runs.specs.Choosing.{run_granularity}
+use Rattle.linker_runs.specs.Choosing.{run_granularity, IsInWords}
 use Rattle.linker_runs.specs.Inner.Validity.{ItemSuits}
 use Rattle.linker_runs.proofs.Choices.{place_is}
 use Rattle.linker_runs.proofs.Frees.{exact_frees}
 use Rattle.linker_runs.proofs.Multiples.{Multiple, multiple_of, no_rest}
-use Rattle.linker_runs.proofs.Nearer.{Frees}
+use Rattle.linker_runs.proofs.Layouts.{freed_fits}
+use Rattle.linker_runs.proofs.Nearer.{Frees, place_fits}
 use Rattle.linker_runs.proofs.Units.{item_suits}
 use Rattle.linker_runs.specs.Sites.{IsOutOfReach}
 use Rattle.linker_runs.specs.LoongArchSites.{IsCall36At, IsPcalaAt, call_template, LoongArchCause, far_from_branch, far_from_call, far_from_pcaddi, far_from_pair}
@@ -34,8 +36,8 @@ none e = cc
 
 -- ---- distances in units of 4 bytes
 
-in_words : (to from : ℕ) → to % 4 ≡ 0 → from % 4 ≡ 0 → IsAligned 4 (pos to -ℤ pos from)
-in_words to from a b = ⊎_elim
+words_apart : (to from : ℕ) → to % 4 ≡ from % 4 → IsAligned 4 (pos to -ℤ pos from)
+words_apart to from same = ⊎_elim
     (λ (down : to < from).
     let d : pos to -ℤ pos from ≡ negsuc (from - to - 1) = omega (arith, ints) in
     let e : 3 - (from - to - 1) % 4 ≡ 0 = omega arith in
@@ -71,12 +73,12 @@ shapes_differ e = differ (short_shape CALL36 0).max_backward (short_shape PCALA 
 -- ---- the call
 
 module _ (section : List ℕ) (o start from to : ℕ) (here : IsCall36At section o) (there : o + 8 ≤ length section) (low : from < 2 ^ 37 - 2 ^ 17) (high : to < 2 ^ 37 - 2 ^ 17)
-    (from_words : from % 4 ≡ 0) (to_words : to % 4 ≡ 0) where
+    (words : to % 4 ≡ from % 4) where
   call_near : IsOutOfReach (call_template section o) (sum_64 start from) (sum_64 start to) → ⊥
   call_near far =
       not_rejected start from to _ (take 8 (drop o section)) (loongarch_fits R_LARCH_CALL36) long (λ v. tt) (λ v e. none e)
       (λ v w. (omega (arith, ints, w.0), omega (arith, ints, w.1))) refl
-      (record { supported = refl; within = (omega (arith, ints), omega (arith, ints)); encoded = tt; aligned = in_words to from to_words from_words }) far
+      (record { supported = refl; within = (omega (arith, ints), omega (arith, ints)); encoded = tt; aligned = words_apart to from words }) far
     where
       long : 8 ≤ length (take 8 (drop o section))
       long = let a = length-take 8 (drop o section) in let b = length-drop o section in omega arith
@@ -98,11 +100,11 @@ is_long (Site site) shapes = (subst (λ t. 0 < t.count) (sym shapes) (omega arit
 is_long (Aligned alignment) shapes = shapes
 
 module _ (bytes : List ℕ) (base start u here there : ℕ) where
-  call_not : (item : Item) → IsNearCall36 item → HasItsInstructions LoongArch64 bytes base item → ItemSuits u start item → Multiple u here → Multiple u there
+  call_not : (item : Item) → IsNearCall36 item → IsInWords item → HasItsInstructions LoongArch64 bytes base item → ItemSuits u start item → Multiple u here → Multiple u there → here ≤ offset_of item → there ≤ target_of item
       → (error : ItemError) → LongCause LoongArch64 bytes base start item (offset_of item - here) (target_of item - there) error → ⊥
-  call_not (Aligned alignment) near has suits m n error cause = cause
-  call_not (Site site) near has suits m n error cause =
-      long_not bytes (site.offset - base) start (site.offset - here) (target_of (Site site) - there) call (omega (arith, has.1, has.2)) (let b = near.offset in omega arith) (let b = near.target in omega arith) from_words to_words error cause
+  call_not (Aligned alignment) near in_words has suits m n here_fits there_fits error cause = cause
+  call_not (Site site) near in_words has suits m n here_fits there_fits error cause =
+      long_not bytes (site.offset - base) start (site.offset - here) (target_of (Site site) - there) call (omega (arith, has.1, has.2)) (let b = near.offset in omega arith) (let b = near.target in omega arith) apart error cause
     where
       words : u % 4 ≡ 0
       words = subst (λ t. u % (short_shape t 0).granularity ≡ 0) near.shapes (suits.units 0 (is_long (Site site) near.shapes).0)
@@ -113,11 +115,16 @@ module _ (bytes : List ℕ) (base start u here there : ℕ) where
           (λ (is : IsPcalaAt bytes (site.offset - base) × (site.shapes ≡ PCALA)). absurd (shapes_differ (sym near.shapes ∙ is.1)))
           has.3
 
-      from_words : (site.offset - here) % 4 ≡ 0
-      from_words = let a = words_of u here words m in let b = near.offset_in_words in omega arith
+      target : target_of (Site site) ≡ site.target
+      target = ap (λ t. if nat_lt 0 t.count then site.target else site.offset) near.shapes
 
-      to_words : (target_of (Site site) - there) % 4 ≡ 0
-      to_words = let a = words_of u there words n in let b = near.target_in_words in omega arith
+      apart : (target_of (Site site) - there) % 4 ≡ (site.offset - here) % 4
+      apart =
+          let a = words_of u here words m in
+          let b = words_of u there words n in
+          let c = in_words near.shapes in
+          let d = target in
+          omega arith
 
 pub near_calls_36 : NearCalls36AreWritable
 near_calls_36 start base items shapes kept freed bytes are is i within near has =
@@ -127,5 +134,6 @@ near_calls_36 start base items shapes kept freed bytes are is i within near has 
     let p = place_of items (target_of item) in
     let u = run_granularity items in
     long_sites LoongArch64 start base items shapes kept freed bytes are is i within (is_long item near.shapes) has
-    (call_not bytes base start u (before i) (before p) item near has (item_suits start items are i within) (freed_units u items before frees i (omega (arith, within)))
-    (freed_units u items before frees p (place_is start items are.in_order (target_of item)).within))
+    (call_not bytes base start u (before i) (before p) item near (are.in_words i within) has (item_suits start items are i within) (freed_units u items before frees i (omega (arith, within)))
+    (freed_units u items before frees p (place_is start items are.in_order (target_of item)).within)
+    (freed_fits start items (choice_of shapes) are.in_order i within) (place_fits start u items before are.in_order frees (target_of item) p (place_is start items are.in_order (target_of item))))

@@ -153,7 +153,7 @@ pub record IsPlace (items : List Item) (offset p : ℕ) : Type 0 where
   pub below : (j : ℕ) → j < p → end_of (item_at items j) ≤ offset
   pub others : (j : ℕ) → p ≤ j → j < length items → offset < end_of (item_at items j)
 
-place_fits : (start u : ℕ) (items : List Item) (freed : ℕ → ℕ) → AreInOrder start items → Frees u items freed → (offset p : ℕ) → IsPlace items offset p → freed p ≤ offset
+pub place_fits : (start u : ℕ) (items : List Item) (freed : ℕ → ℕ) → AreInOrder start items → Frees u items freed → (offset p : ℕ) → IsPlace items offset p → freed p ≤ offset
 place_fits start u items freed order f offset zero at = let none = f.none in omega arith
 place_fits start u items freed order f offset (suc p) at =
     let within = at.within in

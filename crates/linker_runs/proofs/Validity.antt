@@ -6,10 +6,10 @@ use Rattle.std.proofs.lemmas.Nat.{pow_pos}
 use Rattle.linker_runs.specs.declared.relaxation.Item.{Item}
 use Rattle.linker_runs.specs.declared.relaxation.Item.TheVariants.{Site, Aligned}
 use Rattle.linker_runs.specs.declared.relaxation.faults.Fault.{Fault}
-use Rattle.linker_runs.specs.declared.relaxation.faults.Fault.TheVariants.{Overlaps, TooHigh, TooManyShapes, ShapeTooLong, ShapesNotAscending, BadGranularity, BadReach, BadAlignment, UnevenShape, AlignmentBelowGranularity, UnevenEnd, TooFewNops, UnevenNops, TargetInside, MayBeMisaligned}
+use Rattle.linker_runs.specs.declared.relaxation.faults.Fault.TheVariants.{Overlaps, TooHigh, TooManyShapes, ShapeTooLong, ShapesNotAscending, BadGranularity, BadReach, BadAlignment, UnevenShape, Misaligned, AlignmentBelowGranularity, UnevenEnd, TooFewNops, UnevenNops, TargetInside, MayBeMisaligned}
 use Rattle.linker_runs.specs.declared.relaxation.faults.ItemFault.{ItemFault}
 use Rattle.linker_runs.specs.Relaxing.{offset_of, end_of, target_of, item_at, place_of, IsSound, AreInOrder}
-use Rattle.linker_runs.specs.Choosing.{least_len, run_granularity, IsFormed, ItemFits, AlignmentFits, IsStill, AreItems, IsClear, HasItsNops}
+use Rattle.linker_runs.specs.Choosing.{least_len, run_granularity, IsFormed, ItemFits, AlignmentFits, IsStill, AreItems, IsInWords, IsClear, HasItsNops}
 use Rattle.linker_runs.specs.declared.relaxation.Alignment.{Alignment}
 use Rattle.linker_runs.specs.Faults.{number_of, ItemMeets, OwnMeets, AlignmentMeets, UnitMeets, RunMeets, AreSound, Meets, IsFirstOf, IsFirstAt, IsFirstFault}
 use Rattle.linker_runs.specs.Inner.Validity.{IsClearRun}
@@ -144,6 +144,10 @@ item_fits : (u start : ℕ) (item : Item) → ((fault : Fault) → UnitMeets u s
 item_fits u start (Site site) met = met UnevenShape
 item_fits u start (Aligned alignment) met = alignment_fits u start alignment met
 
+item_in_words : (u start : ℕ) (item : Item) → ((fault : Fault) → UnitMeets u start item fault) → IsInWords item
+item_in_words u start (Site site) met = met Misaligned
+item_in_words u start (Aligned alignment) met = tt
+
 -- an alignment without a limit has no fault of one with a limit
 no_limit : (u power nops : ℕ) (most : Option ℕ) → most ≡ None → MatchOption most ⊤ (λ most. (power ≤ nops + u) ⊎ (most ≤ nops)) × MatchOption most ⊤ (λ most. nops % u ≡ 0)
 no_limit u power nops None none = (tt, tt)
@@ -163,10 +167,11 @@ fits_meets u start alignment fit TooFewNops = many_nops u alignment.alignment al
 fits_meets u start alignment fit UnevenNops = even_nops u alignment.alignment alignment.nops alignment.max_skip fit.limited
 fits_meets u start alignment fit other = tt
 
-unit_meets : (u start : ℕ) (item : Item) → ItemFits u start item → (fault : Fault) → UnitMeets u start item fault
-unit_meets u start (Site site) fit UnevenShape = fit
-unit_meets u start (Site site) fit other = tt
-unit_meets u start (Aligned alignment) fit fault = ⊎_elim
+unit_meets : (u start : ℕ) (item : Item) → ItemFits u start item → IsInWords item → (fault : Fault) → UnitMeets u start item fault
+unit_meets u start (Site site) fit words UnevenShape = fit
+unit_meets u start (Site site) fit words Misaligned = words
+unit_meets u start (Site site) fit words other = tt
+unit_meets u start (Aligned alignment) fit words fault = ⊎_elim
     (λ (fits : AlignmentFits u start alignment). fits_meets u start alignment fits fault)
     (λ (still : IsStill u start alignment). still_meets u start alignment still fault)
     fit
@@ -191,7 +196,7 @@ run_met u start items i order met clear enough MayBeMisaligned = enough
 run_met u start items i order met clear enough other = met other
 
 -- where all before the target is met, and that too
-pub run_earlier : (u start : ℕ) (items : List Item) (i n : ℕ) → ((fault : Fault) → UnitMeets u start (item_at items i) fault) → n < 15 → (13 < n → RunMeets u start items i TargetInside) → (fault : Fault) → number_of fault < n → RunMeets u start items i fault
+pub run_earlier : (u start : ℕ) (items : List Item) (i n : ℕ) → ((fault : Fault) → UnitMeets u start (item_at items i) fault) → n < 16 → (14 < n → RunMeets u start items i TargetInside) → (fault : Fault) → number_of fault < n → RunMeets u start items i fault
 run_earlier u start items i n met few clear TargetInside below = clear below
 run_earlier u start items i n met few clear MayBeMisaligned below = absurd (omega arith)
 run_earlier u start items i n met few clear other below = met other
@@ -200,7 +205,7 @@ pub clear_met : (u start : ℕ) (items : List Item) (i : ℕ) → AreInOrder sta
 clear_met u start items i order clear = clear_all start items (target_of (item_at items i)) order clear
 
 -- an item's own fault in a run of a granularity comes before those
-few : (u start : ℕ) (item : Item) (fault : Fault) → ¬ UnitMeets u start item fault → number_of fault < 13
+few : (u start : ℕ) (item : Item) (fault : Fault) → ¬ UnitMeets u start item fault → number_of fault < 14
 few u start item Overlaps not_met = omega arith
 few u start item TooHigh not_met = omega arith
 few u start item TooManyShapes not_met = omega arith
@@ -210,6 +215,7 @@ few u start item BadGranularity not_met = omega arith
 few u start item BadReach not_met = omega arith
 few u start item BadAlignment not_met = omega arith
 few u start item UnevenShape not_met = omega arith
+few u start item Misaligned not_met = omega arith
 few u start item AlignmentBelowGranularity not_met = omega arith
 few u start item UnevenEnd not_met = omega arith
 few u start item TooFewNops not_met = omega arith
@@ -228,7 +234,7 @@ first_unit u start items i fault first = record {
     of_run MayBeMisaligned met = no_nops u start (item_at items i)
     of_run other met = met
 
-    run_before : (other : Fault) → number_of other < 13 → UnitMeets u start (item_at items i) other → RunMeets u start items i other
+    run_before : (other : Fault) → number_of other < 14 → UnitMeets u start (item_at items i) other → RunMeets u start items i other
     run_before TargetInside below met = absurd (omega arith)
     run_before MayBeMisaligned below met = absurd (omega arith)
     run_before other below met = met
@@ -238,6 +244,7 @@ all_items start items sound run = record {
   in_order = in_order start items sound;
   formed = λ i within. item_formed (item_at items i) (own_item start items i (sound i within));
   fit = λ i within. item_fits (run_granularity items) start (item_at items i) (of_unit (run_granularity items) start items i (run i within));
+  in_words = λ i within. item_in_words (run_granularity items) start (item_at items i) (of_unit (run_granularity items) start items i (run i within));
   clear = λ i j within there. run i within TargetInside j there;
   enough = λ i within. run i within MayBeMisaligned;
 }
@@ -245,7 +252,7 @@ all_items start items sound run = record {
 run_meets : (start : ℕ) (items : List Item) → AreItems start items → (i : ℕ) → i < length items → (fault : Fault) → RunMeets (run_granularity items) start items i fault
 run_meets start items are i within TargetInside = λ j there. are.clear i j within there
 run_meets start items are i within MayBeMisaligned = are.enough i within
-run_meets start items are i within other = unit_meets (run_granularity items) start (item_at items i) (are.fit i within) other
+run_meets start items are i within other = unit_meets (run_granularity items) start (item_at items i) (are.fit i within) (are.in_words i within) other
 
 pub all_met : (start : ℕ) (items : List Item) → AreItems start items → (i : ℕ) → i < length items → (fault : Fault) → Meets start items i fault
 all_met start items are i within fault = (own_meets start items are i within fault, λ _. run_meets start items are i within fault)

@@ -9,6 +9,7 @@ use Rattle.linker_runs.specs.declared.relaxation.Shapes.{Shapes}
 use Rattle.linker_runs.specs.declared.relaxation.Alignment.{Alignment}
 use Rattle.linker_runs.specs.declared.relaxation.Item.{Item}
 use Rattle.linker_runs.specs.declared.relaxation.Item.TheVariants.{Site, Aligned}
+use Rattle.linker_runs.specs.declared.shapes.loongarch64.TheConstants.{CALL36}
 use Rattle.linker_runs.specs.Relaxing.{offset_of, end_of, target_of, item_at, place_of, shape_len}
 use Rattle.linker_runs.specs.Relaxing.{short_shape, needed, freed_before, item_reaches}
 use Rattle.linker_runs.specs.Relaxing.{is_in_reach}
@@ -119,11 +120,18 @@ least_len (Aligned alignment) = 0
 abbrev pub IsClear : Item → ℕ → Type 0
 IsClear item offset = (offset ≤ offset_of item + least_len item) ⊎ (end_of item ≤ offset)
 
+-- The target of an `R_LARCH_CALL36` is a multiple of 4 bytes away: its instructions, short or long,
+-- count in words.
+abbrev pub IsInWords : Item → Type 0
+IsInWords (Site site) = site.shapes ≡ CALL36 → site.target % 4 ≡ site.offset % 4
+IsInWords (Aligned alignment) = ⊤
+
 -- the runs that are relaxed
 pub record AreItems (start : ℕ) (items : List Item) : Type 0 where
   pub in_order : AreInOrder start items
   pub formed : (i : ℕ) → i < length items → IsFormed (item_at items i)
   pub fit : (i : ℕ) → i < length items → ItemFits (run_granularity items) start (item_at items i)
+  pub in_words : (i : ℕ) → i < length items → IsInWords (item_at items i)
   pub clear : (i j : ℕ) → i < length items → j < length items
       → IsClear (item_at items j) (target_of (item_at items i))
   pub enough : (i : ℕ) → i < length items

@@ -13,7 +13,7 @@ use Rattle.linker_runs.specs.declared.relaxation.faults.Fault.TheVariants.{Shape
 use Rattle.linker_runs.specs.declared.relaxation.faults.Fault.TheVariants.{ShapesNotAscending}
 use Rattle.linker_runs.specs.declared.relaxation.faults.Fault.TheVariants.{BadGranularity, BadReach}
 use Rattle.linker_runs.specs.declared.relaxation.faults.Fault.TheVariants.{BadAlignment}
-use Rattle.linker_runs.specs.declared.relaxation.faults.Fault.TheVariants.{UnevenShape}
+use Rattle.linker_runs.specs.declared.relaxation.faults.Fault.TheVariants.{UnevenShape, Misaligned}
 use Rattle.linker_runs.specs.declared.relaxation.faults.Fault.TheVariants.{AlignmentBelowGranularity}
 use Rattle.linker_runs.specs.declared.relaxation.faults.Fault.TheVariants.{UnevenEnd, TooFewNops}
 use Rattle.linker_runs.specs.declared.relaxation.faults.Fault.TheVariants.{UnevenNops}
@@ -23,6 +23,7 @@ use Rattle.linker_runs.specs.declared.relaxation.faults.ItemFault.{ItemFault}
 use Rattle.linker_runs.specs.Relaxing.{offset_of, end_of, target_of, item_at, shape_len}
 use Rattle.linker_runs.specs.Relaxing.{short_shape}
 use Rattle.linker_runs.specs.Choosing.{run_granularity, HasUnit, IsClear, HasItsNops, IsStill}
+use Rattle.linker_runs.specs.Choosing.{IsInWords}
 
 -- the order in which faults are returned: of an item that has several, the one with the least
 -- number
@@ -36,12 +37,13 @@ number_of BadGranularity = 5
 number_of BadReach = 6
 number_of BadAlignment = 7
 number_of UnevenShape = 8
-number_of AlignmentBelowGranularity = 9
-number_of UnevenEnd = 10
-number_of TooFewNops = 11
-number_of UnevenNops = 12
-number_of TargetInside = 13
-number_of MayBeMisaligned = 14
+number_of Misaligned = 9
+number_of AlignmentBelowGranularity = 10
+number_of UnevenEnd = 11
+number_of TooFewNops = 12
+number_of UnevenNops = 13
+number_of TargetInside = 14
+number_of MayBeMisaligned = 15
 
 -- what the shapes of a site of so many bytes meet that doesn't have the fault
 abbrev pub ShapesMeet : Shapes → ℕ → Fault → Type 0
@@ -91,6 +93,7 @@ AlignmentMeets u start alignment other = ⊤
 abbrev pub UnitMeets : ℕ → ℕ → Item → Fault → Type 0
 UnitMeets u start (Site site) UnevenShape =
     (k : ℕ) → (site.len - shape_len site.shapes k) % u ≡ 0
+UnitMeets u start (Site site) Misaligned = IsInWords (Site site)
 UnitMeets u start (Site site) other = ⊤
 UnitMeets u start (Aligned alignment) fault = AlignmentMeets u start alignment fault
 

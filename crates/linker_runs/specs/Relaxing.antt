@@ -160,10 +160,14 @@ IsSound (Site site) = (site.shapes.count ≤ 2) × (site.shapes.longest ≤ site
     × ((k : ℕ) → k < site.shapes.count → 0 < (short_shape site.shapes k).granularity)
 IsSound (Aligned alignment) = 0 < alignment.alignment
 
+-- the items ascend, and none reaches past the next
+abbrev pub AreApart : List Item → Type 0
+AreApart items = (i : ℕ) → i + 1 < length items
+    → end_of (item_at items i) ≤ offset_of (item_at items (i + 1))
+
 -- The items ascend and none reaches past the next, the address behind each is one of 64 bits, and
 -- each by itself is sound.
 pub record AreInOrder (start : ℕ) (items : List Item) : Type 0 where
-  pub apart : (i : ℕ) → i + 1 < length items
-      → end_of (item_at items i) ≤ offset_of (item_at items (i + 1))
+  pub apart : AreApart items
   pub ends : (i : ℕ) → i < length items → start + end_of (item_at items i) < 2 ^ 64
   pub sound : (i : ℕ) → i < length items → IsSound (item_at items i)

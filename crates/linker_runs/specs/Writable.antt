@@ -1,5 +1,5 @@
 -- What a relaxation made shorter can be written where the run is packed.
-use Rattle.std.specs.Prelude.{◌≡◌, ◌≢◌, ◌⊎◌, ⊤, ℕ, ◌-◌, ◌%◌, ◌^◌, ◌<◌, List, length}
+use Rattle.std.specs.Prelude.{◌≡◌, ◌≢◌, ◌⊎◌, ⊤, ℕ, ◌-◌, ◌^◌, ◌<◌, List, length}
 use Rattle.linker_runs.specs.declared.relaxation.Shapes.{Shapes}
 use Rattle.linker_runs.specs.declared.relaxation.Item.{Item}
 use Rattle.linker_runs.specs.declared.relaxation.Item.TheVariants.{Site, Aligned}
@@ -54,15 +54,12 @@ NearCallsAreWritable = (start base : ℕ) (items : List Item) (shapes kept freed
     → ¬ IsUnwritable RiscV64 (section_of bytes base (deletions_of_run items kept) start)
     (item_at items i) error
 
--- The site is an `R_LARCH_CALL36`. It and its target lie at multiples of 4 in the first
--- 2 ^ 37 - 2 ^ 17 bytes of the run: `pcaddu18i` and `jirl` reach from one to the other, whatever is
--- deleted.
+-- The site is an `R_LARCH_CALL36`. It and its target lie in the first 2 ^ 37 - 2 ^ 17 bytes of the
+-- run: `pcaddu18i` and `jirl` reach from one to the other, whatever is deleted.
 pub record IsNearCall36 (item : Item) : Type 0 where
   pub shapes : HasShapesOf CALL36 item
   pub offset : offset_of item < 2 ^ 37 - 2 ^ 17
   pub target : target_of item < 2 ^ 37 - 2 ^ 17
-  pub offset_in_words : offset_of item % 4 ≡ 0
-  pub target_in_words : target_of item % 4 ≡ 0
 
 -- Each such call of LoongArch can be written, whichever shape it has.
 abbrev pub NearCalls36AreWritable : Type 0

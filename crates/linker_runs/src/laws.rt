@@ -46,8 +46,8 @@ pub fn near_calls_are_writable()
     ensures { NearCallsAreWritable }
 {}
 
-/// The same of each `R_LARCH_CALL36` that has its instructions, where it and its target lie at
-/// multiples of 4 in the first 128 GiB less 128 KiB of the run.
+/// The same of each `R_LARCH_CALL36` that has its instructions, where it and its target lie in the
+/// first 128 GiB less 128 KiB of the run.
 pub fn near_calls_36_are_writable()
     ensures { NearCalls36AreWritable }
 {}
@@ -63,7 +63,7 @@ pub fn near_addresses_are_writable()
 /// its instructions (`has_its_instructions` of `linker_runs`), and where the site stays
 /// long, is near its target:
 /// - of RISC-V both lie in the first 2 GiB less 2 KiB of the run;
-/// - of `R_LARCH_CALL36` at multiples of 4 in the first 128 GiB less 128 KiB;
+/// - of `R_LARCH_CALL36` in the first 128 GiB less 128 KiB;
 /// - of `R_LARCH_PCALA_HI20` and `R_LARCH_PCALA_LO12` in the first 2 GiB less 8 KiB.
 pub fn none_is_out_of_reach()
     ensures { NoneIsOutOfReach }

@@ -16,7 +16,7 @@ use Rattle.linker_utils_c.specs.declared.status.Status.TheVariants.{TooManyShape
 use Rattle.linker_utils_c.specs.declared.status.Status.TheVariants.{ShapesNotAscending}
 use Rattle.linker_utils_c.specs.declared.status.Status.TheVariants.{BadGranularity}
 use Rattle.linker_utils_c.specs.declared.status.Status.TheVariants.{BadReach, BadAlignment}
-use Rattle.linker_utils_c.specs.declared.status.Status.TheVariants.{UnevenShape}
+use Rattle.linker_utils_c.specs.declared.status.Status.TheVariants.{UnevenShape, Misaligned}
 use Rattle.linker_utils_c.specs.declared.status.Status.TheVariants.{AlignmentBelowGranularity}
 use Rattle.linker_utils_c.specs.declared.status.Status.TheVariants.{UnevenEnd}
 use Rattle.linker_utils_c.specs.declared.status.Status.TheVariants.{TooFewNops, UnevenNops}
@@ -68,6 +68,7 @@ fault_status faults.BadGranularity = BadGranularity
 fault_status faults.BadReach = BadReach
 fault_status faults.BadAlignment = BadAlignment
 fault_status faults.UnevenShape = UnevenShape
+fault_status faults.Misaligned = Misaligned
 fault_status faults.AlignmentBelowGranularity = AlignmentBelowGranularity
 fault_status faults.UnevenEnd = UnevenEnd
 fault_status faults.TooFewNops = TooFewNops

@@ -1,7 +1,7 @@
 //! The items of a run, in an array of the caller's.
 
 ghost use Rattle.std.specs.Prelude.{◌≡◌, ◌<◌, ◌≤◌, length, map};
-ghost use Rattle.linker_runs.specs.Relaxing.{item_at, place_of, AreInOrder};
+ghost use Rattle.linker_runs.specs.Relaxing.{item_at, place_of, AreApart};
 
 use crate::items::AsItem;
 use crate::relaxation::Item;
@@ -50,9 +50,8 @@ impl<'a, I: AsItem> ItemList<'a, I> {
     }
 
     /// How many items end at or below an offset.
-    pub(crate) fn place_of(&self, offset: u64, start: u64) -> usize
-        requires { AreInOrder start self.now }
-        ensures place { result ≡ place_of self.now offset }
+    pub(crate) fn place_of(&self, offset: u64) -> usize
+        ensures place { AreApart self.now → result ≡ place_of self.now offset }
         ensures within { result ≤ length self.now }
     {
         let (mut low, mut high) = (0, self.len());

@@ -278,7 +278,7 @@ pub(super) fn is_clear<I: AsItem>(items: &ItemList<'_, I>, start: u64, offset: u
     requires { AreInOrder start items.now }
     ensures { IsTrue result ↔ IsClearRun items.now offset }
 {
-    let place = items.place_of(offset, start);
+    let place = items.place_of(offset);
     if place == items.len() {
         return true;
     }

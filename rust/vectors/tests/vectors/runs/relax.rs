@@ -114,6 +114,18 @@ fn items_are_rejected_among_the_others() {
     expect_fault(&items, 0, Fault::UnevenShape);
 }
 
+/// ld.lld: "improper alignment for relocation R_LARCH_CALL36: 0xA is not aligned to 4 bytes". A
+/// pair of instructions computes any address.
+#[test]
+fn calls_of_loongarch_count_in_words() {
+    let (call, pcala) = (loongarch64::CALL36, loongarch64::PCALA);
+    for away in 1..4 {
+        expect_fault(&[site(0, 8, call), site(8, 16 + away, call)], 1, Fault::Misaligned);
+        expect_fault(&[site(20, 16 + away, call)], 0, Fault::Misaligned);
+        assert!(are_items(&[site(2, 2 + 4 * away, call), site(10, 18 + away, pcala)], 0));
+    }
+}
+
 /// Where a site has nothing to reach, its target may be inside of what is deleted.
 #[test]
 fn targets_of_decided_deletions_mean_nothing() {

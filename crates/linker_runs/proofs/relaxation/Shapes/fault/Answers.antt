@@ -38,4 +38,4 @@ returns-else-not-have_reaches c =
     let ascending = (c.are_ascending.ensures len).0 c.if-not-are_ascending.false in
     let units = (c.have_units.ensures len).0 c.if-not-have_units.false in
     let reaches = (c.have_reaches.ensures len).0 c.if-not-have_reaches.false in
-    λ fault. shapes_upto c.args.self.now len 15 (λ _. omega arith) (λ _. within) (λ _. ascending) (λ _. units) (λ _. reaches) fault (numbers fault)
+    λ fault. shapes_upto c.args.self.now len 16 (λ _. omega arith) (λ _. within) (λ _. ascending) (λ _. units) (λ _. reaches) fault (numbers fault)

@@ -21,7 +21,7 @@ returns-then-not-is_clear g c =
     let target = target_of (item_at items c.args.index) in
     record {
       here = λ met. (let yes = c.is_clear.ensures.1 (subst (IsClearRun items) (sym (c.target.ensures ∙ ap target_of c.at-item.ensures)) (clear_of c.args.start items target c.requires.in_order met)) in cc);
-      earlier = run_earlier c.args.granularity c.args.start items c.args.index 13 (subst (λ it. (fault : Fault) → UnitMeets c.args.granularity c.args.start it fault) c.at-item.ensures c.in_default.ensures) (omega arith) (λ h. absurd (omega arith));
+      earlier = run_earlier c.args.granularity c.args.start items c.args.index 14 (subst (λ it. (fault : Fault) → UnitMeets c.args.granularity c.args.start it fault) c.at-item.ensures c.in_default.ensures) (omega arith) (λ h. absurd (omega arith));
     }
 
 pub returns-then-not-has_its_nops : goal.returns-then-not-has_its_nops
@@ -30,7 +30,7 @@ returns-then-not-has_its_nops g c =
     let clear = subst (IsClearRun items) (c.target.ensures ∙ ap target_of c.at-item.ensures) (c.is_clear.ensures.0 c.if-not-is_clear.false) in
     record {
       here = λ met. (let yes = c.has_its_nops.ensures.1 met in cc);
-      earlier = run_earlier c.args.granularity c.args.start items c.args.index 14 (subst (λ it. (fault : Fault) → UnitMeets c.args.granularity c.args.start it fault) c.at-item.ensures c.in_default.ensures) (omega arith) (λ _. clear_met c.args.granularity c.args.start items c.args.index c.requires.in_order clear);
+      earlier = run_earlier c.args.granularity c.args.start items c.args.index 15 (subst (λ it. (fault : Fault) → UnitMeets c.args.granularity c.args.start it fault) c.at-item.ensures c.in_default.ensures) (omega arith) (λ _. clear_met c.args.granularity c.args.start items c.args.index c.requires.in_order clear);
     }
 
 pub returns-else-not-has_its_nops : goal.returns-else-not-has_its_nops

@@ -15,7 +15,7 @@ loop-index-preserved g c =
     let here : (c.if-reaches.places ≡ place_of items (target_of (item_at items i))) ⊎ ((length items < c.if-reaches.places) × IsAlwaysInReach start items i) =
     elim c.if-reaches.branch [
       | then-reaches w ↦ inr (omega (arith, w.places-is, c.requires.fewer), always_in_reach start items c.requires.items i (omega arith) (sym (c.reaches.ensures.reached ∙ ap (λ it. item_reaches it 0 0 0) c.at-item.ensures) ∙ w.if-reaches.true))
-      | else-reaches w ↦ inl (w.places-is ∙ w.place_of.ensures.place ∙ ap (place_of items) (w.target.ensures ∙ ap target_of c.at-item.ensures))
+      | else-reaches w ↦ inl (w.places-is ∙ w.place_of.ensures.place c.requires.items.in_order.apart ∙ ap (place_of items) (w.target.ensures ∙ ap target_of c.at-item.ensures))
     ] in
     record {
       each = below_more _ _

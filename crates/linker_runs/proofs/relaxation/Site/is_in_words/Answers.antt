@@ -1,0 +1,20 @@
+use Rattle.std.proofs.Common.{◌≡◌, ◌∙◌, false, true, refl, sym, arith}
+use Rattle.std.proofs.lemmas.Bool.Decides.{nat_tests}
+use Rattle.linker_runs.specs.declared.shapes.loongarch64.TheConstants.{CALL36}
+use Rattle.linker_runs.proofs.Same.{shapes_decide}
+use Rattle.linker_runs.proofs.relaxation.Site.is_in_words.Goals as goal
+
+pub returns-then-eq : goal.returns-then-eq
+returns-then-eq c =
+    let call = shapes_decide c.args.self.now.shapes CALL36 c.eq.result c.eq.ensures in (
+      λ yes is. grind (arith, nat_tests),
+      λ words. let e = words (call.0 c.if-eq.true) in grind (arith, nat_tests),
+    )
+
+pub returns-else-eq : goal.returns-else-eq
+returns-else-eq c =
+    let call = shapes_decide c.args.self.now.shapes CALL36 c.eq.result c.eq.ensures in
+    (λ yes is. absurd (not_both (sym c.if-eq.false ∙ call.1 is)), λ words. refl)
+  where
+    not_both : false ≡ true → ⊥
+    not_both e = cc
