@@ -421,13 +421,13 @@ struct linker_utils_requirements {
      * themselves, as R_PPC64_PLT16_LO_DS, the entry is a word with that address. */
     uint32_t entry_class;
     uint8_t is_branch; /* its value goes into a branch, conditional or not */
-    /* A stub or an entry of the PLT may serve as its target. Not of PowerPC64's calls that load the
-     * function's address themselves. */
-    uint8_t may_use_stub;
+    uint8_t may_use_stub; /* a stub or an entry of the PLT may serve as its target */
+    /* The output makes such an entry for it only for a symbol that it doesn't define: else it goes
+     * to the definition, or to the entry that another relocation made. */
+    uint8_t stub_only_if_undefined;
     uint8_t is_word; /* it is a word of 8 bytes with S + A, which a dynamic linker can write too */
     /* What is written depends on where the output is loaded, if that is a multiple of 4 KiB beside
-     * where it was linked for. Of both halves of a difference of symbols, as R_RISCV_ADD32 and
-     * R_RISCV_SUB32, it doesn't. */
+     * where it was linked for. Not of halves of a difference, as R_RISCV_ADD32 and R_RISCV_SUB32. */
     uint8_t depends_on_load;
 };
 

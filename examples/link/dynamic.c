@@ -66,7 +66,7 @@ void import(struct section *in, Elf64_Rela *r, const struct linker_utils_require
         fail_at(in, r, " depends on where the output is loaded, to the absolute '%s'", s->name);
     if (!is_imported && (linked.is_fixed || !needs->depends_on_load || !is_here(s))) return;
     if (is_imported && needs->may_use_stub) {
-        s->has_stub = true;
+        s->has_stub |= !needs->stub_only_if_undefined || !is_defined(s);
     } else if (is_word) {
         uint32_t type = is_imported ? types.word : types.relative;
         add_row(in->output, in->offset + r->r_offset, type, s, r->r_addend);

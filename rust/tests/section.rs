@@ -1262,6 +1262,24 @@ fn needs_are_those_of_the_formulas() {
     assert!(of(RiscV, 19, 0, false).is_branch && of(RiscV, 19, 0, false).may_use_stub);
     assert!(!of(X86_64, 4, 0, false).is_branch && of(X86_64, 4, 0, false).may_use_stub);
     assert!(!of(X86_64, 2, 0, false).may_use_stub && !of(Ppc64, 60, 0, false).may_use_stub);
+    // in a shared library that defines the symbol GNU ld 2.40 and mold 2.37 make no entry of the PLT
+    // for R_RISCV_BRANCH, JAL, RVC_BRANCH, RVC_JUMP and R_AARCH64_TSTBR14, CONDBR19 (where they link
+    // it); ld.lld 19 and GNU ld 2.44 make one for R_LARCH_B16, B21 and R_PPC64_REL14, and all of them
+    // for calls
+    let bound = [
+        (RiscV, 16),
+        (RiscV, 17),
+        (RiscV, 44),
+        (RiscV, 45),
+        (AArch64, 279),
+        (AArch64, 280),
+    ];
+    for architecture in [AArch64, RiscV, LoongArch64, Ppc64, X86_64] {
+        for code in 0..1200 {
+            let is = needs(architecture, code, 0, false).is_some_and(|n| n.stub_only_if_undefined);
+            assert_eq!(is, bound.contains(&(architecture, code)), "{code}");
+        }
+    }
     // words: R_X86_64_64, R_AARCH64_ABS64, R_RISCV_64, R_LARCH_64, R_PPC64_ADDR64
     for (architecture, code) in [
         (X86_64, 1),

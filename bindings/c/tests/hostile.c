@@ -743,8 +743,9 @@ static void call_needs(void) {
     uint32_t status = CALL(needs, machine, r_type, addend, once_in(2), required);
     if (status == LINKER_UTILS_OK) {
         expect(required->entry_class <= LINKER_UTILS_ENTRY_DESCRIPTOR && required->is_branch <= 1 &&
-                   required->may_use_stub <= 1 && required->is_word <= 1 &&
-                   required->depends_on_load <= 1 &&
+                   required->may_use_stub <= 1 &&
+                   required->stub_only_if_undefined <= required->may_use_stub &&
+                   required->is_word <= 1 && required->depends_on_load <= 1 &&
                    (required->entry_class ? required->entry_addend == 0 ||
                                                 required->entry_addend == addend
                                           : required->entry_addend == 0),

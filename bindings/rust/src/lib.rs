@@ -383,6 +383,8 @@ pub struct Requirements {
     pub is_branch: bool,
     /// Whether a stub or an entry of the PLT may serve as its target.
     pub may_use_stub: bool,
+    /// Whether such an entry is made only if the output doesn't define the symbol.
+    pub stub_only_if_undefined: bool,
     /// Whether it is a word of 8 bytes with S + A.
     pub is_word: bool,
     /// Whether what is written depends on where the output is loaded.
@@ -399,6 +401,7 @@ impl From<raw::Requirements> for Requirements {
             }),
             is_branch: required.is_branch != 0,
             may_use_stub: required.may_use_stub != 0,
+            stub_only_if_undefined: required.stub_only_if_undefined != 0,
             is_word: required.is_word != 0,
             depends_on_load: required.depends_on_load != 0,
         }

@@ -66,6 +66,7 @@ pub struct Requirements {
     pub entry_class: u32,
     pub is_branch: u8,
     pub may_use_stub: u8,
+    pub stub_only_if_undefined: u8,
     pub is_word: u8,
     pub depends_on_load: u8,
 }

@@ -843,7 +843,8 @@ fn the_structs_are_those_of_the_library() {
             offset, target, addend, r_type, has_symbol, has_target, may_compress,
         }
         "linker_utils_requirements": raw::Requirements {
-            entry_addend, entry_class, is_branch, may_use_stub, is_word, depends_on_load,
+            entry_addend, entry_class, is_branch, may_use_stub, stub_only_if_undefined, is_word,
+            depends_on_load,
         }
         "linker_utils_symbol": Symbol {
             address, size, stub, address_entry, thread_entry, module_entry, descriptor,

@@ -79,6 +79,9 @@ fn requirements_are_those_of_the_psabis() {
     // R_AARCH64_CALL26, R_RISCV_64, R_RISCV_ADD32, and a type that there isn't
     let call = needs(AARCH64, 283, 0, false).expect("a row");
     assert!(call.is_branch && call.may_use_stub && !call.depends_on_load && !call.is_word);
+    assert!(!call.stub_only_if_undefined);
+    // R_RISCV_BRANCH
+    assert!(needs(RISCV, 16, 0, false).expect("a row").stub_only_if_undefined);
     let word = needs(RISCV, 2, 0, false).expect("a row");
     assert!(word.is_word && word.depends_on_load && !word.is_branch);
     assert!(!needs(RISCV, 35, 0, false).expect("a row").depends_on_load);

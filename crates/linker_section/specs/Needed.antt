@@ -10,7 +10,10 @@ use Rattle.linker_elf.specs.declared.elf.RelocationKind.TheVariants as kinds
 use Rattle.linker_elf.specs.declared.elf.RelocationKindInfo.{RelocationKindInfo}
 use Rattle.linker_elf.specs.declared.elf.RelocationSize.{RelocationSize}
 use Rattle.linker_elf.specs.declared.elf.RelocationSize.TheVariants.{ByteSize, BitMasking}
+use Rattle.linker_elf.specs.declared.aarch64.forms.AArch64Instruction.TheVariants.{TstBr, Bcond}
 use Rattle.linker_elf.specs.declared.riscv64.forms.RiscVInstruction.TheVariants.{IType, SType}
+use Rattle.linker_elf.specs.declared.riscv64.forms.RiscVInstruction.TheVariants.{BType, JType}
+use Rattle.linker_elf.specs.declared.riscv64.forms.RiscVInstruction.TheVariants.{CbType, CjType}
 use Rattle.linker_section.specs.declared.needed.Entry.{Entry}
 use Rattle.linker_section.specs.declared.needed.EntryClass.{EntryClass}
 use Rattle.linker_section.specs.declared.needed.EntryClass.TheVariants.{Address, ThreadOffset}
@@ -97,6 +100,18 @@ entry_of row addend is_thread_local =
 abbrev pub may_use_stub : RelocationSize → RelocationKind → Bool
 may_use_stub size kind = is_branch size || (has_plt_entry kind && not (loads_plt_word size kind))
 
+-- Branches that go to the output's own definition, also where another file may replace it, as GNU
+-- ld and mold have it: those of AArch64 for which its psABI has no veneer (ELF for the Arm 64-bit
+-- Architecture, "Call and Jump relocations"), and those of RISC-V whose formula has no L.
+abbrev pub is_bound : RelocationSize → Bool
+is_bound (BitMasking bits (AArch64 TstBr)) = true
+is_bound (BitMasking bits (AArch64 Bcond)) = true
+is_bound (BitMasking bits (RiscV BType)) = true
+is_bound (BitMasking bits (RiscV JType)) = true
+is_bound (BitMasking bits (RiscV CbType)) = true
+is_bound (BitMasking bits (RiscV CjType)) = true
+is_bound size = false
+
 -- S + A in 8 bytes
 abbrev pub is_word : RelocationSize → RelocationKind → Bool
 is_word (ByteSize n) kinds.Absolute = n == 8
@@ -130,6 +145,7 @@ needs_of row addend is_thread_local =
       entry = entry_of row addend is_thread_local;
       is_branch = is_branch row.size;
       may_use_stub = may_use_stub row.size row.kind;
+      stub_only_if_undefined = is_bound row.size;
       is_word = is_word row.size row.kind;
       depends_on_load = is_address row.kind && takes_page row.size;
     }

@@ -46,6 +46,12 @@ pub struct Requirements {
     /// Whether a stub or an entry of the PLT may serve as its target: it is that of a branch, or
     /// its formula has L. False of PowerPC64's calls that load the function's address themselves.
     pub may_use_stub: bool,
+    /// Whether a linker makes an entry of the PLT for it only if the output doesn't define the
+    /// symbol. Else it goes to the definition, also where another file may replace that, or to the
+    /// entry that another relocation made. It is one of the branches with a short reach of AArch64
+    /// (`R_AARCH64_CONDBR19`, `R_AARCH64_TSTBR14`) and RISC-V (`R_RISCV_BRANCH`, `R_RISCV_JAL`,
+    /// `R_RISCV_RVC_BRANCH`, `R_RISCV_RVC_JUMP`).
+    pub stub_only_if_undefined: bool,
     /// Whether it is a word of 8 bytes with S + A, which a dynamic linker can write too.
     pub is_word: bool,
     /// Whether what is written depends on where the output is loaded, if that is a multiple of
@@ -151,6 +157,7 @@ fn requirements_by(number: u16, addend: i64, is_thread_local: bool) -> Requireme
         entry: entry_by(number, addend, is_thread_local),
         is_branch: number / 16 % 2 == 1,
         may_use_stub: number / 32 % 2 == 1,
+        stub_only_if_undefined: number % 16 == 13,
         is_word: number / 64 % 2 == 1,
         depends_on_load: number / 128 % 2 == 1,
     }

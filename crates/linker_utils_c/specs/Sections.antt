@@ -59,6 +59,7 @@ requirements_in needs = record {
   entry_class = entry_class needs.entry;
   is_branch = flag needs.is_branch;
   may_use_stub = flag needs.may_use_stub;
+  stub_only_if_undefined = flag needs.stub_only_if_undefined;
   is_word = flag needs.is_word;
   depends_on_load = flag needs.depends_on_load;
 }

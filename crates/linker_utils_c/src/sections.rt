@@ -37,6 +37,8 @@ pub struct RequirementNumbers {
     pub is_branch: u8,
     /// 1 where a stub or an entry of the PLT may serve as its target; else 0.
     pub may_use_stub: u8,
+    /// 1 where such an entry is made only if the output doesn't define the symbol; else 0.
+    pub stub_only_if_undefined: u8,
     /// 1 where it is a word of 8 bytes with S + A; else 0.
     pub is_word: u8,
     /// 1 where what is written depends on where the output is loaded; else 0.
@@ -71,6 +73,7 @@ fn in_numbers(needs: &Requirements) -> RequirementNumbers
         entry_class,
         is_branch: needs.is_branch.into(),
         may_use_stub: needs.may_use_stub.into(),
+        stub_only_if_undefined: needs.stub_only_if_undefined.into(),
         is_word: needs.is_word.into(),
         depends_on_load: needs.depends_on_load.into(),
     }

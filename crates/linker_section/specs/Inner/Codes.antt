@@ -49,6 +49,7 @@ requirements_by number addend is_thread_local =
       entry = entry_by number addend (class_by (number % 8) is_thread_local);
       is_branch = number / 16 % 2 == 1;
       may_use_stub = number / 32 % 2 == 1;
+      stub_only_if_undefined = number % 16 == 13;
       is_word = number / 64 % 2 == 1;
       depends_on_load = number / 128 % 2 == 1;
     }
