@@ -34,7 +34,7 @@ fn main() {
         let value = made.value.expect("a value in the field");
         // S + A
         let sum = solve(&row.info(), &value, &operands).expect("a value of an address");
-        let symbol = sum.number().expect("all bits of it").wrapping_sub(addend.cast_unsigned());
+        let symbol = sum.number().expect("all bits of it").wrapping_sub(addend as u64);
         let name = architecture.name(made.choice.relocation).expect("a name");
         println!("{:?}, then {name}: {symbol:#x}", made.choice.kind);
         assert_eq!(symbol, wanted);

@@ -29,7 +29,7 @@ struct Section {
 
 fn bytes_of(text: &str) -> Result<Vec<u8>, Box<dyn Error>> {
     let pairs = text.as_bytes().chunks(2);
-    pairs.map(|pair| Ok(u8::from_str_radix(str::from_utf8(pair)?, 16)?)).collect()
+    pairs.map(|pair| Ok(u8::from_str_radix(std::str::from_utf8(pair)?, 16)?)).collect()
 }
 
 fn main() -> Result<(), Box<dyn Error>> {

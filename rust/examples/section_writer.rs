@@ -10,7 +10,7 @@ fn main() {
     let symbols = [0, 0x402000, 0x402345].map(|address| Symbol { address, ..Symbol::default() });
     // r_offset, r_sym, r_type and r_addend: R_RISCV_JAL, SET_ULEB128, SUB_ULEB128 and 64
     let rows = [(0, 1, 17, 0), (4, 2, 60, 0), (4, 1, 61, 0), (6, 2, 2, -5i64)];
-    let rela = rows.map(|(at, symbol, code, addend)| [at, symbol << 32 | code, addend.cast_unsigned()]);
+    let rela = rows.map(|(at, symbol, code, addend)| [at, symbol << 32 | code, addend as u64]);
     let rela = rela.as_flattened().iter().flat_map(|word: &u64| word.to_le_bytes()).collect::<Vec<_>>();
     let addresses = Addresses { section: 0x401000, ..Addresses::default() };
     let mut memory = vec![0; memory_len(&rela)];

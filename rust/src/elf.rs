@@ -45,7 +45,7 @@ impl WriteError {
     #[must_use]
     pub fn new(row: &RelocationKindInfo, value: i64, error: RelocateError) -> WriteError {
         let (least, greatest) = match row.reach().bounds {
-            Some((min, end)) => (min, end.cast_unsigned().wrapping_sub(1).cast_signed()),
+            Some((min, end)) => (min, (end as u64).wrapping_sub(1) as i64),
             None => (i64::MIN, i64::MAX),
         };
         WriteError {

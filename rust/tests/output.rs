@@ -170,11 +170,11 @@ fn thread_pointers_are_where_linkers_have_them() {
     for &(architecture, image, len, alignment, thread, block) in cases {
         let origins = Target::of(architecture).origins(image, len, alignment);
         assert_eq!(
-            image.wrapping_sub(origins.thread_pointer).cast_signed(),
+            image.wrapping_sub(origins.thread_pointer) as i64,
             thread
         );
         assert_eq!(
-            image.wrapping_sub(origins.module_block).cast_signed(),
+            image.wrapping_sub(origins.module_block) as i64,
             block
         );
         let none = Target::of(architecture).origins(image, len, 0);

@@ -1923,7 +1923,7 @@ fn high_parts_near_the_global_pointer_go() {
     let none = Addresses::default();
     from_global_pointer(&none, &values, GLOBAL_POINTER, &mut low, &mut bytes).unwrap();
     assert_eq!(bytes, words(&[0x0001_a583]));
-    let addend = GLOBAL_POINTER.wrapping_neg().cast_signed();
+    let addend = GLOBAL_POINTER.wrapping_neg() as i64;
     assert_eq!(low, bytes_of(&[rela(0, 27, 1, addend)]));
 }
 

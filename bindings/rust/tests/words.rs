@@ -78,7 +78,7 @@ fn words_of_aarch64_match_assemblers() {
             let bytes = written(form, before.to_le_bytes(), value, false);
             assert_eq!(u32::from_le_bytes(bytes), after, "{form:?}, {value:x}");
             let (number, negative) = read(form, &bytes).expect("a number");
-            let expected = machine.cast_unsigned() & mask;
+            let expected = machine as u64 & mask;
             assert_eq!((number & mask, negative), (expected, false), "{after:x}");
         }
     }
@@ -122,7 +122,7 @@ fn words_of_riscv_match_assemblers() {
     ];
     for (form, table) in forms {
         for &(before, value, after, machine) in table {
-            let bytes = written(form, before.to_le_bytes(), value.cast_unsigned(), value < 0);
+            let bytes = written(form, before.to_le_bytes(), value as u64, value < 0);
             assert_eq!(u32::from_le_bytes(bytes), after, "{form:?}, {value:x}");
             // a high part is read as the least value that it is written for
             let is_high = matches!(form, RiscVForm::UType | RiscVForm::CluiType);
@@ -130,13 +130,13 @@ fn words_of_riscv_match_assemblers() {
             let negative = machine < 0 && form != RiscVForm::UType;
             assert_eq!(
                 read(form, &bytes),
-                Ok((least.cast_unsigned(), negative)),
+                Ok((least as u64, negative)),
                 "{after:x}"
             );
         }
     }
     for (before, value, after) in riscv64_pairs::UI {
-        let value = value.cast_unsigned();
+        let value = value as u64;
         let bytes = written(RiscVForm::UiType, bytes_of(before), value, false);
         assert_eq!(bytes, bytes_of(after), "{value:x}");
         assert_eq!(
@@ -150,7 +150,7 @@ fn words_of_riscv_match_assemblers() {
 #[test]
 fn rewrites_of_riscv_match_gnu_ld() {
     for (before, value, after) in riscv64_pairs::SHORTENED_LUI {
-        let value = value.cast_unsigned();
+        let value = value as u64;
         assert!(hi20_fits_clui(value), "{value:x}");
         let mut section = rewritten(RiscVRewrite::Hi20ToCLui, before, 0);
         assert_eq!(
@@ -202,7 +202,7 @@ fn words_of_loongarch_match_assemblers() {
         for &(before, value, after, distance) in table {
             let bytes = written(form, before.to_le_bytes(), value, false);
             assert_eq!(u64::from_le_bytes(bytes), after, "{form:?}, {value:x}");
-            let number = (distance.cast_unsigned(), distance < 0);
+            let number = (distance as u64, distance < 0);
             assert_eq!(read(form, &bytes), Ok(number), "{after:x}");
         }
     }

@@ -147,7 +147,7 @@ pub enum Entry {
 
 fn text(bytes: &[u8]) -> Cow<'_, str> {
     // quicker than the other where it is UTF-8
-    str::from_utf8(bytes).map_or_else(|_| String::from_utf8_lossy(bytes), Cow::Borrowed)
+    std::str::from_utf8(bytes).map_or_else(|_| String::from_utf8_lossy(bytes), Cow::Borrowed)
 }
 
 fn because(error: object::read::Error) -> Reason {

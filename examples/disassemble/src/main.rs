@@ -117,7 +117,7 @@ fn field(architecture: Architecture, code: u32, bytes: &[u8]) -> String {
     let value = architecture.row(code).and_then(|row| read(&row, bytes));
     value
         .and_then(|value| value.number())
-        .map_or("-".into(), |n| n.cast_signed().to_string())
+        .map_or("-".into(), |n| (n as i64).to_string())
 }
 
 fn print_relocation(

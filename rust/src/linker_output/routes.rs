@@ -129,7 +129,7 @@ fn callee_of(architecture: Architecture, code: u32, symbol: &Symbol) -> u64 {
 #[inline(always)]
 fn stub_target(architecture: Architecture, symbol: &Symbol, relocation: &Rela) -> u64 {
     let callee = callee_of(architecture, relocation.code, symbol);
-    callee.wrapping_add(relocation.addend.cast_unsigned())
+    callee.wrapping_add(relocation.addend as u64)
 }
 
 /// Whether two words are `bl`, and `nop` or `ld 2,24(1)`.

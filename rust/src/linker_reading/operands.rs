@@ -213,5 +213,5 @@ pub fn operand(form: RelocationInstruction, bytes: &[u8]) -> Option<i64> {
         return None;
     }
     let number = immediate_number(form, bytes) << scale_of(form, bytes);
-    Some(number.cast_signed())
+    Some(number as i64)
 }

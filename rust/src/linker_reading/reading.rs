@@ -195,8 +195,8 @@ fn leaves_one(min: i64, max: i64, field: FieldValue) -> bool {
     if field.known.end >= 64 {
         return false;
     }
-    let least = min.cast_unsigned().wrapping_add(field.rounding);
-    let count = max.cast_unsigned().wrapping_sub(min.cast_unsigned());
+    let least = (min as u64).wrapping_add(field.rounding);
+    let count = (max as u64).wrapping_sub(min as u64);
     count <= power_of_two(field.known.end) && least % power_of_two(field.known.start) == 0
 }
 
@@ -204,7 +204,7 @@ fn leaves_one(min: i64, max: i64, field: FieldValue) -> bool {
 #[inline(always)]
 fn up_to_sign(min: i64, max: i64, field: FieldValue) -> FieldValue {
     let unit = power_of_two(field.known.start);
-    let least = min.cast_unsigned().wrapping_add(field.rounding);
+    let least = (min as u64).wrapping_add(field.rounding);
     let steps = field.bits.wrapping_sub(least / unit)
         % power_of_two(field.known.end - field.known.start);
     FieldValue {

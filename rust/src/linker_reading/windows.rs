@@ -106,7 +106,7 @@ impl Destination {
             return None;
         }
         let address = self.address.number()?;
-        Some(address.wrapping_sub(self.addend.cast_unsigned()))
+        Some(address.wrapping_sub(self.addend as u64))
     }
 }
 

@@ -139,7 +139,7 @@ fn is_bound(symbol: &SymbolFacts, value: &Symbol) -> bool {
 /// S + A.
 #[inline(always)]
 fn address_of(addresses: &Addresses, relocation: &Rela, value: &Symbol) -> u64 {
-    let addend = relocation.addend.cast_unsigned();
+    let addend = relocation.addend as u64;
     address_in(addresses, value).wrapping_add(addend)
 }
 
@@ -720,10 +720,10 @@ fn set_base(
     };
     let word = with_base(register, window_at(section, relocation.offset));
     overwrite(section, relocation.offset, &word.to_le_bytes());
-    let addend = relocation.addend.cast_unsigned().wrapping_sub(address);
+    let addend = (relocation.addend as u64).wrapping_sub(address);
     Rela {
         code,
-        addend: addend.cast_signed(),
+        addend: addend as i64,
         ..*relocation
     }
 }

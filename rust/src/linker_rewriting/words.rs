@@ -51,7 +51,7 @@ fn word_offset(
 ) -> Option<u64> {
     match values.get(relocation.symbol as usize) {
         Some(value) => {
-            let addend = relocation.addend.cast_unsigned();
+            let addend = relocation.addend as u64;
             let address = address_in(addresses, value).wrapping_add(addend);
             Some(address.wrapping_sub(start))
         }

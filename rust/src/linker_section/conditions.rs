@@ -68,7 +68,7 @@ pub(crate) fn is_filled(
     relocation: &Rela,
 ) -> bool {
     let place = addresses.section.wrapping_add(relocation.offset);
-    let addend = relocation.addend.cast_unsigned();
+    let addend = relocation.addend as u64;
     match architecture {
         // R_RISCV_ALIGN
         Architecture::RiscV => relocation.code != 43 || is_padded(place, addend),

@@ -38,7 +38,7 @@ pub(crate) fn relocation_of(entry: &[u8]) -> Rela {
         offset: u64_from_slice(entry),
         code: u32_at(entry, 8),
         symbol: u32_at(entry, 12),
-        addend: u64_at(entry, 16).cast_signed(),
+        addend: u64_at(entry, 16) as i64,
     }
 }
 

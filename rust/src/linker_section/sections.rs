@@ -102,7 +102,7 @@ fn number_or_zero(bytes: &[u8]) -> u64 {
 /// The number that a pair writes, whose second relocation is of a kind.
 #[inline(always)]
 fn pair_number(kind: RelocationKind, bytes: &[u8], first: i64, second: i64) -> u64 {
-    let difference = first.cast_unsigned().wrapping_sub(second.cast_unsigned());
+    let difference = (first as u64).wrapping_sub(second as u64);
     match kind {
         RelocationKind::PairSubtractionULEB128LoongArch => {
             number_or_zero(bytes).wrapping_add(difference)

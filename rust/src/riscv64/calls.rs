@@ -165,7 +165,7 @@ impl From<CallError> for JumpError {
 /// first of them that applies.
 #[inline(always)]
 pub(super) fn test_distance(distance: i64) -> Result<(), CallError> {
-    if distance.cast_unsigned() % 2 != 0 {
+    if distance as u64 % 2 != 0 {
         return Err(CallError::OddDistance);
     }
     if !distance_fits_jal(distance) {
@@ -212,7 +212,7 @@ pub fn jal_site_with(
     let jal = 0x6f | register << 7;
     overwrite(section, site, &jal.to_le_bytes());
     let jal = &mut section[site as usize..];
-    RiscVInstruction::JType.write_to_value(distance.cast_unsigned(), distance < 0, jal);
+    RiscVInstruction::JType.write_to_value(distance as u64, distance < 0, jal);
     Ok(())
 }
 
@@ -239,7 +239,7 @@ pub(super) fn jump_of(
         return Err(CallError::SiteDeleted);
     };
     let to = deltas.input_to_output_offset(target);
-    let distance = to.wrapping_sub(output_offset).cast_signed();
+    let distance = to.wrapping_sub(output_offset) as i64;
     Ok(Jump {
         output_offset,
         distance,

@@ -106,7 +106,7 @@ impl Runs {
 
 /// Whether a `jal` at an output offset reaches another.
 fn reaches(from: u64, to: u64) -> bool {
-    let distance = to.wrapping_sub(from).cast_signed();
+    let distance = to.wrapping_sub(from) as i64;
     (from <= to) == (distance >= 0) && test_distance(distance).is_ok()
 }
 

@@ -126,7 +126,7 @@ fn bits_and_signs_are_extracted() {
             expect_eq(
                 *number,
                 number.sign_extend(*sign),
-                extended.cast_unsigned(),
+                extended as u64,
             );
         }
     }

@@ -169,8 +169,8 @@ impl LinkFacts {
     #[must_use]
     #[inline(always)]
     pub fn is_low_12(&self) -> bool {
-        let addend = self.operands.addend.cast_unsigned();
-        let address = self.operands.symbol.wrapping_add(addend).cast_signed();
+        let addend = self.operands.addend as u64;
+        let address = self.operands.symbol.wrapping_add(addend) as i64;
         self.has_addresses && -0x800 <= address && address < 0x800
     }
 }

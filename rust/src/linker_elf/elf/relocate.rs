@@ -54,7 +54,7 @@ fn store(len: usize, number: u64, bytes: &mut [u8]) {
 /// The number that a relocation of whole bytes writes over the existing ones.
 #[inline(always)]
 fn number_over(kind: RelocationKind, len: usize, value: i64, dest: &[u8]) -> u64 {
-    let number = value.cast_unsigned();
+    let number = value as u64;
     match kind {
         RelocationKind::AbsoluteAddition => load(len, dest).wrapping_add(number),
         RelocationKind::AbsoluteSubtraction => load(len, dest).wrapping_sub(number),
@@ -92,8 +92,8 @@ fn is_over(kind: RelocationKind) -> bool {
 #[inline(always)]
 pub(crate) fn write_bytes(kind: RelocationKind, len: usize, value: i64, dest: &mut [u8]) {
     match len {
-        8 if !is_over(kind) => store(8, value.cast_unsigned(), dest),
-        4 if !is_over(kind) => store(4, value.cast_unsigned(), dest),
+        8 if !is_over(kind) => store(8, value as u64, dest),
+        4 if !is_over(kind) => store(4, value as u64, dest),
         _ => write_number(kind, len, value, dest),
     }
 }
@@ -108,8 +108,7 @@ pub(crate) fn write_number(kind: RelocationKind, len: usize, value: i64, dest: &
 /// The bits of a value that a relocation takes.
 #[inline(always)]
 fn taken_bits(bits: BitRange, value: i64) -> u64 {
-    value
-        .cast_unsigned()
+    (value as u64)
         .extract_bit_range(bits.start as u32..bits.end as u32)
 }
 
@@ -226,7 +225,7 @@ const JUMP_BITS: BitRange = BitRange { start: 2, end: 18 };
 #[inline(always)]
 fn low_part(value: i64) -> i64 {
     let low = taken_bits(BitRange { start: 0, end: 12 }, value);
-    low.low_bits_signed(12).cast_signed()
+    low.low_bits_signed(12) as i64
 }
 
 /// Writes bits of a value into an instruction: a MOVK stays one, and a `jirl` gets the low part of
@@ -325,7 +324,7 @@ impl RelocationKindInfo {
         let exponent = self.alignment.trailing_zeros() % 64;
         let unit = 1u64 << exponent;
         if self.alignment == unit {
-            value.cast_unsigned() & (unit - 1) == 0
+            value as u64 & (unit - 1) == 0
         } else {
             value.rem_euclid(self.alignment as i64) == 0
         }

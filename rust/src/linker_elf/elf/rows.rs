@@ -198,7 +198,7 @@ impl Row {
 /// uses `_alignment`.
 #[inline(always)]
 fn has_no_bits(low_bits: u8, value: i64, _alignment: u64) -> bool {
-    value.cast_unsigned() & low_bits as u64 == 0
+    value as u64 & low_bits as u64 == 0
 }
 
 /// `Row::write`, of the row of an entry. Only rows that don't take all values look at the

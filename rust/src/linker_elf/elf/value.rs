@@ -90,11 +90,11 @@ fn bias_or_zero(bias: Option<Bias>) -> u64 {
 #[inline(always)]
 fn addend_of_entry(size: RelocationSize, addend: i64) -> u64 {
     match size {
-        RelocationSize::ByteSize(_) => addend.cast_unsigned(),
+        RelocationSize::ByteSize(_) => addend as u64,
         RelocationSize::BitMasking { insn, .. } => match insn {
             RelocationInstruction::AArch64(_) | RelocationInstruction::Ppc64(_) => 0,
             RelocationInstruction::RiscV(_) | RelocationInstruction::LoongArch64(_) => {
-                addend.cast_unsigned()
+                addend as u64
             }
         },
     }
@@ -114,7 +114,7 @@ impl RelocationKindInfo {
     fn symbol_part(&self, operands: &Operands) -> u64 {
         let sum = operands
             .symbol
-            .wrapping_add(operands.addend.cast_unsigned());
+            .wrapping_add(operands.addend as u64);
         masked_page(
             matches!(self.mask, Some(PageMask::SymbolPlusAddendAndPosition(_))),
             sum.wrapping_add(bias_or_zero(self.bias)),
@@ -135,7 +135,7 @@ impl RelocationKindInfo {
     fn plt_part(&self, operands: &Operands) -> u64 {
         let sum = operands
             .plt_entry
-            .wrapping_add(operands.addend.cast_unsigned());
+            .wrapping_add(operands.addend as u64);
         sum.wrapping_add(bias_or_zero(self.bias))
     }
 
@@ -143,7 +143,7 @@ impl RelocationKindInfo {
     fn size_part(&self, operands: &Operands) -> u64 {
         let sum = operands
             .symbol_size
-            .wrapping_add(operands.addend.cast_unsigned());
+            .wrapping_add(operands.addend as u64);
         sum.wrapping_add(bias_or_zero(self.bias))
     }
 
@@ -260,7 +260,7 @@ impl RelocationKindInfo {
     #[inline(always)]
     pub fn value(&self, operands: &Operands) -> Option<i64> {
         match self.value_modulo(operands) {
-            Some(value) => Some(value.cast_signed()),
+            Some(value) => Some(value as i64),
             None => None,
         }
     }

@@ -51,7 +51,7 @@ fn first_mismatch(
         let Some((number, negative)) = read(form, after) else {
             return Some(row);
         };
-        if negative || number & mask != machine.cast_unsigned() & mask {
+        if negative || number & mask != machine as u64 & mask {
             return Some(row);
         }
     }

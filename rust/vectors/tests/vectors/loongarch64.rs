@@ -83,7 +83,7 @@ fn branches_match_assemblers() {
         );
         assert_eq!(
             read(LoongArch64Instruction::Branch26, after),
-            (distance.cast_unsigned(), distance < 0),
+            (distance as u64, distance < 0),
             "{value:?}, {before:?}"
         );
     }
@@ -95,7 +95,7 @@ fn branches_match_assemblers() {
         );
         assert_eq!(
             read(LoongArch64Instruction::Branch21, after),
-            (distance.cast_unsigned(), distance < 0),
+            (distance as u64, distance < 0),
             "{value:?}, {before:?}"
         );
     }
@@ -104,7 +104,7 @@ fn branches_match_assemblers() {
 #[test]
 fn calls_match_linkers() {
     for (value, after, distance) in CALL_36 {
-        assert_eq!(distance.cast_unsigned().low_bits(36), value, "{value:?}");
+        assert_eq!((distance as u64).low_bits(36), value, "{value:?}");
         assert_eq!(
             written(LoongArch64Instruction::Call36, 0x4c00_0021_1e00_0001, value),
             after,

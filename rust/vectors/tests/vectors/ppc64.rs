@@ -301,7 +301,7 @@ fn written(insn: Ppc64Instruction, value: u64, word: u32) -> u32 {
 
 fn machine_number(insn: Ppc64Instruction, word: u32) -> i64 {
     let bits = if insn == Ppc64Instruction::Branch24 { 26 } else { 16 };
-    insn.read_value(&u64::from(word).to_le_bytes()).0.low_bits_signed(bits).cast_signed()
+    insn.read_value(&u64::from(word).to_le_bytes()).0.low_bits_signed(bits) as i64
 }
 
 fn pair_written(ha: u32, lo: u32, value: u64) -> (u32, u32) {

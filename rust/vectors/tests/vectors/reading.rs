@@ -74,6 +74,6 @@ fn words_are_read_by_their_opcode() {
     let g0 = aarch64::row(AArch64Relocation::R_AARCH64_MOVW_PREL_G0).expect("a row");
     for (word, is_read) in [(0xf29d_ff80, [true, true]), (0x9282_0060, [true, false])] {
         let value = read(&g0, &u32::to_le_bytes(word)).expect("the field holds a value");
-        assert_eq!([-0x1004, 0xeffc].map(|v: i64| value.is_of(v.cast_unsigned())), is_read);
+        assert_eq!([-0x1004, 0xeffc].map(|v: i64| value.is_of(v as u64)), is_read);
     }
 }

@@ -17,7 +17,7 @@ fn x86_64_choice(kind: X86Kind, relocation: X86_64Relocation) -> Choice<X86Kind,
 
 /// A value of which all 64 bits are known.
 fn whole(number: i64) -> FieldValue {
-    FieldValue { known: BitRange { start: 0, end: 64 }, bits: number.cast_unsigned(), rounding: 0 }
+    FieldValue { known: BitRange { start: 0, end: 64 }, bits: number as u64, rounding: 0 }
 }
 
 /// A value of which the bits below `end` are known.

@@ -16,10 +16,10 @@ use linker_utils::utils::u32_from_slice;
 /// What `read_value` returns where the machine reads `machine`.
 fn reading(form: RiscVInstruction, machine: i64) -> (u64, bool) {
     match form {
-        RiscVInstruction::UType => (machine.cast_unsigned().wrapping_sub(0x800), false),
-        RiscVInstruction::CluiType => (machine.cast_unsigned().wrapping_sub(0x800), machine < 0),
-        RiscVInstruction::UiType => (machine.cast_unsigned(), false),
-        _ => (machine.cast_unsigned(), machine < 0),
+        RiscVInstruction::UType => ((machine as u64).wrapping_sub(0x800), false),
+        RiscVInstruction::CluiType => ((machine as u64).wrapping_sub(0x800), machine < 0),
+        RiscVInstruction::UiType => (machine as u64, false),
+        _ => (machine as u64, machine < 0),
     }
 }
 
@@ -38,7 +38,7 @@ fn words_match_assemblers() {
     for (form, words) in forms {
         for (before, value, after, machine) in words {
             let mut bytes = before.to_le_bytes();
-            form.write_to_value(value.cast_unsigned(), *value < 0, &mut bytes);
+            form.write_to_value(value as u64, *value < 0, &mut bytes);
             assert_eq!(u32::from_le_bytes(bytes), *after, "{form:?}, {value:?}");
             assert_eq!(form.read_value(&bytes), reading(form, *machine), "{form:?}, {value:?}");
         }
@@ -50,14 +50,14 @@ fn hi20_lo12_i_pairs_match_linkers() {
     for (before, value, after) in &pairs::U_WITH_I {
         let mut high = before[0].to_le_bytes();
         let mut low = before[1].to_le_bytes();
-        RiscVInstruction::UType.write_to_value(value.cast_unsigned(), false, &mut high);
-        RiscVInstruction::IType.write_to_value(value.cast_unsigned(), false, &mut low);
+        RiscVInstruction::UType.write_to_value(value as u64, false, &mut high);
+        RiscVInstruction::IType.write_to_value(value as u64, false, &mut low);
         assert_eq!(u32::from_le_bytes(high), after[0], "{value:?}");
         assert_eq!(u32::from_le_bytes(low), after[1], "{value:?}");
         let (rounded, _) = RiscVInstruction::UType.read_value(&high);
         let (rest, _) = RiscVInstruction::IType.read_value(&low);
         let sum = rounded.wrapping_add(0x800).wrapping_add(rest);
-        assert_eq!(sum, value.cast_unsigned(), "{value:?}");
+        assert_eq!(sum, value as u64, "{value:?}");
     }
 }
 
@@ -66,14 +66,14 @@ fn hi20_lo12_s_pairs_match_linkers() {
     for (before, value, after) in &pairs::U_WITH_S {
         let mut high = before[0].to_le_bytes();
         let mut low = before[1].to_le_bytes();
-        RiscVInstruction::UType.write_to_value(value.cast_unsigned(), false, &mut high);
-        RiscVInstruction::SType.write_to_value(value.cast_unsigned(), false, &mut low);
+        RiscVInstruction::UType.write_to_value(value as u64, false, &mut high);
+        RiscVInstruction::SType.write_to_value(value as u64, false, &mut low);
         assert_eq!(u32::from_le_bytes(high), after[0], "{value:?}");
         assert_eq!(u32::from_le_bytes(low), after[1], "{value:?}");
         let (rounded, _) = RiscVInstruction::UType.read_value(&high);
         let (rest, _) = RiscVInstruction::SType.read_value(&low);
         let sum = rounded.wrapping_add(0x800).wrapping_add(rest);
-        assert_eq!(sum, value.cast_unsigned(), "{value:?}");
+        assert_eq!(sum, value as u64, "{value:?}");
     }
 }
 
@@ -81,10 +81,10 @@ fn hi20_lo12_s_pairs_match_linkers() {
 fn call_pairs_match_linkers() {
     for (before, value, after) in &pairs::UI {
         let mut bytes = both(*before);
-        RiscVInstruction::UiType.write_to_value(value.cast_unsigned(), false, &mut bytes);
+        RiscVInstruction::UiType.write_to_value(value as u64, false, &mut bytes);
         assert_eq!(bytes, both(*after), "{value:?}");
         let read = RiscVInstruction::UiType.read_value(&bytes);
-        assert_eq!(read, (value.cast_unsigned(), false), "{value:?}");
+        assert_eq!(read, (value as u64, false), "{value:?}");
     }
 }
 
@@ -96,7 +96,7 @@ fn both(words: [u32; 2]) -> [u8; 8] {
 #[test]
 fn shortened_lui_match_gnu_ld() {
     for (before, value, after) in pairs::SHORTENED_LUI {
-        let value = value.cast_unsigned();
+        let value = value as u64;
         assert!(RelaxationKind::hi20_fits_clui(value), "{value:?}");
         let mut section = before;
         let mut offset = 0;
@@ -240,7 +240,7 @@ fn c_lui_has_no_immediate_0() {
         let mut other = 0x6501u16.to_le_bytes();
         assert_eq!(row.info().write(value, &mut other), written, "{value}");
         assert_eq!(other, half, "{value}");
-        let operands = Operands { symbol: value.cast_unsigned(), ..Operands::default() };
+        let operands = Operands { symbol: value as u64, ..Operands::default() };
         assert_eq!(row.reaches(&operands), after.is_ok(), "{value}");
     }
     assert_eq!(row.reach().bounds, Some((-0x20800, 0x1f800)));

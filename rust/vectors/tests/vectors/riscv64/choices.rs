@@ -53,7 +53,7 @@ fn choices_of_shortened_lui_match_gnu_ld() {
     let shortened = choice(RelaxationKind::Hi20ToCLui, RiscVRelocation::R_RISCV_RVC_LUI);
     let as_it_is = choice(RelaxationKind::NoOp, RiscVRelocation::R_RISCV_LO12_I);
     for (before, value, after) in pairs::SHORTENED_LUI {
-        let facts = facts_at(value.cast_unsigned(), 0x10000);
+        let facts = facts_at(value as u64, 0x10000);
         let mut section = before;
         let high = link(RiscVRelocation::R_RISCV_HI20, &mut section, 0, &facts);
         let low = link(RiscVRelocation::R_RISCV_LO12_I, &mut section, 4, &facts);
@@ -91,7 +91,7 @@ fn choices_of_clui_match_linkers() {
         let facts = LinkFacts {
             is_relaxable: false,
             may_compress: false,
-            ..facts_at(value.cast_unsigned(), 0x10000)
+            ..facts_at(value as u64, 0x10000)
         };
         let is_zero = (-0x800..0x800).contains(&value);
         let mut section = both([before.into(), 0]);

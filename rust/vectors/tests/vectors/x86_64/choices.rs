@@ -21,7 +21,7 @@ fn is_of_sequence(name: X86_64Relocation) -> bool {
 
 /// What a linker knows that makes a rewrite of a field, after which it writes a number there.
 fn facts_of(name: X86_64Relocation, kind: RelaxationKind, number: u32) -> LinkFacts {
-    let number = i64::from(number.cast_signed()).cast_unsigned();
+    let number = i64::from(number as i32) as u64;
     let operands = Operands { addend: -4, place: PLACE, tls_base: 0x8000, ..Operands::default() };
     let group_fits = is_of_sequence(name);
     let facts = LinkFacts { has_addresses: true, group_fits, ..LinkFacts::default() };
