@@ -37,23 +37,6 @@ All-batch P batches i batch within is all =
     let first : All P (pairs_of (take (i + 1) batches)) = All-front P (pairs_of (take (i + 1) batches)) (pairs_of (drop (i + 1) batches)) (rw (pairs_front batches (i + 1)) all) in
     All-back P (pairs_of (take i batches)) batch.items (rw (pairs_more batches i batch within is) at first)
 
--- disjoint deletions are so in a front of the list
-pub disjoint_front : (xs ys : List (ℕ × ℕ)) → AreDisjoint (xs ++ ys) → AreDisjoint xs
-disjoint_front xs ys disjoint = record {
-  apart = λ i j d lt within. let lower : i < length xs = omega arith in rw (← get_or_append_left xs ys d i lower, ← get_or_append_left xs ys d j within) (disjoint.apart i j d lt (omega (arith, length-append xs ys)));
-  ends = All-front EndFits xs ys disjoint.ends;
-}
-
--- no deletion, and one more, after a run of them
-pub IsRun-nil : (from : ℕ) → IsRun from from []
-IsRun-nil from = record {
-  valid = record { ascending = λ i j d lt within. absurd (omega arith); ends = λ i d within. absurd (omega arith) };
-  rise = omega arith;
-  begin = λ i d within. absurd (omega arith);
-  end = λ i d within. absurd (omega arith);
-  least = λ i le below. le;
-}
-
 pub IsRun-push : (from next : ℕ) (ds : List (ℕ × ℕ)) (d : ℕ × ℕ) → IsRun from next ds → next ≤ d.0 → EndFits d → IsRun from (d.0 + max d.1 1) (ds ++ d ∷ [])
 IsRun-push from next ds d run begins fits = record {
   valid = IsValid-push ds d run.valid fits (λ e some. let last = run.end (length ds - 1) e (omega arith) in (omega (arith, last.0), omega (arith, last.1)));

@@ -118,13 +118,3 @@ valid_from_rising ds (suc k) within rising fits =
     rw one at (rising (k - 1) (omega arith)) in
     let next : k + 1 ≡ suc k = omega arith in
     rw next at (IsValid-more ds k inside (valid_from_rising ds k (omega arith) (λ j low. rising j (omega arith)) (λ some. omega (arith, (below some).1, last))) last below)
-
--- each of the first deletions lies below the next, and so does the last of them
-pub rising_more : (ds : List (ℕ × ℕ)) (count : ℕ) → 0 < count → ((k : ℕ) → k + 1 < count → IsBefore (get_or ds k (0, 0)) (get_or ds (k + 1) (0, 0))) → IsBefore (get_or ds (count - 1) (0, 0)) (get_or ds count (0, 0)) → (k : ℕ) → k + 1 < count + 1 → IsBefore (get_or ds k (0, 0)) (get_or ds (k + 1) (0, 0))
-rising_more ds count some rising last k low = elim (cases_lt (k + 1) count) [
-  | inl earlier ↦ rising k earlier
-  | inr end ↦
-      let here : k ≡ count - 1 = omega arith in
-      let next : count - 1 + 1 ≡ count = omega arith in
-      rw (here, next) last
-]

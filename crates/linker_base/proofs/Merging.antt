@@ -118,45 +118,6 @@ disjoint_across ds others disjoint j e within i d low =
 pub disjoint_take : (ds others : List (ℕ × ℕ)) (k : ℕ) → AreDisjoint (ds ++ others) → AreDisjoint (ds ++ take k others)
 disjoint_take ds others k all = disjoint_left (ds ++ take k others) (drop k others) (rw (append_assoc ds (take k others) (drop k others), take-append-drop k others) all)
 
--- one additional deletion more stands behind the others
-one_more : (ds others : List (ℕ × ℕ)) (k : ℕ) → k < length others → ds ++ take (k + 1) others ≡ (ds ++ take k others) ++ get_or others k (0, 0) ∷ []
-one_more ds others k within = rw (take_more others k (0, 0) within, append_assoc ds (take k others) (get_or others k (0, 0) ∷ [])) refl
-
-alone : (d : ℕ × ℕ) → EndFits d → AreDisjoint (d ∷ [])
-alone d fits = record { apart = λ i j e lt within. absurd (omega arith); ends = All-cons EndFits d [] fits (All-nil EndFits) }
-
--- it is disjoint with them where it fits, and overlaps neither a listed deletion nor an earlier one
-pub disjoint_more : (ds others : List (ℕ × ℕ)) (k : ℕ) → k < length others → AreDisjoint (ds ++ take k others) → EndFits (get_or others k (0, 0)) → All (λ d. DoNotOverlap d (get_or others k (0, 0))) ds → All (λ d. DoNotOverlap d (get_or others k (0, 0))) (take k others) → AreDisjoint (ds ++ take (k + 1) others)
-disjoint_more ds others k within disjoint fits beside earlier =
-    let here = get_or others k (0, 0) in
-    rw (one_more ds others k within) (disjoint_joined (ds ++ take k others) (here ∷ []) disjoint (alone here fits)
-    (All-cons (λ pair. All (λ d. DoNotOverlap d pair) (ds ++ take k others)) here [] (All-append (λ d. DoNotOverlap d here) ds (take k others) beside earlier) (All-nil (λ pair. All (λ d. DoNotOverlap d pair) (ds ++ take k others)))))
-
-pub record IsBeside (ds others : List (ℕ × ℕ)) (k : ℕ) : Type 0 where
-  pub fits : EndFits (get_or others k (0, 0))
-  pub beside : All (λ d. DoNotOverlap d (get_or others k (0, 0))) ds
-  pub earlier : All (λ d. DoNotOverlap d (get_or others k (0, 0))) (take k others)
-
--- and only there
-pub beside_from_disjoint : (ds others : List (ℕ × ℕ)) (k : ℕ) → k < length others → AreDisjoint (ds ++ take (k + 1) others) → IsBeside ds others k
-beside_from_disjoint ds others k within disjoint =
-    let here = get_or others k (0, 0) in
-    let joined : AreDisjoint ((ds ++ take k others) ++ here ∷ []) = rw (one_more ds others k within) at disjoint in
-    let across : All (λ d. DoNotOverlap d here) (ds ++ take k others) = disjoint_across (ds ++ take k others) (here ∷ []) joined 0 (0, 0) (omega arith) in
-    record {
-      fits = (disjoint_back (ds ++ take k others) (here ∷ []) joined).ends 0 (0, 0) (omega arith);
-      beside = All-front (λ d. DoNotOverlap d here) ds (take k others) across;
-      earlier = All-back (λ d. DoNotOverlap d here) ds (take k others) across;
-    }
-
--- in a valid front a deletion overlaps no earlier one
-pub earlier_from_valid : (others : List (ℕ × ℕ)) (n k : ℕ) → k < n → n ≤ length others → IsValid (take n others) → All (λ d. DoNotOverlap d (get_or others k (0, 0))) (take k others)
-earlier_from_valid others n k low bound valid j d within =
-    let lower : j < k = omega (arith, length-take k others) in
-    let inside : j < n = omega arith in
-    let there : k < length others = omega arith in
-    inl (rw (get_or-take k others j d lower) (rw (get_or-take n others j d inside, get_or-take n others k d low, get_or_default others k d (0, 0) there) at (valid.ascending j k d lower (omega (arith, length-take n others)))))
-
 -- the first that overlaps denies that all are disjoint
 pub overlapping_denies : (ds others : List (ℕ × ℕ)) (at : ℕ) → IsFirstOverlapping ds others at → AreDisjoint (ds ++ others) → ⊥
 overlapping_denies ds others k first all = first.here (disjoint_take ds others (k + 1) all)
