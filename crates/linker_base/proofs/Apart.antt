@@ -11,9 +11,9 @@ use Rattle.std.proofs.lemmas.List.Sorted.{All-permutation}
 use Rattle.linker_base.specs.Deletions.{IsBefore, DoNotOverlap, EndFits, AreDisjoint, IsValid}
 use Rattle.linker_base.specs.Deltas.{pairs_of}
 use Rattle.linker_base.specs.Inner.Listed.{Goes, GoOneWay, AreApart, AreDisjointBeside, AreFirstDisjoint}
-use Rattle.linker_base.proofs.Batches.{All-front, All-back}
+use Rattle.linker_base.proofs.Listed.{All-front, All-back}
 use Rattle.linker_base.proofs.Merging.{disjoint_joined, disjoint_back, disjoint_across}
-use Rattle.linker_base.proofs.Unions.{disjoint_left, disjoint_permutation, disjoint_from_valid}
+use Rattle.linker_base.proofs.Unions.{disjoint_left, disjoint_from_valid}
 
 -- ---- parts of a list
 

@@ -1,12 +1,12 @@
 -- A merge of two ascending lists, from the back.
-use Rattle.std.proofs.Common.{◌≡◌, ℕ, zero, suc, ◌+◌, ◌-◌, ◌<◌, ◌≤◌, List, [], ◌∷◌, ◌++◌, length, map, get_or, set, take, drop, refl, sym, ap, ◌∙◌, inl, inr, arith}
+use Rattle.std.proofs.Common.{◌≡◌, ℕ, zero, suc, ◌+◌, ◌-◌, ◌<◌, ◌≤◌, List, ◌∷◌, ◌++◌, length, map, get_or, set, take, drop, refl, sym, ap, ◌∙◌, inl, inr, arith}
 use Rattle.std.specs.Prelude.{◌^◌, All, IsPermutation}
 use Rattle.std.specs.List.Sorted.{IsNonDecreasingBy}
 use Rattle.std.proofs.lemmas.Bool.{cases_lt, cases_order}
-use Rattle.std.proofs.lemmas.List.{append_assoc, take-append-drop, take-append-le, take-take, take-map, take_all, take-set-le, drop_more, drop_all, drop-set, get_or-take, get_or_default, get_or_append_left, get_or-append_right, map-append, length-append, length-map, length-set, length-take}
+use Rattle.std.proofs.lemmas.List.{append_assoc, take-append-drop, take-append-le, take-take, take-map, take_all, take-set-le, drop_more, drop-set, get_or-take, get_or_default, get_or_append_left, get_or-append_right, map-append, length-append, length-map, length-set, length-take}
 use Rattle.std.proofs.Math.Seq.{take-append-add}
 use Rattle.std.proofs.lemmas.List.Elements.{All-cons}
-use Rattle.std.proofs.lemmas.List.Sorted.{IsNonDecreasingBy-take, IsPermutation-refl, IsPermutation-cons, IsPermutation-middle, IsPermutation-append_right, IsPermutation-trans}
+use Rattle.std.proofs.lemmas.List.Sorted.{IsNonDecreasingBy-take, IsPermutation-cons, IsPermutation-middle, IsPermutation-append_right, IsPermutation-trans}
 use Rattle.std.proofs.lemmas.List.Sums.{sum_by-cons, sum_by_more, sum_by-append}
 use Rattle.linker_base.specs.declared.relaxation.RelaxDelta.{RelaxDelta}
 use Rattle.linker_base.specs.Deletions.{AreDisjoint, IsValid, IsSortedUnion, bytes_of}

@@ -1,17 +1,17 @@
 -- Deletions beside those of a section: whether they may be merged, and what a merge leaves.
-use Rattle.std.proofs.Common.{◌≡◌, ℕ, ◌+◌, ◌-◌, ◌<◌, ◌≤◌, List, [], ◌∷◌, ◌++◌, length, map, get_or, take, drop, true, false, not, refl, sym, ◌∙◌, inl, inr, arith}
-use Rattle.std.specs.Prelude.{◌↔◌, Bool, IsTrue, All, AllPairs}
+use Rattle.std.proofs.Common.{◌≡◌, ℕ, ◌+◌, ◌-◌, ◌<◌, ◌≤◌, List, ◌++◌, length, map, get_or, take, drop, true, false, not, refl, sym, ◌∙◌, inl, inr, arith}
+use Rattle.std.specs.Prelude.{◌↔◌, Bool, IsTrue, All}
 use Rattle.std.specs.List.Sorted.{IsPartitionPoint}
 use Rattle.std.specs.Prelude.{Option, Some, None, MatchOption}
 use Rattle.std.specs.Option.{is_some}
 use Rattle.std.proofs.lemmas.Bool.{cases_lt, cases_order, false≢true}
-use Rattle.std.proofs.lemmas.List.{append_assoc, take-append-drop, take_more, get_or-take, length-take, get_or_append_left, get_or-append_right, get_or-append-add, get_or_default, length-append, length-map}
-use Rattle.std.proofs.lemmas.List.Elements.{All-nil, All-cons, All-append}
+use Rattle.std.proofs.lemmas.List.{append_assoc, take-append-drop, get_or_append_left, get_or-append-add, get_or_default, length-append, length-map}
+use Rattle.std.proofs.lemmas.List.Elements.{All-append}
 use Rattle.linker_base.specs.declared.relaxation.RelaxDelta.{RelaxDelta}
 use Rattle.linker_base.specs.Deletions.{IsBefore, DoNotOverlap, EndFits, AreDisjoint, IsValid}
 use Rattle.linker_base.specs.Deltas.{deletion_of}
 use Rattle.linker_base.specs.Listed.{IsFirstOverlapping}
-use Rattle.linker_base.proofs.Batches.{All-front, All-back}
+use Rattle.linker_base.proofs.Listed.{all_pairs_append}
 use Rattle.linker_base.proofs.Search.{blank, deletion_at}
 use Rattle.linker_base.proofs.Unions.{disjoint_left}
 
@@ -80,27 +80,10 @@ between_from_free ds k pair within parted free = record {
 
 -- two lists of disjoint deletions are so together, where each of the second is apart from all of the first
 pub disjoint_joined : (ds others : List (ℕ × ℕ)) → AreDisjoint ds → AreDisjoint others → All (λ pair. All (λ d. DoNotOverlap d pair) ds) others → AreDisjoint (ds ++ others)
-disjoint_joined ds others first disjoint free = record { apart = apart; ends = ends }
-  where
-    long : length (ds ++ others) ≡ length ds + length others
-    long = length-append ds others
-
-    apart : AllPairs DoNotOverlap (ds ++ others)
-    apart i j d lt within = elim (cases_lt j (length ds)) [
-      | inl low ↦
-          let lower : i < length ds = omega arith in
-          rw (get_or_append_left ds others d i lower, get_or_append_left ds others d j low) (first.apart i j d lt low)
-      | inr high ↦ elim (cases_lt i (length ds)) [
-        | inl low ↦ rw (get_or_append_left ds others d i low, get_or-append_right ds others (length ds) j d refl high) (free (j - length ds) d (omega (arith, long)) i d low)
-        | inr from ↦ rw (get_or-append_right ds others (length ds) i d refl from, get_or-append_right ds others (length ds) j d refl high) (disjoint.apart (i - length ds) (j - length ds) d (omega arith) (omega (arith, long)))
-      ]
-    ]
-
-    ends : All EndFits (ds ++ others)
-    ends i d within = elim (cases_lt i (length ds)) [
-      | inl low ↦ rw (get_or_append_left ds others d i low) (first.ends i d low)
-      | inr from ↦ rw (get_or-append_right ds others (length ds) i d refl from) (disjoint.ends (i - length ds) d (omega (arith, long)))
-    ]
+disjoint_joined ds others first disjoint free = record {
+  apart = all_pairs_append DoNotOverlap ds others first.apart disjoint.apart free;
+  ends = All-append EndFits ds others first.ends disjoint.ends;
+}
 
 pub disjoint_back : (ds others : List (ℕ × ℕ)) → AreDisjoint (ds ++ others) → AreDisjoint others
 disjoint_back ds others disjoint = record {
