@@ -11,9 +11,9 @@ use Rattle.std.proofs.lemmas.List.Sorted.{All-permutation}
 use Rattle.linker_base.specs.Deletions.{IsBefore, DoNotOverlap, EndFits, AreDisjoint, IsValid}
 use Rattle.linker_base.specs.Deltas.{pairs_of}
 use Rattle.linker_base.specs.Inner.Listed.{Goes, GoOneWay, AreApart, AreDisjointBeside, AreFirstDisjoint}
-use Rattle.linker_base.proofs.Batches.{All-front, All-back}
+use Rattle.linker_base.proofs.Listed.{All-front, All-back}
 use Rattle.linker_base.proofs.Merging.{disjoint_joined, disjoint_back, disjoint_across}
-use Rattle.linker_base.proofs.Unions.{disjoint_left, disjoint_permutation, disjoint_from_valid}
+use Rattle.linker_base.proofs.Unions.{disjoint_left, disjoint_from_valid}
 
 -- ---- parts of a list
 
@@ -65,21 +65,9 @@ first_if false ds others n some within tells = λ all. false≢true (tells.1 (be
 
 -- ---- lists that go one way
 
-pub one_way_from_valid : (ds : List (ℕ × ℕ)) → IsValid ds → GoOneWay false ds
-one_way_from_valid ds valid = record { order = valid.ascending; ends = valid.ends }
-
 pub disjoint_from_one_way : (falls : Bool) (ds : List (ℕ × ℕ)) → GoOneWay falls ds → AreDisjoint ds
 disjoint_from_one_way true ds run = record { apart = λ i j d lt within. inr (run.order i j d lt within); ends = run.ends }
 disjoint_from_one_way false ds run = record { apart = λ i j d lt within. inl (run.order i j d lt within); ends = run.ends }
-
-pub falling_one : (ds : List (ℕ × ℕ)) → 0 < length ds → EndFits (get_or ds 0 (0, 0)) → GoOneWay true (take 1 ds)
-falling_one ds some fits = record {
-  order = λ i j d lt within. absurd (omega (arith, length-take 1 ds));
-  ends = λ i d within.
-      let here : i ≡ 0 = omega (arith, length-take 1 ds) in
-      let low : 0 < 1 = omega arith in
-      rw (here, get_or-take 1 ds 0 d low, get_or_default ds 0 d (0, 0) some) fits;
-}
 
 -- one more that lies below the last
 pub falling_more : (ds : List (ℕ × ℕ)) (k : ℕ) → 0 < k → k < length ds → GoOneWay true (take k ds) → IsBefore (get_or ds k (0, 0)) (get_or ds (k - 1) (0, 0)) → GoOneWay true (take (k + 1) ds)
@@ -159,12 +147,6 @@ up_to_here false is_below ds m pair order within differ below above k d upto = e
 
 pub apart_permutation_left : (xs ys others : List (ℕ × ℕ)) → IsPermutation xs ys → AreApart xs others → AreApart ys others
 apart_permutation_left xs ys others same apart j e within = All-permutation (λ d. DoNotOverlap d (get_or others j e)) xs ys same (apart j e within)
-
-pub beside_permutation : (xs ys others : List (ℕ × ℕ)) → IsPermutation xs ys → AreDisjointBeside xs others → AreDisjointBeside ys others
-beside_permutation xs ys others same all = record {
-  disjoint = disjoint_permutation xs ys same all.disjoint;
-  apart = apart_permutation_left xs ys others same all.apart;
-}
 
 -- ---- batches
 

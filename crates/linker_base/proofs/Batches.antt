@@ -1,15 +1,14 @@
 -- Batches of deletions, one after the other.
-use Rattle.std.proofs.Common.{◌≡◌, ℕ, ◌+◌, ◌-◌, ◌<◌, ◌≤◌, List, [], ◌∷◌, ◌++◌, length, get_or, take, drop, refl, sym, ap, ◌∙◌, inl, inr, arith}
-use Rattle.std.specs.Prelude.{max, All, AllPairs}
+use Rattle.std.proofs.Common.{◌≡◌, ℕ, ◌+◌, ◌-◌, ◌<◌, ◌≤◌, List, [], ◌∷◌, ◌++◌, length, get_or, take, drop, refl, sym, ap, ◌∙◌, arith}
+use Rattle.std.specs.Prelude.{max, All}
 use Rattle.std.specs.Global.{Vec}
-use Rattle.std.proofs.lemmas.Bool.{cases_lt}
-use Rattle.std.proofs.lemmas.List.{take_more, length_push, get_or_push, get_or-take, get_or_default, length-take, append-nil, take-append-drop, take_all, length-append, get_or_append_left, get_or-append_right, get_or-append-add}
+use Rattle.std.proofs.lemmas.List.{take_more, length_push, get_or_push, get_or-take, get_or_default, length-take, append-nil, take-append-drop, take_all, length-append, get_or_append_left, get_or-append-add}
 use Rattle.std.proofs.lemmas.List.Concat.{flat_map-append}
 use Rattle.std.proofs.lemmas.List.Elements.{All-append, All-push}
-use Rattle.linker_base.specs.Deletions.{IsBefore, EndFits, AreDisjoint, IsValid}
+use Rattle.linker_base.specs.Deletions.{IsBefore, EndFits, IsValid}
 use Rattle.linker_base.specs.Deltas.{pairs_of}
 use Rattle.linker_base.specs.Inner.Listed.{IsRun}
-use Rattle.linker_base.proofs.Listed.{IsValid-push}
+use Rattle.linker_base.proofs.Listed.{IsValid-push, All-front, All-back, all_pairs_append}
 
 -- one more batch
 pub pairs_more : (batches : List (Vec (ℕ × ℕ))) (i : ℕ) (batch : Vec (ℕ × ℕ)) → i < length batches → batch ≡ get_or batches i batch → pairs_of (take (i + 1) batches) ≡ pairs_of (take i batches) ++ batch.items
@@ -24,35 +23,11 @@ pairs_front batches i = sym (flat_map-append (λ (b : Vec (ℕ × ℕ)). b.items
 pub pairs_all : (batches : List (Vec (ℕ × ℕ))) (i : ℕ) → length batches ≤ i → pairs_of (take i batches) ≡ pairs_of batches
 pairs_all batches i past = ap pairs_of (take_all i batches past)
 
--- what holds of all of a list holds of each of its two parts
-pub All-front : (P : ℕ × ℕ → Type 0) (xs ys : List (ℕ × ℕ)) → All P (xs ++ ys) → All P xs
-All-front P xs ys all k d within = rw (← get_or_append_left xs ys d k within) (all k d (omega (arith, length-append xs ys)))
-
-pub All-back : (P : ℕ × ℕ → Type 0) (xs ys : List (ℕ × ℕ)) → All P (xs ++ ys) → All P ys
-All-back P xs ys all k d within = rw (← get_or-append-add xs ys k d) (all (length xs + k) d (omega (arith, length-append xs ys)))
-
 -- what holds of the pairs of all batches holds of those of one
 pub All-batch : (P : ℕ × ℕ → Type 0) (batches : List (Vec (ℕ × ℕ))) (i : ℕ) (batch : Vec (ℕ × ℕ)) → i < length batches → batch ≡ get_or batches i batch → All P (pairs_of batches) → All P batch.items
 All-batch P batches i batch within is all =
     let first : All P (pairs_of (take (i + 1) batches)) = All-front P (pairs_of (take (i + 1) batches)) (pairs_of (drop (i + 1) batches)) (rw (pairs_front batches (i + 1)) all) in
     All-back P (pairs_of (take i batches)) batch.items (rw (pairs_more batches i batch within is) at first)
-
--- disjoint deletions are so in a front of the list
-pub disjoint_front : (xs ys : List (ℕ × ℕ)) → AreDisjoint (xs ++ ys) → AreDisjoint xs
-disjoint_front xs ys disjoint = record {
-  apart = λ i j d lt within. let lower : i < length xs = omega arith in rw (← get_or_append_left xs ys d i lower, ← get_or_append_left xs ys d j within) (disjoint.apart i j d lt (omega (arith, length-append xs ys)));
-  ends = All-front EndFits xs ys disjoint.ends;
-}
-
--- no deletion, and one more, after a run of them
-pub IsRun-nil : (from : ℕ) → IsRun from from []
-IsRun-nil from = record {
-  valid = record { ascending = λ i j d lt within. absurd (omega arith); ends = λ i d within. absurd (omega arith) };
-  rise = omega arith;
-  begin = λ i d within. absurd (omega arith);
-  end = λ i d within. absurd (omega arith);
-  least = λ i le below. le;
-}
 
 pub IsRun-push : (from next : ℕ) (ds : List (ℕ × ℕ)) (d : ℕ × ℕ) → IsRun from next ds → next ≤ d.0 → EndFits d → IsRun from (d.0 + max d.1 1) (ds ++ d ∷ [])
 IsRun-push from next ds d run begins fits = record {
@@ -68,31 +43,15 @@ IsRun-push from next ds d run begins fits = record {
 -- a run and another from its end on
 pub IsRun-append : (from middle next : ℕ) (xs ys : List (ℕ × ℕ)) → IsRun from middle xs → IsRun middle next ys → IsRun from next (xs ++ ys)
 IsRun-append from middle next xs ys first second = record {
-  valid = record { ascending = ascending; ends = All-append EndFits xs ys first.valid.ends second.valid.ends };
+  valid = record {
+    ascending = all_pairs_append IsBefore xs ys first.valid.ascending second.valid.ascending (λ j e low i d within. (omega (arith, (first.end i d within).0, second.begin j e low), omega (arith, (first.end i d within).1, second.begin j e low)));
+    ends = All-append EndFits xs ys first.valid.ends second.valid.ends;
+  };
   rise = omega (arith, first.rise, second.rise);
   begin = All-append (λ e. from ≤ e.0) xs ys first.begin (λ k e within. omega (arith, first.rise, second.begin k e within));
   end = All-append (λ e. (e.0 < next) × (e.0 + e.1 ≤ next)) xs ys (λ k e within. (omega (arith, second.rise, (first.end k e within).0), omega (arith, second.rise, (first.end k e within).1))) second.end;
   least = λ i le below. second.least i (first.least i le (All-front (λ e. (e.0 < i) × (e.0 + e.1 ≤ i)) xs ys below)) (All-back (λ e. (e.0 < i) × (e.0 + e.1 ≤ i)) xs ys below);
 }
-  where
-    long : length (xs ++ ys) ≡ length xs + length ys
-    long = length-append xs ys
-
-    ascending : AllPairs IsBefore (xs ++ ys)
-    ascending i j d lt within = elim (cases_lt j (length xs)) [
-      | inl low ↦
-          let lower : i < length xs = omega arith in
-          rw (get_or_append_left xs ys d i lower, get_or_append_left xs ys d j low) (first.valid.ascending i j d lt low)
-      | inr high ↦
-          let inside : j - length xs < length ys = omega (arith, long) in
-          elim (cases_lt i (length xs)) [
-            | inl low ↦
-                let end = first.end i d low in
-                let begin = second.begin (j - length xs) d inside in
-                rw (get_or_append_left xs ys d i low, get_or-append_right xs ys (length xs) j d refl high) (omega (arith, end.0, begin), omega (arith, end.1, begin))
-            | inr from ↦ rw (get_or-append_right xs ys (length xs) i d refl from, get_or-append_right xs ys (length xs) j d refl high) (second.valid.ascending (i - length xs) (j - length xs) d (omega arith) inside)
-          ]
-    ]
 
 -- a valid list goes on no lower than after any front of it
 pub run_goes_on : (from next : ℕ) (ds : List (ℕ × ℕ)) (k : ℕ) → k < length ds → IsRun from next (take k ds) → IsValid ds → All (λ d. from ≤ d.0) ds → next ≤ (get_or ds k (0, 0)).0
@@ -101,19 +60,7 @@ run_goes_on from next ds k within run valid begin = run.least (get_or ds k (0, 0
     let there : j < length ds = omega arith in
     rw (get_or-take k ds j e low, get_or_default ds j e (0, 0) there) (valid.ascending j k (0, 0) low within))
 
--- both parts of a valid list are valid, and the second goes on no lower than after the first
-pub IsValid-front : (xs ys : List (ℕ × ℕ)) → IsValid (xs ++ ys) → IsValid xs
-IsValid-front xs ys valid = record {
-  ascending = λ i j d lt within. let lower : i < length xs = omega arith in rw (← get_or_append_left xs ys d i lower, ← get_or_append_left xs ys d j within) (valid.ascending i j d lt (omega (arith, length-append xs ys)));
-  ends = All-front EndFits xs ys valid.ends;
-}
-
-pub IsValid-back : (xs ys : List (ℕ × ℕ)) → IsValid (xs ++ ys) → IsValid ys
-IsValid-back xs ys valid = record {
-  ascending = λ i j d lt within. rw (← get_or-append-add xs ys i d, ← get_or-append-add xs ys j d) (valid.ascending (length xs + i) (length xs + j) d (omega arith) (omega (arith, length-append xs ys)));
-  ends = All-back EndFits xs ys valid.ends;
-}
-
+-- the second part of a valid list goes on no lower than after the first
 pub run_goes_on_after : (from next : ℕ) (xs ys : List (ℕ × ℕ)) → IsRun from next xs → IsValid (xs ++ ys) → All (λ d. from ≤ d.0) ys → All (λ d. next ≤ d.0) ys
 run_goes_on_after from next xs ys run valid begin k d within = run.least (get_or ys k d).0 (begin k d within) (λ j e inside.
     let before = valid.ascending j (length xs + k) e (omega arith) (omega (arith, length-append xs ys)) in

@@ -1,17 +1,19 @@
 -- A merge of two ascending lists, from the front.
-use Rattle.std.proofs.Common.{◌≡◌, ℕ, ◌+◌, ◌<◌, ◌≤◌, List, [], ◌∷◌, ◌++◌, length, map, get_or, set, take, drop, refl, sym, ap, arith}
-use Rattle.std.specs.Prelude.{◌^◌, All, IsPermutation}
+use Rattle.std.proofs.Common.{◌≡◌, ℕ, ◌+◌, ◌<◌, ◌≤◌, ◌∙◌, List, [], ◌∷◌, ◌++◌, length, map, get_or, set, take, drop, true, false, Bool, refl, ap, arith}
+use Rattle.std.specs.Prelude.{◌^◌, not, All, IsPermutation}
 use Rattle.std.specs.List.Sorted.{IsNonDecreasingBy}
 use Rattle.std.proofs.lemmas.List.{append_assoc, take-append-drop, take-set-le, take_all, take_more, get_or-set_same, map-append, length-set}
 use Rattle.std.proofs.lemmas.List.Elements.{All-nil, All-cons, All-push}
-use Rattle.std.proofs.lemmas.List.Sorted.{sum_by-IsPermutation, IsPermutation-refl, IsPermutation-trans, IsPermutation-append_left, IsPermutation-append_right, IsPermutation-append_comm}
+use Rattle.std.proofs.lemmas.List.Sorted.{sum_by-IsPermutation, IsPermutation-trans, IsPermutation-append_left, IsPermutation-append_right, IsPermutation-append_comm}
 use Rattle.std.proofs.lemmas.List.Sums.{sum_by_more, sum_by-append}
+use mir.Val.{bool_byte}
 use Rattle.linker_base.specs.declared.relaxation.RelaxDelta.{RelaxDelta}
 use Rattle.linker_base.specs.Deletions.{AreDisjoint, IsValid, IsSortedUnion, bytes_of}
 use Rattle.linker_base.specs.Deltas.{deletion_of}
-use Rattle.linker_base.specs.Listed.{AreValidDeltas}
+use Rattle.linker_base.specs.Listed.{AreValidDeltas, AreValidTogether}
+use Rattle.linker_base.specs.Inner.Listed.{IsLower}
 use Rattle.linker_base.proofs.Merges.{HaveSums, HaveSums-append, disjoint_fit, rise-append}
-use Rattle.linker_base.proofs.Unions.{union_from_sort}
+use Rattle.linker_base.proofs.Unions.{disjoint_permutation, union_from_sort}
 
 -- deltas that list the first i deletions and the first j additional ones, merged
 pub record IsFront (ds ps : List (ℕ × ℕ)) (i j : ℕ) (front : List RelaxDelta) : Type 0 where
@@ -29,22 +31,7 @@ pub record IsMergedUpTo (ds ps : List (ℕ × ℕ)) (i j : ℕ) (merged : List R
   pub front : IsFront ds ps i j (take (i + j) merged)
   pub sum : bytes ≡ bytes_of (take i ds) + bytes_of (take j ps)
 
-pub merged_none : (ds ps : List (ℕ × ℕ)) (merged : List RelaxDelta) → length ds + length ps ≡ length merged → IsMergedUpTo ds ps 0 0 merged 0
-merged_none ds ps merged room = record {
-  old_within = omega arith;
-  added_within = omega arith;
-  size = sym room;
-  front = record {
-    same = IsPermutation-refl [];
-    rise = λ i j d le within. absurd (omega arith);
-    below_old = λ some k d within. absurd (omega arith);
-    below_added = λ some k d within. absurd (omega arith);
-    sums = record { each = λ k d within. absurd (omega arith) };
-  };
-  sum = refl;
-}
-
-pub merged_swapped : (ds ps : List (ℕ × ℕ)) (i j : ℕ) (merged : List RelaxDelta) (bytes : ℕ) → IsMergedUpTo ds ps i j merged bytes → IsMergedUpTo ps ds j i merged bytes
+merged_swapped : (ds ps : List (ℕ × ℕ)) (i j : ℕ) (merged : List RelaxDelta) (bytes : ℕ) → IsMergedUpTo ds ps i j merged bytes → IsMergedUpTo ps ds j i merged bytes
 merged_swapped ds ps i j merged bytes upto =
     let count : j + i ≡ i + j = omega arith in
     record {
@@ -61,16 +48,16 @@ merged_swapped ds ps i j merged bytes upto =
       sum = omega (arith, upto.sum);
     }
 
--- the bytes of the first of both lists, and of one more, fit
-pub spends_more : (ds ps : List (ℕ × ℕ)) (i j : ℕ) (merged : List RelaxDelta) (bytes : ℕ) → IsMergedUpTo ds ps i j merged bytes → AreDisjoint (ds ++ ps) → i < length ds → bytes + (get_or ds i (0, 0)).1 < 2 ^ 64
-spends_more ds ps i j merged bytes upto disjoint within =
+-- one more of the first list has room, and 64 bits hold its sum
+has_more : (ds ps : List (ℕ × ℕ)) (i j : ℕ) (merged : List RelaxDelta) (bytes : ℕ) → IsMergedUpTo ds ps i j merged bytes → AreDisjoint (ds ++ ps) → i < length ds → (i + j < length merged) × (bytes + (get_or ds i (0, 0)).1 < 2 ^ 64)
+has_more ds ps i j merged bytes upto disjoint within =
     let f : ℕ × ℕ → ℕ = λ e. e.1 in
     let first = rw (take-append-drop (i + 1) ds) at (sum_by-append f (take (i + 1) ds) (drop (i + 1) ds)) in
     let second = rw (take-append-drop j ps) at (sum_by-append f (take j ps) (drop j ps)) in
-    omega (arith, upto.sum, sum_by_more f ds i (0, 0) within, first, second, sum_by-append f ds ps, disjoint_fit (ds ++ ps) disjoint)
+    (omega (arith, upto.size, upto.added_within), omega (arith, upto.sum, sum_by_more f ds i (0, 0) within, first, second, sum_by-append f ds ps, disjoint_fit (ds ++ ps) disjoint))
 
 -- one more of the first list is written behind, where it isn't above what comes next of the other
-pub merged_more : (ds ps : List (ℕ × ℕ)) (i j at : ℕ) (merged : List RelaxDelta) (delta : RelaxDelta) (bytes : ℕ) → IsValid ds → i < length ds → at ≡ i + j → IsMergedUpTo ds ps i j merged bytes
+merged_more : (ds ps : List (ℕ × ℕ)) (i j at : ℕ) (merged : List RelaxDelta) (delta : RelaxDelta) (bytes : ℕ) → IsValid ds → i < length ds → at ≡ i + j → IsMergedUpTo ds ps i j merged bytes
     → deletion_of delta ≡ get_or ds i (0, 0) → (j < length ps → (get_or ds i (0, 0)).0 ≤ (get_or ps j (0, 0)).0) → delta.cumulative_deleted ≡ bytes + (get_or ds i (0, 0)).1 → IsMergedUpTo ds ps (i + 1) j (set merged at delta) delta.cumulative_deleted
 merged_more ds ps i j at merged delta bytes valid within place upto is first sum = record {
   old_within = omega arith;
@@ -128,6 +115,22 @@ merged_more ds ps i j at merged delta bytes valid within place upto is first sum
     last k e low =
         let only : k ≡ 0 = omega (arith, low) in
         rw only (omega (arith, sum, bytes_before, ap (λ (x : ℕ × ℕ). x.1) is))
+
+-- one more of either list has room, and is written
+pub fits_step : (ds ps : List (ℕ × ℕ)) (i j : ℕ) (merged : List RelaxDelta) (bytes : ℕ) (d : ℕ × ℕ) (is_old : Bool) → IsMergedUpTo ds ps i j merged bytes → AreDisjoint (ds ++ ps) → IsLower ds ps i j d is_old → (i + j < length merged) × (bytes + d.1 < 2 ^ 64)
+fits_step ds ps i j merged bytes d true upto disjoint (within, here, first) = rw here (has_more ds ps i j merged bytes upto disjoint within)
+fits_step ds ps i j merged bytes d false upto disjoint (within, here, first) =
+    let more = has_more ps ds j i merged bytes (merged_swapped ds ps i j merged bytes upto) (disjoint_permutation (ds ++ ps) (ps ++ ds) (IsPermutation-append_comm ds ps) disjoint) within in
+    rw here (omega (arith, more.0), more.1)
+
+pub merged_step : (ds ps : List (ℕ × ℕ)) (i j : ℕ) (merged : List RelaxDelta) (bytes : ℕ) (d : ℕ × ℕ) (is_old : Bool) (delta : RelaxDelta) (p t : ℕ) → IsMergedUpTo ds ps i j merged bytes → AreValidTogether ds ps → IsLower ds ps i j d is_old
+    → deletion_of delta ≡ d → delta.cumulative_deleted ≡ bytes + d.1 → p ≡ i + bool_byte is_old → t ≡ j + bool_byte (not is_old) → IsMergedUpTo ds ps p t (set merged (i + j) delta) delta.cumulative_deleted
+merged_step ds ps i j merged bytes d true delta p t upto valid (within, here, first) is sum passed taken =
+    let same : t ≡ j = omega (arith, taken) in
+    rw (passed, same) (merged_more ds ps i j (i + j) merged delta bytes valid.old within refl upto (is ∙ here) (rw here at first) (rw here at sum))
+merged_step ds ps i j merged bytes d false delta p t upto valid (within, here, first) is sum passed taken =
+    let same : p ≡ i = omega (arith, passed) in
+    rw (same, taken) (merged_swapped ps ds (j + 1) i _ _ (merged_more ps ds j i (i + j) merged delta bytes valid.added within (omega arith) (merged_swapped ds ps i j merged bytes upto) (is ∙ here) (rw here at first) (rw here at sum)))
 
 -- after all of both, all are written
 pub merged_all : (ds ps : List (ℕ × ℕ)) (i j : ℕ) (merged : List RelaxDelta) (bytes : ℕ) → AreDisjoint (ds ++ ps) → IsMergedUpTo ds ps i j merged bytes → length ds ≤ i → length ps ≤ j → IsSortedUnion (ds ++ ps) (map deletion_of merged) × AreValidDeltas merged

@@ -1,8 +1,8 @@
 -- Lists of deltas: how one grows, what its sums are, and how a valid list is tested.
-use Rattle.std.proofs.Common.{◌≡◌, ℕ, zero, suc, ◌+◌, ◌-◌, ◌<◌, ◌≤◌, List, [], ◌∷◌, ◌++◌, length, map, get_or, set, take, sym, ap, ◌∙◌, inl, inr, arith}
-use Rattle.std.specs.Prelude.{◌^◌}
+use Rattle.std.proofs.Common.{◌≡◌, ℕ, zero, suc, ◌+◌, ◌-◌, ◌<◌, ◌≤◌, List, [], ◌∷◌, ◌++◌, length, map, get_or, set, take, sym, ap, ◌∙◌, inl, inr, arith, drop, refl}
+use Rattle.std.specs.Prelude.{◌^◌, All, AllPairs}
 use Rattle.std.proofs.lemmas.Bool.{cases_lt}
-use Rattle.std.proofs.lemmas.List.{length_push, get_or_push, get_or_append_left, get_or-take, length-take, take_more, map_push, length-map, take-append-le, take_all, get_or_default, take_more_set}
+use Rattle.std.proofs.lemmas.List.{length_push, get_or_push, get_or_append_left, get_or-take, length-take, take_more, map_push, length-map, take-append-le, take_all, get_or_default, take_more_set, get_or-append_right, get_or-append-add, length-append, take-append-drop}
 use Rattle.std.proofs.lemmas.List.Elements.{All-push}
 use Rattle.std.proofs.lemmas.List.Quantifiers.{all_pairs_push}
 use Rattle.std.proofs.lemmas.List.Sums.{sum_by_more, sum_by_push}
@@ -11,6 +11,27 @@ use Rattle.linker_base.specs.Deletions.{IsBefore, EndFits, IsValid, bytes_of}
 use Rattle.linker_base.specs.Deltas.{deletion_of, RecordsDeletions}
 use Rattle.linker_base.specs.Listed.{IsFirstInvalid}
 use Rattle.linker_base.proofs.OutputOffsets.{bytes_of-take_fit}
+
+-- what holds of all of a list holds of each of its two parts
+pub All-front : (P : ℕ × ℕ → Type 0) (xs ys : List (ℕ × ℕ)) → All P (xs ++ ys) → All P xs
+All-front P xs ys all k d within = rw (← get_or_append_left xs ys d k within) (all k d (omega (arith, length-append xs ys)))
+
+pub All-back : (P : ℕ × ℕ → Type 0) (xs ys : List (ℕ × ℕ)) → All P (xs ++ ys) → All P ys
+All-back P xs ys all k d within = rw (← get_or-append-add xs ys k d) (all (length xs + k) d (omega (arith, length-append xs ys)))
+
+-- R holds between all of two lists, one after the other, where it does in each and from each of the first to each of the second
+pub all_pairs_append : (R : ℕ × ℕ → ℕ × ℕ → Type 0) (xs ys : List (ℕ × ℕ)) → AllPairs R xs → AllPairs R ys → All (λ y. All (λ x. R x y) xs) ys → AllPairs R (xs ++ ys)
+all_pairs_append R xs ys first second across i j d lt within = elim (cases_lt j (length xs)) [
+  | inl low ↦
+      let lower : i < length xs = omega arith in
+      rw (get_or_append_left xs ys d i lower, get_or_append_left xs ys d j low) (first i j d lt low)
+  | inr high ↦
+      let inside : j - length xs < length ys = omega (arith, length-append xs ys) in
+      rw (get_or-append_right xs ys (length xs) j d refl high) (elim (cases_lt i (length xs)) [
+        | inl low ↦ rw (get_or_append_left xs ys d i low) (across (j - length xs) d inside i d low)
+        | inr from ↦ rw (get_or-append_right xs ys (length xs) i d refl from) (second (i - length xs) (j - length xs) d (omega arith) inside)
+      ])
+]
 
 -- up to and including one deletion of a valid list, the bytes are those before it and its own, and 64 bits hold them
 pub taken_up_to : (ds : List (ℕ × ℕ)) → IsValid ds → (k : ℕ) (d : ℕ × ℕ) → k < length ds → (bytes_of (take k ds) + (get_or ds k d).1 ≡ bytes_of (take (k + 1) ds)) × (bytes_of (take (k + 1) ds) < 2 ^ 64)
@@ -56,19 +77,21 @@ IsValid-push ds d valid fits last = record {
           rw here (last e (omega arith))
     ]
 
--- a front of a valid list is valid
-pub IsValid-take : (ds : List (ℕ × ℕ)) (k : ℕ) → IsValid ds → IsValid (take k ds)
-IsValid-take ds k valid = record {
-  ascending = λ i j d lt within.
-      let short = length-take k ds in
-      let low : i < k = omega arith in
-      let high : j < k = omega arith in
-      rw (get_or-take k ds i d low, get_or-take k ds j d high) (valid.ascending i j d lt (omega arith));
-  ends = λ i d within.
-      let short = length-take k ds in
-      let low : i < k = omega arith in
-      rw (get_or-take k ds i d low) (valid.ends i d (omega arith));
+-- both parts of a valid list are valid
+pub IsValid-front : (xs ys : List (ℕ × ℕ)) → IsValid (xs ++ ys) → IsValid xs
+IsValid-front xs ys valid = record {
+  ascending = λ i j d lt within. let lower : i < length xs = omega arith in rw (← get_or_append_left xs ys d i lower, ← get_or_append_left xs ys d j within) (valid.ascending i j d lt (omega (arith, length-append xs ys)));
+  ends = All-front EndFits xs ys valid.ends;
 }
+
+pub IsValid-back : (xs ys : List (ℕ × ℕ)) → IsValid (xs ++ ys) → IsValid ys
+IsValid-back xs ys valid = record {
+  ascending = λ i j d lt within. rw (← get_or-append-add xs ys i d, ← get_or-append-add xs ys j d) (valid.ascending (length xs + i) (length xs + j) d (omega arith) (omega (arith, length-append xs ys)));
+  ends = All-back EndFits xs ys valid.ends;
+}
+
+pub IsValid-take : (ds : List (ℕ × ℕ)) (k : ℕ) → IsValid ds → IsValid (take k ds)
+IsValid-take ds k valid = IsValid-front (take k ds) (drop k ds) (rw (take-append-drop k ds) valid)
 
 -- one more deletion of the list keeps the front valid
 pub IsValid-more : (ds : List (ℕ × ℕ)) (k : ℕ) → k < length ds → IsValid (take k ds) → EndFits (get_or ds k (0, 0)) → (0 < k → IsBefore (get_or ds (k - 1) (0, 0)) (get_or ds k (0, 0))) → IsValid (take (k + 1) ds)
@@ -118,13 +141,3 @@ valid_from_rising ds (suc k) within rising fits =
     rw one at (rising (k - 1) (omega arith)) in
     let next : k + 1 ≡ suc k = omega arith in
     rw next at (IsValid-more ds k inside (valid_from_rising ds k (omega arith) (λ j low. rising j (omega arith)) (λ some. omega (arith, (below some).1, last))) last below)
-
--- each of the first deletions lies below the next, and so does the last of them
-pub rising_more : (ds : List (ℕ × ℕ)) (count : ℕ) → 0 < count → ((k : ℕ) → k + 1 < count → IsBefore (get_or ds k (0, 0)) (get_or ds (k + 1) (0, 0))) → IsBefore (get_or ds (count - 1) (0, 0)) (get_or ds count (0, 0)) → (k : ℕ) → k + 1 < count + 1 → IsBefore (get_or ds k (0, 0)) (get_or ds (k + 1) (0, 0))
-rising_more ds count some rising last k low = elim (cases_lt (k + 1) count) [
-  | inl earlier ↦ rising k earlier
-  | inr end ↦
-      let here : k ≡ count - 1 = omega arith in
-      let next : count - 1 + 1 ≡ count = omega arith in
-      rw (here, next) last
-]

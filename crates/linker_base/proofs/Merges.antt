@@ -1,12 +1,12 @@
 -- A merge of two ascending lists, from the back.
-use Rattle.std.proofs.Common.{◌≡◌, ℕ, zero, suc, ◌+◌, ◌-◌, ◌<◌, ◌≤◌, List, [], ◌∷◌, ◌++◌, length, map, get_or, set, take, drop, refl, sym, ap, ◌∙◌, inl, inr, arith}
+use Rattle.std.proofs.Common.{◌≡◌, ℕ, zero, suc, ◌+◌, ◌-◌, ◌<◌, ◌≤◌, List, ◌∷◌, ◌++◌, length, map, get_or, set, take, drop, refl, sym, ap, ◌∙◌, inl, inr, arith}
 use Rattle.std.specs.Prelude.{◌^◌, All, IsPermutation}
 use Rattle.std.specs.List.Sorted.{IsNonDecreasingBy}
 use Rattle.std.proofs.lemmas.Bool.{cases_lt, cases_order}
-use Rattle.std.proofs.lemmas.List.{append_assoc, take-append-drop, take-append-le, take-take, take-map, take_all, take-set-le, drop_more, drop_all, drop-set, get_or-take, get_or_default, get_or_append_left, get_or-append_right, map-append, length-append, length-map, length-set, length-take}
+use Rattle.std.proofs.lemmas.List.{append_assoc, take-append-drop, take-append-le, take-take, take-map, take_all, take-set-le, drop_more, drop-set, get_or-take, get_or_default, get_or_append_left, get_or-append_right, map-append, length-append, length-map, length-set, length-take}
 use Rattle.std.proofs.Math.Seq.{take-append-add}
 use Rattle.std.proofs.lemmas.List.Elements.{All-cons}
-use Rattle.std.proofs.lemmas.List.Sorted.{IsNonDecreasingBy-take, IsPermutation-refl, IsPermutation-cons, IsPermutation-middle, IsPermutation-append_right, IsPermutation-trans}
+use Rattle.std.proofs.lemmas.List.Sorted.{IsNonDecreasingBy-take, IsPermutation-cons, IsPermutation-middle, IsPermutation-append_right, IsPermutation-trans}
 use Rattle.std.proofs.lemmas.List.Sums.{sum_by-cons, sum_by_more, sum_by-append}
 use Rattle.linker_base.specs.declared.relaxation.RelaxDelta.{RelaxDelta}
 use Rattle.linker_base.specs.Deletions.{AreDisjoint, IsValid, IsSortedUnion, bytes_of}
@@ -93,15 +93,6 @@ pub record IsTail (ds ps : List (ℕ × ℕ)) (i j : ℕ) (tail : List RelaxDelt
   pub above_left : (k : ℕ) → k < j → All (λ d. (get_or ps k (0, 0)).0 ≤ d.0) (map deletion_of tail)
   pub sums : HaveSums (bytes_of (take i ds) + bytes_of (take j ps)) tail
 
-IsTail-nil : (ds ps : List (ℕ × ℕ)) → IsTail ds ps (length ds) (length ps) []
-IsTail-nil ds ps = record {
-  same = rw (drop_all (length ds) ds (omega arith), drop_all (length ps) ps (omega arith)) (IsPermutation-refl []);
-  rise = λ i j d le within. absurd (omega arith);
-  above_old = λ k low i d within. absurd (omega arith);
-  above_left = λ k low i d within. absurd (omega arith);
-  sums = record { each = λ k d within. absurd (omega arith) };
-}
-
 -- the last of the old deletions goes in front
 IsTail-old : (ds ps : List (ℕ × ℕ)) (i j : ℕ) (tail : List RelaxDelta) (delta : RelaxDelta) → IsValid ds → IsValid ps → i < length ds → j ≤ length ps → IsTail ds ps (i + 1) j tail
     → deletion_of delta ≡ get_or ds i (0, 0) → (0 < j → (get_or ps (j - 1) (0, 0)).0 ≤ (get_or ds i (0, 0)).0) → delta.cumulative_deleted ≡ bytes_of (take (i + 1) ds) + bytes_of (take j ps) → IsTail ds ps i j (delta ∷ tail)
@@ -146,22 +137,6 @@ pub record IsMerging (start : List RelaxDelta) (ps : List (ℕ × ℕ)) (i j : �
   pub front : take i merged ≡ take i start
   pub tail : IsTail (map deletion_of start) ps i j (drop (i + j) merged)
   pub sum : bytes ≡ bytes_of (take i (map deletion_of start)) + bytes_of (take j ps)
-
--- at first all room is free
-pub merging_first : (ps : List (ℕ × ℕ)) (count : ℕ) (merged : List RelaxDelta) (j bytes : ℕ) → count ≤ length merged → count + length ps ≡ length merged → j ≡ length ps
-    → bytes ≡ bytes_of (map deletion_of (take count merged)) + bytes_of ps → IsMerging (take count merged) ps count j merged bytes
-merging_first ps count merged j bytes within room left sum =
-    let start = take count merged in
-    let long : length start ≡ count = omega (arith, length-take count merged) in
-    let listed : length (map deletion_of start) ≡ count = omega (arith, long, length-map start deletion_of) in
-    record {
-      old_within = omega (arith, long);
-      left_within = omega (arith, left);
-      size = omega (arith, long, room);
-      front = sym (take-take count count merged (omega arith));
-      tail = rw (drop_all (count + j) merged (omega (arith, room, left)), left) (rw listed at (IsTail-nil (map deletion_of start) ps));
-      sum = rw (left, take_all count (map deletion_of start) (omega (arith, listed)), take_all (length ps) ps (omega arith)) sum;
-    }
 
 -- the last of the first i deltas
 pub merging_end : (start : List RelaxDelta) (ps : List (ℕ × ℕ)) (i j bytes : ℕ) (merged : List RelaxDelta) (d : RelaxDelta) → IsMerging start ps i j merged bytes → 0 < i → get_or (map deletion_of start) (i - 1) (0, 0) ≡ deletion_of (get_or merged (i - 1) d)

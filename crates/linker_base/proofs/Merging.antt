@@ -1,17 +1,17 @@
 -- Deletions beside those of a section: whether they may be merged, and what a merge leaves.
-use Rattle.std.proofs.Common.{◌≡◌, ℕ, ◌+◌, ◌-◌, ◌<◌, ◌≤◌, List, [], ◌∷◌, ◌++◌, length, map, get_or, take, drop, true, false, not, refl, sym, ◌∙◌, inl, inr, arith}
-use Rattle.std.specs.Prelude.{◌↔◌, Bool, IsTrue, All, AllPairs}
+use Rattle.std.proofs.Common.{◌≡◌, ℕ, ◌+◌, ◌-◌, ◌<◌, ◌≤◌, List, ◌++◌, length, map, get_or, take, drop, true, false, not, refl, sym, ◌∙◌, inl, inr, arith}
+use Rattle.std.specs.Prelude.{◌↔◌, Bool, IsTrue, All}
 use Rattle.std.specs.List.Sorted.{IsPartitionPoint}
 use Rattle.std.specs.Prelude.{Option, Some, None, MatchOption}
 use Rattle.std.specs.Option.{is_some}
 use Rattle.std.proofs.lemmas.Bool.{cases_lt, cases_order, false≢true}
-use Rattle.std.proofs.lemmas.List.{append_assoc, take-append-drop, take_more, get_or-take, length-take, get_or_append_left, get_or-append_right, get_or-append-add, get_or_default, length-append, length-map}
-use Rattle.std.proofs.lemmas.List.Elements.{All-nil, All-cons, All-append}
+use Rattle.std.proofs.lemmas.List.{append_assoc, take-append-drop, get_or_append_left, get_or-append-add, get_or_default, length-append, length-map}
+use Rattle.std.proofs.lemmas.List.Elements.{All-append}
 use Rattle.linker_base.specs.declared.relaxation.RelaxDelta.{RelaxDelta}
 use Rattle.linker_base.specs.Deletions.{IsBefore, DoNotOverlap, EndFits, AreDisjoint, IsValid}
 use Rattle.linker_base.specs.Deltas.{deletion_of}
 use Rattle.linker_base.specs.Listed.{IsFirstOverlapping}
-use Rattle.linker_base.proofs.Batches.{All-front, All-back}
+use Rattle.linker_base.proofs.Listed.{all_pairs_append}
 use Rattle.linker_base.proofs.Search.{blank, deletion_at}
 use Rattle.linker_base.proofs.Unions.{disjoint_left}
 
@@ -80,27 +80,10 @@ between_from_free ds k pair within parted free = record {
 
 -- two lists of disjoint deletions are so together, where each of the second is apart from all of the first
 pub disjoint_joined : (ds others : List (ℕ × ℕ)) → AreDisjoint ds → AreDisjoint others → All (λ pair. All (λ d. DoNotOverlap d pair) ds) others → AreDisjoint (ds ++ others)
-disjoint_joined ds others first disjoint free = record { apart = apart; ends = ends }
-  where
-    long : length (ds ++ others) ≡ length ds + length others
-    long = length-append ds others
-
-    apart : AllPairs DoNotOverlap (ds ++ others)
-    apart i j d lt within = elim (cases_lt j (length ds)) [
-      | inl low ↦
-          let lower : i < length ds = omega arith in
-          rw (get_or_append_left ds others d i lower, get_or_append_left ds others d j low) (first.apart i j d lt low)
-      | inr high ↦ elim (cases_lt i (length ds)) [
-        | inl low ↦ rw (get_or_append_left ds others d i low, get_or-append_right ds others (length ds) j d refl high) (free (j - length ds) d (omega (arith, long)) i d low)
-        | inr from ↦ rw (get_or-append_right ds others (length ds) i d refl from, get_or-append_right ds others (length ds) j d refl high) (disjoint.apart (i - length ds) (j - length ds) d (omega arith) (omega (arith, long)))
-      ]
-    ]
-
-    ends : All EndFits (ds ++ others)
-    ends i d within = elim (cases_lt i (length ds)) [
-      | inl low ↦ rw (get_or_append_left ds others d i low) (first.ends i d low)
-      | inr from ↦ rw (get_or-append_right ds others (length ds) i d refl from) (disjoint.ends (i - length ds) d (omega (arith, long)))
-    ]
+disjoint_joined ds others first disjoint free = record {
+  apart = all_pairs_append DoNotOverlap ds others first.apart disjoint.apart free;
+  ends = All-append EndFits ds others first.ends disjoint.ends;
+}
 
 pub disjoint_back : (ds others : List (ℕ × ℕ)) → AreDisjoint (ds ++ others) → AreDisjoint others
 disjoint_back ds others disjoint = record {
@@ -117,45 +100,6 @@ disjoint_across ds others disjoint j e within i d low =
 -- where all are disjoint, so are those with the first of the additional ones
 pub disjoint_take : (ds others : List (ℕ × ℕ)) (k : ℕ) → AreDisjoint (ds ++ others) → AreDisjoint (ds ++ take k others)
 disjoint_take ds others k all = disjoint_left (ds ++ take k others) (drop k others) (rw (append_assoc ds (take k others) (drop k others), take-append-drop k others) all)
-
--- one additional deletion more stands behind the others
-one_more : (ds others : List (ℕ × ℕ)) (k : ℕ) → k < length others → ds ++ take (k + 1) others ≡ (ds ++ take k others) ++ get_or others k (0, 0) ∷ []
-one_more ds others k within = rw (take_more others k (0, 0) within, append_assoc ds (take k others) (get_or others k (0, 0) ∷ [])) refl
-
-alone : (d : ℕ × ℕ) → EndFits d → AreDisjoint (d ∷ [])
-alone d fits = record { apart = λ i j e lt within. absurd (omega arith); ends = All-cons EndFits d [] fits (All-nil EndFits) }
-
--- it is disjoint with them where it fits, and overlaps neither a listed deletion nor an earlier one
-pub disjoint_more : (ds others : List (ℕ × ℕ)) (k : ℕ) → k < length others → AreDisjoint (ds ++ take k others) → EndFits (get_or others k (0, 0)) → All (λ d. DoNotOverlap d (get_or others k (0, 0))) ds → All (λ d. DoNotOverlap d (get_or others k (0, 0))) (take k others) → AreDisjoint (ds ++ take (k + 1) others)
-disjoint_more ds others k within disjoint fits beside earlier =
-    let here = get_or others k (0, 0) in
-    rw (one_more ds others k within) (disjoint_joined (ds ++ take k others) (here ∷ []) disjoint (alone here fits)
-    (All-cons (λ pair. All (λ d. DoNotOverlap d pair) (ds ++ take k others)) here [] (All-append (λ d. DoNotOverlap d here) ds (take k others) beside earlier) (All-nil (λ pair. All (λ d. DoNotOverlap d pair) (ds ++ take k others)))))
-
-pub record IsBeside (ds others : List (ℕ × ℕ)) (k : ℕ) : Type 0 where
-  pub fits : EndFits (get_or others k (0, 0))
-  pub beside : All (λ d. DoNotOverlap d (get_or others k (0, 0))) ds
-  pub earlier : All (λ d. DoNotOverlap d (get_or others k (0, 0))) (take k others)
-
--- and only there
-pub beside_from_disjoint : (ds others : List (ℕ × ℕ)) (k : ℕ) → k < length others → AreDisjoint (ds ++ take (k + 1) others) → IsBeside ds others k
-beside_from_disjoint ds others k within disjoint =
-    let here = get_or others k (0, 0) in
-    let joined : AreDisjoint ((ds ++ take k others) ++ here ∷ []) = rw (one_more ds others k within) at disjoint in
-    let across : All (λ d. DoNotOverlap d here) (ds ++ take k others) = disjoint_across (ds ++ take k others) (here ∷ []) joined 0 (0, 0) (omega arith) in
-    record {
-      fits = (disjoint_back (ds ++ take k others) (here ∷ []) joined).ends 0 (0, 0) (omega arith);
-      beside = All-front (λ d. DoNotOverlap d here) ds (take k others) across;
-      earlier = All-back (λ d. DoNotOverlap d here) ds (take k others) across;
-    }
-
--- in a valid front a deletion overlaps no earlier one
-pub earlier_from_valid : (others : List (ℕ × ℕ)) (n k : ℕ) → k < n → n ≤ length others → IsValid (take n others) → All (λ d. DoNotOverlap d (get_or others k (0, 0))) (take k others)
-earlier_from_valid others n k low bound valid j d within =
-    let lower : j < k = omega (arith, length-take k others) in
-    let inside : j < n = omega arith in
-    let there : k < length others = omega arith in
-    inl (rw (get_or-take k others j d lower) (rw (get_or-take n others j d inside, get_or-take n others k d low, get_or_default others k d (0, 0) there) at (valid.ascending j k d lower (omega (arith, length-take n others)))))
 
 -- the first that overlaps denies that all are disjoint
 pub overlapping_denies : (ds others : List (ℕ × ℕ)) (at : ℕ) → IsFirstOverlapping ds others at → AreDisjoint (ds ++ others) → ⊥

@@ -7,7 +7,7 @@ use Rattle.std.proofs.lemmas.List.Elements.{All-head, All-tail}
 use Rattle.std.proofs.lemmas.List.Sums.{sum_by-cons, sum_by-append}
 use Rattle.std.proofs.lemmas.Nat.{or_disjoint}
 use Rattle.std.proofs.lemmas.Nat.Bits.{bit_at-lt, bit_at_or, bit_at-pow_same, bit_at-pow_other, bit_at-zero, and_pow}
-use lib.Bits.{bit_and, bit_or}
+use lib.Bits.{bit_and}
 use Rattle.linker_base.specs.Form.{holds_value_bit, is_of, has_value, values_apart, Mark, replaced, ored, cleared, ImmediateBit, placed_bit, bit_for, worth, place_sum, IsClear, is_clear_at}
 
 -- the window's bit at the place of value bit k, and 0 where it has none

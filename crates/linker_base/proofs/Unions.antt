@@ -1,6 +1,6 @@
 -- Deletions in any order, and the one valid list that they sort into.
 use Rattle.std.proofs.Common.{◌≡◌, ℕ, zero, suc, ◌+◌, ◌<◌, ◌≤◌, Bool, true, false, List, [], ◌∷◌, ◌++◌, refl, sym, ap, ◌∙◌, inl, inr, ⊎_elim, arith}
-use Rattle.std.specs.Prelude.{◌⊎◌, ◌↔◌, not, ◌&&◌, nat_le, nat_lt, AllPairs, Contains, IsPermutation}
+use Rattle.std.specs.Prelude.{◌⊎◌, ◌↔◌, not, ◌&&◌, nat_le, nat_lt, AllPairs, Contains, IsPermutation, Result, Ok, Err, OnOk}
 use Rattle.std.specs.List.Sorted.{IsNonDecreasingBy}
 use Rattle.std.proofs.lemmas.Bool.{cases_lt}
 use Rattle.std.proofs.lemmas.Bool.Decides.{nat_tests}
@@ -162,3 +162,7 @@ module _ (old xs ys : List (ℕ × ℕ)) (same : IsPermutation xs ys) where
 
   pub union_moved : (sorted : List (ℕ × ℕ)) → IsSortedUnion (old ++ ys) sorted → IsSortedUnion (old ++ xs) sorted
   union_moved sorted union = record { same = IsPermutation-trans (old ++ xs) (old ++ ys) sorted moved union.same; valid = union.valid }
+
+pub union_moved_ok : {A E : Type 0} (r : Result A E) (old xs ys sorted : List (ℕ × ℕ)) → IsPermutation xs ys → OnOk r (IsSortedUnion (old ++ ys) sorted) → OnOk r (IsSortedUnion (old ++ xs) sorted)
+union_moved_ok (Ok x) old xs ys sorted same union = union_moved old xs ys same sorted union
+union_moved_ok (Err e) old xs ys sorted same union = tt

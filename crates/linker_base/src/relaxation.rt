@@ -4,7 +4,7 @@ ghost use Rattle.std.specs.Prelude.{◌≡◌, ◌↔◌, ◌+◌, ◌<◌, ◌^
 ghost use Rattle.std.specs.Prelude.{IfSome, IfNone, MatchOption, All, Any, []};
 ghost use Rattle.linker_base.specs.Deletions.{AreDisjoint, IsValid, IsSortedUnion, bytes_of, rank};
 ghost use Rattle.linker_base.specs.Deletions.{AreKept, IsInsideDeletion, IsSelected, HasInput};
-ghost use Rattle.linker_base.specs.Blocks.{output_offset_of, IsValidView};
+ghost use Rattle.linker_base.specs.Blocks.{IsValidView};
 ghost use Rattle.linker_base.specs.Deltas.{RecordsDeletions, deletions_of, pairs_of};
 
 use std::alloc::{AllocError, AllocFailed, Global};
@@ -20,7 +20,7 @@ mod overlap;
 mod search;
 mod walk;
 
-use blocks::{count_blocks, fill_heads, reserve_heads};
+use blocks::{count_blocks, fill_heads};
 pub use blocks::{
     BLOCK_LEN, BlockHead, Counted, Looks, input_to_output_counted, output_to_input_counted,
 };
@@ -29,7 +29,7 @@ pub use delta_slice::DeltaSlice;
 pub(crate) use delta_slice::rank_past;
 pub use map::RelaxDeltaMap;
 use merge::{all_pairs, copy_deletions, count_pairs, insert_ascending, sorted};
-use overlap::{can_batches_be_merged, can_be_merged};
+use overlap::{are_valid, can_batches_be_merged, can_be_merged};
 pub use overlap::{AsDeletion, first_invalid};
 
 /// What a linker does with the relocation that follows a rewritten one.
@@ -67,19 +67,6 @@ pub struct RelaxDelta {
     pub cumulative_deleted: u64,
     /// How many bytes are deleted here. A deletion of no bytes is listed all the same.
     pub bytes_deleted: u32,
-}
-
-impl RelaxDelta {
-    // The input offset less the bytes deleted before.
-    #[inline(always)]
-    fn output_offset(&self) -> u64
-        ensures { result ≡ output_offset_of self.now }
-    {
-        let end = self
-            .input_offset
-            .wrapping_add(u64::from(self.bytes_deleted));
-        end.wrapping_sub(self.cumulative_deleted)
-    }
 }
 
 /// The deletions in one input section, by ascending offset.
@@ -134,17 +121,17 @@ impl SectionRelaxDeltas {
     pub fn is_valid(raw: &[(u64, u32)]) -> bool
         ensures { IsTrue result ↔ IsValid raw.now }
     {
-        first_invalid(raw).is_none()
+        are_valid(raw)
     }
 
     /// Adds deletions, each an offset and a count of bytes, in any order.
     ///
     /// What is listed is then as `new` makes it of the old and the additional pairs, sorted. Before
-    /// anything changes the list grows, and the heads of its blocks, and
-    /// pairs that don't ascend are copied, to be sorted: memory is allocated at most once for each,
-    /// and not at all where `additional` is empty. But for that growth, which is O(1) for each pair
-    /// of many merges, the work is O(k + m) for k pairs and the m deltas after the first of them,
-    /// and O(k log k) more where the pairs don't ascend. `is_mergeable` tests what it requires.
+    /// anything changes the list grows, and the heads of its blocks, and pairs that don't ascend are
+    /// copied, to be sorted: memory is allocated at most once for each, and not at all where
+    /// `additional` is empty. But for that growth, which is O(1) for each pair of many merges, the
+    /// work is O(k + m) for k pairs and the m deltas after the first of them, and O(k log k) more
+    /// where the pairs don't ascend. `is_mergeable` tests what it requires.
     pub fn merge_additional(&mut self, additional: &[(u64, u32)]) -> Result<(), OutOfMemory>
         requires { AreDisjoint (self.old ++ additional.now) }
         ensures ok { OnOk result (IsSortedUnion (self.old ++ additional.now) self.new) }
@@ -157,15 +144,11 @@ impl SectionRelaxDeltas {
         if additional.is_empty() {
             return Ok(());
         }
-        deltas.reserve(additional.len())?;
-        reserve_heads(heads, deltas.len() + additional.len())?;
-        if first_invalid(additional).is_none() {
-            insert_ascending(deltas, heads, additional);
-            return Ok(());
+        if are_valid(additional) {
+            return insert_ascending(deltas, heads, additional);
         }
         let pairs = sorted(copy_deletions(*deltas.allocator(), additional)?);
-        insert_ascending(deltas, heads, &pairs);
-        Ok(())
+        insert_ascending(deltas, heads, &pairs)
     }
 
     /// Whether the pairs may be merged: their ends are at most `u64::MAX`, and of any two
@@ -184,11 +167,11 @@ impl SectionRelaxDeltas {
     /// Adds the deletions of all batches, or of none where it runs out of memory.
     ///
     /// What is listed is then as `new` makes it of the old and all additional pairs, sorted. Before
-    /// anything changes the list grows, and the heads of its blocks, and
-    /// all pairs are copied: memory is allocated at most once for each, and not at all where no
-    /// batch has a pair. But for that growth the work is O(k + m) for k pairs in all batches and
-    /// the m deltas after the first of them, and O(k log k) more where the pairs don't ascend, from
-    /// each batch to the next too. `are_mergeable` tests what it requires.
+    /// anything changes the list grows, and the heads of its blocks, and all pairs are copied:
+    /// memory is allocated at most once for each, and not at all where no batch has a pair. But for
+    /// that growth the work is O(k + m) for k pairs in all batches and the m deltas after the first
+    /// of them, and O(k log k) more where the pairs don't ascend, from each batch to the next too.
+    /// `are_mergeable` tests what it requires.
     pub fn merge_all(&mut self, batches: &[Vec<(u64, u32)>]) -> Result<(), OutOfMemory>
         requires { AreDisjoint (self.old ++ pairs_of batches.now) }
         ensures ok { OnOk result (IsSortedUnion (self.old ++ pairs_of batches.now) self.new) }
@@ -197,15 +180,11 @@ impl SectionRelaxDeltas {
     {
         let deltas = &mut self.deltas;
         let heads = &mut self.heads;
-        let count = count_pairs(batches);
-        if count == 0 {
+        if count_pairs(batches) == 0 {
             return Ok(());
         }
-        deltas.reserve(count)?;
-        reserve_heads(heads, deltas.len() + count)?;
         let pairs = sorted(all_pairs(*deltas.allocator(), batches)?);
-        insert_ascending(deltas, heads, &pairs);
-        Ok(())
+        insert_ascending(deltas, heads, &pairs)
     }
 
     /// Whether all batches together may be merged, as `is_mergeable` says of their pairs.

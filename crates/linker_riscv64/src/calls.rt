@@ -141,11 +141,7 @@ impl LinkRegister {
             LinkRegister::OfAuipc => Some(destination(auipc)),
             LinkRegister::OfJalr => {
                 let jalr = u32_from_slice(&section[start + 4..]);
-                if is_call_pair(auipc, jalr) {
-                    Some(destination(jalr))
-                } else {
-                    None
-                }
+                is_call_pair(auipc, jalr).then_some(destination(jalr))
             }
         }
     }
@@ -213,7 +209,6 @@ pub fn jal_site(section: &mut [u8], site: u64, distance: i64) -> Result<(), Call
     ensures jumps { OnOk result (JumpsAt section.old section.new site distance) }
     ensures accepted { IsOk result
         ↔ ((site + 4 ≤ length section.old) × IsEven distance × IsJalDistance distance) }
-
     ensures out_of_section { (result ≡ Err CallError.OutOfSection)
         ↔ (length section.old < site + 4) }
     ensures odd_distance { (result ≡ Err CallError.OddDistance)

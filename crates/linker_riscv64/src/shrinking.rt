@@ -76,10 +76,7 @@ fn calls_below<C: AsCall>(calls: &[C], offset: u64) -> usize
         → IsSplit (map C.call calls.now) offset result }
 {
     let bound = offset.saturating_sub(4);
-    calls.partition_point(|call| {
-        let (site, _) = call.as_call();
-        site < bound
-    })
+    calls.partition_point(|call| call.as_call().0 < bound)
 }
 
 /// How many calls are chosen from an index up to another.

@@ -14,7 +14,7 @@ mod walk;
 
 use alloc::vec::Vec;
 use crate::support::*;
-use blocks::{count_blocks, fill_heads, reserve_heads};
+use blocks::{count_blocks, fill_heads};
 pub use blocks::{
     BLOCK_LEN, BlockHead, Counted, Looks, input_to_output_counted, output_to_input_counted,
 };
@@ -23,7 +23,7 @@ pub use delta_slice::DeltaSlice;
 pub(crate) use delta_slice::rank_past;
 pub use map::RelaxDeltaMap;
 use merge::{all_pairs, copy_deletions, count_pairs, insert_ascending, sorted};
-use overlap::{can_batches_be_merged, can_be_merged};
+use overlap::{are_valid, can_batches_be_merged, can_be_merged};
 pub use overlap::{AsDeletion, first_invalid};
 
 /// What a linker does with the relocation that follows a rewritten one.
@@ -61,17 +61,6 @@ pub struct RelaxDelta {
     pub cumulative_deleted: u64,
     /// How many bytes are deleted here. A deletion of no bytes is listed all the same.
     pub bytes_deleted: u32,
-}
-
-impl RelaxDelta {
-    // The input offset less the bytes deleted before.
-    #[inline(always)]
-    fn output_offset(&self) -> u64 {
-        let end = self
-            .input_offset
-            .wrapping_add(u64::from(self.bytes_deleted));
-        end.wrapping_sub(self.cumulative_deleted)
-    }
 }
 
 /// The deletions in one input section, by ascending offset.
@@ -115,17 +104,17 @@ impl SectionRelaxDeltas {
     /// offset of the next, and each ends at `u64::MAX` or below.
     #[must_use]
     pub fn is_valid(raw: &[(u64, u32)]) -> bool {
-        first_invalid(raw).is_none()
+        are_valid(raw)
     }
 
     /// Adds deletions, each an offset and a count of bytes, in any order.
     ///
     /// What is listed is then as `new` makes it of the old and the additional pairs, sorted. Before
-    /// anything changes the list grows, and the heads of its blocks, and
-    /// pairs that don't ascend are copied, to be sorted: memory is allocated at most once for each,
-    /// and not at all where `additional` is empty. But for that growth, which is O(1) for each pair
-    /// of many merges, the work is O(k + m) for k pairs and the m deltas after the first of them,
-    /// and O(k log k) more where the pairs don't ascend. `is_mergeable` tests what it requires.
+    /// anything changes the list grows, and the heads of its blocks, and pairs that don't ascend are
+    /// copied, to be sorted: memory is allocated at most once for each, and not at all where
+    /// `additional` is empty. But for that growth, which is O(1) for each pair of many merges, the
+    /// work is O(k + m) for k pairs and the m deltas after the first of them, and O(k log k) more
+    /// where the pairs don't ascend. `is_mergeable` tests what it requires.
     ///
     /// # Requires
     ///
@@ -137,15 +126,11 @@ impl SectionRelaxDeltas {
         if additional.is_empty() {
             return Ok(());
         }
-        deltas.try_reserve(additional.len())?;
-        reserve_heads(heads, deltas.len() + additional.len())?;
-        if first_invalid(additional).is_none() {
-            insert_ascending(deltas, heads, additional);
-            return Ok(());
+        if are_valid(additional) {
+            return insert_ascending(deltas, heads, additional);
         }
         let pairs = sorted(copy_deletions(additional)?);
-        insert_ascending(deltas, heads, &pairs);
-        Ok(())
+        insert_ascending(deltas, heads, &pairs)
     }
 
     /// Whether the pairs may be merged: their ends are at most `u64::MAX`, and of any two
@@ -163,11 +148,11 @@ impl SectionRelaxDeltas {
     /// Adds the deletions of all batches, or of none where it runs out of memory.
     ///
     /// What is listed is then as `new` makes it of the old and all additional pairs, sorted. Before
-    /// anything changes the list grows, and the heads of its blocks, and
-    /// all pairs are copied: memory is allocated at most once for each, and not at all where no
-    /// batch has a pair. But for that growth the work is O(k + m) for k pairs in all batches and
-    /// the m deltas after the first of them, and O(k log k) more where the pairs don't ascend, from
-    /// each batch to the next too. `are_mergeable` tests what it requires.
+    /// anything changes the list grows, and the heads of its blocks, and all pairs are copied:
+    /// memory is allocated at most once for each, and not at all where no batch has a pair. But for
+    /// that growth the work is O(k + m) for k pairs in all batches and the m deltas after the first
+    /// of them, and O(k log k) more where the pairs don't ascend, from each batch to the next too.
+    /// `are_mergeable` tests what it requires.
     ///
     /// # Requires
     ///
@@ -176,15 +161,11 @@ impl SectionRelaxDeltas {
     pub fn merge_all(&mut self, batches: &[Vec<(u64, u32)>]) -> Result<(), OutOfMemory> {
         let deltas = &mut self.deltas;
         let heads = &mut self.heads;
-        let count = count_pairs(batches);
-        if count == 0 {
+        if count_pairs(batches) == 0 {
             return Ok(());
         }
-        deltas.try_reserve(count)?;
-        reserve_heads(heads, deltas.len() + count)?;
         let pairs = sorted(all_pairs(batches)?);
-        insert_ascending(deltas, heads, &pairs);
-        Ok(())
+        insert_ascending(deltas, heads, &pairs)
     }
 
     /// Whether all batches together may be merged, as `is_mergeable` says of their pairs.

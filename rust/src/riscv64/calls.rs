@@ -119,11 +119,7 @@ impl LinkRegister {
             LinkRegister::OfAuipc => Some(destination(auipc)),
             LinkRegister::OfJalr => {
                 let jalr = u32_from_slice(&section[start + 4..]);
-                if is_call_pair(auipc, jalr) {
-                    Some(destination(jalr))
-                } else {
-                    None
-                }
+                is_call_pair(auipc, jalr).then_some(destination(jalr))
             }
         }
     }

@@ -82,12 +82,6 @@ fn put_word(section: &mut [u8], offset: u64, word: u32) {
     overwrite(section, offset, &word.to_le_bytes());
 }
 
-/// Writes a compressed instruction at an offset of the section.
-#[inline(always)]
-fn put_half(section: &mut [u8], offset: u64, half: u16) {
-    overwrite(section, offset, &half.to_le_bytes());
-}
-
 /// Bits 20 to 31 of an instruction, which are an immediate, or a register and a further function.
 #[inline(always)]
 fn upper_bits(word: u32) -> u64 {
@@ -236,7 +230,7 @@ impl RelaxationKind {
             RelaxationKind::Hi20ToCLui => {
                 let lui = half_at(section_bytes, offset);
                 let c_lui = 0x6001 | (lui >> 7 & 0x1f) << 7;
-                put_half(section_bytes, offset, c_lui);
+                overwrite(section_bytes, offset, &c_lui.to_le_bytes());
             }
             RelaxationKind::Lo12Rs1ToZero => {
                 let word = u32_from_slice(&section_bytes[offset as usize..]);
@@ -264,7 +258,7 @@ impl RelaxationKind {
             }
             RelaxationKind::CLuiToCLi => {
                 let rd = half_at(section_bytes, offset) / 128 % 32;
-                put_half(section_bytes, offset, 0x4001 + rd * 128);
+                overwrite(section_bytes, offset, &(0x4001 + rd * 128).to_le_bytes());
             }
         }
     }
@@ -351,10 +345,7 @@ impl RelaxationKind {
     #[must_use]
     #[inline]
     pub fn skipped_offset(self) -> Option<u64> {
-        match self.next_modifier() {
-            RelocationModifier::SkipNextRelocation => Some(0),
-            RelocationModifier::Normal => None,
-        }
+        matches!(self.next_modifier(), RelocationModifier::SkipNextRelocation).then_some(0)
     }
 
     /// The bytes to be deleted after the rewrite. `None` where there are none: only `CallToJal`,

@@ -44,10 +44,7 @@ impl AsChoice for u8 {
 /// How many of the calls have their second instruction below an offset.
 fn calls_below<C: AsCall>(calls: &[C], offset: u64) -> usize {
     let bound = offset.saturating_sub(4);
-    calls.partition_point(|call| {
-        let (site, _) = call.as_call();
-        site < bound
-    })
+    calls.partition_point(|call| call.as_call().0 < bound)
 }
 
 /// How many calls are chosen from an index up to another.

@@ -1,7 +1,7 @@
 -- What holds of the fields of deltas and of a cursor, and of what searches and tests in them find.
 use Rattle.std.specs.Prelude.{◌≡◌, ℕ, ◌+◌, ◌-◌, ◌<◌, ◌≤◌, List, length, map, take, slice_index_or}
 use Rattle.std.specs.Prelude.{All, AllPairs, Any, Bool, true}
-use Rattle.std.specs.Prelude.{false, ◌++◌, drop, IsPermutation}
+use Rattle.std.specs.Prelude.{false, ◌++◌, drop}
 use Rattle.linker_base.specs.declared.relaxation.RelaxDelta.{RelaxDelta}
 use Rattle.linker_base.specs.declared.relaxation.blocks.BlockHead.{BlockHead}
 use Rattle.linker_base.specs.declared.relaxation.walk.Reached.{Reached}
@@ -9,7 +9,7 @@ use Rattle.linker_base.specs.Deletions.{IsBefore, DoNotOverlap, EndFits, AreDisj
 use Rattle.linker_base.specs.Deletions.{bytes_of}
 use Rattle.linker_base.specs.Deltas.{deletion_of}
 use Rattle.linker_base.specs.Blocks.{AreHeads}
-use Rattle.linker_base.specs.Listed.{AreValidDeltas, AreValidTogether}
+use Rattle.linker_base.specs.Listed.{AreValidDeltas}
 
 -- what holds of the fields of a section's deltas
 pub record IsSound (list : List RelaxDelta) (blocks : List BlockHead) : Type 0 where
@@ -32,27 +32,17 @@ pub record IsRun (from next : ℕ) (deletions : List (ℕ × ℕ)) : Type 0 wher
   pub end : All (λ d. (d.0 < next) × (d.0 + d.1 ≤ next)) deletions
   pub least : (i : ℕ) → from ≤ i → All (λ d. (d.0 < i) × (d.0 + d.1 ≤ i)) deletions → next ≤ i
 
--- a deletion begins at an offset or above, and fits
-pub record CanFollow (from : ℕ) (deletion : ℕ × ℕ) : Type 0 where
-  pub begin : from ≤ deletion.0
-  pub fits : EndFits deletion
-
 -- of two deletions in order the second lies below the first, or above it
 abbrev pub Goes : Bool → ℕ × ℕ → ℕ × ℕ → Type 0
 Goes true a b = IsBefore b a
 Goes false a b = IsBefore a b
 
--- what was passed of both lists is a run up to `next`, and none of it lies above what comes next
-pub record AreWalked (ds ps : List (ℕ × ℕ)) (i j next : ℕ) : Type 0 where
-  pub run : List (ℕ × ℕ)
-  pub same : IsPermutation (take i ds ++ take j ps) run
-  pub rises : IsRun 0 next run
-  pub old : IsValid (take i ds)
-  pub added : IsValid (take j ps)
-  pub below_old : AreValidTogether ds ps → i < length ds
-      → All (λ p. p.0 ≤ (slice_index_or ds i (0, 0)).0) (take j ps)
-  pub below_added : AreValidTogether ds ps → j < length ps
-      → All (λ d. d.0 ≤ (slice_index_or ps j (0, 0)).0) (take i ds)
+-- the lower of the next deletions of both lists is the first list's, or the second's
+abbrev pub IsLower : List (ℕ × ℕ) → List (ℕ × ℕ) → ℕ → ℕ → ℕ × ℕ → Bool → Type 0
+IsLower ds ps i j d true = (i < length ds) × (d ≡ slice_index_or ds i (0, 0))
+    × (j < length ps → d.0 ≤ (slice_index_or ps j (0, 0)).0)
+IsLower ds ps i j d false = (j < length ps) × (d ≡ slice_index_or ps j (0, 0))
+    × (i < length ds → d.0 ≤ (slice_index_or ds i (0, 0)).0)
 
 -- deletions that fit, and all descend or all ascend
 pub record GoOneWay (falls : Bool) (deletions : List (ℕ × ℕ)) : Type 0 where

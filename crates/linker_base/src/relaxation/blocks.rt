@@ -1,6 +1,6 @@
 //! Deltas in blocks of 64, and translations that look at the head of each block first.
 
-ghost use Rattle.std.specs.Prelude.{◌≡◌, ◌<◌, ◌≤◌, ◌+◌, ◌-◌, ◌*◌, ◌^◌, ℕ, List, OnOk, length};
+ghost use Rattle.std.specs.Prelude.{◌≡◌, ◌<◌, ◌≤◌, ◌+◌, ◌-◌, ◌*◌, ◌^◌, ℕ, List, length};
 ghost use Rattle.std.specs.Prelude.{slice_index_or, vec_len, vec_capacity};
 ghost use Rattle.linker_base.specs.declared.relaxation.RelaxDelta.{RelaxDelta};
 ghost use Rattle.linker_base.specs.declared.relaxation.blocks.BlockHead.{BlockHead};
@@ -10,9 +10,9 @@ ghost use Rattle.linker_base.specs.Deltas.{deletions_of};
 ghost use Rattle.linker_base.specs.Listed.{AreValidDeltas};
 ghost use Rattle.linker_base.specs.Inner.Search.{list_subject};
 
+use super::RelaxDelta;
 use super::delta_slice::rank_after;
 use super::search::{Level, Probe, Test, count_passing};
-use super::{OutOfMemory, RelaxDelta};
 use std::marker::Model;
 
 /// How many deltas a block has. The last block may have fewer.
@@ -36,7 +36,10 @@ impl BlockHead {
     {
         BlockHead {
             input_offset: delta.input_offset,
-            output_offset: delta.output_offset(),
+            output_offset: delta
+                .input_offset
+                .wrapping_add(u64::from(delta.bytes_deleted))
+                .wrapping_sub(delta.cumulative_deleted),
         }
     }
 }
@@ -172,15 +175,6 @@ impl<'a> Looks for Counted<'a> {
         self.count += 1;
         self.deltas[index]
     }
-}
-
-/// Makes room for the heads of so many deltas.
-pub(super) fn reserve_heads(heads: &mut Vec<BlockHead>, len: usize) -> Result<(), OutOfMemory>
-    ensures same { heads.new.items ≡ heads.old.items }
-    ensures room { OnOk result (blocks_of len ≤ vec_capacity heads.new) }
-{
-    heads.reserve(count_blocks(len).saturating_sub(heads.len()))?;
-    Ok(())
 }
 
 /// Puts the heads of the other blocks after those of the first blocks.

@@ -8,7 +8,8 @@ ghost use Rattle.linker_base.specs.Walk.{Walk, passed_bytes, walk_to, walk_throu
 ghost use Rattle.linker_base.specs.Walk.{CanTranslate, AreAhead};
 
 use super::RelaxDelta;
-use super::walk::{Reached, ascend, pass, walk};
+use super::delta_slice::DeltaSlice;
+use super::walk::{Reached, pass, walk};
 use std::marker::Model;
 
 /// A walk through the deletions of a section, for offsets that are translated in order.
@@ -100,7 +101,7 @@ impl<'a> RelaxCursor<'a> {
     pub fn can_translate_all(&self, queries: &[u64]) -> bool
         ensures { IsTrue result ↔ AreAhead self.now queries.now }
     {
-        ascend(queries) && (queries.is_empty() || self.is_ahead(queries[0]))
+        DeltaSlice::can_translate_all(queries) && (queries.is_empty() || self.is_ahead(queries[0]))
     }
 
     /// How many deltas were passed since the cursor was made: the turns of the loop that passes

@@ -14,10 +14,9 @@ ghost use Rattle.linker_base.specs.Inner.Listed.{IsOnlyAt};
 
 use super::RelaxDelta;
 use super::blocks::{BLOCK_LEN, BlockHead, count_blocks, write_heads};
-use super::merge::merge_apart;
-use super::overlap::{self, AsDeletion, first_invalid};
+use super::overlap::{self, AsDeletion, are_valid, lower, next_of};
 use super::search::{Level, Probe, Test, count_passing};
-use super::walk::{Reached, ascend, walk};
+use super::walk::{Reached, walk};
 use std::alloc::Global;
 use std::marker::Model;
 
@@ -106,7 +105,7 @@ impl<'a> DeltaSlice<'a> {
     pub fn has_valid_deltas(&self) -> bool
         ensures { IsTrue result ↔ AreValidDeltas self.now.deltas }
     {
-        first_invalid(self.deltas).is_none() && have_sums(self.deltas)
+        are_valid(self.deltas) && have_sums(self.deltas)
     }
 
     /// How many blocks of `BLOCK_LEN` deltas there are; the last may be shorter.
@@ -336,7 +335,7 @@ impl<'a> DeltaSlice<'a> {
     pub fn can_translate_all(queries: &[u64]) -> bool
         ensures { IsTrue result ↔ IsNonDecreasing queries.now }
     {
-        ascend(queries)
+        queries.is_sorted()
     }
 
     /// Whether the additional deletions, in any order, may be merged: each ends at `u64::MAX` or
@@ -410,7 +409,29 @@ impl<'a> DeltaSlice<'a> {
             (deletions_of merged.new) }
         ensures listed { AreValidDeltas merged.new }
     {
-        merge_apart(self.deltas(), additional, merged);
+        let deltas = self.deltas();
+        let (mut passed, mut taken, mut bytes) = (0, 0, 0);
+        while passed < deltas.len() && taken < additional.len() {
+            let (deletion, is_old) = lower(deltas, additional, passed, taken);
+            bytes += u64::from(deletion.1);
+            merged[passed + taken] = RelaxDelta {
+                input_offset: deletion.0,
+                cumulative_deleted: bytes,
+                bytes_deleted: deletion.1,
+            };
+            passed += usize::from(is_old);
+            taken += usize::from(!is_old);
+        }
+        while let Some((deletion, is_old)) = next_of(deltas, additional, passed, taken) {
+            bytes += u64::from(deletion.1);
+            merged[passed + taken] = RelaxDelta {
+                input_offset: deletion.0,
+                cumulative_deleted: bytes,
+                bytes_deleted: deletion.1,
+            };
+            passed += usize::from(is_old);
+            taken += usize::from(!is_old);
+        }
     }
 }
 

@@ -1,17 +1,16 @@
 //! Merges: the growth of deltas in place, and lists apart.
 
-ghost use Rattle.std.specs.Prelude.{◌≡◌, ◌≤◌, ◌<◌, ◌+◌, ◌-◌, ◌^◌, ◌++◌, ℕ, IfOk, map, min};
-ghost use Rattle.std.specs.Prelude.{length, take, slice_index_or, vec_len, vec_capacity};
+ghost use Rattle.std.specs.Prelude.{◌≡◌, ◌≤◌, ◌<◌, ◌+◌, ◌-◌, ◌^◌, ◌++◌, ℕ, IfOk, OnOk, OnErr, map};
+ghost use Rattle.std.specs.Prelude.{length, min, take, slice_index_or, vec_len, vec_capacity};
 ghost use Rattle.linker_base.specs.declared.relaxation.RelaxDelta.{RelaxDelta};
 ghost use Rattle.linker_base.specs.Deletions.{AreDisjoint, IsValid, IsSortedUnion, bytes_of};
 ghost use Rattle.linker_base.specs.Deltas.{deletion_of, pairs_of};
 ghost use Rattle.linker_base.specs.Listed.{AreValidDeltas, AreValidTogether};
-ghost use Rattle.linker_base.specs.Blocks.{blocks_of};
 ghost use Rattle.linker_base.specs.Inner.Listed.{IsSound};
 
 use super::blocks::{BlockHead, count_blocks, fill_heads};
 use super::delta_slice::bytes_of_first;
-use super::overlap::{AsDeletion, first_invalid};
+use super::overlap::{AsDeletion, are_valid};
 use super::{OutOfMemory, RelaxDelta};
 use std::alloc::Global;
 
@@ -60,33 +59,35 @@ pub(super) fn sorted(pairs: Vec<(u64, u32)>) -> Vec<(u64, u32)>
     ensures { IsSortedUnion pairs.items result.items }
 {
     let mut sorted = pairs;
-    if first_invalid(&sorted).is_some() {
+    if !are_valid(&sorted) {
         sorted.sort_unstable_by_key(|pair| pair.0);
     }
     sorted
 }
 
-// Adds pairs that ascend, and writes the heads from the first block on that changes.
+// Adds pairs that ascend, and writes the heads from the first block on that changes. Both grow
+// before anything changes.
 pub(super) fn insert_ascending(
     deltas: &mut Vec<RelaxDelta>,
     heads: &mut Vec<BlockHead>,
     pairs: &[(u64, u32)],
-)
+) -> Result<(), OutOfMemory>
     requires sound { IsSound deltas.old.items heads.old.items }
-    requires room { vec_len deltas.old + length pairs.now ≤ vec_capacity deltas.old }
-    requires heads_room { blocks_of (vec_len deltas.old + length pairs.now) ≤ vec_capacity
-        heads.old }
     requires ascending { IsValid pairs.now }
     requires disjoint { AreDisjoint (map deletion_of deltas.old.items ++ pairs.now) }
     ensures sound { IsSound deltas.new.items heads.new.items }
-    ensures union { IsSortedUnion (map deletion_of deltas.old.items ++ pairs.now)
-        (map deletion_of deltas.new.items) }
+    ensures ok { OnOk result (IsSortedUnion (map deletion_of deltas.old.items ++ pairs.now)
+        (map deletion_of deltas.new.items)) }
+    ensures err { OnErr result (deltas.new.items ≡ deltas.old.items) }
 {
     let count = deltas.len();
+    deltas.reserve(pairs.len())?;
+    heads.reserve(count_blocks(count + pairs.len()).saturating_sub(heads.len()))?;
     append(deltas, pairs);
     let kept = merge_in_place(deltas, count, pairs);
     heads.truncate(count_blocks(kept));
     fill_heads(deltas, heads);
+    Ok(())
 }
 
 // Appends the pairs to the deltas, with no sum yet.
@@ -158,65 +159,6 @@ fn merge_in_place(merged: &mut [RelaxDelta], count: usize, additional: &[(u64, u
         left -= 1;
     }
     old
-}
-
-// Writes the deltas of two lists, merged from the front. Which of both comes next is unpredictable,
-// and no branch depends on it. Both have as many left as there are turns, so that a turn tests
-// neither.
-pub(super) fn merge_apart<D: AsDeletion>(
-    deltas: &[RelaxDelta],
-    additional: &[D],
-    merged: &mut [RelaxDelta],
-)
-    requires room { length deltas.now + length additional.now ≡ length merged.old }
-    requires valid { AreValidTogether (map deletion_of deltas.now)
-        (map D.deletion additional.now) }
-    ensures union { IsSortedUnion (map deletion_of deltas.now ++ map D.deletion additional.now)
-        (map deletion_of merged.new) }
-    ensures listed { AreValidDeltas merged.new }
-{
-    let (mut passed, mut taken) = (0, 0);
-    let mut bytes = 0;
-    while passed < deltas.len() && taken < additional.len() {
-        let mut turns = (deltas.len() - passed).min(additional.len() - taken);
-        while turns > 0 {
-            let old = deltas[passed].as_deletion();
-            let added = additional[taken].as_deletion();
-            let is_old = old.0 < added.0;
-            let delta = delta_after(bytes, if is_old { old } else { added });
-            bytes = delta.cumulative_deleted;
-            merged[passed + taken] = delta;
-            passed += usize::from(is_old);
-            taken += usize::from(!is_old);
-            turns -= 1;
-        }
-    }
-    while passed < deltas.len() {
-        let delta = delta_after(bytes, deltas[passed].as_deletion());
-        bytes = delta.cumulative_deleted;
-        merged[passed + taken] = delta;
-        passed += 1;
-    }
-    while taken < additional.len() {
-        let delta = delta_after(bytes, additional[taken].as_deletion());
-        bytes = delta.cumulative_deleted;
-        merged[passed + taken] = delta;
-        taken += 1;
-    }
-}
-
-// The delta of a deletion, where so many bytes are deleted before it.
-#[inline(always)]
-fn delta_after(before: u64, deletion: (u64, u32)) -> RelaxDelta
-    requires { before + deletion.1 < 2 ^ 64 }
-    ensures deletion { deletion_of result ≡ deletion }
-    ensures sum { result.cumulative_deleted ≡ before + deletion.1 }
-{
-    RelaxDelta {
-        input_offset: deletion.0,
-        cumulative_deleted: before + u64::from(deletion.1),
-        bytes_deleted: deletion.1,
-    }
 }
 
 // The bytes that the deletions of a valid list take together.

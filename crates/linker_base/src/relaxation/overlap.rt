@@ -10,8 +10,8 @@ ghost use Rattle.linker_base.specs.Deletions.{IsBefore, DoNotOverlap, EndFits, A
 ghost use Rattle.linker_base.specs.Deletions.{IsValid};
 ghost use Rattle.linker_base.specs.Deltas.{deletion_of, pairs_of};
 ghost use Rattle.linker_base.specs.Listed.{IsFirstInvalid, IsFirstOverlapping, AreValidTogether};
-ghost use Rattle.linker_base.specs.Inner.Listed.{IsRun, CanFollow, Goes, GoOneWay, AreApart};
-ghost use Rattle.linker_base.specs.Inner.Listed.{AreDisjointBeside, AreFirstDisjoint, AreWalked};
+ghost use Rattle.linker_base.specs.Inner.Listed.{IsRun, IsLower, Goes, GoOneWay, AreApart};
+ghost use Rattle.linker_base.specs.Inner.Listed.{AreDisjointBeside, AreFirstDisjoint};
 
 use super::RelaxDelta;
 use super::delta_slice::DeltaSlice;
@@ -71,13 +71,30 @@ pub fn first_invalid<D: AsDeletion>(deletions: &[D]) -> Option<usize>
         (IsFirstInvalid (map D.deletion deletions.now)) }
 {
     let rising = count_rising(deletions);
-    if rising > 0 && !end_fits(deletions[rising - 1].as_deletion()) {
+    if rising > 0 && !end_fits(pair_at(deletions, rising - 1)) {
         return Some(rising - 1);
     }
     if rising < deletions.len() {
         return Some(rising);
     }
     None
+}
+
+// Whether the list is valid.
+#[inline]
+pub(super) fn are_valid<D: AsDeletion>(deletions: &[D]) -> bool
+    ensures { IsTrue result ↔ IsValid (map D.deletion deletions.now) }
+{
+    first_invalid(deletions).is_none()
+}
+
+// The deletion at an index.
+#[inline(always)]
+fn pair_at<D: AsDeletion>(deletions: &[D], at: usize) -> (u64, u32)
+    requires { at < length deletions.now }
+    ensures { result ≡ slice_index_or (map D.deletion deletions.now) at (0, 0) }
+{
+    deletions[at].as_deletion()
 }
 
 // How many of the first deletions lie each below the next. So all of them but the last fit. Four
@@ -99,9 +116,7 @@ fn count_rising<D: AsDeletion>(deletions: &[D]) -> usize
     while deletions.len() > 3 && at < deletions.len() - 3 && four_rise(deletions, at) {
         at += 4;
     }
-    while at < deletions.len()
-        && is_before(deletions[at - 1].as_deletion(), deletions[at].as_deletion())
-    {
+    while at < deletions.len() && is_before(pair_at(deletions, at - 1), pair_at(deletions, at)) {
         at += 1;
     }
     at
@@ -116,11 +131,11 @@ fn four_rise<D: AsDeletion>(deletions: &[D], at: usize) -> bool
         → IsBefore (slice_index_or (map D.deletion deletions.now) k (0, 0))
         (slice_index_or (map D.deletion deletions.now) (k + 1) (0, 0)) }
 {
-    let before = deletions[at - 1].as_deletion();
-    let first = deletions[at].as_deletion();
-    let second = deletions[at + 1].as_deletion();
-    let third = deletions[at + 2].as_deletion();
-    let fourth = deletions[at + 3].as_deletion();
+    let before = pair_at(deletions, at - 1);
+    let first = pair_at(deletions, at);
+    let second = pair_at(deletions, at + 1);
+    let third = pair_at(deletions, at + 2);
+    let fourth = pair_at(deletions, at + 3);
     is_before(before, first)
         & is_before(first, second)
         & is_before(second, third)
@@ -168,7 +183,7 @@ pub(super) fn can_be_merged_sorted<D: AsDeletion>(
         additional.now)) }
 {
     if additional.len() > SORTED_LEN
-        && first_invalid(additional).is_some()
+        && !are_valid(additional)
         && falling_len(additional) < additional.len()
     {
         if let Ok(pairs) = copy_deletions(alloc, additional) {
@@ -207,97 +222,83 @@ pub(super) fn are_valid_together<D: AsDeletion>(deltas: &[RelaxDelta], additiona
     if additional.len() > deltas.len() / 16 {
         return rise_together(deltas, additional);
     }
-    first_invalid(additional).is_none()
-        && first_invalid(deltas).is_none()
-        && can_be_merged(deltas, additional)
+    are_valid(additional) && are_valid(deltas) && can_be_merged(deltas, additional)
 }
 
-// The same, by a walk through both. Which of both comes next is unpredictable, and no branch
-// depends on it. Both have as many left as there are turns, so that a turn tests neither.
+// The same, by a walk through both. Only at the very end of the offsets are 64 bits too few.
 fn rise_together<D: AsDeletion>(deltas: &[RelaxDelta], additional: &[D]) -> bool
     ensures { IsTrue result ↔ AreValidTogether (map deletion_of deltas.now)
         (map D.deletion additional.now) }
 {
-    let (mut passed, mut taken) = (0, 0);
-    let mut next = 0;
+    let (mut passed, mut taken, mut low) = (0, 0, 0);
     while passed < deltas.len() && taken < additional.len() {
-        let mut turns = (deltas.len() - passed).min(additional.len() - taken);
-        while turns > 0 {
-            let old = deltas[passed].as_deletion();
-            let added = additional[taken].as_deletion();
-            let is_old = old.0 < added.0;
-            let deletion = if is_old { old } else { added };
-            // Only at the very end of the offsets, or past it, 64 bits are too few.
-            let Some(after) = deletion.0.checked_add(u64::from(deletion.1).max(1)) else {
-                return rise_on(deltas, additional, passed, taken, u128::from(next));
-            };
-            if deletion.0 < next {
-                return false;
-            }
-            next = after;
-            passed += usize::from(is_old);
-            taken += usize::from(!is_old);
-            turns -= 1;
-        }
-    }
-    rise_on(deltas, additional, passed, taken, u128::from(next))
-}
-
-// The walk from the first deletions on that it has passed, up to the offset `from`.
-fn rise_on<D: AsDeletion>(
-    deltas: &[RelaxDelta],
-    additional: &[D],
-    passed: usize,
-    taken: usize,
-    from: u128,
-) -> bool
-    requires { AreWalked (map deletion_of deltas.now) (map D.deletion additional.now) passed taken
-        from }
-    ensures { IsTrue result ↔ AreValidTogether (map deletion_of deltas.now)
-        (map D.deletion additional.now) }
-{
-    let (mut passed, mut taken) = (passed, taken);
-    let mut next = from;
-    while passed < deltas.len() && taken < additional.len() {
-        let old = deltas[passed].as_deletion();
-        let added = additional[taken].as_deletion();
-        let is_old = old.0 < added.0;
-        let Some(after) = follow(next, if is_old { old } else { added }) else {
-            return false;
+        let (deletion, is_old) = lower(deltas, additional, passed, taken);
+        let Some(after) = deletion.0.checked_add(u64::from(deletion.1).max(1)) else {
+            break;
         };
-        next = after;
+        if deletion.0 < low {
+            return false;
+        }
+        low = after;
         passed += usize::from(is_old);
         taken += usize::from(!is_old);
     }
-    while passed < deltas.len() {
-        let Some(after) = follow(next, deltas[passed].as_deletion()) else {
+    let mut next = u128::from(low);
+    while let Some((deletion, is_old)) = next_of(deltas, additional, passed, taken) {
+        let begin = u128::from(deletion.0);
+        if begin < next || !end_fits(deletion) {
             return false;
-        };
-        next = after;
-        passed += 1;
-    }
-    while taken < additional.len() {
-        let Some(after) = follow(next, additional[taken].as_deletion()) else {
-            return false;
-        };
-        next = after;
-        taken += 1;
+        }
+        next = begin + u128::from(deletion.1).max(1);
+        passed += usize::from(is_old);
+        taken += usize::from(!is_old);
     }
     true
 }
 
-// The lowest offset that may follow the deletion, where that begins at `from` or above and fits. It
-// may be one past the 64 bits of an offset.
+// The lower of the next deletions of both lists, and whether it is the first list's. Which of both
+// it is is unpredictable, and no branch depends on it.
 #[inline(always)]
-fn follow(from: u128, deletion: (u64, u32)) -> Option<u128>
-    ensures { MatchOption result (¬ (CanFollow from deletion))
-        (λ next. CanFollow from deletion × (next ≡ deletion.0 + max deletion.1 1)) }
+pub(super) fn lower<D: AsDeletion>(
+    deltas: &[RelaxDelta],
+    additional: &[D],
+    passed: usize,
+    taken: usize,
+) -> ((u64, u32), bool)
+    requires old { passed < length deltas.now }
+    requires added { taken < length additional.now }
+    ensures { IsLower (map deletion_of deltas.now) (map D.deletion additional.now) passed taken
+        result.0 result.1 }
 {
-    let begin = u128::from(deletion.0);
-    if begin < from || !end_fits(deletion) {
-        return None;
+    let old = pair_at(deltas, passed);
+    let added = pair_at(additional, taken);
+    let is_old = old.0 < added.0;
+    (if is_old { old } else { added }, is_old)
+}
+
+// The same, also where one list has no more deletions. None where neither has.
+#[inline(always)]
+pub(super) fn next_of<D: AsDeletion>(
+    deltas: &[RelaxDelta],
+    additional: &[D],
+    passed: usize,
+    taken: usize,
+) -> Option<((u64, u32), bool)>
+    ensures { MatchOption result
+        ((length deltas.now ≤ passed) × (length additional.now ≤ taken))
+        (λ next. IsLower (map deletion_of deltas.now) (map D.deletion additional.now) passed taken
+        next.0 next.1) }
+{
+    if passed >= deltas.len() {
+        if taken >= additional.len() {
+            return None;
+        }
+        return Some((pair_at(additional, taken), false));
     }
-    Some(begin + u128::from(deletion.1).max(1))
+    if taken >= additional.len() {
+        return Some((pair_at(deltas, passed), true));
+    }
+    Some(lower(deltas, additional, passed, taken))
 }
 
 // How many of the first deletions make a valid list.
@@ -306,10 +307,7 @@ fn valid_len<D: AsDeletion>(deletions: &[D]) -> usize
     ensures within { result ≤ length deletions.now }
     ensures valid { IsValid (take result (map D.deletion deletions.now)) }
 {
-    match first_invalid(deletions) {
-        Some(at) => at,
-        None => deletions.len(),
-    }
+    first_invalid(deletions).unwrap_or(deletions.len())
 }
 
 // How many of the first deletions descend; each of them fits.
@@ -317,13 +315,11 @@ fn falling_len<D: AsDeletion>(deletions: &[D]) -> usize
     ensures within { result ≤ length deletions.now }
     ensures falling { GoOneWay true (take result (map D.deletion deletions.now)) }
 {
-    if deletions.is_empty() || !end_fits(deletions[0].as_deletion()) {
+    if deletions.is_empty() || !end_fits(pair_at(deletions, 0)) {
         return 0;
     }
     let mut at = 1;
-    while at < deletions.len()
-        && is_before(deletions[at].as_deletion(), deletions[at - 1].as_deletion())
-    {
+    while at < deletions.len() && is_before(pair_at(deletions, at), pair_at(deletions, at - 1)) {
         at += 1;
     }
     at
@@ -427,7 +423,7 @@ fn are_sorted_apart<D: AsDeletion>(
     let sorted = &mut room[..count];
     copy_first(deletions, count, sorted);
     sorted.sort_unstable_by_key(|pair| pair.0);
-    if let Some(_) = first_invalid(sorted) {
+    if !are_valid(sorted) {
         return false;
     }
     are_apart(sorted, false, &deletions[count..], batches)
@@ -440,7 +436,7 @@ fn copy_first<D: AsDeletion>(deletions: &[D], count: usize, pairs: &mut [(u64, u
     ensures { pairs.new ≡ take count (map D.deletion deletions.now) }
 {
     for at in 0..count {
-        pairs[at] = deletions[at].as_deletion();
+        pairs[at] = pair_at(deletions, at);
     }
 }
 
@@ -465,7 +461,7 @@ fn are_beside_run<R: AsDeletion, D: AsDeletion>(run: &[R], falls: bool, others: 
     ensures { IsTrue result ↔ AreApart (map R.deletion run.now) (map D.deletion others.now) }
 {
     for at in 0..others.len() {
-        if !is_beside_run(run, falls, others[at].as_deletion()) {
+        if !is_beside_run(run, falls, pair_at(others, at)) {
             return false;
         }
     }
@@ -498,7 +494,7 @@ fn is_beside_run<R: AsDeletion>(run: &[R], falls: bool, deletion: (u64, u32)) ->
     let (mut low, mut high) = (0, run.len());
     while low < high {
         let middle = low + (high - low) / 2;
-        let other = run[middle].as_deletion();
+        let other = pair_at(run, middle);
         let is_below = is_before(other, deletion);
         if !is_below && !is_before(deletion, other) {
             return false;
@@ -563,7 +559,7 @@ fn are_beside_deltas<D: AsDeletion>(deltas: &[RelaxDelta], deletions: &[D]) -> b
         → (IsTrue result ↔ AreApart (map deletion_of deltas.now) (map D.deletion deletions.now)) }
 {
     for at in 0..deletions.len() {
-        if !is_beside_deltas(deltas, deletions[at].as_deletion()) {
+        if !is_beside_deltas(deltas, pair_at(deletions, at)) {
             return false;
         }
     }

@@ -89,11 +89,3 @@ pub(super) fn walk(
     }
     reached
 }
-
-// Whether the offsets don't decrease.
-#[inline]
-pub(super) fn ascend(offsets: &[u64]) -> bool
-    ensures { IsTrue result ↔ IsNonDecreasing offsets.now }
-{
-    offsets.is_sorted()
-}

@@ -3,9 +3,9 @@
 
 use alloc::vec::Vec;
 use crate::support::*;
+use super::RelaxDelta;
 use super::delta_slice::rank_after;
 use super::search::{Level, Probe, Test, count_passing};
-use super::{OutOfMemory, RelaxDelta};
 
 /// How many deltas a block has. The last block may have fewer.
 pub const BLOCK_LEN: usize = 64;
@@ -26,7 +26,10 @@ impl BlockHead {
     pub(super) fn of(delta: &RelaxDelta) -> BlockHead {
         BlockHead {
             input_offset: delta.input_offset,
-            output_offset: delta.output_offset(),
+            output_offset: delta
+                .input_offset
+                .wrapping_add(u64::from(delta.bytes_deleted))
+                .wrapping_sub(delta.cumulative_deleted),
         }
     }
 }
@@ -133,12 +136,6 @@ impl<'a> Looks for Counted<'a> {
         self.count += 1;
         self.deltas[index]
     }
-}
-
-/// Makes room for the heads of so many deltas.
-pub(super) fn reserve_heads(heads: &mut Vec<BlockHead>, len: usize) -> Result<(), OutOfMemory> {
-    heads.try_reserve(count_blocks(len).saturating_sub(heads.len()))?;
-    Ok(())
 }
 
 /// Puts the heads of the other blocks after those of the first blocks.

@@ -2,7 +2,8 @@
 //! The cursor that translates offsets in one walk through the deletions.
 
 use super::RelaxDelta;
-use super::walk::{Reached, ascend, pass, walk};
+use super::delta_slice::DeltaSlice;
+use super::walk::{Reached, pass, walk};
 
 /// A walk through the deletions of a section, for offsets that are translated in order.
 ///
@@ -71,7 +72,7 @@ impl<'a> RelaxCursor<'a> {
     /// Whether the queries may be given to `translate_all`, with as long an `out`.
     #[must_use]
     pub fn can_translate_all(&self, queries: &[u64]) -> bool {
-        ascend(queries) && (queries.is_empty() || self.is_ahead(queries[0]))
+        DeltaSlice::can_translate_all(queries) && (queries.is_empty() || self.is_ahead(queries[0]))
     }
 
     /// How many deltas were passed since the cursor was made: the turns of the loop that passes

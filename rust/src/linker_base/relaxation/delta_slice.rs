@@ -3,10 +3,9 @@
 
 use super::RelaxDelta;
 use super::blocks::{BLOCK_LEN, BlockHead, count_blocks, write_heads};
-use super::merge::merge_apart;
-use super::overlap::{self, AsDeletion, first_invalid};
+use super::overlap::{self, AsDeletion, are_valid, lower, next_of};
 use super::search::{Level, Probe, Test, count_passing};
-use super::walk::{Reached, ascend, walk};
+use super::walk::{Reached, walk};
 
 /// A borrowed list of deltas, of any contents, and the heads of their blocks, or none.
 ///
@@ -70,7 +69,7 @@ impl<'a> DeltaSlice<'a> {
     /// them, each with the sum of the bytes up to it. O(n).
     #[must_use]
     pub fn has_valid_deltas(&self) -> bool {
-        first_invalid(self.deltas).is_none() && have_sums(self.deltas)
+        are_valid(self.deltas) && have_sums(self.deltas)
     }
 
     /// How many blocks of `BLOCK_LEN` deltas there are; the last may be shorter.
@@ -257,7 +256,7 @@ impl<'a> DeltaSlice<'a> {
     #[must_use]
     #[inline]
     pub fn can_translate_all(queries: &[u64]) -> bool {
-        ascend(queries)
+        queries.is_sorted()
     }
 
     /// Whether the additional deletions, in any order, may be merged: each ends at `u64::MAX` or
@@ -318,7 +317,29 @@ impl<'a> DeltaSlice<'a> {
     pub fn merge_ascending<D: AsDeletion>(&self, additional: &[D], merged: &mut [RelaxDelta]) {
         debug_assert!((merged.len() as u128) == (self.len() as u128) + (additional.len() as u128));
         debug_assert!(self.can_merge_ascending(additional));
-        merge_apart(self.deltas(), additional, merged);
+        let deltas = self.deltas();
+        let (mut passed, mut taken, mut bytes) = (0, 0, 0);
+        while passed < deltas.len() && taken < additional.len() {
+            let (deletion, is_old) = lower(deltas, additional, passed, taken);
+            bytes += u64::from(deletion.1);
+            merged[passed + taken] = RelaxDelta {
+                input_offset: deletion.0,
+                cumulative_deleted: bytes,
+                bytes_deleted: deletion.1,
+            };
+            passed += usize::from(is_old);
+            taken += usize::from(!is_old);
+        }
+        while let Some((deletion, is_old)) = next_of(deltas, additional, passed, taken) {
+            bytes += u64::from(deletion.1);
+            merged[passed + taken] = RelaxDelta {
+                input_offset: deletion.0,
+                cumulative_deleted: bytes,
+                bytes_deleted: deletion.1,
+            };
+            passed += usize::from(is_old);
+            taken += usize::from(!is_old);
+        }
     }
 }
 

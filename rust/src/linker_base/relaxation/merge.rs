@@ -5,7 +5,7 @@ use alloc::vec::Vec;
 use crate::support::*;
 use super::blocks::{BlockHead, count_blocks, fill_heads};
 use super::delta_slice::bytes_of_first;
-use super::overlap::{AsDeletion, first_invalid};
+use super::overlap::{AsDeletion, are_valid};
 use super::{OutOfMemory, RelaxDelta};
 
 // How many pairs all batches have, or `usize::MAX` where they are more.
@@ -42,25 +42,29 @@ pub(super) fn copy_deletions<D: AsDeletion>(
 // The pairs in order.
 pub(super) fn sorted(pairs: Vec<(u64, u32)>) -> Vec<(u64, u32)> {
     let mut sorted = pairs;
-    if first_invalid(&sorted).is_some() {
+    if !are_valid(&sorted) {
         sorted.sort_unstable_by_key(|pair| pair.0);
     }
     sorted
 }
 
-// Adds pairs that ascend, and writes the heads from the first block on that changes.
+// Adds pairs that ascend, and writes the heads from the first block on that changes. Both grow
+// before anything changes.
 #[cfg_attr(debug_assertions, track_caller)]
 pub(super) fn insert_ascending(
     deltas: &mut Vec<RelaxDelta>,
     heads: &mut Vec<BlockHead>,
     pairs: &[(u64, u32)],
-) {
+) -> Result<(), OutOfMemory> {
     debug_assert!(super::DeltaSlice::new(deltas).can_merge_ascending(pairs));
     let count = deltas.len();
+    deltas.try_reserve(pairs.len())?;
+    heads.try_reserve(count_blocks(count + pairs.len()).saturating_sub(heads.len()))?;
     append(deltas, pairs);
     let kept = merge_in_place(deltas, count, pairs);
     heads.truncate(count_blocks(kept));
     fill_heads(deltas, heads);
+    Ok(())
 }
 
 // Appends the pairs to the deltas, with no sum yet.
@@ -118,54 +122,6 @@ fn merge_in_place(merged: &mut [RelaxDelta], count: usize, additional: &[(u64, u
         left -= 1;
     }
     old
-}
-
-// Writes the deltas of two lists, merged from the front. Which of both comes next is unpredictable,
-// and no branch depends on it. Both have as many left as there are turns, so that a turn tests
-// neither.
-pub(super) fn merge_apart<D: AsDeletion>(
-    deltas: &[RelaxDelta],
-    additional: &[D],
-    merged: &mut [RelaxDelta],
-) {
-    let (mut passed, mut taken) = (0, 0);
-    let mut bytes = 0;
-    while passed < deltas.len() && taken < additional.len() {
-        let mut turns = (deltas.len() - passed).min(additional.len() - taken);
-        while turns > 0 {
-            let old = deltas[passed].as_deletion();
-            let added = additional[taken].as_deletion();
-            let is_old = old.0 < added.0;
-            let delta = delta_after(bytes, if is_old { old } else { added });
-            bytes = delta.cumulative_deleted;
-            merged[passed + taken] = delta;
-            passed += usize::from(is_old);
-            taken += usize::from(!is_old);
-            turns -= 1;
-        }
-    }
-    while passed < deltas.len() {
-        let delta = delta_after(bytes, deltas[passed].as_deletion());
-        bytes = delta.cumulative_deleted;
-        merged[passed + taken] = delta;
-        passed += 1;
-    }
-    while taken < additional.len() {
-        let delta = delta_after(bytes, additional[taken].as_deletion());
-        bytes = delta.cumulative_deleted;
-        merged[passed + taken] = delta;
-        taken += 1;
-    }
-}
-
-// The delta of a deletion, where so many bytes are deleted before it.
-#[inline(always)]
-fn delta_after(before: u64, deletion: (u64, u32)) -> RelaxDelta {
-    RelaxDelta {
-        input_offset: deletion.0,
-        cumulative_deleted: before + u64::from(deletion.1),
-        bytes_deleted: deletion.1,
-    }
 }
 
 // The bytes that the deletions of a valid list take together.

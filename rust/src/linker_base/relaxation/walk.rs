@@ -56,9 +56,3 @@ pub(super) fn walk(
     }
     reached
 }
-
-// Whether the offsets don't decrease.
-#[inline]
-pub(super) fn ascend(offsets: &[u64]) -> bool {
-    offsets.is_sorted()
-}

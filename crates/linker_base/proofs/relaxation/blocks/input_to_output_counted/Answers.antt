@@ -4,9 +4,6 @@ use Rattle.linker_base.specs.declared.relaxation.search.Test.TheVariants.{Begins
 use Rattle.linker_base.proofs.Search.{blank, list_heads_agree, same_listed, begins_partitioned, parted_from_point, rank_at_last, rank_at_none}
 use Rattle.linker_base.proofs.relaxation.blocks.input_to_output_counted.Goals as goal
 
-pub delta-requires-clause-within : goal.delta-requires-clause-within
-delta-requires-clause-within g c = rw (same_listed c.count_passing.ensures.probes) (omega (arith, c.count_passing.ensures.within, c.in-Some.ensures.0, c.in-Some.ensures.1))
-
 pub returns-in-Some-clause-output : goal.returns-in-Some-clause-output
 returns-in-Some-clause-output g c =
     let deltas = g.K.Looks.listed c.args.looks.now in

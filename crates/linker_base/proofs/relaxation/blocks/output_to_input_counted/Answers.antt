@@ -7,9 +7,6 @@ use Rattle.linker_base.specs.declared.relaxation.search.Test.TheVariants.{IsPlac
 use Rattle.linker_base.proofs.Search.{blank, list_heads_agree, same_listed, places_partitioned, placed_from_point, selected_from_search, fits_from_search}
 use Rattle.linker_base.proofs.relaxation.blocks.output_to_input_counted.Goals as goal
 
-pub delta-requires-clause-within : goal.delta-requires-clause-within
-delta-requires-clause-within g c = rw (same_listed c.count_passing.ensures.probes) (omega (arith, c.count_passing.ensures.within, c.in-Some.ensures.0, c.in-Some.ensures.1))
-
 -- the bytes up to the last deletion that is passed
 pub overflow_add-result : goal.overflow_add-result
 overflow_add-result g c =

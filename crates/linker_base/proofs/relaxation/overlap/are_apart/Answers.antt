@@ -4,7 +4,7 @@ use Rattle.std.proofs.lemmas.Bool.{false≢true}
 use Rattle.std.proofs.lemmas.List.Elements.{All-append}
 use Rattle.linker_base.specs.Deletions.{DoNotOverlap}
 use Rattle.linker_base.specs.Deltas.{pairs_of}
-use Rattle.linker_base.proofs.Batches.{All-front, All-back}
+use Rattle.linker_base.proofs.Listed.{All-front, All-back}
 use Rattle.linker_base.proofs.relaxation.overlap.are_apart.Goals as goal
 
 pub returns-then-are_beside_run : goal.returns-then-are_beside_run

@@ -2,7 +2,8 @@ use Rattle.std.proofs.Common.{◌+◌, ◌++◌, take, drop, refl, arith}
 use Rattle.std.proofs.lemmas.Bool.{false≢true}
 use Rattle.linker_base.specs.Deletions.{IsValid}
 use Rattle.linker_base.specs.Deltas.{pairs_of}
-use Rattle.linker_base.proofs.Batches.{pairs_more, pairs_front, pairs_all, IsRun-append, IsValid-front, IsValid-back, run_goes_on_after}
+use Rattle.linker_base.proofs.Batches.{pairs_more, pairs_front, pairs_all, IsRun-append, run_goes_on_after}
+use Rattle.linker_base.proofs.Listed.{IsValid-front, IsValid-back}
 use Rattle.linker_base.proofs.relaxation.overlap.are_ascending.Goals as goal
 
 -- the batch goes on where the ones before it end

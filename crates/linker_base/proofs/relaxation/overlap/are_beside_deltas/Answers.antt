@@ -1,33 +1,28 @@
-use Rattle.std.proofs.Common.{◌≡◌, ◌<◌, length, map, get_or, refl, sym, ◌∙◌, inl, inr, arith}
-use Rattle.std.proofs.lemmas.Bool.{cases_lt, false≢true}
-use Rattle.std.proofs.lemmas.List.{get_or-map, get_or_default, length-map}
+use Rattle.std.proofs.Common.{◌<◌, length, map, take, get_or, refl, sym, ◌∙◌, arith}
+use Rattle.std.specs.Prelude.{All}
+use Rattle.std.proofs.lemmas.Bool.{false≢true}
+use Rattle.std.proofs.lemmas.List.{length-map, take_all, take_more}
+use Rattle.std.proofs.lemmas.List.Elements.{All-push}
+use Rattle.linker_base.specs.Deletions.{DoNotOverlap}
+use Rattle.linker_base.specs.Deltas.{deletion_of}
 use Rattle.linker_base.proofs.relaxation.overlap.are_beside_deltas.Goals as goal
 
 -- one that overlaps a delta denies it
 pub returns-then-not-is_beside_deltas : goal.returns-then-not-is_beside_deltas
-returns-then-not-is_beside_deltas g c listed =
-    let f = g.D.AsDeletion.deletion in
-    let xs = c.args.deletions.now in
-    let k = c.loop-at.at in
-    let within = c.loop-at-test.true in
-    let inside : k < length (map f xs) = omega (arith, length-map xs f) in
-    let here : get_or (map f xs) k (0, 0) ≡ c.as_deletion.result = get_or-map f xs k c.index-deletions-at.result (0, 0) within ∙ rw (← c.index-deletions-at.is) (sym c.as_deletion.ensures) in
-    (λ none. absurd (false≢true none), λ all. sym c.if-not-is_beside_deltas.true ∙ (c.is_beside_deltas.ensures listed).1 (rw here at (all k (0, 0) inside)))
+returns-then-not-is_beside_deltas g c listed = (
+  λ none. absurd (false≢true none),
+  λ all. sym c.if-not-is_beside_deltas.true ∙ (c.is_beside_deltas.ensures listed).1 (rw c.pair_at.ensures (all c.loop-at.at (0, 0) (omega (arith, length-map c.args.deletions.now g.D.AsDeletion.deletion, c.loop-at-test.true)))),
+)
 
 pub loop-at-preserved : goal.loop-at-preserved
-loop-at-preserved g c listed j d below =
-    let f = g.D.AsDeletion.deletion in
-    let xs = c.args.deletions.now in
+loop-at-preserved g c listed =
+    let ds = map deletion_of c.args.deltas.now in
+    let others = map g.D.AsDeletion.deletion c.args.deletions.now in
     let k = c.loop-at.at in
-    let within = c.loop-at-test.true in
-    let inside : k < length (map f xs) = omega (arith, length-map xs f) in
-    let here : get_or (map f xs) k (0, 0) ≡ c.as_deletion.result = get_or-map f xs k c.index-deletions-at.result (0, 0) within ∙ rw (← c.index-deletions-at.is) (sym c.as_deletion.ensures) in
-    elim (cases_lt j k) [
-      | inl earlier ↦ c.loop-at.invariant listed j d earlier
-      | inr last ↦
-          let same : j ≡ k = omega arith in
-          rw (same, get_or_default (map f xs) k d (0, 0) inside, here) ((c.is_beside_deltas.ensures listed).0 c.if-not-is_beside_deltas.false)
-    ]
+    let inside : k < length others = omega (arith, length-map c.args.deletions.now g.D.AsDeletion.deletion, c.loop-at-test.true) in
+    rw (take_more others k (0, 0) inside) (All-push (λ other. All (λ d. DoNotOverlap d other) ds) (take k others) (get_or others k (0, 0)) (c.loop-at.invariant listed) (rw (← c.pair_at.ensures) ((c.is_beside_deltas.ensures listed).0 c.if-not-is_beside_deltas.false)))
 
 pub returns : goal.returns
-returns g c listed = (λ _ k d within. c.loop-at.invariant listed k d (omega (arith, within, length-map c.args.deletions.now g.D.AsDeletion.deletion, c.loop-at-test.false)), λ _. refl)
+returns g c listed =
+    let others = map g.D.AsDeletion.deletion c.args.deletions.now in
+    (λ _. rw (take_all c.loop-at.at others (omega (arith, length-map c.args.deletions.now g.D.AsDeletion.deletion, c.loop-at-test.false))) at (c.loop-at.invariant listed), λ _. refl)

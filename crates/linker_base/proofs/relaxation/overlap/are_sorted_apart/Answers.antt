@@ -1,4 +1,4 @@
-use Rattle.std.proofs.Common.{◌+◌, ◌++◌, take, drop, map, subst, rules}
+use Rattle.std.proofs.Common.{◌++◌, take, drop, map, subst, rules, sym, ◌∙◌}
 use Rattle.std.specs.Prelude.{◌↔◌, IsTrue}
 use Rattle.std.specs.List.Sorted.{IsPermutation, IsNonDecreasingBy}
 use Rattle.std.proofs.lemmas.Bool.{false≢true}
@@ -6,23 +6,20 @@ use Rattle.std.proofs.lemmas.List.{map-id, drop-map, take_rest}
 use Rattle.std.proofs.lemmas.List.Sorted.{IsNonDecreasingBy-from_sort_by_key, IsPermutation-sym}
 use Rattle.linker_base.specs.Deletions.{IsValid}
 use Rattle.linker_base.specs.Deltas.{pairs_of}
-use Rattle.linker_base.specs.Listed.{IsFirstInvalid}
 use Rattle.linker_base.specs.Inner.Listed.{AreApart}
 use Rattle.linker_base.proofs.Apart.{apart_permutation_left}
-use Rattle.linker_base.proofs.Listed.{IsValid-take}
 use Rattle.linker_base.proofs.Unions.{disjoint_permutation, disjoint_from_valid, valid_from_disjoint}
 use Rattle.linker_base.proofs.relaxation.overlap.are_sorted_apart.Goals as goal
 
 -- the copy that isn't valid once sorted denies it
-pub returns-in-Some : goal.returns-in-Some
-returns-in-Some g c =
+pub returns-then-not-are_valid : goal.returns-then-not-are_valid
+returns-then-not-are_valid g c =
     let first = take c.args.count (map g.D.AsDeletion.deletion c.args.deletions.now) in
     let sorted = c.sort_unstable_by_key.new.self in
     let same : IsPermutation first sorted = rw c.copy_first.ensures at c.sort_unstable_by_key.ensures.permutation in
     let rise : IsNonDecreasingBy (λ d. d.0) sorted = IsNonDecreasingBy-from_sort_by_key (λ d. d.0) sorted c.sort_unstable_by_key.ensures.sorted (λ a r f called. search rules) in
-    let at = c.in-Some.field-0 in
-    let invalid : IsFirstInvalid sorted at = subst (λ ps. IsFirstInvalid ps at) (map-id sorted) c.in-Some.ensures in
-    (λ none. absurd (false≢true none), λ all. absurd (invalid.here (IsValid-take sorted (at + 1) (valid_from_disjoint sorted (disjoint_permutation first sorted same all.disjoint) rise))))
+    let valid : IsTrue c.are_valid.result ↔ IsValid sorted = subst (λ ps. IsTrue c.are_valid.result ↔ IsValid ps) (map-id sorted) c.are_valid.ensures in
+    (λ none. absurd (false≢true none), λ all. sym c.if-not-are_valid.true ∙ valid.1 (valid_from_disjoint sorted (disjoint_permutation first sorted same all.disjoint) rise))
 
 pub returns : goal.returns
 returns g c =
@@ -34,7 +31,7 @@ returns g c =
     let sorted = c.sort_unstable_by_key.new.self in
     let same : IsPermutation first sorted = rw c.copy_first.ensures at c.sort_unstable_by_key.ensures.permutation in
     let back = IsPermutation-sym first sorted same in
-    let valid : IsValid sorted = subst IsValid (map-id sorted) c.in_default.ensures in
+    let valid : IsValid sorted = subst IsValid (map-id sorted) (c.are_valid.ensures.0 c.if-not-are_valid.false) in
     let apart : IsTrue c.are_apart.result ↔ AreApart sorted others = subst (λ ps. IsTrue c.are_apart.result ↔ AreApart ps others) (map-id sorted) (rw (drop-map f n xs, ← take_rest xs n) c.are_apart.ensures) in (
       λ holds. record { disjoint = disjoint_permutation sorted first back (disjoint_from_valid sorted valid); apart = apart_permutation_left sorted first others back (apart.0 holds) },
       λ all. apart.1 (apart_permutation_left first sorted others same all.apart),

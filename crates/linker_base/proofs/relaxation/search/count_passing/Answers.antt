@@ -10,7 +10,3 @@ returns-clause-point g c parted agree =
     let found = rw c.narrow.ensures.probes.same at c.narrow_few.ensures.point in
     let next : c.in-Some.block + 1 ≡ c.narrow.result = omega (arith, c.in-Some.ensures.0, c.in-Some.ensures.1) in
     found parted (block_narrowed s c.args.test parted agree c.narrow.result c.in-Some.block c.min-count.result next (omega (arith, c.narrow.ensures.within, c.count_blocks.ensures, c.len-len.ensures)) point (λ low. omega (arith, c.min-count.ensures, c.len-len.ensures)))
-
-pub returns-clause-spent : goal.returns-clause-spent
-returns-clause-spent g c digits fits =
-    omega (arith, c.narrow.ensures.spent digits (omega (arith, fits, c.count_blocks.ensures, c.len-len.ensures)), c.narrow_few.ensures.spent 6 (omega (arith, c.min-count.ensures)))

@@ -28,9 +28,9 @@ pub returns-in-Hi20ToCLui-clause-bytes : goal.returns-in-Hi20ToCLui-clause-bytes
 returns-in-Hi20ToCLui-clause-bytes c =
     let s = c.args.section_bytes.now in
     let o = c.args.offset_in_section.now in
-    let made = clui_made s _ o c.half_at-lui.result (c.half_at-lui.ensures.whole ∙ ap (from_le_bytes w16) (sym (take_rest s o))) refl in
-    rewritten_as c.args.self Hi20ToCLui (replaces 0 2 hi20_to_clui) s c.put_half.new.section o c.in-Hi20ToCLui.is refl
-    (c.put_half.ensures ∙ overwritten (replaces 0 2 hi20_to_clui) s _ o o (omega arith) (search rules) made)
+    let made = clui_made s _ o c.half_at-lui.result (c.half_at-lui.ensures.whole ∙ ap (from_le_bytes w16) (sym (take_rest s o))) c.to_le_bytes.ensures in
+    rewritten_as c.args.self Hi20ToCLui (replaces 0 2 hi20_to_clui) s c.overwrite-in-Hi20ToCLui.new.section o c.in-Hi20ToCLui.is refl
+    (c.overwrite-in-Hi20ToCLui.ensures ∙ overwritten (replaces 0 2 hi20_to_clui) s _ o o (omega arith) (search rules) made)
 
 pub returns-in-Lo12Rs1ToZero-clause-bytes : goal.returns-in-Lo12Rs1ToZero-clause-bytes
 returns-in-Lo12Rs1ToZero-clause-bytes c =
