@@ -507,11 +507,11 @@ static inline size_t linker_utils_relocate_memory(const void *relocations,
  * LINKER_UTILS_UNKNOWN_ARCHITECTURE; LINKER_UTILS_SHORT_MEMORY where `memory_len` is below
  * `linker_utils_relocate_memory`. Else `faulty` is the first relocation that can't be written, and
  * the status is the first that applies: one of `linker_utils_value_at` but LINKER_UTILS_NO_VALUE;
- * LINKER_UTILS_NOT_ALIGNED; LINKER_UTILS_NEEDS_STUB; LINKER_UTILS_OVERLAPS;
- * LINKER_UTILS_OTHER_LENGTH; one of `linker_utils_relocate`, or of `linker_utils_write_uleb128`.
- * LINKER_UTILS_TOO_SHORT is also an offset past the section's end, and LINKER_UTILS_UNSUPPORTED a
- * ULEB128 number's relocation that isn't of a pair. For n relocations that ascend by offset it
- * takes O(n), and in any other order O(n log n), each beside O(log n) of a low part. */
+ * LINKER_UTILS_NOT_ALIGNED; LINKER_UTILS_NEEDS_STUB; LINKER_UTILS_OUT_OF_REACH of LoongArch's parts
+ * of 32 bits; LINKER_UTILS_OVERLAPS; LINKER_UTILS_OTHER_LENGTH; one of `linker_utils_relocate`, or
+ * of `linker_utils_write_uleb128`. LINKER_UTILS_TOO_SHORT is also an offset past the section's end,
+ * and LINKER_UTILS_UNSUPPORTED a ULEB128 number's relocation that isn't of a pair. It takes O(n)
+ * for n relocations that ascend by offset, O(n log n) for others, and O(log n) more for a low part. */
 static inline uint32_t linker_utils_relocate_section(
     uint16_t machine, const struct linker_utils_addresses *addresses, const void *relocations,
     size_t relocations_len, const struct linker_utils_symbol *symbols, size_t symbols_len,

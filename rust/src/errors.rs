@@ -378,6 +378,7 @@ impl Display for section::ValueError {
                 "the function may return with another TOC pointer, and its symbol has no stub that \
                  keeps the caller's"
             }
+            section::ValueError::OutOfReach => "the value is out of the relocation's reach",
         })
     }
 }

@@ -248,6 +248,7 @@ fn errors_of_sections_are_printed() {
         (RelocationError::Value(section::ValueError::NoHighPart), "NO_HIGH_PART"),
         (RelocationError::Value(section::ValueError::NotAligned), "NOT_ALIGNED"),
         (RelocationError::Value(section::ValueError::NeedsStub), "NEEDS_STUB"),
+        (RelocationError::Value(section::ValueError::OutOfReach), "OUT_OF_REACH"),
         (RelocationError::Overlaps, "OVERLAPS"),
         (RelocationError::OtherLength, "OTHER_LENGTH"),
         (RelocationError::Write(RelocateError::Misaligned), "MISALIGNED"),

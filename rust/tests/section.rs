@@ -1013,6 +1013,122 @@ fn instructions_are_as_long_as_their_forms() {
     assert_eq!(relocate(AArch64, 283, &[0, 0, 0, 0x94]), Ok(vec![4, 0, 0, 0x94]));
 }
 
+/// Offsets from the thread pointer with it as the base. The words that are written are those that
+/// ld.lld 19 and GNU ld 2.40 (RISC-V) wrote of the same instructions. Both write the low 12 bits
+/// of a larger offset, which is then another.
+#[test]
+fn the_thread_pointer_takes_a_whole_offset() {
+    let relocate = |architecture, code, word: u32, offset: u64| {
+        let mut section = word.to_le_bytes();
+        let symbol = Symbol {
+            address: ADDRESSES.thread_origin.wrapping_add(offset),
+            ..SYMBOL
+        };
+        let (relocations, symbols) = (bytes_of(&[rela(0, code, 1, 0)]), [SYMBOL, symbol]);
+        relocate_section(architecture, &ADDRESSES, &relocations, &symbols, &mut section)?;
+        Ok(u32::from_le_bytes(section))
+    };
+    let error = RelocationError::Write(RelocateError::OutOfReach);
+    let beyond = Err(SectionError { index: 0, error });
+    // R_RISCV_TPREL_LO12_I and _S: lw a0,(tp), sw a0,(tp)
+    assert_eq!(relocate(RiscV, 30, 0x0002_2503, 0x7f8), Ok(0x7f82_2503));
+    assert_eq!(relocate(RiscV, 31, 0x00a2_2023, 0x7f8), Ok(0x7ea2_2c23));
+    for offset in [0x800, 0x1010, -0x801i64 as u64] {
+        assert_eq!(relocate(RiscV, 30, 0x0002_2503, offset), beyond);
+        assert_eq!(relocate(RiscV, 31, 0x00a2_2023, offset), beyond);
+        assert_eq!(relocate(LoongArch64, 123, 0x29c0_004e, offset), beyond);
+        assert_eq!(relocate(LoongArch64, 84, 0x29c0_004e, offset), beyond);
+    }
+    // the least: lw a0,-0x800(tp)
+    assert_eq!(relocate(RiscV, 30, 0x0002_2503, -0x800i64 as u64), Ok(0x8002_2503));
+    // lw a0,(a1) after lui and add
+    assert_eq!(relocate(RiscV, 30, 0x0005_a503, 0x800), Ok(0x8005_a503));
+    // R_LARCH_TLS_LE_LO12_R: st.d $t2,$tp,0 and ld.d $t2,$t2,0
+    assert_eq!(relocate(LoongArch64, 123, 0x29c0_004e, 0x7f8), Ok(0x29df_e04e));
+    assert_eq!(relocate(LoongArch64, 123, 0x28c0_01ce, 0x800), Ok(0x28e0_01ce));
+}
+
+/// LoongArch's sequences for 64 bits. The words are those that ld.lld 19 wrote of the same
+/// instructions, with f at 0x123456789abcd and g at 0xfedcba9876543210. ld.lld writes 20 bits of
+/// any value, also where the instructions of the upper ones aren't there.
+#[test]
+fn values_of_more_than_32_bits_need_a_sequence_for_them() {
+    let addresses = Addresses {
+        section: 0x201c8,
+        ..ADDRESSES
+    };
+    let [f, g] = [0x1_2345_6789_abcd, 0xfedc_ba98_7654_3210].map(|address| Symbol {
+        address,
+        ..SYMBOL
+    });
+    let relocate = |relocations: &[Rela], words: &[u32]| {
+        let mut section: Vec<u8> = words.iter().flat_map(|word| word.to_le_bytes()).collect();
+        let symbols = [SYMBOL, f, g];
+        relocate_section(LoongArch64, &addresses, &bytes_of(relocations), &symbols, &mut section)?;
+        let words = section.chunks(4).map(|word| u32::from_le_bytes(word.try_into().unwrap()));
+        Ok(words.collect::<Vec<_>>())
+    };
+    let beyond = |index| {
+        let error = RelocationError::Value(ValueError::OutOfReach);
+        SectionError { index, error }
+    };
+    // pcalau12i $a0; addi.d $t0,$zero; lu32i.d $t0; lu52i.d $t0,$t0
+    let words = [0x1a00_0004, 0x02c0_000c, 0x1600_000c, 0x0300_018c];
+    let all = [rela(0, 71, 1, 0), rela(4, 72, 1, 0), rela(8, 73, 1, 0), rela(12, 74, 1, 0)];
+    let linked = vec![0x1acf_0f64, 0x02ef_340c, 0x1624_688c, 0x0300_018c];
+    assert_eq!(relocate(&all, &words), Ok(linked.clone()));
+    // in any order
+    let [a, b, c, d] = all;
+    assert_eq!(relocate(&[d, c, b, a], &words), Ok(linked));
+    // without the upper bits, of another symbol or addend, or not 8 bytes after it
+    assert_eq!(relocate(&[a, b], &words), Err(beyond(0)));
+    assert_eq!(relocate(&[a, b, rela(8, 73, 2, 0), d], &words), Err(beyond(0)));
+    assert_eq!(relocate(&[a, b, rela(8, 73, 1, 8), d], &words), Err(beyond(0)));
+    assert_eq!(relocate(&[b, a, rela(12, 73, 1, 0)], &words), Err(beyond(1)));
+    // lu12i.w $a0; ori $a0,$a0; lu32i.d $a0; lu52i.d $a0,$a0: anywhere
+    let words = [0x1400_0004, 0x0380_0084, 0x1600_0004, 0x0300_0084];
+    let all = [rela(0, 67, 2, 0), rela(4, 68, 2, 0), rela(8, 69, 2, 0), rela(12, 70, 2, 0)];
+    let linked = vec![0x14ec_a864, 0x0388_4084, 0x1797_5304, 0x033f_b484];
+    assert_eq!(relocate(&all, &words), Ok(linked.clone()));
+    assert_eq!(relocate(&all[..2], &words), Err(beyond(0)));
+    let moved = [words[2], words[1], words[0], words[3]];
+    let upper_first = [rela(0, 69, 2, 0), all[1], rela(8, 67, 2, 0), all[3]];
+    let [high, low, upper, last] = linked[..] else { unreachable!() };
+    assert_eq!(relocate(&upper_first, &moved), Ok(vec![upper, low, high, last]));
+    // each `*_HI20`, and that its upper bits suffice
+    for (code, upper) in [
+        (67, 69), (71, 73), (75, 77), (83, 85), (87, 89), (91, 93), (95, 77), (97, 77), (111, 113),
+    ] {
+        let entry = 0x1_2345_6789_a000;
+        let far = Symbol {
+            address: entry,
+            address_entry: entry,
+            thread_entry: entry,
+            module_entry: entry,
+            descriptor: entry,
+            ..SYMBOL
+        };
+        let addresses = Addresses { module_entry: entry, ..addresses };
+        let relocate = |relocations: &[Rela]| {
+            let mut section = [0x1400_0004u32, 0, 0x1600_0004].map(u32::to_le_bytes).concat();
+            let symbols = [SYMBOL, far];
+            let of = bytes_of(relocations);
+            relocate_section(LoongArch64, &addresses, &of, &symbols, &mut section)
+        };
+        assert_eq!(relocate(&[rela(0, code, 1, 0)]), Err(beyond(0)), "{code}");
+        assert_eq!(relocate(&[rela(0, code, 1, 0), rela(8, upper, 1, 0)]), Ok(()), "{code}");
+    }
+    // R_LARCH_TLS_LE_HI20_R has no sequence for 64 bits, and 2^31 - 0x801 is the last of its offsets
+    let at_offset = |offset| {
+        let address = ADDRESSES.thread_origin + offset;
+        let (relocations, mut section) = (bytes_of(&[rela(0, 121, 1, 0)]), [0x0e, 0, 0, 0x14]);
+        let symbols = [SYMBOL, Symbol { address, ..SYMBOL }];
+        relocate_section(LoongArch64, &addresses, &relocations, &symbols, &mut section)
+    };
+    assert_eq!(at_offset(0x7fff_f7ff), Ok(()));
+    assert_eq!(at_offset(0x7fff_f800), Err(beyond(0)));
+}
+
 /// Numbers by a seed.
 struct Random(u64);
 

@@ -296,6 +296,42 @@ static bool has_length(const struct given *it, uint32_t type, const uint8_t *byt
     return !((type >= 16 && type < 32) || (type >= 62 && type <= 64)) || (bytes[0] & 3) == 3;
 }
 
+/* The third relocation of LoongArch's sequences for 64 bits, by the first, and whether these are
+ * relative to the place. */
+static const struct {
+    uint32_t high, upper;
+    bool is_placed;
+} SEQUENCES[] = {
+    {67, 69, false}, {71, 73, true},  {75, 77, true},  {79, 81, false},   {83, 85, false},
+    {87, 89, true},  {91, 93, false}, {95, 77, true},  {96, 81, false},   {97, 77, true},
+    {98, 81, false}, {111, 113, true}, {115, 117, false}, {121, UINT32_MAX, false},
+};
+
+/* Whether a relocation begins such a sequence, has more than 32 signed bits, and lacks the third. */
+static bool lacks_upper(const struct given *it, const uint64_t *words, int64_t value) {
+    uint64_t other[3];
+    if (it->machine != EM_LOONGARCH || value == (int32_t)value) return false;
+    for (size_t k = 0; k < sizeof SEQUENCES / sizeof *SEQUENCES; k++) {
+        if (SEQUENCES[k].high != (uint32_t)words[1]) continue;
+        for (size_t i = 0; i < it->relocations_len / 24; i++) {
+            relocation_at(it, i, other);
+            if ((uint32_t)other[1] == SEQUENCES[k].upper && other[1] >> 32 == words[1] >> 32 &&
+                other[2] == words[2] && (!SEQUENCES[k].is_placed || other[0] == words[0] + 8))
+                return false;
+        }
+        return true;
+    }
+    return false;
+}
+
+/* Whether an instruction's base is the thread pointer, and it can't add the whole offset from it. */
+static bool lacks_offset(const struct given *it, uint32_t type, int64_t value, const uint8_t *bytes) {
+    uint32_t word = bytes[0] | bytes[1] << 8 | bytes[2] << 16 | (uint32_t)bytes[3] << 24;
+    if (value >= -0x800 && value < 0x800) return false;
+    if (it->machine == EM_RISCV) return (type == 30 || type == 31) && (word >> 15 & 31) == 4;
+    return it->machine == EM_LOONGARCH && (type == 84 || type == 123) && (word >> 5 & 31) == 2;
+}
+
 /* Writes the values one by one, up to the first that is rejected. */
 static uint32_t one_by_one(const struct given *it, uint8_t *section, size_t *at) {
     size_t count = it->relocations_len / 24;
@@ -309,6 +345,7 @@ static uint32_t one_by_one(const struct given *it, uint8_t *section, size_t *at)
         if (status == LINKER_UTILS_NO_VALUE) continue;
         if (status) return status;
         if (loses_toc(it, words)) return LINKER_UTILS_NEEDS_STUB;
+        if (lacks_upper(it, words, value)) return LINKER_UTILS_OUT_OF_REACH;
         bool is_inside = words[0] <= it->len;
         uint8_t *dest = is_inside && section ? section + words[0] : NULL;
         size_t len = is_inside ? it->len - words[0] : 0, used;
@@ -327,6 +364,8 @@ static uint32_t one_by_one(const struct given *it, uint8_t *section, size_t *at)
         }
         if (len && len >= field_len(it, i) && !has_length(it, (uint32_t)words[1], dest))
             return LINKER_UTILS_OTHER_LENGTH;
+        if (len >= 4 && lacks_offset(it, (uint32_t)words[1], value, dest))
+            return LINKER_UTILS_OUT_OF_REACH;
         status = is_inside ? linker_utils_relocate(it->machine, (uint32_t)words[1], value, dest, len)
                            : LINKER_UTILS_TOO_SHORT;
         if (status) return status;

@@ -21,11 +21,12 @@ use Rattle.linker_section.proofs.Fronts.{some_window}
 use Rattle.linker_section.proofs.Rows.{one_row, one_info}
 use Rattle.linker_section.proofs.Sized.{is_composing, first_composes, instruction_alone, auipc_valued}
 use Rattle.linker_section.proofs.Stepping.{len_alone}
+use Rattle.linker_section.specs.Conditions.{IsInReach}
 use Rattle.linker_section.specs.Fields.{IsField, begins_pair, ends_pair, is_of_pair, Composes, of_number, of_pair, AreApart}
 use Rattle.linker_section.specs.Relocations.{relocation_in, relocation_at}
 use Rattle.linker_section.proofs.Lengths.{pair_shows}
 use Rattle.linker_section.proofs.Valued.{mark_none}
-use Rattle.linker_section.specs.Sections.{HasValue, IsRowValue, IsValueless, no_value, not_filled, no_stub, IsOtherLength, IsNotAccepted, IsPairRejected, IsNumberOfPair, IsCauseAt, IsOfValue, BeginsPair}
+use Rattle.linker_section.specs.Sections.{HasValue, IsRowValue, IsValueless, no_value, not_filled, no_stub, beyond, IsOtherLength, IsNotAccepted, IsPairRejected, IsNumberOfPair, IsCauseAt, IsOfValue, BeginsPair}
 use Rattle.linker_section.specs.Values.{IsAscending, offset_at, is_auipc, is_high_kind, is_high_part, names_label, IsHighPart, IsHighPartAt, low_value, IsLowValue, IsValueBy, IsValueIn, IsValue}
 use Rattle.linker_section.specs.WrittenFields.{CanBeWritten, IsFirstFault, PairFits}
 use Rattle.linker_section.specs.declared.facts.Addresses.{Addresses}
@@ -247,6 +248,10 @@ module _ (architecture : Architecture) (addresses : Addresses) (bytes : List ℕ
   no_valueless r (Some f) _ is (not_filled none isnt) = some_none r (f.1) (value_of_has r (f.0) (f.1) is) none
   no_valueless r None _ is (no_stub {v} some lacks) = some_none r v some (mark_none architecture addresses bytes symbols r is)
   no_valueless r (Some f) _ is (no_stub some lacks) = true≢false (sym lacks ∙ is.keeps_toc)
+  no_valueless r None _ is (beyond {v} some isnt) = some_none r v some (mark_none architecture addresses bytes symbols r is)
+  no_valueless r (Some f) _ is (beyond {v} some isnt) =
+      let same = ap (first_of v) (ap (of_ok None) (one_value r (Ok (Some (f.1))) (Ok (Some v)) (value_of_has r (f.0) (f.1) is) some)) in
+      isnt (subst (IsInReach architecture bytes r) same is.in_reach)
 
 -- ---- what is accepted isn't rejected
 
@@ -354,7 +359,10 @@ module _ (architecture : Architecture) (addresses : Addresses) (bytes : List ℕ
       elim (cases_Bool (is_of_pair row)) [
         | inr alone ↦
             let here = accepts.0 alone in
-            accepted_no_cause row not.value (drop (offset_at bytes i) section) why here.accepted (not.rejected.inside here.inside)
+            elim (not.rejected.inside here.inside) [
+              | inl cause ↦ accepted_no_cause row not.value (drop (offset_at bytes i) section) why here.accepted cause
+              | inr other ↦ true≢false (sym here.holds ∙ other.2)
+            ]
         | inl paired ↦
             let of = accepts.1 paired in
             let below = of.1 in

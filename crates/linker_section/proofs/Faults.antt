@@ -15,9 +15,9 @@ use Rattle.linker_elf.specs.declared.elf.relocate.RelocateError.TheVariants.{Uns
 use Rattle.linker_section.proofs.All.{untouched, pair_first, same_uleb}
 use Rattle.linker_section.proofs.Composing.{begun_has_value}
 use Rattle.linker_section.proofs.Fielded.{found_of, uses, found_are, are_accepted, front_at, same_at}
-use Rattle.linker_section.proofs.Fronts.{HaveSameWindow, multiple_same, reached_same}
+use Rattle.linker_section.proofs.Fronts.{HaveSameWindow, multiple_same, reached_same, window_back}
 use Rattle.linker_section.proofs.Held.{field_untouched}
-use Rattle.linker_section.proofs.Lengths.{length_same, shows_same}
+use Rattle.linker_section.proofs.Lengths.{offset_same, length_same, shows_same}
 use Rattle.linker_section.proofs.Stepping.{len_paired}
 use Rattle.linker_section.proofs.Ulebs.{some_uleb, uleb_len_is, uleb_same, pair_number_from}
 use Rattle.linker_section.specs.Fields.{IsField, field_len, begins_pair, ends_pair, uleb_len, AreApart}
@@ -33,11 +33,6 @@ use Rattle.linker_section.specs.declared.sections.SectionError.{SectionError}
 use Rattle.linker_utils.specs.declared.elf.Architecture.{Architecture}
 
 -- ---- a value of one relocation
-
-window_back : (size : RelocationSize) (xs ys : List ℕ) → HaveSameWindow size xs ys
-    → HaveSameWindow size ys xs
-window_back (ByteSize n) xs ys same = tt
-window_back (BitMasking bits insn) xs ys same = sym same
 
 -- what rejects a value depends on the window and on the count of bytes
 cause_same : (row : RelocationKindInfo) (v : ℤ) (xs ys : List ℕ) (error : RelocateError)
@@ -67,9 +62,14 @@ rejected_same : (row : RelocationKindInfo) (v : ℤ) (o : ℕ) (now before : Lis
 rejected_same row v o now before error same len rejected =
     record {
       outside = λ past. rejected.outside (omega (arith, past, len));
-      inside = λ within. cause_same row v (drop o now) (drop o before) error same
-          (let d = length-drop o before in let dn = length-drop o now in omega (arith, d, dn, len))
-          (rejected.inside (omega (arith, within, len)));
+      inside = λ within.
+          let d = length-drop o before in let dn = length-drop o now in
+          elim (rejected.inside (omega (arith, within, len))) [
+            | inl cause ↦ inl (cause_same row v (drop o now) (drop o before) error same (omega (arith, d, dn, len)) cause)
+            | inr beyond ↦
+                let long = beyond.1 in
+                inr (beyond.0, omega (arith, d, dn, len, long), sym (offset_same row v (drop o now) (drop o before) same) ∙ beyond.2)
+          ];
     }
 
 -- ---- the number of a pair

@@ -10,9 +10,9 @@ use Rattle.linker_elf.specs.declared.elf.RelocationSize.{RelocationSize}
 use Rattle.linker_elf.specs.declared.elf.RelocationSize.TheVariants.{ByteSize, BitMasking}
 use Rattle.linker_section.proofs.All.{AreUntouched, IsFirstAt, pair_place, pair_first, untouched}
 use Rattle.linker_section.proofs.Composing.{begun_has_value, begun_ends_none, first_is_none, second_is_none}
-use Rattle.linker_section.proofs.Fronts.{HaveSameWindow, same_window, accepted_same, some_window}
+use Rattle.linker_section.proofs.Fronts.{HaveSameWindow, same_window, accepted_same, some_window, window_back}
 use Rattle.linker_section.proofs.Held.{IsMet, is_ahead, is_behind, is_same, is_later, is_earlier, meet, field_untouched, IsJoined, is_kept, is_own, is_joined, step, pair_kept}
-use Rattle.linker_section.proofs.Lengths.{IsSameFront, length_same}
+use Rattle.linker_section.proofs.Lengths.{offset_same, IsSameFront, length_same}
 use Rattle.linker_section.proofs.Local.{small_bytes, takes}
 use Rattle.linker_section.proofs.Numbers.{is_word6, holds_first, holds_next, number_small}
 use Rattle.linker_section.proofs.Rows.{one_info}
@@ -616,6 +616,8 @@ module _ (architecture : Architecture) (addresses : Addresses) (bytes : List ℕ
               inside = omega (arith, inside, len);
               length_shown = length_same other p middle before
                   (front_at other w other.size refl (omega (arith, most)) relocated has) len written.length_shown;
+              holds = offset_same other w (drop p before) (drop p middle) (window_back other.size (drop p middle) (drop p before)
+                  (same_at other w other.size refl (omega (arith, most)) relocated has)) ∙ written.holds;
               accepted = accepted_same other w (drop p middle) (drop p before)
                   (same_at other w other.size refl (omega (arith, most)) relocated has) (omega (arith, long, d, dm, len)) written.written.accepted;
             } in (

@@ -79,6 +79,11 @@ same_window (ByteSize n) xs ys same = tt
 same_window (BitMasking bits insn) xs ys same =
     sym (window_front insn xs) ∙ (ap (window_of (relocation_form insn)) same ∙ window_front insn ys)
 
+pub window_back : (size : RelocationSize) (xs ys : List ℕ) → HaveSameWindow size xs ys
+    → HaveSameWindow size ys xs
+window_back (ByteSize n) xs ys same = tt
+window_back (BitMasking bits insn) xs ys same = sym same
+
 units_same : (size : RelocationSize) (v : ℤ) (xs ys : List ℕ) → HaveSameWindow size xs ys
     → IsInUnits size v xs → IsInUnits size v ys
 units_same (ByteSize n) v xs ys same is = tt

@@ -1,19 +1,24 @@
 -- Whether an instruction is as long as the form of its relocation.
-use Rattle.std.proofs.Common.{◌≡◌, ℕ, ℤ, ◌<◌, List, length, take, drop, Bool, true, false, true≢false, eqb, ◌/◌, refl, sym, ap, ◌∙◌, inl, inr, arith}
+use Rattle.std.proofs.Common.{◌≡◌, ℕ, ℤ, ◌<◌, List, length, take, drop, Bool, true, false, true≢false, eqb, ◌&&◌, ◌/◌, refl, sym, ap, ◌∙◌, inl, inr, arith}
 use Rattle.std.proofs.lemmas.Bool.{cases_Bool, cases_lt}
 use Rattle.std.proofs.lemmas.List.{get_or-take, length-drop}
-use Rattle.std.specs.Prelude.{slice_index, ◌↔◌, IsTrue}
+use Rattle.std.specs.Int.{w64, from_le_bytes}
+use Rattle.std.specs.Prelude.{slice_index, ◌↔◌, IsTrue, not, ◌||◌, ◌%◌, ◌^◌, ◌≤◌}
 use Rattle.linker_elf.specs.Relocate.{size_len, window_len}
-use Rattle.linker_elf.specs.declared.elf.RelocationInstruction.TheVariants.{RiscV, Ppc64}
+use Rattle.linker_elf.specs.declared.elf.RelocationInstruction.TheVariants.{RiscV, Ppc64, LoongArch64}
 use Rattle.linker_elf.specs.declared.elf.RelocationKindInfo.{RelocationKindInfo}
 use Rattle.linker_elf.specs.declared.elf.RelocationSize.{RelocationSize}
 use Rattle.linker_elf.specs.declared.elf.RelocationSize.TheVariants.{ByteSize, BitMasking}
+use Rattle.linker_elf.specs.declared.loongarch64.forms.LoongArch64Instruction.TheVariants.{Shift10}
 use Rattle.linker_elf.specs.declared.ppc64.forms.Ppc64Instruction.TheVariants.{Prefixed}
-use Rattle.linker_section.proofs.Fronts.{some_window}
-use Rattle.linker_section.specs.Conditions.{HasLength, riscv_shows, shows_length}
+use Rattle.linker_elf.specs.declared.riscv64.forms.RiscVInstruction.TheVariants.{IType, SType, CbType, CjType, CluiType}
+use Rattle.linker_elf.specs.declared.elf.relocate.RelocateError.TheVariants.{OutOfReach}
+use Rattle.linker_section.proofs.Fronts.{some_window, HaveSameWindow}
+use Rattle.linker_section.specs.Conditions.{HasLength, HoldsOffset, holds_offset, is_12_bits, is_thread_based, is_tp_off, riscv_shows, shows_length}
 use Rattle.linker_section.specs.Fields.{is_of_pair}
+use Rattle.linker_section.specs.Inner.Quick.{length_of as length_by, shows}
 use Rattle.linker_section.specs.Relocations.{relocation_in}
-use Rattle.linker_section.specs.Sections.{HasValue, IsOtherLength}
+use Rattle.linker_section.specs.Sections.{HasValue, IsOtherLength, IsRejected}
 use Rattle.linker_section.specs.Values.{offset_at}
 use Rattle.linker_section.specs.declared.facts.Addresses.{Addresses}
 use Rattle.linker_section.specs.declared.facts.Symbol.{Symbol}
@@ -83,3 +88,64 @@ pair_shows row there paired = size_shows row.size paired
         → shows_length size there ≡ true
     size_shows (ByteSize n) is = refl
     size_shows (BitMasking bits insn) is = absurd (true≢false (sym is))
+
+-- ---- the word of 8 bytes that bytes begin with
+
+low_bits : (bytes : List ℕ) → from_le_bytes w64 bytes % 4 ≡ slice_index bytes 0 % 4
+low_bits bytes = omega arith
+
+high_bits : (bytes : List ℕ) → ((i : ℕ) → slice_index bytes i < 256)
+    → from_le_bytes w64 bytes / 2 ^ 26 % 64 ≡ slice_index bytes 3 / 4
+high_bits bytes small =
+    let a = small 0 in let b = small 1 in let c = small 2 in let d = small 3 in
+    omega (arith, a, b, c, d)
+
+pub word_shows : (size : RelocationSize) (bytes : List ℕ) → ((i : ℕ) → slice_index bytes i < 256)
+    → shows (length_by size) (from_le_bytes w64 bytes) ≡ shows_length size bytes
+word_shows (BitMasking bits (RiscV CbType)) bytes small = ap (λ n. not (eqb n 3)) (low_bits bytes)
+word_shows (BitMasking bits (RiscV CjType)) bytes small = ap (λ n. not (eqb n 3)) (low_bits bytes)
+word_shows (BitMasking bits (RiscV CluiType)) bytes small = ap (λ n. not (eqb n 3)) (low_bits bytes)
+word_shows (BitMasking bits (RiscV insn)) bytes small = ap (λ n. eqb n 3) (low_bits bytes)
+word_shows (BitMasking bits (Ppc64 Prefixed)) bytes small = ap (λ n. eqb n 1) (high_bits bytes small)
+word_shows size bytes small = refl
+
+-- ---- offsets from the thread pointer
+
+thread_same : (size : RelocationSize) (xs ys : List ℕ) → HaveSameWindow size xs ys
+    → is_thread_based size xs ≡ is_thread_based size ys
+thread_same (BitMasking bits (RiscV IType)) xs ys same = ap (λ word. eqb (word / 2 ^ 15 % 32) 4) same
+thread_same (BitMasking bits (RiscV SType)) xs ys same = ap (λ word. eqb (word / 2 ^ 15 % 32) 4) same
+thread_same (BitMasking bits (LoongArch64 Shift10)) xs ys same =
+    ap (λ word. eqb bits.start 0 && eqb (word / 2 ^ 5 % 32) 2) same
+thread_same size xs ys same = refl
+
+pub offset_same : (row : RelocationKindInfo) (v : ℤ) (xs ys : List ℕ) → HaveSameWindow row.size xs ys
+    → holds_offset row v xs ≡ holds_offset row v ys
+offset_same row v xs ys same =
+    ap (λ based. not (is_tp_off row.kind) || (is_12_bits v || not based)) (thread_same row.size xs ys same)
+
+-- no other value is one
+pub unthreaded_holds : (row : RelocationKindInfo) (v : ℤ) (there : List ℕ)
+    → is_tp_off row.kind ≡ false → holds_offset row v there ≡ true
+unthreaded_holds row v there isnt =
+    ap (λ b. not b || (is_12_bits v || not (is_thread_based row.size there))) isnt
+
+pub offset_of : (row : RelocationKindInfo) (v : ℤ) (offset : ℕ) (section : List ℕ) (result : Bool)
+    → (IsTrue result ↔ HoldsOffset row v offset section) → result ≡ true
+    → HoldsOffset row v offset section
+offset_of row v offset section result is holds = is.0 holds
+
+-- what isn't held is out of reach, in the section
+pub offset_beyond : (row : RelocationKindInfo) (v : ℤ) (o : ℕ) (section : List ℕ)
+    → (HoldsOffset row v o section → ⊥) → IsRejected row v o section OutOfReach
+offset_beyond row v o section isnt =
+    record {
+      outside = λ past. absurd (isnt (λ inside. absurd (omega (arith, past, inside))));
+      inside = λ inside. elim (cases_lt (length (drop o section)) (window_len row)) [
+        | inl short ↦ absurd (isnt (λ _ long. absurd (omega (arith, short, long))))
+        | inr long ↦ elim (cases_Bool (holds_offset row v (drop o section))) [
+          | inl held ↦ absurd (isnt (λ _ _. held))
+          | inr other ↦ inr (refl, long, other)
+        ]
+      ];
+    }

@@ -1,5 +1,5 @@
 -- Values that are found by the numbers of codes.
-use Rattle.std.proofs.Common.{◌≡◌, ℕ, ℤ, ◌<◌, ◌/◌, Bool, true, false, eqb, List, length, Option, Some, None, Result, Ok, Err, refl, sym, ap, subst, ◌∙◌}
+use Rattle.std.proofs.Common.{◌≡◌, ℕ, ℤ, ◌<◌, ◌/◌, Bool, true, false, true≢false, eqb, List, length, Option, Some, None, Result, Ok, Err, refl, sym, ap, subst, ◌∙◌}
 use Rattle.std.specs.Prelude.{IfSome}
 use Rattle.std.proofs.lemmas.Bool.{cond-true, ltb-true, lt-ltb, or_left, or_right}
 use Rattle.linker_elf.specs.Relocate.{window_len}
@@ -7,7 +7,7 @@ use Rattle.linker_elf.specs.Value.{difference_64, value_of}
 use Rattle.linker_elf.specs.declared.elf.RelocationKind.TheVariants as kinds
 use Rattle.linker_elf.specs.declared.elf.RelocationKindInfo.{RelocationKindInfo}
 use Rattle.linker_elf.specs.declared.elf.value.Operands.{Operands}
-use Rattle.linker_section.specs.Conditions.{lacks_stub}
+use Rattle.linker_section.specs.Conditions.{is_tp_off, lacks_stub, needs_upper}
 use Rattle.linker_section.specs.Fields.{is_of_pair}
 use Rattle.linker_section.specs.Inner.Codes.{When, SaysWay, is_plain, is_high, is_low, is_quick}
 use Rattle.linker_section.specs.Inner.Quick.{IsPlainValue, IsQuickValue, IsHighValue, HasHighValue}
@@ -39,9 +39,9 @@ pub plain_quick : (architecture : Architecture) (addresses : Addresses) (bytes :
     (symbols : List Symbol) (r : Rela) (row : RelocationKindInfo) (number : ℕ) (v : ℤ)
     → IsRow architecture r.code (Some row) → SaysWay architecture r.code number row
     → is_plain number ≡ true → lacks_stub architecture symbols r ≡ false
-    → IsPlainValue architecture addresses symbols row r v
+    → IsPlainValue architecture addresses symbols row r v → needs_upper architecture r v ≡ false
     → IsQuickValue architecture addresses bytes symbols r row v
-plain_quick architecture addresses bytes symbols r row number v is_row way plain keeps value =
+plain_quick architecture addresses bytes symbols r row number v is_row way plain keeps value reached =
     let quick : is_quick number ≡ true = or_left (is_plain number) (is_low number) plain in
     let valued = when_true (is_quick number) (has_value row.kind) true way.has_value quick in
     let label = when_true (is_plain number) (names_label row.size row.kind) false way.unlabelled plain in
@@ -52,10 +52,12 @@ plain_quick architecture addresses bytes symbols r row number v is_row way plain
         is_row = is_row;
         is_value = subst (λ b. IsValueBy b architecture addresses bytes symbols row r (Ok (Some v))) (sym label) own;
         keeps_toc = keeps;
+        in_reach = λ needs. absurd (true≢false (sym needs ∙ reached));
       };
       valued = valued;
       single = when_true (is_quick number) (is_of_pair row) false way.single quick;
       some = ltb-true 0 (window_len row) (when_true (is_quick number) _ true way.some quick);
+      unthreaded = when_true (is_quick number) (is_tp_off row.kind) false way.unthreaded quick;
     }
 
 -- ---- a low part of RISC-V
@@ -65,9 +67,9 @@ pub low_quick : (architecture : Architecture) (addresses : Addresses) (bytes : L
     (high : Option HighPart) → IsRow architecture r.code (Some row)
     → SaysWay architecture r.code number row → is_low number ≡ true
     → lacks_stub architecture symbols r ≡ false → IfSome high (IsHighValue architecture addresses bytes symbols)
-    → HasHighValue addresses symbols r high v
+    → HasHighValue addresses symbols r high v → needs_upper architecture r v ≡ false
     → IsQuickValue architecture addresses bytes symbols r row v
-low_quick architecture addresses bytes symbols r row number v high is_row way low keeps highs value =
+low_quick architecture addresses bytes symbols r row number v high is_row way low keeps highs value reached =
     let quick : is_quick number ≡ true = or_right (is_plain number) (is_low number) low in
     let part = subst (λ x. IfSome x (IsHighValue architecture addresses bytes symbols)) value.is_part highs in
     let kind = when_true (is_low number) row.kind kinds.RelativeRiscVLow12 way.labelled low in
@@ -87,10 +89,12 @@ low_quick architecture addresses bytes symbols r row number v high is_row way lo
         is_value = subst (λ b. IsValueBy b architecture addresses bytes symbols row r (Ok (Some v))) (sym label)
             (subst (λ l. IsLowValue architecture addresses bytes symbols row l (Ok (Some v))) (sym value.is_label) (found, at, is));
         keeps_toc = keeps;
+        in_reach = λ needs. absurd (true≢false (sym needs ∙ reached));
       };
       valued = when_true (is_quick number) (has_value row.kind) true way.has_value quick;
       single = when_true (is_quick number) (is_of_pair row) false way.single quick;
       some = ltb-true 0 (window_len row) (when_true (is_quick number) _ true way.some quick);
+      unthreaded = when_true (is_quick number) (is_tp_off row.kind) false way.unthreaded quick;
     }
 
 -- ---- a high part of RISC-V

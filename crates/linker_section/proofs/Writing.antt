@@ -1,25 +1,26 @@
 -- A value that is written to the bytes from an offset on.
-use Rattle.std.proofs.Common.{◌≡◌, ℕ, ℤ, ◌≤◌, ◌∙◌, List, ◌++◌, length, take, drop, ap, arith}
+use Rattle.std.proofs.Common.{◌≡◌, ℕ, ℤ, ◌≤◌, ◌∙◌, List, ◌++◌, length, take, drop, ap, arith, inl}
 use Rattle.std.proofs.lemmas.List.{take-append-drop}
 use Rattle.std.specs.Prelude.{Result, Ok, Err, OnOk, IfErr}
 use Rattle.linker_elf.specs.Relocate.{WritesRow, RejectsValue}
 use Rattle.linker_elf.specs.declared.elf.RelocationKindInfo.{RelocationKindInfo}
 use Rattle.linker_elf.specs.declared.elf.relocate.RelocateError.{RelocateError}
-use Rattle.linker_section.specs.Conditions.{HasLength}
+use Rattle.linker_section.specs.Conditions.{HasLength, HoldsOffset}
 use Rattle.linker_section.specs.Sections.{IsWrittenAt}
 
 pub written_at : (row : RelocationKindInfo) (v : ℤ) (offset : ℕ) (before after rest : List ℕ)
     (result : Result Unit RelocateError) → offset ≤ length before → HasLength row offset before
+    → HoldsOffset row v offset before
     → after ≡ take offset before ++ rest → length after ≡ length before
     → OnOk result (WritesRow row v (drop offset before) rest)
     → IfErr result (RejectsValue row v (drop offset before) rest)
     → IsWrittenAt row v offset before after result
-written_at row v offset before after rest (Ok u) inside shown around len ok err =
-    record { inside = inside; rest = rest; around = around; same_length = len; length_shown = shown; written = ok }
-written_at row v offset before after rest (Err error) inside shown around len ok err = (
+written_at row v offset before after rest (Ok u) inside shown held around len ok err =
+    record { inside = inside; rest = rest; around = around; same_length = len; length_shown = shown; holds = held inside ok.accepted.long; written = ok }
+written_at row v offset before after rest (Err error) inside shown held around len ok err = (
   record {
     outside = λ past. absurd (omega arith);
-    inside = λ _. err.0;
+    inside = λ _. inl (err.0);
   },
   around ∙ (ap (λ bytes. take offset before ++ bytes) (err.1) ∙ take-append-drop offset before),
 )

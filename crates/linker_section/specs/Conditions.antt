@@ -1,20 +1,28 @@
 -- What has to hold of a section's relocation besides that it has a value: what is after the nops
--- of an alignment is aligned, a call keeps its TOC pointer, and an instruction is as long as the
--- relocation's form.
-use Rattle.std.specs.Prelude.{◌≡◌, ℕ, ◌-◌, ◌/◌, ◌%◌, ◌^◌, ◌≤◌, ◌==◌, ◌&&◌, ◌||◌, Bool, true}
-use Rattle.std.specs.Prelude.{false, not, nat_lt, if◌then◌else◌, List, length, drop}
-use Rattle.std.specs.Prelude.{slice_get, slice_index, Option, Some, None}
-use Rattle.std.specs.Int.{w64, cast_unsigned, leading_zeros}
+-- of an alignment is aligned, a call keeps its TOC pointer, an instruction is as long as the
+-- relocation's form, and the instructions for a value have bits for all of it.
+use Rattle.std.specs.Prelude.{◌≡◌, ℕ, ℤ, pos, negsuc, int_le, int_lt, ◌-◌, ◌/◌, ◌%◌, ◌^◌, ◌<◌, ◌≤◌}
+use Rattle.std.specs.Prelude.{◌==◌, ◌&&◌, ◌||◌, Bool, true, false, not, nat_lt, if◌then◌else◌}
+use Rattle.std.specs.Prelude.{List, length, drop, slice_get, slice_index, Option, Some, None}
+use Rattle.std.specs.Prelude.{is_some}
+use Rattle.std.specs.Int.{w32, w64, cast_unsigned, from_le_bytes, leading_zeros}
+use Rattle.std.specs.Ordering.{int_eq}
 use Rattle.linker_elf.specs.Relocate.{window_len}
 use Rattle.linker_elf.specs.Value.{sum_64}
 use Rattle.linker_elf.specs.declared.elf.RelocationInstruction.TheVariants.{RiscV, Ppc64}
+use Rattle.linker_elf.specs.declared.elf.RelocationInstruction.TheVariants.{LoongArch64}
+use Rattle.linker_elf.specs.declared.elf.RelocationKind.{RelocationKind}
+use Rattle.linker_elf.specs.declared.elf.RelocationKind.TheVariants.{TpOff}
 use Rattle.linker_elf.specs.declared.elf.RelocationKindInfo.{RelocationKindInfo}
 use Rattle.linker_elf.specs.declared.elf.RelocationSize.{RelocationSize}
 use Rattle.linker_elf.specs.declared.elf.RelocationSize.TheVariants.{BitMasking}
+use Rattle.linker_elf.specs.declared.loongarch64.forms.LoongArch64Instruction.TheVariants.{Shift10}
 use Rattle.linker_elf.specs.declared.ppc64.forms.Ppc64Instruction.TheVariants.{Prefixed}
 use Rattle.linker_elf.specs.declared.riscv64.forms.RiscVInstruction.{RiscVInstruction}
 use Rattle.linker_elf.specs.declared.riscv64.forms.RiscVInstruction.TheVariants.{CbType, CjType}
-use Rattle.linker_elf.specs.declared.riscv64.forms.RiscVInstruction.TheVariants.{CluiType}
+use Rattle.linker_elf.specs.declared.riscv64.forms.RiscVInstruction.TheVariants.{CluiType, IType}
+use Rattle.linker_elf.specs.declared.riscv64.forms.RiscVInstruction.TheVariants.{SType}
+use Rattle.linker_section.specs.Relocations.{relocation_in}
 use Rattle.linker_section.specs.declared.facts.Addresses.{Addresses}
 use Rattle.linker_section.specs.declared.facts.Symbol.{Symbol}
 use Rattle.linker_section.specs.declared.relocations.Rela.{Rela}
@@ -97,3 +105,87 @@ abbrev pub HasLength : RelocationKindInfo → ℕ → List ℕ → Type 0
 HasLength row offset section =
     offset ≤ length section → window_len row ≤ length (drop offset section)
     → shows_length row.size (drop offset section) ≡ true
+
+-- ---- offsets from the thread pointer
+
+abbrev pub is_tp_off : RelocationKind → Bool
+is_tp_off TpOff = true
+is_tp_off kind = false
+
+-- The base register of an instruction with 12 bits of an offset is the thread pointer: bits 15 to
+-- 19 are 4, x4, on RISC-V, and bits 5 to 9 are 2, $r2, on LoongArch.
+abbrev pub is_thread_based : RelocationSize → List ℕ → Bool
+is_thread_based (BitMasking bits (RiscV IType)) there =
+    from_le_bytes w32 there / 2 ^ 15 % 32 == 4
+is_thread_based (BitMasking bits (RiscV SType)) there =
+    from_le_bytes w32 there / 2 ^ 15 % 32 == 4
+is_thread_based (BitMasking bits (LoongArch64 Shift10)) there =
+    bits.start == 0 && from_le_bytes w32 there / 2 ^ 5 % 32 == 2
+is_thread_based size there = false
+
+abbrev pub is_12_bits : ℤ → Bool
+is_12_bits v = int_le (negsuc 2047) v && int_lt v (pos 2048)
+
+-- An instruction whose base is the thread pointer adds the whole offset from it, of which no other
+-- instruction adds a high part: the offset is one of 12 signed bits.
+abbrev pub holds_offset : RelocationKindInfo → ℤ → List ℕ → Bool
+holds_offset row v there =
+    not (is_tp_off row.kind) || (is_12_bits v || not (is_thread_based row.size there))
+
+-- the bytes at an offset are so, if the field of a row is in the section
+abbrev pub HoldsOffset : RelocationKindInfo → ℤ → ℕ → List ℕ → Type 0
+HoldsOffset row v offset section =
+    offset ≤ length section → window_len row ≤ length (drop offset section)
+    → holds_offset row v (drop offset section) ≡ true
+
+-- ---- LoongArch's values of more than 32 bits
+
+-- The code of the third relocation of the psABI's sequences for 64 bits, by that of the first, an
+-- `*_HI20`. Those of local-dynamic and general-dynamic TLS have an entry of the GOT, and the other
+-- relocations of its sequence (LoongArch ELF psABI, "Relocation Types" and "Code Models").
+abbrev pub upper_code : ℕ → Option ℕ
+upper_code code =
+    if code == 67 then Some 69
+    else (if code == 71 then Some 73
+    else (if code == 75 || (code == 95 || code == 97) then Some 77
+    else (if code == 79 || (code == 96 || code == 98) then Some 81
+    else (if code == 83 then Some 85
+    else (if code == 87 then Some 89
+    else (if code == 91 then Some 93
+    else (if code == 111 then Some 113
+    else (if code == 115 then Some 117
+    else None))))))))
+
+-- Such a first relocation is relative to the place: `R_LARCH_PCALA_HI20`, and those with `PC` in
+-- their names.
+abbrev pub is_placed : ℕ → Bool
+is_placed code =
+    code == 71 || (code == 75 || (code == 87 || (code == 95 || (code == 97 || code == 111))))
+
+-- A relocation is the third of the sequence that another begins: of the same symbol and addend,
+-- and 8 bytes after it where it is relative to the place, since the four are adjacent there.
+abbrev pub is_upper_of : Option ℕ → Rela → Rela → Bool
+is_upper_of None high other = false
+is_upper_of (Some code) high other =
+    other.code == code && (other.symbol == high.symbol && (int_eq other.addend high.addend
+    && (not (is_placed high.code) || other.offset == sum_64 high.offset 8)))
+
+abbrev pub is_upper : Rela → Rela → Bool
+is_upper high other = is_upper_of (upper_code high.code) high other
+
+-- one of a section's relocations is
+abbrev pub HasUpper : List ℕ → Rela → Type 0
+HasUpper bytes high =
+    (i : ℕ) × (i < length bytes / 24) × (is_upper high (relocation_in bytes i) ≡ true)
+
+-- The value of an `*_HI20` of a pair or a sequence isn't a number of 32 signed bits, of which the
+-- first two instructions make the address. `R_LARCH_TLS_LE_HI20_R` has no sequence for 64 bits.
+abbrev pub needs_upper : Architecture → Rela → ℤ → Bool
+needs_upper architectures.LoongArch64 r v =
+    (int_lt v (negsuc 0x7fffffff) || int_lt (pos 0x7fffffff) v)
+    && (r.code == 121 || is_some (upper_code r.code))
+needs_upper architecture r v = false
+
+-- its section then has the relocation of the upper bits
+abbrev pub IsInReach : Architecture → List ℕ → Rela → ℤ → Type 0
+IsInReach architecture bytes r v = needs_upper architecture r v ≡ true → HasUpper bytes r

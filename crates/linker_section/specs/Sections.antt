@@ -12,8 +12,9 @@ use Rattle.linker_elf.specs.declared.elf.RelocationKindInfo.{RelocationKindInfo}
 use Rattle.linker_elf.specs.declared.elf.Uleb128Role.{Uleb128Role}
 use Rattle.linker_elf.specs.declared.elf.Uleb128Role.TheVariants.{Sets, Adds}
 use Rattle.linker_elf.specs.declared.elf.relocate.RelocateError.{RelocateError}
-use Rattle.linker_elf.specs.declared.elf.relocate.RelocateError.TheVariants.{TooShort}
-use Rattle.linker_section.specs.Conditions.{HasLength, is_filled, lacks_stub, shows_length}
+use Rattle.linker_elf.specs.declared.elf.relocate.RelocateError.TheVariants.{TooShort, OutOfReach}
+use Rattle.linker_section.specs.Conditions.{HasLength, IsInReach, holds_offset, is_filled}
+use Rattle.linker_section.specs.Conditions.{lacks_stub, shows_length}
 use Rattle.linker_section.specs.Fields.{begins_pair, ends_pair, field_end, IsField}
 use Rattle.linker_section.specs.Fields.{AreApart, IsOverlapped}
 use Rattle.linker_section.specs.Relocations.{relocation_in}
@@ -28,6 +29,7 @@ use Rattle.linker_section.specs.declared.sections.RelocationError.TheVariants.{O
 use Rattle.linker_section.specs.declared.sections.SectionError.{SectionError}
 use Rattle.linker_section.specs.declared.values.ValueError.{ValueError}
 use Rattle.linker_section.specs.declared.values.ValueError.TheVariants.{NotAligned, NeedsStub}
+use Rattle.linker_section.specs.declared.values.ValueError.TheVariants as value_errors
 use Rattle.linker_utils.specs.Architectures.{IsRow}
 use Rattle.linker_utils.specs.Uleb128.{IsPairNumber}
 use Rattle.linker_utils.specs.declared.elf.Architecture.{Architecture}
@@ -43,13 +45,22 @@ pub record IsWritten (row : RelocationKindInfo) (v : ℤ) (offset : ℕ) (before
   pub around : after ≡ take offset before ++ rest
   pub same_length : length after ≡ length before
   pub length_shown : HasLength row offset before
+  pub holds : holds_offset row v (drop offset before) ≡ true
   pub written : WritesRow row v (drop offset before) rest
 
--- the row rejects the value there, or the offset is past the end
+-- The row rejects the value, or it is an offset that an instruction with the thread pointer as its
+-- base doesn't hold.
+abbrev pub IsCauseThere : RelocationKindInfo → ℤ → List ℕ → RelocateError → Type 0
+IsCauseThere row v there error =
+    IsCause row v there error
+    ⊎ ((error ≡ OutOfReach) × (window_len row ≤ length there)
+    × (holds_offset row v there ≡ false))
+
+-- the bytes there reject the value, or the offset is past the end
 pub record IsRejected (row : RelocationKindInfo) (v : ℤ) (offset : ℕ) (before : List ℕ)
     (error : RelocateError) : Type 0 where
   pub outside : length before < offset → error ≡ TooShort
-  pub inside : offset ≤ length before → IsCause row v (drop offset before) error
+  pub inside : offset ≤ length before → IsCauseThere row v (drop offset before) error
 
 abbrev pub IsWrittenAt : RelocationKindInfo → ℤ → ℕ → List ℕ → List ℕ → Result Unit RelocateError
     → Type 0
@@ -65,6 +76,7 @@ pub record HasValue (architecture : Architecture) (addresses : Addresses) (bytes
   pub is_row : IsRow architecture r.code (Some row)
   pub is_value : IsValueIn architecture addresses bytes symbols r (Some row) (Ok (Some v))
   pub keeps_toc : lacks_stub architecture symbols r ≡ false
+  pub in_reach : IsInReach architecture bytes r v
 
 -- A relocation has no value of its own, and if it is an alignment, it holds.
 abbrev pub IsMark : Architecture → Addresses → List ℕ → List Symbol → Rela → Type 0
@@ -73,8 +85,8 @@ IsMark architecture addresses bytes symbols r =
     × IsValueIn architecture addresses bytes symbols r row (Ok None)
     × (is_filled architecture addresses r ≡ true)
 
--- There is no value to write: the relocation has none, an alignment doesn't hold, or a call may
--- lose its TOC pointer.
+-- There is no value to write: the relocation has none, an alignment doesn't hold, a call may lose
+-- its TOC pointer, or the instructions have no bits for all of it.
 pub data IsValueless (architecture : Architecture) (addresses : Addresses) (bytes : List ℕ)
     (symbols : List Symbol) (r : Rela) : ValueError → Type 0 where
   no_value : {error : ValueError} → IsValue architecture addresses bytes symbols r (Err error)
@@ -85,6 +97,9 @@ pub data IsValueless (architecture : Architecture) (addresses : Addresses) (byte
   no_stub : {v : ℤ} → IsValue architecture addresses bytes symbols r (Ok (Some v))
       → lacks_stub architecture symbols r ≡ true
       → IsValueless architecture addresses bytes symbols r NeedsStub
+  beyond : {v : ℤ} → IsValue architecture addresses bytes symbols r (Ok (Some v))
+      → ¬ IsInReach architecture bytes r v
+      → IsValueless architecture addresses bytes symbols r value_errors.OutOfReach
 
 -- its row and value, or none of a relocation without a value, or why there is none
 abbrev pub IsRowValue : Architecture → Addresses → List ℕ → List Symbol → Rela

@@ -15,7 +15,7 @@ use Rattle.linker_elf.specs.declared.elf.RelocationKind.TheVariants.{AbsoluteSub
 use Rattle.linker_elf.specs.declared.elf.RelocationKindInfo.{RelocationKindInfo}
 use Rattle.linker_elf.specs.declared.elf.RelocationSize.{RelocationSize}
 use Rattle.linker_elf.specs.declared.elf.RelocationSize.TheVariants.{ByteSize, BitMasking}
-use Rattle.linker_section.specs.Conditions.{HasLength}
+use Rattle.linker_section.specs.Conditions.{HasLength, holds_offset}
 use Rattle.linker_section.specs.Fields.{field_len, begins_pair, ends_pair, is_of_pair, AreApart}
 use Rattle.linker_section.specs.Relocations.{relocation_in}
 use Rattle.linker_section.specs.Sections.{IsRowValue, IsNumberOfPair, IsInNoField, BeginsPair}
@@ -136,6 +136,7 @@ pub record IsAcceptedAt (row : RelocationKindInfo) (v : ℤ) (offset : ℕ) (sec
     : Type 0 where
   pub inside : offset ≤ length section
   pub length_shown : HasLength row offset section
+  pub holds : holds_offset row v (drop offset section) ≡ true
   pub accepted : IsAccepted row v (drop offset section)
 
 -- The number of a pair fits in the bytes of the one that is there.

@@ -8,7 +8,7 @@ ghost use Rattle.linker_section.specs.Inner.Steps.{IsStopped, Reached, AreWritte
 ghost use Rattle.linker_section.specs.Relocations.{relocation_in};
 ghost use Rattle.linker_section.specs.declared.fields.Field.{Field};
 
-use crate::conditions::has_length;
+use crate::conditions::begins_with;
 use crate::facts::{Addresses, Symbol};
 use crate::fields::Field;
 use crate::known::{KnownCode, learn, no_codes, place_of};
@@ -17,7 +17,9 @@ use crate::relocations::{
     RELA_LEN, Rela, offset_at, relocation_in, relocation_of, relocations_from,
 };
 use crate::saved::whole_word_at;
-use crate::sections::{FIRST_STEP, NO_FIELD, SectionError, Step, Stopped, write_at, write_one};
+use crate::sections::{
+    FIRST_STEP, NO_FIELD, SectionError, Step, Stopped, write_held_at, write_one,
+};
 use linker_utils::elf::Architecture;
 
 /// Writes the value of the relocation at an index, if it is found and accepted with few
@@ -61,6 +63,14 @@ fn write_quickly(
     let Some(row) = &known.row else {
         return None;
     };
+    let Some(word) = whole_word_at(section, offset) else {
+        return None;
+    };
+    if !begins_with(architecture, known.length, word) {
+        return None;
+    }
+    // stored before the value is found, so that the word takes no register
+    memory[index] = word;
     let number = known.number;
     let Some(value) = quick_value(
         architecture,
@@ -74,14 +84,7 @@ fn write_quickly(
     ) else {
         return None;
     };
-    let Some(word) = whole_word_at(section, offset) else {
-        return None;
-    };
-    if !has_length(row, offset, section) {
-        return None;
-    }
-    memory[index] = word;
-    if write_at(row, value, offset, section).is_err() {
+    if write_held_at(row, value, offset, section).is_err() {
         return None;
     }
     let high = high_behind(

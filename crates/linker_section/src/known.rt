@@ -5,6 +5,7 @@ ghost use Rattle.std.specs.Prelude.{◌≡◌, ◌%◌, None};
 ghost use Rattle.linker_section.specs.Inner.Quick.{AreKnown, IsKnown, IsThere};
 
 use crate::codes::{NO_ROW, number_of};
+use crate::conditions::Length;
 use linker_utils::elf::{Architecture, Row};
 
 /// The row and the number of a code that was looked up.
@@ -16,6 +17,8 @@ pub(crate) struct KnownCode {
     pub(crate) number: u16,
     /// Its row, if it has one.
     pub(crate) row: Option<Row>,
+    /// The length of its instruction.
+    pub(crate) length: Length,
 }
 
 /// Codes that were looked up, each at its low 6 bits.
@@ -28,6 +31,7 @@ macro_rules! none {
             code: 0,
             number: NO_ROW,
             row: None,
+            length: Length::Any,
         }
     };
 }
@@ -119,10 +123,16 @@ fn look_up(architecture: Architecture, code: u32) -> KnownCode
     ensures known { IsKnown architecture result }
     ensures same { result.code ≡ code }
 {
+    let row = architecture.row(code);
+    let length = match &row {
+        Some(row) => Length::of(row.info().size),
+        None => Length::Any,
+    };
     KnownCode {
         code,
         number: number_of(architecture, code),
-        row: architecture.row(code),
+        row,
+        length,
     }
 }
 

@@ -3,7 +3,8 @@
 //! Few tests find them, so that a section's values take little more time than the formulas. Where
 //! these return nothing, `value_of` says what the value is, and why there is none.
 
-ghost use Rattle.std.specs.Prelude.{◌≡◌, ◌&&◌, ◌==◌, ◌%◌, ◌/◌, ◌<◌, true, length, Some, IfSome};
+ghost use Rattle.std.specs.Prelude.{◌≡◌, ◌&&◌, ◌==◌, ◌%◌, ◌/◌, ◌<◌, true, false, length, Some, IfSome};
+ghost use Rattle.linker_section.specs.Conditions.{needs_upper};
 ghost use Rattle.linker_section.specs.Inner.Codes.{class_by, entry_by, is_plain, is_ppc64};
 ghost use Rattle.linker_section.specs.Inner.Codes.{IsNumberOf, SaysNeeds, SaysWay};
 ghost use Rattle.linker_section.specs.Inner.Quick.{IsHighValue, HasHighValue};
@@ -15,7 +16,7 @@ ghost use Rattle.linker_section.specs.Values.{offset_at, operands_with, target_o
 ghost use Rattle.linker_utils.specs.Architectures.{IsRow};
 
 use crate::codes::{HIGH, LOW, NO_ENTRY, PLAIN, way_of};
-use crate::conditions::lacks_stub;
+use crate::conditions::{lacks_stub, needs_upper};
 use crate::facts::{Addresses, Symbol};
 use crate::needed::entry_by;
 use crate::relocations::Rela;
@@ -207,7 +208,7 @@ fn value_of_high(
 
 /// The value of a relocation; none where it isn't found so. Only the contract uses `_relocations`.
 #[inline(always)]
-pub(crate) fn quick_value(
+fn found_value(
     architecture: Architecture,
     addresses: &Addresses,
     _relocations: &[u8],
@@ -221,8 +222,9 @@ pub(crate) fn quick_value(
     requires number { IsNumberOf architecture relocation.now.code number }
     requires high { IfSome high
         (IsHighValue architecture addresses.now _relocations.now symbols.now) }
-    ensures { IfSome result (IsQuickValue architecture addresses.now _relocations.now symbols.now
-        relocation.now row.now) }
+    ensures { IfSome result (λ v. needs_upper architecture relocation.now v ≡ false
+        → IsQuickValue architecture addresses.now _relocations.now symbols.now relocation.now
+        row.now v) }
 {
     if lacks_stub(architecture, symbols, relocation) {
         return None;
@@ -235,6 +237,43 @@ pub(crate) fn quick_value(
     } else {
         None
     }
+}
+
+/// The same, of a value that its own instructions reach.
+#[inline(always)]
+pub(crate) fn quick_value(
+    architecture: Architecture,
+    addresses: &Addresses,
+    relocations: &[u8],
+    symbols: &[Symbol],
+    number: u16,
+    row: &Row,
+    relocation: &Rela,
+    high: Option<HighPart>,
+) -> Option<i64>
+    requires row { IsRow architecture relocation.now.code (Some row.now) }
+    requires number { IsNumberOf architecture relocation.now.code number }
+    requires high { IfSome high
+        (IsHighValue architecture addresses.now relocations.now symbols.now) }
+    ensures { IfSome result (IsQuickValue architecture addresses.now relocations.now symbols.now
+        relocation.now row.now) }
+{
+    let Some(value) = found_value(
+        architecture,
+        addresses,
+        relocations,
+        symbols,
+        number,
+        row,
+        relocation,
+        high,
+    ) else {
+        return None;
+    };
+    if needs_upper(architecture, relocation, value) {
+        return None;
+    }
+    Some(value)
 }
 
 /// A high part. By itself, so that nothing is copied where there is none.

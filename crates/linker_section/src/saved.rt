@@ -1,6 +1,7 @@
 //! Bytes of a section that are kept until all values are written, and put back otherwise.
 
-ghost use Rattle.std.specs.Prelude.{◌≡◌, ◌≤◌, ◌<◌, ◌+◌, ◌/◌, List, ℕ, length, IfNone, IfSome};
+ghost use Rattle.std.specs.Prelude.{◌≡◌, ◌≤◌, ◌<◌, ◌+◌, ◌/◌, List, ℕ, length, IfNone, IfSome, drop};
+ghost use Rattle.std.specs.Int.{w64, from_le_bytes};
 ghost use Rattle.linker_section.specs.Inner.Saved.{IsSavedAt, with_word, saved_place, Restores};
 
 use crate::fields::ends_pair;
@@ -12,6 +13,7 @@ use linker_utils::elf::{Architecture, Row};
 #[inline(always)]
 pub(crate) fn whole_word_at(section: &[u8], offset: u64) -> Option<u64>
     ensures some { IfSome result (IsSavedAt offset section.now) }
+    ensures word { IfSome result (λ word. word ≡ from_le_bytes w64 (drop offset section.now)) }
     ensures none { IfNone result (length section.now < offset + 8) }
 {
     if section.len() as u64 <= offset {

@@ -41,6 +41,10 @@ pub enum ValueError {
     /// of `st_other` are 1), and that has no stub, which would keep the caller's. Only of
     /// `relocate_section`.
     NeedsStub,
+    /// A `*_HI20` of LoongArch whose value isn't a number of 32 signed bits, and that has no
+    /// `*64*_LO20` of its symbol and addend: 8 bytes after it where it is relative to the place, and
+    /// else anywhere in the section. Only of `relocate_section`.
+    OutOfReach,
 }
 
 /// The address of a symbol's entry of a class; 0 for none.

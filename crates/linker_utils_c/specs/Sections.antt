@@ -79,6 +79,7 @@ value_status value_errors.NoEntry = NoEntry
 value_status value_errors.NoHighPart = NoHighPart
 value_status value_errors.NotAligned = statuses.NotAligned
 value_status value_errors.NeedsStub = statuses.NeedsStub
+value_status value_errors.OutOfReach = statuses.OutOfReach
 
 abbrev pub IsValueReturned : Result (Option ℤ) ValueError → ℕ → ℤ → ℤ → Type 0
 IsValueReturned (Ok (Some v)) status old new = (status ≡ code Success) × (new ≡ v)

@@ -94,6 +94,7 @@ pub(crate) fn value_status_of(error: ValueError) -> Status {
         ValueError::NoHighPart => Status::NoHighPart,
         ValueError::NotAligned => Status::NotAligned,
         ValueError::NeedsStub => Status::NeedsStub,
+        ValueError::OutOfReach => Status::OutOfReach,
     }
 }
 

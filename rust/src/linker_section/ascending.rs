@@ -1,7 +1,7 @@
 // Made by tools/erase of crates/linker_section/src/ascending.rt.
 //! The values of relocations that ascend by offset, written.
 
-use crate::linker_section::conditions::has_length;
+use crate::linker_section::conditions::begins_with;
 use crate::linker_section::facts::{Addresses, Symbol};
 use crate::linker_section::fields::Field;
 use crate::linker_section::known::{KnownCode, learn, no_codes, place_of};
@@ -10,7 +10,9 @@ use crate::linker_section::relocations::{
     RELA_LEN, Rela, offset_at, relocation_in, relocation_of, relocations_from,
 };
 use crate::linker_section::saved::whole_word_at;
-use crate::linker_section::sections::{FIRST_STEP, NO_FIELD, SectionError, Step, Stopped, write_at, write_one};
+use crate::linker_section::sections::{
+    FIRST_STEP, NO_FIELD, SectionError, Step, Stopped, write_held_at, write_one,
+};
 use crate::elf::Architecture;
 
 /// Writes the value of the relocation at an index, if it is found and accepted with few
@@ -38,6 +40,14 @@ fn write_quickly(
     let Some(row) = &known.row else {
         return None;
     };
+    let Some(word) = whole_word_at(section, offset) else {
+        return None;
+    };
+    if !begins_with(architecture, known.length, word) {
+        return None;
+    }
+    // stored before the value is found, so that the word takes no register
+    memory[index] = word;
     let number = known.number;
     let Some(value) = quick_value(
         architecture,
@@ -51,14 +61,7 @@ fn write_quickly(
     ) else {
         return None;
     };
-    let Some(word) = whole_word_at(section, offset) else {
-        return None;
-    };
-    if !has_length(row, offset, section) {
-        return None;
-    }
-    memory[index] = word;
-    if write_at(row, value, offset, section).is_err() {
+    if write_held_at(row, value, offset, section).is_err() {
         return None;
     }
     let high = high_behind(

@@ -2,9 +2,11 @@
 //! What has to hold of a section's relocation besides that it has a value.
 
 use crate::linker_section::facts::{Addresses, Symbol};
-use crate::linker_section::relocations::Rela;
+use crate::linker_section::relocations::{Rela, first_from, relocation_in, relocations_len};
+use crate::linker_base::utils::u32_from_slice;
 use crate::elf::{
-    Architecture, Ppc64Instruction, RelocationInstruction, RelocationSize, RiscVInstruction, Row,
+    Architecture, LoongArch64Instruction, Ppc64Instruction, RelocationInstruction, RelocationKind,
+    RelocationSize, RiscVInstruction, Row,
 };
 
 /// Whether a symbol is a function of the output that may return with another TOC pointer, and has
@@ -131,4 +133,168 @@ pub(crate) fn has_length(row: &Row, offset: u64, section: &[u8]) -> bool {
     }
     let there = &section[offset as usize..];
     there.len() < row.window() || shows_length(row.info().size, there)
+}
+
+/// The lengths of instructions that their first 8 bytes show.
+#[derive(Clone, Copy)]
+pub(crate) enum Length {
+    /// Any.
+    Any,
+    /// An instruction of RISC-V of 2 bytes.
+    Two,
+    /// One of 4 bytes.
+    Four,
+    /// An instruction of PowerPC64 of 8 bytes.
+    Prefixed,
+}
+
+impl Length {
+    /// That of the instruction of a row.
+    pub(crate) fn of(size: RelocationSize) -> Length {
+        match size {
+            RelocationSize::BitMasking { insn, .. } => match insn {
+                RelocationInstruction::RiscV(insn) => match insn {
+                    RiscVInstruction::CbType
+                    | RiscVInstruction::CjType
+                    | RiscVInstruction::CluiType => Length::Two,
+                    _ => Length::Four,
+                },
+                RelocationInstruction::Ppc64(Ppc64Instruction::Prefixed) => Length::Prefixed,
+                _ => Length::Any,
+            },
+            RelocationSize::ByteSize(_) => Length::Any,
+        }
+    }
+
+    /// Whether a word of 8 bytes begins with an instruction of this length.
+    #[inline(always)]
+    fn is_shown(self, word: u64) -> bool {
+        match self {
+            Length::Any => true,
+            Length::Two => word % 4 != 3,
+            Length::Four => word % 4 == 3,
+            Length::Prefixed => word / (1 << 26) % 64 == 1,
+        }
+    }
+}
+
+/// Whether a word begins with an instruction of a length, in an architecture that has several.
+#[inline(always)]
+pub(crate) fn begins_with(architecture: Architecture, length: Length, word: u64) -> bool {
+    !matches!(architecture, Architecture::RiscV | Architecture::Ppc64) || length.is_shown(word)
+}
+
+/// Whether the base register of an instruction is the thread pointer.
+#[inline(always)]
+fn is_thread_based(size: RelocationSize, there: &[u8]) -> bool {
+    match size {
+        RelocationSize::BitMasking { range, insn } => match insn {
+            RelocationInstruction::RiscV(RiscVInstruction::IType | RiscVInstruction::SType) => {
+                u32_from_slice(there) / (1 << 15) % 32 == 4
+            }
+            RelocationInstruction::LoongArch64(LoongArch64Instruction::Shift10) => {
+                range.start == 0 && u32_from_slice(there) / (1 << 5) % 32 == 2
+            }
+            _ => false,
+        },
+        RelocationSize::ByteSize(_) => false,
+    }
+}
+
+/// Whether an instruction adds the whole of an offset from the thread pointer, if its base is that.
+/// True of any other value.
+#[inline(always)]
+fn holds_offset(row: &Row, value: i64, there: &[u8]) -> bool {
+    !matches!(row.kind(), RelocationKind::TpOff)
+        || (-0x800 <= value && value < 0x800)
+        || !is_thread_based(row.info().size, there)
+}
+
+/// The same of the field of a row at an offset. True where it isn't in the section.
+#[inline(always)]
+pub(crate) fn has_offset(row: &Row, value: i64, offset: u64, section: &[u8]) -> bool {
+    if (section.len() as u64) < offset {
+        return true;
+    }
+    let there = &section[offset as usize..];
+    there.len() < row.window() || holds_offset(row, value, there)
+}
+
+/// The code of the third relocation of a sequence of LoongArch for 64 bits, by that of the first.
+#[inline(always)]
+fn upper_code(code: u32) -> Option<u32> {
+    match code {
+        // R_LARCH_ABS_HI20, R_LARCH_PCALA_HI20
+        67 => Some(69),
+        71 => Some(73),
+        // R_LARCH_GOT_PC_HI20, R_LARCH_TLS_LD_PC_HI20, R_LARCH_TLS_GD_PC_HI20
+        75 | 95 | 97 => Some(77),
+        // R_LARCH_GOT_HI20, R_LARCH_TLS_LD_HI20, R_LARCH_TLS_GD_HI20
+        79 | 96 | 98 => Some(81),
+        // R_LARCH_TLS_LE_HI20, R_LARCH_TLS_IE_PC_HI20, R_LARCH_TLS_IE_HI20
+        83 => Some(85),
+        87 => Some(89),
+        91 => Some(93),
+        // R_LARCH_TLS_DESC_PC_HI20, R_LARCH_TLS_DESC_HI20
+        111 => Some(113),
+        115 => Some(117),
+        _ => None,
+    }
+}
+
+/// Whether such a first relocation is relative to the place.
+#[inline(always)]
+fn is_placed(code: u32) -> bool {
+    matches!(code, 71 | 75 | 87 | 95 | 97 | 111)
+}
+
+/// Whether a relocation is the third of the sequence that another begins.
+#[inline(always)]
+fn is_upper(high: &Rela, other: &Rela) -> bool {
+    let Some(code) = upper_code(high.code) else {
+        return false;
+    };
+    other.code == code
+        && other.symbol == high.symbol
+        && other.addend == high.addend
+        && (!is_placed(high.code) || other.offset == high.offset.wrapping_add(8))
+}
+
+/// Whether one of the relocations from an index to below another is.
+fn has_upper_among(relocations: &[u8], high: &Rela, from: usize, to: usize) -> bool {
+    for index in from..to {
+        if is_upper(high, &relocation_in(relocations, index)) {
+            return true;
+        }
+    }
+    false
+}
+
+/// Whether any relocation is. Those from the place on are searched first.
+#[inline(never)]
+fn has_upper(relocations: &[u8], high: &Rela) -> bool {
+    let first = first_from(relocations, high.offset);
+    has_upper_among(relocations, high, first, relocations_len(relocations))
+        || has_upper_among(relocations, high, 0, first)
+}
+
+/// Whether a value needs more than the instructions for 32 bits.
+#[inline(always)]
+pub(crate) fn needs_upper(architecture: Architecture, relocation: &Rela, value: i64) -> bool {
+    matches!(architecture, Architecture::LoongArch64)
+        && (value < -0x8000_0000 || 0x7fff_ffff < value)
+        // R_LARCH_TLS_LE_HI20_R
+        && (relocation.code == 121 || upper_code(relocation.code).is_some())
+}
+
+/// Whether a value is one of 32 signed bits, if a relocation begins a sequence of LoongArch without
+/// a part for the upper bits.
+#[inline(always)]
+pub(crate) fn is_in_reach(
+    architecture: Architecture,
+    relocations: &[u8],
+    relocation: &Rela,
+    value: i64,
+) -> bool {
+    !needs_upper(architecture, relocation, value) || has_upper(relocations, relocation)
 }

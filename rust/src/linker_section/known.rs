@@ -3,6 +3,7 @@
 //! relocations of few types.
 
 use crate::linker_section::codes::{NO_ROW, number_of};
+use crate::linker_section::conditions::Length;
 use crate::elf::{Architecture, Row};
 
 /// The row and the number of a code that was looked up.
@@ -13,6 +14,8 @@ pub(crate) struct KnownCode {
     pub(crate) number: u16,
     /// Its row, if it has one.
     pub(crate) row: Option<Row>,
+    /// The length of its instruction.
+    pub(crate) length: Length,
 }
 
 /// Codes that were looked up, each at its low 6 bits.
@@ -25,6 +28,7 @@ macro_rules! none {
             code: 0,
             number: NO_ROW,
             row: None,
+            length: Length::Any,
         }
     };
 }
@@ -109,10 +113,16 @@ pub(crate) fn place_of(code: u32) -> usize {
 /// What a code means. By itself, since most codes are looked up once.
 #[inline(never)]
 fn look_up(architecture: Architecture, code: u32) -> KnownCode {
+    let row = architecture.row(code);
+    let length = match &row {
+        Some(row) => Length::of(row.info().size),
+        None => Length::Any,
+    };
     KnownCode {
         code,
         number: number_of(architecture, code),
-        row: architecture.row(code),
+        row,
+        length,
     }
 }
 

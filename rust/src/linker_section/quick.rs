@@ -5,7 +5,7 @@
 //! these return nothing, `value_of` says what the value is, and why there is none.
 
 use crate::linker_section::codes::{HIGH, LOW, NO_ENTRY, PLAIN, way_of};
-use crate::linker_section::conditions::lacks_stub;
+use crate::linker_section::conditions::{lacks_stub, needs_upper};
 use crate::linker_section::facts::{Addresses, Symbol};
 use crate::linker_section::needed::entry_by;
 use crate::linker_section::relocations::Rela;
@@ -165,7 +165,7 @@ fn value_of_high(
 
 /// The value of a relocation; none where it isn't found so. Only the contract uses `_relocations`.
 #[inline(always)]
-pub(crate) fn quick_value(
+fn found_value(
     architecture: Architecture,
     addresses: &Addresses,
     _relocations: &[u8],
@@ -186,6 +186,36 @@ pub(crate) fn quick_value(
     } else {
         None
     }
+}
+
+/// The same, of a value that its own instructions reach.
+#[inline(always)]
+pub(crate) fn quick_value(
+    architecture: Architecture,
+    addresses: &Addresses,
+    relocations: &[u8],
+    symbols: &[Symbol],
+    number: u16,
+    row: &Row,
+    relocation: &Rela,
+    high: Option<HighPart>,
+) -> Option<i64> {
+    let Some(value) = found_value(
+        architecture,
+        addresses,
+        relocations,
+        symbols,
+        number,
+        row,
+        relocation,
+        high,
+    ) else {
+        return None;
+    };
+    if needs_upper(architecture, relocation, value) {
+        return None;
+    }
+    Some(value)
 }
 
 /// A high part. By itself, so that nothing is copied where there is none.

@@ -3,7 +3,7 @@
 
 use crate::linker_section::ascending::write_ascending_of;
 use crate::linker_section::codes::number_of;
-use crate::linker_section::conditions::{has_length, is_filled, lacks_stub};
+use crate::linker_section::conditions::{has_length, has_offset, is_filled, is_in_reach, lacks_stub};
 use crate::linker_section::facts::{Addresses, Symbol};
 use crate::linker_section::fields::{Field, begins_pair, ends_pair, is_of_pair, uleb_len};
 use crate::linker_section::order::first_overlap;
@@ -24,7 +24,10 @@ pub enum RelocationError {
     /// without a prefix at a relocation of 34 bits.
     OtherLength,
     /// Its value can't be written, as `Row::write` says. An offset past the section's end is
-    /// `TooShort`. A relocation of a ULEB128 number is `Unsupported` where it isn't of a pair.
+    /// `TooShort`. A relocation of a ULEB128 number is `Unsupported` where it isn't of a pair. An
+    /// offset from the thread pointer is `OutOfReach` also where the instruction's base register is
+    /// the thread pointer, and the offset isn't in -0x800..0x800: of `R_RISCV_TPREL_LO12_I`,
+    /// `R_RISCV_TPREL_LO12_S`, `R_LARCH_TLS_LE_LO12` and `R_LARCH_TLS_LE_LO12_R`.
     Write(RelocateError),
     /// The number of the pair at a ULEB128 number that it begins isn't written.
     Uleb128(Uleb128Error),
@@ -39,9 +42,10 @@ pub struct SectionError {
     pub error: RelocationError,
 }
 
-/// Writes a value to the bytes from an offset on.
+/// Writes a value to the bytes from an offset on, of which it isn't an offset from the thread
+/// pointer that an instruction with this base doesn't hold.
 #[inline(always)]
-pub(crate) fn write_at(
+pub(crate) fn write_held_at(
     row: &Row,
     value: i64,
     offset: u64,
@@ -51,6 +55,14 @@ pub(crate) fn write_at(
         return Err(RelocateError::TooShort);
     }
     row.write(value, &mut section[offset as usize..])
+}
+
+/// Writes a value to the bytes from an offset on.
+fn write_at(row: &Row, value: i64, offset: u64, section: &mut [u8]) -> Result<(), RelocateError> {
+    if !has_offset(row, value, offset, section) {
+        return Err(RelocateError::OutOfReach);
+    }
+    write_held_at(row, value, offset, section)
 }
 
 /// The row and the value of a relocation among those of its section.
@@ -78,6 +90,8 @@ fn row_value(
         Ok(Some(value)) => {
             if lacks_stub(architecture, symbols, relocation) {
                 Err(ValueError::NeedsStub)
+            } else if !is_in_reach(architecture, relocations, relocation, value) {
+                Err(ValueError::OutOfReach)
             } else {
                 Ok(Some((row, value)))
             }
@@ -453,11 +467,11 @@ pub fn memory_len(relocations: &[u8]) -> usize {
 ///   of 24 bits; and `R_RISCV_SET6`, `R_RISCV_SUB6`, `R_LARCH_ADD6` and `R_LARCH_SUB6`), or
 /// - to be a pair at a ULEB128 number, next to each other.
 ///
-/// A relocation without a value, as `R_RISCV_RELAX`, has no field. Where code would be wrong with its
-/// value, it isn't written (`NotAligned`, `NeedsStub`, `OtherLength`). A linker that removes the
-/// nops of an alignment itself sets the relocation's code to 0. n relocations that ascend by
-/// offset take time in proportion to n. In any other order their indexes are sorted in `memory`
-/// first, and the time is in proportion to n log n.
+/// A relocation without a value, as `R_RISCV_RELAX`, has no field. Where code would be wrong with
+/// its value, it isn't written (`NotAligned`, `NeedsStub`, `OtherLength`, `OutOfReach`). A linker
+/// that removes the nops of an alignment itself sets the relocation's code to 0. n relocations that
+/// ascend by offset take time in proportion to n. In any other order their indexes are sorted in
+/// `memory` first, and the time is in proportion to n log n.
 ///
 /// # Errors
 ///

@@ -8,6 +8,7 @@ use Rattle.linker_elf.specs.Value.{sum_64, difference_64, value_of}
 use Rattle.linker_elf.specs.declared.elf.RelocationKind.TheVariants as kinds
 use Rattle.linker_elf.specs.declared.elf.RelocationKindInfo.{RelocationKindInfo}
 use Rattle.linker_elf.specs.declared.elf.value.Operands.{Operands}
+use Rattle.linker_section.specs.Conditions.{is_tp_off, shows_length}
 use Rattle.linker_section.specs.Fields.{is_of_pair}
 use Rattle.linker_section.specs.Needed.{loads_plt_word, needs_of, needs_in}
 use Rattle.linker_section.specs.Values.{has_value, names_label, is_of_got, is_ppc64_branch}
@@ -96,6 +97,12 @@ low_result o =
     Some (cast_signed w64
     (difference_64 (sum_64 (sum_64 o.symbol (cast_unsigned w64 o.addend)) 0) o.place))
 
+-- the instructions of an architecture have several lengths, which their bits show
+abbrev pub shows_lengths : Architecture → Bool
+shows_lengths architectures.RiscV = true
+shows_lengths architectures.Ppc64 = true
+shows_lengths architecture = false
+
 -- what the way says of a row
 pub record SaysWay (architecture : Architecture) (code number : ℕ) (row : RelocationKindInfo)
     : Type 0 where
@@ -103,6 +110,10 @@ pub record SaysWay (architecture : Architecture) (code number : ℕ) (row : Relo
   pub has_value : When (is_quick number) (has_value row.kind) true
   pub single : When (is_quick number) (is_of_pair row) false
   pub some : When (is_quick number) (nat_lt 0 (window_len row)) true
+  pub shown : shows_lengths architecture ≡ false → (there : List ℕ)
+      → shows_length row.size there ≡ true
+  -- which isn't an offset from the thread pointer
+  pub unthreaded : When (is_quick number) (is_tp_off row.kind) false
   -- of a plain one the operands are those that most have
   pub unlabelled : When (is_plain number) (names_label row.size row.kind) false
   pub of_symbol : When (is_plain number) (is_of_got architecture code) false

@@ -1,5 +1,5 @@
 -- Values that are found by the numbers of codes, with few tests.
-use Rattle.std.specs.Prelude.{◌≡◌, ℕ, ◌%◌, ◌<◌, slice_index_or, true, false}
+use Rattle.std.specs.Prelude.{◌≡◌, ℕ, ◌/◌, ◌%◌, ◌^◌, ◌<◌, ◌==◌, Bool, not, slice_index_or, true, false}
 use Rattle.std.specs.Prelude.{ℤ, List, slice_get, Option, Some, IfSome, Ok}
 use Rattle.std.specs.List.{All}
 use Rattle.linker_elf.specs.Relocate.{window_len}
@@ -7,10 +7,19 @@ use Rattle.linker_elf.specs.Value.{difference_64, value_of}
 use Rattle.linker_elf.specs.declared.elf.RelocationKind.TheVariants.{RelativeRiscVLow12}
 use Rattle.linker_elf.specs.declared.elf.RelocationKindInfo.{RelocationKindInfo}
 use Rattle.linker_elf.specs.declared.elf.value.Operands.{Operands}
+use Rattle.linker_elf.specs.declared.elf.RelocationInstruction.TheVariants.{RiscV, Ppc64}
+use Rattle.linker_elf.specs.declared.elf.RelocationSize.{RelocationSize}
+use Rattle.linker_elf.specs.declared.elf.RelocationSize.TheVariants.{BitMasking}
+use Rattle.linker_elf.specs.declared.ppc64.forms.Ppc64Instruction.TheVariants.{Prefixed}
+use Rattle.linker_elf.specs.declared.riscv64.forms.RiscVInstruction.TheVariants.{CbType, CjType}
+use Rattle.linker_elf.specs.declared.riscv64.forms.RiscVInstruction.TheVariants.{CluiType}
+use Rattle.linker_section.specs.Conditions.{is_tp_off}
 use Rattle.linker_section.specs.Fields.{is_of_pair}
 use Rattle.linker_section.specs.Inner.Codes.{IsNumberOf, low_result}
 use Rattle.linker_section.specs.Sections.{HasValue}
 use Rattle.linker_section.specs.Values.{has_value, low_operands, operands_of, IsHighPart}
+use Rattle.linker_section.specs.declared.conditions.Length.{Length}
+use Rattle.linker_section.specs.declared.conditions.Length.TheVariants as lengths
 use Rattle.linker_section.specs.declared.facts.Addresses.{Addresses}
 use Rattle.linker_section.specs.declared.facts.Symbol.{Symbol}
 use Rattle.linker_section.specs.declared.known.KnownCode.{KnownCode}
@@ -19,16 +28,31 @@ use Rattle.linker_section.specs.declared.relocations.Rela.{Rela}
 use Rattle.linker_utils.specs.Architectures.{IsRow}
 use Rattle.linker_utils.specs.declared.elf.Architecture.{Architecture}
 
--- a row and a number are those of a code
-pub record AreOf (architecture : Architecture) (code : ℕ) (found : RelocationKindInfo × ℕ)
-    : Type 0 where
-  pub is_row : IsRow architecture code (Some (found.0))
-  pub is_number : IsNumberOf architecture code (found.1)
+-- the length of the instruction of a row
+abbrev pub length_of : RelocationSize → Length
+length_of (BitMasking bits (RiscV CbType)) = lengths.Two
+length_of (BitMasking bits (RiscV CjType)) = lengths.Two
+length_of (BitMasking bits (RiscV CluiType)) = lengths.Two
+length_of (BitMasking bits (RiscV insn)) = lengths.Four
+length_of (BitMasking bits (Ppc64 Prefixed)) = lengths.Prefixed
+length_of size = lengths.Any
 
--- what is kept of a code is its row and its number
+-- a word of 8 bytes begins with an instruction of a length
+abbrev pub shows : Length → ℕ → Bool
+shows lengths.Any word = true
+shows lengths.Two word = not (word % 4 == 3)
+shows lengths.Four word = word % 4 == 3
+shows lengths.Prefixed word = word / 2 ^ 26 % 64 == 1
+
+-- what is kept of a code is its number, its row and the length of its instruction
+pub record AreOf (architecture : Architecture) (known : KnownCode) (row : RelocationKindInfo)
+    : Type 0 where
+  pub is_row : IsRow architecture known.code (Some row)
+  pub is_number : IsNumberOf architecture known.code known.number
+  pub is_length : known.length ≡ length_of row.size
+
 abbrev pub IsKnown : Architecture → KnownCode → Type 0
-IsKnown architecture known =
-    IfSome known.row (λ row. AreOf architecture known.code (row, known.number))
+IsKnown architecture known = IfSome known.row (AreOf architecture known)
 
 abbrev pub AreKnown : Architecture → List KnownCode → Type 0
 AreKnown architecture known = All (IsKnown architecture) known
@@ -51,6 +75,7 @@ pub record IsQuickValue (architecture : Architecture) (addresses : Addresses) (b
   pub valued : has_value row.kind ≡ true
   pub single : is_of_pair row ≡ false
   pub some : 0 < window_len row
+  pub unthreaded : is_tp_off row.kind ≡ false
 
 -- the value that low parts take of a high part among a section's relocations
 pub record IsHighValue (architecture : Architecture) (addresses : Addresses) (bytes : List ℕ)

@@ -1,11 +1,17 @@
-use Rattle.std.proofs.Common.{◌<◌, ◌^◌, ◌∙◌, refl, sym, ap, subst, arith, rules, length, set, FitsSigned, to_z, of_z, None}
+use Rattle.std.specs.Int.{from_le_bytes}
+use Rattle.std.specs.Prelude.{IfSome, slice_index, not, ◌||◌}
+use Rattle.std.proofs.lemmas.Bool.{cases_Bool}
+use Rattle.linker_section.proofs.CodeNumbers.{says_way}
+use Rattle.linker_section.specs.Inner.Codes.{shows_lengths}
+use Rattle.std.proofs.lemmas.List.{get_or-drop}
+use Rattle.std.proofs.Common.{◌≡◌, ℕ, ◌+◌, drop, ◌<◌, ◌^◌, ◌∙◌, refl, sym, ap, subst, arith, rules, length, set, FitsSigned, to_z, of_z, inl, inr, None}
 use Rattle.std.specs.Int.{w64}
 use Rattle.std.proofs.lemmas.Int.{to_z-of_z}
 use Rattle.linker_elf.specs.Relocate.{window_len}
-use Rattle.linker_section.proofs.Lengths.{length_of}
+use Rattle.linker_section.proofs.Lengths.{unthreaded_holds, word_shows}
 use Rattle.linker_section.proofs.Local.{one_local}
 use Rattle.linker_section.proofs.Reaching.{is_written, not_written, reached_kept, reached_quickly}
-use Rattle.linker_section.specs.Inner.Quick.{IsQuickValue}
+use Rattle.linker_section.specs.Inner.Quick.{AreOf, IsQuickValue, shows}
 use Rattle.linker_section.specs.Inner.Saved.{IsSavedAt}
 use Rattle.linker_section.specs.Inner.Steps.{Reached}
 use Rattle.linker_section.specs.Sections.{IsWritten, IsWrittenAt}
@@ -18,23 +24,46 @@ returns-then-is_err-clause-step c before last within reached =
     let a = c.args in
     let section = a.section.now in
     let memory = set a.memory.now a.index c.in-Some-whole_word_at.word in
-    let same = not_written c.in-Some.row _ a.relocation.now.offset section c.write_at.new.section c.write_at.result
-    (sym c.is_err.ensures.value ∙ c.if-is_err.true) c.write_at.ensures in
+    let same = not_written c.in-Some.row _ a.relocation.now.offset section c.write_held_at.new.section c.write_held_at.result
+    (sym c.is_err.ensures.value ∙ c.if-is_err.true) c.write_held_at.ensures in
     subst (λ now. Reached a.architecture a.addresses.now a.relocations.now a.symbols.now None before now memory a.index last) (sym same)
     (reached_kept a.architecture a.addresses.now a.relocations.now a.symbols.now None before section a.memory.now a.index c.in-Some-whole_word_at.word last reached)
 
-pub write_at-requires : goal.write_at-requires
-write_at-requires c =
-    length_of c.in-Some.row c.args.relocation.now.offset c.args.section.now c.has_length.result c.has_length.ensures c.if-not-has_length.false
+pub returns-in_default-quick_value-clause-step : goal.returns-in_default-quick_value-clause-step
+returns-in_default-quick_value-clause-step c before last within reached =
+    let a = c.args in
+    reached_kept a.architecture a.addresses.now a.relocations.now a.symbols.now None before a.section.now a.memory.now a.index c.in-Some-whole_word_at.word last reached
+
+pub write_held_at-requires-clause-length : goal.write_held_at-requires-clause-length
+write_held_at-requires-clause-length c inside long =
+    let section = c.args.section.now in
+    let o = c.args.relocation.now.offset in
+    let row = c.in-Some.row in
+    let small : (i : ℕ) → slice_index section i < 256 = λ i. search rules in
+    let known = subst (λ x. IfSome x (AreOf c.args.architecture c.args.known.now)) c.in-Some.is c.requires.known in
+    let word = subst (λ x. IfSome x (λ word. word ≡ from_le_bytes w64 (drop o section))) c.in-Some-whole_word_at.is c.whole_word_at.ensures.word in
+    let several = shows_lengths c.args.architecture in
+    elim (cases_Bool several) [
+      | inl is ↦
+          sym (word_shows row.size (drop o section) (λ i. subst (λ b. b < 256) (sym (get_or-drop o section i 0)) (small (o + i))))
+          ∙ (ap (λ l. shows l (from_le_bytes w64 (drop o section))) (sym known.is_length)
+          ∙ (ap (shows c.args.known.now.length) (sym word)
+          ∙ (ap (λ b. not b || shows c.args.known.now.length c.in-Some-whole_word_at.word) (sym is) ∙ (sym c.begins_with.ensures ∙ c.if-not-begins_with.false))))
+      | inr isnt ↦ (says_way c.args.architecture c.args.known.now.code c.args.known.now.number row known.is_number known.is_row).shown isnt (drop o section)
+    ]
+
+pub write_held_at-requires-clause-offset : goal.write_held_at-requires-clause-offset
+write_held_at-requires-clause-offset c inside long =
+    unthreaded_holds c.in-Some.row (to_z w64 (of_z w64 c.in-Some-quick_value.value)) (drop c.args.relocation.now.offset c.args.section.now) c.in-Some-quick_value.ensures.unthreaded
 
 pub overflow_add-result : goal.overflow_add-result
 overflow_add-result c =
     let a = c.args in
     let section = a.section.now in
     let row = c.in-Some.row in
-    let written = is_written row _ a.relocation.now.offset section c.write_at.new.section c.write_at.result
-    (sym c.is_err.ensures.value ∙ c.if-is_err.false) c.write_at.ensures in
-    let local = one_local row _ a.relocation.now.offset section c.write_at.new.section written in
+    let written = is_written row _ a.relocation.now.offset section c.write_held_at.new.section c.write_held_at.result
+    (sym c.is_err.ensures.value ∙ c.if-is_err.false) c.write_held_at.ensures in
+    let local = one_local row _ a.relocation.now.offset section c.write_held_at.new.section written in
     let inside = local.inside in
     let long : length section < 2 ^ 63 = search rules in
     let window = c.window.ensures in
@@ -46,7 +75,7 @@ returns-clause-step c before last within reached =
     let i = a.index in
     let bytes = a.relocations.now in
     let section = a.section.now in
-    let after = c.write_at.new.section in
+    let after = c.write_held_at.new.section in
     let row = c.in-Some.row in
     let word = c.in-Some-whole_word_at.word in
     let v = c.in-Some-quick_value.value in
@@ -61,9 +90,9 @@ returns-clause-step c before last within reached =
     let fits : FitsSigned w64 v = search rules in
     let saved = subst (λ r. IsSavedAt r.offset section word) same c.in-Some-whole_word_at.ensures.some in
     let written : IsWritten row v o section after =
-    is_written row v o section after c.write_at.result (sym c.is_err.ensures.value ∙ c.if-is_err.false)
-    (subst (λ x. IsWrittenAt row x o section after c.write_at.result) (to_z-of_z w64 v fits)
-    (subst (λ r. IsWrittenAt row (to_z w64 (of_z w64 v)) r.offset section after c.write_at.result) same c.write_at.ensures)) in
+    is_written row v o section after c.write_held_at.result (sym c.is_err.ensures.value ∙ c.if-is_err.false)
+    (subst (λ x. IsWrittenAt row x o section after c.write_held_at.result) (to_z-of_z w64 v fits)
+    (subst (λ r. IsWrittenAt row (to_z w64 (of_z w64 v)) r.offset section after c.write_held_at.result) same c.write_held_at.ensures)) in
     let field : Field = record { offset = o; len = window_len row; kind = row.kind } in (
       field,
       record { row = row; is_row = value.has.is_row; is_field = refl },

@@ -1,9 +1,12 @@
-use Rattle.std.proofs.Common.{sym, ap, subst, refl, ◌∙◌, Some, None, Ok}
+use Rattle.std.proofs.Common.{sym, ap, subst, refl, ◌∙◌, rules, true≢false, FitsSigned, to_z, of_z, Some, None, Ok}
+use Rattle.std.specs.Int.{w64}
+use Rattle.std.proofs.lemmas.Int.{to_z-of_z}
 use Rattle.linker_section.proofs.CodeNumbers.{says}
 use Rattle.linker_section.specs.Inner.Codes.{SaysNeeds}
 use Rattle.linker_elf.specs.declared.elf.RelocationKindInfo.{RelocationKindInfo}
-use Rattle.linker_section.specs.Sections.{IsValueless}
-use Rattle.linker_section.specs.Values.{names_label, IsValue, IsValueBy}
+use Rattle.linker_section.specs.Conditions.{IsInReach}
+use Rattle.linker_section.specs.Sections.{HasValue, IsValueless}
+use Rattle.linker_section.specs.Values.{names_label, IsValue, IsValueBy, IsValueIn}
 use Rattle.linker_utils.specs.Architectures.{IsRow}
 use Rattle.linker_section.proofs.sections.row_value.Goals as goal
 
@@ -31,6 +34,19 @@ returns-then-lacks_stub c =
     (subst (IsValue a.architecture a.addresses.now a.relocations.now a.symbols.now a.relocation.now) (c.in-Ok-Some.is ∙ ap Ok c.in-Ok-Some.field-0-is) value)
     (sym c.lacks_stub.ensures ∙ c.if-lacks_stub.true)
 
+pub returns-then-not-is_in_reach : goal.returns-then-not-is_in_reach
+returns-then-not-is_in_reach c =
+    let a = c.args in
+    let value : IsValue a.architecture a.addresses.now a.relocations.now a.symbols.now a.relocation.now c.value_of.result = (
+      Some c.in-Some.row,
+      subst (IsRow a.architecture a.relocation.now.code) c.in-Some.is c.row.ensures,
+      subst (λ (info : RelocationKindInfo). IsValueBy (names_label info.size info.kind) a.architecture a.addresses.now a.relocations.now a.symbols.now info a.relocation.now c.value_of.result) c.info-info.ensures.row c.value_of.ensures,
+    ) in
+    let fits : FitsSigned w64 c.in-Ok-Some.value = search rules in
+    IsValueless.beyond
+    (subst (IsValue a.architecture a.addresses.now a.relocations.now a.symbols.now a.relocation.now) (c.in-Ok-Some.is ∙ ap Ok c.in-Ok-Some.field-0-is) value)
+    (λ reaches. true≢false (sym ((c.is_in_reach.ensures).1 (subst (IsInReach a.architecture a.relocations.now a.relocation.now) (sym (to_z-of_z w64 c.in-Ok-Some.value fits)) reaches)) ∙ c.if-not-is_in_reach.true))
+
 pub returns-else-is_filled : goal.returns-else-is_filled
 returns-else-is_filled c =
     let a = c.args in
@@ -53,3 +69,19 @@ returns-in-Err c =
     ) in
     IsValueless.no_value
     (subst (IsValue a.architecture a.addresses.now a.relocations.now a.symbols.now a.relocation.now) c.in-Err.is value)
+
+pub returns-else-not-is_in_reach : goal.returns-else-not-is_in_reach
+returns-else-not-is_in_reach c =
+    let a = c.args in
+    let row = c.in-Some.row in
+    let v = c.in-Ok-Some.value in
+    let fits : FitsSigned w64 v = search rules in
+    let value : IsValueIn a.architecture a.addresses.now a.relocations.now a.symbols.now a.relocation.now (Some row) c.value_of.result =
+    subst (λ (info : RelocationKindInfo). IsValueBy (names_label info.size info.kind) a.architecture a.addresses.now a.relocations.now a.symbols.now info a.relocation.now c.value_of.result) c.info-info.ensures.row c.value_of.ensures in
+    subst (HasValue a.architecture a.addresses.now a.relocations.now a.symbols.now a.relocation.now row) (sym (to_z-of_z w64 v fits))
+    (record {
+      is_row = subst (IsRow a.architecture a.relocation.now.code) c.in-Some.is c.row.ensures;
+      is_value = subst (IsValueIn a.architecture a.addresses.now a.relocations.now a.symbols.now a.relocation.now (Some row)) (c.in-Ok-Some.is ∙ ap Ok c.in-Ok-Some.field-0-is) value;
+      keeps_toc = sym c.lacks_stub.ensures ∙ c.if-lacks_stub.false;
+      in_reach = subst (IsInReach a.architecture a.relocations.now a.relocation.now) (to_z-of_z w64 v fits) ((c.is_in_reach.ensures).0 c.if-not-is_in_reach.false);
+    })

@@ -1,23 +1,26 @@
-use Rattle.std.proofs.Common.{rules, refl, ◌+◌, ◌-◌, ◌≤◌, length, drop, subst, arith, sym, ◌∙◌}
+use Rattle.std.proofs.Common.{◌≡◌, ◌∙◌, rules, refl, subst, sym, true≢false, FitsSigned, to_z, of_z}
 use Rattle.std.specs.Int.{w64}
-use Rattle.std.specs.Prelude.{OnOk, IfErr}
 use Rattle.std.proofs.lemmas.Int.{to_z-of_z}
-use Rattle.std.proofs.lemmas.List.{take_all, take_rest}
-use Rattle.std.proofs.lemmas.Slice.{take-put_mid}
-use Rattle.linker_elf.specs.Relocate.{WritesRow, RejectsValue}
-use Rattle.linker_section.proofs.Writing.{written_at}
+use Rattle.linker_section.proofs.Lengths.{offset_of, offset_beyond}
+use Rattle.linker_section.specs.Conditions.{HoldsOffset}
+use Rattle.linker_section.specs.Sections.{IsWrittenAt}
 use Rattle.linker_section.proofs.sections.write_at.Goals as goal
+
+pub returns-then-not-has_offset : goal.returns-then-not-has_offset
+returns-then-not-has_offset c =
+    let a = c.args in
+    let value = to_z-of_z w64 a.value c.ranges.value in (
+      offset_beyond a.row.now a.value a.offset a.section.now
+          (λ held. true≢false (sym ((c.has_offset.ensures).1 (subst (λ v. HoldsOffset a.row.now v a.offset a.section.now) (sym value) held)) ∙ c.if-not-has_offset.true)),
+      refl,
+    )
+
+pub write_held_at-requires-clause-offset : goal.write_held_at-requires-clause-offset
+write_held_at-requires-clause-offset c =
+    offset_of c.args.row.now (to_z w64 (of_z w64 c.args.value)) c.args.offset c.args.section.now c.has_offset.result c.has_offset.ensures c.if-not-has_offset.false
 
 pub returns : goal.returns
 returns c =
-    let section = c.args.section.now in
-    let offset = c.args.offset in
-    let row = c.args.row.now in
-    let rest = c.write.new.dest in
-    let inside : offset ≤ length section = let l = c.if-section-offset.false in omega arith in
-    let value = to_z-of_z w64 c.args.value c.ranges.value in
-    written_at row c.args.value offset section _ rest c.write.result inside c.requires
-    (sym (take_all (offset + length rest) _ (search rules)) ∙ take-put_mid offset (length section - offset) section rest (offset + length rest) refl inside)
-    (search rules)
-    (subst (λ v. OnOk c.write.result (WritesRow row v (drop offset section) rest)) value (rw (take_rest section offset) at c.write.ensures.ok))
-    (subst (λ v. IfErr c.write.result (RejectsValue row v (drop offset section) rest)) value (rw (take_rest section offset) at c.write.ensures.err))
+    let a = c.args in
+    subst (λ v. IsWrittenAt a.row.now v a.offset a.section.now c.write_held_at.new.section c.write_held_at.result)
+    (to_z-of_z w64 a.value c.ranges.value) c.write_held_at.ensures

@@ -3,7 +3,7 @@ use Rattle.std.proofs.lemmas.Bool.{eq-eqb}
 use Rattle.linker_section.proofs.CodeNumbers.{says, says_way}
 use Rattle.linker_section.proofs.QuickValues.{if_some, plain_quick, low_quick}
 use Rattle.linker_section.specs.Inner.Codes.{is_plain, is_low}
-use Rattle.linker_section.proofs.quick.quick_value.Goals as goal
+use Rattle.linker_section.proofs.quick.found_value.Goals as goal
 
 pub plain_value-requires-clause-needs : goal.plain_value-requires-clause-needs
 plain_value-requires-clause-needs c =
@@ -21,7 +21,7 @@ returns-then-matches c =
     let way = says_way a.architecture a.relocation.now.code a.number a.row.now c.requires.number c.requires.row in
     let plain : is_plain a.number ≡ true = search rules in
     if_some c.plain_value.result
-    (λ v is. plain_quick a.architecture a.addresses.now a._relocations.now a.symbols.now a.relocation.now a.row.now a.number v c.requires.row way plain (sym c.lacks_stub.ensures ∙ c.if-lacks_stub.false) is)
+    (λ v is reached. plain_quick a.architecture a.addresses.now a._relocations.now a.symbols.now a.relocation.now a.row.now a.number v c.requires.row way plain (sym c.lacks_stub.ensures ∙ c.if-lacks_stub.false) is reached)
     c.plain_value.ensures
 
 pub returns-then-matches-2 : goal.returns-then-matches-2
@@ -30,5 +30,5 @@ returns-then-matches-2 c =
     let way = says_way a.architecture a.relocation.now.code a.number a.row.now c.requires.number c.requires.row in
     let low : is_low a.number ≡ true = eq-eqb (a.number / 256) 3 (sym c.way_of-way.ensures ∙ c.if-way-eq-LOW.true) in
     if_some c.value_of_high.result
-    (λ v is. low_quick a.architecture a.addresses.now a._relocations.now a.symbols.now a.relocation.now a.row.now a.number v a.high c.requires.row way low (sym c.lacks_stub.ensures ∙ c.if-lacks_stub.false) c.requires.high is)
+    (λ v is reached. low_quick a.architecture a.addresses.now a._relocations.now a.symbols.now a.relocation.now a.row.now a.number v a.high c.requires.row way low (sym c.lacks_stub.ensures ∙ c.if-lacks_stub.false) c.requires.high is reached)
     c.value_of_high.ensures

@@ -1,0 +1,8 @@
+use Rattle.std.proofs.Common.{◌≡◌, ◌<◌, ◌≤◌, ℕ, false}
+use Rattle.linker_section.specs.Conditions.{is_upper}
+use Rattle.linker_section.specs.Relocations.{relocation_in}
+use Rattle.linker_section.proofs.conditions.has_upper_among.Given as goal
+
+abbrev pub invariant-loop-index : goal.invariant-loop-index
+invariant-loop-index l =
+    (k : ℕ) → l.from ≤ k → k < l.index → is_upper l.high (relocation_in l.relocations k) ≡ false
