@@ -37,6 +37,7 @@ static void add_items(struct section *s) {
     const struct output *o = s->output;
     size_t all = s->relocations_len, most = all + s->deleted_len, len = 0, at = SIZE_MAX;
     uint64_t base = o->base + s->offset;
+    progress("relaxing", s->object);
     if (s->gap) items[items_len++] = alignment_item(base - s->gap, s->gap + code_unit(), s->gap);
     relocations = grow(relocations, all, &room, sizeof *relocations);
     for (size_t i = 0; i < all; i++) {

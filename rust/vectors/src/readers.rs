@@ -126,7 +126,7 @@ fn bits_and_signs_are_extracted() {
             expect_eq(
                 *number,
                 number.sign_extend(*sign),
-                extended as u64,
+                u64::from_le_bytes(extended.to_le_bytes()),
             );
         }
     }
