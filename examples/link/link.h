@@ -1,3 +1,4 @@
+/* SPDX-License-Identifier: MIT OR Apache-2.0 */
 /* A small linker over the library, for RISC-V, AArch64, LoongArch, PowerPC64 (ELFv2, little-endian)
  * and x86-64, none of which it knows. It reads relocatable ELF64 objects, archives of them and
  * shared libraries, and writes an executable that begins at `_start`, static or for a dynamic

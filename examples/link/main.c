@@ -1,3 +1,4 @@
+/* SPDX-License-Identifier: MIT OR Apache-2.0 */
 /* usage: link [-s] [--no-relax | --short-offsets | --relax-gp] [-pie | -shared [-soname NAME]]
  *             [-z now | -z relro]... -o OUTPUT [--section-start=NAME=ADDRESS]... FILE...
  * A file is an object, an archive or a shared library. The output is a static executable; with

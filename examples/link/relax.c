@@ -1,3 +1,4 @@
+/* SPDX-License-Identifier: MIT OR Apache-2.0 */
 /* What is deleted of RISC-V and LoongArch code: the second halves of calls and of addresses that
  * one instruction reaches, what thread-local offsets of 12 bits don't need, and the nops that an
  * alignment doesn't need. All sections are relaxed together, with the gaps between them, so that

@@ -1,3 +1,4 @@
+/* SPDX-License-Identifier: MIT OR Apache-2.0 */
 /* Rewrites: what the library chooses in each phase, of all code. */
 #include "link.h"
 

@@ -1,3 +1,4 @@
+// SPDX-License-Identifier: MIT OR Apache-2.0
 //! The objects of `examples/objects`, as ld.lld 19 linked them (`tests/make`).
 
 mod random;

@@ -1,3 +1,4 @@
+// SPDX-License-Identifier: MIT OR Apache-2.0
 //! The programs of `tests/gnu`, as GNU ld and ld.lld 19 linked them (`tests/gnu/make`).
 
 mod random;

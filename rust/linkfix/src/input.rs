@@ -1,3 +1,4 @@
+// SPDX-License-Identifier: MIT OR Apache-2.0
 // Made by tools/erase of crates/linkfix/src/input.rt.
 //! The lines of a reader, within a limit on the number of reads.
 

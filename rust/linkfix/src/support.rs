@@ -1,3 +1,4 @@
+// SPDX-License-Identifier: MIT OR Apache-2.0
 //! What the library has of the calls that allocate, and what only the program needs.
 
 #[macro_use]

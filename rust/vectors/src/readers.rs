@@ -1,3 +1,4 @@
+// SPDX-License-Identifier: MIT OR Apache-2.0
 // Made by tools/erase of crates/vectors/src/readers.rt.
 //! Bits, words, masks, ULEB128 numbers and texts, and their errors, worked by hand.
 

@@ -1,3 +1,4 @@
+// SPDX-License-Identifier: MIT OR Apache-2.0
 // Made by tools/erase of crates/vectors/src/words.rt.
 //! Immediates, sequences and relocations of all architectures, worked by hand from their manuals.
 

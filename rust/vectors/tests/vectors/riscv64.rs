@@ -1,3 +1,4 @@
+// SPDX-License-Identifier: MIT OR Apache-2.0
 //! RISC-V: instructions, pairs and rewrites as assemblers and linkers write them, and values worked
 //! by hand from the manual.
 
