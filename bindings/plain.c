@@ -1,3 +1,4 @@
+/* SPDX-License-Identifier: MIT OR Apache-2.0 */
 /* The inline functions of the header as functions of the shared library, for callers that don't
  * read it: without the words `static` and `inline` its definitions are such functions. */
 #include <stdbool.h>

@@ -1,3 +1,4 @@
+/* SPDX-License-Identifier: MIT OR Apache-2.0 */
 /* Which library a program has: compiled into each archive, LINKER_UTILS_PROVED is 1 for the proved
  * one and 0 for that of ordinary Rust. */
 #include "../include/linker_utils.h"

@@ -1,5 +1,5 @@
-/* The verified core of a linker, for programs in C99 and C++11, or later.
- *
+/* SPDX-License-Identifier: MIT OR Apache-2.0
+ * The verified core of a linker, for programs in C99 and C++11, or later.
  * Build with `cc x.c $(pkg-config --cflags --libs linker_utils)`; `bindings/c` has a program for
  * each group of calls.
  *

@@ -1,3 +1,4 @@
+/* SPDX-License-Identifier: MIT OR Apache-2.0 */
 /* The further calls of linker_utils.h, which includes this file. What is said there of all calls
  * holds for these. */
 #ifndef LINKER_UTILS_FURTHER_H

@@ -1,3 +1,4 @@
+/* SPDX-License-Identifier: MIT OR Apache-2.0 */
 /* The inline functions of linker_utils.h, which includes this file and says what they do.
  *
  * No export of the archive takes a null pointer to a slice, even with a count of 0. So each

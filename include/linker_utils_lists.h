@@ -1,3 +1,4 @@
+/* SPDX-License-Identifier: MIT OR Apache-2.0 */
 /* The lists of linker_utils.h, which includes this file: the statuses, and the numbers of
  * architectures, kinds of relocations, forms, rewrites and others. Behind the rewrites are the
  * tables of choices. */

@@ -1,3 +1,4 @@
+/* SPDX-License-Identifier: MIT OR Apache-2.0 */
 /* Preloaded, alters the reads of the standard input and the writes to the standard output, as these
    variables say where they are set. At the end it writes a line to the standard error: how many reads
    there were, the fewest bytes that one of them had room for, and how many writes failed.

@@ -1,3 +1,4 @@
+/* SPDX-License-Identifier: MIT OR Apache-2.0 */
 /* A program for tools/census_programs: calls, data, a switch, thread-local variables and weak
    symbols, each within the file and outside it. */
 typedef struct node { struct node *next; long (*call)(long); const char *name; } node;

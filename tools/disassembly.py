@@ -1,3 +1,4 @@
+# SPDX-License-Identifier: MIT OR Apache-2.0
 """What disassemblers say of instructions with an immediate: which forms it has, by their mnemonic, and
 the number in it. The numbers are those that llvm-objdump 19 prints, or GNU objdump where LLVM doesn't
 know the instruction. Of each instruction it knows nothing but its address and that text."""

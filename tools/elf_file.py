@@ -1,3 +1,4 @@
+# SPDX-License-Identifier: MIT OR Apache-2.0
 """Reads ELF files of 64 bits and little-endian byte order, by their tables alone: sections, segments,
 symbols and relocations; and the members of archives. Fields are those of the ELF specification, with
 names in words: `home` is `st_shndx`."""

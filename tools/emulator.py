@@ -1,3 +1,4 @@
+# SPDX-License-Identifier: MIT OR Apache-2.0
 """A processor of qemu's user emulation, driven one instruction at a time by the protocol of GDB."""
 import os
 import random

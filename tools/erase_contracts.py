@@ -1,3 +1,4 @@
+# SPDX-License-Identifier: MIT OR Apache-2.0
 """The contracts of the source's functions: what a `requires` is called, and which Rust tests it."""
 import re
 from collections import Counter

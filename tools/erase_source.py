@@ -1,3 +1,4 @@
+# SPDX-License-Identifier: MIT OR Apache-2.0
 """A file of Rust or of the proved source: its tokens and items, and edits of its text."""
 import re
 import sys

@@ -1,3 +1,4 @@
+/* SPDX-License-Identifier: MIT OR Apache-2.0 */
 /* Preloaded, makes the allocation of the number FAIL_AT fail, counted from 1, and writes a byte to
    the standard error when it does. */
 #define _GNU_SOURCE

@@ -1,3 +1,4 @@
+# SPDX-License-Identifier: MIT OR Apache-2.0
 """Runs of proved programs in which one allocation fails, or reads and writes do: what `test_linkfix`
 and `test_refused_growth` share."""
 import subprocess

@@ -1,3 +1,4 @@
+# SPDX-License-Identifier: MIT OR Apache-2.0
 """Names of instructions by their opcodes, for tools/places: those that stand at relocations. What has
 no name here is named by the bits of its opcode."""
 import struct

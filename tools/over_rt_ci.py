@@ -1,4 +1,5 @@
 #!/usr/bin/env python3
+# SPDX-License-Identifier: MIT OR Apache-2.0
 """The arguments with which the kit's compiler reads a crate over the libraries below it that
 `rt ci` proved and left in out/, with their statements only. `rt check` and `rt lib` would prove
 these a second time.

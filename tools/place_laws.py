@@ -1,3 +1,4 @@
+# SPDX-License-Identifier: MIT OR Apache-2.0
 """What the laws of rewrites (crates/linker_laws/specs) ask of instructions, for tools/places: which
 of the places at which a rewrite is chosen the laws cover, and why they don't cover the others."""
 import collections

@@ -1,3 +1,4 @@
+# SPDX-License-Identifier: MIT OR Apache-2.0
 """High and low parts of addresses and offsets, for tools/places: which high part a low part belongs
 to, and how both stand."""
 import collections

@@ -1,3 +1,4 @@
+// SPDX-License-Identifier: MIT OR Apache-2.0
 //! The calls of `exports.rs`, of the crate in `rust/`.
 
 use erased_crate::elf::{RelocationInstruction, RelocationKindInfo, RelocationSize};

@@ -1,3 +1,4 @@
+// SPDX-License-Identifier: MIT OR Apache-2.0
 //! Calls of the static library: a row, a write, a rewrite, deltas and a ULEB128 number.
 
 use sathunne::*;

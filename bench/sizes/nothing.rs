@@ -1,3 +1,4 @@
+// SPDX-License-Identifier: MIT OR Apache-2.0
 //! A program that calls no library: what the others' sizes are compared with.
 
 fn main() {

@@ -1,3 +1,4 @@
+// SPDX-License-Identifier: MIT OR Apache-2.0
 //! The calls of `exports.rs`, of the original crate.
 
 use linker_utils::elf::{RelocationInstruction, RelocationKindInfo, RelocationSize};

@@ -1,3 +1,4 @@
+// SPDX-License-Identifier: MIT OR Apache-2.0
 //! A stream of relocations whose instructions are rewritten: each is looked up, its rewrite chosen
 //! and applied, and its value computed and written; beside the same without a rewrite.
 

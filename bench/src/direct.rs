@@ -1,3 +1,4 @@
+// SPDX-License-Identifier: MIT OR Apache-2.0
 //! The crate in `rust/` and the original one, called directly, so that the compiler may inline
 //! both.
 

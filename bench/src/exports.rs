@@ -1,3 +1,4 @@
+// SPDX-License-Identifier: MIT OR Apache-2.0
 //! The static library's exports, and calls of the same arguments, through pointers that the compiler
 //! can't see through.
 

@@ -1,3 +1,4 @@
+// SPDX-License-Identifier: MIT OR Apache-2.0
 //! The exports without a counterpart in the original crate that no other part measures.
 
 use crate::choices::{STRIDE, Stream};

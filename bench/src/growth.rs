@@ -1,3 +1,4 @@
+// SPDX-License-Identifier: MIT OR Apache-2.0
 //! How the time of a whole call grows with its input, where an algorithm could be quadratic: a call
 //! over so many entries beside one over a fourth of them. What is linear takes 4 times as long.
 

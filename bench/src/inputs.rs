@@ -1,3 +1,4 @@
+// SPDX-License-Identifier: MIT OR Apache-2.0
 //! Random numbers by xorshift, the same in each run.
 
 pub struct Random(u64);

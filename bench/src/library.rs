@@ -1,3 +1,4 @@
+// SPDX-License-Identifier: MIT OR Apache-2.0
 //! What each of the compared sides does in a round.
 
 use crate::measure::Side;

@@ -1,3 +1,4 @@
+// SPDX-License-Identifier: MIT OR Apache-2.0
 //! Measures the exports of a library and the crate in `rust/`, and compares each with the original
 //! crate where it is built in. Before a line is timed all sides do the same, and have to give the
 //! same.

@@ -1,3 +1,4 @@
+// SPDX-License-Identifier: MIT OR Apache-2.0
 //! Rounds of all sides in turn, and the tables of what they took.
 
 use std::hash::{DefaultHasher, Hash, Hasher};

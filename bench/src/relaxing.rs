@@ -1,3 +1,4 @@
+// SPDX-License-Identifier: MIT OR Apache-2.0
 //! Runs of RISC-V calls with alignments between them, relaxed.
 
 use crate::calls_apart;

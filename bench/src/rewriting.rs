@@ -1,3 +1,4 @@
+// SPDX-License-Identifier: MIT OR Apache-2.0
 //! Sections rewritten in one call, and surveyed before: relocations of 4 MiB, of which some are of
 //! groups; stubs, routes of branches, and places of stubs.
 

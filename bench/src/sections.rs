@@ -1,3 +1,4 @@
+// SPDX-License-Identifier: MIT OR Apache-2.0
 //! Sections: the values of 4 MiB's relocations in one call, beside their rows, values and writes one by
 //! one; what a relocation requires, and its value by what is known of symbols.
 

@@ -1,3 +1,4 @@
+// SPDX-License-Identifier: MIT OR Apache-2.0
 //! What is measured: forms, rewrites and the mixes of relocations.
 
 use sathunne::Architecture;

@@ -1,3 +1,4 @@
+// SPDX-License-Identifier: MIT OR Apache-2.0
 //! What takes less time with threads: relocations of sections, each by one thread, and translations
 //! by one array of deltas, which all threads read. Steps that use no memory show how many times as
 //! fast the machine itself is with threads.

@@ -1,3 +1,4 @@
+/* SPDX-License-Identifier: MIT OR Apache-2.0 */
 /* Calls: turns the call at the start of a RISC-V section into a jump to its byte 8, and prints the
  * bytes: `auipc ra, 0` and `jalr ra` become `jal ra, 8`, and the `jalr` is the linker's to delete. */
 #include <stdio.h>

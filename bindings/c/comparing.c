@@ -1,3 +1,4 @@
+/* SPDX-License-Identifier: MIT OR Apache-2.0 */
 /* Comparing: what two linkers made of a relocation of an object: the rewrite, and the symbol. */
 #include <elf.h>
 #include <stdio.h>

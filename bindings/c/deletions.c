@@ -1,3 +1,4 @@
+/* SPDX-License-Identifier: MIT OR Apache-2.0 */
 /* Deletions: lists some, merges more of a later pass, and translates offsets of the section. */
 #include <stdio.h>
 

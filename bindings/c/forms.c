@@ -1,3 +1,4 @@
+/* SPDX-License-Identifier: MIT OR Apache-2.0 */
 /* Forms: puts a distance into an AArch64 branch, reads it back, and tests what doesn't fit. */
 #include <stdio.h>
 

@@ -1,3 +1,4 @@
+/* SPDX-License-Identifier: MIT OR Apache-2.0 */
 /* Linking: a section. No line of `link_section` names an architecture, and the same lines link any of
  * the five. */
 #include <elf.h>

@@ -1,3 +1,4 @@
+/* SPDX-License-Identifier: MIT OR Apache-2.0 */
 /* Outputs: what a linker adds to a static executable of RISC-V code, by `e_machine` and
  * `e_flags`. */
 #include <elf.h>

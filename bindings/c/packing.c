@@ -1,3 +1,4 @@
+/* SPDX-License-Identifier: MIT OR Apache-2.0 */
 /* Packing: deletes the `jalr` of a call that becomes a jump, and writes the bytes that are left. */
 #include <stdio.h>
 

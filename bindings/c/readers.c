@@ -1,3 +1,4 @@
+/* SPDX-License-Identifier: MIT OR Apache-2.0 */
 /* Readers: reads ULEB128 numbers until the bytes end. */
 #include <stdio.h>
 

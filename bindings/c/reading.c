@@ -1,3 +1,4 @@
+/* SPDX-License-Identifier: MIT OR Apache-2.0 */
 /* Reading back: the addresses that linked instructions refer to. ld.lld linked these, with `f` at
  * 0x3ff000 and `v` at 0x7ff800. */
 #include <elf.h>

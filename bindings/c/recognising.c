@@ -1,3 +1,4 @@
+/* SPDX-License-Identifier: MIT OR Apache-2.0 */
 /* Recognising: what GNU ld and ld.lld made of instructions, by the bytes before and after. */
 #include <elf.h>
 #include <stdio.h>

@@ -1,3 +1,4 @@
+/* SPDX-License-Identifier: MIT OR Apache-2.0 */
 /* Relaxing: a section whose relocations allow it. Makes its items of the relocations, chooses what
  * becomes shorter and how many nops its alignment keeps, and packs the section. */
 #include <elf.h>

@@ -1,3 +1,4 @@
+/* SPDX-License-Identifier: MIT OR Apache-2.0 */
 /* Relocations: computes the values of some of <elf.h>'s, and writes them. Those of a pair at a
  * ULEB128 number set, add to and subtract from it. */
 #include <elf.h>

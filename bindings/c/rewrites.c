@@ -1,3 +1,4 @@
+/* SPDX-License-Identifier: MIT OR Apache-2.0 */
 /* Rewrites: relaxes x86-64's `mov x@GOTPCREL(%rip), %r10` to `mov $x, %r10` where x is near, and
  * then applies the relocation that is left. */
 #include <stdio.h>

@@ -1,3 +1,4 @@
+/* SPDX-License-Identifier: MIT OR Apache-2.0 */
 /* Rewriting: a load and a call of x86-64 code without the GOT, where this output defines their
  * symbols. */
 #include <elf.h>

@@ -1,3 +1,4 @@
+/* SPDX-License-Identifier: MIT OR Apache-2.0 */
 /* Sections: what the relocations of RISC-V code require, and all of their values written at once. */
 #include <elf.h>
 #include <stdio.h>

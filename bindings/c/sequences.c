@@ -1,3 +1,4 @@
+/* SPDX-License-Identifier: MIT OR Apache-2.0 */
 /* Sequences: writes the four AArch64 moves that load a number, and a PowerPC64 pair. */
 #include <stdio.h>
 

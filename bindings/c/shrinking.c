@@ -1,3 +1,4 @@
+/* SPDX-License-Identifier: MIT OR Apache-2.0 */
 /* Shrinking: a whole pass over the calls of a section. Chooses those that can become jumps, deletes
  * their `jalr`, and writes the bytes that are left. */
 #include <stdio.h>

@@ -1,3 +1,4 @@
+// SPDX-License-Identifier: MIT OR Apache-2.0
 //! Links the static library: `liblinker_utils.a` in the folder that `LINKER_UTILS_FOLDER` names, as
 //! `../archive` prints that of the proved one, or else in the one that `../library` prints, which
 //! makes it where it is stale. Writes the header's constants for `src/names.rs`: those of the

@@ -1,4 +1,5 @@
 #!/usr/bin/env python3
+# SPDX-License-Identifier: MIT OR Apache-2.0
 """Compares what the program prints of files with what llvm-objdump-19 prints of them.
 
 usage: compare.py PROGRAM FILE..

@@ -1,3 +1,4 @@
+/* SPDX-License-Identifier: MIT OR Apache-2.0 */
 /* What a dynamic linker reads and fills: symbols of other files and those that they may see, the
  * relocations that are left to it, and the tables that say so. */
 #include "link.h"

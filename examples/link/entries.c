@@ -1,3 +1,4 @@
+/* SPDX-License-Identifier: MIT OR Apache-2.0 */
 /* What relocations require: entries of the GOT, and code that the linker adds, which are stubs to
  * functions whose address is in a word, and thunks for branches that don't reach their target. */
 #include "link.h"

@@ -1,3 +1,4 @@
+/* SPDX-License-Identifier: MIT OR Apache-2.0 */
 /* Which sections the linked file has, what is in them, and where they are. */
 #include "link.h"
 

@@ -1,3 +1,4 @@
+/* SPDX-License-Identifier: MIT OR Apache-2.0 */
 /* Shared libraries: what they define, of which versions, and what they refer to. */
 #include "link.h"
 

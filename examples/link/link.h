@@ -1,3 +1,4 @@
+/* SPDX-License-Identifier: MIT OR Apache-2.0 */
 /* A small linker over the library, for RISC-V, AArch64, LoongArch, PowerPC64 (ELFv2, little-endian)
  * and x86-64, none of which it knows. It reads relocatable ELF64 objects, archives of them and
  * shared libraries, and writes an executable that begins at `_start`, static or for a dynamic
@@ -58,7 +59,7 @@ enum { RANK_HEADERS, RANK_FIXED, RANK_CODE, RANK_TLS, RANK_TLS_BSS, RANK_ARRAYS,
 
 /* ends with an error; of a file, or where something doesn't hold of it; of a section of it; and of
  * a relocation of that */
-#define fail(...) (fprintf(stderr, __VA_ARGS__), fputc('\n', stderr), exit(1))
+#define fail(...) (fprintf(stderr, __VA_ARGS__), end_line("\n"), exit(1))
 #define fail_of(o, ...) (fprintf(stderr, "%s: ", (o)->path), fail(__VA_ARGS__))
 #define demand(o, holds, otherwise) ((holds) ? (void)0 : fail_of(o, otherwise))
 #define fail_in(s, ...) \
@@ -250,6 +251,7 @@ static inline void expect_symbol(const struct section *s, const Elf64_Rela *r) {
 static inline void drop(Elf64_Rela *r) { r->r_info = ELF64_R_INFO(ELF64_R_SYM(r->r_info), 0); }
 
 /* main.c */
+void progress(const char *step, const struct object *o), end_line(const char *end);
 void *zeros(uint64_t count, size_t size), *take(uint64_t count, size_t size);
 void *grow(void *array, size_t need, size_t *room, size_t size);
 uint64_t round_up(uint64_t at, uint64_t align);

@@ -1,3 +1,4 @@
+/* SPDX-License-Identifier: MIT OR Apache-2.0 */
 /* usage: link [-s] [--no-relax | --short-offsets | --relax-gp] [-pie | -shared [-soname NAME]]
  *             [-z now | -z relro]... -o OUTPUT [--section-start=NAME=ADDRESS]... FILE...
  * A file is an object, an archive or a shared library. The output is a static executable; with
@@ -5,7 +6,10 @@
  * `-shared` a shared library. A member of an archive is linked if it defines a symbol that is
  * referred to and that no object defines; archives search each other. The output has all symbols,
  * and section headers, but with `-s`, with which only a static executable lacks the latter. With
- * `--no-relax` only instructions of thread-local storage are rewritten. */
+ * `--no-relax` only instructions of thread-local storage are rewritten. Its status is 0, or 1 after
+ * an error, which it prints; on a terminal it names the object that it has come to, from a second on. */
+#include <time.h>
+#include <unistd.h>
 #include "link.h"
 
 uint16_t machine;
@@ -19,6 +23,20 @@ static const char usage[] =
     "-o OUTPUT [--section-start=NAME=ADDRESS]... FILE...";
 static const char *path; /* of the output */
 static bool has_symbols = true, is_placed = false;
+
+static bool has_progress = false;
+
+/* Ends a line of an error, or clears the one that names an object. */
+void end_line(const char *end) { fprintf(stderr, "%s%s", has_progress ? "\033[K" : "", end); }
+
+/* Names the object that a step has come to. */
+void progress(const char *step, const struct object *o) {
+    static time_t start = 0;
+    if (!start) start = time(NULL);
+    if (time(NULL) < start + 2 || !isatty(STDERR_FILENO)) return;
+    has_progress = true;
+    fprintf(stderr, "%s %s\033[K\r", step, o->path);
+}
 
 /* An array that is all zeros, which may be freed. */
 void *zeros(uint64_t count, size_t size) {
@@ -137,6 +155,7 @@ int main(int argc, char **argv) {
     place_symbols();
     linked.has_near_symbols = !is_long();
     EACH_OBJECT(o) {
+        progress("rewriting", o);
         rewrite_object(o, LINKER_UTILS_PHASE_EARLY, LINKER_UTILS_PHASE_EARLY);
         require(o);
     }
@@ -153,5 +172,6 @@ int main(int argc, char **argv) {
     const struct symbol *start = named("_start");
     if (!start->output && linked.is_executable) fail("undefined symbol '_start'");
     write_file(path, start->output ? address_of(start->output, start->offset) : 0, has_symbols);
+    end_line("");
     return 0;
 }

@@ -1,3 +1,4 @@
+/* SPDX-License-Identifier: MIT OR Apache-2.0 */
 /* Objects, archives and groups. Everything that is read of a file is checked to be in it. */
 #include <ar.h>
 #include <fcntl.h>

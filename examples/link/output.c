@@ -1,3 +1,4 @@
+/* SPDX-License-Identifier: MIT OR Apache-2.0 */
 /* The file, with its segments, section headers and symbols. */
 #include <sys/stat.h>
 

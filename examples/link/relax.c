@@ -1,3 +1,4 @@
+/* SPDX-License-Identifier: MIT OR Apache-2.0 */
 /* What is deleted of RISC-V and LoongArch code: the second halves of calls and of addresses that
  * one instruction reaches, what thread-local offsets of 12 bits don't need, and the nops that an
  * alignment doesn't need. All sections are relaxed together, with the gaps between them, so that
@@ -37,6 +38,7 @@ static void add_items(struct section *s) {
     const struct output *o = s->output;
     size_t all = s->relocations_len, most = all + s->deleted_len, len = 0, at = SIZE_MAX;
     uint64_t base = o->base + s->offset;
+    progress("relaxing", s->object);
     if (s->gap) items[items_len++] = alignment_item(base - s->gap, s->gap + code_unit(), s->gap);
     relocations = grow(relocations, all, &room, sizeof *relocations);
     for (size_t i = 0; i < all; i++) {

@@ -1,3 +1,4 @@
+/* SPDX-License-Identifier: MIT OR Apache-2.0 */
 /* Relocations: what is known of them and of their symbols, and the values of all. */
 #include "link.h"
 

@@ -1,3 +1,4 @@
+/* SPDX-License-Identifier: MIT OR Apache-2.0 */
 /* Rewrites: what the library chooses in each phase, of all code. */
 #include "link.h"
 
@@ -205,6 +206,7 @@ void relax_near(bool is_final) {
 void relocate(void) {
     uint32_t last = LINKER_UTILS_PHASE_DISTANCES;
     EACH_OBJECT(o) {
+        progress("relocating", o);
         rewrite_object(o, relaxes ? LINKER_UTILS_PHASE_GOT_LOADS : last + 1, last);
         EACH_SECTION_OF(o, s) if (s->relocations_len) relocate_section(s, facts, values);
     }

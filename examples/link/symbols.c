@@ -1,3 +1,4 @@
+/* SPDX-License-Identifier: MIT OR Apache-2.0 */
 /* Which definition a name has, which members of archives are needed for that, and the symbols that
  * the linker itself defines. */
 #include "link.h"

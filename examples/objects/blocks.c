@@ -1,3 +1,4 @@
+/* SPDX-License-Identifier: MIT OR Apache-2.0 */
 /* Sets up thread-local storage, indirect functions and constructors as a C library does, and says
  * what it then finds. */
 #include "blocks.h"

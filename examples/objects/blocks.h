@@ -1,3 +1,4 @@
+/* SPDX-License-Identifier: MIT OR Apache-2.0 */
 /* What the files of the program with thread-local storage and archives declare for each other. */
 #ifndef BLOCKS_H
 #define BLOCKS_H

@@ -1,3 +1,4 @@
+/* SPDX-License-Identifier: MIT OR Apache-2.0 */
 /* Variables of the other models, compiled for a shared object, and an indirect function. */
 #include "blocks.h"
 

@@ -1,3 +1,4 @@
+/* SPDX-License-Identifier: MIT OR Apache-2.0 */
 /* Links objects, archives and shared libraries, one of them damaged, and fails where the linker then
  * does anything but write a file or end with an error and leave none behind.
  *

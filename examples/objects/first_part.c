@@ -1,3 +1,4 @@
+/* SPDX-License-Identifier: MIT OR Apache-2.0 */
 /* Needs a member of the other archive. */
 #include "blocks.h"
 

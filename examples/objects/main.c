@@ -1,3 +1,4 @@
+/* SPDX-License-Identifier: MIT OR Apache-2.0 */
 /* Sorts the shapes, and says what it has found. */
 #include "program.h"
 

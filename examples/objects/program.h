@@ -1,3 +1,4 @@
+/* SPDX-License-Identifier: MIT OR Apache-2.0 */
 /* What the files of the program declare for each other. */
 #ifndef PROGRAM_H
 #define PROGRAM_H

@@ -1,3 +1,4 @@
+/* SPDX-License-Identifier: MIT OR Apache-2.0 */
 /* Thread-local storage at both ends of what offsets of 12 bits reach, and calls between sections.
  * RISC-V's descriptors are marked here, since clang 19 marks none. */
 #include "program.h"

@@ -1,3 +1,4 @@
+/* SPDX-License-Identifier: MIT OR Apache-2.0 */
 /* Tables of constants, of addresses and of functions. */
 #include "program.h"
 

@@ -1,3 +1,4 @@
+/* SPDX-License-Identifier: MIT OR Apache-2.0 */
 /* The program's entry, and the two system calls that it makes. */
 #include "program.h"
 

@@ -1,3 +1,4 @@
+/* SPDX-License-Identifier: MIT OR Apache-2.0 */
 /* Text, and numbers in decimal, to the standard output. */
 #include "program.h"
 

@@ -1,3 +1,4 @@
+/* SPDX-License-Identifier: MIT OR Apache-2.0 */
 /* A member that can't be linked, and that nothing needs. */
 #include "blocks.h"
 

@@ -1,3 +1,4 @@
+/* SPDX-License-Identifier: MIT OR Apache-2.0 */
 /* Calls of functions of this object, of another one and of the C library: direct ones, by pointers,
  * at the end of a function, of weak symbols that something defines or nothing, and switches. */
 #include <setjmp.h>

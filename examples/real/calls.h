@@ -1,3 +1,4 @@
+/* SPDX-License-Identifier: MIT OR Apache-2.0 */
 /* What calls.c and calls_other.c share. */
 #include <stddef.h>
 

@@ -1,3 +1,4 @@
+/* SPDX-License-Identifier: MIT OR Apache-2.0 */
 /* Functions that calls.c calls. */
 #include <stdarg.h>
 #include <string.h>

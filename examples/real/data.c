@@ -1,3 +1,4 @@
+/* SPDX-License-Identifier: MIT OR Apache-2.0 */
 /* Data of this object and of another one, of each size, initialised and not, constant, large, with
  * constant and variable offsets, and pointers to it with addends. */
 #include <stdio.h>

@@ -1,3 +1,4 @@
+/* SPDX-License-Identifier: MIT OR Apache-2.0 */
 // Exceptions through frames with destructors, a library's own and one of this program; maps,
 // strings, streams, and the initialisation of static objects in order of priority.
 #include <cstdio>

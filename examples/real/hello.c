@@ -1,3 +1,4 @@
+/* SPDX-License-Identifier: MIT OR Apache-2.0 */
 /* Prints by printf: numbers, text and floating point. */
 #include <math.h>
 #include <stdio.h>

@@ -1,3 +1,4 @@
+/* SPDX-License-Identifier: MIT OR Apache-2.0 */
 /* Functions of the C library that use thread-local variables: `errno` and the locale's tables. */
 #include <ctype.h>
 #include <errno.h>

@@ -1,3 +1,4 @@
+/* SPDX-License-Identifier: MIT OR Apache-2.0 */
 /* A program over a shared library: what each of them has of the other, and where both have one name
  * that it is one thing. */
 #define _GNU_SOURCE

@@ -1,3 +1,4 @@
+/* SPDX-License-Identifier: MIT OR Apache-2.0 */
 /* What shared.c, a program, and shared_other.c, a shared library, share. */
 #include <stdarg.h>
 #include <stddef.h>

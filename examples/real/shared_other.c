@@ -1,3 +1,4 @@
+/* SPDX-License-Identifier: MIT OR Apache-2.0 */
 /* A shared library: variables, functions, thread-local variables and an indirect function, of its own
  * and of the program. */
 #include "shared.h"

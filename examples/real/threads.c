@@ -1,3 +1,4 @@
+/* SPDX-License-Identifier: MIT OR Apache-2.0 */
 /* Threads, each with its own thread-local variables, initialised and not. */
 #include <errno.h>
 #include <pthread.h>

@@ -1,3 +1,4 @@
+/* SPDX-License-Identifier: MIT OR Apache-2.0 */
 /* A thread-local variable that another object uses, and one that none does. */
 __thread long total = 7;
 static __thread long calls;

@@ -1,3 +1,4 @@
+/* SPDX-License-Identifier: MIT OR Apache-2.0 */
 // Exceptions, types, thread-local objects and streams of a program and of a shared library.
 #include "throwing.h"
 

@@ -1,3 +1,4 @@
+/* SPDX-License-Identifier: MIT OR Apache-2.0 */
 // What throwing.cc and throwing_other.cc share.
 #include <exception>
 #include <functional>

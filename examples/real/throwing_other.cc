@@ -1,3 +1,4 @@
+/* SPDX-License-Identifier: MIT OR Apache-2.0 */
 // A shared library whose functions throw, catch what the program throws, and have types that are the
 // program's too.
 #include "throwing.h"

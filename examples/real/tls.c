@@ -1,3 +1,4 @@
+/* SPDX-License-Identifier: MIT OR Apache-2.0 */
 /* Thread-local variables of this object and of another one, initialised and not, in several
  * threads: their values and addresses, with constant and variable offsets, several of one module at
  * once, and across calls. */

@@ -1,3 +1,4 @@
+/* SPDX-License-Identifier: MIT OR Apache-2.0 */
 /* Thread-local variables that two objects share. With -DMODELS each group has a model of its own,
  * and else the compiler's flags say which. */
 #ifdef MODELS

@@ -1,3 +1,4 @@
+/* SPDX-License-Identifier: MIT OR Apache-2.0 */
 /* The thread-local variables that tls.c uses of another object. */
 #include "tls.h"
 

@@ -1,3 +1,4 @@
+/* SPDX-License-Identifier: MIT OR Apache-2.0 */
 // Thread-local objects with constructors and destructors of this object and another, what both
 // objects define inline, virtual calls and static objects of functions.
 #include <cstdio>

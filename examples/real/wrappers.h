@@ -1,3 +1,4 @@
+/* SPDX-License-Identifier: MIT OR Apache-2.0 */
 // Thread-local objects and inline functions that two objects share.
 #include <string>
 

@@ -1,3 +1,4 @@
+/* SPDX-License-Identifier: MIT OR Apache-2.0 */
 // What wrappers.cc uses of another object.
 #include "wrappers.h"
 

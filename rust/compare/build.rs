@@ -1,3 +1,4 @@
+// SPDX-License-Identifier: MIT OR Apache-2.0
 //! Writes a test of each export, from the heads of the functions that `tools/erase` put in
 //! `../exports/src`.
 

@@ -1,3 +1,4 @@
+// SPDX-License-Identifier: MIT OR Apache-2.0
 //! Applies two relocations by their rows: those of the `adrp` and `add` of AArch64 that load the
 //! address of a symbol. Then it shows how a value out of reach is rejected.
 

@@ -1,3 +1,4 @@
+// SPDX-License-Identifier: MIT OR Apache-2.0
 //! Says where in sections instructions stand that a rewrite is chosen for, whatever a linker knows
 //! of the symbol and of its output. `tools/places` runs it.
 //!

@@ -1,3 +1,4 @@
+// SPDX-License-Identifier: MIT OR Apache-2.0
 //! Rewrites the instructions of a section as a linker does: which rewrites it makes, by what it knows of
 //! the symbols, and the values that it then writes.
 

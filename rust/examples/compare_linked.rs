@@ -1,3 +1,4 @@
+// SPDX-License-Identifier: MIT OR Apache-2.0
 //! Compares what two linkers made of each relocation of a section: the rewrite, and the symbol's address.
 
 use linker_utils::elf::{Architecture, Operands};

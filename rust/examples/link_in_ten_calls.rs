@@ -1,3 +1,4 @@
+// SPDX-License-Identifier: MIT OR Apache-2.0
 //! Links a section. No line of `link` names an architecture, and the same lines link any of the five.
 
 use linker_utils::elf::Architecture;

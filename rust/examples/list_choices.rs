@@ -1,3 +1,4 @@
+// SPDX-License-Identifier: MIT OR Apache-2.0
 //! Lists the tables of the rewrites that a linker chooses, of which `choose` takes the first that
 //! applies. `tools/choice_tables` makes the tables of the docs and of the header of it.
 //!

@@ -1,3 +1,4 @@
+// SPDX-License-Identifier: MIT OR Apache-2.0
 //! Lists what the library knows of each architecture, by `e_machine` of its files: each relocation
 //! with its code, its name and whether it has a row, and each rewrite. `tools/census` reads it.
 

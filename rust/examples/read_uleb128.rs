@@ -1,3 +1,4 @@
+// SPDX-License-Identifier: MIT OR Apache-2.0
 //! Reads ULEB128 numbers one after the other, and writes a distance over one of them, as the
 //! relocations `R_RISCV_SET_ULEB128` and `R_RISCV_SUB_ULEB128` do.
 

@@ -1,3 +1,4 @@
+// SPDX-License-Identifier: MIT OR Apache-2.0
 //! Finds what a linker made of relocations, by the object's bytes and the linked ones: which rewrite,
 //! which relocation it then wrote, and the address of the symbol.
 

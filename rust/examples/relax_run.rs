@@ -1,3 +1,4 @@
+// SPDX-License-Identifier: MIT OR Apache-2.0
 //! Relaxes a run of sections as a linker does, and packs them: reads lines, prints lines.
 //!
 //! ```text

@@ -1,3 +1,4 @@
+// SPDX-License-Identifier: MIT OR Apache-2.0
 //! Relaxes a RISC-V section: chooses the calls that can become `jal`, deletes their second
 //! instructions, packs the section, and translates the offset of a symbol.
 

@@ -1,3 +1,4 @@
+// SPDX-License-Identifier: MIT OR Apache-2.0
 //! Writes the values of all relocations of a section at once, a difference of labels as a ULEB128 number
 //! among them.
 

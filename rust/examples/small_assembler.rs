@@ -1,3 +1,4 @@
+// SPDX-License-Identifier: MIT OR Apache-2.0
 //! An assembler of a few instructions of AArch64 and RISC-V: labels, branches and addresses. A line is a
 //! label, as `f:`, or a word and what it refers to, as `94000000 CALL26 f`, by the relocation's name.
 

@@ -1,3 +1,4 @@
+// SPDX-License-Identifier: MIT OR Apache-2.0
 //! Prints the immediates of instructions: each form that an instruction has, and its operand, with its
 //! sign and in bytes. A pair of instructions with one address has a form of 8 bytes.
 

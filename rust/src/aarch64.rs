@@ -1,3 +1,4 @@
+// SPDX-License-Identifier: MIT OR Apache-2.0
 // Made by tools/erase of crates/linker_aarch64/src/lib.rt.
 //! AArch64: instruction forms, relaxation rewrites, and the moves that load a number of 64 bits.
 //!

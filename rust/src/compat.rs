@@ -1,3 +1,4 @@
+// SPDX-License-Identifier: MIT OR Apache-2.0
 //! The signatures of the crate `linker-utils` 0.11.0, over this crate's calls.
 //!
 //! With `use linker_utils::compat as linker_utils;` the paths of a linker that used that crate are

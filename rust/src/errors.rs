@@ -1,3 +1,4 @@
+// SPDX-License-Identifier: MIT OR Apache-2.0
 //! What the library's errors print, and which error is the cause of another.
 
 use crate::elf::{RelocateError, Uleb128PairError, WriteError};

@@ -1,3 +1,4 @@
+// SPDX-License-Identifier: MIT OR Apache-2.0
 // Made by tools/erase of crates/linker_elf/src/lib.rt.
 //! What relocations mean, the forms of instructions that hold their values, and writing these.
 

@@ -1,3 +1,4 @@
+// SPDX-License-Identifier: MIT OR Apache-2.0
 //! Relocations and architectures as numbers and as texts, by Rust's conversions.
 //!
 //! ```

@@ -1,3 +1,4 @@
+// SPDX-License-Identifier: MIT OR Apache-2.0
 // Made by tools/erase of crates/linker_riscv64/src/lib.rt.
 //! RISC-V: instruction forms, fields of instructions, relaxation rewrites, what relocations mean,
 //! and calls that become jumps.

@@ -1,3 +1,4 @@
+// SPDX-License-Identifier: MIT OR Apache-2.0
 //! What the proved source has of its standard library and Rust's `alloc` has not: calls that take
 //! memory and return an error where there is none, a push that takes none, and what tests name.
 #![allow(dead_code, unused_macros, reason = "each of three crates uses a part")]

@@ -1,3 +1,4 @@
+// SPDX-License-Identifier: MIT OR Apache-2.0
 //! `support` makes the vectors and texts that `alloc`'s own calls make.
 
 use crate::support::*;

@@ -1,3 +1,4 @@
+// SPDX-License-Identifier: MIT OR Apache-2.0
 //! Traits of Rust that the proved source doesn't implement and rustc can't derive, and the sections
 //! of a map one by one.
 

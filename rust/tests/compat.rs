@@ -1,3 +1,4 @@
+// SPDX-License-Identifier: MIT OR Apache-2.0
 //! A linker that used the crate `linker-utils` runs with `compat` in its place.
 
 use linker_utils::compat as linker_utils;

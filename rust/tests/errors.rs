@@ -1,3 +1,4 @@
+// SPDX-License-Identifier: MIT OR Apache-2.0
 //! What errors print, and their causes.
 
 use linker_utils::elf::{Architecture, RelocateError, Uleb128PairError, WriteError};

@@ -1,3 +1,4 @@
+// SPDX-License-Identifier: MIT OR Apache-2.0
 //! Lazy PLTs against those of ld.lld 19.1 and GNU ld 2.40, of a shared library that calls three functions
 //! of others (`-shared -z lazy`).
 

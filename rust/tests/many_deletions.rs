@@ -1,3 +1,4 @@
+// SPDX-License-Identifier: MIT OR Apache-2.0
 //! Lists, maps and sections that are not small, for which there is memory. Of every 8 bytes of a section
 //! the last 4 are deleted, so what stands at 8 * k is at 4 * k afterwards.
 

@@ -1,3 +1,4 @@
+// SPDX-License-Identifier: MIT OR Apache-2.0
 //! Names of relocations and architectures: their texts and numbers, and lists of all.
 
 use linker_utils::aarch64::AArch64Relocation;

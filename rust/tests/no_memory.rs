@@ -1,3 +1,4 @@
+// SPDX-License-Identifier: MIT OR Apache-2.0
 //! Where an allocation fails, the call returns an error and has changed nothing. Each allocation of a
 //! call fails in turn, until none does.
 

@@ -1,3 +1,4 @@
+// SPDX-License-Identifier: MIT OR Apache-2.0
 //! What a linker adds to an output, against `<elf.h>` of the machine and numbers of linkers.
 
 use linker_utils::elf::{AllowedRange, Architecture, RelocateError};

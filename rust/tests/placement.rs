@@ -1,3 +1,4 @@
+// SPDX-License-Identifier: MIT OR Apache-2.0
 //! Placement of stubs: random code, of which each layout is laid out once more by other means.
 
 use linker_utils::placement::{

@@ -1,3 +1,4 @@
+// SPDX-License-Identifier: MIT OR Apache-2.0
 //! A debug assertion of what a function requires names the line of the call.
 #![cfg(debug_assertions)]
 

@@ -1,3 +1,4 @@
+// SPDX-License-Identifier: MIT OR Apache-2.0
 //! The rewrites of sections, whose instructions and relocations are those of the psABIs' examples and
 //! of "ELF Handling For Thread-Local Storage".
 

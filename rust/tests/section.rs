@@ -1,3 +1,4 @@
+// SPDX-License-Identifier: MIT OR Apache-2.0
 //! Values of relocations by what a linker knows of symbols, worked out by hand from the psABIs'
 //! formulas.
 

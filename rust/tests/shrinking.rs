@@ -1,3 +1,4 @@
+// SPDX-License-Identifier: MIT OR Apache-2.0
 //! Which calls can become jumps at once, beside the choices of linkers.
 //!
 //! Each line of `relax/riscv64_calls.txt` is a section that ld.lld 19.1.7 and GNU ld 2.40 relaxed:

@@ -1,3 +1,4 @@
+/* SPDX-License-Identifier: MIT OR Apache-2.0 */
 /* Relocates damaged sections of objects, and compares with what calls for one relocation each do.
  *
  * usage: damaged_sections CASES SEED OBJECT...

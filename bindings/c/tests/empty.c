@@ -1,3 +1,4 @@
+/* SPDX-License-Identifier: MIT OR Apache-2.0 */
 /* Passes null with a count of 0 for each slice of each call, and outputs that are not initialised. */
 #include <stdio.h>
 #include <string.h>

@@ -1,3 +1,4 @@
+/* SPDX-License-Identifier: MIT OR Apache-2.0 */
 /* Faults in the archive's functions, which hostile.c has to find. The environment's FAULT says
  * which of them is there. The linker has to be given --wrap for each function of FUNCTION. */
 #include <stdlib.h>

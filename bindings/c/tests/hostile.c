@@ -1,3 +1,4 @@
+/* SPDX-License-Identifier: MIT OR Apache-2.0 */
 /* Calls every function of the header with random and extreme arguments, and allocations that fail.
  *
  * usage: hostile [CALLS [SEED [FIRST]]]

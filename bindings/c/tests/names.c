@@ -1,3 +1,4 @@
+/* SPDX-License-Identifier: MIT OR Apache-2.0 */
 /* Prints each machine and relocation type below 2^16 that the library has a name for, as
  * `NAME code`, by machines of <elf.h>. */
 #include <elf.h>

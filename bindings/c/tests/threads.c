@@ -1,3 +1,4 @@
+/* SPDX-License-Identifier: MIT OR Apache-2.0 */
 /* Calls of four threads at once, as the header allows them: they share what calls only read, and
  * write memory of their own and disjoint parts of one section. Each has to get what one thread
  * alone gets. `run` runs it under a race detector, valgrind's helgrind. With RACE defined all

@@ -1,3 +1,4 @@
+// SPDX-License-Identifier: MIT OR Apache-2.0
 //! The verified core of a linker, over its static library: what each call does, and when it fails, is
 //! proved of the library and said in `include/linker_utils.h`.
 //!

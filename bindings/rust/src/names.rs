@@ -1,3 +1,4 @@
+// SPDX-License-Identifier: MIT OR Apache-2.0
 //! Enums of the library's numbers. `build.rs` reads their constants from the headers in `include/`.
 //! The variants have the names of the proved library's own enums.
 

@@ -1,3 +1,4 @@
+// SPDX-License-Identifier: MIT OR Apache-2.0
 //! The static library's own symbols, as `include/linker_utils.h` declares them: what each of them
 //! requires of pointers and counts, and does, is said there. No pointer to a slice may be null.
 

@@ -1,3 +1,4 @@
+// SPDX-License-Identifier: MIT OR Apache-2.0
 //! Each call of the static library, with values of the manuals and ABIs that the header names, worked by
 //! hand.
 

@@ -1,3 +1,4 @@
+// SPDX-License-Identifier: MIT OR Apache-2.0
 //! Each relocation of the list of names and ELF types in the library's specifications is looked up by
 //! machine and type, and so is each type below 2^16 that has no name.
 

@@ -1,3 +1,4 @@
+// SPDX-License-Identifier: MIT OR Apache-2.0
 //! The headers, this crate's declarations, the heads of the archive of ordinary Rust, the archive
 //! and the proved library's sources say the same: each function, each struct's size and offsets,
 //! each status's sentence, and the version. The enums, which `build.rs` makes from the header, have

@@ -1,3 +1,4 @@
+// SPDX-License-Identifier: MIT OR Apache-2.0
 //! Relocations at the edges of what can be written, as GNU ld 2.40 and ld.lld 19.1.7 write or reject
 //! them.
 

@@ -1,3 +1,4 @@
+// SPDX-License-Identifier: MIT OR Apache-2.0
 //! Which relocations require a GOT entry, and which a PLT entry may serve: those whose expression in
 //! the psABI's table of relocations has one, and branches. And which may be skipped after a rewrite.
 

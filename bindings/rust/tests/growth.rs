@@ -1,3 +1,4 @@
+// SPDX-License-Identifier: MIT OR Apache-2.0
 //! How the work of the exports over deletions grows, as `rust/vectors/tests/vectors/growth.rs` says of the
 //! crate's calls.
 

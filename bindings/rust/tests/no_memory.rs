@@ -1,3 +1,4 @@
+// SPDX-License-Identifier: MIT OR Apache-2.0
 //! Calls for which `malloc` fails, and calls that don't need it. They run in processes of their own,
 //! under a limit of 1 GB.
 

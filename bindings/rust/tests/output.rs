@@ -1,3 +1,4 @@
+// SPDX-License-Identifier: MIT OR Apache-2.0
 //! What a linker adds to an output: numbers of `<elf.h>`, words as "ELF Handling For Thread-Local
 //! Storage" has them, and code of stubs as assemblers and ld.lld make it.
 

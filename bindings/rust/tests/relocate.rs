@@ -1,3 +1,4 @@
+// SPDX-License-Identifier: MIT OR Apache-2.0
 //! Relocations from a linker's numbers to bytes. The words and their addresses are ld.lld's; the ranges are
 //! those of the psABIs.
 

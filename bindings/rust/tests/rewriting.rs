@@ -1,3 +1,4 @@
+// SPDX-License-Identifier: MIT OR Apache-2.0
 //! Sections rewritten in one call: sequences and what becomes of them by "ELF Handling For
 //! Thread-Local Storage" and the psABIs.
 

@@ -1,3 +1,4 @@
+// SPDX-License-Identifier: MIT OR Apache-2.0
 //! What relocations require, and the values of a section's relocations: values by the psABIs' formulas,
 //! and the instructions' fields by the manuals.
 

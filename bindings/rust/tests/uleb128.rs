@@ -1,3 +1,4 @@
+// SPDX-License-Identifier: MIT OR Apache-2.0
 //! ULEB128 numbers that are written over others. The numbers and bytes are those of DWARF 5,
 //! "Variable Length Data"; those of three bytes are what ld.lld 19 writes and rejects for
 //! `R_RISCV_SET_ULEB128` and `R_RISCV_SUB_ULEB128`.

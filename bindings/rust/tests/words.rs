@@ -1,3 +1,4 @@
+// SPDX-License-Identifier: MIT OR Apache-2.0
 //! Words of assemblers and linkers, as the static library writes and reads them. The tables are those
 //! of the tests of the Rust crate, in `rust/vectors`.
 #![allow(dead_code, reason = "some tables are of calls that this crate hasn't")]

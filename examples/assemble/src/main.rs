@@ -1,3 +1,4 @@
+// SPDX-License-Identifier: MIT OR Apache-2.0
 //! Assembles a few instructions of five architectures: labels, branches, addresses and data. The
 //! library does what follows from relocations: `Architecture::row` has what one means, `value` computes
 //! its value, `reaches` says whether that can be written, and `write` puts it into the instruction.

@@ -1,3 +1,4 @@
+// SPDX-License-Identifier: MIT OR Apache-2.0
 //! Which bytes linkers deleted of a section, by what is left. On RISC-V and LoongArch they delete
 //! more than the library's rewrites do, and two symbols tell only how much is deleted between them.
 //!

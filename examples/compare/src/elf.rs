@@ -1,3 +1,4 @@
+// SPDX-License-Identifier: MIT OR Apache-2.0
 //! Relocatable objects, archives of them, and linked files.
 
 use crate::hash::HashMap;

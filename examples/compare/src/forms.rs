@@ -1,3 +1,4 @@
+// SPDX-License-Identifier: MIT OR Apache-2.0
 //! Rewrites that linkers make and the library doesn't list, most of them GNU ld's.
 
 use linker_utils::elf::Architecture;

@@ -1,3 +1,4 @@
+// SPDX-License-Identifier: MIT OR Apache-2.0
 //! Maps by names and addresses of files, whose hashes are quicker than the standard library's. A file may
 //! be made so that its names collide, which makes the program slow, and nothing else.
 

@@ -1,3 +1,4 @@
+// SPDX-License-Identifier: MIT OR Apache-2.0
 //! Compares what two linkers made of each relocation of the same objects.
 
 mod align;

@@ -1,3 +1,4 @@
+// SPDX-License-Identifier: MIT OR Apache-2.0
 //! What stands at a relocation: the library's choices and this program's own, the field, and what
 //! that leads to.
 

@@ -1,4 +1,5 @@
-//! `compare OBJECT.. A B`: see `HELP`.
+// SPDX-License-Identifier: MIT OR Apache-2.0
+//! `compare-links OBJECT.. A B`: see `HELP`.
 
 mod summary;
 
@@ -16,7 +17,7 @@ use std::time::{Duration, Instant};
 use summary::Functions;
 
 const HELP: &str = "\
-compare [--all | --summary] [--json] OBJECT.. A B
+compare-links [--all | --summary] [--json] OBJECT.. A B
 
 Says of each relocation of the objects what two linkers made of it. A and B are linked files, with
 symbol tables, made of the same objects; an OBJECT is a relocatable object or an archive of them.
@@ -41,9 +42,14 @@ that fits a screen: which functions differ most, and what A and B have there.
   --summary   the summary alone
   --json      an object a line for each, with its addresses in A and B, and a last one with the counts
   -h, --help  this text
+  --version   the version
+
+It shows its progress on a terminal where it takes more than a second.
 
 Exit status: 0 the files are the same, 1 they differ, 2 an error.
 ";
+
+const VERSION: &str = concat!("compare-links ", env!("CARGO_PKG_VERSION"), "\n");
 
 enum Failure {
     Said(String),
@@ -58,7 +64,7 @@ impl From<io::Error> for Failure {
 
 impl From<lexopt::Error> for Failure {
     fn from(error: lexopt::Error) -> Failure {
-        Failure::Said(format!("{error}; see compare --help"))
+        Failure::Said(format!("{error}; see compare-links --help"))
     }
 }
 
@@ -69,7 +75,8 @@ struct Arguments {
     files: Vec<OsString>,
 }
 
-fn arguments() -> Result<Option<Arguments>, lexopt::Error> {
+/// The arguments, or the text that they ask for.
+fn arguments() -> Result<Result<Arguments, &'static str>, lexopt::Error> {
     use lexopt::Arg::{Long, Short, Value};
     let mut parser = lexopt::Parser::from_env();
     let mut it = Arguments { is_all: false, is_summary: false, is_json: false, files: Vec::new() };
@@ -78,7 +85,8 @@ fn arguments() -> Result<Option<Arguments>, lexopt::Error> {
             Long("all") => it.is_all = true,
             Long("summary") => it.is_summary = true,
             Long("json") => it.is_json = true,
-            Short('h') | Long("help") => return Ok(None),
+            Short('h') | Long("help") => return Ok(Err(HELP)),
+            Long("version") => return Ok(Err(VERSION)),
             Value(file) => it.files.push(file),
             other => return Err(other.unexpected()),
         }
@@ -89,7 +97,7 @@ fn arguments() -> Result<Option<Arguments>, lexopt::Error> {
     if it.files.len() < 3 {
         return Err("at least one object and two linked files are needed".into());
     }
-    Ok(Some(it))
+    Ok(Ok(it))
 }
 
 /// A progress bar on a terminal, from a second on.
@@ -116,10 +124,13 @@ impl Progress {
 
 fn run() -> Result<ExitCode, Failure> {
     let mut out = BufWriter::new(io::stdout().lock());
-    let Some(arguments) = arguments()? else {
-        out.write_all(HELP.as_bytes())?;
-        out.flush()?;
-        return Ok(ExitCode::SUCCESS);
+    let arguments = match arguments()? {
+        Ok(arguments) => arguments,
+        Err(text) => {
+            out.write_all(text.as_bytes())?;
+            out.flush()?;
+            return Ok(ExitCode::SUCCESS);
+        }
     };
     let mut files = Vec::new();
     for path in &arguments.files {
@@ -210,11 +221,11 @@ fn main() -> ExitCode {
     match run() {
         Ok(code) => code,
         Err(Failure::Said(reason)) => {
-            eprintln!("compare: {reason}");
+            eprintln!("compare-links: {reason}");
             ExitCode::from(2)
         }
         Err(Failure::Write(error)) => {
-            eprintln!("compare: can't write: {error}");
+            eprintln!("compare-links: can't write: {error}");
             ExitCode::from(2)
         }
     }

@@ -1,3 +1,4 @@
+// SPDX-License-Identifier: MIT OR Apache-2.0
 //! Where the offsets of a section are in a linked file.
 
 use crate::elf::{Linked, Section};

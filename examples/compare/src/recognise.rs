@@ -1,3 +1,4 @@
+// SPDX-License-Identifier: MIT OR Apache-2.0
 //! The rewrite after which the linked bytes are as they are.
 
 use crate::map::{self, Anchors, Bytes};

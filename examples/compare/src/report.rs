@@ -1,3 +1,4 @@
+// SPDX-License-Identifier: MIT OR Apache-2.0
 //! Places, symbols and choices as text and as JSON.
 
 use crate::elf::{Home, Object, Relocation, is_label};

@@ -1,3 +1,4 @@
+// SPDX-License-Identifier: MIT OR Apache-2.0
 //! A linked file beside the objects: where their sections are in it.
 
 use crate::align;

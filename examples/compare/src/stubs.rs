@@ -1,3 +1,4 @@
+// SPDX-License-Identifier: MIT OR Apache-2.0
 //! The stubs by which indirect functions are called: each jumps to what a word holds, and a
 //! relocation of the type IRELATIVE says which function returns the address in the word.
 

@@ -1,3 +1,4 @@
+// SPDX-License-Identifier: MIT OR Apache-2.0
 //! What differs by function, and a summary that fits a screen of 24 lines and 80 columns.
 
 use compare::{Compared, Counts, Line, report};

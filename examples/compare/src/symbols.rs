@@ -1,3 +1,4 @@
+// SPDX-License-Identifier: MIT OR Apache-2.0
 //! Which symbols of the objects are which of a linked file.
 
 use crate::align;

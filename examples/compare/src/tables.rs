@@ -1,3 +1,4 @@
+// SPDX-License-Identifier: MIT OR Apache-2.0
 //! Sections that symbols and fields seldom lead to, by what they lead to themselves: the unwind
 //! information of functions, of which linkers leave records out, and arrays of functions, which
 //! they sort.

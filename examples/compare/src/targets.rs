@@ -1,3 +1,4 @@
+// SPDX-License-Identifier: MIT OR Apache-2.0
 //! What a field leads to, and sections that are found by what leads to them.
 
 use crate::elf::{Entry, Home, Relocation, Symbol};

@@ -1,3 +1,4 @@
+// SPDX-License-Identifier: MIT OR Apache-2.0
 //! Work that is done side by side.
 
 use std::panic::resume_unwind;

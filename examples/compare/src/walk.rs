@@ -1,3 +1,4 @@
+// SPDX-License-Identifier: MIT OR Apache-2.0
 //! What was made of each relocation of a section.
 
 use crate::elf::{Home, Relocation, Section};

@@ -1,4 +1,5 @@
 #!/usr/bin/env python3
+# SPDX-License-Identifier: MIT OR Apache-2.0
 """Which relocations of code ld.lld's relaxation changes, without what `compare` has of it: ld.lld's
 maps say where each section is, and llvm-objdump-19 which instructions are there. A relocation is
 changed if its instruction has another mnemonic, or on PowerPC64 another base register, and the high

@@ -1,3 +1,4 @@
+// SPDX-License-Identifier: MIT OR Apache-2.0
 //! The objects of `examples/objects`, as ld.lld 19 linked them (`tests/make`).
 
 mod random;
@@ -387,7 +388,7 @@ fn a_hundred_thousand_relocations_take_less_than_three_seconds() {
 }
 
 fn program(arguments: &[&Path]) -> (Option<i32>, String, String) {
-    let out = std::process::Command::new(env!("CARGO_BIN_EXE_compare")).args(arguments).output();
+    let out = std::process::Command::new(env!("CARGO_BIN_EXE_compare-links")).args(arguments).output();
     let out = out.unwrap();
     let text = |bytes| String::from_utf8(bytes).unwrap();
     (out.status.code(), text(out.stdout), text(out.stderr))
@@ -434,20 +435,20 @@ fn the_program_returns_its_status() {
         files[6] = file.clone();
         let (status, said, errors) = run(&files, None);
         assert_eq!((status, &said[..]), (Some(2), ""));
-        assert_eq!(errors, format!("compare: {}: {wanted}\n", file.display()));
+        assert_eq!(errors, format!("compare-links: {}: {wanted}\n", file.display()));
     };
     fails(root.join("tests/none"), "No such file or directory (os error 2)");
     fails(objects.join("main.o"), "this isn't a linked file");
     let other = root.join("tests/linked/aarch64/gcc-Os/plain");
     fails(other, &format!("of another machine than {}", files[5].display()));
     files[0] = linked.join("plain");
-    let wanted = format!("compare: {}: this isn't a relocatable object\n", files[0].display());
+    let wanted = format!("compare-links: {}: this isn't a relocatable object\n", files[0].display());
     assert_eq!(run(&files, None), (Some(2), String::new(), wanted));
     assert_eq!(program(&[Path::new("--help")]).0, Some(0));
     let (status, said, errors) = program(&[]);
     assert_eq!((status, &said[..]), (Some(2), ""));
-    let wanted = "at least one object and two linked files are needed; see compare --help";
-    assert_eq!(errors, format!("compare: {wanted}\n"));
+    let wanted = "at least one object and two linked files are needed; see compare-links --help";
+    assert_eq!(errors, format!("compare-links: {wanted}\n"));
 }
 
 fn number(bytes: &[u8], at: usize) -> usize {
@@ -488,7 +489,7 @@ fn bad_files_are_rejected_with_a_sentence() {
             files.push(room.join("plain"));
             files.push(room.join(if is_object { "plain" } else { "bad" }));
             let files: Vec<&Path> = files.iter().map(PathBuf::as_path).collect();
-            let wanted = format!("compare: {}: {wanted}\n", room.join("bad").display());
+            let wanted = format!("compare-links: {}: {wanted}\n", room.join("bad").display());
             assert_eq!(program(&files), (Some(2), String::new(), wanted), "{way}");
         };
         for (name, bytes) in [("text.o", &inputs[4].1), ("plain", &plain)] {

@@ -1,3 +1,4 @@
+// SPDX-License-Identifier: MIT OR Apache-2.0
 //! The programs of `tests/gnu`, as GNU ld and ld.lld 19 linked them (`tests/gnu/make`).
 
 mod random;
@@ -351,7 +352,7 @@ fn a_stub_of_another_function_is_reported() {
 #[test]
 fn control_characters_are_written_as_escapes() {
     let files = ["program.o", "lld", "gnu"].map(|name| path("loongarch64", name));
-    let mut program = std::process::Command::new(env!("CARGO_BIN_EXE_compare"));
+    let mut program = std::process::Command::new(env!("CARGO_BIN_EXE_compare-links"));
     let out = program.arg("--all").args(files).output().unwrap();
     assert_eq!(out.status.code(), Some(1));
     let said = String::from_utf8(out.stdout).unwrap();

@@ -1,3 +1,4 @@
+# SPDX-License-Identifier: MIT OR Apache-2.0
 """Relocatable ELF64 objects, read by their tables alone."""
 import sys
 from pathlib import Path

@@ -1,3 +1,4 @@
+// SPDX-License-Identifier: MIT OR Apache-2.0
 //! What `rewrite_section` makes of the objects of `examples/objects`, beside what ld.lld 19 made of them
 //! (`tests/make`).
 

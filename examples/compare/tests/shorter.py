@@ -1,4 +1,5 @@
 #!/usr/bin/env python3
+# SPDX-License-Identifier: MIT OR Apache-2.0
 """Which relocations of code the example's linker rewrites and ld.lld 19 doesn't, counted from the
 relocations and the example's linked bytes, without what `compare` has of them:
 

@@ -1,3 +1,4 @@
+// SPDX-License-Identifier: MIT OR Apache-2.0
 //! Prints the immediates of the instructions in ELF files and in archives of them, with the symbols of
 //! relocations: of AArch64, RISC-V, LoongArch and PowerPC64 each instruction that has an immediate in
 //! one of the library's forms, of x86-64 each field of a relocation.

@@ -1,3 +1,4 @@
+// SPDX-License-Identifier: MIT OR Apache-2.0
 //! Each export with random arguments: the static library's and the one of ordinary Rust return the
 //! same, leave the same behind and allocate as often.
 

@@ -1,3 +1,4 @@
+// SPDX-License-Identifier: MIT OR Apache-2.0
 // Made by tools/erase of crates/linker_utils_c/src/lib.rt.
 //! The core of a linker for programs in C and C++: numbers and slices of bytes in, a status out.
 

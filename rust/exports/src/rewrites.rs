@@ -1,3 +1,4 @@
+// SPDX-License-Identifier: MIT OR Apache-2.0
 // Made by tools/erase of crates/linker_utils_c/src/rewrites.rt.
 //! Rewrites of instructions, by `e_machine` and a rewrite's number.
 

@@ -1,3 +1,4 @@
+// SPDX-License-Identifier: MIT OR Apache-2.0
 // Made by tools/erase of crates/linker_utils_c/src/rewriting.rt.
 //! The rewrites of a section in one call, before addresses are known and once they are.
 

@@ -1,3 +1,4 @@
+// SPDX-License-Identifier: MIT OR Apache-2.0
 //! What an archive of ordinary Rust needs beside the library: memory from `malloc`, and an end
 //! where a test of the compiler's fails, as of an index.
 #![allow(unsafe_code, reason = "it calls the C library")]

@@ -1,3 +1,4 @@
+// SPDX-License-Identifier: MIT OR Apache-2.0
 // Made by tools/erase of crates/linker_utils_c/src/sections.rt.
 //! What a section's relocations require, their values, and writing all of them.
 

@@ -1,3 +1,4 @@
+// SPDX-License-Identifier: MIT OR Apache-2.0
 // Made by tools/erase of crates/linker_utils_c/src/sequences.rt.
 //! Sequences of instructions that load a number or make an address.
 

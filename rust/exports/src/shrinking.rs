@@ -1,3 +1,4 @@
+// SPDX-License-Identifier: MIT OR Apache-2.0
 // Made by tools/erase of crates/linker_utils_c/src/shrinking.rt.
 //! Which calls of a section can become jumps at once.
 

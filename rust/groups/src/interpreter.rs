@@ -1,3 +1,4 @@
+// SPDX-License-Identifier: MIT OR Apache-2.0
 //! The instructions of LoongArch and PowerPC64 that compilers write into groups and linkers into their
 //! places, which unicorn doesn't have.
 

@@ -1,3 +1,4 @@
+// SPDX-License-Identifier: MIT OR Apache-2.0
 //! Addresses and facts that a linker could have of an object, at random.
 
 use crate::objects::{Home, Object};

@@ -1,3 +1,4 @@
+// SPDX-License-Identifier: MIT OR Apache-2.0
 //! An object's sections as they are linked without rewrites, and with all that the library chooses.
 
 use crate::layout::Layout;

@@ -1,3 +1,4 @@
+// SPDX-License-Identifier: MIT OR Apache-2.0
 //! Runs the instructions that the library rewrites, as an object has them and as they become, from
 //! random states, and compares what they leave.
 //!

@@ -1,3 +1,4 @@
+// SPDX-License-Identifier: MIT OR Apache-2.0
 //! Relocatable objects, and those in archives.
 
 use linker_utils::elf::Architecture;

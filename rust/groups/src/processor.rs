@@ -1,3 +1,4 @@
+// SPDX-License-Identifier: MIT OR Apache-2.0
 //! What runs code.
 
 use crate::interpreter::Interpreter;

@@ -1,3 +1,4 @@
+// SPDX-License-Identifier: MIT OR Apache-2.0
 //! Which instructions run together, and which registers they may leave otherwise.
 
 use crate::layout::Layout;

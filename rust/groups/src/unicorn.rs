@@ -1,3 +1,4 @@
+// SPDX-License-Identifier: MIT OR Apache-2.0
 //! The emulator unicorn, which is made of qemu's.
 
 use crate::layout::{DESCRIPTOR_FUNCTION, MEMORY, MEMORY_LEN, TLS_GET_ADDR};

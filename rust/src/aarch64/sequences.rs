@@ -1,3 +1,4 @@
+// SPDX-License-Identifier: MIT OR Apache-2.0
 // Made by tools/erase of crates/linker_aarch64/src/sequences.rt.
 //! Moves that load a number of 64 bits.
 

@@ -1,3 +1,4 @@
+// SPDX-License-Identifier: MIT OR Apache-2.0
 // Made by tools/erase of crates/linker_base/src/utils.rt.
 //! Little-endian words, byte masks, and readers of words, strings and ULEB128 numbers.
 //!

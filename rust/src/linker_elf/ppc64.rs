@@ -1,3 +1,4 @@
+// SPDX-License-Identifier: MIT OR Apache-2.0
 // Made by tools/erase of crates/linker_elf/src/ppc64.rt.
 //! PowerPC64: instruction forms, what relocations mean, and addresses in two halves.
 

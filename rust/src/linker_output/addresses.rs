@@ -1,3 +1,4 @@
+// SPDX-License-Identifier: MIT OR Apache-2.0
 // Made by tools/erase of crates/linker_output/src/addresses.rt.
 //! Sections of objects in which compilers keep addresses, as the GOT does.
 

@@ -1,3 +1,4 @@
+// SPDX-License-Identifier: MIT OR Apache-2.0
 // Made by tools/erase of crates/linker_output/src/lazy_plts.rt.
 //! The lazy PLTs of the architectures.
 

@@ -1,3 +1,4 @@
+// SPDX-License-Identifier: MIT OR Apache-2.0
 // Made by tools/erase of crates/linker_output/src/placement.rt.
 //! Places of stubs between sections, so that each branch reaches its target or a stub of it.
 //!

@@ -1,3 +1,4 @@
+// SPDX-License-Identifier: MIT OR Apache-2.0
 // Made by tools/erase of crates/linker_output/src/routes.rt.
 //! How branches go to their targets: directly, or by a stub.
 

@@ -1,3 +1,4 @@
+// SPDX-License-Identifier: MIT OR Apache-2.0
 // Made by tools/erase of crates/linker_output/src/stubs.rt.
 //! Code that a linker adds: stubs that jump to the address that a word has, or to a far target.
 

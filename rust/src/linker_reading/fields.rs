@@ -1,3 +1,4 @@
+// SPDX-License-Identifier: MIT OR Apache-2.0
 // Made by tools/erase of crates/linker_reading/src/fields.rt.
 //! Known bits of a number: of a relocation's value, or of an address.
 

@@ -1,3 +1,4 @@
+// SPDX-License-Identifier: MIT OR Apache-2.0
 // Made by tools/erase of crates/linker_reading/src/reading.rt.
 //! The value of a relocation, read from the bytes at its place.
 

@@ -1,3 +1,4 @@
+// SPDX-License-Identifier: MIT OR Apache-2.0
 // Made by tools/erase of crates/linker_reading/src/solving.rt.
 //! The address that a relocation's value comes from, and that of a pair of instructions.
 

@@ -1,3 +1,4 @@
+// SPDX-License-Identifier: MIT OR Apache-2.0
 // Made by tools/erase of crates/linker_reading/src/windows.rt.
 //! Which bytes around a relocation recognising compares, and where a recognised one leads.
 

@@ -1,3 +1,4 @@
+// SPDX-License-Identifier: MIT OR Apache-2.0
 // Made by tools/erase of crates/linker_rewriting/src/candidates.rt.
 //! Whether the instruction of a relocation can be rewritten, if each other one of its group can.
 

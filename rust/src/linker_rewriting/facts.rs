@@ -1,3 +1,4 @@
+// SPDX-License-Identifier: MIT OR Apache-2.0
 // Made by tools/erase of crates/linker_rewriting/src/facts.rt.
 //! What a linker knows of symbols and of the output, and what a rewrite is chosen by.
 

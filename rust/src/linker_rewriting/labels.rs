@@ -1,3 +1,4 @@
+// SPDX-License-Identifier: MIT OR Apache-2.0
 // Made by tools/erase of crates/linker_rewriting/src/labels.rt.
 //! Groups of one label of RISC-V: a high part, and the low parts whose symbol is the label at it.
 

@@ -1,3 +1,4 @@
+// SPDX-License-Identifier: MIT OR Apache-2.0
 // Made by tools/erase of crates/linker_rewriting/src/phases.rt.
 //! When rewrites are made.
 

@@ -1,3 +1,4 @@
+// SPDX-License-Identifier: MIT OR Apache-2.0
 // Made by tools/erase of crates/linker_rewriting/src/surveys.rt.
 //! Which groups of an object stay as they are, since one of their instructions can't be rewritten.
 

@@ -1,3 +1,4 @@
+// SPDX-License-Identifier: MIT OR Apache-2.0
 // Made by tools/erase of crates/linker_runs/src/items.rt.
 //! The items of a run that the relocations of a section make, and why none can be made.
 

@@ -1,3 +1,4 @@
+// SPDX-License-Identifier: MIT OR Apache-2.0
 // Made by tools/erase of crates/linker_runs/src/packing.rt.
 //! A section of a relaxed run, packed.
 

@@ -1,3 +1,4 @@
+// SPDX-License-Identifier: MIT OR Apache-2.0
 // Made by tools/erase of crates/linker_section/src/ascending.rt.
 //! The values of relocations that ascend by offset, written.
 

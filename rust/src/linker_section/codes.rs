@@ -1,3 +1,4 @@
+// SPDX-License-Identifier: MIT OR Apache-2.0
 // Made by tools/erase of crates/linker_section/src/codes.rt.
 //! A number for each code of a relocation, from which it is read what the relocation requires and
 //! how its value is found.

@@ -1,3 +1,4 @@
+// SPDX-License-Identifier: MIT OR Apache-2.0
 // Made by tools/erase of crates/linker_section/src/known.rt.
 //! What codes of relocations mean, kept once it is looked up, since a section has
 //! relocations of few types.

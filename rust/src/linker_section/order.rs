@@ -1,3 +1,4 @@
+// SPDX-License-Identifier: MIT OR Apache-2.0
 // Made by tools/erase of crates/linker_section/src/order.rt.
 //! Relocations in any order: the first whose field overlaps that of an earlier one.
 

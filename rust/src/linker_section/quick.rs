@@ -1,3 +1,4 @@
+// SPDX-License-Identifier: MIT OR Apache-2.0
 // Made by tools/erase of crates/linker_section/src/quick.rt.
 //! The values of most relocations, by the numbers of their codes.
 //!

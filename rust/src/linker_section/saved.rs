@@ -1,3 +1,4 @@
+// SPDX-License-Identifier: MIT OR Apache-2.0
 // Made by tools/erase of crates/linker_section/src/saved.rt.
 //! Bytes of a section that are kept until all values are written, and put back otherwise.
 

@@ -1,3 +1,4 @@
+// SPDX-License-Identifier: MIT OR Apache-2.0
 // Made by tools/erase of crates/linker_ppc64/src/choices.rt.
 //! PowerPC64: which rewrite a linker chooses for a relocation.
 

@@ -1,3 +1,4 @@
+// SPDX-License-Identifier: MIT OR Apache-2.0
 // Made by tools/erase of crates/linker_riscv64/src/choices.rt.
 //! RISC-V: which rewrite a linker chooses for a relocation.
 

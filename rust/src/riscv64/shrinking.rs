@@ -1,3 +1,4 @@
+// SPDX-License-Identifier: MIT OR Apache-2.0
 // Made by tools/erase of crates/linker_riscv64/src/shrinking.rt.
 //! The calls of a section that can become jumps at once.
 

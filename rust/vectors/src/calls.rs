@@ -1,3 +1,4 @@
+// SPDX-License-Identifier: MIT OR Apache-2.0
 // Made by tools/erase of crates/vectors/src/calls.rt.
 //! Calls of RISC-V that become jumps, and sections without the bytes that this frees, worked by hand
 //! from the RISC-V unprivileged ISA's `jal`, which reaches even distances from -1048576 to 1048574.
@@ -214,7 +215,7 @@ static HIGH_PARTS: [(i64, bool, bool); 12] = [
 #[test]
 fn high_parts_are_zero_or_fit_c_lui() {
     for (value, is_zero, fits) in &HIGH_PARTS {
-        let number = value as u64;
+        let number = u64::from_le_bytes(value.to_le_bytes());
         expect_eq(*value, RelaxationKind::hi20_is_zero(number), *is_zero);
         expect_eq(*value, RelaxationKind::hi20_fits_clui(number), *fits);
     }

@@ -1,3 +1,4 @@
+// SPDX-License-Identifier: MIT OR Apache-2.0
 // Made by tools/erase of crates/vectors/src/clients.rt.
 //! What a user of the library writes over it, proved from the public contracts of `linker_utils`
 //! alone: no function here has a proof of its own.
@@ -12,7 +13,7 @@ use linker_utils::riscv64::{CallError, jal_site, relax_call};
 /// Makes the call at a site of a section a jump to another offset of the same section, from which
 /// no byte is deleted.
 pub fn jump_to(section: &mut [u8], site: u64, target: u64) -> Result<(), CallError> {
-    jal_site(section, site, target.wrapping_sub(site) as i64)
+    jal_site(section, site, i64::from_le_bytes(target.wrapping_sub(site).to_le_bytes()))
 }
 
 /// Writes a number into an instruction and reads it back.

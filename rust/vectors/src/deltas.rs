@@ -1,3 +1,4 @@
+// SPDX-License-Identifier: MIT OR Apache-2.0
 // Made by tools/erase of crates/vectors/src/deltas.rt.
 //! Deletions and offsets, worked by hand: an offset's place is the count of kept bytes below it.
 

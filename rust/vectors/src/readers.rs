@@ -1,3 +1,4 @@
+// SPDX-License-Identifier: MIT OR Apache-2.0
 // Made by tools/erase of crates/vectors/src/readers.rt.
 //! Bits, words, masks, ULEB128 numbers and texts, and their errors, worked by hand.
 
@@ -126,7 +127,7 @@ fn bits_and_signs_are_extracted() {
             expect_eq(
                 *number,
                 number.sign_extend(*sign),
-                extended as u64,
+                u64::from_le_bytes(extended.to_le_bytes()),
             );
         }
     }

@@ -1,3 +1,4 @@
+// SPDX-License-Identifier: MIT OR Apache-2.0
 // Made by tools/erase of crates/vectors/src/rewrites.rt.
 //! Rewrites of all architectures, and how many bytes they require. The instructions are worked by hand
 //! from the manuals.

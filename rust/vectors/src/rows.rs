@@ -1,3 +1,4 @@
+// SPDX-License-Identifier: MIT OR Apache-2.0
 // Made by tools/erase of crates/vectors/src/rows.rt.
 //! Comparisons that name the row at fault, for tests.
 

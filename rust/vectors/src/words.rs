@@ -1,3 +1,4 @@
+// SPDX-License-Identifier: MIT OR Apache-2.0
 // Made by tools/erase of crates/vectors/src/words.rt.
 //! Immediates, sequences and relocations of all architectures, worked by hand from their manuals.
 
@@ -286,12 +287,12 @@ static FITS: [(AArch64Instruction, u32, u64, bool); 4] = [
 fn immediates_are_written_and_read() {
     for (form, before, value, negative, after, read) in &WORDS {
         let (row, mut bytes) = ((form, value), before.to_le_bytes());
-        let value = value as u64;
+        let value = u64::from_le_bytes(value.to_le_bytes());
         expect(row, form.window() <= 8 && form.fits(value, &bytes));
         form.write(value, *negative, &mut bytes);
         expect_eq(row, u64::from_le_bytes(bytes), *after);
         let (number, flag) = form.read(&bytes);
-        expect_eq(row, (number as i64, flag), *read);
+        expect_eq(row, (i64::from_le_bytes(number.to_le_bytes()), flag), *read);
     }
     for (form, word, value, fits) in &FITS {
         let bytes = word.to_le_bytes();
@@ -432,7 +433,7 @@ fn sequences_hold_their_number() {
     for (value, high, low) in &HALVES {
         let mut ha = 0x3c00_0000u32.to_le_bytes();
         let mut lo = 0x3800_0000u32.to_le_bytes();
-        ppc64::write_ha_lo(&mut ha, &mut lo, value as u64);
+        ppc64::write_ha_lo(&mut ha, &mut lo, u64::from_le_bytes(value.to_le_bytes()));
         let words = (u32::from_le_bytes(ha), u32::from_le_bytes(lo));
         expect_eq(*value, words, (*high, *low));
     }

@@ -1,4 +1,5 @@
 #!/usr/bin/env python3
+# SPDX-License-Identifier: MIT OR Apache-2.0
 """What stands at each relocation of a program's code in two linked files, without what `compare`
 has of it: llvm-objdump-19 says which instruction is at a place. Where nothing is deleted places are
 as far from `_start` as in the object. On RISC-V and LoongArch the linkers wrote where they have the

@@ -1,3 +1,4 @@
+// SPDX-License-Identifier: MIT OR Apache-2.0
 //! Numbers for mutations, the same in each run.
 
 /// Marsaglia's xorshift of 64 bits with the shifts 13, 7 and 17; its state isn't 0.

@@ -1,3 +1,4 @@
+// SPDX-License-Identifier: MIT OR Apache-2.0
 //! The interpreter on the tables of what qemu made of single instructions.
 
 use super::{Interpreter, signed};

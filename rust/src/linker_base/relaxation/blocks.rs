@@ -1,3 +1,4 @@
+// SPDX-License-Identifier: MIT OR Apache-2.0
 // Made by tools/erase of crates/linker_base/src/relaxation/blocks.rt.
 //! Deltas in blocks of 64, and translations that look at the head of each block first.
 

@@ -1,3 +1,4 @@
+// SPDX-License-Identifier: MIT OR Apache-2.0
 // Made by tools/erase of crates/linker_base/src/relaxation/cursor.rt.
 //! The cursor that translates offsets in one walk through the deletions.
 

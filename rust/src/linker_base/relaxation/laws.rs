@@ -1,3 +1,4 @@
+// SPDX-License-Identifier: MIT OR Apache-2.0
 // Made by tools/erase of crates/linker_base/src/relaxation/laws.rt.
 //! Laws of deletions: each function does nothing, and its contract is a law.
 

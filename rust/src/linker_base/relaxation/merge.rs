@@ -1,3 +1,4 @@
+// SPDX-License-Identifier: MIT OR Apache-2.0
 // Made by tools/erase of crates/linker_base/src/relaxation/merge.rt.
 //! Merges: the growth of deltas in place, and lists apart.
 

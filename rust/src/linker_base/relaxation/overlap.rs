@@ -1,3 +1,4 @@
+// SPDX-License-Identifier: MIT OR Apache-2.0
 // Made by tools/erase of crates/linker_base/src/relaxation/overlap.rt.
 //! Tests of lists of deletions. None allocates but those that sort a copy.
 //!

@@ -1,3 +1,4 @@
+// SPDX-License-Identifier: MIT OR Apache-2.0
 // Made by tools/erase of crates/linker_base/src/relaxation/search.rt.
 //! The search among deltas: by the heads of their blocks, and then in one block.
 

@@ -1,3 +1,4 @@
+// SPDX-License-Identifier: MIT OR Apache-2.0
 // Made by tools/erase of crates/linker_elf/src/aarch64/forms.rt.
 //! AArch64 instructions that hold a value.
 

@@ -1,3 +1,4 @@
+// SPDX-License-Identifier: MIT OR Apache-2.0
 // Made by tools/erase of crates/linker_elf/src/aarch64/relocations.rt.
 //! What the relocations of AArch64 mean.
 

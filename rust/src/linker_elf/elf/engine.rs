@@ -1,3 +1,4 @@
+// SPDX-License-Identifier: MIT OR Apache-2.0
 // Made by tools/erase of crates/linker_elf/src/elf/engine.rt.
 //! Writes the bits of a value into the window of an instruction, and reads them.
 

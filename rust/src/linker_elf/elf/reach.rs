@@ -1,3 +1,4 @@
+// SPDX-License-Identifier: MIT OR Apache-2.0
 // Made by tools/erase of crates/linker_elf/src/elf/reach.rt.
 //! Which values of a relocation the machine reads back as they are.
 

@@ -1,3 +1,4 @@
+// SPDX-License-Identifier: MIT OR Apache-2.0
 // Made by tools/erase of crates/linker_elf/src/elf/rows.rt.
 //! Rows of the relocation tables, and the macros that make them from each architecture's list.
 

@@ -1,3 +1,4 @@
+// SPDX-License-Identifier: MIT OR Apache-2.0
 // Made by tools/erase of crates/linker_elf/src/elf/value.rt.
 //! The value of a relocation, from the addresses that a linker knows.
 

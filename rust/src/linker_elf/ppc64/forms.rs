@@ -1,3 +1,4 @@
+// SPDX-License-Identifier: MIT OR Apache-2.0
 // Made by tools/erase of crates/linker_elf/src/ppc64/forms.rt.
 //! PowerPC64 instructions that hold a value.
 

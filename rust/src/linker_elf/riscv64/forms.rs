@@ -1,3 +1,4 @@
+// SPDX-License-Identifier: MIT OR Apache-2.0
 // Made by tools/erase of crates/linker_elf/src/riscv64/forms.rt.
 //! RISC-V: the immediates of instructions.
 

@@ -1,3 +1,4 @@
+// SPDX-License-Identifier: MIT OR Apache-2.0
 // Made by tools/erase of crates/linker_output/src/placement/adding.rt.
 //! Stubs that are added for branches, and those that branches share.
 

@@ -1,3 +1,4 @@
+// SPDX-License-Identifier: MIT OR Apache-2.0
 // Made by tools/erase of crates/linker_output/src/placement/checking.rt.
 //! Whether stubs can be placed in code, and whether those that are placed reach their targets.
 

@@ -1,3 +1,4 @@
+// SPDX-License-Identifier: MIT OR Apache-2.0
 // Made by tools/erase of crates/linker_output/src/placement/laying.rt.
 //! Where stubs are, and what branches reach, by how many stubs there are at each boundary.
 

@@ -1,3 +1,4 @@
+// SPDX-License-Identifier: MIT OR Apache-2.0
 // Made by tools/erase of crates/linker_output/src/placement/sweeping.rt.
 //! Stubs are added until each branch reaches what it goes by.
 

@@ -1,3 +1,4 @@
+// SPDX-License-Identifier: MIT OR Apache-2.0
 // Made by tools/erase of crates/linker_reading/src/operands/aarch64.rt.
 //! The instructions of AArch64 with an immediate, the numbers that these are, and what they count.
 

@@ -1,3 +1,4 @@
+// SPDX-License-Identifier: MIT OR Apache-2.0
 // Made by tools/erase of crates/linker_reading/src/operands/riscv64.rt.
 //! The instructions of RISC-V with an immediate.
 

@@ -1,3 +1,4 @@
+// SPDX-License-Identifier: MIT OR Apache-2.0
 // Made by tools/erase of crates/linker_reading/src/reading/aarch64.rt.
 //! What an instruction of AArch64 holds.
 

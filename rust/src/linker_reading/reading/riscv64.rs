@@ -1,3 +1,4 @@
+// SPDX-License-Identifier: MIT OR Apache-2.0
 // Made by tools/erase of crates/linker_reading/src/reading/riscv64.rt.
 //! What an instruction of RISC-V holds.
 

@@ -1,3 +1,4 @@
+// SPDX-License-Identifier: MIT OR Apache-2.0
 // Made by tools/erase of crates/linker_reading/src/recognise/architecture.rt.
 //! What a linker made of a relocation, by its architecture and its code.
 

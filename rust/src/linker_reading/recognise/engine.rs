@@ -1,3 +1,4 @@
+// SPDX-License-Identifier: MIT OR Apache-2.0
 // Made by tools/erase of crates/linker_reading/src/recognise/engine.rt.
 //! Which choices of a table leave the linked bytes, and what then stands in the field.
 

@@ -1,3 +1,4 @@
+// SPDX-License-Identifier: MIT OR Apache-2.0
 // Made by tools/erase of crates/linker_reading/src/recognise/fields.rt.
 //! The bits of a relocation's field, and bytes that differ in such bits only.
 

@@ -1,3 +1,4 @@
+// SPDX-License-Identifier: MIT OR Apache-2.0
 // Made by tools/erase of crates/linker_runs/src/packing/code.rt.
 //! Instructions, and the relocations that are applied to them.
 

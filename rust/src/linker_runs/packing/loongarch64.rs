@@ -1,3 +1,4 @@
+// SPDX-License-Identifier: MIT OR Apache-2.0
 // Made by tools/erase of crates/linker_runs/src/packing/loongarch64.rt.
 //! LoongArch: what a call and an address become.
 

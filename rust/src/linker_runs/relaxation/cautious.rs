@@ -1,3 +1,4 @@
+// SPDX-License-Identifier: MIT OR Apache-2.0
 // Made by tools/erase of crates/linker_runs/src/relaxation/cautious.rt.
 //! The greatest choice that is in reach where each alignment keeps all of its nops.
 //!

@@ -1,3 +1,4 @@
+// SPDX-License-Identifier: MIT OR Apache-2.0
 // Made by tools/erase of crates/linker_runs/src/relaxation/faults.rt.
 //! Which runs can be relaxed, and what is wrong with the others.
 

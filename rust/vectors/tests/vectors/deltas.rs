@@ -1,3 +1,4 @@
+// SPDX-License-Identifier: MIT OR Apache-2.0
 //! Deletions and offsets, worked by hand: an offset's place is the count of kept bytes below it.
 
 use linker_utils::relaxation::{

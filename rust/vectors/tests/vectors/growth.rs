@@ -1,3 +1,4 @@
+// SPDX-License-Identifier: MIT OR Apache-2.0
 //! How the work of calls over lists grows. Each call is made on a list and on one 16 times as long. What
 //! is O(n log n) takes about 22 times as long then, what is quadratic 256 times, and more than 64 times
 //! fails. Debug builds test what calls require, which takes longer. `.ci/nightly` makes the calls on lists

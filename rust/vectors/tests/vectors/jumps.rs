@@ -1,3 +1,4 @@
+// SPDX-License-Identifier: MIT OR Apache-2.0
 //! Calls that become jumps, worked by hand from the RISC-V unprivileged ISA's `jal`.
 
 use linker_utils::riscv64::{CallError, JumpError, LinkRegister, jal_site_with};

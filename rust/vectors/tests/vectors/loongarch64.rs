@@ -1,3 +1,4 @@
+// SPDX-License-Identifier: MIT OR Apache-2.0
 //! LoongArch: what assemblers and linkers write, and values worked by hand.
 
 mod assembled;

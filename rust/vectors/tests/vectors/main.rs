@@ -1,3 +1,4 @@
+// SPDX-License-Identifier: MIT OR Apache-2.0
 //! Tests of the crate over what assemblers and linkers wrote, over values worked by hand, and over
 //! random runs. Nothing here is proved: the library is, and these tests are of what no contract says.
 

@@ -1,3 +1,4 @@
+// SPDX-License-Identifier: MIT OR Apache-2.0
 //! Sections that are packed, worked by hand: the kept bytes in order, and `jal` by the RISC-V
 //! unprivileged ISA.
 

@@ -1,3 +1,4 @@
+// SPDX-License-Identifier: MIT OR Apache-2.0
 //! How many times as long a call takes on a longer list, and lists of deletions in the orders that linkers
 //! make. `bindings/rust/tests/growth.rs` includes it too.
 

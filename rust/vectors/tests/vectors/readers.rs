@@ -1,3 +1,4 @@
+// SPDX-License-Identifier: MIT OR Apache-2.0
 //! Words, masks, ULEB128 numbers and texts of a section, and their errors.
 
 use linker_utils::utils::{Uleb128Error, write_uleb128};

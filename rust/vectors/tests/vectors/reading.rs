@@ -1,3 +1,4 @@
+// SPDX-License-Identifier: MIT OR Apache-2.0
 //! Words and addresses as `ld.lld` 19.1.7 links them without relaxation, with the code at 0x401ff8,
 //! `v` at 0x7ff800 and `f` at 0x3ff000.
 

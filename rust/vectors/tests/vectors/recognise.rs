@@ -1,3 +1,4 @@
+// SPDX-License-Identifier: MIT OR Apache-2.0
 //! What linkers made of instructions and sequences.
 
 use linker_utils::aarch64::{AArch64Relocation, RelaxationKind as AArch64Kind};

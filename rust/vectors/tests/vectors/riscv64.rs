@@ -1,3 +1,4 @@
+// SPDX-License-Identifier: MIT OR Apache-2.0
 //! RISC-V: instructions, pairs and rewrites as assemblers and linkers write them, and values worked
 //! by hand from the manual.
 
@@ -38,7 +39,7 @@ fn words_match_assemblers() {
     for (form, words) in forms {
         for (before, value, after, machine) in words {
             let mut bytes = before.to_le_bytes();
-            form.write_to_value(value as u64, *value < 0, &mut bytes);
+            form.write_to_value(*value as u64, *value < 0, &mut bytes);
             assert_eq!(u32::from_le_bytes(bytes), *after, "{form:?}, {value:?}");
             assert_eq!(form.read_value(&bytes), reading(form, *machine), "{form:?}, {value:?}");
         }
@@ -50,14 +51,14 @@ fn hi20_lo12_i_pairs_match_linkers() {
     for (before, value, after) in &pairs::U_WITH_I {
         let mut high = before[0].to_le_bytes();
         let mut low = before[1].to_le_bytes();
-        RiscVInstruction::UType.write_to_value(value as u64, false, &mut high);
-        RiscVInstruction::IType.write_to_value(value as u64, false, &mut low);
+        RiscVInstruction::UType.write_to_value(*value as u64, false, &mut high);
+        RiscVInstruction::IType.write_to_value(*value as u64, false, &mut low);
         assert_eq!(u32::from_le_bytes(high), after[0], "{value:?}");
         assert_eq!(u32::from_le_bytes(low), after[1], "{value:?}");
         let (rounded, _) = RiscVInstruction::UType.read_value(&high);
         let (rest, _) = RiscVInstruction::IType.read_value(&low);
         let sum = rounded.wrapping_add(0x800).wrapping_add(rest);
-        assert_eq!(sum, value as u64, "{value:?}");
+        assert_eq!(sum, *value as u64, "{value:?}");
     }
 }
 
@@ -66,14 +67,14 @@ fn hi20_lo12_s_pairs_match_linkers() {
     for (before, value, after) in &pairs::U_WITH_S {
         let mut high = before[0].to_le_bytes();
         let mut low = before[1].to_le_bytes();
-        RiscVInstruction::UType.write_to_value(value as u64, false, &mut high);
-        RiscVInstruction::SType.write_to_value(value as u64, false, &mut low);
+        RiscVInstruction::UType.write_to_value(*value as u64, false, &mut high);
+        RiscVInstruction::SType.write_to_value(*value as u64, false, &mut low);
         assert_eq!(u32::from_le_bytes(high), after[0], "{value:?}");
         assert_eq!(u32::from_le_bytes(low), after[1], "{value:?}");
         let (rounded, _) = RiscVInstruction::UType.read_value(&high);
         let (rest, _) = RiscVInstruction::SType.read_value(&low);
         let sum = rounded.wrapping_add(0x800).wrapping_add(rest);
-        assert_eq!(sum, value as u64, "{value:?}");
+        assert_eq!(sum, *value as u64, "{value:?}");
     }
 }
 
@@ -81,10 +82,10 @@ fn hi20_lo12_s_pairs_match_linkers() {
 fn call_pairs_match_linkers() {
     for (before, value, after) in &pairs::UI {
         let mut bytes = both(*before);
-        RiscVInstruction::UiType.write_to_value(value as u64, false, &mut bytes);
+        RiscVInstruction::UiType.write_to_value(*value as u64, false, &mut bytes);
         assert_eq!(bytes, both(*after), "{value:?}");
         let read = RiscVInstruction::UiType.read_value(&bytes);
-        assert_eq!(read, (value as u64, false), "{value:?}");
+        assert_eq!(read, (*value as u64, false), "{value:?}");
     }
 }
 

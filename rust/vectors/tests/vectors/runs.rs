@@ -1,3 +1,4 @@
+// SPDX-License-Identifier: MIT OR Apache-2.0
 //! Runs of code: their items, their relaxation, and their packed sections.
 
 mod items;

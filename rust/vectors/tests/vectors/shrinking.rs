@@ -1,3 +1,4 @@
+// SPDX-License-Identifier: MIT OR Apache-2.0
 //! Calls that can become jumps at once, worked by hand: `jal` reaches even distances from -1048576
 //! to 1048574 (RISC-V unprivileged ISA, "Unconditional Jumps").
 

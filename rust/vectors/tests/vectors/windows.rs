@@ -1,3 +1,4 @@
+// SPDX-License-Identifier: MIT OR Apache-2.0
 //! Writes near the end of a section and past it. A window is the bytes of the instructions that a
 //! relocation is of, whose lengths are those of the manuals.
 

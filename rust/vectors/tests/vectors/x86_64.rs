@@ -1,3 +1,4 @@
+// SPDX-License-Identifier: MIT OR Apache-2.0
 //! x86-64: rewrites as LLVM 19.1.7's and GNU binutils 2.40's linkers make them, or as its
 //! assemblers write both instructions, and worked values.
 

@@ -1,3 +1,4 @@
+// SPDX-License-Identifier: MIT OR Apache-2.0
 // Made by tools/erase of crates/linker_reading/src/recognise/recognisers/ppc64.rt.
 //! What is recognised of PowerPC64.
 

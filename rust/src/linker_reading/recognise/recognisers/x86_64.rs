@@ -1,3 +1,4 @@
+// SPDX-License-Identifier: MIT OR Apache-2.0
 // Made by tools/erase of crates/linker_reading/src/recognise/recognisers/x86_64.rt.
 //! What is recognised of x86-64.
 

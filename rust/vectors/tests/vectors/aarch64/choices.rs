@@ -1,3 +1,4 @@
+// SPDX-License-Identifier: MIT OR Apache-2.0
 //! Choices of rewrites: what linkers made of pairs and sequences, under the facts that they had.
 
 use super::{ADRP_TO_ADD, NOP_ADR, TO_MOVES};

@@ -1,3 +1,4 @@
+// SPDX-License-Identifier: MIT OR Apache-2.0
 //! Fields that are only ORed: words that LLVM 19.1.7's and GNU binutils 2.40's assemblers and
 //! linkers wrote.
 

@@ -1,3 +1,4 @@
+// SPDX-License-Identifier: MIT OR Apache-2.0
 //! Moves of 16 bits: words that LLVM 19.1.7's and GNU binutils 2.40's assemblers and linkers wrote.
 
 /// The word before, the value, whether it is negative, and the word after.

@@ -1,3 +1,4 @@
+// SPDX-License-Identifier: MIT OR Apache-2.0
 //! Which rewrites are chosen, and the words after them, by the encodings of the LoongArch Reference
 //! Manual, volume 1, and as GNU ld writes them.
 

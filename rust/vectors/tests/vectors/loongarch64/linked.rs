@@ -1,3 +1,4 @@
+// SPDX-License-Identifier: MIT OR Apache-2.0
 //! Pairs and sequences that LLVM 19.1.7's linker wrote.
 
 /// The value, the pair after and the distance in units of 4 bytes. The pair before is

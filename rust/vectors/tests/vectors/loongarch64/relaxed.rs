@@ -1,3 +1,4 @@
+// SPDX-License-Identifier: MIT OR Apache-2.0
 //! What GNU ld 2.44 leaves of LoongArch's instructions. `tools/link_choices` makes it.
 
 /// The address of the TLS segment.

@@ -1,3 +1,4 @@
+// SPDX-License-Identifier: MIT OR Apache-2.0
 //! Which rewrites are chosen, and the words that they leave with the relocation after them. The
 //! words are encoded after the Power ISA, "Instruction Formats", or are those that linkers wrote.
 

@@ -1,3 +1,4 @@
+// SPDX-License-Identifier: MIT OR Apache-2.0
 //! What linkers leave of PowerPC64's instructions. `tools/link_choices` makes it.
 
 /// By LLVM 19.1.7's linker: a relocation's type, 1 for a symbol that is defined there or 2 for a

@@ -1,3 +1,4 @@
+// SPDX-License-Identifier: MIT OR Apache-2.0
 //! Which rewrites are chosen, compared with what GNU ld 2.40 and `ld.lld` 19.1.7 made.
 
 use super::linked::{ADDRESS, ENTRY, IMAGE, SITES};

@@ -1,3 +1,4 @@
+// SPDX-License-Identifier: MIT OR Apache-2.0
 //! What LLVM 19.1.7's linker leaves of RISC-V's instructions. `tools/link_choices` makes it.
 
 /// The address of the TLS segment.

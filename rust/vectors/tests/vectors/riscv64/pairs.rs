@@ -1,3 +1,4 @@
+// SPDX-License-Identifier: MIT OR Apache-2.0
 //! Pairs as `ld.lld` 19.1.7 links them at chosen addresses, relative to the place and absolute, and
 //! as GNU ld 2.40 shortens them.
 

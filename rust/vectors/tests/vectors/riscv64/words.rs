@@ -1,3 +1,4 @@
+// SPDX-License-Identifier: MIT OR Apache-2.0
 //! Instructions as assemblers and linkers write them: LLVM 19.1.7's `llvm-mc` and `ld.lld`, and GNU
 //! binutils 2.40's `as` and `ld`. Each word was assembled once with an immediate of 0 or linked
 //! from an instruction that had one, and once with the value: no number here comes from this

@@ -1,3 +1,4 @@
+// SPDX-License-Identifier: MIT OR Apache-2.0
 //! Relocations and bytes as assemblers make them.
 
 use super::{aligned, site};

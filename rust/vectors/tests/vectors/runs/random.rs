@@ -1,3 +1,4 @@
+// SPDX-License-Identifier: MIT OR Apache-2.0
 //! Random runs compared with a model, which lays a run out byte for byte and tries every choice.
 
 use super::aligned;

@@ -1,3 +1,4 @@
+// SPDX-License-Identifier: MIT OR Apache-2.0
 //! Sections that phases of rewriting left shorter, as linkers pack them.
 
 use super::aligned;

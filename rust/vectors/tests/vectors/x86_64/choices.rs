@@ -1,3 +1,4 @@
+// SPDX-License-Identifier: MIT OR Apache-2.0
 //! The rewrites that linkers chose, by what they knew.
 
 use super::{REWRITES, SEQUENCES};
