@@ -28,22 +28,6 @@ pub record IsBetween (ds : List (ℕ × ℕ)) (k : ℕ) (pair : ℕ × ℕ) : Ty
   pub past_last : IsPastLast ds k pair
   pub below_next : IsBelowNext ds k pair
 
--- a test of the delta there decides each of the two
-pub past_last_decides : (deltas : List RelaxDelta) (k : ℕ) (pair last : ℕ × ℕ) (b : Bool) → 0 < k → k ≤ length deltas → last ≡ deletion_of (get_or deltas (k - 1) blank) → (IsTrue b ↔ IsBefore last pair) → IsTrue b ↔ IsPastLast (map deletion_of deltas) k pair
-past_last_decides deltas k pair last b some within is decides =
-    let inside : k - 1 < length deltas = omega arith in
-    let here = rw is at decides in (
-      λ holds d positive. rw (deletion_at deltas (k - 1) blank d inside) (here.0 holds),
-      λ past. here.1 (rw (deletion_at deltas (k - 1) blank (0, 0) inside) at (past (0, 0) some)),
-    )
-
-pub below_next_decides : (deltas : List RelaxDelta) (k : ℕ) (pair next : ℕ × ℕ) (b : Bool) → k < length deltas → next ≡ deletion_of (get_or deltas k blank) → (IsTrue b ↔ IsBefore pair next) → IsTrue b ↔ IsBelowNext (map deletion_of deltas) k pair
-below_next_decides deltas k pair next b within is decides =
-    let here = rw is at decides in (
-      λ holds d inside. rw (deletion_at deltas k blank d within) (here.0 holds),
-      λ below. here.1 (rw (deletion_at deltas k blank (0, 0) within) at (below (0, 0) (omega (arith, length-map deltas deletion_of)))),
-    )
-
 pub free_from_between : (ds : List (ℕ × ℕ)) → IsValid ds → (k : ℕ) (pair : ℕ × ℕ) → k ≤ length ds → IsBetween ds k pair → All (λ d. DoNotOverlap d pair) ds
 free_from_between ds valid k pair bound between j d within = elim (cases_lt j k) [
   | inl low ↦
