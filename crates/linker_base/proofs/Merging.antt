@@ -1,18 +1,15 @@
 -- Deletions beside those of a section: whether they may be merged, and what a merge leaves.
-use Rattle.std.proofs.Common.{◌≡◌, ℕ, ◌+◌, ◌-◌, ◌<◌, ◌≤◌, List, ◌++◌, length, map, get_or, take, drop, true, false, not, refl, sym, ◌∙◌, inl, inr, arith}
+use Rattle.std.proofs.Common.{◌≡◌, ℕ, ◌+◌, ◌-◌, ◌<◌, ◌≤◌, List, ◌++◌, length, get_or, take, drop, true, false, not, refl, sym, ◌∙◌, inl, inr, arith}
 use Rattle.std.specs.Prelude.{◌↔◌, Bool, IsTrue, All}
 use Rattle.std.specs.List.Sorted.{IsPartitionPoint}
 use Rattle.std.specs.Prelude.{Option, Some, None, MatchOption}
 use Rattle.std.specs.Option.{is_some}
 use Rattle.std.proofs.lemmas.Bool.{cases_lt, cases_order, false≢true}
-use Rattle.std.proofs.lemmas.List.{append_assoc, take-append-drop, get_or_append_left, get_or-append-add, get_or_default, length-append, length-map}
+use Rattle.std.proofs.lemmas.List.{append_assoc, take-append-drop, get_or_append_left, get_or-append-add, get_or_default, length-append}
 use Rattle.std.proofs.lemmas.List.Elements.{All-append}
-use Rattle.linker_base.specs.declared.relaxation.RelaxDelta.{RelaxDelta}
 use Rattle.linker_base.specs.Deletions.{IsBefore, DoNotOverlap, EndFits, AreDisjoint, IsValid}
-use Rattle.linker_base.specs.Deltas.{deletion_of}
 use Rattle.linker_base.specs.Listed.{IsFirstOverlapping}
 use Rattle.linker_base.proofs.Listed.{all_pairs_append}
-use Rattle.linker_base.proofs.Search.{blank, deletion_at}
 use Rattle.linker_base.proofs.Unions.{disjoint_left}
 
 -- the last of the first k lies below the pair

@@ -10,7 +10,7 @@ ghost use Rattle.linker_base.specs.Inner.Listed.{IsSound};
 
 use super::blocks::{BlockHead, count_blocks, fill_heads};
 use super::delta_slice::bytes_of_first;
-use super::overlap::{AsDeletion, are_valid};
+use super::overlap::{AsDeletion, are_valid, pair_at};
 use super::{OutOfMemory, RelaxDelta};
 use std::alloc::Global;
 
@@ -47,8 +47,8 @@ pub(super) fn copy_deletions<D: AsDeletion>(
     ensures { IfOk result (λ copy. copy.items ≡ map D.deletion deletions.now) }
 {
     let mut copy = Vec::with_capacity(alloc, deletions.len())?;
-    for deletion in deletions {
-        copy.push_reserved(deletion.as_deletion());
+    for at in 0..deletions.len() {
+        copy.push_reserved(pair_at(deletions, at));
     }
     Ok(copy)
 }

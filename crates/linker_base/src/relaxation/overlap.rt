@@ -90,7 +90,7 @@ pub(super) fn are_valid<D: AsDeletion>(deletions: &[D]) -> bool
 
 // The deletion at an index.
 #[inline(always)]
-fn pair_at<D: AsDeletion>(deletions: &[D], at: usize) -> (u64, u32)
+pub(super) fn pair_at<D: AsDeletion>(deletions: &[D], at: usize) -> (u64, u32)
     requires { at < length deletions.now }
     ensures { result ≡ slice_index_or (map D.deletion deletions.now) at (0, 0) }
 {

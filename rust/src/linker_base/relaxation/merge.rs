@@ -5,7 +5,7 @@ use alloc::vec::Vec;
 use crate::support::*;
 use super::blocks::{BlockHead, count_blocks, fill_heads};
 use super::delta_slice::bytes_of_first;
-use super::overlap::{AsDeletion, are_valid};
+use super::overlap::{AsDeletion, are_valid, pair_at};
 use super::{OutOfMemory, RelaxDelta};
 
 // How many pairs all batches have, or `usize::MAX` where they are more.
@@ -33,8 +33,8 @@ pub(super) fn copy_deletions<D: AsDeletion>(
     deletions: &[D],
 ) -> Result<Vec<(u64, u32)>, OutOfMemory> {
     let mut copy = Vec::fallible_with_capacity(deletions.len())?;
-    for deletion in deletions {
-        copy.push_reserved(deletion.as_deletion());
+    for at in 0..deletions.len() {
+        copy.push_reserved(pair_at(deletions, at));
     }
     Ok(copy)
 }

@@ -66,7 +66,7 @@ pub(super) fn are_valid<D: AsDeletion>(deletions: &[D]) -> bool {
 
 // The deletion at an index.
 #[inline(always)]
-fn pair_at<D: AsDeletion>(deletions: &[D], at: usize) -> (u64, u32) {
+pub(super) fn pair_at<D: AsDeletion>(deletions: &[D], at: usize) -> (u64, u32) {
     deletions[at].as_deletion()
 }
 

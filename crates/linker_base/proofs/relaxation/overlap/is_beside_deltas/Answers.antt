@@ -1,4 +1,4 @@
-use Rattle.std.proofs.Common.{◌≡◌, ◌-◌, ◌<◌, ◌≤◌, length, map, arith}
+use Rattle.std.proofs.Common.{◌-◌, ◌<◌, ◌≤◌, length, map, arith}
 use Rattle.std.proofs.lemmas.List.{get_or_default, length-map}
 use Rattle.linker_base.specs.Deltas.{deletion_of}
 use Rattle.linker_base.proofs.Merging.{IsPastLast, free_from_between, between_from_free}
