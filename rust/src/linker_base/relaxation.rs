@@ -22,7 +22,7 @@ pub use cursor::RelaxCursor;
 pub use delta_slice::DeltaSlice;
 pub(crate) use delta_slice::rank_past;
 pub use map::RelaxDeltaMap;
-use merge::{all_pairs, copy_deletions, count_pairs, insert_ascending, sorted};
+use merge::{all_pairs, append, copy_deletions, count_pairs, insert_ascending, sorted};
 use overlap::{are_valid, can_batches_be_merged, can_be_merged};
 pub use overlap::{AsDeletion, first_invalid};
 
@@ -87,15 +87,7 @@ impl SectionRelaxDeltas {
         debug_assert!(SectionRelaxDeltas::is_valid(raw));
         let mut deltas = Vec::fallible_with_capacity(raw.len())?;
         let mut heads = Vec::fallible_with_capacity(count_blocks(raw.len()))?;
-        let mut cumulative_deleted = 0;
-        for &(input_offset, bytes_deleted) in raw {
-            cumulative_deleted += u64::from(bytes_deleted);
-            deltas.push_reserved(RelaxDelta {
-                input_offset,
-                cumulative_deleted,
-                bytes_deleted,
-            });
-        }
+        append(&mut deltas, raw);
         fill_heads(&deltas, &mut heads);
         Ok(SectionRelaxDeltas { deltas, heads })
     }

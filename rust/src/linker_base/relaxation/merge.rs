@@ -67,12 +67,14 @@ pub(super) fn insert_ascending(
     Ok(())
 }
 
-// Appends the pairs to the deltas, with no sum yet.
-fn append(deltas: &mut Vec<RelaxDelta>, pairs: &[(u64, u32)]) {
+// Appends the pairs to the deltas, with sums of their own bytes alone.
+pub(super) fn append(deltas: &mut Vec<RelaxDelta>, pairs: &[(u64, u32)]) {
+    let mut cumulative_deleted = 0u64;
     for &(input_offset, bytes_deleted) in pairs {
+        cumulative_deleted = cumulative_deleted.wrapping_add(u64::from(bytes_deleted));
         deltas.push_reserved(RelaxDelta {
             input_offset,
-            cumulative_deleted: 0,
+            cumulative_deleted,
             bytes_deleted,
         });
     }
