@@ -139,6 +139,7 @@ impl SectionRelaxDeltas {
         if are_valid(additional) {
             return insert_ascending(deltas, heads, additional);
         }
+        deltas.reserve(additional.len())?;
         let pairs = sorted(copy_deletions(*deltas.allocator(), additional)?);
         insert_ascending(deltas, heads, &pairs)
     }
@@ -172,9 +173,11 @@ impl SectionRelaxDeltas {
     {
         let deltas = &mut self.deltas;
         let heads = &mut self.heads;
-        if count_pairs(batches) == 0 {
+        let count = count_pairs(batches);
+        if count == 0 {
             return Ok(());
         }
+        deltas.reserve(count)?;
         let pairs = sorted(all_pairs(*deltas.allocator(), batches)?);
         insert_ascending(deltas, heads, &pairs)
     }

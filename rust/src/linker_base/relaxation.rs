@@ -121,6 +121,7 @@ impl SectionRelaxDeltas {
         if are_valid(additional) {
             return insert_ascending(deltas, heads, additional);
         }
+        deltas.try_reserve(additional.len())?;
         let pairs = sorted(copy_deletions(additional)?);
         insert_ascending(deltas, heads, &pairs)
     }
@@ -153,9 +154,11 @@ impl SectionRelaxDeltas {
     pub fn merge_all(&mut self, batches: &[Vec<(u64, u32)>]) -> Result<(), OutOfMemory> {
         let deltas = &mut self.deltas;
         let heads = &mut self.heads;
-        if count_pairs(batches) == 0 {
+        let count = count_pairs(batches);
+        if count == 0 {
             return Ok(());
         }
+        deltas.try_reserve(count)?;
         let pairs = sorted(all_pairs(batches)?);
         insert_ascending(deltas, heads, &pairs)
     }
