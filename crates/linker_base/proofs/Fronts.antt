@@ -9,10 +9,11 @@ use Rattle.std.proofs.lemmas.List.Sums.{sum_by_more, sum_by-append}
 use mir.Val.{bool_byte}
 use Rattle.linker_base.specs.declared.relaxation.RelaxDelta.{RelaxDelta}
 use Rattle.linker_base.specs.Deletions.{AreDisjoint, IsValid, IsSortedUnion, bytes_of}
-use Rattle.linker_base.specs.Deltas.{deletion_of}
+use Rattle.linker_base.specs.Deltas.{deletion_of, RecordsDeletions}
 use Rattle.linker_base.specs.Listed.{AreValidDeltas, AreValidTogether}
 use Rattle.linker_base.specs.Inner.Listed.{IsLower}
-use Rattle.linker_base.proofs.Merges.{HaveSums, HaveSums-append, disjoint_fit, rise-append}
+use Rattle.linker_base.proofs.Listed.{RecordsDeletions-push}
+use Rattle.linker_base.proofs.Merges.{disjoint_fit, rise-append}
 use Rattle.linker_base.proofs.Unions.{disjoint_permutation, union_from_sort}
 
 -- deltas that list the first i deletions and the first j additional ones, merged
@@ -21,7 +22,7 @@ pub record IsFront (ds ps : List (ℕ × ℕ)) (i j : ℕ) (front : List RelaxDe
   pub rise : IsNonDecreasingBy (λ d. d.0) (map deletion_of front)
   pub below_old : i < length ds → All (λ d. d.0 ≤ (get_or ds i (0, 0)).0) (map deletion_of front)
   pub below_added : j < length ps → All (λ d. d.0 ≤ (get_or ps j (0, 0)).0) (map deletion_of front)
-  pub sums : HaveSums 0 front
+  pub listing : RecordsDeletions (map deletion_of front) front
 
 -- so far is written, and so many bytes are deleted there
 pub record IsMergedUpTo (ds ps : List (ℕ × ℕ)) (i j : ℕ) (merged : List RelaxDelta) (bytes : ℕ) : Type 0 where
@@ -43,7 +44,7 @@ merged_swapped ds ps i j merged bytes upto =
         rise = upto.front.rise;
         below_old = upto.front.below_added;
         below_added = upto.front.below_old;
-        sums = upto.front.sums;
+        listing = upto.front.listing;
       });
       sum = omega (arith, upto.sum);
     }
@@ -68,7 +69,7 @@ merged_more ds ps i j at merged delta bytes valid within place upto is first sum
     rise = rw (joined, is) (rise-append (map deletion_of old) (d ∷ []) upto.front.rise alone above);
     below_old = λ some. rw (joined, is) (All-push (λ e. e.0 ≤ (get_or ds (i + 1) (0, 0)).0) (map deletion_of old) d (λ k e low. omega (arith, upto.front.below_old within k e low, (valid.ascending i (i + 1) (0, 0) (omega arith) some).0)) (omega (arith, (valid.ascending i (i + 1) (0, 0) (omega arith) some).0)));
     below_added = λ some. rw (joined, is) (All-push (λ e. e.0 ≤ (get_or ps j (0, 0)).0) (map deletion_of old) d (upto.front.below_added some) (first some));
-    sums = HaveSums-append 0 old (delta ∷ []) upto.front.sums (record { each = λ k e low. last k e low });
+    listing = rw joined (RecordsDeletions-push (map deletion_of old) old delta upto.front.listing (omega (arith, sum, bytes_before, ap (λ (x : ℕ × ℕ). x.1) is)));
   });
   sum = omega (arith, sum, upto.sum, sum_by_more (λ (e : ℕ × ℕ). e.1) ds i (0, 0) within);
 }
@@ -111,11 +112,6 @@ merged_more ds ps i j at merged delta bytes valid within place upto is first sum
     bytes_before : bytes ≡ bytes_of (map deletion_of old)
     bytes_before = omega (arith, upto.sum, sum_by-append (λ (e : ℕ × ℕ). e.1) (take i ds) (take j ps), sum_by-IsPermutation (λ (e : ℕ × ℕ). e.1) (take i ds ++ take j ps) (map deletion_of old) upto.front.same)
 
-    last : (k : ℕ) (e : RelaxDelta) → k < length (delta ∷ []) → (get_or (delta ∷ []) k e).cumulative_deleted ≡ 0 + bytes_of (map deletion_of old) + bytes_of (take (k + 1) (map deletion_of (delta ∷ [])))
-    last k e low =
-        let only : k ≡ 0 = omega (arith, low) in
-        rw only (omega (arith, sum, bytes_before, ap (λ (x : ℕ × ℕ). x.1) is))
-
 -- one more of either list has room, and is written
 pub fits_step : (ds ps : List (ℕ × ℕ)) (i j : ℕ) (merged : List RelaxDelta) (bytes : ℕ) (d : ℕ × ℕ) (is_old : Bool) → IsMergedUpTo ds ps i j merged bytes → AreDisjoint (ds ++ ps) → IsLower ds ps i j d is_old → (i + j < length merged) × (bytes + d.1 < 2 ^ 64)
 fits_step ds ps i j merged bytes d true upto disjoint (within, here, first) = rw here (has_more ds ps i j merged bytes upto disjoint within)
@@ -141,4 +137,4 @@ merged_all ds ps i j merged bytes disjoint upto past end =
     let front : IsFront ds ps i j merged = rw whole at upto.front in
     let same : IsPermutation (ds ++ ps) (map deletion_of merged) = rw (first, second) at front.same in
     let union : IsSortedUnion (ds ++ ps) (map deletion_of merged) = union_from_sort (ds ++ ps) (map deletion_of merged) same disjoint front.rise in
-    (union, record { valid = union.valid; listing = record { same = refl; sums = λ k d within. omega (arith, front.sums.each k d within) } })
+    (union, record { valid = union.valid; listing = front.listing })

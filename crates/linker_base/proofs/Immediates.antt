@@ -4,6 +4,7 @@ use Rattle.std.specs.Int.{bit_at, int_rem_euclid, w64, cast_unsigned}
 use Rattle.std.specs.List.{All, list_all}
 use Rattle.std.proofs.lemmas.Bool.{agree_below, agree_below_at, and_parts, or_parts, or_cases, eqb-true, ltb-true, leb-true, cases_lt, cases_Bool, le-ltb, or_from, and_right, and_from, ne_eqb, eqb-false, eq-eqb, cond-true, cond-false, not-true}
 use Rattle.std.proofs.lemmas.List.Elements.{All-nil, All-cons, All-head, All-tail}
+use Rattle.std.proofs.lemmas.List.Sums.{AllPass-from_list_all}
 use Rattle.std.proofs.lemmas.Nat.{pow_pos, pow_below, mod_below}
 use Rattle.std.proofs.lemmas.Nat.Bits.{same_from_bits}
 use Rattle.std.proofs.Math.Nat.{mod-eq_of_lt}
@@ -302,7 +303,4 @@ clear_at ored b h = cc
 clear_at cleared b h = refl
 
 pub always_clear : (ps : List ImmediateBit) (x : ℕ) → none_ored ps ≡ true → IsClear ps x
-always_clear [] x h = All-nil (λ (p : ImmediateBit). is_clear_at p.mark (bit_at x p.insn_bit) ≡ true)
-always_clear (p ∷ ps) x h =
-    let parts = and_parts (is_not_ored p.mark) (none_ored ps) h in
-    All-cons (λ (q : ImmediateBit). is_clear_at q.mark (bit_at x q.insn_bit) ≡ true) p ps (clear_at p.mark (bit_at x p.insn_bit) parts.0) (always_clear ps x parts.1)
+always_clear ps x h k p within = clear_at (get_or ps k p).mark (bit_at x (get_or ps k p).insn_bit) (AllPass-from_list_all (λ (q : ImmediateBit). is_not_ored q.mark) ps h k p within)

@@ -6,7 +6,7 @@ use Rattle.std.proofs.lemmas.Bool.{cases_lt, cases_order}
 use Rattle.std.proofs.lemmas.List.{append_assoc, take-append-drop, take-append-le, take-take, take-map, take_all, take-set-le, drop_more, drop-set, get_or-take, get_or_default, get_or_append_left, get_or-append_right, map-append, length-append, length-map, length-set, length-take}
 use Rattle.std.proofs.Math.Seq.{take-append-add}
 use Rattle.std.proofs.lemmas.List.Elements.{All-cons}
-use Rattle.std.proofs.lemmas.List.Sorted.{IsNonDecreasingBy-take, IsPermutation-cons, IsPermutation-middle, IsPermutation-append_right, IsPermutation-trans}
+use Rattle.std.proofs.lemmas.List.Sorted.{IsNonDecreasingBy-take, IsPermutation-cons, IsPermutation-append_right, IsPermutation-append_comm, IsPermutation-trans}
 use Rattle.std.proofs.lemmas.List.Sums.{sum_by-cons, sum_by_more, sum_by-append}
 use Rattle.linker_base.specs.declared.relaxation.RelaxDelta.{RelaxDelta}
 use Rattle.linker_base.specs.Deletions.{AreDisjoint, IsValid, IsSortedUnion, bytes_of}
@@ -110,24 +110,22 @@ IsTail-old ds ps i j tail delta valid rises within inside merged is above sum =
           rw before merged.sums);
     }
 
+tail_swapped : (ds ps : List (ℕ × ℕ)) (i j : ℕ) (tail : List RelaxDelta) → IsTail ds ps i j tail → IsTail ps ds j i tail
+tail_swapped ds ps i j tail merged =
+    let bytes : bytes_of (take j ps) + bytes_of (take i ds) ≡ bytes_of (take i ds) + bytes_of (take j ps) = omega arith in
+    record {
+      same = IsPermutation-trans (drop j ps ++ drop i ds) (drop i ds ++ drop j ps) (map deletion_of tail) (IsPermutation-append_comm (drop j ps) (drop i ds)) merged.same;
+      rise = merged.rise;
+      above_old = merged.above_left;
+      above_left = merged.above_old;
+      sums = rw bytes merged.sums;
+    }
+
 -- the last of the additional deletions goes in front
 IsTail-left : (ds ps : List (ℕ × ℕ)) (i j : ℕ) (tail : List RelaxDelta) (delta : RelaxDelta) → IsValid ds → IsValid ps → i ≤ length ds → j < length ps → IsTail ds ps i (j + 1) tail
     → deletion_of delta ≡ get_or ps j (0, 0) → (0 < i → (get_or ds (i - 1) (0, 0)).0 ≤ (get_or ps j (0, 0)).0) → delta.cumulative_deleted ≡ bytes_of (take i ds) + bytes_of (take (j + 1) ps) → IsTail ds ps i j (delta ∷ tail)
 IsTail-left ds ps i j tail delta valid rises within inside merged is above sum =
-    let offset : delta.input_offset ≡ (get_or ps j (0, 0)).0 = ap (λ (e : ℕ × ℕ). e.0) is in
-    let bytes : delta.bytes_deleted ≡ (get_or ps j (0, 0)).1 = ap (λ (e : ℕ × ℕ). e.1) is in
-    let more = sum_by_more (λ (e : ℕ × ℕ). e.1) ps j (0, 0) inside in
-    record {
-      same = rw (drop_more ps j (0, 0) inside, ← is) (IsPermutation-trans (drop i ds ++ deletion_of delta ∷ drop (j + 1) ps) (deletion_of delta ∷ (drop i ds ++ drop (j + 1) ps)) (deletion_of delta ∷ map deletion_of tail)
-          (IsPermutation-middle (drop i ds) (deletion_of delta) (drop (j + 1) ps))
-          (IsPermutation-cons (deletion_of delta) (drop i ds ++ drop (j + 1) ps) (map deletion_of tail) merged.same));
-      rise = rise-cons (deletion_of delta) (map deletion_of tail) (rw (← is) at (merged.above_left j (omega arith))) merged.rise;
-      above_old = λ k low. All-cons (λ d. (get_or ds k (0, 0)).0 ≤ d.0) (deletion_of delta) (map deletion_of tail) (omega (arith, offset, above (omega arith), valid_rises ds valid k (i - 1) (0, 0) (omega arith) (omega arith))) (merged.above_old k low);
-      above_left = λ k low. All-cons (λ d. (get_or ps k (0, 0)).0 ≤ d.0) (deletion_of delta) (map deletion_of tail) (omega (arith, offset, valid_rises ps rises k j (0, 0) (omega arith) inside)) (merged.above_left k (omega arith));
-      sums = HaveSums-cons (bytes_of (take i ds) + bytes_of (take j ps)) delta tail (omega (arith, more, bytes, sum)) (
-          let before : bytes_of (take i ds) + bytes_of (take j ps) + delta.bytes_deleted ≡ bytes_of (take i ds) + bytes_of (take (j + 1) ps) = omega (arith, more, bytes) in
-          rw before merged.sums);
-    }
+    tail_swapped ps ds j i (delta ∷ tail) (IsTail-old ps ds j i tail delta rises valid inside within (tail_swapped ds ps i (j + 1) tail merged) is above (omega (arith, sum)))
 
 -- what isn't free is merged, so many bytes are left, and the first i deltas are read as at first
 pub record IsMerging (start : List RelaxDelta) (ps : List (ℕ × ℕ)) (i j : ℕ) (merged : List RelaxDelta) (bytes : ℕ) : Type 0 where

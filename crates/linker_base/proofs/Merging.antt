@@ -1,18 +1,15 @@
 -- Deletions beside those of a section: whether they may be merged, and what a merge leaves.
-use Rattle.std.proofs.Common.{◌≡◌, ℕ, ◌+◌, ◌-◌, ◌<◌, ◌≤◌, List, ◌++◌, length, map, get_or, take, drop, true, false, not, refl, sym, ◌∙◌, inl, inr, arith}
+use Rattle.std.proofs.Common.{◌≡◌, ℕ, ◌+◌, ◌-◌, ◌<◌, ◌≤◌, List, ◌++◌, length, get_or, take, drop, true, false, not, refl, sym, ◌∙◌, inl, inr, arith}
 use Rattle.std.specs.Prelude.{◌↔◌, Bool, IsTrue, All}
 use Rattle.std.specs.List.Sorted.{IsPartitionPoint}
 use Rattle.std.specs.Prelude.{Option, Some, None, MatchOption}
 use Rattle.std.specs.Option.{is_some}
 use Rattle.std.proofs.lemmas.Bool.{cases_lt, cases_order, false≢true}
-use Rattle.std.proofs.lemmas.List.{append_assoc, take-append-drop, get_or_append_left, get_or-append-add, get_or_default, length-append, length-map}
+use Rattle.std.proofs.lemmas.List.{append_assoc, take-append-drop, get_or_append_left, get_or-append-add, get_or_default, length-append}
 use Rattle.std.proofs.lemmas.List.Elements.{All-append}
-use Rattle.linker_base.specs.declared.relaxation.RelaxDelta.{RelaxDelta}
 use Rattle.linker_base.specs.Deletions.{IsBefore, DoNotOverlap, EndFits, AreDisjoint, IsValid}
-use Rattle.linker_base.specs.Deltas.{deletion_of}
 use Rattle.linker_base.specs.Listed.{IsFirstOverlapping}
 use Rattle.linker_base.proofs.Listed.{all_pairs_append}
-use Rattle.linker_base.proofs.Search.{blank, deletion_at}
 use Rattle.linker_base.proofs.Unions.{disjoint_left}
 
 -- the last of the first k lies below the pair
@@ -27,22 +24,6 @@ IsBelowNext ds k pair = (d : ℕ × ℕ) → k < length ds → IsBefore pair (ge
 pub record IsBetween (ds : List (ℕ × ℕ)) (k : ℕ) (pair : ℕ × ℕ) : Type 0 where
   pub past_last : IsPastLast ds k pair
   pub below_next : IsBelowNext ds k pair
-
--- a test of the delta there decides each of the two
-pub past_last_decides : (deltas : List RelaxDelta) (k : ℕ) (pair last : ℕ × ℕ) (b : Bool) → 0 < k → k ≤ length deltas → last ≡ deletion_of (get_or deltas (k - 1) blank) → (IsTrue b ↔ IsBefore last pair) → IsTrue b ↔ IsPastLast (map deletion_of deltas) k pair
-past_last_decides deltas k pair last b some within is decides =
-    let inside : k - 1 < length deltas = omega arith in
-    let here = rw is at decides in (
-      λ holds d positive. rw (deletion_at deltas (k - 1) blank d inside) (here.0 holds),
-      λ past. here.1 (rw (deletion_at deltas (k - 1) blank (0, 0) inside) at (past (0, 0) some)),
-    )
-
-pub below_next_decides : (deltas : List RelaxDelta) (k : ℕ) (pair next : ℕ × ℕ) (b : Bool) → k < length deltas → next ≡ deletion_of (get_or deltas k blank) → (IsTrue b ↔ IsBefore pair next) → IsTrue b ↔ IsBelowNext (map deletion_of deltas) k pair
-below_next_decides deltas k pair next b within is decides =
-    let here = rw is at decides in (
-      λ holds d inside. rw (deletion_at deltas k blank d within) (here.0 holds),
-      λ below. here.1 (rw (deletion_at deltas k blank (0, 0) within) at (below (0, 0) (omega (arith, length-map deltas deletion_of)))),
-    )
 
 pub free_from_between : (ds : List (ℕ × ℕ)) → IsValid ds → (k : ℕ) (pair : ℕ × ℕ) → k ≤ length ds → IsBetween ds k pair → All (λ d. DoNotOverlap d pair) ds
 free_from_between ds valid k pair bound between j d within = elim (cases_lt j k) [

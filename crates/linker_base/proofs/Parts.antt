@@ -1,9 +1,9 @@
 -- Forms of several parts, each with an added number, a mark or a sign of its own.
-use Rattle.std.proofs.Common.{◌≡◌, ℕ, ◌+◌, ◌%◌, ◌^◌, ◌<◌, ◌≤◌, Bool, true, false, ◌&&◌, eqb, leb, List, [], ◌∷◌, refl, sym, ◌∙◌, ap, arith}
+use Rattle.std.proofs.Common.{◌≡◌, ℕ, ◌+◌, ◌%◌, ◌^◌, ◌<◌, ◌≤◌, Bool, true, false, ◌&&◌, eqb, leb, List, refl, sym, ◌∙◌, ap, arith, get_or}
 use Rattle.std.specs.Int.{bit_at}
 use Rattle.std.specs.List.{All, list_all}
 use Rattle.std.proofs.lemmas.Bool.{and_parts, eqb-true, leb-true}
-use Rattle.std.proofs.lemmas.List.Elements.{All-nil, All-cons, All-head, All-tail}
+use Rattle.std.proofs.lemmas.List.Sums.{AllPass-from_list_all}
 use Rattle.std.proofs.lemmas.Nat.Bits.{bit_at_above}
 use Rattle.linker_base.specs.Form.{Mark, replaced, ored, cleared, ImmediateBit, BitsWritten, placed_bit, bit_for}
 use Rattle.linker_base.proofs.Immediates.{same_window}
@@ -26,13 +26,8 @@ placed_over ored new old x h e = cc
 placed_over cleared new old x h e = cc
 
 over : (ps : List ImmediateBit) (v before after : ℕ) → all_replaced ps ≡ true → ArePlaced ps v before after → ArePlaced ps v after after
-over [] v before after h placed = All-nil (λ (p : ImmediateBit). bit_at after p.insn_bit ≡ placed_bit p.mark (bit_for p v) (bit_at after p.insn_bit))
-over (p ∷ ps) v before after h placed =
-    let parts = and_parts (is_replaced p.mark) (all_replaced ps) h in
-    All-cons (λ (q : ImmediateBit). bit_at after q.insn_bit ≡ placed_bit q.mark (bit_for q v) (bit_at after q.insn_bit)) p ps
-    (placed_over p.mark (bit_for p v) (bit_at before p.insn_bit) (bit_at after p.insn_bit) parts.0
-    (All-head (λ (q : ImmediateBit). bit_at after q.insn_bit ≡ placed_bit q.mark (bit_for q v) (bit_at before q.insn_bit)) p ps placed))
-    (over ps v before after parts.1 (All-tail (λ (q : ImmediateBit). bit_at after q.insn_bit ≡ placed_bit q.mark (bit_for q v) (bit_at before q.insn_bit)) p ps placed))
+over ps v before after h placed k p within =
+    placed_over (get_or ps k p).mark (bit_for (get_or ps k p) v) (bit_at before (get_or ps k p).insn_bit) (bit_at after (get_or ps k p).insn_bit) (AllPass-from_list_all (λ (q : ImmediateBit). is_replaced q.mark) ps h k p within) (placed k p within)
 
 -- a part whose bits are replaced is written by itself: written again over the window after, it changes nothing
 pub part_laid : (ps : List ImmediateBit) (v before after : ℕ) → all_replaced ps ≡ true → ArePlaced ps v before after → BitsWritten ps v after after
@@ -51,8 +46,7 @@ is_ored cleared = false
 
 -- the places are only ORed, of value bits n and up
 abbrev pub ored_from : ℕ → List ImmediateBit → Bool
-ored_from n [] = true
-ored_from n (p ∷ ps) = (is_ored p.mark && (eqb p.added 0 && leb n p.value)) && ored_from n ps
+ored_from n ps = list_all (λ (p : ImmediateBit). is_ored p.mark && (eqb p.added 0 && leb n p.value)) ps
 
 ored_none : (m : Mark) (new old x : ℕ) → is_ored m ≡ true → new ≡ 0 → x ≡ placed_bit m new old → x ≡ old
 ored_none replaced new old x h z e = cc
@@ -66,16 +60,13 @@ bit_none v a k n h w e l =
 
 -- a value of n bits leaves the places of higher bits that are only ORed
 pub ored_kept : (n : ℕ) (ps : List ImmediateBit) (v before after : ℕ) → v < 2 ^ n → v < 2 ^ 64 → ored_from n ps ≡ true → ArePlaced ps v before after → All (λ (p : ImmediateBit). bit_at after p.insn_bit ≡ bit_at before p.insn_bit) ps
-ored_kept n [] v before after h w o placed = All-nil (λ (p : ImmediateBit). bit_at after p.insn_bit ≡ bit_at before p.insn_bit)
-ored_kept n (p ∷ ps) v before after h w o placed =
-    let parts = and_parts (is_ored p.mark && (eqb p.added 0 && leb n p.value)) (ored_from n ps) o in
-    let first = and_parts (is_ored p.mark) (eqb p.added 0 && leb n p.value) parts.0 in
+ored_kept n ps v before after h w o placed k d within =
+    let p = get_or ps k d in
+    let first = and_parts (is_ored p.mark) (eqb p.added 0 && leb n p.value) (AllPass-from_list_all (λ (q : ImmediateBit). is_ored q.mark && (eqb q.added 0 && leb n q.value)) ps o k d within) in
     let second = and_parts (eqb p.added 0) (leb n p.value) first.1 in
-    All-cons (λ (q : ImmediateBit). bit_at after q.insn_bit ≡ bit_at before q.insn_bit) p ps
-    (ored_none p.mark (bit_for p v) (bit_at before p.insn_bit) (bit_at after p.insn_bit) first.0
+    ored_none p.mark (bit_for p v) (bit_at before p.insn_bit) (bit_at after p.insn_bit) first.0
     (bit_none v p.added p.value n h w (eqb-true p.added 0 second.0) (leb-true n p.value second.1))
-    (All-head (λ (q : ImmediateBit). bit_at after q.insn_bit ≡ placed_bit q.mark (bit_for q v) (bit_at before q.insn_bit)) p ps placed))
-    (ored_kept n ps v before after h w parts.1 (All-tail (λ (q : ImmediateBit). bit_at after q.insn_bit ≡ placed_bit q.mark (bit_for q v) (bit_at before q.insn_bit)) p ps placed))
+    (placed k d within)
 
 abbrev pub is_cleared : Mark → Bool
 is_cleared replaced = false
@@ -92,12 +83,5 @@ cleared_none cleared new old x h z e = e ∙ sym z
 
 -- places that are only cleared stay where they held 0
 pub cleared_kept : (ps : List ImmediateBit) (v before after : ℕ) → all_cleared ps ≡ true → All (λ (p : ImmediateBit). bit_at before p.insn_bit ≡ 0) ps → ArePlaced ps v before after → All (λ (p : ImmediateBit). bit_at after p.insn_bit ≡ bit_at before p.insn_bit) ps
-cleared_kept [] v before after h none placed = All-nil (λ (p : ImmediateBit). bit_at after p.insn_bit ≡ bit_at before p.insn_bit)
-cleared_kept (p ∷ ps) v before after h none placed =
-    let parts = and_parts (is_cleared p.mark) (all_cleared ps) h in
-    All-cons (λ (q : ImmediateBit). bit_at after q.insn_bit ≡ bit_at before q.insn_bit) p ps
-    (cleared_none p.mark (bit_for p v) (bit_at before p.insn_bit) (bit_at after p.insn_bit) parts.0
-    (All-head (λ (q : ImmediateBit). bit_at before q.insn_bit ≡ 0) p ps none)
-    (All-head (λ (q : ImmediateBit). bit_at after q.insn_bit ≡ placed_bit q.mark (bit_for q v) (bit_at before q.insn_bit)) p ps placed))
-    (cleared_kept ps v before after parts.1 (All-tail (λ (q : ImmediateBit). bit_at before q.insn_bit ≡ 0) p ps none)
-    (All-tail (λ (q : ImmediateBit). bit_at after q.insn_bit ≡ placed_bit q.mark (bit_for q v) (bit_at before q.insn_bit)) p ps placed))
+cleared_kept ps v before after h none placed k p within =
+    cleared_none (get_or ps k p).mark (bit_for (get_or ps k p) v) (bit_at before (get_or ps k p).insn_bit) (bit_at after (get_or ps k p).insn_bit) (AllPass-from_list_all (λ (q : ImmediateBit). is_cleared q.mark) ps h k p within) (none k p within) (placed k p within)

@@ -28,7 +28,7 @@ pub use cursor::RelaxCursor;
 pub use delta_slice::DeltaSlice;
 pub(crate) use delta_slice::rank_past;
 pub use map::RelaxDeltaMap;
-use merge::{all_pairs, copy_deletions, count_pairs, insert_ascending, sorted};
+use merge::{all_pairs, append, copy_deletions, count_pairs, insert_ascending, sorted};
 use overlap::{are_valid, can_batches_be_merged, can_be_merged};
 pub use overlap::{AsDeletion, first_invalid};
 
@@ -103,15 +103,7 @@ impl SectionRelaxDeltas {
     {
         let mut deltas = Vec::with_capacity(alloc, raw.len())?;
         let mut heads = Vec::with_capacity(alloc, count_blocks(raw.len()))?;
-        let mut cumulative_deleted = 0;
-        for &(input_offset, bytes_deleted) in raw {
-            cumulative_deleted += u64::from(bytes_deleted);
-            deltas.push_reserved(RelaxDelta {
-                input_offset,
-                cumulative_deleted,
-                bytes_deleted,
-            });
-        }
+        append(&mut deltas, raw);
         fill_heads(&deltas, &mut heads);
         Ok(SectionRelaxDeltas { deltas, heads })
     }
@@ -147,6 +139,7 @@ impl SectionRelaxDeltas {
         if are_valid(additional) {
             return insert_ascending(deltas, heads, additional);
         }
+        deltas.reserve(additional.len())?;
         let pairs = sorted(copy_deletions(*deltas.allocator(), additional)?);
         insert_ascending(deltas, heads, &pairs)
     }
@@ -180,9 +173,11 @@ impl SectionRelaxDeltas {
     {
         let deltas = &mut self.deltas;
         let heads = &mut self.heads;
-        if count_pairs(batches) == 0 {
+        let count = count_pairs(batches);
+        if count == 0 {
             return Ok(());
         }
+        deltas.reserve(count)?;
         let pairs = sorted(all_pairs(*deltas.allocator(), batches)?);
         insert_ascending(deltas, heads, &pairs)
     }

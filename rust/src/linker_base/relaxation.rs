@@ -23,7 +23,7 @@ pub use cursor::RelaxCursor;
 pub use delta_slice::DeltaSlice;
 pub(crate) use delta_slice::rank_past;
 pub use map::RelaxDeltaMap;
-use merge::{all_pairs, copy_deletions, count_pairs, insert_ascending, sorted};
+use merge::{all_pairs, append, copy_deletions, count_pairs, insert_ascending, sorted};
 use overlap::{are_valid, can_batches_be_merged, can_be_merged};
 pub use overlap::{AsDeletion, first_invalid};
 
@@ -88,15 +88,7 @@ impl SectionRelaxDeltas {
         debug_assert!(SectionRelaxDeltas::is_valid(raw));
         let mut deltas = Vec::fallible_with_capacity(raw.len())?;
         let mut heads = Vec::fallible_with_capacity(count_blocks(raw.len()))?;
-        let mut cumulative_deleted = 0;
-        for &(input_offset, bytes_deleted) in raw {
-            cumulative_deleted += u64::from(bytes_deleted);
-            deltas.push_reserved(RelaxDelta {
-                input_offset,
-                cumulative_deleted,
-                bytes_deleted,
-            });
-        }
+        append(&mut deltas, raw);
         fill_heads(&deltas, &mut heads);
         Ok(SectionRelaxDeltas { deltas, heads })
     }
@@ -130,6 +122,7 @@ impl SectionRelaxDeltas {
         if are_valid(additional) {
             return insert_ascending(deltas, heads, additional);
         }
+        deltas.try_reserve(additional.len())?;
         let pairs = sorted(copy_deletions(additional)?);
         insert_ascending(deltas, heads, &pairs)
     }
@@ -162,9 +155,11 @@ impl SectionRelaxDeltas {
     pub fn merge_all(&mut self, batches: &[Vec<(u64, u32)>]) -> Result<(), OutOfMemory> {
         let deltas = &mut self.deltas;
         let heads = &mut self.heads;
-        if count_pairs(batches) == 0 {
+        let count = count_pairs(batches);
+        if count == 0 {
             return Ok(());
         }
+        deltas.try_reserve(count)?;
         let pairs = sorted(all_pairs(batches)?);
         insert_ascending(deltas, heads, &pairs)
     }

@@ -4,13 +4,13 @@ ghost use Rattle.std.specs.Prelude.{◌≡◌, ◌≤◌, ◌<◌, ◌+◌, ◌-
 ghost use Rattle.std.specs.Prelude.{length, min, take, slice_index_or, vec_len, vec_capacity};
 ghost use Rattle.linker_base.specs.declared.relaxation.RelaxDelta.{RelaxDelta};
 ghost use Rattle.linker_base.specs.Deletions.{AreDisjoint, IsValid, IsSortedUnion, bytes_of};
-ghost use Rattle.linker_base.specs.Deltas.{deletion_of, pairs_of};
+ghost use Rattle.linker_base.specs.Deltas.{deletion_of, pairs_of, RecordsDeletions};
 ghost use Rattle.linker_base.specs.Listed.{AreValidDeltas, AreValidTogether};
 ghost use Rattle.linker_base.specs.Inner.Listed.{IsSound};
 
 use super::blocks::{BlockHead, count_blocks, fill_heads};
 use super::delta_slice::bytes_of_first;
-use super::overlap::{AsDeletion, are_valid};
+use super::overlap::{AsDeletion, are_valid, pair_at};
 use super::{OutOfMemory, RelaxDelta};
 use std::alloc::Global;
 
@@ -47,8 +47,8 @@ pub(super) fn copy_deletions<D: AsDeletion>(
     ensures { IfOk result (λ copy. copy.items ≡ map D.deletion deletions.now) }
 {
     let mut copy = Vec::with_capacity(alloc, deletions.len())?;
-    for deletion in deletions {
-        copy.push_reserved(deletion.as_deletion());
+    for at in 0..deletions.len() {
+        copy.push_reserved(pair_at(deletions, at));
     }
     Ok(copy)
 }
@@ -90,16 +90,21 @@ pub(super) fn insert_ascending(
     Ok(())
 }
 
-// Appends the pairs to the deltas, with no sum yet.
-fn append(deltas: &mut Vec<RelaxDelta>, pairs: &[(u64, u32)])
+// Appends the pairs to the deltas, with sums of their own bytes alone.
+pub(super) fn append(deltas: &mut Vec<RelaxDelta>, pairs: &[(u64, u32)])
     requires { vec_len deltas.old + length pairs.now ≤ vec_capacity deltas.old }
     ensures front { take (vec_len deltas.old) deltas.new.items ≡ deltas.old.items }
     ensures len { vec_len deltas.new ≡ vec_len deltas.old + length pairs.now }
+    ensures capacity { vec_capacity deltas.new ≡ vec_capacity deltas.old }
+    ensures listing { vec_len deltas.old ≡ 0 → IsValid pairs.now
+        → RecordsDeletions pairs.now deltas.new.items }
 {
+    let mut cumulative_deleted = 0u64;
     for &(input_offset, bytes_deleted) in pairs {
+        cumulative_deleted = cumulative_deleted.wrapping_add(u64::from(bytes_deleted));
         deltas.push_reserved(RelaxDelta {
             input_offset,
-            cumulative_deleted: 0,
+            cumulative_deleted,
             bytes_deleted,
         });
     }

@@ -90,7 +90,7 @@ pub(super) fn are_valid<D: AsDeletion>(deletions: &[D]) -> bool
 
 // The deletion at an index.
 #[inline(always)]
-fn pair_at<D: AsDeletion>(deletions: &[D], at: usize) -> (u64, u32)
+pub(super) fn pair_at<D: AsDeletion>(deletions: &[D], at: usize) -> (u64, u32)
     requires { at < length deletions.now }
     ensures { result ≡ slice_index_or (map D.deletion deletions.now) at (0, 0) }
 {
@@ -331,8 +331,10 @@ fn is_beside_deltas(deltas: &[RelaxDelta], deletion: (u64, u32)) -> bool
         → (IsTrue result ↔ All (λ d. DoNotOverlap d deletion) (map deletion_of deltas.now)) }
 {
     let below = DeltaSlice::new(deltas).count_below(deletion.0);
-    (below == 0 || is_before(deltas[below - 1].as_deletion(), deletion))
-        && (below == deltas.len() || is_before(deletion, deltas[below].as_deletion()))
+    if below > 0 && !is_before(pair_at(deltas, below - 1), deletion) {
+        return false;
+    }
+    below == deltas.len() || is_before(deletion, pair_at(deltas, below))
 }
 
 // Whether the pairs of all batches, in any order, make a valid list once sorted. Pairs that

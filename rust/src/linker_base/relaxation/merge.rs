@@ -6,7 +6,7 @@ use alloc::vec::Vec;
 use crate::support::*;
 use super::blocks::{BlockHead, count_blocks, fill_heads};
 use super::delta_slice::bytes_of_first;
-use super::overlap::{AsDeletion, are_valid};
+use super::overlap::{AsDeletion, are_valid, pair_at};
 use super::{OutOfMemory, RelaxDelta};
 
 // How many pairs all batches have, or `usize::MAX` where they are more.
@@ -34,8 +34,8 @@ pub(super) fn copy_deletions<D: AsDeletion>(
     deletions: &[D],
 ) -> Result<Vec<(u64, u32)>, OutOfMemory> {
     let mut copy = Vec::fallible_with_capacity(deletions.len())?;
-    for deletion in deletions {
-        copy.push_reserved(deletion.as_deletion());
+    for at in 0..deletions.len() {
+        copy.push_reserved(pair_at(deletions, at));
     }
     Ok(copy)
 }
@@ -68,12 +68,14 @@ pub(super) fn insert_ascending(
     Ok(())
 }
 
-// Appends the pairs to the deltas, with no sum yet.
-fn append(deltas: &mut Vec<RelaxDelta>, pairs: &[(u64, u32)]) {
+// Appends the pairs to the deltas, with sums of their own bytes alone.
+pub(super) fn append(deltas: &mut Vec<RelaxDelta>, pairs: &[(u64, u32)]) {
+    let mut cumulative_deleted = 0u64;
     for &(input_offset, bytes_deleted) in pairs {
+        cumulative_deleted = cumulative_deleted.wrapping_add(u64::from(bytes_deleted));
         deltas.push_reserved(RelaxDelta {
             input_offset,
-            cumulative_deleted: 0,
+            cumulative_deleted,
             bytes_deleted,
         });
     }

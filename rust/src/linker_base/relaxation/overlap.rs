@@ -67,7 +67,7 @@ pub(super) fn are_valid<D: AsDeletion>(deletions: &[D]) -> bool {
 
 // The deletion at an index.
 #[inline(always)]
-fn pair_at<D: AsDeletion>(deletions: &[D], at: usize) -> (u64, u32) {
+pub(super) fn pair_at<D: AsDeletion>(deletions: &[D], at: usize) -> (u64, u32) {
     deletions[at].as_deletion()
 }
 
@@ -248,8 +248,10 @@ fn falling_len<D: AsDeletion>(deletions: &[D]) -> usize {
 // Whether the deletion overlaps none of the deltas: the nearest two decide.
 fn is_beside_deltas(deltas: &[RelaxDelta], deletion: (u64, u32)) -> bool {
     let below = DeltaSlice::new(deltas).count_below(deletion.0);
-    (below == 0 || is_before(deltas[below - 1].as_deletion(), deletion))
-        && (below == deltas.len() || is_before(deletion, deltas[below].as_deletion()))
+    if below > 0 && !is_before(pair_at(deltas, below - 1), deletion) {
+        return false;
+    }
+    below == deltas.len() || is_before(deletion, pair_at(deltas, below))
 }
 
 // Whether the pairs of all batches, in any order, make a valid list once sorted. Pairs that

@@ -1,5 +1,7 @@
+use Rattle.std.proofs.Common.{◌≡◌, ◌∙◌, ap, map}
 use Rattle.std.specs.List.Sorted.{IsPermutation}
 use Rattle.std.proofs.lemmas.List.{map-id}
+use Rattle.linker_base.specs.Deltas.{deletion_of}
 use Rattle.linker_base.proofs.Merging.{disjoint_back}
 use Rattle.linker_base.proofs.Unions.{disjoint_moved, union_moved_ok}
 use Rattle.linker_base.proofs.relaxation.SectionRelaxDeltas.merge_additional.Goals as goal
@@ -12,11 +14,13 @@ insert_ascending-requires-2-clause-disjoint c =
     let more = c.args.additional.now in
     let pairs = c.sorted-pairs.result.items in
     let same : IsPermutation more pairs = rw (c.in_ok-copy_deletions.ensures, map-id c.args.additional.now) at c.sorted-pairs.ensures.same in
-    rw (c.self.view_is, c.deref.ensures.value) ((disjoint_moved c.args.self.now more pairs same).1 c.requires)
+    let ds : map deletion_of c.reserve.new.self.items ≡ c.args.self.now = ap (map deletion_of) c.reserve.ensures.items ∙ c.self.view_is in
+    rw (ds, c.deref.ensures.value) ((disjoint_moved c.args.self.now more pairs same).1 c.requires)
 
 pub returns-clause-ok : goal.returns-clause-ok
 returns-clause-ok c =
     let more = c.args.additional.now in
     let pairs = c.sorted-pairs.result.items in
     let same : IsPermutation more pairs = rw (c.in_ok-copy_deletions.ensures, map-id c.args.additional.now) at c.sorted-pairs.ensures.same in
-    union_moved_ok c.insert_ascending-2.result c.args.self.now more pairs _ same (rw (c.self.view_is, c.deref.ensures.value) at c.insert_ascending-2.ensures.ok)
+    let ds : map deletion_of c.reserve.new.self.items ≡ c.args.self.now = ap (map deletion_of) c.reserve.ensures.items ∙ c.self.view_is in
+    union_moved_ok c.insert_ascending-2.result c.args.self.now more pairs _ same (rw (ds, c.deref.ensures.value) at c.insert_ascending-2.ensures.ok)
