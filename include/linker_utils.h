@@ -473,7 +473,7 @@ struct linker_utils_addresses {
  * - A branch goes to the symbol's stub, if it has one. On PowerPC64 a branch to the symbol itself
  *   goes to the local entry point.
  * - A low part of RISC-V takes the operands of the high part at the label that its symbol is, and
- *   its own addend isn't read. For this the relocations have to ascend by offset.
+ *   its own addend isn't read.
  * - A branch to an undefined weak symbol goes to the next instruction on AArch64, and on RISC-V and
  *   PowerPC64 to itself. What else is relative to the place is then 0 on AArch64. The offset of
  *   such a thread-local symbol is the addend.
@@ -511,7 +511,7 @@ static inline size_t linker_utils_relocate_memory(const void *relocations,
  * of 32 bits; LINKER_UTILS_OVERLAPS; LINKER_UTILS_OTHER_LENGTH; one of `linker_utils_relocate`, or
  * of `linker_utils_write_uleb128`. LINKER_UTILS_TOO_SHORT is also an offset past the section's end,
  * and LINKER_UTILS_UNSUPPORTED a ULEB128 number's relocation that isn't of a pair. It takes O(n)
- * for n relocations that ascend by offset, O(n log n) for others, and O(log n) more for a low part. */
+ * for n relocations that ascend, and O(log n) more for a low part; else O(n log n), and O(n). */
 static inline uint32_t linker_utils_relocate_section(
     uint16_t machine, const struct linker_utils_addresses *addresses, const void *relocations,
     size_t relocations_len, const struct linker_utils_symbol *symbols, size_t symbols_len,

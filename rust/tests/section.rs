@@ -1130,6 +1130,35 @@ fn values_of_more_than_32_bits_need_a_sequence_for_them() {
     assert_eq!(at_offset(0x7fff_f800), Err(beyond(0)));
 }
 
+/// Pairs of RISC-V whose relocations are in another order, at 8, 12, 0 and 4, beside what ld.lld 19
+/// and GNU ld 2.40 made of them.
+#[test]
+fn high_parts_are_found_in_any_order() {
+    // auipc a0; addi a0,a0; auipc a1; addi a1,a1: f is at 0x405678, and g at 0x403abc
+    let words: [u32; 4] = [0x517, 0x0005_0513, 0x597, 0x0005_8593];
+    let symbols = [0, 0x40_5678, 0x40_3abc, SECTION, SECTION + 8].map(|address| Symbol {
+        address,
+        ..SYMBOL
+    });
+    // R_RISCV_PCREL_HI20 and R_RISCV_PCREL_LO12_I, whose symbols are labels of the first
+    let [a, b, c, d] = [rela(0, 23, 1, 0), rela(4, 24, 3, 0), rela(8, 23, 2, 0), rela(12, 24, 4, 0)];
+    let linked = [0x4517, 0x6785_0513, 0x3597, 0xab45_8593u32].map(u32::to_le_bytes).concat();
+    for relocations in [[a, b, c, d], [c, d, a, b], [d, c, b, a], [b, d, a, c]] {
+        let mut section = words.map(u32::to_le_bytes).concat();
+        let bytes = bytes_of(&relocations);
+        assert_eq!(relocate_section(RiscV, &ADDRESSES, &bytes, &symbols, &mut section), Ok(()));
+        assert_eq!(section, linked);
+    }
+    // no high part is at the label
+    let mut section = words.map(u32::to_le_bytes).concat();
+    let error = RelocationError::Value(ValueError::NoHighPart);
+    let bytes = bytes_of(&[d, a, b]);
+    assert_eq!(
+        relocate_section(RiscV, &ADDRESSES, &bytes, &symbols, &mut section),
+        Err(SectionError { index: 0, error })
+    );
+}
+
 /// Numbers by a seed.
 struct Random(u64);
 

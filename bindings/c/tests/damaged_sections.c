@@ -374,17 +374,6 @@ static uint32_t one_by_one(const struct given *it, uint8_t *section, size_t *at)
     return LINKER_UTILS_OK;
 }
 
-/* Whether relocations ascend by offset. */
-static bool ascends(const struct given *it) {
-    uint64_t words[3], least = 0;
-    for (size_t i = 0; i < it->relocations_len / 24; i++) {
-        relocation_at(it, i, words);
-        if (words[0] < least) return false;
-        least = words[0];
-    }
-    return true;
-}
-
 /* Relocates a section in one call and one by one. Returns the status. */
 static uint32_t relocate(const struct given *it) {
     size_t memory_len = linker_utils_relocate_memory(it->relocations, it->relocations_len / 24);
@@ -404,11 +393,9 @@ static uint32_t relocate(const struct given *it) {
     bool is_same = !it->len || !memcmp(copy, it->section, it->len);
     free(was);
     if (status == LINKER_UTILS_OK) {
-        /* where relocations do not ascend, a high part may be found by either and not by the other */
-        bool is_found = wanted == LINKER_UTILS_NO_HIGH_PART && !ascends(it);
-        expect((wanted == LINKER_UTILS_OK || is_found) && faulty == SIZE_MAX, "an error one by one");
+        expect(wanted == LINKER_UTILS_OK && faulty == SIZE_MAX, "an error one by one");
         expect(overlapping == count, "fields overlap");
-        expect(is_same || is_found, "other bytes than one by one");
+        expect(is_same, "other bytes than one by one");
         return status;
     }
     expect(is_kept, "writes, and returns an error");

@@ -1,4 +1,4 @@
--- Where relocations ascend, a section that can be written has no fault: each relocation has one value.
+-- A section that can be written has no fault: each relocation has one value.
 use Rattle.std.proofs.Common.{◌≡◌, ℕ, ℤ, ◌+◌, ◌/◌, ◌<◌, ◌≤◌, ◌⊎◌, ◌^◌, List, length, drop, Bool, true, false, true≢false, ltb, refl, sym, ap, subst, ◌∙◌, inl, inr, arith, Option, Some, None, Ok, Err, Result}
 use Rattle.std.proofs.lemmas.Bool.{cases_eq, cases_lt, cases_Bool, and_parts, or_left, cond-true, cond-false, le-ltb, lt-ltb}
 use Rattle.std.specs.Prelude.{slice_get, slice_index, ◌||◌}
@@ -27,7 +27,7 @@ use Rattle.linker_section.specs.Relocations.{relocation_in, relocation_at}
 use Rattle.linker_section.proofs.Lengths.{pair_shows}
 use Rattle.linker_section.proofs.Valued.{mark_none}
 use Rattle.linker_section.specs.Sections.{HasValue, IsRowValue, IsValueless, no_value, not_filled, no_stub, beyond, IsOtherLength, IsNotAccepted, IsPairRejected, IsNumberOfPair, IsCauseAt, IsOfValue, BeginsPair}
-use Rattle.linker_section.specs.Values.{IsAscending, offset_at, is_auipc, is_high_kind, is_high_part, names_label, IsHighPart, IsHighPartAt, low_value, IsLowValue, IsValueBy, IsValueIn, IsValue}
+use Rattle.linker_section.specs.Values.{offset_at, is_auipc, is_high_kind, is_high_part, names_label, IsHighPart, IsHighPartAt, low_value, IsLowValue, IsValueBy, IsValueIn, IsValue}
 use Rattle.linker_section.specs.WrittenFields.{CanBeWritten, IsFirstFault, PairFits}
 use Rattle.linker_section.specs.declared.facts.Addresses.{Addresses}
 use Rattle.linker_section.specs.declared.facts.Symbol.{Symbol}
@@ -114,7 +114,7 @@ abbrev is_ok : Result (Option ℤ) ValueError → Bool
 is_ok (Ok x) = true
 is_ok (Err error) = false
 
-module _ (architecture : Architecture) (addresses : Addresses) (bytes : List ℕ) (symbols : List Symbol) (section : List ℕ) (apart : AreApart architecture bytes section (length bytes / 24)) (ascending : IsAscending bytes) where
+module _ (architecture : Architecture) (addresses : Addresses) (bytes : List ℕ) (symbols : List Symbol) (section : List ℕ) (apart : AreApart architecture bytes section (length bytes / 24)) where
   high_apart : (low : RelocationKind) (at : ℕ) (r s : Rela) (row other : RelocationKindInfo)
       (x : IsHighPart architecture bytes low at r row) (y : IsHighPart architecture bytes low at s other)
       → x.index < y.index → ⊥
@@ -152,7 +152,7 @@ module _ (architecture : Architecture) (addresses : Addresses) (bytes : List ℕ
   no_high : (low : RelocationKind) (at : ℕ) (r : Rela) (row : RelocationKindInfo)
       → IsHighPart architecture bytes low at r row → IsHighPartAt architecture bytes low at None → ⊥
   no_high low at r row x none =
-      elim (none ascending x.index r x.is_there) [
+      elim (none x.index r x.is_there) [
         | inl elsewhere ↦ elsewhere x.offset_is
         | inr other ↦
             true≢false (sym x.is_high ∙ (ap (is_high_part low) (one_row architecture r.code (Some row) (other.0) x.row_is (other.1)) ∙ other.2))
@@ -315,21 +315,21 @@ begins_no_end row other same begins ends =
 
 -- ---- no fault
 
-module _ (architecture : Architecture) (addresses : Addresses) (bytes : List ℕ) (symbols : List Symbol) (section : List ℕ) (can : CanBeWritten architecture addresses bytes symbols section) (ascending : IsAscending bytes) (error : SectionError) (fault : IsFirstFault architecture addresses bytes symbols section error) where
+module _ (architecture : Architecture) (addresses : Addresses) (bytes : List ℕ) (symbols : List Symbol) (section : List ℕ) (can : CanBeWritten architecture addresses bytes symbols section) (error : SectionError) (fault : IsFirstFault architecture addresses bytes symbols section error) where
   found_at : (i : ℕ) (row : RelocationKindInfo) (v : ℤ) → i < length bytes / 24
       → HasValue architecture addresses bytes symbols (relocation_in bytes i) row v → can.found i ≡ Some (row, v)
   found_at i row v within has =
-      found_is architecture addresses bytes symbols section can.apart ascending (relocation_in bytes i) (can.found i) row v (can.are_found i within) has
+      found_is architecture addresses bytes symbols section can.apart (relocation_in bytes i) (can.found i) row v (can.are_found i within) has
 
   has_at : (i : ℕ) (row : RelocationKindInfo) (v : ℤ) → i < length bytes / 24 → can.found i ≡ Some (row, v)
       → HasValue architecture addresses bytes symbols (relocation_in bytes i) row v
   has_at i row v within is =
-      has_found architecture addresses bytes symbols section can.apart ascending (relocation_in bytes i) (can.found i) row v (can.are_found i within) is
+      has_found architecture addresses bytes symbols section can.apart (relocation_in bytes i) (can.found i) row v (can.are_found i within) is
 
   no_value_error : (i : ℕ) (why : ValueError) → i < length bytes / 24
       → IsValueless architecture addresses bytes symbols (relocation_in bytes i) why → ⊥
   no_value_error i why within valueless =
-      no_valueless architecture addresses bytes symbols section can.apart ascending (relocation_in bytes i) (can.found i) why (can.are_found i within) valueless
+      no_valueless architecture addresses bytes symbols section can.apart (relocation_in bytes i) (can.found i) why (can.are_found i within) valueless
 
   -- the second of a pair isn't the first that is rejected
   no_second : (first : ℕ) (fits : PairFits can.found bytes section first) → first + 1 < length bytes / 24
@@ -338,7 +338,7 @@ module _ (architecture : Architecture) (addresses : Addresses) (bytes : List ℕ
       let pair = fits.pair in
       let has = has_at first pair.row pair.value (omega (arith, within)) pair.is_first in
       let is : fault.found first ≡ Some (pair.row, pair.value) =
-      found_is architecture addresses bytes symbols section can.apart ascending (relocation_in bytes first) (fault.found first) pair.row pair.value (fault.are_found first (omega (arith, next))) has in
+      found_is architecture addresses bytes symbols section can.apart (relocation_in bytes first) (fault.found first) pair.row pair.value (fault.are_found first (omega (arith, next))) has in
       let paired = or_left (begins_pair pair.row.size pair.row.kind) (ends_pair pair.row.size pair.row.kind) pair.begins in
       let of = (fault.accepted first pair.row pair.value (omega (arith, next)) is).1 paired in
       let below = of.1 in

@@ -3,7 +3,7 @@ use Rattle.std.proofs.Common.{◌≡◌, ℕ, ℤ, ◌<◌, List, length, take, 
 use Rattle.std.proofs.lemmas.Bool.{cases_Bool, cases_lt}
 use Rattle.std.proofs.lemmas.List.{get_or-take, length-drop}
 use Rattle.std.specs.Int.{w64, from_le_bytes}
-use Rattle.std.specs.Prelude.{slice_index, ◌↔◌, IsTrue, not, ◌||◌, ◌%◌, ◌^◌, ◌≤◌}
+use Rattle.std.specs.Prelude.{slice_index, ◌↔◌, IsTrue, not, ◌||◌, ◌%◌, ◌^◌}
 use Rattle.linker_elf.specs.Relocate.{size_len, window_len}
 use Rattle.linker_elf.specs.declared.elf.RelocationInstruction.TheVariants.{RiscV, Ppc64, LoongArch64}
 use Rattle.linker_elf.specs.declared.elf.RelocationKindInfo.{RelocationKindInfo}

@@ -229,15 +229,13 @@ IsNoHighPart architecture low at r =
     ⊎ ((row : Option RelocationKindInfo) × IsRow architecture r.code row
     × (is_high_part low row ≡ false))
 
--- The high part at an offset. Relocations are searched that ascend by offset: among others it may
--- not be found.
+-- the high part at an offset, or none of the relocations is
 abbrev pub IsHighPartAt : Architecture → List ℕ → RelocationKind → ℕ
     → Option (Rela × RelocationKindInfo) → Type 0
 IsHighPartAt architecture bytes low at (Some found) =
     IsHighPart architecture bytes low at (found.0) (found.1)
 IsHighPartAt architecture bytes low at None =
-    IsAscending bytes → (i : ℕ) (r : Rela) → relocation_at bytes i ≡ Some r
-    → IsNoHighPart architecture low at r
+    (i : ℕ) (r : Rela) → relocation_at bytes i ≡ Some r → IsNoHighPart architecture low at r
 
 -- A low part takes the operands of its high part, and where that requires an entry of the GOT, the
 -- entry's address in place of S.

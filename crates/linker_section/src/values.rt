@@ -1,6 +1,6 @@
 //! The value of a relocation, by what a linker knows of symbols and of the output.
 
-ghost use Rattle.std.specs.Prelude.{◌≡◌, ◌<◌, ◌/◌, Some, IfSome};
+ghost use Rattle.std.specs.Prelude.{◌≡◌, ◌<◌, ◌/◌, length, Some, IfNone, IfSome};
 ghost use Rattle.linker_section.specs.Inner.Codes.{SaysNeeds};
 ghost use Rattle.linker_section.specs.Needed.{entry_of, may_use_stub};
 ghost use Rattle.linker_section.specs.Relocations.{relocation_in};
@@ -10,14 +10,14 @@ ghost use Rattle.linker_section.specs.Values.{is_relative, is_offset, weak_addre
 ghost use Rattle.linker_section.specs.Values.{defined_or_weak, target_of, operands_with};
 ghost use Rattle.linker_section.specs.Values.{operands_by, operands_of, has_value, own_value};
 ghost use Rattle.linker_section.specs.Values.{names_label, is_auipc, is_high_kind, is_high_part};
-ghost use Rattle.linker_section.specs.Values.{IsHighPartAt, low_operands};
+ghost use Rattle.linker_section.specs.Values.{IsHighPart, IsHighPartAt, IsNoHighPart, low_operands};
 ghost use Rattle.linker_section.specs.Values.{low_value, IsValueBy, IsValue};
 ghost use Rattle.linker_utils.specs.Architectures.{IsRow};
 
 use crate::codes::number_of;
 use crate::facts::{Addresses, Symbol};
 use crate::needed::{Entry, EntryClass, class_of_kind, entry_by, loads_plt_word, may_use_stub};
-use crate::relocations::{Rela, first_from, relocation_in, relocations_len};
+use crate::relocations::{Rela, first_from, offset_at, relocation_in, relocations_len};
 use linker_utils::elf::{
     Architecture, Operands, RelocationInstruction, RelocationKind, RelocationKindInfo,
     RelocationSize, RiscVInstruction,
@@ -452,7 +452,58 @@ fn is_high_part(low: RelocationKind, info: &RelocationKindInfo) -> bool
     is_auipc(info.size) && is_high_kind(low, info.kind)
 }
 
-/// The high part at an offset of low parts of a kind, among relocations that ascend.
+/// The relocation at an index, if it is a high part at an offset of low parts of a kind.
+#[inline(always)]
+fn high_part_in(
+    architecture: Architecture,
+    relocations: &[u8],
+    low: RelocationKind,
+    at: u64,
+    index: usize,
+) -> Option<(Rela, RelocationKindInfo)>
+    requires { index < length relocations.now / 24 }
+    ensures found { IfSome result (λ high. IsHighPart architecture relocations.now low at (high.0)
+        (high.1)) }
+    ensures none { IfNone result (IsNoHighPart architecture low at
+        (relocation_in relocations.now index)) }
+{
+    let relocation = relocation_in(relocations, index);
+    if relocation.offset != at {
+        return None;
+    }
+    let Some(row) = architecture.row(relocation.code) else {
+        return None;
+    };
+    let info = row.info();
+    if is_high_part(low, &info) {
+        Some((relocation, info))
+    } else {
+        None
+    }
+}
+
+/// The high part at an offset, where relocations ascend by offset.
+fn ascending_high_part(
+    architecture: Architecture,
+    relocations: &[u8],
+    low: RelocationKind,
+    at: u64,
+) -> Option<(Rela, RelocationKindInfo)>
+    ensures { IfSome result (λ high. IsHighPart architecture relocations.now low at (high.0)
+        (high.1)) }
+{
+    for index in first_from(relocations, at)..relocations_len(relocations) {
+        if offset_at(relocations, index) != at {
+            return None;
+        }
+        if let Some(high) = high_part_in(architecture, relocations, low, at, index) {
+            return Some(high);
+        }
+    }
+    None
+}
+
+/// The same in any order: where the search doesn't find it, all relocations are looked at.
 fn high_part(
     architecture: Architecture,
     relocations: &[u8],
@@ -461,17 +512,12 @@ fn high_part(
 ) -> Option<(Rela, RelocationKindInfo)>
     ensures { IsHighPartAt architecture relocations.now low at result }
 {
-    let first = first_from(relocations, at);
-    for index in first..relocations_len(relocations) {
-        let relocation = relocation_in(relocations, index);
-        if relocation.offset != at {
-            return None;
-        }
-        if let Some(row) = architecture.row(relocation.code) {
-            let info = row.info();
-            if is_high_part(low, &info) {
-                return Some((relocation, info));
-            }
+    if let Some(high) = ascending_high_part(architecture, relocations, low, at) {
+        return Some(high);
+    }
+    for index in 0..relocations_len(relocations) {
+        if let Some(high) = high_part_in(architecture, relocations, low, at, index) {
+            return Some(high);
         }
     }
     None
@@ -548,8 +594,9 @@ pub(crate) fn value_of(
 /// - A branch goes to the symbol's stub, if it has one. On PowerPC64 a branch to the symbol itself
 ///   goes to the local entry point. A linker has a stub for an `R_PPC64_REL24_NOTOC` of a function
 ///   that takes the TOC pointer as given, and for each branch that doesn't reach.
-/// - A low part of RISC-V takes the operands of the high part at the label that its symbol is. For
-///   this the relocations have to ascend by offset. Its own addend isn't read.
+/// - A low part of RISC-V takes the operands of the high part at the label that its symbol is. It is
+///   found by a search where the relocations ascend by offset, and else among all of them. Its own
+///   addend isn't read.
 /// - A branch to an undefined weak symbol goes to the next instruction on AArch64, and on RISC-V
 ///   and PowerPC64 to itself. What else is relative to the place is then 0 on AArch64. The offset
 ///   of such a thread-local symbol is the addend.

@@ -472,7 +472,8 @@ pub fn memory_len(relocations: &[u8]) -> usize {
 /// its value, it isn't written (`NotAligned`, `NeedsStub`, `OtherLength`, `OutOfReach`). A linker
 /// that removes the nops of an alignment itself sets the relocation's code to 0. n relocations that
 /// ascend by offset take time in proportion to n. In any other order their indexes are sorted in
-/// `memory` first, and the time is in proportion to n log n.
+/// `memory` first, and the time is in proportion to n log n; each low part of RISC-V then takes up to
+/// n more.
 ///
 /// # Errors
 ///

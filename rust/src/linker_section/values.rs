@@ -5,7 +5,7 @@
 use crate::linker_section::codes::number_of;
 use crate::linker_section::facts::{Addresses, Symbol};
 use crate::linker_section::needed::{Entry, EntryClass, class_of_kind, entry_by, loads_plt_word, may_use_stub};
-use crate::linker_section::relocations::{Rela, first_from, relocation_in, relocations_len};
+use crate::linker_section::relocations::{Rela, first_from, offset_at, relocation_in, relocations_len};
 use crate::elf::{
     Architecture, Operands, RelocationInstruction, RelocationKind, RelocationKindInfo,
     RelocationSize, RiscVInstruction,
@@ -379,24 +379,61 @@ fn is_high_part(low: RelocationKind, info: &RelocationKindInfo) -> bool {
     is_auipc(info.size) && is_high_kind(low, info.kind)
 }
 
-/// The high part at an offset of low parts of a kind, among relocations that ascend.
+/// The relocation at an index, if it is a high part at an offset of low parts of a kind.
+#[inline(always)]
+fn high_part_in(
+    architecture: Architecture,
+    relocations: &[u8],
+    low: RelocationKind,
+    at: u64,
+    index: usize,
+) -> Option<(Rela, RelocationKindInfo)> {
+    let relocation = relocation_in(relocations, index);
+    if relocation.offset != at {
+        return None;
+    }
+    let Some(row) = architecture.row(relocation.code) else {
+        return None;
+    };
+    let info = row.info();
+    if is_high_part(low, &info) {
+        Some((relocation, info))
+    } else {
+        None
+    }
+}
+
+/// The high part at an offset, where relocations ascend by offset.
+fn ascending_high_part(
+    architecture: Architecture,
+    relocations: &[u8],
+    low: RelocationKind,
+    at: u64,
+) -> Option<(Rela, RelocationKindInfo)> {
+    for index in first_from(relocations, at)..relocations_len(relocations) {
+        if offset_at(relocations, index) != at {
+            return None;
+        }
+        if let Some(high) = high_part_in(architecture, relocations, low, at, index) {
+            return Some(high);
+        }
+    }
+    None
+}
+
+/// The same in any order: where the search doesn't find it, all relocations are looked at.
 fn high_part(
     architecture: Architecture,
     relocations: &[u8],
     low: RelocationKind,
     at: u64,
 ) -> Option<(Rela, RelocationKindInfo)> {
-    let first = first_from(relocations, at);
-    for index in first..relocations_len(relocations) {
-        let relocation = relocation_in(relocations, index);
-        if relocation.offset != at {
-            return None;
-        }
-        if let Some(row) = architecture.row(relocation.code) {
-            let info = row.info();
-            if is_high_part(low, &info) {
-                return Some((relocation, info));
-            }
+    if let Some(high) = ascending_high_part(architecture, relocations, low, at) {
+        return Some(high);
+    }
+    for index in 0..relocations_len(relocations) {
+        if let Some(high) = high_part_in(architecture, relocations, low, at, index) {
+            return Some(high);
         }
     }
     None
@@ -464,8 +501,9 @@ pub(crate) fn value_of(
 /// - A branch goes to the symbol's stub, if it has one. On PowerPC64 a branch to the symbol itself
 ///   goes to the local entry point. A linker has a stub for an `R_PPC64_REL24_NOTOC` of a function
 ///   that takes the TOC pointer as given, and for each branch that doesn't reach.
-/// - A low part of RISC-V takes the operands of the high part at the label that its symbol is. For
-///   this the relocations have to ascend by offset. Its own addend isn't read.
+/// - A low part of RISC-V takes the operands of the high part at the label that its symbol is. It is
+///   found by a search where the relocations ascend by offset, and else among all of them. Its own
+///   addend isn't read.
 /// - A branch to an undefined weak symbol goes to the next instruction on AArch64, and on RISC-V
 ///   and PowerPC64 to itself. What else is relative to the place is then 0 on AArch64. The offset
 ///   of such a thread-local symbol is the addend.

@@ -14,7 +14,7 @@ pub returns-in-Ok-clause-exact : goal.returns-in-Ok-clause-exact
 returns-in-Ok-clause-exact c =
     let small : (j : ℕ) → slice_index c.args.section.now j < 256 = λ j. search rules in
     let all = are_written c.args.architecture c.args.addresses.now c.args.relocations.now c.args.symbols.now c.args.section.now c.write_values.new.section small c.in-Ok.ensures.ok in
-    λ ascending. ((λ _. all.can), (λ _. refl))
+    ((λ _. all.can), (λ _. refl))
 
 pub returns-in-Err-clause-fault : goal.returns-in-Err-clause-fault
 returns-in-Err-clause-fault c =
@@ -23,8 +23,7 @@ returns-in-Err-clause-fault c =
 pub returns-in-Err-clause-exact : goal.returns-in-Err-clause-exact
 returns-in-Err-clause-exact c =
     let error = c.in-Err.stopped.error in
-    let fault = first_fault c.args.architecture c.args.addresses.now c.args.relocations.now c.args.symbols.now c.args.section.now error c.in-Err.ensures.err.rejected in
-    λ ascending. (
+    let fault = first_fault c.args.architecture c.args.addresses.now c.args.relocations.now c.args.symbols.now c.args.section.now error c.in-Err.ensures.err.rejected in (
       (λ ok. absurd (true≢false (sym ok))),
-      (λ can. absurd (no_fault c.args.architecture c.args.addresses.now c.args.relocations.now c.args.symbols.now c.args.section.now can ascending error fault)),
+      (λ can. absurd (no_fault c.args.architecture c.args.addresses.now c.args.relocations.now c.args.symbols.now c.args.section.now can error fault)),
     )

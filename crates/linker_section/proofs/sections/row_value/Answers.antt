@@ -1,4 +1,4 @@
-use Rattle.std.proofs.Common.{sym, ap, subst, refl, ◌∙◌, rules, true≢false, FitsSigned, to_z, of_z, Some, None, Ok}
+use Rattle.std.proofs.Common.{sym, ap, subst, refl, ◌∙◌, rules, true≢false, FitsSigned, Some, None, Ok}
 use Rattle.std.specs.Int.{w64}
 use Rattle.std.proofs.lemmas.Int.{to_z-of_z}
 use Rattle.linker_section.proofs.CodeNumbers.{says}

@@ -1,4 +1,4 @@
-use Rattle.std.proofs.Common.{◌≡◌, ◌∙◌, rules, refl, subst, sym, true≢false, FitsSigned, to_z, of_z}
+use Rattle.std.proofs.Common.{◌∙◌, refl, subst, sym, true≢false, to_z, of_z}
 use Rattle.std.specs.Int.{w64}
 use Rattle.std.proofs.lemmas.Int.{to_z-of_z}
 use Rattle.linker_section.proofs.Lengths.{offset_of, offset_beyond}
