@@ -1147,6 +1147,14 @@ static inline uint32_t linker_utils_has_its_instructions(uint16_t machine, const
  *   with R_RISCV_CALL_PLT leaves out bit 0 of it. What stays of a site with one shape isn't
  *   changed.
  *
+ * `relocations` are those of the section, of 24 bytes each. They become those of the packed section,
+ * as `linker_utils_relocate_section` takes them: each goes to the offset where its place goes. That
+ * of a site which became shorter gets the type of the one instruction: R_RISCV_JAL or
+ * R_RISCV_RVC_JUMP of a call, R_LARCH_B26 of R_LARCH_CALL36, and R_LARCH_PCREL20_S2 of
+ * R_LARCH_PCALA_HI20. The others at the begin of such a site, those of alignments among the items,
+ * and those whose byte is deleted, as R_LARCH_PCALA_LO12, get the type 0. All others keep their
+ * type, and each its symbol and addend.
+ *
  * LINKER_UTILS_UNKNOWN_ARCHITECTURE for each machine except for LINKER_UTILS_RISCV and
  * LINKER_UTILS_LOONGARCH64.
  * LINKER_UTILS_ENDS_TOO_HIGH where `base` and `section_len` add up to 2^64 or more.
@@ -1156,13 +1164,14 @@ static inline uint32_t linker_utils_has_its_instructions(uint16_t machine, const
  * LINKER_UTILS_NOT_ITS_FIRST_BYTES, LINKER_UTILS_NOT_ITS_INSTRUCTIONS, LINKER_UTILS_NO_SHAPE and
  * LINKER_UTILS_TARGET_OUT_OF_REACH. Only the first three can be of a site with one shape.
  * LINKER_UTILS_DELETED_OUTSIDE where bytes before the item are deleted that are of no item: an item
- * is missing; `faulty` is `items_len` where they are behind the last item. For k items and n deltas
- * it takes O(k log n), and a step for each byte of the section and each delta in it. */
+ * is missing; `faulty` is `items_len` where they are behind the last item. With any status except
+ * LINKER_UTILS_OK nothing is written. For k items, m relocations and n deltas it takes O((k + m)
+ * log n + m log k), and a step for each byte of the section and each delta in it. */
 static inline uint32_t linker_utils_pack_run(
     uint16_t machine, const uint8_t *section, size_t section_len, uint64_t base,
     const struct linker_utils_item *items, size_t items_len,
-    const struct linker_utils_delta *deltas, size_t deltas_len, uint64_t start, uint8_t *packed,
-    size_t packed_len, size_t *faulty);
+    const struct linker_utils_delta *deltas, size_t deltas_len, uint64_t start, void *relocations,
+    size_t relocations_len, uint8_t *packed, size_t packed_len, size_t *faulty);
 
 /* ---- Reading back: the address that a value comes from, halves of one, and which rewrite was
  * made. */

@@ -944,19 +944,21 @@ static inline uint32_t linker_utils_has_its_instructions(uint16_t machine, const
 uint32_t linker_utils_pack_run_nonnull(
     uint16_t machine, const uint8_t *section, size_t section_len, uint64_t base,
     const struct linker_utils_item *items, size_t items_len,
-    const struct linker_utils_delta *deltas, size_t deltas_len, uint64_t start, uint8_t *packed,
-    size_t packed_len, size_t *faulty);
+    const struct linker_utils_delta *deltas, size_t deltas_len, uint64_t start,
+    uint8_t *relocations, size_t relocations_len, uint8_t *packed, size_t packed_len,
+    size_t *faulty);
 static inline uint32_t linker_utils_pack_run(
     uint16_t machine, const uint8_t *section, size_t section_len, uint64_t base,
     const struct linker_utils_item *items, size_t items_len,
-    const struct linker_utils_delta *deltas, size_t deltas_len, uint64_t start, uint8_t *packed,
-    size_t packed_len, size_t *faulty) {
+    const struct linker_utils_delta *deltas, size_t deltas_len, uint64_t start, void *relocations,
+    size_t relocations_len, uint8_t *packed, size_t packed_len, size_t *faulty) {
     size_t ignored;
     return linker_utils_pack_run_nonnull(
         machine, LINKER_UTILS_SLICE(const uint8_t, section), section_len, base,
         LINKER_UTILS_SLICE(const struct linker_utils_item, items), items_len,
         LINKER_UTILS_SLICE(const struct linker_utils_delta, deltas), deltas_len, start,
-        LINKER_UTILS_SLICE(uint8_t, packed), packed_len, faulty ? faulty : &ignored);
+        LINKER_UTILS_RELAS(uint8_t, relocations), LINKER_UTILS_SLICE(uint8_t, packed), packed_len,
+        faulty ? faulty : &ignored);
 }
 
 uint32_t linker_utils_operand_nonnull(uint16_t machine, uint32_t form, const uint8_t *bytes,

@@ -840,12 +840,14 @@ fn runs(report: &mut Report, random: &mut Random) {
                     deltas.as_ptr(),
                     deltas.len(),
                     0,
+                    std::ptr::NonNull::dangling().as_ptr(),
+                    0,
                     packed.as_mut_ptr(),
                     packed.len(),
                     &mut 0,
                 )
             },
-            || pack_run(of_crate, &section, 0, &run, &lost, 0, &mut of_erased).is_ok(),
+            || pack_run(of_crate, &section, 0, &run, &lost, 0, &mut [], &mut of_erased).is_ok(),
         );
     }
 }

@@ -64,7 +64,7 @@ int main(void) {
     }
     size_t len = linker_utils_packed_run_len(0, sizeof section, deltas, deltas_len);
     status = linker_utils_pack_run(LINKER_UTILS_RISCV, section, sizeof section, 0, items, count,
-                                   deltas, deltas_len, 0, packed, len, &faulty);
+                                   deltas, deltas_len, 0, NULL, 0, packed, len, &faulty);
     if (status != LINKER_UTILS_OK) {
         fprintf(stderr, "item %zu: %s\n", faulty, linker_utils_status_text(status));
         return 1;

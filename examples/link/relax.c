@@ -54,42 +54,23 @@ static void add_items(struct section *s) {
     items_len += len;
 }
 
-/* Moves the relocations of a section to where their bytes are, by its items. */
-static void move_relocations(struct section *s) {
-    uint64_t base = s->output->base + s->offset, lost = 0, last = 0;
-    size_t i = s->first_item, end = i + s->items_len;
-    EACH_RELOCATION(s, r) {
-        if (r->r_offset < last) i = s->first_item, lost = 0;
-        last = r->r_offset;
-        for (; i < end && items[i].offset + stay[i] < base + last; i++)
-            lost += items[i].len - stay[i];
-        r->r_offset -= lost;
-    }
-}
-
-/* Writes a section anew: what becomes shorter, and without what it loses. Items that lose nothing
- * count no more. Returns how long it is then. */
+/* Writes a section anew: what becomes shorter, and without what it loses. Its relocations go to
+ * where their bytes are. Items that lose nothing count no more. Returns how long it is then. */
 static uint64_t pack(struct section *s, uint8_t *packed) {
     const struct run *run = s->output->run;
     uint64_t base = s->output->base + s->offset, len = s->len;
     size_t first = s->first_item, last = first, at = SIZE_MAX;
     for (size_t i = first; i < first + s->items_len; i++) {
-        uint64_t start = items[i].offset - base;
         if (stay[i] == items[i].len) continue;
         len -= items[i].len - stay[i];
-        for (size_t k = makers[i]; /* whose relocation says what is done here */
-             k < s->relocations_len && s->relocations[k].r_offset - start < items[i].len; k++)
-            drop(&s->relocations[k]);
         items[last] = items[i];
-        stay[last] = stay[i];
         makers[last++] = makers[i];
     }
     s->items_len = (uint32_t)(last - first);
     uint32_t status = linker_utils_pack_run(machine, BYTES_OF(s), base, items + first, s->items_len,
-                                            run->deltas, run->deltas_len, run->start, packed, len,
-                                            &at);
+                                            run->deltas, run->deltas_len, run->start,
+                                            s->relocations, s->relocations_len, packed, len, &at);
     check_items(s, at < s->items_len ? makers[first + at] : SIZE_MAX, status);
-    move_relocations(s);
     return len;
 }
 

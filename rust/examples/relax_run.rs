@@ -90,7 +90,8 @@ fn main() -> Result<(), Box<dyn Error>> {
     for section in &sections {
         let (bytes, base) = (&section.bytes, section.base);
         let mut packed = vec![0; packed_run_len(base, bytes.len(), deltas)];
-        if let Err(rejected) = pack_run(machine, bytes, base, &section.items, deltas, start, &mut packed) {
+        let result = pack_run(machine, bytes, base, &section.items, deltas, start, &mut [], &mut packed);
+        if let Err(rejected) = result {
             let offset = section.items.get(rejected.index).map(Item::offset);
             println!("rejected {offset:?} {:?}", rejected.error);
             return Ok(());

@@ -106,7 +106,7 @@ int main(void) {
     if (linker_utils_has_its_instructions(LINKER_UTILS_RISCV, NULL, 0, 0, &item) !=
         LINKER_UTILS_NOT_ITS_INSTRUCTIONS)
         failures++;
-    EXPECT(OK, pack_run(LINKER_UTILS_RISCV, NULL, 0, 0, NULL, 0, NULL, 0, 0, NULL, 0, NULL));
+    EXPECT(OK, pack_run(LINKER_UTILS_RISCV, NULL, 0, 0, NULL, 0, NULL, 0, 0, NULL, 0, NULL, 0, NULL));
     EXPECT(TOO_SHORT, read_value(machine, 257, NULL, 0, &known)); /* R_AARCH64_ABS64 */
     EXPECT(TOO_SHORT, field_bits(machine, 257, NULL, 0, &value));
     if (linker_utils_same_but_for(machine, 257, NULL, 0, NULL, 0)) failures++;

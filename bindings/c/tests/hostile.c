@@ -2158,8 +2158,10 @@ static void call_pack_run(void) {
                        : is_riscv ? LINKER_UTILS_RISCV
                                   : LINKER_UTILS_LOONGARCH64;
     bool is_packed = machine == LINKER_UTILS_RISCV || machine == LINKER_UTILS_LOONGARCH64;
+    struct buffer *moved = relocations(WRITTEN, machine, section_len, 8);
+    changes(moved, 0, 24 * (moved->len / 24));
     uint32_t status = CALL(pack_run, machine, section->given, section_len, base, ITEMS(items),
-                           DELTAS(listed), any_number(), packed->given, len, faulty);
+                           DELTAS(listed), any_number(), RELAS(moved), packed->given, len, faulty);
     expect((status == LINKER_UTILS_UNKNOWN_ARCHITECTURE) == !is_packed, "another machine");
     expect((status == LINKER_UTILS_ENDS_TOO_HIGH) == (is_packed && is_high), "another end");
     expect((status == LINKER_UTILS_DIFFERENT_LENGTHS) == (is_packed && !is_high && len != wanted),

@@ -89,7 +89,7 @@ static void run(uint8_t *part, struct results *to) {
     EXPECT(run_deltas(to->items, items, to->kept, items, to->freed_list, items, &to->freed_len));
     size_t packed_len = linker_utils_packed_run_len(0, LENGTH, to->freed_list, to->freed_len);
     EXPECT(pack_run(riscv, code, LENGTH, 0, to->items, items, to->freed_list, to->freed_len,
-                    0x10000, to->packed_run, packed_len, &faulty));
+                    0x10000, NULL, 0, to->packed_run, packed_len, &faulty));
 
     EXPECT(choose(x86_64, R_X86_64_REX_GOTPCRELX, got_load, 8, 4, &facts, &to->choice));
     uint8_t linked[8];

@@ -2446,8 +2446,9 @@ pub fn has_its_instructions(
 /// Packs a section of a relaxed run, which begins at the input offset `base` of the run: writes the
 /// bytes that stay, in order, with the instructions of its sites and the nops of its alignments
 /// written anew. The run begins at the address `start` and loses what `deltas` list. `items` are
-/// the run's items that lie in the section. The entry at fault is the first of them that can't be
-/// written.
+/// the run's items that lie in the section. `relocations` are those of the section and become those
+/// of the packed one, at their new offsets: that of a site which became shorter with the type of
+/// its one instruction. The entry at fault is the first item that can't be written.
 pub fn pack_run(
     architecture: Architecture,
     section: &[u8],
@@ -2455,6 +2456,7 @@ pub fn pack_run(
     items: &[Item],
     deltas: &[Delta],
     start: u64,
+    relocations: &mut [u8],
     packed: &mut [u8],
 ) -> Result<(), ArrayError> {
     result_over(|faulty| unsafe {
@@ -2468,6 +2470,8 @@ pub fn pack_run(
             deltas.as_ptr(),
             deltas.len(),
             start,
+            relocations.as_mut_ptr(),
+            relocations.len(),
             packed.as_mut_ptr(),
             packed.len(),
             faulty,

@@ -934,6 +934,8 @@ extern "C" {
         deltas: *const Delta,
         deltas_len: usize,
         start: u64,
+        relocations: *mut u8,
+        relocations_len: usize,
         packed: *mut u8,
         packed_len: usize,
         faulty: *mut usize,

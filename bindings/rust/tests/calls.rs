@@ -1661,6 +1661,7 @@ fn packs_sections_of_runs() {
             items,
             &lost,
             start,
+            &mut [],
             packed,
         )
     };
@@ -1699,6 +1700,7 @@ fn packs_sections_of_runs() {
         &items,
         &lost,
         start,
+        &mut [],
         &mut packed,
     );
     assert_eq!(other, Err(failure(Status::UnknownArchitecture)));
@@ -1755,9 +1757,18 @@ fn packs_sections_of_loongarch() {
     let lost = deltas(&[(4, 4), (12, 4), (24, 4)]);
     let mut packed = [0; 20];
     let machine = Architecture::LoongArch64;
-    assert_eq!(
-        pack_run(machine, &section, 0, &items, &lost, 0x10000, &mut packed),
-        Ok(())
-    );
+    // `R_LARCH_CALL36`, `R_LARCH_ALIGN`, and `R_LARCH_B26` of the same calls
+    let list = |relocations: [(u64, u64); 3]| -> Vec<u8> {
+        relocations
+            .iter()
+            .flat_map(|(offset, info)| [*offset, *info, 0])
+            .flat_map(u64::to_le_bytes)
+            .collect()
+    };
+    let mut relocations = list([(0, 1 << 32 | 110), (8, 2 << 32 | 110), (16, 102)]);
+    let start = 0x10000;
+    let packs = pack_run(machine, &section, 0, &items, &lost, start, &mut relocations, &mut packed);
+    assert_eq!(packs, Ok(()));
     assert_eq!(packed.to_vec(), bytes_of(&packed_words));
+    assert_eq!(relocations, list([(0, 1 << 32 | 66), (4, 2 << 32 | 66), (8, 0)]));
 }

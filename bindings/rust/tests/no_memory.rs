@@ -89,7 +89,7 @@ fn relax_many() {
     assert_eq!((freed[0], freed[COUNT]), (0, 0));
     let (section, packed) = (zeros::<u8>(4 * COUNT), zeros::<u8>(4 * COUNT));
     (section[0], section[4 * COUNT - 1]) = (1, 2);
-    assert_eq!(pack_run(Architecture::RiscV, section, 0, items, &[], 0, packed), Ok(()));
+    assert_eq!(pack_run(Architecture::RiscV, section, 0, items, &[], 0, &mut [], packed), Ok(()));
     assert_eq!((packed[0], packed[4 * COUNT - 1]), (1, 2));
 }
 

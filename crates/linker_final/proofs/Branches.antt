@@ -14,14 +14,14 @@ use Rattle.linker_elf.specs.declared.elf.RelocationKind.TheVariants.{None as NoV
 use Rattle.linker_elf.specs.declared.elf.RelocationKindInfo.{RelocationKindInfo}
 use Rattle.linker_elf.specs.declared.elf.RelocationSize.TheVariants.{BitMasking}
 use Rattle.linker_elf.specs.declared.elf.value.Operands.{Operands}
-use Rattle.linker_elf.specs.declared.loongarch64.forms.LoongArch64Instruction.TheVariants.{Branch21, Branch26, Shift10}
+use Rattle.linker_elf.specs.declared.loongarch64.forms.LoongArch64Instruction.TheVariants.{Branch21, Branch26, Shift5, Shift10}
 use Rattle.linker_elf.specs.declared.loongarch64.relocations.LoongArch64Relocation.{LoongArch64Relocation}
 use Rattle.linker_elf.specs.declared.loongarch64.relocations.LoongArch64Relocation.TheVariants as loongarch_names
 use Rattle.linker_elf.specs.declared.riscv64.forms.RiscVInstruction.TheVariants.{BType, CbType, CjType, JType}
 use Rattle.linker_elf.specs.declared.riscv64.relocations.RiscVRelocation.{RiscVRelocation}
 use Rattle.linker_elf.specs.declared.riscv64.relocations.RiscVRelocation.TheVariants as riscv_names
 use Rattle.linker_final.proofs.PackedBytes.{addresses}
-use Rattle.linker_final.proofs.PackedInstructions.{instructions}
+use Rattle.linker_final.proofs.PackedInstructions.{places}
 use Rattle.linker_final.specs.Branches.{Goes, LoongArchBranchesGo, RiscVBranchesGo, final_number}
 use Rattle.linker_final.specs.Packed.{address_at, architecture_of, place_of}
 use Rattle.linker_laws.specs.LoongArchRelocationLaws as loongarch_laws
@@ -47,17 +47,18 @@ goes : (machine : Machine) (row : RelocationKindInfo) (bits : BitRange) (insn : 
     ≡ Ok (operands_with (architecture_of machine) a row symbol r 0))
     → ((y : Operands) → IsSomeAnd (value_of row y) (λ _. ⊤))
     → Adds (here (Some row)) place reads unit target → Goes machine (Some row) reads unit target
-goes machine row bits insn reads unit target size has unlabelled taken valued law p is machine_is i stays symbol symbol_is small =
+goes machine row bits insn reads unit target size has unlabelled taken valued law p is machine_is i of symbol symbol_is small =
     let r = relocation_in p.relocations_after i in
     let o = offset_at p.relocations i in
     let n = window_len row in
     let y = operands_with (architecture_of machine) p.addresses row symbol r 0 in
     let there = sym (ap architecture_of machine_is) in
     let value = some_value (value_of row y) (valued y) in
-    let applied = instructions p is i row y
+    let applied = places p is i row y
     (record {
-      within = stays.within;
-      is_row = stays.is_row;
+      within = of.within;
+      inside = of.inside;
+      is_row = of.is_row;
       bits = bits;
       insn = insn;
       size = size;
@@ -67,12 +68,11 @@ goes machine row bits insn reads unit target size has unlabelled taken valued la
           (ap (operands_in (architecture_of machine) p.addresses row r) symbol_is ∙ taken p.addresses symbol r);
       value = value.0;
       value_is = value.1;
-      stays = stays.stays;
     }) in
     let placed : sum_64 p.addresses.section r.offset ≡ address_at p o =
-    ap (sum_64 p.addresses.section) (is.translated i stays.within).offset ∙ addresses p is o in
+    ap (sum_64 p.addresses.section) ((is.moved i of.within).offset of.inside) ∙ addresses p is o in
     subst (λ a. IsAddress (pos a +ℤ (reads (final_number p i row) *ℤ pos unit)) (target y)) placed
-    (law y small 0 (take n (drop o p.section.bytes)) (take n (drop (place_of p o) p.final)) applied tt)
+    (law y small 0 (take n (drop (place_of p o) p.packed)) (take n (drop (place_of p o) p.final)) applied tt)
 
 abbrev the_row : Option RelocationKindInfo → RelocationKindInfo
 the_row (Some row) = row
@@ -97,4 +97,5 @@ loongarch_branches law = (
   goes LoongArch64 (loongarch loongarch_names.R_LARCH_B16) _ _ (loongarch_form Shift10).machine 4 symbol_address refl refl refl (λ a symbol r. refl) (λ y. tt) law.0,
   goes LoongArch64 (loongarch loongarch_names.R_LARCH_B21) _ _ (loongarch_form Branch21).machine 4 symbol_address refl refl refl (λ a symbol r. refl) (λ y. tt) law.1,
   goes LoongArch64 (loongarch loongarch_names.R_LARCH_B26) _ _ (loongarch_form Branch26).machine 4 plt_address refl refl refl (λ a symbol r. refl) (λ y. tt) law.2,
+  goes LoongArch64 (loongarch loongarch_names.R_LARCH_PCREL20_S2) _ _ (loongarch_form Shift5).machine 4 symbol_address refl refl refl (λ a symbol r. refl) (λ y. tt) law.3,
 )

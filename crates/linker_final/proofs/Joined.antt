@@ -54,16 +54,16 @@ module _ (l : Linked) (p : Packed) (joined : IsRewrittenAndPacked l p) (i : ℕ)
   code_is = kept.code ∙ ap (λ (x : Rela). x.code) before_is
 
   pub symbol_is : after.symbol ≡ symbol
-  symbol_is = (joined.packed.translated i within).symbol ∙ ap (λ (x : Rela). x.symbol) before_is
+  symbol_is = (joined.packed.moved i within).symbol ∙ ap (λ (x : Rela). x.symbol) before_is
 
   pub addend_is : after.addend ≡ addend
-  addend_is = (joined.packed.translated i within).addend ∙ ap (λ (x : Rela). x.addend) before_is
+  addend_is = (joined.packed.moved i within).addend ∙ ap (λ (x : Rela). x.addend) before_is
 
   offset_is : offset_at p.relocations i ≡ o
   offset_is = ap (λ (x : Rela). x.offset) before_is
 
   place_is : offset_at p.relocations_after i ≡ place_of p o
-  place_is = (joined.packed.translated i within).offset ∙ ap (place_of p) offset_is
+  place_is = (joined.packed.moved i within).offset (omega (arith, (kept.bytes 0 (omega arith)).inside)) ∙ ap (place_of p) offset_is
 
   stay : StayTogether p o 4
   stay = subst (λ n. StayTogether p n 4) offset_is kept.bytes

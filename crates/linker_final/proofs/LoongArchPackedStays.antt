@@ -131,8 +131,8 @@ module _ (relative : relocation_laws.RelativeAddresses) (p : Packed) (is : IsPac
 
   low_place : sum_64 p.addresses.section (offset_at p.relocations_after j) ≡ sum_64 y.place 4
   low_place =
-      let first = (is.translated i of.high.within).offset in
-      let second = (is.translated j of.low.within).offset in
+      let first = (is.moved i of.high.within).offset (omega (arith, (of.high.stays 0 (omega arith)).inside)) in
+      let second = (is.moved j of.low.within).offset (omega (arith, (of.low.stays 0 (omega arith)).inside)) in
       let next = next_place in
       let e = ap (place_of p) of.next in
       omega (arith, first, second, next, e)

@@ -1,25 +1,43 @@
 -- Relocated instructions that stay, in the final bytes of a packed section.
-use Rattle.std.proofs.Common.{◌<◌, take, drop, sym, subst, IsSomeAnd}
+use Rattle.std.proofs.Common.{◌<◌, arith, take, drop, sym, subst, IsSomeAnd}
 use Rattle.std.specs.Prelude.{⊤}
 use Rattle.linker_elf.specs.Applied.{IsApplied}
 use Rattle.linker_elf.specs.Relocate.{size_len, window_len}
 use Rattle.linker_elf.specs.Value.{value_of}
 use Rattle.linker_final.proofs.PackedBytes.{same_there}
 use Rattle.linker_final.proofs.RelocatedFields.{applied}
-use Rattle.linker_final.specs.Packed.{InstructionsAreRelocated, architecture_of, place_of}
+use Rattle.linker_final.specs.Packed.{InstructionsAreRelocated, PlacesAreRelocated, architecture_of, place_of}
 use Rattle.linker_section.proofs.Fronts.{some_window}
 use Rattle.linker_section.specs.Values.{offset_at}
+
+pub places : PlacesAreRelocated
+places p is i row operands of =
+    let n = window_len row in
+    let has : IsSomeAnd (value_of row operands) (λ _. ⊤) =
+    subst (λ v. IsSomeAnd v (λ _. ⊤)) (sym of.value_is) tt in
+    let there = applied (architecture_of p.machine) p.addresses p.relocations_after p.symbols p.packed p.final
+    is.written i of.within row of.bits of.insn of.size of.has of.unlabelled of.is_row operands of.taken has in
+    subst (λ q. IsApplied row operands (take n (drop q p.packed)) (take n (drop q p.final)))
+    ((is.moved i of.within).offset of.inside) there
 
 pub instructions : InstructionsAreRelocated
 instructions p is i row operands of =
     let n = window_len row in
     let o = offset_at p.relocations i in
     let some : 0 < n = subst (λ s. 0 < size_len s) (sym of.size) (some_window of.insn) in
-    let has : IsSomeAnd (value_of row operands) (λ _. ⊤) =
-    subst (λ v. IsSomeAnd v (λ _. ⊤)) (sym of.value_is) tt in
-    let there = applied (architecture_of p.machine) p.addresses p.relocations_after p.symbols p.packed p.final
-    is.written i of.within row of.bits of.insn of.size of.has of.unlabelled of.is_row operands of.taken has in
-    let placed = subst (λ q. IsApplied row operands (take n (drop q p.packed)) (take n (drop q p.final)))
-    (is.translated i of.within).offset there in
+    let placed = places p is i row operands
+    (record {
+      within = of.within;
+      inside = omega (arith, (of.stays 0 some).inside);
+      is_row = of.is_row;
+      bits = of.bits;
+      insn = of.insn;
+      size = of.size;
+      has = of.has;
+      unlabelled = of.unlabelled;
+      taken = of.taken;
+      value = of.value;
+      value_is = of.value_is;
+    }) in
     subst (λ bytes. IsApplied row operands bytes (take n (drop (place_of p o) p.final)))
     (same_there p is o n some of.stays) placed

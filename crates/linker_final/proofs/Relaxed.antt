@@ -216,16 +216,16 @@ listed_deltas lost deltas valid listing =
       listing = subst (λ ds. RecordsDeletions ds deltas) same listing;
     }
 
-pub packed_run : (s : RunSection) (items : List Item) (start : ℕ) (places : Addresses) (symbols : List Symbol)
+pub packed_run : (s : RunSection) (items : List Item) (start : ℕ) (before after : List ℕ) (places : Addresses) (symbols : List Symbol)
     (shapes stays gone : List ℕ) (deletions : List (ℕ × ℕ)) → AreItems start items → IsRelaxation start items shapes stays gone
     → deletions ≡ deletions_of_run items stays → (final : List ℕ)
-    → ((packed : List ℕ) × IsPacked (packed_of s deletions start packed places symbols final))
-    → AreRelaxedAndPacked s items start places symbols final
-packed_run s items start places symbols shapes stays gone deletions are relaxed of_run final made =
+    → ((packed : List ℕ) × IsPacked (packed_of s deletions start packed before after places symbols final))
+    → AreRelaxedAndPacked s items start before after places symbols final
+packed_run s items start before after places symbols shapes stays gone deletions are relaxed of_run final made =
     record {
       run = record { items = items; shapes = shapes; kept = stays; freed = gone };
       of_items = refl;
       packed = made.0;
-      is_packed = subst (λ d. IsPacked (packed_of s d start made.0 places symbols final)) of_run made.1;
+      is_packed = subst (λ d. IsPacked (packed_of s d start made.0 before after places symbols final)) of_run made.1;
       of_run = record { accepted = are; relaxed = relaxed; lost = refl };
     }

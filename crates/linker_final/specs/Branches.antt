@@ -1,6 +1,7 @@
--- Branches of a section that was packed, which are of no site: each goes from the address where it
--- goes to the target of its relocation's formula.
-use Rattle.std.specs.Prelude.{◌≡◌, ◌<◌, ℕ, ℤ, pos, ◌+ℤ◌, ◌*ℤ◌, take, drop, slice_get, IsSomeAnd}
+-- Branches of a section that was packed: each goes from the address where it goes to the target of
+-- its relocation's formula. So does the one of a site that became shorter, by the type that its
+-- relocation has then.
+use Rattle.std.specs.Prelude.{◌≡◌, ◌<◌, ◌≤◌, length, ℕ, ℤ, pos, ◌+ℤ◌, ◌*ℤ◌, take, drop, slice_get, IsSomeAnd}
 use Rattle.std.specs.Prelude.{Option, Some}
 use Rattle.linker_elf.specs.LoongArch.{loongarch_form}
 use Rattle.linker_elf.specs.LoongArchRelocations.{loongarch_row}
@@ -12,6 +13,7 @@ use Rattle.linker_elf.specs.declared.elf.value.Operands.{Operands}
 use Rattle.linker_elf.specs.declared.loongarch64.forms.LoongArch64Instruction.{LoongArch64Instruction}
 use Rattle.linker_elf.specs.declared.loongarch64.forms.LoongArch64Instruction.TheVariants.{Branch21}
 use Rattle.linker_elf.specs.declared.loongarch64.forms.LoongArch64Instruction.TheVariants.{Branch26}
+use Rattle.linker_elf.specs.declared.loongarch64.forms.LoongArch64Instruction.TheVariants.{Shift5}
 use Rattle.linker_elf.specs.declared.loongarch64.forms.LoongArch64Instruction.TheVariants.{Shift10}
 use Rattle.linker_elf.specs.declared.loongarch64.relocations.LoongArch64Relocation.{LoongArch64Relocation}
 use Rattle.linker_elf.specs.declared.loongarch64.relocations.LoongArch64Relocation.TheVariants as loongarch_names
@@ -20,7 +22,7 @@ use Rattle.linker_elf.specs.declared.riscv64.forms.RiscVInstruction.TheVariants.
 use Rattle.linker_elf.specs.declared.riscv64.forms.RiscVInstruction.TheVariants.{CbType, CjType}
 use Rattle.linker_elf.specs.declared.riscv64.relocations.RiscVRelocation.{RiscVRelocation}
 use Rattle.linker_elf.specs.declared.riscv64.relocations.RiscVRelocation.TheVariants as riscv_names
-use Rattle.linker_final.specs.Packed.{Packed, IsPacked, StayTogether, address_at, architecture_of}
+use Rattle.linker_final.specs.Packed.{Packed, IsPacked, address_at, architecture_of}
 use Rattle.linker_final.specs.Packed.{count, place_of}
 use Rattle.linker_laws.specs.Schemes.{AreAddresses, IsAddress, number_at, plt_address}
 use Rattle.linker_laws.specs.Schemes.{symbol_address}
@@ -31,12 +33,12 @@ use Rattle.linker_section.specs.Values.{offset_at, operands_with}
 use Rattle.linker_section.specs.declared.facts.Symbol.{Symbol}
 use Rattle.linker_utils.specs.Architectures.{IsRow}
 
--- The relocation at an index has a row, and is of an instruction that stays.
-pub record StaysBy (p : Packed) (i : ℕ) (row : RelocationKindInfo) : Type 0 where
+-- The relocation at an index, whose place is in the section, has a row where it is written.
+pub record IsOfRow (p : Packed) (i : ℕ) (row : RelocationKindInfo) : Type 0 where
   pub within : i < count p
+  pub inside : offset_at p.relocations i ≤ length p.section.bytes
   pub is_row : IsRow (architecture_of p.machine) (relocation_in p.relocations_after i).code
       (Some row)
-  pub stays : StayTogether p (offset_at p.relocations i) (window_len row)
 
 -- the number of the instruction's final bytes
 abbrev pub final_number : Packed → ℕ → RelocationKindInfo → ℕ
@@ -49,7 +51,7 @@ final_number p i row =
 abbrev pub Goes : Machine → Option RelocationKindInfo → (ℕ → ℤ) → ℕ → (Operands → ℕ) → Type 0
 Goes machine row reads unit target =
     IsSomeAnd row (λ row.
-    (p : Packed) → IsPacked p → p.machine ≡ machine → (i : ℕ) → StaysBy p i row
+    (p : Packed) → IsPacked p → p.machine ≡ machine → (i : ℕ) → IsOfRow p i row
     → (symbol : Symbol)
     → slice_get p.symbols (relocation_in p.relocations_after i).symbol ≡ Some symbol
     → let y = operands_with (architecture_of machine) p.addresses row symbol
@@ -70,13 +72,15 @@ RiscVBranchesGo =
     × RiscVGoes riscv_names.R_RISCV_RVC_JUMP CjType
     × RiscVGoes riscv_names.R_RISCV_RVC_BRANCH CbType
 
--- LoongArch (LoongArch Reference Manual, volume 1, "B", "BEQZ", "BEQ")
+-- LoongArch (LoongArch Reference Manual, volume 1, "B", "BEQZ", "BEQ", "PCADDI")
 abbrev pub LoongArchGoes : LoongArch64Relocation → LoongArch64Instruction → (Operands → ℕ) → Type 0
 LoongArchGoes name f = Goes LoongArch64 (loongarch_row name) (loongarch_form f).machine 4
 
--- each branch of LoongArch that has a relocation, but for calls by two instructions
+-- Each branch of LoongArch that has a relocation, but for calls by two instructions. `pcaddi`
+-- computes the target.
 abbrev pub LoongArchBranchesGo : Type 0
 LoongArchBranchesGo =
     LoongArchGoes loongarch_names.R_LARCH_B16 Shift10 symbol_address
     × LoongArchGoes loongarch_names.R_LARCH_B21 Branch21 symbol_address
     × LoongArchGoes loongarch_names.R_LARCH_B26 Branch26 plt_address
+    × LoongArchGoes loongarch_names.R_LARCH_PCREL20_S2 Shift5 symbol_address

@@ -13,8 +13,8 @@ use Rattle.linker_elf.specs.declared.elf.RelocationSize.TheVariants.{BitMasking}
 use Rattle.linker_elf.specs.declared.elf.value.Operands.{Operands}
 use Rattle.linker_final.specs.Final.{AreBytes}
 use Rattle.linker_final.specs.declared.packed.PackError.{PackError}
-use Rattle.linker_final.specs.declared.packed.PackError.TheVariants.{Misplaced, Packing}
-use Rattle.linker_final.specs.declared.packed.PackError.TheVariants.{Untranslated, Writing}
+use Rattle.linker_final.specs.declared.packed.PackError.TheVariants.{Misplaced, Packing, Writing}
+use Rattle.linker_runs.specs.Moved.{AreMoved, IsMoved}
 use Rattle.linker_runs.specs.Origins.{HasItsInstructions}
 use Rattle.linker_runs.specs.Packing.{Section, packed_offset, address_of, is_fixed, kept_len, nops}
 use Rattle.linker_runs.specs.Packing.{IsFirstRejected, IsInside, IsNotIn, IsPackedRun}
@@ -31,7 +31,6 @@ use Rattle.linker_section.specs.Values.{has_value, names_label, offset_at, opera
 use Rattle.linker_section.specs.WrittenFields.{AreWritten, IsFirstFault}
 use Rattle.linker_section.specs.declared.facts.Addresses.{Addresses}
 use Rattle.linker_section.specs.declared.facts.Symbol.{Symbol}
-use Rattle.linker_section.specs.declared.relocations.Rela.{Rela}
 use Rattle.linker_utils.specs.Architectures.{IsRow}
 use Rattle.linker_utils.specs.declared.elf.Architecture.{Architecture}
 use Rattle.linker_utils.specs.declared.elf.Architecture.TheVariants as architectures
@@ -65,20 +64,12 @@ architecture_of LoongArch64 = architectures.LoongArch64
 abbrev pub place_of : Packed → ℕ → ℕ
 place_of p o = packed_offset p.section (p.section.base + o)
 
--- A relocation after is one before at its translated place. It has no type where its instructions
--- became shorter.
-pub record IsTranslated (deletions : List (ℕ × ℕ)) (base : ℕ) (before after : Rela) : Type 0 where
-  pub offset : after.offset ≡ rank deletions (base + before.offset) - rank deletions base
-  pub symbol : after.symbol ≡ before.symbol
-  pub addend : after.addend ≡ before.addend
-  pub code : (after.code ≡ before.code) ⊎ (after.code ≡ 0)
-
--- Both calls succeeded: what their contracts ensure, and the linker has translated the relocations,
--- and put the section at the address where its first byte goes.
+-- Both calls succeeded: what their contracts ensure, and the linker has put the section at the
+-- address where its first byte goes.
 pub record IsPacked (p : Packed) : Type 0 where
   pub run : IsPackedRun p.machine p.section p.items p.packed
-  pub translated : (i : ℕ) → i < count p
-      → IsTranslated p.section.deletions p.section.base (relocation_in p.relocations i)
+  pub moved : (i : ℕ) → i < count p
+      → IsMoved p.machine p.section p.items (relocation_in p.relocations i)
       (relocation_in p.relocations_after i)
   pub address : p.addresses.section ≡ address_of p.section p.section.base
   pub written : AreWritten (architecture_of p.machine) p.addresses p.relocations_after p.symbols
@@ -104,41 +95,18 @@ packed_as machine section items packed relocations relocations_after addresses s
       final = final;
     }
 
--- a relocation's place is an offset of 64 bits in the run, and is translated
-abbrev pub IsAtPlace : List (ℕ × ℕ) → ℕ → Rela → Rela → Type 0
-IsAtPlace deletions base before after =
-    (base + before.offset < 2 ^ 64) × IsTranslated deletions base before after
-
--- those of the relocations with an index below a limit are
-abbrev pub AreAtPlaces : List (ℕ × ℕ) → ℕ → List ℕ → List ℕ → ℕ → Type 0
-AreAtPlaces deletions base relocations after limit =
-    (i : ℕ) → i < limit
-    → IsAtPlace deletions base (relocation_in relocations i) (relocation_in after i)
-
--- the relocation at an index is the first that isn't
-pub record IsFirstUntranslated (deletions : List (ℕ × ℕ)) (base : ℕ) (relocations after : List ℕ)
-    (at : ℕ) : Type 0 where
-  pub within : at < length after / 24
-  pub before : AreAtPlaces deletions base relocations after at
-  pub here : ¬ IsAtPlace deletions base (relocation_in relocations at) (relocation_in after at)
-
 -- Why a section isn't packed and written: the first that applies, in this order. The output is as
--- it was, or packed.
+-- it was, or packed, and so are the relocations.
 abbrev pub IsPackCause : Machine → Section → List Item → List ℕ → List ℕ → Addresses
     → List Symbol → List ℕ → List ℕ → PackError → Type 0
 IsPackCause machine s items relocations after addresses symbols old new Misplaced =
-    (addresses.section ≢ address_of s s.base) × (new ≡ old)
-IsPackCause machine s items relocations after addresses symbols old new (Untranslated at) =
-    (addresses.section ≡ address_of s s.base)
-    × IsFirstUntranslated s.deletions s.base relocations after at × (new ≡ old)
+    (addresses.section ≢ address_of s s.base) × (new ≡ old) × (after ≡ relocations)
 IsPackCause machine s items relocations after addresses symbols old new (Packing rejected) =
-    (addresses.section ≡ address_of s s.base)
-    × AreAtPlaces s.deletions s.base relocations after (length after / 24)
-    × IsFirstRejected machine s items rejected × (new ≡ old)
+    (addresses.section ≡ address_of s s.base) × IsFirstRejected machine s items rejected
+    × (new ≡ old) × (after ≡ relocations)
 IsPackCause machine s items relocations after addresses symbols old new (Writing error) =
-    (addresses.section ≡ address_of s s.base)
-    × AreAtPlaces s.deletions s.base relocations after (length after / 24)
-    × IsPackedRun machine s items new
+    (addresses.section ≡ address_of s s.base) × IsPackedRun machine s items new
+    × AreMoved machine s items relocations after
     × IsFirstFault (architecture_of machine) addresses after symbols new error
 
 -- ---- which bytes are whose
@@ -254,6 +222,33 @@ abbrev pub address_at : Packed → ℕ → ℕ
 address_at p o = address_of p.section (p.section.base + o)
 
 -- ---- relocated instructions
+
+-- The relocation at an index, whose place is in the section, is of an instruction by its row, and
+-- has a value by its own symbol.
+pub record HasValue (p : Packed) (i : ℕ) (row : RelocationKindInfo) (operands : Operands) : Type 0 where
+  pub within : i < count p
+  pub inside : offset_at p.relocations i ≤ length p.section.bytes
+  pub is_row : IsRow (architecture_of p.machine) (relocation_in p.relocations_after i).code
+      (Some row)
+  pub bits : BitRange
+  pub insn : RelocationInstruction
+  pub size : row.size ≡ BitMasking bits insn
+  pub has : has_value row.kind ≡ true
+  pub unlabelled : names_label row.size row.kind ≡ false
+  pub taken : operands_of (architecture_of p.machine) p.addresses p.symbols row
+      (relocation_in p.relocations_after i) ≡ Ok operands
+  pub value : ℤ
+  pub value_is : value_of row operands ≡ Some value
+
+-- Where it goes there is in the final section what the packing left there, with the relocation
+-- applied. It may be the one instruction of a site that became shorter.
+abbrev pub PlacesAreRelocated : Type 0
+PlacesAreRelocated =
+    (p : Packed) → IsPacked p → (i : ℕ) (row : RelocationKindInfo) (operands : Operands)
+    → HasValue p i row operands
+    → let place = place_of p (offset_at p.relocations i) in
+    IsApplied row operands (take (window_len row) (drop place p.packed))
+    (take (window_len row) (drop place p.final))
 
 -- The relocation at an index is of an instruction that stays, by its row, and has a value by its
 -- own symbol.

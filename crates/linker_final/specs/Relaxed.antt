@@ -106,20 +106,21 @@ SectionsAreAligned =
 -- ---- both calls
 
 -- A section as it is packed with what its run loses, and the final bytes.
-abbrev pub packed_of : RunSection → List (ℕ × ℕ) → ℕ → List ℕ → Addresses → List Symbol → List ℕ
-    → Packed
-packed_of s deletions start packed addresses symbols final =
+abbrev pub packed_of : RunSection → List (ℕ × ℕ) → ℕ → List ℕ → List ℕ → List ℕ → Addresses
+    → List Symbol → List ℕ → Packed
+packed_of s deletions start packed before after addresses symbols final =
     packed_as s.machine (section_of s.bytes.now s.base deletions start) s.items.now packed
-    s.relocations.now s.translated.now addresses symbols final
+    before after addresses symbols final
 
 -- `relax` of the items, in a run that begins at an address, and then `pack_section` left the final
 -- bytes.
 pub record AreRelaxedAndPacked (s : RunSection) (items : List Item) (start : ℕ)
-    (addresses : Addresses) (symbols : List Symbol) (final : List ℕ) : Type 0 where
+    (before after : List ℕ) (addresses : Addresses) (symbols : List Symbol) (final : List ℕ)
+    : Type 0 where
   pub run : Run
   pub of_items : run.items ≡ items
   pub packed : List ℕ
-  pub is_packed : IsPacked (packed_of s (deletions_of_run run.items run.kept) start packed addresses
-      symbols final)
-  pub of_run : IsOfRun (packed_of s (deletions_of_run run.items run.kept) start packed addresses
-      symbols final) run
+  pub is_packed : IsPacked (packed_of s (deletions_of_run run.items run.kept) start packed before
+      after addresses symbols final)
+  pub of_run : IsOfRun (packed_of s (deletions_of_run run.items run.kept) start packed before after
+      addresses symbols final) run

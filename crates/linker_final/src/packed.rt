@@ -1,8 +1,7 @@
 //! Sections that get shorter between their rewrites and their values: the calls, one after the
 //! other, and laws of the bytes that they leave, by architecture.
 
-ghost use Rattle.std.specs.Prelude.{◌≡◌, ◌≤◌, ◌<◌, ◌+◌, ◌-◌, ◌/◌, ◌^◌, ◌↔◌, ℕ, List, length};
-ghost use Rattle.std.specs.Prelude.{IsTrue, IfErr, IfNone, IfSome, OnOk};
+ghost use Rattle.std.specs.Prelude.{◌≡◌, ◌≤◌, ◌<◌, ◌+◌, ◌/◌, ◌^◌, ℕ, List, length, IfErr, OnOk};
 ghost use Rattle.linker_base.specs.Deletions.{rank};
 ghost use Rattle.linker_base.specs.Deltas.{deletions_of};
 ghost use Rattle.linker_base.specs.Listed.{AreValidDeltas};
@@ -11,8 +10,7 @@ ghost use Rattle.linker_final.specs.Branches.{LoongArchBranchesGo, RiscVBranches
 ghost use Rattle.linker_final.specs.LoongArchJoined as loongarch_joined;
 ghost use Rattle.linker_final.specs.LoongArchPacked as loongarch_packed;
 ghost use Rattle.linker_final.specs.Packed as packed;
-ghost use Rattle.linker_final.specs.Packed.{architecture_of, packed_as, AreAtPlaces, IsAtPlace};
-ghost use Rattle.linker_final.specs.Packed.{IsFirstUntranslated, IsPackCause, IsPacked};
+ghost use Rattle.linker_final.specs.Packed.{architecture_of, packed_as, IsPackCause, IsPacked};
 ghost use Rattle.linker_final.specs.Relaxed as relaxed;
 ghost use Rattle.linker_final.specs.Relaxed.{AreRelaxedAndPacked};
 ghost use Rattle.linker_final.specs.RiscVJoined as riscv_joined;
@@ -20,13 +18,11 @@ ghost use Rattle.linker_final.specs.RiscVPacked as riscv_packed;
 ghost use Rattle.linker_runs.specs.Choosing.{AreItems, IsRelaxation};
 ghost use Rattle.linker_runs.specs.Deleting.{deletions_of_run};
 ghost use Rattle.linker_runs.specs.Packing.{packed_offset, section_of};
-ghost use Rattle.linker_section.specs.Relocations.{relocation_in};
 
 use linker_base::relaxation::{DeltaSlice, RelaxDelta};
 use linker_runs::packing::{Machine, RejectedItem, pack_run};
 use linker_runs::relaxation::{Item, Plan};
 use linker_section::facts::{Addresses, Symbol};
-use linker_section::relocations::{Rela, relocation_at, relocations_len};
 use linker_section::sections::{SectionError, relocate_section};
 use linker_utils::elf::Architecture;
 
@@ -35,8 +31,6 @@ use linker_utils::elf::Architecture;
 pub enum PackError {
     /// Its address isn't that where its first byte goes.
     Misplaced,
-    /// The relocation at an index isn't the one before at its translated place.
-    Untranslated(usize),
     /// It isn't packed.
     Packing(RejectedItem),
     /// It is, but its values aren't written.
@@ -53,17 +47,6 @@ fn architecture_of(machine: Machine) -> Architecture
     }
 }
 
-/// Where an input offset goes in a section that begins at the input offset `base`.
-fn place_of(deltas: &[RelaxDelta], base: u64, offset: u64) -> u64
-    ensures { AreValidDeltas deltas.now
-        → result
-        ≡ rank (deletions_of deltas.now) offset - rank (deletions_of deltas.now) base }
-{
-    let run = DeltaSlice::new(deltas);
-    run.input_to_output_offset(offset)
-        .saturating_sub(run.input_to_output_offset(base))
-}
-
 /// The address where an input offset goes, in a run that begins at the address `start`.
 fn address_of(deltas: &[RelaxDelta], start: u64, offset: u64) -> u64
     ensures { AreValidDeltas deltas.now
@@ -72,82 +55,17 @@ fn address_of(deltas: &[RelaxDelta], start: u64, offset: u64) -> u64
     start.wrapping_add(DeltaSlice::new(deltas).input_to_output_offset(offset))
 }
 
-/// Whether a relocation is one before at its translated place.
-fn is_at_place(deltas: &[RelaxDelta], base: u64, before: &Rela, after: &Rela) -> bool
-    ensures { AreValidDeltas deltas.now
-        → IsTrue result ↔ IsAtPlace (deletions_of deltas.now) base before.now after.now }
-{
-    match base.checked_add(before.offset) {
-        Some(offset) => {
-            after.offset == place_of(deltas, base, offset)
-                && after.symbol == before.symbol
-                && after.addend == before.addend
-                && (after.code == before.code || after.code == 0)
-        }
-        None => false,
-    }
-}
-
-/// Whether the relocation at an index is the one before at its translated place.
-fn is_translated(
-    deltas: &[RelaxDelta],
-    base: u64,
-    relocations: &[u8],
-    translated: &[u8],
-    index: usize,
-) -> bool
-    requires before { index < length relocations.now / 24 }
-    requires after { index < length translated.now / 24 }
-    ensures { AreValidDeltas deltas.now
-        → IsTrue result
-        ↔ IsAtPlace (deletions_of deltas.now) base (relocation_in relocations.now index)
-        (relocation_in translated.now index) }
-{
-    let Some(before) = relocation_at(relocations, index) else {
-        return false;
-    };
-    let Some(after) = relocation_at(translated, index) else {
-        return false;
-    };
-    is_at_place(deltas, base, &before, &after)
-}
-
-/// The first relocation that isn't one before at its translated place.
-fn first_untranslated(
-    deltas: &[RelaxDelta],
-    base: u64,
-    relocations: &[u8],
-    translated: &[u8],
-) -> Option<usize>
-    requires { length translated.now ≡ length relocations.now }
-    ensures none { AreValidDeltas deltas.now
-        → IfNone result (AreAtPlaces (deletions_of deltas.now) base relocations.now translated.now
-        (length translated.now / 24)) }
-    ensures some { AreValidDeltas deltas.now
-        → IfSome result (IsFirstUntranslated (deletions_of deltas.now) base relocations.now
-        translated.now) }
-{
-    for index in 0..relocations_len(translated) {
-        if !is_translated(deltas, base, relocations, translated, index) {
-            return Some(index);
-        }
-    }
-    None
-}
-
 /// Packs a section of a relaxed run by `pack_run`, and then writes its values by
 /// `relocate_section`. What it leaves is what the laws are about (`IsPacked`). The section begins
-/// at the input offset `base` of the run, and the run at the address `start`. `translated` are the
-/// relocations as they are written: each at its translated place, and of type 0 where its
-/// instructions became shorter. A linker makes them itself, and calls both.
+/// at the input offset `base` of the run, and the run at the address `start`. `relocations` become
+/// those of the packed section, by which its values are written. A linker calls both itself.
 ///
 /// # Errors
 ///
 /// The first that applies, in this order. `Misplaced`: the section isn't at the address where its
-/// first byte goes. `Untranslated`: a relocation isn't at its translated place. `Packing`: an item
-/// can't be written. `Writing`: no value is written, and `out` has the packed section. With each of
-/// the others `out` is as it was. The contract of each error requires valid deltas, as that of
-/// `pack_run` does.
+/// first byte goes. `Packing`: an item can't be written. `Writing`: no value is written, and `out`
+/// and `relocations` are those of the packed section. With each of the others they are as they were.
+/// The contract of each error requires valid deltas, as that of `pack_run` does.
 pub fn pack_section(
     machine: Machine,
     section: &[u8],
@@ -155,8 +73,7 @@ pub fn pack_section(
     items: &[Item],
     deltas: &[RelaxDelta],
     start: u64,
-    relocations: &[u8],
-    translated: &[u8],
+    relocations: &mut [u8],
     addresses: &Addresses,
     symbols: &[Symbol],
     out: &mut [u8],
@@ -167,30 +84,26 @@ pub fn pack_section(
         → length out.old
         ≡ packed_offset (section_of section.now base (deletions_of deltas.now) start)
         (base + length section.now) }
-    requires as_many { length translated.now ≡ length relocations.now }
-    requires memory { length translated.now / 24 ≤ length memory.old }
+    requires memory { length relocations.old / 24 ≤ length memory.old }
     ensures packed { AreValidDeltas deltas.now
         → OnOk result ((packed : List ℕ) × IsPacked (packed_as machine
         (section_of section.now base (deletions_of deltas.now) start) items.now packed
-        relocations.now translated.now addresses.now symbols.now out.new)) }
+        relocations.old relocations.new addresses.now symbols.now out.new)) }
     ensures cause { AreValidDeltas deltas.now
         → IfErr result (IsPackCause machine
-        (section_of section.now base (deletions_of deltas.now) start) items.now relocations.now
-        translated.now addresses.now symbols.now out.old out.new) }
+        (section_of section.now base (deletions_of deltas.now) start) items.now relocations.old
+        relocations.new addresses.now symbols.now out.old out.new) }
 {
     if addresses.section != address_of(deltas, start, base) {
         return Err(PackError::Misplaced);
     }
-    if let Some(index) = first_untranslated(deltas, base, relocations, translated) {
-        return Err(PackError::Untranslated(index));
-    }
-    if let Err(rejected) = pack_run(machine, section, base, items, deltas, start, out) {
+    if let Err(rejected) = pack_run(machine, section, base, items, deltas, start, relocations, out) {
         return Err(PackError::Packing(rejected));
     }
     match relocate_section(
         architecture_of(machine),
         addresses,
-        translated,
+        relocations,
         symbols,
         out,
         memory,
@@ -211,17 +124,13 @@ pub struct RunSection<'a> {
     pub base: u64,
     /// The items of the run that lie in it.
     pub items: &'a [Item],
-    /// Its relocations, once it is rewritten.
-    pub relocations: &'a [u8],
-    /// The relocations as they are written, as `pack_section` has them.
-    pub translated: &'a [u8],
 }
 
 /// Packs a section of a run that `relax` relaxed, by `pack_section`, with what the run loses. It
 /// leaves the section's final bytes in `out`, in which each alignment of the run holds
-/// (`shorter_sections`). The run begins at the address `start`. A linker calls `relax` and
-/// `pack_section` itself: in between it translates relocations and symbols by what `relax`
-/// returned, and it packs each section.
+/// (`shorter_sections`). The run begins at the address `start`. `relocations` are the section's, once
+/// it is rewritten. A linker calls `relax` and `pack_section` itself: in between it translates
+/// symbols by what `relax` returned, and it packs each section.
 ///
 /// # Errors
 ///
@@ -231,6 +140,7 @@ pub fn pack_relaxed_section(
     start: u64,
     plan: &Plan,
     section: &RunSection<'_>,
+    relocations: &mut [u8],
     addresses: &Addresses,
     symbols: &[Symbol],
     out: &mut [u8],
@@ -245,15 +155,13 @@ pub fn pack_relaxed_section(
         ≡ packed_offset (section_of section.now.bytes.now section.now.base
         (deletions_of_run items.now plan.now.kept.items) start)
         (section.now.base + length section.now.bytes.now) }
-    requires as_many { length section.now.translated.now ≡ length section.now.relocations.now }
-    requires memory { length section.now.translated.now / 24 ≤ length memory.old }
-    ensures packed { OnOk result (AreRelaxedAndPacked section.now items.now start addresses.now
-        symbols.now out.new) }
+    requires memory { length relocations.old / 24 ≤ length memory.old }
+    ensures packed { OnOk result (AreRelaxedAndPacked section.now items.now start relocations.old
+        relocations.new addresses.now symbols.now out.new) }
     ensures cause { IfErr result (IsPackCause section.now.machine
         (section_of section.now.bytes.now section.now.base
         (deletions_of_run items.now plan.now.kept.items) start) section.now.items.now
-        section.now.relocations.now section.now.translated.now addresses.now symbols.now
-        out.old out.new) }
+        relocations.old relocations.new addresses.now symbols.now out.old out.new) }
 {
     pack_section(
         section.machine,
@@ -262,8 +170,7 @@ pub fn pack_relaxed_section(
         section.items,
         plan.deletions.deltas(),
         start,
-        section.relocations,
-        section.translated,
+        relocations,
         addresses,
         symbols,
         out,
@@ -272,8 +179,9 @@ pub fn pack_relaxed_section(
 }
 
 /// Each section that was packed: a byte that stays is at its translated place, and those that are
-/// deleted have none, as those of an item of which nothing stays; padding is nops; an instruction
-/// that stays has the value of its relocation at its own address. Where the section is packed with
+/// deleted have none, as those of an item of which nothing stays; padding is nops; what the packing
+/// left at a relocation's place, and so an instruction that stays, has the value of its relocation
+/// at its own address. Where the section is packed with
 /// what `relax` returned of its run, each alignment of the run holds.
 pub fn shorter_sections()
     ensures kept_bytes { packed.KeptBytesStay }
@@ -281,6 +189,7 @@ pub fn shorter_sections()
     ensures deleted_bytes { packed.DeletedBytesAreGone }
     ensures deleted_items { packed.ItemsAreDeleted }
     ensures addresses { packed.PlacesHaveAddresses }
+    ensures places { packed.PlacesAreRelocated }
     ensures instructions { packed.InstructionsAreRelocated }
     ensures alignments { relaxed.AlignmentsHold }
     ensures section_starts { relaxed.SectionsAreAligned }

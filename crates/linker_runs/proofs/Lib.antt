@@ -21,6 +21,7 @@ pub mod LoongArchWritable
 pub mod LoongArchItems
 pub mod Made
 pub mod MadeSites
+pub mod Moved
 pub mod Multiples
 pub mod Nearer
 pub mod Nops

@@ -7,6 +7,7 @@ pub mod Inner
 pub mod LoongArchItems
 pub mod LoongArchSites
 pub mod Machines
+pub mod Moved
 pub mod Origins
 pub mod Packing
 pub mod Reaches

@@ -7,6 +7,7 @@ ghost use Rattle.linker_base.specs.Deletions.{rank};
 ghost use Rattle.linker_base.specs.Deltas.{deletions_of};
 ghost use Rattle.linker_base.specs.Listed.{AreValidDeltas};
 ghost use Rattle.linker_runs.specs.Machines.{machine_of};
+ghost use Rattle.linker_runs.specs.Moved.{AreMoved};
 ghost use Rattle.linker_runs.specs.Relaxing.{offset_of, end_of};
 ghost use Rattle.linker_runs.specs.Packing.{section_of, kept_len, packed_offset, is_fixed};
 ghost use Rattle.linker_runs.specs.Packing.{IsInside, StayWhole, KeepsEnd};
@@ -23,10 +24,12 @@ ghost use Rattle.linker_runs.specs.Inner.Packing.{AreReady};
 
 mod code;
 mod loongarch64;
+mod moved;
 mod riscv64;
 
 use crate::items::{AsItem, ItemList};
 use crate::packing::code::Code;
+use crate::packing::moved::move_relocations;
 use crate::relaxation::{Item, Site};
 use linker_base::packing::{Position, copy_kept, position_from, position_of};
 use linker_base::relaxation::{DeltaSlice, RelaxDelta};
@@ -372,7 +375,7 @@ fn test_items<I: AsItem>(
 
 /// Puts bytes at an offset, where they fit there.
 #[inline(always)]
-fn put_bytes(packed: &mut [u8], at: u64, bytes: &[u8])
+pub(crate) fn put_bytes(packed: &mut [u8], at: u64, bytes: &[u8])
     ensures { at + length bytes.now ≤ length packed.old
         → packed.new ≡ take at packed.old ++ bytes.now ++ drop (at + length bytes.now) packed.old }
 {
@@ -536,12 +539,22 @@ pub fn has_its_instructions(machine: Machine, section: &[u8], base: u64, item: &
 ///
 /// A site without short shapes, as `fixed` has it, is left as it is.
 ///
+/// `relocations` are those of the section, as ELF files have them. Each goes to the offset where its
+/// place goes, with its symbol and addend. That of a site which became shorter has the type of the
+/// one instruction then: `R_RISCV_JAL` or `R_RISCV_RVC_JUMP` in place of `R_RISCV_CALL_PLT` and
+/// `R_RISCV_CALL`, `R_LARCH_B26` in place of `R_LARCH_CALL36`, and `R_LARCH_PCREL20_S2` in place of
+/// `R_LARCH_PCALA_HI20`. So `relocate_section` writes its value, and an output can keep it. The
+/// others at such a site's begin, those of alignments among the items, and those whose byte is
+/// deleted, as `R_LARCH_PCALA_LO12`, have the type 0. Any other keeps its type. One behind the
+/// section's end stays as it is, and so do bytes behind the last whole relocation.
+///
 /// Requires an output of `packed_run_len` bytes. The deltas are as `SectionRelaxDeltas::deltas`
 /// lists them (`DeltaSlice::has_valid_deltas`). With others the call is safe, but what it writes
 /// isn't specified. The error names the first item that can't be written, or before which bytes are
 /// deleted that are of no item, and nothing is written then.
 ///
-/// It doesn't allocate. It takes O(section + deltas + items log deltas).
+/// It doesn't allocate. It takes O(section + deltas + items log deltas), and O(log deltas +
+/// log items) for each relocation.
 pub fn pack_run<I: AsItem>(
     machine: Machine,
     section: &[u8],
@@ -549,6 +562,7 @@ pub fn pack_run<I: AsItem>(
     items: &[I],
     deltas: &[RelaxDelta],
     start: u64,
+    relocations: &mut [u8],
     out: &mut [u8],
 ) -> Result<(), RejectedItem>
     requires small { base + length section.now < 2 ^ 64 }
@@ -560,16 +574,22 @@ pub fn pack_run<I: AsItem>(
         → OnOk result
         (IsPackedRun machine (section_of section.now base (deletions_of deltas.now) start)
         (map I.item items.now) out.new) }
+    ensures moved { AreValidDeltas deltas.now
+        → OnOk result
+        (AreMoved machine (section_of section.now base (deletions_of deltas.now) start)
+        (map I.item items.now) relocations.old relocations.new) }
     ensures rejected { AreValidDeltas deltas.now
         → IfErr result
         (IsFirstRejected machine (section_of section.now base (deletions_of deltas.now) start)
         (map I.item items.now)) }
-    ensures unchanged { OnErr result (out.new ≡ out.old) }
+    ensures unchanged { OnErr result
+        ((out.new ≡ out.old) × (relocations.new ≡ relocations.old)) }
 {
     let list = ItemList::new(items);
     let begin = position_of(deltas, base);
     test_items(machine, section, base, &list, deltas, start, &begin)?;
     copy_kept(section, base, deltas, out);
     put_items(machine, section, base, &list, deltas, start, &begin, out);
+    move_relocations(machine, section, base, &list, deltas, &begin, relocations);
     Ok(())
 }

@@ -7,6 +7,7 @@ use Rattle.linker_runs.specs.declared.packing.Machine.{Machine}
 use Rattle.linker_runs.specs.declared.packing.ItemError.{ItemError}
 use Rattle.linker_runs.specs.declared.packing.ItemError.TheVariants as errors
 use Rattle.linker_runs.specs.Machines.{machine_of}
+use Rattle.linker_runs.specs.Moved.{AreMoved}
 use Rattle.linker_runs.specs.Origins.{HasItsInstructions}
 use Rattle.linker_runs.specs.Packing.{Section, IsPackedRun, IsFirstRejected}
 use Rattle.linker_utils_c.specs.declared.status.Status.{Status}
@@ -49,9 +50,11 @@ pub record IsItemRejected (machine : Machine) (s : Section) (items : List Item) 
   pub says : status ≡ code (item_status error)
   pub first : IsFirstRejected machine s items (record { index = at; error = error })
 
-abbrev pub IsRunPackedOrRejected : Machine → Section → List Item → List ℕ → ℕ → ℕ → Type 0
-IsRunPackedOrRejected machine s items packed at status =
-    ((status ≡ code Success) × IsPackedRun machine s items packed)
+abbrev pub IsRunPackedOrRejected : Machine → Section → List Item → List ℕ → List ℕ → List ℕ → ℕ → ℕ
+    → Type 0
+IsRunPackedOrRejected machine s items before after packed at status =
+    ((status ≡ code Success) × IsPackedRun machine s items packed
+    × AreMoved machine s items before after)
     ⊎ IsItemRejected machine s items at status
 
 -- the status says whether an item of a section has its instructions

@@ -90,7 +90,8 @@ pub extern "C" fn linker_utils_has_its_instructions_nonnull(
 /// Packs a section of a relaxed run, as `pack_run`: writes the bytes that stay, in order, with the
 /// instructions of its sites and the nops of its alignments written anew. The section begins at the
 /// input offset `base` of the run. The run begins at the address `start` and loses what the deltas
-/// list. `items` are the run's items that lie in the section.
+/// list. `items` are the run's items that lie in the section, and `relocations` those of the
+/// section, which become those of the packed one.
 ///
 /// The first that applies of `UnknownArchitecture`, where no section of the machine is packed;
 /// `EndsTooHigh`, where `base` and the section's length add up to 2^64 or more; `DifferentLengths`,
@@ -98,7 +99,7 @@ pub extern "C" fn linker_utils_has_its_instructions_nonnull(
 /// written, whose index is `faulty`, the first that applies of `ItemsOverlap`, `ItemOutOfSection`,
 /// `DeletedOutside`, `NotItsFirstBytes`, `NotItsInstructions`, `NoShape` and `TargetOutOfReach`.
 /// `DeletedOutside` may also be of what is behind the last item, and `faulty` is how many there are
-/// then. `packed` is unchanged then. `faulty` changes only with a status that is about an item.
+/// then. `packed` and `relocations` are unchanged then. `faulty` changes only with a status that is about an item.
 #[unsafe(no_mangle)]
 pub extern "C" fn linker_utils_pack_run_nonnull(
     machine: u16,
@@ -107,6 +108,7 @@ pub extern "C" fn linker_utils_pack_run_nonnull(
     items: &[ItemNumbers],
     deltas: &[RelaxDelta],
     start: u64,
+    relocations: &mut [u8],
     packed: &mut [u8],
     faulty: &mut usize,
 ) -> u32
@@ -125,12 +127,13 @@ pub extern "C" fn linker_utils_pack_run_nonnull(
     ensures outcome { AreValidDeltas deltas.now → IfSome (packing_machine machine) (λ known.
         (result ≡ code Status.EndsTooHigh) ⊎ (result ≡ code Status.DifferentLengths)
         ⊎ IsRunPackedOrRejected known (section_of section.now base (deletions_of deltas.now) start)
-        (items_in items.now) packed.new faulty.new result) }
-    ensures unchanged { result ≢ code Status.Success → packed.new ≡ packed.old }
+        (items_in items.now) relocations.old relocations.new packed.new faulty.new result) }
+    ensures unchanged { result ≢ code Status.Success
+        → (packed.new ≡ packed.old) × (relocations.new ≡ relocations.old) }
     ensures faulty_stays { ¬ IsOneOf item_statuses result → faulty.new ≡ faulty.old }
 {
     match packing_machine(machine) {
-        Some(known) => pack(known, section, base, items, deltas, start, packed, faulty),
+        Some(known) => pack(known, section, base, items, deltas, start, relocations, packed, faulty),
         None => Status::UnknownArchitecture.number(),
     }
 }
@@ -142,6 +145,7 @@ fn pack(
     items: &[ItemNumbers],
     deltas: &[RelaxDelta],
     start: u64,
+    relocations: &mut [u8],
     packed: &mut [u8],
     faulty: &mut usize,
 ) -> u32
@@ -158,8 +162,9 @@ fn pack(
         ⊎ (result ≡ code Status.DifferentLengths)
         ⊎ IsRunPackedOrRejected machine
         (section_of section.now base (deletions_of deltas.now) start) (items_in items.now)
-        packed.new faulty.new result }
-    ensures unchanged { result ≢ code Status.Success → packed.new ≡ packed.old }
+        relocations.old relocations.new packed.new faulty.new result }
+    ensures unchanged { result ≢ code Status.Success
+        → (packed.new ≡ packed.old) × (relocations.new ≡ relocations.old) }
     ensures faulty_stays { ¬ IsOneOf item_statuses result → faulty.new ≡ faulty.old }
 {
     if section.len() as u64 > u64::MAX - base {
@@ -168,7 +173,7 @@ fn pack(
     if packed.len() != packed_run_len(base, section.len(), deltas) {
         return Status::DifferentLengths.number();
     }
-    match pack_run(machine, section, base, items, deltas, start, packed) {
+    match pack_run(machine, section, base, items, deltas, start, relocations, packed) {
         Ok(()) => Status::Success.number(),
         Err(rejected) => {
             *faulty = rejected.index;

@@ -1137,6 +1137,8 @@ unsafe extern "C" fn linker_utils_pack_run_nonnull(
     deltas: *const RelaxDelta,
     deltas_len: usize,
     start: u64,
+    relocations: *mut u8,
+    relocations_len: usize,
     packed: *mut u8,
     packed_len: usize,
     faulty: *mut usize,
@@ -1150,6 +1152,7 @@ unsafe extern "C" fn linker_utils_pack_run_nonnull(
             from_raw_parts(items, items_len),
             from_raw_parts(deltas, deltas_len),
             start,
+            from_raw_parts_mut(relocations, relocations_len),
             from_raw_parts_mut(packed, packed_len),
             &mut *faulty,
         )

@@ -99,6 +99,7 @@ fn status_of(fault: Fault) -> u32 {
         Fault::BadReach => Status::BadReach,
         Fault::BadAlignment => Status::BadAlignment,
         Fault::UnevenShape => Status::UnevenShape,
+        Fault::Misaligned => Status::Misaligned,
         Fault::AlignmentBelowGranularity => Status::AlignmentBelowGranularity,
         Fault::UnevenEnd => Status::UnevenEnd,
         Fault::TooFewNops => Status::TooFewNops,
@@ -141,8 +142,9 @@ pub fn linker_utils_standard_shapes(number: u32, shapes: &mut Shapes) -> u32 {
 
 /// Whether `linker_utils_relax` accepts the items of a run that begins at the address `start`. The
 /// status is else that of the first fault of the first faulty item, whose index is `faulty`, in the
-/// order of the statuses from `ItemsOverlap` on, with `MayBeMisaligned` as the last; those from
-/// `UnevenShape` on count only where no item has one of those before.
+/// order of the statuses from `ItemsOverlap` on, with `Misaligned` behind `UnevenShape` and
+/// `MayBeMisaligned` as the last; those from `UnevenShape` on count only where no item has one of
+/// those before.
 pub fn linker_utils_items_relaxable_nonnull(
     items: &[ItemNumbers],
     start: u64,

@@ -31,7 +31,7 @@ impl<'a, I: AsItem> ItemList<'a, I> {
     }
 
     /// How many items end at or below an offset.
-    pub(crate) fn place_of(&self, offset: u64, start: u64) -> usize {
+    pub(crate) fn place_of(&self, offset: u64) -> usize {
         let (mut low, mut high) = (0, self.len());
         while low < high {
             let middle = low + (high - low) / 2;

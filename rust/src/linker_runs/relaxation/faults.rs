@@ -3,8 +3,9 @@
 //! Which runs can be relaxed, and what is wrong with the others.
 
 use super::validity::{has_its_nops, is_clear, run_granularity};
-use super::{Alignment, Item, Shapes};
+use super::{Alignment, Item, Shapes, Site};
 use crate::linker_runs::items::{AsItem, ItemList};
+use crate::linker_runs::shapes::loongarch64::CALL36;
 
 /// Why a run can't be relaxed: what is wrong with one of its items. Of an item that has several
 /// faults, the one that comes first here is returned. u is the greatest granularity of all short
@@ -34,6 +35,9 @@ pub enum Fault {
     BadAlignment,
     /// A shape frees bytes that aren't a multiple of u.
     UnevenShape,
+    /// It is an `R_LARCH_CALL36`, whose shapes are `CALL36`, and its target isn't a multiple of 4
+    /// bytes away. No instruction of it reaches such a target.
+    Misaligned,
     /// The alignment isn't a multiple of u, nor still.
     AlignmentBelowGranularity,
     /// The address behind the nops isn't a multiple of u, and the alignment isn't still.
@@ -98,6 +102,18 @@ impl Alignment {
     }
 }
 
+impl Site {
+    /// Whether its target is a multiple of 4 bytes away, if it is an `R_LARCH_CALL36`.
+    #[inline]
+    fn is_in_words(&self) -> bool {
+        if self.shapes == CALL36 {
+            self.target % 4 == self.offset % 4
+        } else {
+            true
+        }
+    }
+}
+
 impl Item {
     /// What is wrong with it by itself.
     #[inline]
@@ -119,10 +135,12 @@ impl Item {
     fn granularity_fault(&self, granularity: u64, start: u64) -> Option<Fault> {
         match self {
             Item::Site(site) => {
-                if site.shapes.are_even(granularity, u64::from(site.len)) {
-                    None
-                } else {
+                if !site.shapes.are_even(granularity, u64::from(site.len)) {
                     Some(Fault::UnevenShape)
+                } else if !site.is_in_words() {
+                    Some(Fault::Misaligned)
+                } else {
+                    None
                 }
             }
             Item::Aligned(alignment) => alignment.fault(granularity, start),
@@ -211,7 +229,8 @@ fn first_fault<I: AsItem>(items: &ItemList<'_, I>, start: u64) -> Option<ItemFau
 /// shapes each shape frees a multiple of u, and each alignment, a power of two, and the address
 /// behind its nops are multiples of u; but an alignment may also divide u, have no limit and have
 /// the nops that its input address needs, and beside these a multiple of u. No target is strictly
-/// inside the bytes that an item may lose; that of a site without short shapes isn't required.
+/// inside the bytes that an item may lose; that of a site without short shapes isn't required. That
+/// of an `R_LARCH_CALL36` is a multiple of 4 bytes away.
 ///
 /// An alignment with a limit has as many nops as the alignment less u, or no more may stay than
 /// there are; its nops are a multiple of u. One without a limit has as many as it needs in every

@@ -12,7 +12,7 @@ pub(super) fn find_places<I: AsItem>(items: &ItemList<'_, I>, start: u64, places
         places[index] = if item.reaches(0, 0, 0) {
             usize::MAX
         } else {
-            items.place_of(item.target(), start)
+            items.place_of(item.target())
         };
     }
 }

@@ -189,7 +189,7 @@ pub(super) fn run_granularity<I: AsItem>(items: &ItemList<'_, I>, start: u64) ->
 
 /// Whether an offset is not inside what an item may lose.
 pub(super) fn is_clear<I: AsItem>(items: &ItemList<'_, I>, start: u64, offset: u64) -> bool {
-    let place = items.place_of(offset, start);
+    let place = items.place_of(offset);
     if place == items.len() {
         return true;
     }

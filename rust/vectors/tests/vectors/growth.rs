@@ -371,7 +371,7 @@ fn expect_sections(count: usize) {
     };
     expect_growth("packing of a run", count, to_pack, |(section, items, deltas)| {
         let mut packed = vec![0; packed_run_len(0, section.len(), deltas.deltas())];
-        pack_run(Machine::RiscV64, &section, 0, &items, deltas.deltas(), 0, &mut packed)
+        pack_run(Machine::RiscV64, &section, 0, &items, deltas.deltas(), 0, &mut [], &mut packed)
             .expect("items");
     });
     let shrunk = |count: usize| {

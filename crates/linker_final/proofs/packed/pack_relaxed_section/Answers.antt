@@ -19,7 +19,7 @@ returns-clause-packed c =
     let plan = c.args.plan.now in
     let listed = c.deltas.ensures in
     let valid = listed_deltas plan.deletions c.deltas.result.now listed.valid listed.listing in
-    on_ok_weaker _ (packed_run c.args.section.now c.args.items.now c.args.start c.args.addresses.now c.args.symbols.now
+    on_ok_weaker _ (packed_run c.args.section.now c.args.items.now c.args.start c.args.relocations.now c.pack_section.new.relocations c.args.addresses.now c.args.symbols.now
     plan.shapes.items plan.kept.items plan.freed.items (deletions_of c.deltas.result.now) c.requires.items
     c.requires.relaxed (listed.listing.same ∙ c.requires.deleted) c.pack_section.new.out) (c.pack_section.ensures.packed valid)
 
@@ -30,5 +30,5 @@ returns-clause-cause c =
     let valid = listed_deltas plan.deletions c.deltas.result.now listed.valid listed.listing in
     let lost : deletions_of c.deltas.result.now ≡ deletions_of_run c.args.items.now plan.kept.items = listed.listing.same ∙ c.requires.deleted in
     let s = c.args.section.now in
-    subst (λ d. IfErr c.pack_section.result (IsPackCause s.machine (section_of s.bytes.now s.base d c.args.start) s.items.now s.relocations.now s.translated.now
+    subst (λ d. IfErr c.pack_section.result (IsPackCause s.machine (section_of s.bytes.now s.base d c.args.start) s.items.now c.args.relocations.now c.pack_section.new.relocations
     c.args.addresses.now c.args.symbols.now c.args.out.now c.pack_section.new.out)) lost (c.pack_section.ensures.cause valid)

@@ -1,5 +1,5 @@
 use Rattle.linker_final.proofs.PackedBytes.{kept_bytes, padding, deleted_bytes, deleted_items, addresses}
-use Rattle.linker_final.proofs.PackedInstructions.{instructions}
+use Rattle.linker_final.proofs.PackedInstructions.{instructions, places}
 use Rattle.linker_final.proofs.Relaxed.{alignments, sections}
 use Rattle.linker_final.proofs.packed.shorter_sections.Goals as goal
 
@@ -11,6 +11,7 @@ returns c =
       deleted_bytes = deleted_bytes;
       deleted_items = deleted_items;
       addresses = addresses;
+      places = places;
       instructions = instructions;
       alignments = alignments;
       section_starts = sections;

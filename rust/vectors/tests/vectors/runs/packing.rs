@@ -22,7 +22,7 @@ fn expect(
     let len = packed_run_len(0x100, section.len(), deltas);
     assert!(len <= out.len());
     let packed = &mut out[..len];
-    let result = pack_run(machine, section, 0x100, items, deltas, 0xff08, packed);
+    let result = pack_run(machine, section, 0x100, items, deltas, 0xff08, &mut [], packed);
     assert_eq!(result, expected);
     assert_eq!(&packed[..bytes.len().min(len)], bytes);
 }

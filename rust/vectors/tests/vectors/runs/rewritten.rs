@@ -13,7 +13,7 @@ use linker_utils::runs::packing::Machine::{self, LoongArch64, RiscV64};
 use linker_utils::runs::packing::{pack_run, packed_run_len};
 use linker_utils::runs::relaxation::{Fault, Item, ItemFault, Site, first_faulty, relax};
 use linker_utils::runs::shapes::fixed;
-use linker_utils::section::{Addresses, Symbol, relocation_at};
+use linker_utils::section::{Addresses, Symbol, memory_len, relocate_section, relocation_at};
 
 /// Where the section begins in its run, and where the run does.
 const BASE: u64 = 0x100;
@@ -86,7 +86,8 @@ fn without_thread_offsets(
     (section, rela, deleted)
 }
 
-/// Requires that a section is rewritten, relaxed and packed so. `f` is where symbol 2 is in it.
+/// Requires that a section is rewritten, relaxed and packed so, and that its relocations with a value
+/// are then at these offsets, with these types. `f` is where symbol 2 is in it.
 fn expect(
     machine: Machine,
     architecture: Architecture,
@@ -94,8 +95,9 @@ fn expect(
     entries: &[Entry],
     f: u64,
     expected: &[u8],
+    types: &[(u64, u32)],
 ) {
-    let (section, rela, deleted) = without_thread_offsets(architecture, section, entries);
+    let (section, mut rela, deleted) = without_thread_offsets(architecture, section, entries);
     assert_eq!(deleted, [(8, 4), (12, 4)]);
     let relocations: Vec<_> = (0..entries.len())
         .map(|index| relocation_at(&rela, index).unwrap())
@@ -131,8 +133,34 @@ fn expect(
     let deltas = plan.deletions.deltas();
     assert!(DeltaSlice::new(deltas).has_valid_deltas());
     let mut packed = vec![0xee; packed_run_len(BASE, section.len(), deltas)];
-    pack_run(machine, &section, BASE, &items, deltas, START, &mut packed).unwrap();
+    pack_run(machine, &section, BASE, &items, deltas, START, &mut rela, &mut packed).unwrap();
     assert_eq!(packed, expected);
+    let is_mark = |code| code == 0 || code == 51 || code == 100; // `R_RISCV_RELAX`, `R_LARCH_RELAX`
+    let left: Vec<_> = (0..entries.len())
+        .map(|index| relocation_at(&rela, index).unwrap())
+        .filter(|it| !is_mark(it.code))
+        .map(|it| (it.offset, it.code))
+        .collect();
+    assert_eq!(left, types);
+    // values leave these bytes, and follow a symbol that is elsewhere
+    let addresses =
+        Addresses { section: START + BASE, thread_origin: 0x20000, ..Addresses::default() };
+    let mut symbols = [Symbol { address: 0x20000, is_thread_local: true, ..Symbol::default() }; 4];
+    let f = START + DeltaSlice::new(deltas).input_to_output_offset(BASE + f);
+    symbols[2] = Symbol { address: f, ..Symbol::default() };
+    symbols[3] = Symbol { address: START + BASE, ..Symbol::default() };
+    let mut memory = vec![0; memory_len(&rela)];
+    let mut write = |symbols: &[Symbol], section: &mut [u8]| {
+        relocate_section(architecture, &addresses, &rela, symbols, section, &mut memory)
+    };
+    assert_eq!(write(&symbols, &mut packed), Ok(()));
+    assert_eq!(packed, expected);
+    symbols[2].address += 0x400;
+    assert_eq!(write(&symbols, &mut packed), Ok(()));
+    assert_ne!(packed[..4], expected[..4]);
+    assert_eq!(packed[4..8], expected[4..8]);
+    symbols[2].address += 1 << 30;
+    assert_eq!(write(&symbols, &mut packed).unwrap_err().index, 0);
 }
 
 /// `call f`, `lui a0, %tprel_hi(x)`, `add a0, a0, tp`, `lw a0, %tprel_lo(x)(a0)`, `call f`, the nops of
@@ -162,12 +190,14 @@ const RISC_V_ENTRIES: [Entry; 13] = [
 
 #[test]
 fn riscv_sections_without_thread_offsets_are_packed_as_by_ld_lld() {
-    // ld.lld 19, at 0x10000
+    // ld.lld 19, at 0x10000, and what it keeps with `--emit-relocs`: `R_RISCV_JAL`, `TPREL_LO12_I` and
+    // `RVC_JUMP`
     let expected = [
         0xef, 0x00, 0x00, 0x01, 0x03, 0x25, 0x02, 0x00, 0xef, 0x00, 0x80, 0x00, 0x13, 0x00, 0x00,
         0x00, 0xc5, 0xbf, 0x82, 0x80,
     ];
-    expect(RiscV64, Architecture::RiscV, &RISC_V, &RISC_V_ENTRIES, 42, &expected);
+    let types = [(0, 17), (4, 30), (8, 17), (16, 45)];
+    expect(RiscV64, Architecture::RiscV, &RISC_V, &RISC_V_ENTRIES, 42, &expected, &types);
 }
 
 /// `call36 f`, `lu12i.w $a0, %le_hi20_r(x)`, `add.d $a0, $a0, $tp`, `ld.w $a0, $a0, %le_lo12_r(x)`,
@@ -197,7 +227,9 @@ fn loongarch_sections_without_thread_offsets_are_packed() {
         0x00, 0x10, 0x00, 0x54, 0x44, 0x00, 0x80, 0x28, 0x00, 0x08, 0x00, 0x54, 0x00, 0x00, 0x40,
         0x03, 0x04, 0x00, 0x00, 0x18, 0x20, 0x00, 0x00, 0x4c,
     ];
-    expect(LoongArch64, Architecture::LoongArch64, &section, &entries, 40, &expected);
+    // `R_LARCH_B26`, `TLS_LE_LO12_R` and `PCREL20_S2`
+    let types = [(0, 66), (4, 123), (8, 66), (16, 103)];
+    expect(LoongArch64, Architecture::LoongArch64, &section, &entries, 40, &expected, &types);
 }
 
 fn relocation(offset: u64, code: u32, addend: i64, target: Option<u64>) -> Relocation {

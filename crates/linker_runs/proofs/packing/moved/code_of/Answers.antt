@@ -1,0 +1,39 @@
+use Rattle.std.proofs.Common.{◌≡◌, ◌∙◌, refl, ap, sym, subst, arith}
+use Rattle.linker_base.specs.Deltas.{deletions_of}
+use Rattle.linker_base.specs.Deletions.{rank}
+use Rattle.linker_runs.specs.Moved.{BeginsAt, code_at_item, gone, of_item, other}
+use Rattle.linker_runs.specs.Packing.{kept_len}
+use Rattle.linker_runs.specs.Relaxing.{item_at, end_of, offset_of}
+use Rattle.linker_runs.proofs.Moved.{apart_items, gone_of, kept_of}
+use Rattle.linker_runs.proofs.packing.moved.code_of.Goals as goal
+
+pub returns-then-next-here : goal.returns-then-next-here
+returns-then-next-here g c = λ valid here bytes base start small ready.
+    let next = c.position_from-next.ensures.position valid here (omega arith) in
+    gone (gone_of (deletions_of c.args.deltas.now) c.args.here.now.input_offset c.position_from-next.result.input_offset c.position_from-next.ensures.offset (sym next.output ∙ c.if-next-here.true ∙ here.output)) refl
+
+pub returns-in-Some : goal.returns-in-Some
+returns-in-Some g c = λ valid here bytes base start small ready.
+    let ds = deletions_of c.args.deltas.now in
+    let items = c.args.items.now in
+    let item = c.in-Some.item in
+    let p = c.args.here.now.input_offset in
+    let next = c.position_from-next.ensures.position valid here (omega arith) in
+    let kept = kept_of ds p c.position_from-next.result.input_offset c.position_from-next.ensures.offset (λ same. c.if-next-here.false (next.output ∙ same ∙ sym here.output)) in
+    let found = c.in-Some.ensures (apart_items items (λ i within. (ready i within).apart)) in
+    let is : item_at items found.0 ≡ item = found.2 in
+    let begins : BeginsAt item p = found.3 in
+    let inside = (ready found.0 found.1).inside.1 in
+    let end : c.position_from-end.result.input_offset ≡ end_of item = omega (arith, c.position_from-end.ensures.offset, c.saturating_add.ensures, c.offset.ensures, c.len.ensures, inside, ap end_of is, small) in
+    let past = c.position_from-end.ensures.position valid here (omega (arith, c.position_from-end.ensures.offset, end, begins.1)) in
+    let to : c.position_from-end.result.output_offset ≡ rank ds (end_of item) = past.output ∙ ap (rank ds) end in
+    let from : c.args.here.now.output_offset ≡ rank ds (offset_of item) = here.output ∙ ap (rank ds) (sym begins.0) in
+    let len : c.saturating_sub-kept.result ≡ kept_len ds item = omega (arith, c.saturating_sub-kept.ensures, to, from) in
+    of_item found.0 kept found.1 (subst (λ it. BeginsAt it p) (sym is) begins)
+    (c.code_at_item.ensures ∙ ap (λ n. code_at_item c.args.machine item n c.args.code) len ∙ ap (λ it. code_at_item c.args.machine it (kept_len ds it) c.args.code) (sym is))
+
+pub returns-in-None : goal.returns-in-None
+returns-in-None g c = λ valid here bytes base start small ready.
+    let next = c.position_from-next.ensures.position valid here (omega arith) in
+    other (kept_of (deletions_of c.args.deltas.now) c.args.here.now.input_offset c.position_from-next.result.input_offset c.position_from-next.ensures.offset (λ same. c.if-next-here.false (next.output ∙ same ∙ sym here.output)))
+    (c.in-None.ensures (apart_items c.args.items.now (λ i within. (ready i within).apart))) refl

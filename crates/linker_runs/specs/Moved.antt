@@ -1,0 +1,89 @@
+-- The relocations of a packed section: each at the place where its offset goes, with the type of
+-- what is there then. So they can be written, and they say what is in the packed section.
+use Rattle.std.specs.Prelude.{◌≡◌, ℕ, ◌+◌, ◌*◌, ◌/◌, ◌<◌, ◌≤◌, List, length, drop, false, IsTrue}
+use Rattle.std.specs.Prelude.{◌==◌, ◌||◌, if◌then◌else◌}
+use Rattle.linker_base.specs.Deletions.{is_kept}
+use Rattle.linker_elf.specs.ElfNames.{code_of}
+use Rattle.linker_elf.specs.LoongArchRelocations.{loongarch_name}
+use Rattle.linker_elf.specs.RiscVRelocations.{riscv_name}
+use Rattle.linker_elf.specs.declared.loongarch64.relocations.LoongArch64Relocation.TheVariants as loongarch
+use Rattle.linker_elf.specs.declared.riscv64.relocations.RiscVRelocation.TheVariants as riscv
+use Rattle.linker_runs.specs.Packing.{Section, kept_len, packed_offset}
+use Rattle.linker_runs.specs.Relaxing.{end_of, item_at, offset_of}
+use Rattle.linker_runs.specs.declared.packing.Machine.{Machine}
+use Rattle.linker_runs.specs.declared.packing.Machine.TheVariants.{RiscV64, LoongArch64}
+use Rattle.linker_runs.specs.declared.relaxation.Item.{Item}
+use Rattle.linker_runs.specs.declared.relaxation.Item.TheVariants.{Site, Aligned}
+use Rattle.linker_section.specs.Relocations.{relocation_in}
+use Rattle.linker_section.specs.declared.relocations.Rela.{Rela}
+
+-- ---- types
+
+-- What the type of a relocation becomes at a site whose instructions became one of so many bytes:
+-- that of the one instruction. A relocation of another type has none then.
+abbrev pub short_code : Machine → ℕ → ℕ → ℕ
+short_code RiscV64 kept code =
+    if code == code_of (riscv_name riscv.R_RISCV_CALL)
+    || code == code_of (riscv_name riscv.R_RISCV_CALL_PLT)
+    then if kept == 2 then code_of (riscv_name riscv.R_RISCV_RVC_JUMP)
+    else code_of (riscv_name riscv.R_RISCV_JAL)
+    else 0
+short_code LoongArch64 kept code =
+    if code == code_of (loongarch_name loongarch.R_LARCH_CALL36)
+    then code_of (loongarch_name loongarch.R_LARCH_B26)
+    else if code == code_of (loongarch_name loongarch.R_LARCH_PCALA_HI20)
+    then code_of (loongarch_name loongarch.R_LARCH_PCREL20_S2)
+    else 0
+
+-- the type of the relocation of an alignment
+abbrev pub align_code : Machine → ℕ
+align_code RiscV64 = code_of (riscv_name riscv.R_RISCV_ALIGN)
+align_code LoongArch64 = code_of (loongarch_name loongarch.R_LARCH_ALIGN)
+
+-- What the type of a relocation at the begin of an item becomes of which so many bytes stay. At a
+-- site that stays whole, or of which the linker has decided, it is as it was. An alignment was made
+-- by the packing.
+abbrev pub code_at_item : Machine → Item → ℕ → ℕ → ℕ
+code_at_item machine (Site site) kept code =
+    if site.shapes.count == 0 || kept == site.len then code else short_code machine kept code
+code_at_item machine (Aligned alignment) kept code = if code == align_code machine then 0 else code
+
+-- the item has bytes, and the first is at an input offset
+abbrev pub BeginsAt : Item → ℕ → Type 0
+BeginsAt item p = (offset_of item ≡ p) × (p < end_of item)
+
+-- What the type of a relocation at an input offset becomes. Where the byte is deleted, as that of
+-- the second relocation of a site, there is none.
+pub data BecomesCode (machine : Machine) (s : Section) (items : List Item) (p code after : ℕ)
+    : Type 0 where
+  gone : is_kept s.deletions p ≡ false → after ≡ 0 → BecomesCode machine s items p code after
+  of_item : (i : ℕ) → IsTrue (is_kept s.deletions p) → i < length items
+      → BeginsAt (item_at items i) p
+      → after ≡ code_at_item machine (item_at items i) (kept_len s.deletions (item_at items i)) code
+      → BecomesCode machine s items p code after
+  other : IsTrue (is_kept s.deletions p)
+      → ((i : ℕ) → i < length items → ¬ BeginsAt (item_at items i) p) → after ≡ code
+      → BecomesCode machine s items p code after
+
+-- ---- relocations
+
+-- A relocation goes where its place goes, and keeps its symbol and addend. One behind the section's
+-- end, where no field is, stays as it is.
+pub record IsMoved (machine : Machine) (s : Section) (items : List Item) (before after : Rela)
+    : Type 0 where
+  pub offset : before.offset ≤ length s.bytes
+      → after.offset ≡ packed_offset s (s.base + before.offset)
+  pub code : before.offset < length s.bytes
+      → BecomesCode machine s items (s.base + before.offset) before.code after.code
+  pub symbol : after.symbol ≡ before.symbol
+  pub addend : after.addend ≡ before.addend
+  pub end_code : length s.bytes ≤ before.offset → after.code ≡ before.code
+  pub outside : length s.bytes < before.offset → after.offset ≡ before.offset
+
+-- each of them does, and what is behind the last whole one stays
+pub record AreMoved (machine : Machine) (s : Section) (items : List Item) (before after : List ℕ)
+    : Type 0 where
+  pub as_many : length after ≡ length before
+  pub each : (i : ℕ) → i < length before / 24
+      → IsMoved machine s items (relocation_in before i) (relocation_in after i)
+  pub rest : drop (length before / 24 * 24) after ≡ drop (length before / 24 * 24) before

@@ -1,0 +1,243 @@
+//! The relocations of a packed section.
+
+ghost use Rattle.std.specs.Prelude.{◌≡◌, ◌≢◌, ◌+◌, ◌*◌, ◌/◌, ◌<◌, ◌≤◌, ◌^◌, ℕ, List, length};
+ghost use Rattle.std.specs.Prelude.{MatchOption, drop};
+ghost use Rattle.linker_base.specs.Deltas.{deletions_of};
+ghost use Rattle.linker_base.specs.Inner.Packing.{IsPosition};
+ghost use Rattle.linker_base.specs.Listed.{AreValidDeltas};
+ghost use Rattle.linker_runs.specs.Moved.{align_code, code_at_item, short_code, AreMoved};
+ghost use Rattle.linker_runs.specs.Moved.{BecomesCode, BeginsAt, IsMoved};
+ghost use Rattle.linker_runs.specs.Inner.Packing.{AreReady};
+ghost use Rattle.linker_runs.specs.Packing.{section_of};
+ghost use Rattle.linker_runs.specs.Relaxing.{item_at, AreApart};
+ghost use Rattle.linker_section.specs.Relocations.{relocation_in, relocation_of};
+
+use crate::items::{AsItem, ItemList};
+use crate::packing::{Machine, put_bytes};
+use crate::relaxation::Item;
+use linker_base::packing::{Position, position_from, position_of};
+use linker_base::relaxation::RelaxDelta;
+use linker_base::rewrite::overwrite;
+use linker_loongarch64::LoongArch64Relocation;
+use linker_riscv64::RiscVRelocation;
+use linker_section::relocations::{RELA_LEN, Rela, relocation_at, relocations_len};
+
+/// The type of a relocation at a site whose instructions became one of so many bytes: that of the
+/// one instruction. 0 where it isn't that of the site.
+#[inline]
+fn short_code(machine: Machine, kept: u64, code: u32) -> u32
+    ensures { result ≡ short_code machine kept code }
+{
+    match machine {
+        Machine::RiscV64 => {
+            if code != RiscVRelocation::R_RISCV_CALL.elf_code()
+                && code != RiscVRelocation::R_RISCV_CALL_PLT.elf_code()
+            {
+                0
+            } else if kept == 2 {
+                RiscVRelocation::R_RISCV_RVC_JUMP.elf_code()
+            } else {
+                RiscVRelocation::R_RISCV_JAL.elf_code()
+            }
+        }
+        Machine::LoongArch64 => {
+            if code == LoongArch64Relocation::R_LARCH_CALL36.elf_code() {
+                LoongArch64Relocation::R_LARCH_B26.elf_code()
+            } else if code == LoongArch64Relocation::R_LARCH_PCALA_HI20.elf_code() {
+                LoongArch64Relocation::R_LARCH_PCREL20_S2.elf_code()
+            } else {
+                0
+            }
+        }
+    }
+}
+
+/// The type of the relocation of an alignment.
+#[inline]
+fn align_code(machine: Machine) -> u32
+    ensures { result ≡ align_code machine }
+{
+    match machine {
+        Machine::RiscV64 => RiscVRelocation::R_RISCV_ALIGN.elf_code(),
+        Machine::LoongArch64 => LoongArch64Relocation::R_LARCH_ALIGN.elf_code(),
+    }
+}
+
+/// The type of a relocation at the begin of an item of which so many bytes stay.
+#[inline]
+fn code_at_item(machine: Machine, item: &Item, kept: u64, code: u32) -> u32
+    ensures { result ≡ code_at_item machine item.now kept code }
+{
+    match item {
+        Item::Site(site) => {
+            if site.shapes.count == 0 || kept == u64::from(site.len) {
+                code
+            } else {
+                short_code(machine, kept, code)
+            }
+        }
+        Item::Aligned(_) => {
+            if code == align_code(machine) {
+                0
+            } else {
+                code
+            }
+        }
+    }
+}
+
+/// The item that begins at an offset.
+#[inline]
+fn item_from<I: AsItem>(items: &ItemList<'_, I>, offset: u64) -> Option<Item>
+    ensures { AreApart items.now → MatchOption result
+        ((i : ℕ) → i < length items.now → ¬ BeginsAt (item_at items.now i) offset)
+        (λ item. (i : ℕ) × (i < length items.now) × (item_at items.now i ≡ item)
+        × BeginsAt item offset) }
+{
+    let index = items.place_of(offset);
+    if index >= items.len() {
+        return None;
+    }
+    let item = items.at(index);
+    if item.offset() == offset {
+        Some(item)
+    } else {
+        None
+    }
+}
+
+/// The type of a relocation at a position.
+#[inline]
+fn code_of<I: AsItem>(
+    machine: Machine,
+    items: &ItemList<'_, I>,
+    deltas: &[RelaxDelta],
+    here: &Position,
+    code: u32,
+) -> u32
+    requires { here.now.input_offset + 1 < 2 ^ 64 }
+    ensures { AreValidDeltas deltas.now → IsPosition deltas.now here.now
+        → (bytes : List ℕ) (base start : ℕ) → base + length bytes < 2 ^ 64
+        → AreReady machine (section_of bytes base (deletions_of deltas.now) start) items.now
+        (length items.now)
+        → BecomesCode machine (section_of bytes base (deletions_of deltas.now) start) items.now
+        here.now.input_offset code result }
+{
+    let next = position_from(deltas, here, here.input_offset + 1);
+    if next.output_offset == here.output_offset {
+        return 0;
+    }
+    match item_from(items, here.input_offset) {
+        Some(item) => {
+            let end = position_from(deltas, here, item.offset().saturating_add(item.len()));
+            let kept = end.output_offset.saturating_sub(here.output_offset);
+            code_at_item(machine, &item, kept, code)
+        }
+        None => code,
+    }
+}
+
+/// What a relocation of a section becomes once that is packed.
+#[inline]
+fn moved<I: AsItem>(
+    machine: Machine,
+    section: &[u8],
+    base: u64,
+    items: &ItemList<'_, I>,
+    deltas: &[RelaxDelta],
+    begin: &Position,
+    relocation: &Rela,
+) -> Rela
+    requires small { base + length section.now < 2 ^ 64 }
+    requires begin { begin.now.input_offset ≡ base }
+    ensures { AreValidDeltas deltas.now → IsPosition deltas.now begin.now → (start : ℕ)
+        → AreReady machine (section_of section.now base (deletions_of deltas.now) start) items.now
+        (length items.now)
+        → IsMoved machine (section_of section.now base (deletions_of deltas.now) start) items.now
+        relocation.now result }
+{
+    let len = section.len() as u64;
+    if relocation.offset > len {
+        return *relocation;
+    }
+    let here = position_of(deltas, base + relocation.offset);
+    let code = if relocation.offset < len {
+        code_of(machine, items, deltas, &here, relocation.code)
+    } else {
+        relocation.code
+    };
+    let mut after = *relocation;
+    after.offset = here.output_offset.saturating_sub(begin.output_offset);
+    after.code = code;
+    after
+}
+
+/// The relocation with an index below `relocations_len`.
+#[inline(always)]
+fn relocation_in(relocations: &[u8], index: usize) -> Rela
+    requires { index < length relocations.now / 24 }
+    ensures { result ≡ relocation_in relocations.now index }
+{
+    match relocation_at(relocations, index) {
+        Some(relocation) => relocation,
+        None => Rela {
+            offset: 0,
+            code: 0,
+            symbol: 0,
+            addend: 0,
+        },
+    }
+}
+
+/// Writes a relocation to its 24 bytes.
+#[inline(always)]
+fn write_relocation(entry: &mut [u8], relocation: &Rela)
+    requires { length entry.old ≡ 24 }
+    ensures { relocation_of entry.new ≡ relocation.now }
+{
+    let addend = relocation.addend.cast_unsigned();
+    overwrite(entry, 0, &relocation.offset.to_le_bytes());
+    overwrite(entry, 8, &relocation.code.to_le_bytes());
+    overwrite(entry, 12, &relocation.symbol.to_le_bytes());
+    overwrite(entry, 16, &addend.to_le_bytes());
+}
+
+/// Overwrites the relocation with an index below `relocations_len`. All others stay.
+#[inline(always)]
+fn set_relocation(relocations: &mut [u8], index: usize, relocation: &Rela)
+    requires { index < length relocations.old / 24 }
+    ensures set { relocation_in relocations.new index ≡ relocation.now }
+    ensures others { (n : ℕ) → n < length relocations.old / 24 → n ≢ index
+        → relocation_in relocations.new n ≡ relocation_in relocations.old n }
+    ensures rest { drop (length relocations.old / 24 * 24) relocations.new
+        ≡ drop (length relocations.old / 24 * 24) relocations.old }
+{
+    let mut entry = [0; RELA_LEN];
+    write_relocation(&mut entry, relocation);
+    put_bytes(relocations, (index * RELA_LEN) as u64, &entry);
+}
+
+/// Moves the relocations of a section to where they are once that is packed.
+pub(crate) fn move_relocations<I: AsItem>(
+    machine: Machine,
+    section: &[u8],
+    base: u64,
+    items: &ItemList<'_, I>,
+    deltas: &[RelaxDelta],
+    begin: &Position,
+    relocations: &mut [u8],
+)
+    requires small { base + length section.now < 2 ^ 64 }
+    requires begin { begin.now.input_offset ≡ base }
+    ensures { AreValidDeltas deltas.now → IsPosition deltas.now begin.now → (start : ℕ)
+        → AreReady machine (section_of section.now base (deletions_of deltas.now) start) items.now
+        (length items.now)
+        → AreMoved machine (section_of section.now base (deletions_of deltas.now) start) items.now
+        relocations.old relocations.new }
+{
+    for index in 0..relocations_len(relocations) {
+        let relocation = relocation_in(relocations, index);
+        let after = moved(machine, section, base, items, deltas, begin, &relocation);
+        set_relocation(relocations, index, &after);
+    }
+}

@@ -1,0 +1,184 @@
+// Made by tools/erase of crates/linker_runs/src/packing/moved.rt.
+//! The relocations of a packed section.
+
+use crate::linker_runs::items::{AsItem, ItemList};
+use crate::linker_runs::packing::{Machine, put_bytes};
+use crate::linker_runs::relaxation::Item;
+use crate::linker_base::packing::{Position, position_from, position_of};
+use crate::linker_base::relaxation::RelaxDelta;
+use crate::linker_base::rewrite::overwrite;
+use crate::loongarch64::LoongArch64Relocation;
+use crate::riscv64::RiscVRelocation;
+use crate::linker_section::relocations::{RELA_LEN, Rela, relocation_at, relocations_len};
+
+/// The type of a relocation at a site whose instructions became one of so many bytes: that of the
+/// one instruction. 0 where it isn't that of the site.
+#[inline]
+fn short_code(machine: Machine, kept: u64, code: u32) -> u32 {
+    match machine {
+        Machine::RiscV64 => {
+            if code != RiscVRelocation::R_RISCV_CALL.elf_code()
+                && code != RiscVRelocation::R_RISCV_CALL_PLT.elf_code()
+            {
+                0
+            } else if kept == 2 {
+                RiscVRelocation::R_RISCV_RVC_JUMP.elf_code()
+            } else {
+                RiscVRelocation::R_RISCV_JAL.elf_code()
+            }
+        }
+        Machine::LoongArch64 => {
+            if code == LoongArch64Relocation::R_LARCH_CALL36.elf_code() {
+                LoongArch64Relocation::R_LARCH_B26.elf_code()
+            } else if code == LoongArch64Relocation::R_LARCH_PCALA_HI20.elf_code() {
+                LoongArch64Relocation::R_LARCH_PCREL20_S2.elf_code()
+            } else {
+                0
+            }
+        }
+    }
+}
+
+/// The type of the relocation of an alignment.
+#[inline]
+fn align_code(machine: Machine) -> u32 {
+    match machine {
+        Machine::RiscV64 => RiscVRelocation::R_RISCV_ALIGN.elf_code(),
+        Machine::LoongArch64 => LoongArch64Relocation::R_LARCH_ALIGN.elf_code(),
+    }
+}
+
+/// The type of a relocation at the begin of an item of which so many bytes stay.
+#[inline]
+fn code_at_item(machine: Machine, item: &Item, kept: u64, code: u32) -> u32 {
+    match item {
+        Item::Site(site) => {
+            if site.shapes.count == 0 || kept == u64::from(site.len) {
+                code
+            } else {
+                short_code(machine, kept, code)
+            }
+        }
+        Item::Aligned(_) => {
+            if code == align_code(machine) {
+                0
+            } else {
+                code
+            }
+        }
+    }
+}
+
+/// The item that begins at an offset.
+#[inline]
+fn item_from<I: AsItem>(items: &ItemList<'_, I>, offset: u64) -> Option<Item> {
+    let index = items.place_of(offset);
+    if index >= items.len() {
+        return None;
+    }
+    let item = items.at(index);
+    if item.offset() == offset {
+        Some(item)
+    } else {
+        None
+    }
+}
+
+/// The type of a relocation at a position.
+#[inline]
+fn code_of<I: AsItem>(
+    machine: Machine,
+    items: &ItemList<'_, I>,
+    deltas: &[RelaxDelta],
+    here: &Position,
+    code: u32,
+) -> u32 {
+    let next = position_from(deltas, here, here.input_offset + 1);
+    if next.output_offset == here.output_offset {
+        return 0;
+    }
+    match item_from(items, here.input_offset) {
+        Some(item) => {
+            let end = position_from(deltas, here, item.offset().saturating_add(item.len()));
+            let kept = end.output_offset.saturating_sub(here.output_offset);
+            code_at_item(machine, &item, kept, code)
+        }
+        None => code,
+    }
+}
+
+/// What a relocation of a section becomes once that is packed.
+#[inline]
+fn moved<I: AsItem>(
+    machine: Machine,
+    section: &[u8],
+    base: u64,
+    items: &ItemList<'_, I>,
+    deltas: &[RelaxDelta],
+    begin: &Position,
+    relocation: &Rela,
+) -> Rela {
+    let len = section.len() as u64;
+    if relocation.offset > len {
+        return *relocation;
+    }
+    let here = position_of(deltas, base + relocation.offset);
+    let code = if relocation.offset < len {
+        code_of(machine, items, deltas, &here, relocation.code)
+    } else {
+        relocation.code
+    };
+    let mut after = *relocation;
+    after.offset = here.output_offset.saturating_sub(begin.output_offset);
+    after.code = code;
+    after
+}
+
+/// The relocation with an index below `relocations_len`.
+#[inline(always)]
+fn relocation_in(relocations: &[u8], index: usize) -> Rela {
+    match relocation_at(relocations, index) {
+        Some(relocation) => relocation,
+        None => Rela {
+            offset: 0,
+            code: 0,
+            symbol: 0,
+            addend: 0,
+        },
+    }
+}
+
+/// Writes a relocation to its 24 bytes.
+#[inline(always)]
+fn write_relocation(entry: &mut [u8], relocation: &Rela) {
+    let addend = relocation.addend.cast_unsigned();
+    overwrite(entry, 0, &relocation.offset.to_le_bytes());
+    overwrite(entry, 8, &relocation.code.to_le_bytes());
+    overwrite(entry, 12, &relocation.symbol.to_le_bytes());
+    overwrite(entry, 16, &addend.to_le_bytes());
+}
+
+/// Overwrites the relocation with an index below `relocations_len`. All others stay.
+#[inline(always)]
+fn set_relocation(relocations: &mut [u8], index: usize, relocation: &Rela) {
+    let mut entry = [0; RELA_LEN];
+    write_relocation(&mut entry, relocation);
+    put_bytes(relocations, (index * RELA_LEN) as u64, &entry);
+}
+
+/// Moves the relocations of a section to where they are once that is packed.
+pub(crate) fn move_relocations<I: AsItem>(
+    machine: Machine,
+    section: &[u8],
+    base: u64,
+    items: &ItemList<'_, I>,
+    deltas: &[RelaxDelta],
+    begin: &Position,
+    relocations: &mut [u8],
+) {
+    for index in 0..relocations_len(relocations) {
+        let relocation = relocation_in(relocations, index);
+        let after = moved(machine, section, base, items, deltas, begin, &relocation);
+        set_relocation(relocations, index, &after);
+    }
+}
