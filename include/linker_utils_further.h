@@ -496,11 +496,13 @@ size_t linker_utils_most_stubs(size_t branches_len);
  * addresses before there are stubs. Boundaries ascend, and what has the offset of one is behind its
  * stubs. Where the offsets of branches ascend, more of them share a stub. It writes
  * - to the beginning of `stubs` the stubs, and to `stubs_used` how many there are;
- * - to `ways` for each branch the index of the stub that it goes by, or SIZE_MAX if it reaches its
+ * - to `ways` for each branch the index of the stub that it goes by, or SIZE_MAX if it goes to its
  *   target;
  * - to `before` for each boundary how many bytes of stubs are before those at it, and behind these
  *   how many there are in all. What was at an offset is so much higher as `before` says for the
  *   first boundary above it.
+ * Each stub has a branch that goes by it. At a boundary a target has at most three: one next to
+ * branches before it, one next to branches behind it, and one of branches farther away.
  * With any status but LINKER_UTILS_OK only `faulty` is written, and only where it says so.
  *
  * The first that applies of these, with the first index of it:

@@ -97,6 +97,30 @@ fn check_placement(code: &Code<'_>, placement: &Placement) {
         let to = laid.moved(code, code.targets[stub.target]);
         assert!(reaches(code.shape.max_backward, code.shape.max_forward, place, to));
     }
+    check_sharing(code, placement);
+}
+
+/// Each stub has a branch that goes by it, and is the only one of its target in its part of the
+/// boundary. A branch that reaches its target whatever stubs there are goes there.
+fn check_sharing(code: &Code<'_>, placement: &Placement) {
+    let stubs = &placement.layout.stubs;
+    for index in 0..stubs.len() {
+        assert!(placement.stubs.contains(&Some(index)), "{:?}", stubs[index]);
+    }
+    let mut all: Vec<_> =
+        stubs.iter().map(|stub| (stub.boundary, stub.part as u8, stub.target)).collect();
+    all.sort();
+    assert!(all.windows(2).all(|pair| pair[0] < pair[1]));
+    let stub_bytes = code.shape.len * (2 * code.branches.len() as u64 + 1);
+    let most = code.shape.unit * code.boundaries.len() as u64 + stub_bytes;
+    for (branch, stub) in code.branches.iter().zip(&placement.stubs) {
+        let target = code.targets[branch.target];
+        if target + most < branch.offset + branch.max_forward
+            && branch.offset + most <= target + branch.max_backward
+        {
+            assert_eq!(*stub, None, "{branch:?}");
+        }
+    }
 }
 
 /// Whether a branch reaches its target, a stub of it, or a boundary: with one more stub there, at any

@@ -632,7 +632,7 @@ pub struct PlacedStub {
 #[derive(Debug, Clone, Default, PartialEq, Eq)]
 pub struct Placement {
     pub stubs: Vec<PlacedStub>,
-    /// For each branch the index of the stub that it goes by; `None` if it reaches its target.
+    /// For each branch the index of the stub that it goes by; `None` if it goes to its target.
     pub ways: Vec<Option<usize>>,
     /// How many bytes of stubs there are before those at each boundary, and in all.
     pub before: Vec<u64>,

@@ -12,7 +12,7 @@ use Rattle.linker_output.specs.declared.placement.Part.TheVariants.{Front, Middl
 use Rattle.linker_output.specs.declared.placement.State.{State}
 use Rattle.linker_output.specs.declared.placement.StubAt.{StubAt}
 use Rattle.linker_output.specs.declared.placement.StubShape.{StubShape}
-use Rattle.linker_output.specs.Placement.{at, group_at, stub_at, stubs_in, place_in, place_of, start_of, end_of, HasPart, AreTwo, part_of, IsLaidOut, IsLayout, IsCode}
+use Rattle.linker_output.specs.Placement.{at, group_at, stub_at, stubs_in, place_in, place_of, start_of, end_of, HasPart, AreTwo, part_of, IsCode, IsLaidOut, IsLayout}
 use Rattle.linker_output.specs.Inner.Placement.{IsState, ArePlaces}
 use Rattle.linker_output.proofs.Groups.{size_least}
 

@@ -10,7 +10,7 @@ use Rattle.linker_output.specs.declared.placement.Part.TheVariants.{Front, Middl
 use Rattle.linker_output.specs.declared.placement.State.{State}
 use Rattle.linker_output.specs.declared.placement.Way.{Way}
 use Rattle.linker_output.specs.declared.placement.Way.TheVariants.{Direct, Far, Near}
-use Rattle.linker_output.specs.Placement.{group_at, stub_at, stubs_in, part_of, IsCode}
+use Rattle.linker_output.specs.Placement.{group_at, stub_at, stubs_in, part_of, IsCode, most_bytes}
 use Rattle.linker_output.specs.Inner.Placement.{IsState, level}
 
 pub level_most : (w : Way) → level w ≤ 2
@@ -61,12 +61,17 @@ index_fits code state j is_code is within =
     omega arith
 
 -- the bytes of all stubs fit
-pub room_for : (code : Code) (state : State) → IsCode code → IsState code state → code.shape.unit * length state.groups.items + code.shape.len * sum_by stubs_in state.groups.items < 2 ^ 62
-room_for code state is_code is =
+pub room_most : (code : Code) (state : State) → IsState code state → code.shape.unit * length state.groups.items + code.shape.len * sum_by stubs_in state.groups.items ≤ most_bytes code
+room_most code state is =
     let b = few_stubs code state is in
     let t = is.total in
     let g = is.groups in
     let c : sum_by stubs_in state.groups.items ≤ 2 * length code.branches.now + 1 = omega arith in
     let d = mul-le-mul_left code.shape.len c in
-    let r = is_code.room in
     rw g (omega arith)
+
+pub room_for : (code : Code) (state : State) → IsCode code → IsState code state → code.shape.unit * length state.groups.items + code.shape.len * sum_by stubs_in state.groups.items < 2 ^ 62
+room_for code state is_code is =
+    let h = room_most code state is in
+    let r = is_code.room in
+    omega arith

@@ -1,53 +1,106 @@
 -- The stubs by which branches go.
-use Rattle.std.proofs.Common.{◌≡◌, ◌<◌, ◌≤◌, ◌∙◌, ℕ, arith, List, length, ap, sym, subst, ⊎_elim}
-use Rattle.std.specs.Prelude.{◌⊎◌, Option, None, Some, slice_index_or}
+use Rattle.std.proofs.Common.{◌≡◌, ◌<◌, ◌≤◌, ◌∙◌, ℕ, arith, List, length, refl, ap, sym, subst, ⊎_elim}
+use Rattle.std.specs.Prelude.{◌⊎◌, Option, None, Some, slice_index_or, true, false}
+use Rattle.std.proofs.lemmas.Bool.{false≢true}
 use Rattle.linker_output.specs.declared.placement.Branch.{Branch}
 use Rattle.linker_output.specs.declared.placement.Code.{Code}
 use Rattle.linker_output.specs.declared.placement.Layout.{Layout}
+use Rattle.linker_output.specs.declared.placement.Part.TheVariants.{Middle}
 use Rattle.linker_output.specs.declared.placement.State.{State}
 use Rattle.linker_output.specs.declared.placement.Way.{Way}
 use Rattle.linker_output.specs.declared.placement.Way.TheVariants.{Direct, Far, Near}
-use Rattle.linker_output.specs.Placement.{at, branch_at, stub_at, ReachesAt, target_place, Goes, AllGo}
-use Rattle.linker_output.specs.Inner.Placement.{IsState, IsWay, IsServedBy, AreStubsOf, AreServed, ArePlaces, stub_of_way, way_at}
+use Rattle.linker_output.specs.Placement.{at, branch_at, most_bytes, passed, stub_at, AllGo, AreUsed, HasSpare, IsLaidOut, ReachesAt, target_place, Goes}
+use Rattle.linker_output.specs.Inner.Placement.{AreServed, AreStubsOf, ArePlaces, IsServedBy, IsState, IsStubOf, IsWay, way_at}
+use Rattle.linker_output.proofs.Near.{near_reached}
 
-goes_by : (code : Code) (layout : Layout) (branch : Branch) (way : Way) → length layout.places.items ≡ length layout.stubs.items
-    → IsWay code layout.stubs.items branch way → IsServedBy code layout.before.items layout.places.items branch way
-    → ¬ ReachesAt code layout.before.items branch (target_place code layout.before.items branch.target) → Goes code layout branch (stub_of_way way)
-goes_by code layout branch Direct len is served far = absurd (far served)
-goes_by code layout branch (Far s) len is served far = (is.0, is.1, ⊎_elim (λ (f : s < length layout.places.items → ReachesAt code layout.before.items branch (at layout.places.items s)). f (let w = is.0 in omega arith)) (λ (t : ReachesAt code layout.before.items branch (target_place code layout.before.items branch.target)). absurd (far t)) served)
-goes_by code layout branch (Near s) len is served far = (is.0, is.1, ⊎_elim (λ (f : s < length layout.places.items → ReachesAt code layout.before.items branch (at layout.places.items s)). f (let w = is.0 in omega arith)) (λ (t : ReachesAt code layout.before.items branch (target_place code layout.before.items branch.target)). absurd (far t)) served)
+-- a branch with bytes to spare reaches its target
+pub spare_reaches : (code : Code) (before : List ℕ) (branch : Branch) → ((k : ℕ) → at before k ≤ most_bytes code)
+    → HasSpare code branch → ReachesAt code before branch (target_place code before branch.target)
+spare_reaches code before branch most spare =
+    let a = most (passed code.boundaries.now branch.offset) in
+    let b = most (passed code.boundaries.now (at code.targets.now branch.target)) in
+    record { forward = omega (arith, spare.forward); backward = omega (arith, spare.backward) }
 
-pub goes_all : (code : Code) (state : State) (layout : Layout) (stubs : List (Option ℕ)) → IsState code state → layout.stubs ≡ state.stubs
-    → ArePlaces code state layout.before.items layout.places.items → AreServed code layout.before.items layout.places.items state.ways.items (length code.branches.now) → AreStubsOf code layout.before.items state.ways.items stubs
-    → (i : ℕ) → i < length code.branches.now → Goes code layout (branch_at code.branches.now i) (slice_index_or stubs i None)
-goes_all code state layout stubs is same are served of i within =
-    let branch = branch_at code.branches.now i in
-    let way : IsWay code layout.stubs.items branch (way_at state.ways.items i) = subst (λ v. IsWay code v.items branch (way_at state.ways.items i)) (sym same) (is.way i within) in
-    let len : length layout.places.items ≡ length layout.stubs.items = are.len ∙ ap (λ v. length v.items) (sym same) in
+module _ (code : Code) (state : State) (layout : Layout) (is : IsState code state) (same : layout.stubs ≡ state.stubs)
+    (laid : IsLaidOut code.shape state.groups.items layout.before.items) (are : ArePlaces code state layout.before.items layout.places.items) where
+  one_place : length layout.places.items ≡ length layout.stubs.items
+  one_place = are.len ∙ ap (λ v. length v.items) (sym same)
+
+  goes_by : (i : ℕ) (way : Way) (stub : Option ℕ) → i < length code.branches.now → way_at state.ways.items i ≡ way → IsWay code layout.stubs.items (branch_at code.branches.now i) way
+      → IsServedBy code layout.before.items layout.places.items (branch_at code.branches.now i) way
+      → IsStubOf code layout.before.items (branch_at code.branches.now i) way stub → Goes code layout (branch_at code.branches.now i) stub
+  goes_by i Direct stub within here is_way served of = subst (Goes code layout (branch_at code.branches.now i)) (sym of) served
+  goes_by i (Near s) stub within here is_way served of =
+      let l = one_place in
+      let there = is_way.0 in
+      subst (Goes code layout (branch_at code.branches.now i)) (sym of)
+      (is_way.0, is_way.1, near_reached code state layout.before.items layout.places.items i s is laid are within here (omega arith))
+  goes_by i (Far s) stub within here is_way served of = ⊎_elim
+      (λ (none : (stub ≡ None) × ReachesAt code layout.before.items (branch_at code.branches.now i) (target_place code layout.before.items (branch_at code.branches.now i).target)).
+      subst (Goes code layout (branch_at code.branches.now i)) (sym none.0) none.1)
+      (λ (some : (stub ≡ Some s) × ¬ ReachesAt code layout.before.items (branch_at code.branches.now i) (target_place code layout.before.items (branch_at code.branches.now i).target)).
+      let l = one_place in
+      let there = is_way.0 in
+      subst (Goes code layout (branch_at code.branches.now i)) (sym some.0) (
+        is_way.0,
+        is_way.1,
+        ⊎_elim
+            (λ (f : s < length layout.places.items → ReachesAt code layout.before.items (branch_at code.branches.now i) (at layout.places.items s)). f (omega arith))
+            (λ (t : ReachesAt code layout.before.items (branch_at code.branches.now i) (target_place code layout.before.items (branch_at code.branches.now i).target)). absurd (some.1 t))
+            served,
+      ))
+      of
+
+  way_of : (i : ℕ) → i < length code.branches.now → IsWay code layout.stubs.items (branch_at code.branches.now i) (way_at state.ways.items i)
+  way_of i within = subst (λ v. IsWay code v.items (branch_at code.branches.now i) (way_at state.ways.items i)) (sym same) (is.way i within)
+
+  pub goes_all : (stubs : List (Option ℕ)) → AreServed code layout.before.items layout.places.items state.ways.items (length code.branches.now) → AreStubsOf code layout.before.items state.ways.items stubs
+      → (i : ℕ) → i < length code.branches.now → Goes code layout (branch_at code.branches.now i) (slice_index_or stubs i None)
+  goes_all stubs served of i within =
+      let l = of.len in
+      goes_by i (way_at state.ways.items i) (slice_index_or stubs i None) within refl (way_of i within) (served i within) (of.each i (omega arith))
+
+  -- those that are served go somewhere
+  go_by : (branch : Branch) (s : ℕ) → s < length layout.stubs.items → (stub_at layout.stubs.items s).target ≡ branch.target
+      → (s < length layout.places.items → ReachesAt code layout.before.items branch (at layout.places.items s)) ⊎ ReachesAt code layout.before.items branch (target_place code layout.before.items branch.target)
+      → (stub : Option ℕ) × Goes code layout branch stub
+  go_by branch s there target served =
+      let l = one_place in
+      ⊎_elim
+      (λ (f : s < length layout.places.items → ReachesAt code layout.before.items branch (at layout.places.items s)). (Some s, (there, target, f (omega arith))))
+      (λ (t : ReachesAt code layout.before.items branch (target_place code layout.before.items branch.target)). (None, t))
+      served
+
+  somewhere : (branch : Branch) (way : Way) → IsWay code layout.stubs.items branch way → IsServedBy code layout.before.items layout.places.items branch way
+      → (stub : Option ℕ) × Goes code layout branch stub
+  somewhere branch Direct is_way served = (None, served)
+  somewhere branch (Near s) is_way served = go_by branch s is_way.0 is_way.1 served
+  somewhere branch (Far s) is_way served = go_by branch s is_way.0 is_way.1 served
+
+  pub all_go : (limit : ℕ) → limit ≤ length code.branches.now → AreServed code layout.before.items layout.places.items state.ways.items limit → AllGo code layout limit
+  all_go limit most served i below = somewhere (branch_at code.branches.now i) (way_at state.ways.items i) (way_of i (omega arith)) (served i below)
+
+-- ---- what holds of the stubs
+
+spare_none : (code : Code) (before : List ℕ) (branch : Branch) (way : Way) (stub : Option ℕ) → way ≡ Direct → IsStubOf code before branch way stub → stub ≡ None
+spare_none code before branch way stub e of = subst (λ w. IsStubOf code before branch w stub) e of
+
+pub spared_all : (code : Code) (state : State) (before : List ℕ) (stubs : List (Option ℕ)) → IsState code state → AreStubsOf code before state.ways.items stubs
+    → (i : ℕ) → i < length code.branches.now → HasSpare code (branch_at code.branches.now i) → slice_index_or stubs i None ≡ None
+spared_all code state before stubs is of i within spare =
     let l = of.len in
-    ⊎_elim
-    (λ (none : (slice_index_or stubs i None ≡ None) × ReachesAt code layout.before.items branch (target_place code layout.before.items branch.target)). subst (Goes code layout branch) (sym none.0) (none.1))
-    (λ (some : (slice_index_or stubs i None ≡ stub_of_way (way_at state.ways.items i)) × ¬ ReachesAt code layout.before.items branch (target_place code layout.before.items branch.target)).
-    subst (Goes code layout branch) (sym some.0) (goes_by code layout branch (way_at state.ways.items i) len way (served i within) some.1))
-    (of.each i (omega arith))
+    spare_none code before (branch_at code.branches.now i) (way_at state.ways.items i) (slice_index_or stubs i None) (is.spared i within spare) (of.each i (omega arith))
 
--- those that are served go somewhere
-go_by : (code : Code) (layout : Layout) (branch : Branch) (s : ℕ) → length layout.places.items ≡ length layout.stubs.items → s < length layout.stubs.items → (stub_at layout.stubs.items s).target ≡ branch.target
-    → (s < length layout.places.items → ReachesAt code layout.before.items branch (at layout.places.items s)) ⊎ ReachesAt code layout.before.items branch (target_place code layout.before.items branch.target)
-    → (stub : Option ℕ) × Goes code layout branch stub
-go_by code layout branch s len there target served = ⊎_elim
-    (λ (f : s < length layout.places.items → ReachesAt code layout.before.items branch (at layout.places.items s)). (Some s, (there, target, f (omega arith))))
-    (λ (t : ReachesAt code layout.before.items branch (target_place code layout.before.items branch.target)). (None, t))
-    served
+near_some : (code : Code) (before : List ℕ) (branch : Branch) (way : Way) (stub : Option ℕ) (s : ℕ) → way ≡ Near s → IsStubOf code before branch way stub → stub ≡ Some s
+near_some code before branch way stub s e of = subst (λ w. IsStubOf code before branch w stub) e of
 
-somewhere : (code : Code) (layout : Layout) (branch : Branch) (way : Way) → length layout.places.items ≡ length layout.stubs.items → IsWay code layout.stubs.items branch way
-    → IsServedBy code layout.before.items layout.places.items branch way → (stub : Option ℕ) × Goes code layout branch stub
-somewhere code layout branch Direct len is served = (None, served)
-somewhere code layout branch (Near s) len is served = go_by code layout branch s len is.0 is.1 served
-somewhere code layout branch (Far s) len is served = go_by code layout branch s len is.0 is.1 served
-
-pub all_go : (code : Code) (state : State) (layout : Layout) (limit : ℕ) → IsState code state → layout.stubs ≡ state.stubs → ArePlaces code state layout.before.items layout.places.items → limit ≤ length code.branches.now
-    → AreServed code layout.before.items layout.places.items state.ways.items limit → AllGo code layout limit
-all_go code state layout limit is same are most served i below =
-    somewhere code layout (branch_at code.branches.now i) (way_at state.ways.items i) (are.len ∙ ap (λ v. length v.items) (sym same))
-    (subst (λ v. IsWay code v.items (branch_at code.branches.now i) (way_at state.ways.items i)) (sym same) (is.way i (omega arith))) (served i below)
+-- where none are shared, each has a branch
+pub used_all : (code : Code) (state : State) (before : List ℕ) (stubs : List (Option ℕ)) → IsState code state → state.may_share ≡ false → AreStubsOf code before state.ways.items stubs
+    → AreUsed stubs (length state.stubs.items)
+used_all code state before stubs is alone of j within = ⊎_elim
+    (λ (shares : ((stub_at state.stubs.items j).part ≡ Middle) × (state.may_share ≡ true)). absurd (false≢true (sym alone ∙ shares.1)))
+    (λ (goes : (i : ℕ) × (i < length code.branches.now) × (way_at state.ways.items i ≡ Near j)).
+    let l = of.len in
+    let below = goes.1 in
+    (goes.0, omega arith, near_some code before (branch_at code.branches.now goes.0) (way_at state.ways.items goes.0) (slice_index_or stubs goes.0 None) j goes.2 (of.each goes.0 (omega arith))))
+    (is.owners j within)

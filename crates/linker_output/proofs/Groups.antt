@@ -1,5 +1,5 @@
 -- Bytes of the stubs at boundaries.
-use Rattle.std.proofs.Common.{◌≡◌, ◌+◌, ◌*◌, ◌<◌, ◌≤◌, ◌^◌, ◌∙◌, ℕ, zero, suc, arith, List, length, get_or, take, refl, ap, sym, add-one, ⊎_elim}
+use Rattle.std.proofs.Common.{◌≡◌, ◌+◌, ◌*◌, ◌<◌, ◌≤◌, ◌∙◌, ℕ, zero, suc, arith, List, length, get_or, take, refl, ap, sym, add-one, ⊎_elim}
 use Rattle.std.proofs.lemmas.Bool.{cases_lt}
 use Rattle.std.proofs.lemmas.List.{get_or_past}
 use Rattle.std.specs.List.{sum_by}
@@ -54,8 +54,8 @@ bytes_laid_out shape groups before len written = record {
   next = λ k h. (let a = written (k + 1) (omega arith) in let b = written k (omega arith) in let c = bytes_next shape groups k in omega arith);
 }
 
-pub bytes_fit : (shape : StubShape) (groups : List Group) (before : List ℕ) → 0 < shape.unit → shape.unit * length groups + shape.len * sum_by stubs_in groups < 2 ^ 62 → length before ≡ length groups + 1 → ((k : ℕ) → k < length groups + 1 → get_or before k 0 ≡ bytes_before shape groups k) → (k : ℕ) → get_or before k 0 < 2 ^ 62
-bytes_fit shape groups before unit fits len written k = ⊎_elim
+pub bytes_fit : (shape : StubShape) (groups : List Group) (before : List ℕ) → 0 < shape.unit → length before ≡ length groups + 1 → ((k : ℕ) → k < length groups + 1 → get_or before k 0 ≡ bytes_before shape groups k) → (k : ℕ) → get_or before k 0 ≤ shape.unit * length groups + shape.len * sum_by stubs_in groups
+bytes_fit shape groups before unit len written k = ⊎_elim
     (λ (inside : k < length groups + 1). let a = written k inside in let b = bytes_bound shape groups k unit (omega arith) in omega arith)
     (λ (past : length groups + 1 ≤ k). let e = get_or_past before k 0 (omega arith) in omega arith)
     (cases_lt k (length groups + 1))

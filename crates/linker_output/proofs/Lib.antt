@@ -3,6 +3,7 @@ pub mod AArch64StubLaws
 pub mod Adding
 pub mod Apart
 pub mod Bounds
+pub mod Finding
 pub mod Going
 pub mod Groups
 pub mod JoinedFlags

@@ -9,7 +9,7 @@ use Rattle.linker_output.specs.declared.placement.Part.TheVariants.{Front, Middl
 use Rattle.linker_output.specs.declared.placement.State.{State}
 use Rattle.linker_output.specs.declared.placement.StubAt.{StubAt}
 use Rattle.linker_output.specs.declared.placement.Way.TheVariants.{Near}
-use Rattle.linker_output.specs.Placement.{at, group_at, branch_at, stub_at, stubs_in, place_in, place_of, start_of, end_of, HasPart, ReachesAt, IsLaidOut}
+use Rattle.linker_output.specs.Placement.{passed, at, group_at, branch_at, stub_at, stubs_in, place_in, place_of, start_of, end_of, HasPart, ReachesAt, IsLaidOut}
 use Rattle.linker_output.specs.Inner.Placement.{IsState, IsWay, IsNear, IsNearIn, ArePlaces, IsServedBy, SameStubs, way_at}
 use Rattle.linker_output.proofs.Bounds.{part_most}
 use Rattle.linker_output.proofs.Groups.{size_least}
@@ -55,11 +55,38 @@ places_kept code old new before places same are = record {
 pub laid_kept : (code : Code) (old new : State) (before : List ℕ) → SameStubs old new → IsLaidOut code.shape old.groups.items before → IsLaidOut code.shape new.groups.items before
 laid_kept code old new before same laid = subst (λ g. IsLaidOut code.shape g.items before) (sym same.groups) laid
 
+-- A branch that goes by a stub next to it reaches that.
+pub near_reached : (code : Code) (state : State) (before places : List ℕ) (i s : ℕ) → IsState code state → IsLaidOut code.shape state.groups.items before → ArePlaces code state before places → i < length code.branches.now
+    → way_at state.ways.items i ≡ Near s → s < length places → ReachesAt code before (branch_at code.branches.now i) (at places s)
+near_reached code state before places i s is laid are within e h =
+    let way : IsWay code state.stubs.items (branch_at code.branches.now i) (Near s) = subst (IsWay code state.stubs.items (branch_at code.branches.now i)) e (is.way i within) in
+    let reached = near_reaches code state.groups.items before (branch_at code.branches.now i) (stub_at state.stubs.items s) laid is.groups (is.parts s (way.0)) (way.2) in
+    subst (ReachesAt code before (branch_at code.branches.now i)) (sym (are.each s h)) reached
+
 pub near_served : (code : Code) (state : State) (before places : List ℕ) (i s : ℕ) → IsState code state → IsLaidOut code.shape state.groups.items before → ArePlaces code state before places → i < length code.branches.now
     → way_at state.ways.items i ≡ Near s → IsServedBy code before places (branch_at code.branches.now i) (way_at state.ways.items i)
 near_served code state before places i s is laid are within e =
-    let way : IsWay code state.stubs.items (branch_at code.branches.now i) (Near s) = subst (IsWay code state.stubs.items (branch_at code.branches.now i)) e (is.way i within) in
-    let branch = branch_at code.branches.now i in
-    let reached = near_reaches code state.groups.items before branch (stub_at state.stubs.items s) laid is.groups (is.parts s (way.0)) (way.2) in
-    let reaches : s < length places → ReachesAt code before branch (at places s) = λ h. subst (ReachesAt code before branch) (sym (are.each s h)) reached in
-    subst (IsServedBy code before places branch) (sym e) (inl reaches)
+    subst (IsServedBy code before places (branch_at code.branches.now i)) (sym e) (inl (near_reached code state before places i s is laid are within e))
+
+-- A stub with a lower index in its part is nearer.
+pub nearer : (part : Part) (code : Code) (branch : Branch) (stub other : StubAt) → 0 < code.shape.len → stub.boundary ≡ other.boundary → stub.index ≤ other.index
+    → (other.boundary ≡ passed code.boundaries.now branch.offset → branch.offset < at code.boundaries.now other.boundary)
+    → (other.boundary < passed code.boundaries.now branch.offset → at code.boundaries.now other.boundary ≤ branch.offset)
+    → IsNearIn part code branch other → IsNearIn part code branch stub
+nearer Front code branch stub other some same less above below near =
+    let p = mul-le-mul_left code.shape.len less in
+    let r = near.1 in
+    let b = ap (at code.boundaries.now) same in
+    let a = above near.0 in
+    (same ∙ near.0, record { forward = omega (arith, r.forward); backward = omega arith })
+nearer Middle code branch stub other some same less above below near = absurd near
+nearer Back code branch stub other some same less above below near =
+    let more : stub.index + 1 ≤ other.index + 1 = omega arith in
+    let p = mul-le-mul_left code.shape.len more in
+    let one : 1 ≤ stub.index + 1 = omega arith in
+    let q = mul-le-mul_left code.shape.len one in
+    let r = near.1 in
+    let b = ap (at code.boundaries.now) same in
+    let l = near.0 in
+    let a = below (omega arith) in
+    (ap (λ n. n + 1) same ∙ near.0, record { forward = omega arith; backward = omega (arith, r.backward) })

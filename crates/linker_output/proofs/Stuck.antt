@@ -1,5 +1,5 @@
 -- A branch that reaches no boundary next to it reaches no boundary.
-use Rattle.std.proofs.Common.{◌≡◌, ◌+◌, ◌-◌, ◌*◌, ◌<◌, ◌≤◌, ℕ, arith, List, length, ap, sym, subst, ⊎_elim}
+use Rattle.std.proofs.Common.{◌≡◌, ◌+◌, ◌-◌, ◌*◌, ◌<◌, ◌≤◌, ℕ, arith, List, length, refl, ap, sym, subst, ⊎_elim}
 use Rattle.std.specs.Prelude.{◌⊎◌, nat_le}
 use Rattle.std.proofs.Math.Nat.{mul-le-mul_left}
 use Rattle.std.proofs.lemmas.Bool.{cases_lt, cases_order}
@@ -12,9 +12,10 @@ use Rattle.linker_output.specs.declared.placement.Part.{Part}
 use Rattle.linker_output.specs.declared.placement.Part.TheVariants.{Front, Middle, Back}
 use Rattle.linker_output.specs.declared.placement.State.{State}
 use Rattle.linker_output.specs.declared.placement.StubAt.{StubAt}
-use Rattle.linker_output.specs.Placement.{Reaches, at, branch_at, group_at, stub_at, stubs_in, passed, moved, place_in, place_of, start_of, end_of, HasPart, part_of, ReachesAt, IsLaidOut, IsLayout, IsStuck, IsCode}
+use Rattle.linker_output.specs.Placement.{Reaches, at, branch_at, group_at, stub_at, stubs_in, passed, moved, place_in, place_of, start_of, end_of, HasPart, part_of, ReachesAt, IsCode, IsLaidOut, IsLayout, IsStuck}
 use Rattle.linker_output.specs.Inner.Placement.{IsState, IsNear, IsNearIn, IsStuckIn}
 use Rattle.linker_output.proofs.Apart.{fits_at, ends_before, inside_in}
+use Rattle.linker_output.proofs.Finding.{no_near}
 use Rattle.linker_output.proofs.Passed.{true_le, false_lt}
 
 -- what is out of reach ahead, and what is farther
@@ -204,14 +205,14 @@ stuck code state layout i is_code is are stubs groups out =
       subst (λ g. passed code.boundaries.now branch.offset < length code.boundaries.now
           → ¬ Reaches branch.max_backward branch.max_forward branch.offset
           (at code.boundaries.now (passed code.boundaries.now branch.offset)
-          + code.shape.len * (group_at g.items (passed code.boundaries.now branch.offset)).front)) (sym groups) out.unreached.ahead,
+          + code.shape.len * (group_at g.items (passed code.boundaries.now branch.offset)).front)) (sym groups) (λ h reached. (out.out.0 h).new (refl, reached)),
       subst (λ g. (b : ℕ) → b + 1 ≡ passed code.boundaries.now branch.offset
           → ¬ Reaches branch.max_backward branch.max_forward
           (branch.offset + code.shape.len * ((group_at g.items b).back + 1))
-          (at code.boundaries.now b)) (sym groups) out.unreached.behind,
+          (at code.boundaries.now b)) (sym groups) (λ b e reached. (out.out.1 b e).new (e, reached)),
     ) in
     let none : (j : ℕ) → j < length layout.stubs.items → (stub_at layout.stubs.items j).target ≡ branch.target → ¬ IsNear code branch (stub_at layout.stubs.items j) =
-    subst (λ v. (j : ℕ) → j < length v.items → (stub_at v.items j).target ≡ branch.target → ¬ IsNear code branch (stub_at v.items j)) (sym stubs) out.none in
+    subst (λ v. (j : ℕ) → j < length v.items → (stub_at v.items j).target ≡ branch.target → ¬ IsNear code branch (stub_at v.items j)) (sym stubs) (no_near code state branch out.out.0 out.out.1 is) in
     record {
       target = out.lost.target;
       stubs = λ j h e. subst (λ x. ¬ ReachesAt code layout.before.items branch x) (sym (are.places j h)) (stub_out code layout.groups.items layout.before.items branch is_code are.laid_out are.boundaries unreached (stub_at layout.stubs.items j) (are.stubs j h) (none j h e));

@@ -177,6 +177,10 @@ pub record IsLayout (code : Code) (layout : Layout) : Type 0 where
       → (at layout.places.items i + code.shape.len ≤ at layout.places.items j)
       ⊎ (at layout.places.items j + code.shape.len ≤ at layout.places.items i)
 
+-- two stubs aren't of the same target in the same part of a boundary
+abbrev pub AreOfTwo : StubAt → StubAt → Type 0
+AreOfTwo s t = s.boundary ≡ t.boundary → s.part ≡ t.part → s.target ≢ t.target
+
 -- a branch reaches its target, or the stub of it that it goes by
 abbrev pub Goes : Code → Layout → Branch → Option ℕ → Type 0
 Goes code layout branch None =
@@ -192,6 +196,20 @@ StubReaches code layout j =
     Reaches code.shape.max_backward code.shape.max_forward (at layout.places.items j)
     (target_place code layout.before.items (stub_at layout.stubs.items j).target)
 
+-- A branch reaches its target also with the bytes of all stubs that there may be in between.
+pub record HasSpare (code : Code) (branch : Branch) : Type 0 where
+  pub forward : at code.targets.now branch.target + most_bytes code
+      < branch.offset + branch.max_forward
+  pub backward : branch.offset + most_bytes code
+      ≤ at code.targets.now branch.target + branch.max_backward
+
+-- a branch goes by each of the stubs
+abbrev pub AreUsed : List (Option ℕ) → ℕ → Type 0
+AreUsed stubs len = (j : ℕ) → j < len
+    → (i : ℕ) × (i < length stubs) × (slice_index_or stubs i None ≡ Some j)
+
+-- Each branch and each stub reaches where it goes. A stub is shared: its target has no other one in
+-- the same part of the boundary, and a branch goes by it. A branch with bytes to spare goes by none.
 pub record IsPlaced (code : Code) (placement : Placement) : Type 0 where
   pub is_code : IsCode code
   pub layout : IsLayout code placement.layout
@@ -201,6 +219,12 @@ pub record IsPlaced (code : Code) (placement : Placement) : Type 0 where
       (slice_index_or placement.stubs.items i None)
   pub stubs_reach : (j : ℕ) → j < length placement.layout.stubs.items
       → StubReaches code placement.layout j
+  pub shared : (i j : ℕ) → i < j → j < length placement.layout.stubs.items
+      → AreOfTwo (stub_at placement.layout.stubs.items i) (stub_at placement.layout.stubs.items j)
+  pub used : AreUsed placement.stubs.items (length placement.layout.stubs.items)
+  pub spared : (i : ℕ) → i < length code.branches.now
+      → HasSpare code (branch_at code.branches.now i)
+      → slice_index_or placement.stubs.items i None ≡ None
 
 -- ---- errors
 

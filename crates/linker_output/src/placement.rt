@@ -7,7 +7,8 @@
 //! the nearest boundary stays where it is as seen from its branch, however many stubs are added.
 
 ghost use Rattle.std.specs.Prelude.{◌≡◌, ◌+◌, ◌*◌, ◌<◌, ◌≤◌, ◌^◌, ℕ, length, IfOk, IfErr, vec_len};
-ghost use Rattle.linker_output.specs.Placement.{at, IsPlaced, IsPlaceCause, IsCode};
+ghost use Rattle.std.specs.Prelude.{true, false};
+ghost use Rattle.linker_output.specs.Placement.{at, AreUsed, IsCode, IsPlaced, IsPlaceCause};
 ghost use Rattle.linker_output.specs.Inner.Placement.{IsState, AreStubsOf};
 ghost use Rattle.linker_output.specs.declared.placement.Way.TheVariants.{Near, Far};
 
@@ -127,7 +128,7 @@ pub struct Layout {
 pub struct Placement {
     /// The stubs.
     pub layout: Layout,
-    /// For each branch the index of the stub that it goes by, or none if it reaches its target.
+    /// For each branch the index of the stub that it goes by, or none if it goes to its target.
     pub stubs: Vec<Option<usize>>,
 }
 
@@ -138,7 +139,7 @@ pub enum PlaceError {
     OutOfMemory,
     /// A stub has no bytes, or the unit is 0.
     NoLength,
-    /// The boundary behind the one at an index is below it.
+    /// The boundary after the one at an index is below it.
     NotAscending(usize),
     /// The target of the branch at an index isn't in the table.
     NoTarget(usize),
@@ -174,6 +175,13 @@ struct State {
     ways: Vec<Way>,
     /// For each target the stub that was used last.
     last: Vec<usize>,
+    /// The lists in which stubs are found by boundary and target: for each the last stub of it and
+    /// one, or 0.
+    heads: Vec<usize>,
+    /// For each stub the one before it in its list and one, or 0.
+    nexts: Vec<usize>,
+    /// Whether stubs may be placed at boundaries that aren't next to a branch.
+    may_share: bool,
 }
 
 /// What offsets and the bytes of stubs are below.
@@ -209,8 +217,9 @@ enum Sweep {
 
 impl State {
     /// No stubs, where each branch goes to its target.
-    fn new(alloc: Global, code: &Code<'_>) -> Result<State, OutOfMemory>
-        ensures { IfOk result (λ state. IsState code.now state) }
+    fn new(alloc: Global, code: &Code<'_>, may_share: bool) -> Result<State, OutOfMemory>
+        ensures state { IfOk result (λ state. IsState code.now state) }
+        ensures may_share { IfOk result (λ state. state.may_share ≡ may_share) }
     {
         let none = Group {
             front: 0,
@@ -222,6 +231,9 @@ impl State {
             groups: vec![in alloc; none; code.boundaries.len()]?,
             ways: vec![in alloc; Way::Direct; code.branches.len()]?,
             last: vec![in alloc; usize::MAX; code.targets.len()]?,
+            heads: vec![in alloc; 0; code.branches.len()]?,
+            nexts: Vec::new(alloc),
+            may_share,
         })
     }
 
@@ -241,16 +253,42 @@ impl State {
     {
         let mut stubs = Vec::with_capacity(alloc, code.branches.len())?;
         for index in 0..code.branches.len() {
-            let branch = code.branches[index];
-            let target = code.moved(before, code.targets[branch.target]);
-            stubs.push(if code.reaches_at(before, &branch, target) {
-                None
-            } else {
-                self.ways[index].stub()
+            stubs.push(match self.ways[index] {
+                Way::Direct => None,
+                Way::Near(stub) => Some(stub),
+                Way::Far(stub) => {
+                    let branch = code.branches[index];
+                    let target = code.moved(before, code.targets[branch.target]);
+                    if code.reaches_at(before, &branch, target) {
+                        None
+                    } else {
+                        Some(stub)
+                    }
+                }
             })?;
         }
         Ok(stubs)
     }
+}
+
+/// Whether a branch goes by each stub, of which there are so many.
+fn are_used(alloc: Global, stubs: &[Option<usize>], len: usize) -> Result<bool, OutOfMemory>
+    ensures { IfOk result (λ used. used ≡ true → AreUsed stubs.now len) }
+{
+    let mut used = vec![in alloc; false; len]?;
+    for stub in stubs {
+        if let Some(index) = *stub
+            && index < len
+        {
+            used[index] = true;
+        }
+    }
+    for index in 0..len {
+        if !used[index] {
+            return Ok(false);
+        }
+    }
+    Ok(true)
 }
 
 /// One number more than so many, each 0.
@@ -261,16 +299,54 @@ fn zeros(alloc: Global, len: usize) -> Result<Vec<u64>, OutOfMemory>
     Ok(vec![in alloc; 0; len + 1]?)
 }
 
+/// Places stubs at boundaries, and returns by which one each branch goes. Where branches may share
+/// stubs that aren't at a boundary next to them, a stub may be left that no branch goes by.
+fn place_by(alloc: Global, code: &Code<'_>, may_share: bool) -> Result<Placement, PlaceError>
+    requires { IsCode code.now }
+    ensures ok { IfOk result (λ placement.
+        AreUsed placement.stubs.items (length placement.layout.stubs.items)
+        → IsPlaced code.now placement) }
+    ensures few { IfOk result (λ placement. length placement.layout.stubs.items
+        ≤ 2 * length code.now.branches.now) }
+    ensures used { may_share ≡ false
+        → IfOk result (λ placement. AreUsed placement.stubs.items
+        (length placement.layout.stubs.items)) }
+    ensures err { IfErr result (IsPlaceCause code.now) }
+{
+    let mut state = State::new(alloc, code, may_share)?;
+    let mut before = zeros(alloc, code.boundaries.len())?;
+    let mut places = Vec::new(alloc);
+    let stuck = state.settle(code, &mut before, &mut places)?;
+    let stubs = state.stubs_of(alloc, code, &before)?;
+    let layout = Layout {
+        stubs: state.stubs,
+        places,
+        groups: state.groups,
+        before,
+    };
+    match stuck {
+        Some(index) => Err(PlaceError::NoBoundary(index, layout)),
+        None => match layout.first_short(code) {
+            Some(index) => Err(PlaceError::StubTooFar(index, layout)),
+            None => Ok(Placement { layout, stubs }),
+        },
+    }
+}
+
 /// Places stubs at boundaries, so that each branch reaches its target or a stub of it, and returns
 /// the layout and by which stub each branch goes. An error is the first that applies of `NoLength`,
 /// `NotAscending`, `NoTarget`, `TooLong`, `OutOfMemory`, `NoBoundary` and `StubTooFar`, with the first
 /// index of it. One that is about a layout has it.
 ///
-/// A branch that doesn't reach its target shares the stub of it that was placed last, if that is in
+/// A branch that doesn't reach its target shares the stub of it that was used last, if that is in
 /// reach. Else a stub is placed for it within half of its reach ahead, or at the boundary next to
-/// it. Offsets move by the stubs before them, so that this is done again until each branch is in
-/// reach. A pass takes O((n + s) log b) for n branches, s stubs and b boundaries, and there are a
-/// few. Only where no new stub next to a branch is in its reach are all stubs searched.
+/// it, unless the target has one there. Each stub has a branch that goes by it, and a branch goes by
+/// none that reaches its target with the bytes of all stubs that there may be in between.
+///
+/// Offsets move by the stubs before them, so that this is done again until each branch is in reach.
+/// A pass takes O((n + s) log b) for n branches, s stubs and b boundaries, and there are a few.
+/// Where no branch goes by a stub any more, all stubs are placed once more, and only at boundaries
+/// next to branches.
 ///
 /// It allocates arrays of as many elements as there are branches, targets, boundaries and stubs.
 ///
@@ -294,22 +370,10 @@ pub fn place_stubs(alloc: Global, code: &Code<'_>) -> Result<Placement, PlaceErr
     ensures err { IfErr result (IsPlaceCause code.now) }
 {
     code.check()?;
-    let mut state = State::new(alloc, code)?;
-    let mut before = zeros(alloc, code.boundaries.len())?;
-    let mut places = Vec::new(alloc);
-    let stuck = state.settle(code, &mut before, &mut places)?;
-    let stubs = state.stubs_of(alloc, code, &before)?;
-    let layout = Layout {
-        stubs: state.stubs,
-        places,
-        groups: state.groups,
-        before,
-    };
-    match stuck {
-        Some(index) => Err(PlaceError::NoBoundary(index, layout)),
-        None => match layout.first_short(code) {
-            Some(index) => Err(PlaceError::StubTooFar(index, layout)),
-            None => Ok(Placement { layout, stubs }),
-        },
+    let placement = place_by(alloc, code, true)?;
+    if are_used(alloc, &placement.stubs, placement.layout.stubs.len())? {
+        Ok(placement)
+    } else {
+        place_by(alloc, code, false)
     }
 }

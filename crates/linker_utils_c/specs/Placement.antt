@@ -48,7 +48,7 @@ pub record AreStubs (layout : Layout) (before after : List PlacedStub) : Type 0 
       → placed_at after j ≡ placed_stub layout j
   pub others : (j : ℕ) → length layout.stubs.items ≤ j → placed_at after j ≡ placed_at before j
 
--- the stub that a branch goes by, or the largest number where it reaches its target
+-- the stub that a branch goes by, or the largest number where it goes to its target
 abbrev pub way_number : Option ℕ → ℕ
 way_number None = 2 ^ 64 - 1
 way_number (Some stub) = stub

@@ -127,7 +127,7 @@ pub struct Layout {
 pub struct Placement {
     /// The stubs.
     pub layout: Layout,
-    /// For each branch the index of the stub that it goes by, or none if it reaches its target.
+    /// For each branch the index of the stub that it goes by, or none if it goes to its target.
     pub stubs: Vec<Option<usize>>,
 }
 
@@ -138,7 +138,7 @@ pub enum PlaceError {
     OutOfMemory,
     /// A stub has no bytes, or the unit is 0.
     NoLength,
-    /// The boundary behind the one at an index is below it.
+    /// The boundary after the one at an index is below it.
     NotAscending(usize),
     /// The target of the branch at an index isn't in the table.
     NoTarget(usize),
@@ -169,6 +169,13 @@ struct State {
     ways: Vec<Way>,
     /// For each target the stub that was used last.
     last: Vec<usize>,
+    /// The lists in which stubs are found by boundary and target: for each the last stub of it and
+    /// one, or 0.
+    heads: Vec<usize>,
+    /// For each stub the one before it in its list and one, or 0.
+    nexts: Vec<usize>,
+    /// Whether stubs may be placed at boundaries that aren't next to a branch.
+    may_share: bool,
 }
 
 /// What offsets and the bytes of stubs are below.
@@ -204,7 +211,7 @@ enum Sweep {
 
 impl State {
     /// No stubs, where each branch goes to its target.
-    fn new(code: &Code<'_>) -> Result<State, OutOfMemory> {
+    fn new(code: &Code<'_>, may_share: bool) -> Result<State, OutOfMemory> {
         let none = Group {
             front: 0,
             middle: 0,
@@ -215,6 +222,9 @@ impl State {
             groups: try_vec![none; code.boundaries.len()]?,
             ways: try_vec![Way::Direct; code.branches.len()]?,
             last: try_vec![usize::MAX; code.targets.len()]?,
+            heads: try_vec![0; code.branches.len()]?,
+            nexts: Vec::new(),
+            may_share,
         })
     }
 
@@ -226,16 +236,40 @@ impl State {
     ) -> Result<Vec<Option<usize>>, OutOfMemory> {
         let mut stubs = Vec::fallible_with_capacity(code.branches.len())?;
         for index in 0..code.branches.len() {
-            let branch = code.branches[index];
-            let target = code.moved(before, code.targets[branch.target]);
-            stubs.fallible_push(if code.reaches_at(before, &branch, target) {
-                None
-            } else {
-                self.ways[index].stub()
+            stubs.fallible_push(match self.ways[index] {
+                Way::Direct => None,
+                Way::Near(stub) => Some(stub),
+                Way::Far(stub) => {
+                    let branch = code.branches[index];
+                    let target = code.moved(before, code.targets[branch.target]);
+                    if code.reaches_at(before, &branch, target) {
+                        None
+                    } else {
+                        Some(stub)
+                    }
+                }
             })?;
         }
         Ok(stubs)
     }
+}
+
+/// Whether a branch goes by each stub, of which there are so many.
+fn are_used(stubs: &[Option<usize>], len: usize) -> Result<bool, OutOfMemory> {
+    let mut used = try_vec![false; len]?;
+    for stub in stubs {
+        if let Some(index) = *stub
+            && index < len
+        {
+            used[index] = true;
+        }
+    }
+    for index in 0..len {
+        if !used[index] {
+            return Ok(false);
+        }
+    }
+    Ok(true)
 }
 
 /// One number more than so many, each 0.
@@ -243,16 +277,43 @@ fn zeros(len: usize) -> Result<Vec<u64>, OutOfMemory> {
     Ok(try_vec![0; len + 1]?)
 }
 
+/// Places stubs at boundaries, and returns by which one each branch goes. Where branches may share
+/// stubs that aren't at a boundary next to them, a stub may be left that no branch goes by.
+fn place_by(code: &Code<'_>, may_share: bool) -> Result<Placement, PlaceError> {
+    let mut state = State::new(code, may_share)?;
+    let mut before = zeros(code.boundaries.len())?;
+    let mut places = Vec::new();
+    let stuck = state.settle(code, &mut before, &mut places)?;
+    let stubs = state.stubs_of(code, &before)?;
+    let layout = Layout {
+        stubs: state.stubs,
+        places,
+        groups: state.groups,
+        before,
+    };
+    match stuck {
+        Some(index) => Err(PlaceError::NoBoundary(index, layout)),
+        None => match layout.first_short(code) {
+            Some(index) => Err(PlaceError::StubTooFar(index, layout)),
+            None => Ok(Placement { layout, stubs }),
+        },
+    }
+}
+
 /// Places stubs at boundaries, so that each branch reaches its target or a stub of it, and returns
 /// the layout and by which stub each branch goes. An error is the first that applies of `NoLength`,
 /// `NotAscending`, `NoTarget`, `TooLong`, `OutOfMemory`, `NoBoundary` and `StubTooFar`, with the first
 /// index of it. One that is about a layout has it.
 ///
-/// A branch that doesn't reach its target shares the stub of it that was placed last, if that is in
+/// A branch that doesn't reach its target shares the stub of it that was used last, if that is in
 /// reach. Else a stub is placed for it within half of its reach ahead, or at the boundary next to
-/// it. Offsets move by the stubs before them, so that this is done again until each branch is in
-/// reach. A pass takes O((n + s) log b) for n branches, s stubs and b boundaries, and there are a
-/// few. Only where no new stub next to a branch is in its reach are all stubs searched.
+/// it, unless the target has one there. Each stub has a branch that goes by it, and a branch goes by
+/// none that reaches its target with the bytes of all stubs that there may be in between.
+///
+/// Offsets move by the stubs before them, so that this is done again until each branch is in reach.
+/// A pass takes O((n + s) log b) for n branches, s stubs and b boundaries, and there are a few.
+/// Where no branch goes by a stub any more, all stubs are placed once more, and only at boundaries
+/// next to branches.
 ///
 /// It allocates arrays of as many elements as there are branches, targets, boundaries and stubs.
 ///
@@ -271,22 +332,10 @@ fn zeros(len: usize) -> Result<Vec<u64>, OutOfMemory> {
 /// ```
 pub fn place_stubs(code: &Code<'_>) -> Result<Placement, PlaceError> {
     code.check()?;
-    let mut state = State::new(code)?;
-    let mut before = zeros(code.boundaries.len())?;
-    let mut places = Vec::new();
-    let stuck = state.settle(code, &mut before, &mut places)?;
-    let stubs = state.stubs_of(code, &before)?;
-    let layout = Layout {
-        stubs: state.stubs,
-        places,
-        groups: state.groups,
-        before,
-    };
-    match stuck {
-        Some(index) => Err(PlaceError::NoBoundary(index, layout)),
-        None => match layout.first_short(code) {
-            Some(index) => Err(PlaceError::StubTooFar(index, layout)),
-            None => Ok(Placement { layout, stubs }),
-        },
+    let placement = place_by(code, true)?;
+    if are_used(&placement.stubs, placement.layout.stubs.len())? {
+        Ok(placement)
+    } else {
+        place_by(code, false)
     }
 }

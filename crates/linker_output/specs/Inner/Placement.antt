@@ -1,11 +1,12 @@
 -- What holds while stubs are placed.
-use Rattle.std.specs.Prelude.{◌≡◌, ◌≤◌, ◌<◌, ◌+◌, ◌-◌, ◌*◌, ◌⊎◌, ℕ, zero, suc, List, length}
-use Rattle.std.specs.Prelude.{slice_index_or, ⊤}
+use Rattle.std.specs.Prelude.{◌≡◌, ◌≤◌, ◌<◌, ◌+◌, ◌*◌, ◌%◌, ◌⊎◌, ℕ, zero, suc, List, length}
+use Rattle.std.specs.Prelude.{slice_index_or, true, ⊤}
 use Rattle.std.specs.Prelude.{Option, Some, None}
 use Rattle.std.specs.List.{sum_by}
 use Rattle.linker_output.specs.Placement.{Reaches, at, branch_at, stub_at, group_at}
 use Rattle.linker_output.specs.Placement.{passed, stubs_in, size_of, place_of}
 use Rattle.linker_output.specs.Placement.{part_of, HasPart, AreTwo, ReachesAt, target_place}
+use Rattle.linker_output.specs.Placement.{AreOfTwo, HasSpare}
 use Rattle.linker_output.specs.declared.placement.Branch.{Branch}
 use Rattle.linker_output.specs.declared.placement.Code.{Code}
 use Rattle.linker_output.specs.declared.placement.Group.{Group}
@@ -68,6 +69,32 @@ IsWay code stubs branch (Near s) =
     (s < length stubs) × ((stub_at stubs s).target ≡ branch.target)
     × IsNear code branch (stub_at stubs s)
 
+-- in which of so many lists the stubs of a target at a boundary are
+unfoldable pub list_of : ℕ → ℕ → ℕ → ℕ
+list_of lists boundary target = (boundary % 0x9e3779b1 * 0x9e3779b1 + target % 0x9e3779b1) % lists
+
+abbrev pub list_at : ℕ → List StubAt → ℕ → ℕ
+list_at lists stubs j = list_of lists (stub_at stubs j).boundary (stub_at stubs j).target
+
+-- A stub is one that branches share, or a branch goes by it for good.
+abbrev pub HasOwner : Code → State → ℕ → Type 0
+HasOwner code state j =
+    ((stub_at state.stubs.items j).part ≡ Middle × (state.may_share ≡ true))
+    ⊎ ((i : ℕ) × (i < length code.branches.now) × (way_at state.ways.items i ≡ Near j))
+
+-- Each list has all its stubs: its head is the last one, and each is followed by the one before it.
+pub record AreLists (lists : ℕ) (stubs : List StubAt) (heads nexts : List ℕ) : Type 0 where
+  pub one_each : length heads ≡ lists
+  pub one_next : length nexts ≡ length stubs
+  pub within : (l : ℕ) → at heads l ≤ length stubs
+  pub lower : (j : ℕ) → j < length stubs → at nexts j ≤ j
+  pub first : (j : ℕ) → j < length stubs → j < at heads (list_at lists stubs j)
+  pub next : (i j : ℕ) → i < j → j < length stubs
+      → list_at lists stubs i ≡ list_at lists stubs j → i < at nexts j
+  pub first_is : (l j : ℕ) → at heads l ≡ j + 1 → list_at lists stubs j ≡ l
+  pub next_is : (i j : ℕ) → j < length stubs → at nexts j ≡ i + 1
+      → list_at lists stubs i ≡ list_at lists stubs j
+
 pub record IsState (code : Code) (state : State) : Type 0 where
   pub groups : length state.groups.items ≡ length code.boundaries.now
   pub ways : length state.ways.items ≡ length code.branches.now
@@ -80,6 +107,13 @@ pub record IsState (code : Code) (state : State) : Type 0 where
   pub few : length state.stubs.items ≤ sum_by level state.ways.items
   pub way : (i : ℕ) → i < length code.branches.now
       → IsWay code state.stubs.items (branch_at code.branches.now i) (way_at state.ways.items i)
+  pub lists : AreLists (length code.branches.now) state.stubs.items state.heads.items
+      state.nexts.items
+  pub shared : (i j : ℕ) → i < j → j < length state.stubs.items
+      → AreOfTwo (stub_at state.stubs.items i) (stub_at state.stubs.items j)
+  pub owners : (j : ℕ) → j < length state.stubs.items → HasOwner code state j
+  pub spared : (i : ℕ) → i < length code.branches.now
+      → HasSpare code (branch_at code.branches.now i) → way_at state.ways.items i ≡ Direct
 
 -- where each stub is
 pub record ArePlaces (code : Code) (state : State) (before places : List ℕ) : Type 0 where
@@ -110,6 +144,20 @@ pub record IsLostBy (code : Code) (before places : List ℕ) (branch : Branch) (
   pub target : ¬ ReachesAt code before branch (target_place code before branch.target)
   pub stub : IsOutOf code before places branch way
 
+-- a stub is of a target in a part of a boundary
+pub record IsStubAt (stub : StubAt) (boundary : ℕ) (part : Part) (target : ℕ) : Type 0 where
+  pub at_boundary : stub.boundary ≡ boundary
+  pub in_part : stub.part ≡ part
+  pub of_target : stub.target ≡ target
+
+pub record IsAt (stubs : List StubAt) (boundary : ℕ) (part : Part) (target s : ℕ) : Type 0 where
+  pub within : s < length stubs
+  pub there : IsStubAt (stub_at stubs s) boundary part target
+
+-- there is none
+abbrev pub HasNoneAt : List StubAt → ℕ → Part → ℕ → Type 0
+HasNoneAt stubs boundary part target = (s : ℕ) → ¬ IsAt stubs boundary part target s
+
 -- a new stub would be near a branch, where it has to be
 abbrev pub IsNewNear : Code → State → ℕ → ℕ → Part → Type 0
 IsNewNear code state index boundary Middle = ⊤
@@ -122,11 +170,36 @@ IsNewNear code state index boundary part =
       target = (branch_at code.branches.now index).target;
     })
 
--- no stub of a branch's target is near it
-abbrev pub HasNoNear : Code → State → Branch → Type 0
-HasNoNear code state branch = (j : ℕ) → j < length state.stubs.items
-    → (stub_at state.stubs.items j).target ≡ branch.target
-    → ¬ IsNear code branch (stub_at state.stubs.items j)
+-- the stub that a branch would get in a part of a boundary
+abbrev pub new_stub : Code → State → Branch → ℕ → Part → StubAt
+new_stub code state branch boundary part =
+    record {
+      boundary = boundary;
+      part = part;
+      index = part_of part (group_at state.groups.items boundary);
+      target = branch.target;
+    }
+
+-- a branch is near no stub of its target in a part of a boundary, nor to a new one
+pub record IsOutThere (code : Code) (state : State) (branch : Branch) (boundary : ℕ) (part : Part)
+    : Type 0 where
+  pub old : (s : ℕ) → IsAt state.stubs.items boundary part branch.target s
+      → ¬ IsNear code branch (stub_at state.stubs.items s)
+  pub new : ¬ IsNear code branch (new_stub code state branch boundary part)
+
+-- at the next boundary ahead of it, and at the one before it
+abbrev pub IsOutAhead : Code → State → Branch → Type 0
+IsOutAhead code state branch =
+    passed code.boundaries.now branch.offset < length code.boundaries.now
+    → IsOutThere code state branch (passed code.boundaries.now branch.offset) Front
+
+abbrev pub IsOutBehind : Code → State → Branch → Type 0
+IsOutBehind code state branch =
+    (b : ℕ) → b + 1 ≡ passed code.boundaries.now branch.offset
+    → IsOutThere code state branch b Back
+
+abbrev pub IsOut : Code → State → Branch → Type 0
+IsOut code state branch = IsOutAhead code state branch × IsOutBehind code state branch
 
 -- how many bytes of stubs there are at boundaries before an index
 unfoldable pub bytes_before : StubShape → List Group → ℕ → ℕ
@@ -134,23 +207,12 @@ bytes_before shape groups zero = 0
 bytes_before shape groups (suc k) =
     bytes_before shape groups k + size_of shape (group_at groups k)
 
--- A new stub at neither boundary next to a branch would be in its reach.
-pub record IsUnreached (code : Code) (state : State) (branch : Branch) : Type 0 where
-  pub ahead : passed code.boundaries.now branch.offset < length code.boundaries.now
-      → ¬ Reaches branch.max_backward branch.max_forward branch.offset
-      (at code.boundaries.now (passed code.boundaries.now branch.offset)
-      + code.shape.len
-      * (group_at state.groups.items (passed code.boundaries.now branch.offset)).front)
-  pub behind : (b : ℕ) → b + 1 ≡ passed code.boundaries.now branch.offset
-      → ¬ Reaches branch.max_backward branch.max_forward
-      (branch.offset + code.shape.len * ((group_at state.groups.items b).back + 1))
-      (at code.boundaries.now b)
-
 -- what a sweep leaves but for the stubs used last
 pub record SameStubs (old new : State) : Type 0 where
   pub stubs : new.stubs ≡ old.stubs
   pub groups : new.groups ≡ old.groups
   pub ways : new.ways ≡ old.ways
+  pub may_share : new.may_share ≡ old.may_share
 
 -- the branches with an index below a limit reach what they go by
 abbrev pub AreServed : Code → List ℕ → List ℕ → List Way → ℕ → Type 0
@@ -161,8 +223,7 @@ AreServed code before places ways limit = (i : ℕ) → i < limit
 pub record IsStuckIn (code : Code) (before places : List ℕ) (state : State) (i : ℕ) : Type 0 where
   pub within : i < length code.branches.now
   pub lost : IsLostBy code before places (branch_at code.branches.now i) (way_at state.ways.items i)
-  pub unreached : IsUnreached code state (branch_at code.branches.now i)
-  pub none : HasNoNear code state (branch_at code.branches.now i)
+  pub out : IsOut code state (branch_at code.branches.now i)
 
 abbrev pub Swept : Code → List ℕ → List ℕ → State → State → Sweep → Type 0
 Swept code before places old new Settled =
@@ -173,16 +234,13 @@ Swept code before places old new (Stuck i) =
     SameStubs old new × IsStuckIn code before places new i
     × AreServed code before places new.ways.items i
 
-abbrev pub stub_of_way : Way → Option ℕ
-stub_of_way Direct = None
-stub_of_way (Far s) = Some s
-stub_of_way (Near s) = Some s
-
--- none of a branch that reaches its target, and of the others the stub by which they go
+-- A branch goes by a stub next to it. By another one it goes if it doesn't reach its target.
 abbrev pub IsStubOf : Code → List ℕ → Branch → Way → Option ℕ → Type 0
-IsStubOf code before branch way stub =
+IsStubOf code before branch Direct stub = stub ≡ None
+IsStubOf code before branch (Near s) stub = stub ≡ Some s
+IsStubOf code before branch (Far s) stub =
     ((stub ≡ None) × ReachesAt code before branch (target_place code before branch.target))
-    ⊎ ((stub ≡ stub_of_way way)
+    ⊎ ((stub ≡ Some s)
     × ¬ ReachesAt code before branch (target_place code before branch.target))
 
 pub record AreStubsOf (code : Code) (before : List ℕ) (ways : List Way) (stubs : List (Option ℕ))
@@ -191,13 +249,6 @@ pub record AreStubsOf (code : Code) (before : List ℕ) (ways : List Way) (stubs
   pub each : (i : ℕ) → i < length stubs
       → IsStubOf code before (branch_at code.branches.now i) (way_at ways i)
       (slice_index_or stubs i None)
-
-abbrev pub narrowed : Branch → ℕ → Branch
-narrowed branch margin =
-    record branch {
-      max_backward = branch.max_backward - margin;
-      max_forward = branch.max_forward - margin;
-    }
 
 -- what a sweep does at a branch
 abbrev pub Visited : Code → List ℕ → List ℕ → State → State → ℕ → Visit → Type 0

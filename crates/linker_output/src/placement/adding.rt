@@ -1,12 +1,13 @@
 //! Stubs that are added for branches, and those that branches share.
 
-ghost use Rattle.std.specs.Prelude.{◌≡◌, ◌≢◌, ◌+◌, ◌<◌, ◌^◌, ℕ, length, true, false, IfOk, IfSome};
-ghost use Rattle.std.specs.Prelude.{IfNone};
+ghost use Rattle.std.specs.Prelude.{◌≡◌, ◌+◌, ◌*◌, ◌<◌, ◌^◌, ℕ, length, true, false, IfOk, IfSome};
+ghost use Rattle.std.specs.Prelude.{◌↔◌, IfNone, IsTrue};
 ghost use Rattle.std.specs.List.{sum_by};
-ghost use Rattle.linker_output.specs.Placement.{passed, branch_at, at, part_of, IsCode};
-ghost use Rattle.linker_output.specs.Inner.Placement.{IsState, level, way_at, level_of};
-ghost use Rattle.linker_output.specs.Inner.Placement.{IsNewNear, IsWay, HasNoNear, with_one};
-ghost use Rattle.linker_output.specs.Inner.Placement.{new_way, IsUnreached, SameStubs};
+ghost use Rattle.linker_output.specs.Placement.{branch_at, at, part_of, stub_at, HasSpare, IsCode};
+ghost use Rattle.linker_output.specs.Inner.Placement.{IsState, level, way_at, level_of, IsAt};
+ghost use Rattle.linker_output.specs.Inner.Placement.{HasNoneAt, IsNewNear, IsOut, IsWay};
+ghost use Rattle.linker_output.specs.Inner.Placement.{IsOutAhead, IsOutBehind, IsOutThere, IsStubAt};
+ghost use Rattle.linker_output.specs.Inner.Placement.{list_of, new_stub, new_way, with_one, IsNear, SameStubs};
 ghost use Rattle.linker_output.specs.declared.placement.Way.TheVariants.{Near, Far};
 
 use super::laying::passed;
@@ -41,6 +42,16 @@ impl Group {
     }
 }
 
+impl StubAt {
+    /// Whether it is of a target in a part of a boundary.
+    #[inline(always)]
+    fn is_at(&self, boundary: usize, part: Part, target: usize) -> bool
+        ensures { IsTrue result ↔ IsStubAt self.now boundary part target }
+    {
+        self.boundary == boundary && self.target == target && self.part == part
+    }
+}
+
 impl Part {
     /// By what a branch goes for which there is a new stub of the part.
     #[inline(always)]
@@ -54,7 +65,39 @@ impl Part {
     }
 }
 
+/// What the indexes of boundaries are multiplied by, a prime, so that stubs are spread over the lists.
+const SPREAD: usize = 0x9e37_79b1;
+
+/// In which of so many lists the stubs of a target at a boundary are.
+#[inline(always)]
+fn list_of(lists: usize, boundary: usize, target: usize) -> usize
+    requires { 0 < lists }
+    ensures list { result ≡ list_of lists boundary target }
+    ensures within { result < lists }
+{
+    (boundary % SPREAD * SPREAD + target % SPREAD) % lists
+}
+
 impl State {
+    /// The stub of a target in a part of a boundary.
+    fn find(&self, code: &Code<'_>, boundary: usize, part: Part, target: usize) -> Option<usize>
+        requires state { IsState code.now self.now }
+        requires some { 0 < length code.now.branches.now }
+        ensures some { IfSome result (IsAt self.now.stubs.items boundary part target) }
+        ensures none { IfNone result (HasNoneAt self.now.stubs.items boundary part target) }
+    {
+        let list = list_of(self.heads.len(), boundary, target);
+        let mut above = self.heads[list];
+        while above > 0 {
+            let index = above - 1;
+            if self.stubs[index].is_at(boundary, part, target) {
+                return Some(index);
+            }
+            above = self.nexts[index];
+        }
+        None
+    }
+
     /// Adds a stub for a branch, and has the branch go by it.
     fn add(
         &mut self,
@@ -69,22 +112,27 @@ impl State {
         requires boundary { boundary < length code.now.boundaries.now }
         requires higher { level (way_at self.old.ways.items index) < level_of part }
         requires near { IsNewNear code.now self.old index boundary part }
+        requires new { HasNoneAt self.old.stubs.items boundary part
+            (branch_at code.now.branches.now index).target }
+        requires needed { ¬ HasSpare code.now (branch_at code.now.branches.now index) }
+        requires shared { self.old.may_share ≡ false → level_of part ≡ 2 }
         ensures state { IfOk result (λ _. IsState code.now self.new) }
         ensures higher { IfOk result
             (λ _. sum_by level self.old.ways.items < sum_by level self.new.ways.items) }
-        ensures others { IfOk result
-            (λ _. (k : ℕ) → k ≢ index
-            → way_at self.new.ways.items k ≡ way_at self.old.ways.items k) }
+        ensures may_share { IfOk result (λ _. self.new.may_share ≡ self.old.may_share) }
     {
         let target = code.branches[index].target;
         let stub = self.stubs.len();
         let group = self.groups[boundary];
+        let list = list_of(self.heads.len(), boundary, target);
         self.stubs.push(StubAt {
             boundary,
             part,
             index: group.stubs_of(part),
             target,
         })?;
+        self.nexts.push(self.heads[list])?;
+        self.heads[list] = stub + 1;
         self.groups[boundary] = group.with_one(part);
         self.ways[index] = part.way(stub);
         self.last[target] = stub;
@@ -98,34 +146,42 @@ impl State {
         requires way { IsWay code.now self.old.stubs.items
             (branch_at code.now.branches.now index) way }
         requires higher { level (way_at self.old.ways.items index) < level way }
+        requires needed { ¬ HasSpare code.now (branch_at code.now.branches.now index) }
         ensures state { IsState code.now self.new }
         ensures higher { sum_by level self.old.ways.items < sum_by level self.new.ways.items }
-        ensures others { (k : ℕ) → k ≢ index
-            → way_at self.new.ways.items k ≡ way_at self.old.ways.items k }
+        ensures may_share { self.new.may_share ≡ self.old.may_share }
     {
         self.ways[index] = way;
-    }
-
-    /// A stub at the boundary next to a branch, of its target and in its reach.
-    fn near_stub(&self, code: &Code<'_>, branch: &Branch) -> Option<usize>
-        requires code { IsCode code.now }
-        requires state { IsState code.now self.now }
-        requires offset { branch.now.offset < 2 ^ 62 }
-        ensures some { IfSome result
-            (λ s. IsWay code.now self.now.stubs.items branch.now (Near s)) }
-        ensures none { IfNone result (HasNoNear code.now self.now branch.now) }
-    {
-        for (index, stub) in self.stubs.iter().enumerate() {
-            if stub.target == branch.target && code.is_near(branch, stub) {
-                return Some(index);
-            }
-        }
-        None
     }
 }
 
 impl State {
-    /// The stub of a branch's target that was used last, if the branch reaches it by a layout.
+    /// Whether a branch reaches a stub by a layout.
+    fn reaches_stub(
+        &self,
+        code: &Code<'_>,
+        before: &[u64],
+        places: &[u64],
+        branch: &Branch,
+        stub: usize,
+    ) -> bool
+        requires code { IsCode code.now }
+        requires state { IsState code.now self.now }
+        requires one_more { length before.now ≡ length code.now.boundaries.now + 1 }
+        requires fits { (k : ℕ) → at before.now k < 2 ^ 62 }
+        requires offset { branch.now.offset < 2 ^ 62 }
+        requires stub { stub < length self.now.stubs.items }
+    {
+        // one that this sweep added has no place yet
+        let place = if stub < places.len() {
+            places[stub]
+        } else {
+            code.start_of(before, self.stubs[stub].boundary)
+        };
+        code.reaches_at(before, branch, place)
+    }
+
+    /// A stub of a branch's target that the branch reaches by a layout: that which was used last.
     fn shared(
         &self,
         code: &Code<'_>,
@@ -142,19 +198,12 @@ impl State {
         ensures { IfSome result
             (λ s. IsWay code.now self.now.stubs.items branch.now (Far s)) }
     {
-        let index = self.last[branch.target];
-        if index >= self.stubs.len() {
-            return None;
-        }
-        let stub = self.stubs[index];
-        // one that this sweep added has no place yet
-        let place = if index < places.len() {
-            places[index]
-        } else {
-            code.start_of(before, stub.boundary)
-        };
-        if stub.target == branch.target && code.reaches_at(before, branch, place) {
-            Some(index)
+        let stub = self.last[branch.target];
+        if stub < self.stubs.len()
+            && self.stubs[stub].target == branch.target
+            && self.reaches_stub(code, before, places, branch, stub)
+        {
+            Some(stub)
         } else {
             None
         }
@@ -176,66 +225,195 @@ impl State {
         }
     }
 
-    /// Adds a stub at a boundary next to a branch, if it is in reach there.
-    fn add_near(&mut self, code: &Code<'_>, index: usize) -> Result<bool, OutOfMemory>
+    /// Has a branch that went to its target go by a stub that it can share with branches farther
+    /// away, if there is one in its reach or can be.
+    fn go_far(
+        &mut self,
+        code: &Code<'_>,
+        before: &[u64],
+        places: &[u64],
+        index: usize,
+    ) -> Result<bool, OutOfMemory>
+        requires code { IsCode code.now }
+        requires state { IsState code.now self.old }
+        requires within { index < length code.now.branches.now }
+        requires one_more { length before.now ≡ length code.now.boundaries.now + 1 }
+        requires fits { (k : ℕ) → at before.now k < 2 ^ 62 }
+        requires needed { ¬ HasSpare code.now (branch_at code.now.branches.now index) }
+        ensures state { IfOk result (λ _. IsState code.now self.new) }
+        ensures higher { IfOk result (λ went. went ≡ true
+            → sum_by level self.old.ways.items < sum_by level self.new.ways.items) }
+        ensures same { IfOk result (λ went. went ≡ false → self.new ≡ self.old) }
+        ensures may_share { IfOk result (λ _. self.new.may_share ≡ self.old.may_share) }
+    {
+        let Way::Direct = self.ways[index] else {
+            return Ok(false);
+        };
+        let branch = code.branches[index];
+        if let Some(stub) = self.shared(code, before, places, &branch) {
+            self.take(code, index, Way::Far(stub));
+            return Ok(true);
+        }
+        let Some(boundary) = self.far_boundary(code, &branch) else {
+            return Ok(false);
+        };
+        match self.find(code, boundary, Part::Middle, branch.target) {
+            Some(stub) => {
+                let is_reached = self.reaches_stub(code, before, places, &branch, stub);
+                if !is_reached {
+                    return Ok(false);
+                }
+                self.take(code, index, Way::Far(stub));
+                Ok(true)
+            }
+            None => {
+                if !self.may_share {
+                    return Ok(false);
+                }
+                self.add(code, index, boundary, Part::Middle)?;
+                Ok(true)
+            }
+        }
+    }
+
+    /// Whether a stub is next to a branch and in its reach.
+    fn is_near(&self, code: &Code<'_>, branch: &Branch, stub: usize) -> bool
+        requires code { IsCode code.now }
+        requires state { IsState code.now self.now }
+        requires offset { branch.now.offset < 2 ^ 62 }
+        requires stub { stub < length self.now.stubs.items }
+        ensures { IsTrue result ↔ IsNear code.now branch.now (stub_at self.now.stubs.items stub) }
+    {
+        code.is_near(branch, &self.stubs[stub])
+    }
+
+    /// The stub that a branch would get in a part of a boundary.
+    fn new_stub(&self, code: &Code<'_>, branch: &Branch, boundary: usize, part: Part) -> StubAt
+        requires code { IsCode code.now }
+        requires state { IsState code.now self.now }
+        requires boundary { boundary < length code.now.boundaries.now }
+        ensures stub { result ≡ new_stub code.now self.now branch.now boundary part }
+        ensures fits { code.now.shape.len * (result.index + 1) < 2 ^ 62 }
+    {
+        let group = self.groups[boundary];
+        StubAt {
+            boundary,
+            part,
+            index: group.stubs_of(part),
+            target: branch.target,
+        }
+    }
+
+    /// Has a branch go by the stub of its target in a part of a boundary next to it, or by a new
+    /// one, if that is in reach.
+    fn go_to(
+        &mut self,
+        code: &Code<'_>,
+        index: usize,
+        boundary: usize,
+        part: Part,
+    ) -> Result<bool, OutOfMemory>
+        requires code { IsCode code.now }
+        requires state { IsState code.now self.old }
+        requires within { index < length code.now.branches.now }
+        requires boundary { boundary < length code.now.boundaries.now }
+        requires next { level_of part ≡ 2 }
+        requires higher { level (way_at self.old.ways.items index) < 2 }
+        requires needed { ¬ HasSpare code.now (branch_at code.now.branches.now index) }
+        ensures state { IfOk result (λ _. IsState code.now self.new) }
+        ensures higher { IfOk result (λ went. went ≡ true
+            → sum_by level self.old.ways.items < sum_by level self.new.ways.items) }
+        ensures same { IfOk result (λ went. went ≡ false → self.new ≡ self.old) }
+        ensures may_share { IfOk result (λ _. self.new.may_share ≡ self.old.may_share) }
+        ensures none { IfOk result (λ went. went ≡ false
+            → IsOutThere code.now self.old (branch_at code.now.branches.now index) boundary part) }
+    {
+        let branch = code.branches[index];
+        match self.find(code, boundary, part, branch.target) {
+            Some(stub) => {
+                let is_near = self.is_near(code, &branch, stub);
+                if !is_near {
+                    return Ok(false);
+                }
+                self.take(code, index, Way::Near(stub));
+                Ok(true)
+            }
+            None => {
+                let new = self.new_stub(code, &branch, boundary, part);
+                let fits = code.is_near(&branch, &new);
+                if !fits {
+                    return Ok(false);
+                }
+                self.add(code, index, boundary, part)?;
+                Ok(true)
+            }
+        }
+    }
+
+    /// Has a branch go by a stub at the next boundary ahead of it, if that is in reach.
+    fn go_ahead(&mut self, code: &Code<'_>, index: usize) -> Result<bool, OutOfMemory>
         requires code { IsCode code.now }
         requires state { IsState code.now self.old }
         requires within { index < length code.now.branches.now }
         requires higher { level (way_at self.old.ways.items index) < 2 }
+        requires needed { ¬ HasSpare code.now (branch_at code.now.branches.now index) }
         ensures state { IfOk result (λ _. IsState code.now self.new) }
-        ensures higher { IfOk result (λ added. added ≡ true
+        ensures higher { IfOk result (λ went. went ≡ true
             → sum_by level self.old.ways.items < sum_by level self.new.ways.items) }
-        ensures same { IfOk result (λ added. added ≡ false → self.new ≡ self.old) }
-        ensures unreached { IfOk result (λ added. added ≡ false
-            → IsUnreached code.now self.old (branch_at code.now.branches.now index)) }
+        ensures same { IfOk result (λ went. went ≡ false → self.new ≡ self.old) }
+        ensures may_share { IfOk result (λ _. self.new.may_share ≡ self.old.may_share) }
+        ensures none { IfOk result (λ went. went ≡ false
+            → IsOutAhead code.now self.old (branch_at code.now.branches.now index)) }
     {
-        let branch = code.branches[index];
-        let ahead = passed(code.boundaries, branch.offset);
-        if ahead < code.boundaries.len() {
-            let stub = StubAt {
-                boundary: ahead,
-                part: Part::Front,
-                index: self.groups[ahead].front,
-                target: branch.target,
-            };
-            if code.is_near(&branch, &stub) {
-                self.add(code, index, ahead, Part::Front)?;
-                return Ok(true);
-            }
+        let ahead = passed(code.boundaries, code.branches[index].offset);
+        if ahead >= code.boundaries.len() {
+            return Ok(false);
         }
-        if ahead > 0 {
-            let stub = StubAt {
-                boundary: ahead - 1,
-                part: Part::Back,
-                index: self.groups[ahead - 1].back,
-                target: branch.target,
-            };
-            if code.is_near(&branch, &stub) {
-                self.add(code, index, ahead - 1, Part::Back)?;
-                return Ok(true);
-            }
-        }
-        Ok(false)
+        self.go_to(code, index, ahead, Part::Front)
     }
 
-    /// Has a branch go by a stub at a boundary next to it, the last one of its target or a new one.
+    /// Has a branch go by a stub at the boundary before it, if that is in reach.
+    fn go_back(&mut self, code: &Code<'_>, index: usize) -> Result<bool, OutOfMemory>
+        requires code { IsCode code.now }
+        requires state { IsState code.now self.old }
+        requires within { index < length code.now.branches.now }
+        requires higher { level (way_at self.old.ways.items index) < 2 }
+        requires needed { ¬ HasSpare code.now (branch_at code.now.branches.now index) }
+        ensures state { IfOk result (λ _. IsState code.now self.new) }
+        ensures higher { IfOk result (λ went. went ≡ true
+            → sum_by level self.old.ways.items < sum_by level self.new.ways.items) }
+        ensures same { IfOk result (λ went. went ≡ false → self.new ≡ self.old) }
+        ensures may_share { IfOk result (λ _. self.new.may_share ≡ self.old.may_share) }
+        ensures none { IfOk result (λ went. went ≡ false
+            → IsOutBehind code.now self.old (branch_at code.now.branches.now index)) }
+    {
+        let ahead = passed(code.boundaries, code.branches[index].offset);
+        if ahead == 0 {
+            return Ok(false);
+        }
+        self.go_to(code, index, ahead - 1, Part::Back)
+    }
+
+    /// Has a branch go by a stub at a boundary next to it, if that is in reach.
     pub(super) fn go_near(&mut self, code: &Code<'_>, index: usize) -> Result<bool, OutOfMemory>
         requires code { IsCode code.now }
         requires state { IsState code.now self.old }
         requires within { index < length code.now.branches.now }
         requires higher { level (way_at self.old.ways.items index) < 2 }
+        requires needed { ¬ HasSpare code.now (branch_at code.now.branches.now index) }
         ensures state { IfOk result (λ _. IsState code.now self.new) }
         ensures higher { IfOk result (λ went. went ≡ true
             → sum_by level self.old.ways.items < sum_by level self.new.ways.items) }
         ensures same { IfOk result (λ went. went ≡ false → self.new ≡ self.old) }
-        ensures unreached { IfOk result (λ went. went ≡ false
-            → IsUnreached code.now self.old (branch_at code.now.branches.now index)) }
+        ensures may_share { IfOk result (λ _. self.new.may_share ≡ self.old.may_share) }
+        ensures out { IfOk result (λ went. went ≡ false
+            → IsOut code.now self.old (branch_at code.now.branches.now index)) }
     {
-        if let Some(stub) = self.recent(code, &code.branches[index]) {
-            self.take(code, index, Way::Near(stub));
+        let went = self.go_ahead(code, index)?;
+        if went {
             return Ok(true);
         }
-        self.add_near(code, index)
+        self.go_back(code, index)
     }
 
     /// Has a branch that is lost go by another stub, if one can be in its reach.
@@ -252,54 +430,20 @@ impl State {
         requires one_more { length before.now ≡ length code.now.boundaries.now + 1 }
         requires fits { (k : ℕ) → at before.now k < 2 ^ 62 }
         requires higher { level (way_at self.old.ways.items index) < 2 }
+        requires needed { ¬ HasSpare code.now (branch_at code.now.branches.now index) }
         ensures state { IfOk result (λ _. IsState code.now self.new) }
         ensures higher { IfOk result (λ raised. raised ≡ true
             → sum_by level self.old.ways.items < sum_by level self.new.ways.items) }
         ensures same { IfOk result (λ raised. raised ≡ false → self.new ≡ self.old) }
-        ensures unreached { IfOk result (λ raised. raised ≡ false
-            → IsUnreached code.now self.old (branch_at code.now.branches.now index)) }
-        ensures none { IfOk result (λ raised. raised ≡ false
-            → HasNoNear code.now self.old (branch_at code.now.branches.now index)) }
+        ensures may_share { IfOk result (λ _. self.new.may_share ≡ self.old.may_share) }
+        ensures out { IfOk result (λ raised. raised ≡ false
+            → IsOut code.now self.old (branch_at code.now.branches.now index)) }
     {
-        let branch = code.branches[index];
-        if let Way::Direct = self.ways[index] {
-            if let Some(stub) = self.shared(code, before, places, &branch) {
-                self.take(code, index, Way::Far(stub));
-                return Ok(true);
-            }
-            if let Some(boundary) = self.far_boundary(code, &branch) {
-                self.add(code, index, boundary, Part::Middle)?;
-                return Ok(true);
-            }
-        }
-        if self.go_near(code, index)? {
+        let went = self.go_far(code, before, places, index)?;
+        if went {
             return Ok(true);
         }
-        if let Some(stub) = self.near_stub(code, &branch) {
-            self.take(code, index, Way::Near(stub));
-            return Ok(true);
-        }
-        Ok(false)
-    }
-
-    /// The stub of a branch's target that was used last, if it is near.
-    fn recent(&self, code: &Code<'_>, branch: &Branch) -> Option<usize>
-        requires code { IsCode code.now }
-        requires state { IsState code.now self.now }
-        requires offset { branch.now.offset < 2 ^ 62 }
-        requires target { branch.now.target < length code.now.targets.now }
-        ensures { IfSome result
-            (λ s. IsWay code.now self.now.stubs.items branch.now (Near s)) }
-    {
-        let stub = self.last[branch.target];
-        if stub < self.stubs.len()
-            && self.stubs[stub].target == branch.target
-            && code.is_near(branch, &self.stubs[stub])
-        {
-            Some(stub)
-        } else {
-            None
-        }
+        self.go_near(code, index)
     }
 
     /// Notes the stub by which a branch goes as the last one of its target.

@@ -3,9 +3,9 @@
 ghost use Rattle.std.specs.Prelude.{◌≡◌, ◌+◌, ◌*◌, ◌<◌, ◌≤◌, ◌^◌, ◌↔◌, ℕ, IsTrue, length, true};
 ghost use Rattle.std.specs.Prelude.{false};
 ghost use Rattle.std.specs.List.{sum_by};
-ghost use Rattle.linker_output.specs.Placement.{Reaches, passed, size_of, stubs_in, IsLaidOut, IsCode};
+ghost use Rattle.linker_output.specs.Placement.{Reaches, passed, size_of, stubs_in, IsLaidOut};
 ghost use Rattle.linker_output.specs.Placement.{place_of, at, IsAscending, HasPart, ReachesAt};
-ghost use Rattle.linker_output.specs.Placement.{moved, start_of};
+ghost use Rattle.linker_output.specs.Placement.{moved, start_of, most_bytes, HasSpare, IsCode};
 ghost use Rattle.linker_output.specs.Inner.Placement.{IsNear, IsLostBy, IsServedBy};
 ghost use Rattle.linker_output.specs.declared.placement.Way.TheVariants.{Near, Far};
 
@@ -66,6 +66,8 @@ pub(super) fn lay_out(shape: &StubShape, groups: &[Group], before: &mut [u64])
         < 2 ^ 62 }
     ensures laid_out { IsLaidOut shape.now groups.now before.new }
     ensures fits { (k : ℕ) → at before.new k < 2 ^ 62 }
+    ensures most { (k : ℕ) → at before.new k
+        ≤ shape.now.unit * length groups.now + shape.now.len * sum_by stubs_in groups.now }
 {
     let mut bytes = 0;
     for index in 0..groups.len() {
@@ -188,5 +190,27 @@ impl Code<'_> {
                 stub < places.len() && !self.reaches_at(before, branch, places[stub])
             }
         }
+    }
+
+    /// How many bytes all stubs take that there may be.
+    fn most_bytes(&self) -> u64
+        requires { IsCode self.now }
+        ensures { result ≡ most_bytes self.now }
+    {
+        let stubs = 2 * self.branches.len() as u64 + 1;
+        self.shape.unit * self.boundaries.len() as u64 + self.shape.len * stubs
+    }
+
+    /// Whether a branch reaches its target also with the bytes of all stubs in between.
+    pub(super) fn has_spare(&self, branch: &Branch) -> bool
+        requires code { IsCode self.now }
+        requires offset { branch.now.offset < 2 ^ 62 }
+        requires target { branch.now.target < length self.now.targets.now }
+        ensures { IsTrue result ↔ HasSpare self.now branch.now }
+    {
+        let target = self.targets[branch.target];
+        let most = self.most_bytes();
+        target + most < branch.offset.saturating_add(branch.max_forward)
+            && branch.offset + most <= target.saturating_add(branch.max_backward)
     }
 }

@@ -1,39 +1,49 @@
 //! Stubs are added until each branch reaches what it goes by.
 
-ghost use Rattle.std.specs.Prelude.{◌≡◌, ◌+◌, ◌<◌, ◌^◌, ℕ, length, true, false, IfOk, MatchOption};
-ghost use Rattle.linker_output.specs.Placement.{IsLaidOut, at, IsCode};
+ghost use Rattle.std.specs.Prelude.{◌≡◌, ◌+◌, ◌<◌, ◌≤◌, ◌^◌, ℕ, length, IfOk, MatchOption};
+ghost use Rattle.std.specs.Prelude.{true, false};
+ghost use Rattle.std.specs.List.{sum_by};
+ghost use Rattle.linker_output.specs.Placement.{HasPart, IsCode, IsLaidOut, at, most_bytes, stub_at};
 ghost use Rattle.linker_output.specs.Inner.Placement.{IsState, ArePlaces, IsStuckIn};
-ghost use Rattle.linker_output.specs.Inner.Placement.{AreServed, Swept, Visited, narrowed};
-ghost use Rattle.linker_output.specs.Inner.Placement.{stub_of_way};
-ghost use Rattle.linker_output.specs.declared.placement.Way.TheVariants.{Near, Far};
+ghost use Rattle.linker_output.specs.Inner.Placement.{AreServed, Swept, Visited};
+ghost use Rattle.linker_output.specs.Inner.Placement.{level, way_at};
 
 use super::laying::lay_out;
-use super::{Branch, Code, LIMIT, MOST_PASSES, State, Sweep, Visit, Way};
+use super::{Code, MOST_PASSES, State, Sweep, Visit, Way};
 use linker_base::relaxation::OutOfMemory;
 
-impl Branch {
-    /// The same with less reach.
-    #[inline(always)]
-    fn narrowed(self, margin: u64) -> Branch
-        ensures { result ≡ narrowed self margin }
-    {
-        Branch {
-            max_backward: self.max_backward.saturating_sub(margin),
-            max_forward: self.max_forward.saturating_sub(margin),
-            ..self
-        }
-    }
-}
-
 impl State {
-    /// Has a branch that is lost by a layout go by another stub, and also one that would be lost if
-    /// it reached `margin` bytes less, where a boundary next to it is in reach.
+    /// If it is `late`, has a branch that may be lost by the stubs to come go by a stub next to it,
+    /// where such a boundary is in reach.
+    fn go_early(&mut self, code: &Code<'_>, late: bool, index: usize) -> Result<bool, OutOfMemory>
+        requires code { IsCode code.now }
+        requires state { IsState code.now self.old }
+        requires within { index < length code.now.branches.now }
+        requires higher { level (way_at self.old.ways.items index) < 2 }
+        ensures state { IfOk result (λ _. IsState code.now self.new) }
+        ensures higher { IfOk result (λ went. went ≡ true
+            → sum_by level self.old.ways.items < sum_by level self.new.ways.items) }
+        ensures same { IfOk result (λ went. went ≡ false → self.new ≡ self.old) }
+        ensures may_share { IfOk result (λ _. self.new.may_share ≡ self.old.may_share) }
+    {
+        if !late {
+            return Ok(false);
+        }
+        let spare = code.has_spare(&code.branches[index]);
+        if spare {
+            return Ok(false);
+        }
+        self.go_near(code, index)
+    }
+
+    /// Has a branch that is lost by a layout go by another stub. If it is `late`, also one that may
+    /// be lost by the stubs to come, where a boundary next to it is in reach.
     fn visit(
         &mut self,
         code: &Code<'_>,
         before: &[u64],
         places: &[u64],
-        margin: u64,
+        late: bool,
         index: usize,
     ) -> Result<Visit, OutOfMemory>
         requires code { IsCode code.now }
@@ -41,54 +51,55 @@ impl State {
         requires within { index < length code.now.branches.now }
         requires one_more { length before.now ≡ length code.now.boundaries.now + 1 }
         requires fits { (k : ℕ) → at before.now k < 2 ^ 62 }
+        requires most { (k : ℕ) → at before.now k ≤ most_bytes code.now }
         ensures state { IfOk result (λ _. IsState code.now self.new) }
+        ensures may_share { IfOk result (λ _. self.new.may_share ≡ self.old.may_share) }
         ensures visited { IfOk result
             (λ visit. Visited code.now before.now places.now self.old self.new index visit) }
     {
         let branch = code.branches[index];
         let way = self.ways[index];
-        let is_lost = code.is_lost(before, places, &branch, way);
+        let lost = code.is_lost(before, places, &branch, way);
         if let Way::Near(_) = way {
             self.note(code, index);
             return Ok(Visit::Near);
         }
-        if is_lost {
+        if lost {
             if self.raise(code, before, places, index)? {
                 return Ok(Visit::Raised);
             }
             return Ok(Visit::Lost);
         }
-        if margin > 0
-            && code.is_lost(before, places, &branch.narrowed(margin), way)
-            && self.go_near(code, index)?
-        {
+        if self.go_early(code, late, index)? {
             return Ok(Visit::Raised);
         }
         self.note(code, index);
         Ok(Visit::Served)
     }
 
-    /// Has the branches that are lost by a layout go by other stubs, and those that would be if
-    /// they reached `margin` bytes less.
+    /// Has the branches that are lost by a layout go by other stubs. If it is `late`, also those
+    /// that may be lost by the stubs to come.
     fn sweep(
         &mut self,
         code: &Code<'_>,
         before: &[u64],
         places: &[u64],
-        margin: u64,
+        late: bool,
     ) -> Result<Sweep, OutOfMemory>
         requires code { IsCode code.now }
         requires state { IsState code.now self.old }
         requires laid_out { IsLaidOut code.now.shape self.old.groups.items before.now }
         requires fits { (k : ℕ) → at before.now k < 2 ^ 62 }
+        requires most { (k : ℕ) → at before.now k ≤ most_bytes code.now }
         requires places { ArePlaces code.now self.old before.now places.now }
         ensures state { IfOk result (λ _. IsState code.now self.new) }
+        ensures may_share { IfOk result (λ _. self.new.may_share ≡ self.old.may_share) }
         ensures swept { IfOk result
             (λ sweep. Swept code.now before.now places.now self.old self.new sweep) }
     {
         let mut changed = false;
         for index in 0..code.branches.len() {
-            match self.visit(code, before, places, margin, index)? {
+            match self.visit(code, before, places, late, index)? {
                 Visit::Served => {}
                 Visit::Near => {}
                 Visit::Raised => changed = true,
@@ -107,19 +118,6 @@ impl State {
     }
 }
 
-impl Way {
-    /// The stub.
-    #[inline(always)]
-    pub(super) fn stub(self) -> Option<usize>
-        ensures { result ≡ stub_of_way self }
-    {
-        match self {
-            Way::Direct => None,
-            Way::Far(stub) | Way::Near(stub) => Some(stub),
-        }
-    }
-}
-
 impl State {
     /// Where each stub is.
     fn find_places(
@@ -129,7 +127,9 @@ impl State {
         places: &mut Vec<u64>,
     ) -> Result<(), OutOfMemory>
         requires code { IsCode code.now }
-        requires state { IsState code.now self.now }
+        requires groups { length self.now.groups.items ≡ length code.now.boundaries.now }
+        requires parts { (j : ℕ) → j < length self.now.stubs.items
+            → HasPart code.now self.now.groups.items (stub_at self.now.stubs.items j) }
         requires laid_out { IsLaidOut code.now.shape self.now.groups.items before.now }
         requires fits { (k : ℕ) → at before.now k < 2 ^ 62 }
         ensures { IfOk result (λ _. ArePlaces code.now self.now before.now places.new.items) }
@@ -141,9 +141,9 @@ impl State {
         Ok(())
     }
 
-    /// Adds stubs until each branch reaches what it goes by. After `MOST_PASSES` passes all go by
-    /// stubs next to them that have such a boundary in reach, so that there are few further passes.
-    /// It returns none, or the index of a branch that reaches nothing and no boundary.
+    /// Adds stubs until each branch reaches what it goes by. After `MOST_PASSES` passes also those go
+    /// by stubs next to them that may be lost by the stubs to come, so that there are few further
+    /// passes. It returns none, or the index of a branch that reaches nothing and no boundary.
     pub(super) fn settle(
         &mut self,
         code: &Code<'_>,
@@ -154,6 +154,7 @@ impl State {
         requires state { IsState code.now self.old }
         requires one_more { length before.old ≡ length code.now.boundaries.now + 1 }
         ensures state { IfOk result (λ _. IsState code.now self.new) }
+        ensures may_share { IfOk result (λ _. self.new.may_share ≡ self.old.may_share) }
         ensures laid_out { IfOk result
             (λ _. IsLaidOut code.now.shape self.new.groups.items before.new) }
         ensures fits { IfOk result (λ _. (k : ℕ) → at before.new k < 2 ^ 62) }
@@ -169,13 +170,13 @@ impl State {
         loop {
             lay_out(&code.shape, &self.groups, before);
             self.find_places(code, before, places)?;
-            let margin = if passes < MOST_PASSES {
+            let late = if passes < MOST_PASSES {
                 passes += 1;
-                0
+                false
             } else {
-                LIMIT
+                true
             };
-            match self.sweep(code, before, places, margin)? {
+            match self.sweep(code, before, places, late)? {
                 Sweep::Settled => return Ok(None),
                 Sweep::Stuck(index) => return Ok(Some(index)),
                 Sweep::Changed => {}

@@ -30,6 +30,14 @@ impl Group {
     }
 }
 
+impl StubAt {
+    /// Whether it is of a target in a part of a boundary.
+    #[inline(always)]
+    fn is_at(&self, boundary: usize, part: Part, target: usize) -> bool {
+        self.boundary == boundary && self.target == target && self.part == part
+    }
+}
+
 impl Part {
     /// By what a branch goes for which there is a new stub of the part.
     #[inline(always)]
@@ -41,7 +49,30 @@ impl Part {
     }
 }
 
+/// What the indexes of boundaries are multiplied by, a prime, so that stubs are spread over the lists.
+const SPREAD: usize = 0x9e37_79b1;
+
+/// In which of so many lists the stubs of a target at a boundary are.
+#[inline(always)]
+fn list_of(lists: usize, boundary: usize, target: usize) -> usize {
+    (boundary % SPREAD * SPREAD + target % SPREAD) % lists
+}
+
 impl State {
+    /// The stub of a target in a part of a boundary.
+    fn find(&self, code: &Code<'_>, boundary: usize, part: Part, target: usize) -> Option<usize> {
+        let list = list_of(self.heads.len(), boundary, target);
+        let mut above = self.heads[list];
+        while above > 0 {
+            let index = above - 1;
+            if self.stubs[index].is_at(boundary, part, target) {
+                return Some(index);
+            }
+            above = self.nexts[index];
+        }
+        None
+    }
+
     /// Adds a stub for a branch, and has the branch go by it.
     fn add(
         &mut self,
@@ -53,12 +84,15 @@ impl State {
         let target = code.branches[index].target;
         let stub = self.stubs.len();
         let group = self.groups[boundary];
+        let list = list_of(self.heads.len(), boundary, target);
         self.stubs.fallible_push(StubAt {
             boundary,
             part,
             index: group.stubs_of(part),
             target,
         })?;
+        self.nexts.fallible_push(self.heads[list])?;
+        self.heads[list] = stub + 1;
         self.groups[boundary] = group.with_one(part);
         self.ways[index] = part.way(stub);
         self.last[target] = stub;
@@ -69,20 +103,28 @@ impl State {
     fn take(&mut self, code: &Code<'_>, index: usize, way: Way) {
         self.ways[index] = way;
     }
-
-    /// A stub at the boundary next to a branch, of its target and in its reach.
-    fn near_stub(&self, code: &Code<'_>, branch: &Branch) -> Option<usize> {
-        for (index, stub) in self.stubs.iter().enumerate() {
-            if stub.target == branch.target && code.is_near(branch, stub) {
-                return Some(index);
-            }
-        }
-        None
-    }
 }
 
 impl State {
-    /// The stub of a branch's target that was used last, if the branch reaches it by a layout.
+    /// Whether a branch reaches a stub by a layout.
+    fn reaches_stub(
+        &self,
+        code: &Code<'_>,
+        before: &[u64],
+        places: &[u64],
+        branch: &Branch,
+        stub: usize,
+    ) -> bool {
+        // one that this sweep added has no place yet
+        let place = if stub < places.len() {
+            places[stub]
+        } else {
+            code.start_of(before, self.stubs[stub].boundary)
+        };
+        code.reaches_at(before, branch, place)
+    }
+
+    /// A stub of a branch's target that the branch reaches by a layout: that which was used last.
     fn shared(
         &self,
         code: &Code<'_>,
@@ -90,19 +132,12 @@ impl State {
         places: &[u64],
         branch: &Branch,
     ) -> Option<usize> {
-        let index = self.last[branch.target];
-        if index >= self.stubs.len() {
-            return None;
-        }
-        let stub = self.stubs[index];
-        // one that this sweep added has no place yet
-        let place = if index < places.len() {
-            places[index]
-        } else {
-            code.start_of(before, stub.boundary)
-        };
-        if stub.target == branch.target && code.reaches_at(before, branch, place) {
-            Some(index)
+        let stub = self.last[branch.target];
+        if stub < self.stubs.len()
+            && self.stubs[stub].target == branch.target
+            && self.reaches_stub(code, before, places, branch, stub)
+        {
+            Some(stub)
         } else {
             None
         }
@@ -120,44 +155,117 @@ impl State {
         }
     }
 
-    /// Adds a stub at a boundary next to a branch, if it is in reach there.
-    fn add_near(&mut self, code: &Code<'_>, index: usize) -> Result<bool, OutOfMemory> {
+    /// Has a branch that went to its target go by a stub that it can share with branches farther
+    /// away, if there is one in its reach or can be.
+    fn go_far(
+        &mut self,
+        code: &Code<'_>,
+        before: &[u64],
+        places: &[u64],
+        index: usize,
+    ) -> Result<bool, OutOfMemory> {
+        let Way::Direct = self.ways[index] else {
+            return Ok(false);
+        };
         let branch = code.branches[index];
-        let ahead = passed(code.boundaries, branch.offset);
-        if ahead < code.boundaries.len() {
-            let stub = StubAt {
-                boundary: ahead,
-                part: Part::Front,
-                index: self.groups[ahead].front,
-                target: branch.target,
-            };
-            if code.is_near(&branch, &stub) {
-                self.add(code, index, ahead, Part::Front)?;
-                return Ok(true);
-            }
-        }
-        if ahead > 0 {
-            let stub = StubAt {
-                boundary: ahead - 1,
-                part: Part::Back,
-                index: self.groups[ahead - 1].back,
-                target: branch.target,
-            };
-            if code.is_near(&branch, &stub) {
-                self.add(code, index, ahead - 1, Part::Back)?;
-                return Ok(true);
-            }
-        }
-        Ok(false)
-    }
-
-    /// Has a branch go by a stub at a boundary next to it, the last one of its target or a new one.
-    pub(super) fn go_near(&mut self, code: &Code<'_>, index: usize) -> Result<bool, OutOfMemory> {
-        if let Some(stub) = self.recent(code, &code.branches[index]) {
-            self.take(code, index, Way::Near(stub));
+        if let Some(stub) = self.shared(code, before, places, &branch) {
+            self.take(code, index, Way::Far(stub));
             return Ok(true);
         }
-        self.add_near(code, index)
+        let Some(boundary) = self.far_boundary(code, &branch) else {
+            return Ok(false);
+        };
+        match self.find(code, boundary, Part::Middle, branch.target) {
+            Some(stub) => {
+                let is_reached = self.reaches_stub(code, before, places, &branch, stub);
+                if !is_reached {
+                    return Ok(false);
+                }
+                self.take(code, index, Way::Far(stub));
+                Ok(true)
+            }
+            None => {
+                if !self.may_share {
+                    return Ok(false);
+                }
+                self.add(code, index, boundary, Part::Middle)?;
+                Ok(true)
+            }
+        }
+    }
+
+    /// Whether a stub is next to a branch and in its reach.
+    fn is_near(&self, code: &Code<'_>, branch: &Branch, stub: usize) -> bool {
+        code.is_near(branch, &self.stubs[stub])
+    }
+
+    /// The stub that a branch would get in a part of a boundary.
+    fn new_stub(&self, code: &Code<'_>, branch: &Branch, boundary: usize, part: Part) -> StubAt {
+        let group = self.groups[boundary];
+        StubAt {
+            boundary,
+            part,
+            index: group.stubs_of(part),
+            target: branch.target,
+        }
+    }
+
+    /// Has a branch go by the stub of its target in a part of a boundary next to it, or by a new
+    /// one, if that is in reach.
+    fn go_to(
+        &mut self,
+        code: &Code<'_>,
+        index: usize,
+        boundary: usize,
+        part: Part,
+    ) -> Result<bool, OutOfMemory> {
+        let branch = code.branches[index];
+        match self.find(code, boundary, part, branch.target) {
+            Some(stub) => {
+                let is_near = self.is_near(code, &branch, stub);
+                if !is_near {
+                    return Ok(false);
+                }
+                self.take(code, index, Way::Near(stub));
+                Ok(true)
+            }
+            None => {
+                let new = self.new_stub(code, &branch, boundary, part);
+                let fits = code.is_near(&branch, &new);
+                if !fits {
+                    return Ok(false);
+                }
+                self.add(code, index, boundary, part)?;
+                Ok(true)
+            }
+        }
+    }
+
+    /// Has a branch go by a stub at the next boundary ahead of it, if that is in reach.
+    fn go_ahead(&mut self, code: &Code<'_>, index: usize) -> Result<bool, OutOfMemory> {
+        let ahead = passed(code.boundaries, code.branches[index].offset);
+        if ahead >= code.boundaries.len() {
+            return Ok(false);
+        }
+        self.go_to(code, index, ahead, Part::Front)
+    }
+
+    /// Has a branch go by a stub at the boundary before it, if that is in reach.
+    fn go_back(&mut self, code: &Code<'_>, index: usize) -> Result<bool, OutOfMemory> {
+        let ahead = passed(code.boundaries, code.branches[index].offset);
+        if ahead == 0 {
+            return Ok(false);
+        }
+        self.go_to(code, index, ahead - 1, Part::Back)
+    }
+
+    /// Has a branch go by a stub at a boundary next to it, if that is in reach.
+    pub(super) fn go_near(&mut self, code: &Code<'_>, index: usize) -> Result<bool, OutOfMemory> {
+        let went = self.go_ahead(code, index)?;
+        if went {
+            return Ok(true);
+        }
+        self.go_back(code, index)
     }
 
     /// Has a branch that is lost go by another stub, if one can be in its reach.
@@ -168,38 +276,11 @@ impl State {
         places: &[u64],
         index: usize,
     ) -> Result<bool, OutOfMemory> {
-        let branch = code.branches[index];
-        if let Way::Direct = self.ways[index] {
-            if let Some(stub) = self.shared(code, before, places, &branch) {
-                self.take(code, index, Way::Far(stub));
-                return Ok(true);
-            }
-            if let Some(boundary) = self.far_boundary(code, &branch) {
-                self.add(code, index, boundary, Part::Middle)?;
-                return Ok(true);
-            }
-        }
-        if self.go_near(code, index)? {
+        let went = self.go_far(code, before, places, index)?;
+        if went {
             return Ok(true);
         }
-        if let Some(stub) = self.near_stub(code, &branch) {
-            self.take(code, index, Way::Near(stub));
-            return Ok(true);
-        }
-        Ok(false)
-    }
-
-    /// The stub of a branch's target that was used last, if it is near.
-    fn recent(&self, code: &Code<'_>, branch: &Branch) -> Option<usize> {
-        let stub = self.last[branch.target];
-        if stub < self.stubs.len()
-            && self.stubs[stub].target == branch.target
-            && code.is_near(branch, &self.stubs[stub])
-        {
-            Some(stub)
-        } else {
-            None
-        }
+        self.go_near(code, index)
     }
 
     /// Notes the stub by which a branch goes as the last one of its target.

@@ -124,4 +124,18 @@ impl Code<'_> {
             }
         }
     }
+
+    /// How many bytes all stubs take that there may be.
+    fn most_bytes(&self) -> u64 {
+        let stubs = 2 * self.branches.len() as u64 + 1;
+        self.shape.unit * self.boundaries.len() as u64 + self.shape.len * stubs
+    }
+
+    /// Whether a branch reaches its target also with the bytes of all stubs in between.
+    pub(super) fn has_spare(&self, branch: &Branch) -> bool {
+        let target = self.targets[branch.target];
+        let most = self.most_bytes();
+        target + most < branch.offset.saturating_add(branch.max_forward)
+            && branch.offset + most <= target.saturating_add(branch.max_backward)
+    }
 }

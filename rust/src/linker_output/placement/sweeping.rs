@@ -5,67 +5,65 @@
 use alloc::vec::Vec;
 use crate::support::*;
 use super::laying::lay_out;
-use super::{Branch, Code, LIMIT, MOST_PASSES, State, Sweep, Visit, Way};
+use super::{Code, MOST_PASSES, State, Sweep, Visit, Way};
 use crate::linker_base::relaxation::OutOfMemory;
 
-impl Branch {
-    /// The same with less reach.
-    #[inline(always)]
-    fn narrowed(self, margin: u64) -> Branch {
-        Branch {
-            max_backward: self.max_backward.saturating_sub(margin),
-            max_forward: self.max_forward.saturating_sub(margin),
-            ..self
-        }
-    }
-}
-
 impl State {
-    /// Has a branch that is lost by a layout go by another stub, and also one that would be lost if
-    /// it reached `margin` bytes less, where a boundary next to it is in reach.
+    /// If it is `late`, has a branch that may be lost by the stubs to come go by a stub next to it,
+    /// where such a boundary is in reach.
+    fn go_early(&mut self, code: &Code<'_>, late: bool, index: usize) -> Result<bool, OutOfMemory> {
+        if !late {
+            return Ok(false);
+        }
+        let spare = code.has_spare(&code.branches[index]);
+        if spare {
+            return Ok(false);
+        }
+        self.go_near(code, index)
+    }
+
+    /// Has a branch that is lost by a layout go by another stub. If it is `late`, also one that may
+    /// be lost by the stubs to come, where a boundary next to it is in reach.
     fn visit(
         &mut self,
         code: &Code<'_>,
         before: &[u64],
         places: &[u64],
-        margin: u64,
+        late: bool,
         index: usize,
     ) -> Result<Visit, OutOfMemory> {
         let branch = code.branches[index];
         let way = self.ways[index];
-        let is_lost = code.is_lost(before, places, &branch, way);
+        let lost = code.is_lost(before, places, &branch, way);
         if let Way::Near(_) = way {
             self.note(code, index);
             return Ok(Visit::Near);
         }
-        if is_lost {
+        if lost {
             if self.raise(code, before, places, index)? {
                 return Ok(Visit::Raised);
             }
             return Ok(Visit::Lost);
         }
-        if margin > 0
-            && code.is_lost(before, places, &branch.narrowed(margin), way)
-            && self.go_near(code, index)?
-        {
+        if self.go_early(code, late, index)? {
             return Ok(Visit::Raised);
         }
         self.note(code, index);
         Ok(Visit::Served)
     }
 
-    /// Has the branches that are lost by a layout go by other stubs, and those that would be if
-    /// they reached `margin` bytes less.
+    /// Has the branches that are lost by a layout go by other stubs. If it is `late`, also those
+    /// that may be lost by the stubs to come.
     fn sweep(
         &mut self,
         code: &Code<'_>,
         before: &[u64],
         places: &[u64],
-        margin: u64,
+        late: bool,
     ) -> Result<Sweep, OutOfMemory> {
         let mut changed = false;
         for index in 0..code.branches.len() {
-            match self.visit(code, before, places, margin, index)? {
+            match self.visit(code, before, places, late, index)? {
                 Visit::Served => {}
                 Visit::Near => {}
                 Visit::Raised => changed = true,
@@ -80,17 +78,6 @@ impl State {
             Ok(Sweep::Changed)
         } else {
             Ok(Sweep::Settled)
-        }
-    }
-}
-
-impl Way {
-    /// The stub.
-    #[inline(always)]
-    pub(super) fn stub(self) -> Option<usize> {
-        match self {
-            Way::Direct => None,
-            Way::Far(stub) | Way::Near(stub) => Some(stub),
         }
     }
 }
@@ -110,9 +97,9 @@ impl State {
         Ok(())
     }
 
-    /// Adds stubs until each branch reaches what it goes by. After `MOST_PASSES` passes all go by
-    /// stubs next to them that have such a boundary in reach, so that there are few further passes.
-    /// It returns none, or the index of a branch that reaches nothing and no boundary.
+    /// Adds stubs until each branch reaches what it goes by. After `MOST_PASSES` passes also those go
+    /// by stubs next to them that may be lost by the stubs to come, so that there are few further
+    /// passes. It returns none, or the index of a branch that reaches nothing and no boundary.
     pub(super) fn settle(
         &mut self,
         code: &Code<'_>,
@@ -123,13 +110,13 @@ impl State {
         loop {
             lay_out(&code.shape, &self.groups, before);
             self.find_places(code, before, places)?;
-            let margin = if passes < MOST_PASSES {
+            let late = if passes < MOST_PASSES {
                 passes += 1;
-                0
+                false
             } else {
-                LIMIT
+                true
             };
-            match self.sweep(code, before, places, margin)? {
+            match self.sweep(code, before, places, late)? {
                 Sweep::Settled => return Ok(None),
                 Sweep::Stuck(index) => return Ok(Some(index)),
                 Sweep::Changed => {}

@@ -1,83 +1,10 @@
-use Rattle.std.proofs.Common.{◌≡◌, ℕ, List, length, refl, sym, subst, arith}
-use Rattle.std.specs.Vec.{with_items}
-use Rattle.std.proofs.lemmas.List.{with_items_is}
-use Rattle.linker_output.specs.declared.placement.Code.{Code}
-use Rattle.linker_output.specs.declared.placement.Layout.{Layout}
-use Rattle.linker_output.specs.declared.placement.State.{State}
-use Rattle.linker_output.specs.Placement.{IsLaidOut, IsLayout, IsCode}
-use Rattle.linker_output.specs.Inner.Placement.{IsState, ArePlaces, AreServed, AreStubsOf, IsStuckIn}
-use Rattle.linker_output.proofs.Apart.{layout_is}
-use Rattle.linker_output.proofs.Bounds.{few_stubs}
-use Rattle.linker_output.proofs.Going.{all_go, goes_all}
-use Rattle.linker_output.proofs.Stuck.{stuck}
+use Rattle.std.proofs.Common.{◌≡◌, length, subst, arith}
+use Rattle.linker_output.specs.Placement.{AreUsed}
 use Rattle.linker_output.proofs.placement.place_stubs.Goals as goal
 
-layout_by : (code : Code) (state : State) (layout : Layout) (before : List ℕ) → IsCode code → IsState code state → IsLaidOut code.shape state.groups.items before → ArePlaces code state before layout.places.items
-    → layout.before.items ≡ before → layout.stubs ≡ state.stubs → layout.groups ≡ state.groups → IsLayout code layout
-layout_by code state layout before is_code is laid are e stubs groups = layout_is code state layout is_code is (subst (IsLaidOut code.shape state.groups.items) (sym e) laid) (subst (λ b. ArePlaces code state b layout.places.items) (sym e) are) stubs groups
-
-pub first_short-requires-clause-layout : goal.first_short-requires-clause-layout
-first_short-requires-clause-layout c =
-    let layout : Layout = record { stubs = c.settle.new.self.stubs; places = c.settle.new.places; groups = c.settle.new.self.groups; before = with_items c.in_ok-before.before c.settle.new.before } in
-    let len = c.in_ok-before.ensures in
-    let e : (with_items c.in_ok-before.before c.settle.new.before).items ≡ c.settle.new.before = with_items_is c.in_ok-before.before c.settle.new.before (omega arith) in
-    layout_by c.args.code.now c.settle.new.self layout c.settle.new.before c.in_ok-check.ensures.ok c.in_ok-stuck.ensures.state c.in_ok-stuck.ensures.laid_out c.in_ok-stuck.ensures.places e refl refl
-
-pub returns-in-Some-clause-err : goal.returns-in-Some-clause-err
-returns-in-Some-clause-err c =
-    let layout : Layout = record { stubs = c.settle.new.self.stubs; places = c.settle.new.places; groups = c.settle.new.self.groups; before = with_items c.in_ok-before.before c.settle.new.before } in
-    let len = c.in_ok-before.ensures in
-    let e : (with_items c.in_ok-before.before c.settle.new.before).items ≡ c.settle.new.before = with_items_is c.in_ok-before.before c.settle.new.before (omega arith) in
-    let is = layout_by c.args.code.now c.settle.new.self layout c.settle.new.before c.in_ok-check.ensures.ok c.in_ok-stuck.ensures.state c.in_ok-stuck.ensures.laid_out c.in_ok-stuck.ensures.places e refl refl in
-    let out = rw c.in-Some.is at c.in_ok-stuck.ensures.settled in
-    let stuck_in : IsStuckIn c.args.code.now c.settle.new.before c.settle.new.places.items c.settle.new.self c.in-Some.index = out.0 in
-    let served : AreServed c.args.code.now c.settle.new.before c.settle.new.places.items c.settle.new.self.ways.items c.in-Some.index = out.1 in
-    let within = stuck_in.within in (
-      c.in_ok-check.ensures.ok,
-      stuck_in.within,
-      is,
-      stuck c.args.code.now c.settle.new.self layout c.in-Some.index c.in_ok-check.ensures.ok c.in_ok-stuck.ensures.state is refl refl
-          (subst (λ b. IsStuckIn c.args.code.now b c.settle.new.places.items c.settle.new.self c.in-Some.index) (sym e) stuck_in),
-      all_go c.args.code.now c.settle.new.self layout c.in-Some.index c.in_ok-stuck.ensures.state refl
-          (subst (λ b. ArePlaces c.args.code.now c.settle.new.self b layout.places.items) (sym e) c.in_ok-stuck.ensures.places) (omega arith)
-          (subst (λ b. AreServed c.args.code.now b layout.places.items c.settle.new.self.ways.items c.in-Some.index) (sym e) served),
-    )
-
-pub returns-in-Some-first_short-clause-err : goal.returns-in-Some-first_short-clause-err
-returns-in-Some-first_short-clause-err c =
-    let layout : Layout = record { stubs = c.settle.new.self.stubs; places = c.settle.new.places; groups = c.settle.new.self.groups; before = with_items c.in_ok-before.before c.settle.new.before } in
-    let len = c.in_ok-before.ensures in
-    let e : (with_items c.in_ok-before.before c.settle.new.before).items ≡ c.settle.new.before = with_items_is c.in_ok-before.before c.settle.new.before (omega arith) in
-    let is = layout_by c.args.code.now c.settle.new.self layout c.settle.new.before c.in_ok-check.ensures.ok c.in_ok-stuck.ensures.state c.in_ok-stuck.ensures.laid_out c.in_ok-stuck.ensures.places e refl refl in
-    let served : AreServed c.args.code.now c.settle.new.before c.settle.new.places.items c.settle.new.self.ways.items (length c.args.code.now.branches.now) = rw c.in-None.is at c.in_ok-stuck.ensures.settled in
-    let short = c.in-Some-first_short.ensures.some in (
-      short.0,
-      c.in_ok-check.ensures.ok,
-      is,
-      short.1,
-      short.2,
-      all_go c.args.code.now c.settle.new.self layout (length c.args.code.now.branches.now) c.in_ok-stuck.ensures.state refl
-          (subst (λ b. ArePlaces c.args.code.now c.settle.new.self b layout.places.items) (sym e) c.in_ok-stuck.ensures.places) (omega arith)
-          (subst (λ b. AreServed c.args.code.now b layout.places.items c.settle.new.self.ways.items (length c.args.code.now.branches.now)) (sym e) served),
-    )
-
-pub returns-clause-ok : goal.returns-clause-ok
-returns-clause-ok c =
-    let layout : Layout = record { stubs = c.settle.new.self.stubs; places = c.settle.new.places; groups = c.settle.new.self.groups; before = with_items c.in_ok-before.before c.settle.new.before } in
-    let len = c.in_ok-before.ensures in
-    let e : (with_items c.in_ok-before.before c.settle.new.before).items ≡ c.settle.new.before = with_items_is c.in_ok-before.before c.settle.new.before (omega arith) in
-    let is = layout_by c.args.code.now c.settle.new.self layout c.settle.new.before c.in_ok-check.ensures.ok c.in_ok-stuck.ensures.state c.in_ok-stuck.ensures.laid_out c.in_ok-stuck.ensures.places e refl refl in
-    let served : AreServed c.args.code.now c.settle.new.before c.settle.new.places.items c.settle.new.self.ways.items (length c.args.code.now.branches.now) = rw c.in-None.is at c.in_ok-stuck.ensures.settled in
-    let of : AreStubsOf c.args.code.now layout.before.items c.settle.new.self.ways.items c.in_ok-stubs.stubs.items = subst (λ b. AreStubsOf c.args.code.now b c.settle.new.self.ways.items c.in_ok-stubs.stubs.items) c.deref.ensures.value c.in_ok-stubs.ensures in
-    record {
-      is_code = c.in_ok-check.ensures.ok;
-      layout = is;
-      one_each = of.len;
-      goes = goes_all c.args.code.now c.settle.new.self layout c.in_ok-stubs.stubs.items c.in_ok-stuck.ensures.state refl
-          (subst (λ b. ArePlaces c.args.code.now c.settle.new.self b layout.places.items) (sym e) c.in_ok-stuck.ensures.places)
-          (subst (λ b. AreServed c.args.code.now b layout.places.items c.settle.new.self.ways.items (length c.args.code.now.branches.now)) (sym e) served) of;
-      stubs_reach = c.in-None-first_short.ensures.none;
-    }
-
-pub returns-clause-few : goal.returns-clause-few
-returns-clause-few c = few_stubs c.args.code.now c.settle.new.self c.in_ok-stuck.ensures.state
+pub returns-then-branch-clause-ok : goal.returns-then-branch-clause-ok
+returns-then-branch-clause-ok c =
+    let placement = c.in_ok-placement.placement in
+    let len : c.len.result ≡ length placement.layout.stubs.items = (let e = c.len.ensures in omega arith) in
+    let used = subst (λ v. AreUsed v c.len.result) c.deref.ensures.value (c.in_ok-are_used.ensures c.if-branch.true) in
+    c.in_ok-placement.ensures.ok (subst (AreUsed placement.stubs.items) len used)

@@ -6,6 +6,7 @@ use Rattle.linker_output.proofs.placement.State.settle.Given as goal
 abbrev pub invariant-loop-passes : goal.invariant-loop-passes
 invariant-loop-passes l = record {
   state : IsState l.code l.self;
+  share : l.self.may_share ≡ l.fn.self.may_share;
   one_more : length l.before ≡ length l.code.boundaries.now + 1;
 }
 

@@ -1,4 +1,4 @@
-use Rattle.std.proofs.Common.{◌≡◌, ◌<◌, ◌+◌, ◌∙◌, ℕ, List, false, true, ap, sym, subst, arith, below_more, length}
+use Rattle.std.proofs.Common.{◌≡◌, ◌<◌, ◌+◌, ◌∙◌, ℕ, List, true, ap, sym, subst, arith, below_more, length}
 use Rattle.std.specs.List.{sum_by}
 use Rattle.std.proofs.lemmas.Bool.{false≢true}
 use Rattle.linker_output.specs.declared.placement.Code.{Code}
@@ -11,7 +11,7 @@ use Rattle.linker_output.proofs.placement.State.sweep.Goals as goal
 use Rattle.linker_output.proofs.placement.State.sweep.Goals.{in-Served, in-Near, in-Raised, in-Lost+else-not-changed}
 
 same_next : (a b d : State) → SameStubs a b → SameStubs b d → SameStubs a d
-same_next a b d p q = record { stubs = q.stubs ∙ p.stubs; groups = q.groups ∙ p.groups; ways = q.ways ∙ p.ways }
+same_next a b d p q = record { stubs = q.stubs ∙ p.stubs; groups = q.groups ∙ p.groups; ways = q.ways ∙ p.ways; may_share = q.may_share ∙ p.may_share }
 
 served_next : (code : Code) (before places : List ℕ) (old new : State) (i : ℕ) → new.ways ≡ old.ways
     → ((k : ℕ) → k < i → IsServedBy code before places (branch_at code.branches.now k) (way_at old.ways.items k))
@@ -35,6 +35,7 @@ loop-index-preserved c =
           let total = ap (λ v. sum_by level v.items) (visited.0.ways) in
           record {
             state = c.in_ok-visit.ensures.state;
+            share = c.in_ok-visit.ensures.may_share ∙ inv.share;
             same = λ h. same_next _ _ _ (inv.same (sym w.changed-is ∙ h)) (visited.0);
             served = λ h. served_next code before places self new i (visited.0.ways) (inv.served (sym w.changed-is ∙ h)) (visited.1);
             no_less = omega (arith, inv.no_less);
@@ -45,6 +46,7 @@ loop-index-preserved c =
           let total = ap (λ v. sum_by level v.items) (visited.0.ways) in
           record {
             state = c.in_ok-visit.ensures.state;
+            share = c.in_ok-visit.ensures.may_share ∙ inv.share;
             same = λ h. same_next _ _ _ (inv.same (sym w.changed-is ∙ h)) (visited.0);
             served = λ h. served_next code before places self new i (visited.0.ways) (inv.served (sym w.changed-is ∙ h))
                 (near_served code self before places i (visited.1.0) inv.state (laid_kept code c.args.self.now self before (inv.same (sym w.changed-is ∙ h)) c.requires.laid_out) (places_kept code c.args.self.now self before places (inv.same (sym w.changed-is ∙ h)) c.requires.places) within (visited.1.1));
@@ -55,6 +57,7 @@ loop-index-preserved c =
           let more : sum_by level self.ways.items < sum_by level new.ways.items = subst (Visited code before places self new i) w.in-Raised.is c.in_ok-visit.ensures.visited in
           record {
             state = c.in_ok-visit.ensures.state;
+            share = c.in_ok-visit.ensures.may_share ∙ inv.share;
             same = λ h. absurd (false≢true (sym h ∙ w.changed-is));
             served = λ h. absurd (false≢true (sym h ∙ w.changed-is));
             no_less = omega (arith, inv.no_less);
@@ -66,6 +69,7 @@ loop-index-preserved c =
           let was : c.loop-index.changed ≡ true = w.if-not-changed.false in
           record {
             state = c.in_ok-visit.ensures.state;
+            share = c.in_ok-visit.ensures.may_share ∙ inv.share;
             same = λ h. absurd (false≢true (sym h ∙ w.changed-is ∙ was));
             served = λ h. absurd (false≢true (sym h ∙ w.changed-is ∙ was));
             no_less = omega (arith, inv.no_less);

@@ -51,8 +51,11 @@ returns-clause-laid_out c =
     let written = all_written c.loop-index.before (set c.loop-index.before n c.loop-index.bytes) n c.loop-index.bytes (bytes_before c.args.shape.now c.args.groups.now) refl (omega arith) (c.loop-index.invariant.bytes ∙ ap (bytes_before c.args.shape.now c.args.groups.now) (omega arith)) (λ k h. c.loop-index.invariant.written k (omega arith)) in
     bytes_laid_out c.args.shape.now c.args.groups.now (set c.loop-index.before n c.loop-index.bytes) (search rules) written
 
-pub returns-clause-fits : goal.returns-clause-fits
-returns-clause-fits c =
+pub returns-clause-most : goal.returns-clause-most
+returns-clause-most c =
     let n = length c.args.groups.now in
     let written = all_written c.loop-index.before (set c.loop-index.before n c.loop-index.bytes) n c.loop-index.bytes (bytes_before c.args.shape.now c.args.groups.now) refl (omega arith) (c.loop-index.invariant.bytes ∙ ap (bytes_before c.args.shape.now c.args.groups.now) (omega arith)) (λ k h. c.loop-index.invariant.written k (omega arith)) in
-    bytes_fit c.args.shape.now c.args.groups.now (set c.loop-index.before n c.loop-index.bytes) c.requires.unit c.requires.fits (search rules) written
+    bytes_fit c.args.shape.now c.args.groups.now (set c.loop-index.before n c.loop-index.bytes) c.requires.unit (search rules) written
+
+pub returns-clause-fits : goal.returns-clause-fits
+returns-clause-fits c = λ k. (let m = returns-clause-most c k in let f = c.requires.fits in omega arith)

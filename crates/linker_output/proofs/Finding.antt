@@ -1,0 +1,90 @@
+-- Stubs that are found by boundary, part and target.
+use Rattle.std.proofs.Common.{◌≡◌, ◌+◌, ◌<◌, ◌∙◌, ℕ, arith, List, length, ap, refl, sym, subst, ⊎_elim}
+use Rattle.std.specs.Prelude.{◌⊎◌}
+use Rattle.std.proofs.lemmas.Bool.{cases_order}
+use Rattle.linker_output.specs.declared.placement.Branch.{Branch}
+use Rattle.linker_output.specs.declared.placement.Code.{Code}
+use Rattle.linker_output.specs.declared.placement.Part.{Part}
+use Rattle.linker_output.specs.declared.placement.Part.TheVariants.{Front, Middle, Back}
+use Rattle.linker_output.specs.declared.placement.State.{State}
+use Rattle.linker_output.specs.declared.placement.StubAt.{StubAt}
+use Rattle.linker_output.specs.Placement.{at, branch_at, group_at, part_of, passed, stub_at, IsCode}
+use Rattle.linker_output.specs.Inner.Placement.{AreLists, IsAt, IsNear, IsNearIn, IsNewNear, IsOutAhead, IsOutBehind, IsOutThere, IsState, level_of, list_at, list_of, new_stub}
+use Rattle.linker_output.proofs.Near.{nearer}
+use Rattle.linker_output.proofs.Passed.{true_le, false_lt}
+use Rattle.std.specs.Prelude.{nat_le}
+use Rattle.std.proofs.lemmas.List.Sums.{prefix_len_passes, prefix_len_stops}
+
+-- the list of a stub that is looked for
+in_list : (lists : ℕ) (stubs : List StubAt) (boundary : ℕ) (part : Part) (target s : ℕ) → IsAt stubs boundary part target s
+    → list_at lists stubs s ≡ list_of lists boundary target
+in_list lists stubs boundary part target s is =
+    ap (λ b. list_of lists b (stub_at stubs s).target) is.there.at_boundary ∙ ap (list_of lists boundary) is.there.of_target
+
+-- those that are looked for are before the head of their list
+pub before_head : (lists : ℕ) (stubs : List StubAt) (heads nexts : List ℕ) (boundary : ℕ) (part : Part) (target s : ℕ) → AreLists lists stubs heads nexts
+    → IsAt stubs boundary part target s → s < at heads (list_of lists boundary target)
+before_head lists stubs heads nexts boundary part target s are is =
+    subst (λ l. s < at heads l) (in_list lists stubs boundary part target s is) (are.first s is.within)
+
+-- and those before a stub of the list that isn't one of them are before the next
+pub before_next : (lists : ℕ) (stubs : List StubAt) (heads nexts : List ℕ) (boundary : ℕ) (part : Part) (target j s : ℕ) → AreLists lists stubs heads nexts
+    → j < length stubs → list_at lists stubs j ≡ list_of lists boundary target → ¬ IsAt stubs boundary part target j
+    → IsAt stubs boundary part target s → s < j + 1 → s < at nexts j
+before_next lists stubs heads nexts boundary part target j s are within listed none is below = ⊎_elim
+    (λ (same : s ≡ j). absurd (none (subst (IsAt stubs boundary part target) same is)))
+    (λ (apart : (s < j) ⊎ (j < s)). are.next s j (omega arith) within (in_list lists stubs boundary part target s is ∙ sym listed))
+    (cases_order s j)
+
+near_part : (part : Part) (code : Code) (branch : Branch) (stub : StubAt) → stub.part ≡ part → IsNearIn part code branch stub → IsNear code branch stub
+near_part part code branch stub e near = subst (λ p. IsNearIn p code branch stub) (sym e) near
+
+-- Where that of a target isn't near a branch, neither is a new one beside it.
+pub out_there : (code : Code) (state : State) (branch : Branch) (boundary : ℕ) (part : Part) (s : ℕ) → IsCode code → IsState code state → boundary < length code.boundaries.now
+    → IsAt state.stubs.items boundary part branch.target s → ¬ IsNear code branch (stub_at state.stubs.items s) → IsOutThere code state branch boundary part
+out_there code state branch boundary part s is_code is inside here far =
+    let stub : StubAt = stub_at state.stubs.items s in
+    let has = is.parts s here.within in
+    let index : stub.index < part_of part (group_at state.groups.items boundary) =
+    subst (λ p. stub.index < part_of p (group_at state.groups.items boundary)) here.there.in_part
+    (subst (λ b. stub.index < part_of stub.part (group_at state.groups.items b)) here.there.at_boundary has.index) in
+    record {
+      old = λ t there near. ⊎_elim
+          (λ (same : t ≡ s). far (subst (λ k. IsNear code branch (stub_at state.stubs.items k)) same near))
+          (λ (apart : (t < s) ⊎ (s < t)). ⊎_elim
+          (λ (below : t < s). is.shared t s below here.within (there.there.at_boundary ∙ sym here.there.at_boundary) (there.there.in_part ∙ sym here.there.in_part) (there.there.of_target ∙ sym here.there.of_target))
+          (λ (above : s < t). is.shared s t above there.within (here.there.at_boundary ∙ sym there.there.at_boundary) (here.there.in_part ∙ sym there.there.in_part) (here.there.of_target ∙ sym there.there.of_target))
+          apart)
+          (cases_order t s);
+      new = λ near. far (near_part part code branch stub here.there.in_part
+          (nearer part code branch stub (new_stub code state branch boundary part) is_code.len here.there.at_boundary (omega arith)
+          (λ e. subst (λ b. branch.offset < at code.boundaries.now b) (sym e) (next_above (subst (λ b. b < length code.boundaries.now) e inside)))
+          (λ below. true_le _ _ (prefix_len_passes (λ b. nat_le b branch.offset) code.boundaries.now boundary 0 below))
+          near));
+    }
+  where
+    next_above : passed code.boundaries.now branch.offset < length code.boundaries.now → branch.offset < at code.boundaries.now (passed code.boundaries.now branch.offset)
+    next_above h = false_lt _ _ (prefix_len_stops (λ b. nat_le b branch.offset) code.boundaries.now 0 h)
+
+-- A branch that is near none in the parts next to it is near none.
+module _ (code : Code) (state : State) (branch : Branch)
+    (front : IsOutAhead code state branch) (back : IsOutBehind code state branch) where
+  none_in : (part : Part) (s : ℕ) → s < length state.stubs.items → (stub_at state.stubs.items s).boundary < length code.boundaries.now → (stub_at state.stubs.items s).part ≡ part
+      → (stub_at state.stubs.items s).target ≡ branch.target → ¬ IsNearIn part code branch (stub_at state.stubs.items s)
+  none_in Front s within inside e target near =
+      (front (subst (λ b. b < length code.boundaries.now) near.0 inside)).old s (record { within = within; there = record { at_boundary = near.0; in_part = e; of_target = target } })
+      (near_part Front code branch (stub_at state.stubs.items s) e near)
+  none_in Middle s within inside e target near = near
+  none_in Back s within inside e target near =
+      (back (stub_at state.stubs.items s).boundary near.0).old s (record { within = within; there = record { at_boundary = refl; in_part = e; of_target = target } })
+      (near_part Back code branch (stub_at state.stubs.items s) e near)
+
+  pub no_near : IsState code state → (j : ℕ) → j < length state.stubs.items → (stub_at state.stubs.items j).target ≡ branch.target → ¬ IsNear code branch (stub_at state.stubs.items j)
+  no_near is s within target near = none_in (stub_at state.stubs.items s).part s within (is.parts s within).boundary refl target near
+
+-- a new stub in a part next to a branch
+pub new_near : (code : Code) (state : State) (index boundary : ℕ) (part : Part) → level_of part ≡ 2
+    → IsNear code (branch_at code.branches.now index) (new_stub code state (branch_at code.branches.now index) boundary part) → IsNewNear code state index boundary part
+new_near code state index boundary Front next near = near
+new_near code state index boundary Middle next near = tt
+new_near code state index boundary Back next near = near

@@ -1,0 +1,12 @@
+use Rattle.std.proofs.Common.{◌≡◌, ◌<◌, ℕ, length, true}
+use Rattle.std.specs.Prelude.{None, Some, false, slice_index_or}
+use Rattle.linker_output.proofs.placement.are_used.Given as goal
+
+abbrev pub invariant-loop-stub : goal.invariant-loop-stub
+invariant-loop-stub l = record {
+  len : length l.used.items ≡ l.len;
+  found : (j : ℕ) → slice_index_or l.used.items j false ≡ true → (i : ℕ) × (i < l.stub-index) × (slice_index_or l.stubs i None ≡ Some j);
+}
+
+abbrev pub invariant-loop-index : goal.invariant-loop-index
+invariant-loop-index l = (j : ℕ) → j < l.index → slice_index_or l.used.items j false ≡ true
