@@ -52,20 +52,20 @@ pub struct Recognised<K, R> {
 /// row has no bits.
 #[inline(always)]
 #[tactic(auto, using(crate::proofs::Same::in_none))]
-fn field_at(row: &Option<Row>, at: u64, bytes: &[u8]) -> Option<FieldBits>
+pub(crate) fn field_at(row: &Option<Row>, at: u64, bytes: &[u8]) -> Option<FieldBits>
     ensures some { IfSome result (λ field. HasField row.now at bytes.now
         × ((i j : ℕ) → is_in field i j ≡ is_in_field row.now at bytes.now i j)) }
     ensures none { IfNone result (HasField row.now at bytes.now → ⊥) }
 {
     match row {
-        Some(row) => FieldBits::of_row(row, at, bytes),
+        Some(row) => FieldBits::of_row(row, at, bytes).ok(),
         None => Some(FieldBits { offset: 0, bits: 0 }),
     }
 }
 
 /// Where the deleted bytes begin, at most 2^64 - 1, and how many they are.
 #[inline(always)]
-fn deleted_at(deleted: Option<DeletedBytes>, offset: u64) -> (u64, u64)
+pub(crate) fn deleted_at(deleted: Option<DeletedBytes>, offset: u64) -> (u64, u64)
     ensures start { result.0 ≡ min (deleted_start deleted offset) (2 ^ 64 - 1) }
     ensures count { result.1 ≡ deleted_count deleted }
 {

@@ -1,7 +1,7 @@
 //! The bits of a relocation's field, and bytes that differ in such bits only.
 
-ghost use Rattle.std.specs.Prelude.{◌≡◌, ◌<◌, ◌≤◌, ◌+◌, ◌*◌, ◌^◌, ◌==◌, ◌↔◌, ℕ, IsTrue, IfSome};
-ghost use Rattle.std.specs.Prelude.{IfNone, length};
+ghost use Rattle.std.specs.Prelude.{◌≡◌, ◌<◌, ◌≤◌, ◌+◌, ◌*◌, ◌^◌, ◌==◌, ◌↔◌, ℕ, IsTrue, IfOk};
+ghost use Rattle.std.specs.Prelude.{IfErr, length};
 ghost use Rattle.std.specs.Int.{bit_at};
 ghost use Rattle.linker_elf.specs.Relocate.{window_len};
 ghost use Rattle.linker_elf.specs.declared.elf.RelocationKindInfo.{RelocationKindInfo};
@@ -12,7 +12,7 @@ ghost use Rattle.linker_reading.specs.Inner.Words.{IsSameWordBut, AreSameFrom};
 ghost use Rattle.linker_reading.specs.WrittenRows.{ChangesField};
 
 use linker_base::utils::u32_from_slice;
-use linker_elf::elf::{RelocationKind, RelocationSize, Row};
+use linker_elf::elf::{RelocateError, RelocationKind, RelocationSize, Row};
 
 /// Some of the bits of the eight bytes from an offset of a window on.
 #[repr(C)]
@@ -78,8 +78,9 @@ pub fn field_bits(row: &Row, bytes: &[u8]) -> u64
 }
 
 impl FieldBits {
-    /// The bits that a write of a row at an offset of a window may change. None if the row's window
-    /// isn't there.
+    /// The bits that a write of a row at an offset of a window may change. The window is the whole
+    /// one, from its first byte on, and not what begins at the offset. `TooShort` exactly where the
+    /// row's window doesn't lie in it.
     ///
     /// ```
     /// use linker_reading::recognise::fields::FieldBits;
@@ -93,16 +94,18 @@ impl FieldBits {
     /// ```
     #[inline]
     #[tactic(auto, using(crate::proofs::Same::in_row))]
-    pub fn of_row(row: &Row, offset: u64, window: &[u8]) -> Option<FieldBits>
-        ensures some { IfSome result (λ field. (offset + window_len row.now ≤ length window.now)
+    pub fn of_row(row: &Row, offset: u64, window: &[u8]) -> Result<FieldBits, RelocateError>
+        ensures ok { IfOk result (λ field. (field.offset ≡ offset)
+            × (offset + window_len row.now ≤ length window.now)
             × ((i j : ℕ) → is_in field i j ≡ is_in_row row.now offset window.now i j)) }
-        ensures none { IfNone result (length window.now < offset + window_len row.now) }
+        ensures err { IfErr result (λ error. (error ≡ RelocateError.TooShort)
+            × (length window.now < offset + window_len row.now)) }
     {
         let row_window = row.window();
         if window.len() < row_window || offset > (window.len() - row_window) as u64 {
-            return None;
+            return Err(RelocateError::TooShort);
         }
-        Some(FieldBits {
+        Ok(FieldBits {
             offset,
             bits: field_bits(row, &window[offset as usize..]),
         })

@@ -38,16 +38,16 @@ pub struct Recognised<K, R> {
 /// The bits of a relocation's field at an offset, if its window is there. A relocation without a
 /// row has no bits.
 #[inline(always)]
-fn field_at(row: &Option<Row>, at: u64, bytes: &[u8]) -> Option<FieldBits> {
+pub(crate) fn field_at(row: &Option<Row>, at: u64, bytes: &[u8]) -> Option<FieldBits> {
     match row {
-        Some(row) => FieldBits::of_row(row, at, bytes),
+        Some(row) => FieldBits::of_row(row, at, bytes).ok(),
         None => Some(FieldBits { offset: 0, bits: 0 }),
     }
 }
 
 /// Where the deleted bytes begin, at most 2^64 - 1, and how many they are.
 #[inline(always)]
-fn deleted_at(deleted: Option<DeletedBytes>, offset: u64) -> (u64, u64) {
+pub(crate) fn deleted_at(deleted: Option<DeletedBytes>, offset: u64) -> (u64, u64) {
     match deleted {
         Some(bytes) => (offset.saturating_add(bytes.start), u64::from(bytes.count)),
         None => (0, 0),

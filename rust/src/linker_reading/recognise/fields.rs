@@ -3,7 +3,7 @@
 //! The bits of a relocation's field, and bytes that differ in such bits only.
 
 use crate::linker_base::utils::u32_from_slice;
-use crate::linker_elf::elf::{RelocationKind, RelocationSize, Row};
+use crate::linker_elf::elf::{RelocateError, RelocationKind, RelocationSize, Row};
 
 /// Some of the bits of the eight bytes from an offset of a window on.
 #[repr(C)]
@@ -68,8 +68,9 @@ pub fn field_bits(row: &Row, bytes: &[u8]) -> u64 {
 }
 
 impl FieldBits {
-    /// The bits that a write of a row at an offset of a window may change. None if the row's window
-    /// isn't there.
+    /// The bits that a write of a row at an offset of a window may change. The window is the whole
+    /// one, from its first byte on, and not what begins at the offset. `TooShort` exactly where the
+    /// row's window doesn't lie in it.
     ///
     /// ```
     /// use linker_utils::recognise::FieldBits;
@@ -81,14 +82,13 @@ impl FieldBits {
     /// let field = FieldBits::of_row(&row, 2, &jal).unwrap();
     /// assert_eq!((field.offset, field.bits), (2, 0xffff_f000));
     /// ```
-    #[must_use]
     #[inline]
-    pub fn of_row(row: &Row, offset: u64, window: &[u8]) -> Option<FieldBits> {
+    pub fn of_row(row: &Row, offset: u64, window: &[u8]) -> Result<FieldBits, RelocateError> {
         let row_window = row.window();
         if window.len() < row_window || offset > (window.len() - row_window) as u64 {
-            return None;
+            return Err(RelocateError::TooShort);
         }
-        Some(FieldBits {
+        Ok(FieldBits {
             offset,
             bits: field_bits(row, &window[offset as usize..]),
         })
