@@ -1,5 +1,5 @@
 // SPDX-License-Identifier: MIT OR Apache-2.0
-//! Writes a test of each export, from the heads of the functions that `tools/erase` put in
+//! Writes a test of each export, and a call of it for `rust/fuzz`, from the heads of the functions that `tools/erase` put in
 //! `../exports/src`.
 
 use std::fmt::Write;
@@ -11,24 +11,28 @@ const EXPORTS: &str = "../exports/src";
 fn main() {
     println!("cargo:rerun-if-changed={EXPORTS}");
     // the tests count what both sides take
-    println!("cargo:rustc-link-arg=-Wl,--wrap=malloc,--wrap=realloc");
+    if env::var("CARGO_PKG_NAME").as_deref() == Ok("sathunne-compare") {
+        println!("cargo:rustc-link-arg=-Wl,--wrap=malloc,--wrap=realloc");
+    }
     let mut files: Vec<PathBuf> = fs::read_dir(EXPORTS)
         .expect("the exports are there")
         .map(|entry| entry.expect("an entry of it").path())
         .filter(|path| path.is_file())
         .collect();
     files.sort();
-    let mut tests = String::new();
+    let (mut tests, mut names) = (String::new(), String::new());
     for file in files {
         let module = file.file_stem().expect("a name").to_string_lossy();
         let text = fs::read_to_string(&file).expect("a file of exports");
         for head in text.split("\npub fn linker_utils_").skip(1) {
             tests += &test_of(&module, &head[..head.find(" {\n").expect("a body")]);
+            names += &format!("linker_utils_{} ", &head[..head.find('(').expect("parameters")]);
         }
         for head in text.split("\npub struct ").skip(1) {
             tests += &fields(&module, &head[..head.find("\n}").expect("an end")]);
         }
     }
+    tests += &format!("all! {{ {names} }}\n");
     let out = PathBuf::from(env::var("OUT_DIR").expect("cargo sets it"));
     fs::write(out.join("exports.rs"), tests).expect("the tests are written");
 }

@@ -4,7 +4,7 @@
 //! its value, `reaches` says whether that can be written, and `write` puts it into the instruction.
 //!
 //! usage: assemble MACHINE ADDRESS < SOURCE    MACHINE: `e_machine`, as 183 for AArch64; the bytes are
-//! printed in hexadecimal, each instruction in a line of its own
+//! printed in hexadecimal, each instruction in a line of its own. Its status is 0, or 1 after an error.
 
 mod instructions;
 
@@ -175,6 +175,15 @@ fn assemble(machine: Architecture, source: &str, address: u64) -> Result<Vec<Vec
 fn run() -> Result<(), String> {
     let usage = "usage: assemble MACHINE ADDRESS < SOURCE";
     let arguments: Vec<String> = std::env::args().skip(1).collect();
+    let said = match arguments.first().map(|first| &first[..]) {
+        Some("--help") => Some(usage),
+        Some("--version") => Some(concat!("assemble ", env!("CARGO_PKG_VERSION"))),
+        _ => None,
+    };
+    if let Some(said) = said {
+        println!("{said}");
+        return Ok(());
+    }
     let [machine, address] = &arguments[..] else { return Err(usage.into()) };
     let machine = Architecture::from_machine(machine.parse().map_err(|_| usage)?).ok_or(usage)?;
     let address = u64::from_str_radix(address.trim_start_matches("0x"), 16).map_err(|_| usage)?;

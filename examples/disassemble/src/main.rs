@@ -4,6 +4,7 @@
 //! one of the library's forms, of x86-64 each field of a relocation.
 //!
 //! usage: disassemble FILE..
+//! Its status is 0, or 1 after an error; it ends with the first.
 //!
 //! A line is the address and, of an instruction, its form and the number in its immediate; where two
 //! instructions make one address, a line more has the number of both. Of a relocation it is the name,
@@ -224,6 +225,22 @@ fn print(path: &str, out: &mut impl Write) -> Result<(), Failure> {
 }
 
 fn main() -> ExitCode {
+    let usage = "usage: disassemble FILE..";
+    match std::env::args().nth(1).as_deref() {
+        None => {
+            eprintln!("{usage}");
+            return ExitCode::FAILURE;
+        }
+        Some("--help") => {
+            println!("{usage}");
+            return ExitCode::SUCCESS;
+        }
+        Some("--version") => {
+            println!(concat!("disassemble ", env!("CARGO_PKG_VERSION")));
+            return ExitCode::SUCCESS;
+        }
+        _ => {}
+    }
     let mut out = BufWriter::new(io::stdout().lock());
     for path in std::env::args().skip(1) {
         if let Err(error) = print(&path, &mut out) {

@@ -3,15 +3,8 @@
 //! same, leave the same behind and allocate as often.
 
 use exports::*;
-use linker_utils::elf::{Operands, RelocationNumbers, RewriteWindow};
-use linker_utils::output::{LazyEntry, Origins};
-use linker_utils::placement::{Branch, StubShape};
-use linker_utils::recognise::FieldBits;
-use linker_utils::relaxation::{BlockHead, Call, RelaxDelta};
-use linker_utils::rewriting::{KeptFacts, KeptGroups, OutputFacts, SymbolFacts};
 use linker_utils::runs::relaxation::{Shape, Shapes};
 use linker_utils::runs::shapes::{fixed, loongarch64, riscv64};
-use linker_utils::section::{Addresses, Symbol};
 use std::cell::Cell;
 use std::ffi::c_void;
 
@@ -328,31 +321,7 @@ macro_rules! fields {
     };
 }
 
-fields! { RelaxDelta: input_offset, bytes_deleted, cumulative_deleted, }
-fields! { BlockHead: input_offset, output_offset, }
-fields! { Call: site, target, }
-fields! { FieldBits: offset, bits, }
-fields! { RewriteWindow: back, len, }
-fields! {
-    Symbol: address, size, stub, address_entry, thread_entry, module_entry, descriptor,
-    entry_addend, other, is_thread_local, is_undefined_weak,
-}
-fields! { Addresses: section, got_base, thread_origin, module_origin, module_entry, }
-fields! {
-    SymbolFacts: is_local, is_ifunc, is_absolute, is_undefined_weak, is_tls_get_addr, other,
-}
-fields! { OutputFacts: is_executable, is_fixed, has_near_symbols, }
-fields! { KeptGroups: initial_exec, general_dynamic, local_dynamic, descriptor, got_load, }
-fields! { KeptFacts: bits, }
-fields! { Origins: thread_pointer, module_block, }
-fields! { LazyEntry: address, word, header, index, }
-fields! { Branch: offset, target, max_backward, max_forward, }
-fields! { StubShape: len, unit, max_backward, max_forward, }
-fields! { Operands: symbol, addend, place, got_entry, got_base, plt_entry, symbol_size, tls_base, }
-fields! {
-    RelocationNumbers: kind, form, mask, machine, is_bits, byte_size, first_bit, end_bit,
-    has_range, thunkable, implicit_addend, min, max, alignment, bias,
-}
+include!("fields.rs");
 
 /// Shapes of an architecture, or others.
 impl Made for Shapes {
@@ -426,6 +395,11 @@ fn is_met<T: PartialEq + Default>(name: &str, returned: &[T]) {
     assert!(returned.contains(&T::default()), "{name} never returns 0");
     let is_varied = returned.iter().any(|other| *other != returned[0]);
     assert!(is_varied || size_of::<T>() == 0, "{name} always returns the same");
+}
+
+/// The names of all, which rust/fuzz needs.
+macro_rules! all {
+    ($($name:ident)*) => {};
 }
 
 include!(concat!(env!("OUT_DIR"), "/exports.rs"));
