@@ -1163,8 +1163,8 @@ static inline uint32_t linker_utils_has_its_instructions(uint16_t machine, const
  * LINKER_UTILS_TARGET_OUT_OF_REACH. Only the first three can be of a site with one shape.
  * LINKER_UTILS_DELETED_OUTSIDE where bytes before the item are deleted that are of no item: an item
  * is missing; `faulty` is `items_len` where they are behind the last item. With any status except
- * LINKER_UTILS_OK nothing is written. It takes O((k + m) log n + m log k) for k items, m relocations
- * and n deltas, and a step for each byte of the section and each delta in it. */
+ * LINKER_UTILS_OK nothing is written. For k items, m relocations and n deltas it takes O((k + m)
+ * log n + m log k). Beside that it takes a step for each byte of the section and each delta in it. */
 static inline uint32_t linker_utils_pack_run(
     uint16_t machine, const uint8_t *section, size_t section_len, uint64_t base,
     const struct linker_utils_item *items, size_t items_len,
