@@ -1057,10 +1057,10 @@ static inline uint32_t linker_utils_rewritten_items(
  * from LINKER_UTILS_ITEMS_OVERLAP on say what is required of them. The run's granularity is the
  * greatest of its short shapes, and 1 where there are none.
  *
- * The status is the first fault of the first faulty item, in the order of these statuses, with
- * LINKER_UTILS_MISALIGNED after LINKER_UTILS_UNEVEN_SHAPE and LINKER_UTILS_MAY_BE_MISALIGNED as the
- * last, and `faulty` is this item. Those from LINKER_UTILS_UNEVEN_SHAPE on are returned only where
- * no item has one of those before. O(n log n) for n items.
+ * The status is the first fault of the first faulty item, which is `faulty`, in the order of these
+ * statuses: LINKER_UTILS_MISALIGNED is after LINKER_UTILS_UNEVEN_SHAPE, and
+ * LINKER_UTILS_MAY_BE_MISALIGNED the last. Those from LINKER_UTILS_UNEVEN_SHAPE on are returned only
+ * where no item has one of those before. O(n log n) for n items.
  *
  * LINKER_UTILS_MISALIGNED: an R_LARCH_CALL36, with its shapes, whose target is not a multiple of 4
  * bytes away.
@@ -1168,7 +1168,7 @@ static inline uint32_t linker_utils_has_its_instructions(uint16_t machine, const
  * LINKER_UTILS_DELETED_OUTSIDE where bytes before the item are deleted that are of no item: an item
  * is missing; `faulty` is `items_len` where they are behind the last item. With any status except
  * LINKER_UTILS_OK nothing is written. For k items, m relocations and n deltas it takes O((k + m)
- * log n + m log k), and a step for each byte of the section and each delta in it. */
+ * log n + m log k). Beside that it takes a step for each byte of the section and each delta in it. */
 static inline uint32_t linker_utils_pack_run(
     uint16_t machine, const uint8_t *section, size_t section_len, uint64_t base,
     const struct linker_utils_item *items, size_t items_len,

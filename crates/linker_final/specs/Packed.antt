@@ -1,8 +1,8 @@
 -- Sections that get shorter between their rewrites and their values: a section of a relaxed run is
 -- packed, and then its values are written. What its final bytes are of the section before.
-use Rattle.std.specs.Prelude.{◌≡◌, ◌≢◌, ◌⊎◌, ℕ, ◌+◌, ◌-◌, ◌/◌, ◌^◌, ◌<◌, ◌≤◌, List, length}
+use Rattle.std.specs.Prelude.{◌≡◌, ◌≢◌, ℕ, ◌+◌, ◌-◌, ◌/◌, ◌<◌, ◌≤◌, List, length}
 use Rattle.std.specs.Prelude.{take, drop, slice_index, IsTrue, Ok, Some, true, false, ℤ}
-use Rattle.linker_base.specs.Deletions.{is_kept, rank}
+use Rattle.linker_base.specs.Deletions.{is_kept}
 use Rattle.linker_base.specs.declared.bit_misc.BitRange.{BitRange}
 use Rattle.linker_elf.specs.Applied.{IsApplied}
 use Rattle.linker_elf.specs.Relocate.{window_len}

@@ -97,7 +97,16 @@ pub fn pack_section(
     if addresses.section != address_of(deltas, start, base) {
         return Err(PackError::Misplaced);
     }
-    if let Err(rejected) = pack_run(machine, section, base, items, deltas, start, relocations, out) {
+    if let Err(rejected) = pack_run(
+        machine,
+        section,
+        base,
+        items,
+        deltas,
+        start,
+        relocations,
+        out,
+    ) {
         return Err(PackError::Packing(rejected));
     }
     match relocate_section(

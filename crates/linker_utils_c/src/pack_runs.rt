@@ -133,7 +133,17 @@ pub extern "C" fn linker_utils_pack_run_nonnull(
     ensures faulty_stays { ¬ IsOneOf item_statuses result → faulty.new ≡ faulty.old }
 {
     match packing_machine(machine) {
-        Some(known) => pack(known, section, base, items, deltas, start, relocations, packed, faulty),
+        Some(known) => pack(
+            known,
+            section,
+            base,
+            items,
+            deltas,
+            start,
+            relocations,
+            packed,
+            faulty,
+        ),
         None => Status::UnknownArchitecture.number(),
     }
 }
@@ -173,7 +183,16 @@ fn pack(
     if packed.len() != packed_run_len(base, section.len(), deltas) {
         return Status::DifferentLengths.number();
     }
-    match pack_run(machine, section, base, items, deltas, start, relocations, packed) {
+    match pack_run(
+        machine,
+        section,
+        base,
+        items,
+        deltas,
+        start,
+        relocations,
+        packed,
+    ) {
         Ok(()) => Status::Success.number(),
         Err(rejected) => {
             *faulty = rejected.index;

@@ -89,7 +89,17 @@ pub fn linker_utils_pack_run_nonnull(
     faulty: &mut usize,
 ) -> u32 {
     match packing_machine(machine) {
-        Some(known) => pack(known, section, base, items, deltas, start, relocations, packed, faulty),
+        Some(known) => pack(
+            known,
+            section,
+            base,
+            items,
+            deltas,
+            start,
+            relocations,
+            packed,
+            faulty,
+        ),
         None => Status::UnknownArchitecture.number(),
     }
 }
@@ -111,7 +121,16 @@ fn pack(
     if packed.len() != packed_run_len(base, section.len(), deltas) {
         return Status::DifferentLengths.number();
     }
-    match pack_run(machine, section, base, items, deltas, start, relocations, packed) {
+    match pack_run(
+        machine,
+        section,
+        base,
+        items,
+        deltas,
+        start,
+        relocations,
+        packed,
+    ) {
         Ok(()) => Status::Success.number(),
         Err(rejected) => {
             *faulty = rejected.index;

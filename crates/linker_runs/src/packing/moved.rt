@@ -1,6 +1,6 @@
 //! The relocations of a packed section.
 
-ghost use Rattle.std.specs.Prelude.{◌≡◌, ◌≢◌, ◌+◌, ◌*◌, ◌/◌, ◌<◌, ◌≤◌, ◌^◌, ℕ, List, length};
+ghost use Rattle.std.specs.Prelude.{◌≡◌, ◌≢◌, ◌+◌, ◌*◌, ◌/◌, ◌<◌, ◌^◌, ℕ, List, length};
 ghost use Rattle.std.specs.Prelude.{MatchOption, drop};
 ghost use Rattle.linker_base.specs.Deltas.{deletions_of};
 ghost use Rattle.linker_base.specs.Inner.Packing.{IsPosition};
@@ -76,13 +76,7 @@ fn code_at_item(machine: Machine, item: &Item, kept: u64, code: u32) -> u32
                 short_code(machine, kept, code)
             }
         }
-        Item::Aligned(_) => {
-            if code == align_code(machine) {
-                0
-            } else {
-                code
-            }
-        }
+        Item::Aligned(_) => { if code == align_code(machine) { 0 } else { code } }
     }
 }
 

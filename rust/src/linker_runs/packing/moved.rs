@@ -59,13 +59,7 @@ fn code_at_item(machine: Machine, item: &Item, kept: u64, code: u32) -> u32 {
                 short_code(machine, kept, code)
             }
         }
-        Item::Aligned(_) => {
-            if code == align_code(machine) {
-                0
-            } else {
-                code
-            }
-        }
+        Item::Aligned(_) => { if code == align_code(machine) { 0 } else { code } }
     }
 }
 

@@ -1,4 +1,4 @@
-use Rattle.std.proofs.Common.{◌≡◌, ℕ, ◌+◌, ◌*◌, ◌/◌, ◌<◌, ◌∙◌, below_more, drop, length, ap, sym, subst, arith}
+use Rattle.std.proofs.Common.{◌≡◌, ◌*◌, ◌/◌, ◌<◌, ◌∙◌, below_more, drop, length, sym, subst, arith}
 use Rattle.linker_base.specs.Deltas.{deletions_of}
 use Rattle.linker_runs.specs.Moved.{IsMoved}
 use Rattle.linker_runs.specs.Packing.{section_of}

@@ -1,4 +1,4 @@
-use Rattle.std.proofs.Common.{rules, ◌≡◌, ◌+◌, ◌-◌, ◌∙◌, refl, ap, sym, subst, arith}
+use Rattle.std.proofs.Common.{rules, ◌≡◌, ◌+◌, ◌-◌, ◌∙◌, ap, sym, subst, arith}
 use Rattle.linker_base.specs.Deltas.{deletions_of}
 use Rattle.linker_base.specs.Deletions.{rank}
 use Rattle.linker_runs.specs.Moved.{BecomesCode}
