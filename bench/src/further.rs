@@ -503,6 +503,7 @@ fn reading(report: &mut Report) {
                             original.len(),
                             at,
                             &site.operands(),
+                            0,
                             &mut destination,
                         ),
                     ]
@@ -520,6 +521,7 @@ fn reading(report: &mut Report) {
                 original.len(),
                 *at,
                 operands,
+                0,
                 &mut destination,
             )
         });

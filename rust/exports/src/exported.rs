@@ -1507,6 +1507,7 @@ unsafe extern "C" fn linker_utils_destination_nonnull(
     original_len: usize,
     offset: u64,
     operands: *const Operands,
+    st_other: u8,
     destination: *mut DestinationNumbers,
 ) -> u32 {
     // SAFETY: the arguments are as the head of the header says.
@@ -1517,6 +1518,7 @@ unsafe extern "C" fn linker_utils_destination_nonnull(
             from_raw_parts(original, original_len),
             offset,
             &*operands,
+            st_other,
             &mut *destination,
         )
     }
