@@ -1245,11 +1245,13 @@ struct linker_utils_recognised {
 #define LINKER_UTILS_CANDIDATES 6
 
 /* The window that `linker_utils_recognise` wants in bytes of an object, at most 64, around the
- * relocation at an offset of them, into `window`. It is the least one with the bytes of each choice
- * of its table that is meant for what is there. They are those that the rewrite writes and deletes,
- * and the field of the relocation after it. A choice whose bytes aren't all given isn't counted:
- * give 16 before the offset and 48 from there on, or those that there are. Where no choice has its
- * bytes there the status is LINKER_UTILS_OK, and `back` and `len` are 0.
+ * relocation at an offset of them, into `window`. It is the least one in which that call finds each
+ * rewrite that it finds in all of these bytes. So it has the bytes that the rewrites write and
+ * delete, those that `linker_utils_matches` reads, and the fields of the relocations after them.
+ * What other relocations write there is to be named in `others`. A rewrite whose bytes aren't all
+ * given isn't counted: give 16 before the offset and 44 from there on, or those that there are. On
+ * PowerPC64 the first is to be at a multiple of 4 in its section. Where no rewrite has its bytes
+ * there the status is LINKER_UTILS_OK, and `back` and `len` are 0.
  * LINKER_UTILS_UNKNOWN_ARCHITECTURE. LINKER_UTILS_WINDOW_TOO_LONG. */
 static inline uint32_t linker_utils_recognise_window(uint16_t machine, uint32_t r_type,
                                                      const uint8_t *original, size_t original_len,
@@ -1305,7 +1307,9 @@ struct linker_utils_destination {
 /* Where a relocation leads that `linker_utils_recognise` or `linker_utils_recognise_chosen` found
  * with the same original bytes and offset, into `destination`. Of the operands the addend is that
  * before the rewrite, and the place is the address of the field in the linked file; which others
- * are read `linker_utils_solve` says. LINKER_UTILS_UNKNOWN_ARCHITECTURE;
+ * are read `linker_utils_solve` says. `st_other` is that of the symbol. Only of a branch of PowerPC64
+ * it is read: `symbol` is lower by the distance of the local entry point that it says. With 0 it is
+ * where the branch goes, to that entry point or to a stub. LINKER_UTILS_UNKNOWN_ARCHITECTURE;
  * LINKER_UTILS_WINDOW_TOO_LONG; LINKER_UTILS_UNKNOWN_REWRITE; LINKER_UTILS_NO_ADDRESS of a
  * relocation without a value, of one that `linker_utils_solve` has no address for, and of a rewrite
  * that isn't meant for what is there. */
@@ -1314,6 +1318,7 @@ static inline uint32_t linker_utils_destination(uint16_t machine,
                                                 const uint8_t *original, size_t original_len,
                                                 uint64_t offset,
                                                 const struct linker_utils_operands *operands,
+                                                uint8_t st_other,
                                                 struct linker_utils_destination *destination);
 
 #endif

@@ -1061,16 +1061,19 @@ uint32_t linker_utils_destination_nonnull(uint16_t machine,
                                           const uint8_t *original, size_t original_len,
                                           uint64_t offset,
                                           const struct linker_utils_operands *operands,
+                                          uint8_t st_other,
                                           struct linker_utils_destination *destination);
 static inline uint32_t linker_utils_destination(uint16_t machine,
                                                 const struct linker_utils_recognised *made,
                                                 const uint8_t *original, size_t original_len,
                                                 uint64_t offset,
                                                 const struct linker_utils_operands *operands,
+                                                uint8_t st_other,
                                                 struct linker_utils_destination *destination) {
     return linker_utils_destination_nonnull(machine, made,
                                             LINKER_UTILS_SLICE(const uint8_t, original),
-                                            original_len, offset, operands, destination);
+                                            original_len, offset, operands, st_other,
+                                            destination);
 }
 
 #undef LINKER_UTILS_SLICE

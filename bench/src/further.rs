@@ -504,6 +504,7 @@ fn reading(report: &mut Report) {
                             original.len(),
                             at,
                             &site.operands(),
+                            0,
                             &mut destination,
                         ),
                     ]
@@ -521,6 +522,7 @@ fn reading(report: &mut Report) {
                 original.len(),
                 *at,
                 operands,
+                0,
                 &mut destination,
             )
         });

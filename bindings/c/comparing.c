@@ -2,9 +2,11 @@
 /* Comparing: what two linkers made of a relocation of an object: the rewrite, and the symbol. */
 #include <elf.h>
 #include <stdio.h>
-#include <string.h>
 
 #include "linker_utils.h"
+
+/* R_X86_64_CODE_4_GOTPCRELX, which older <elf.h> lack */
+enum { CODE_4_GOTPCRELX = 43 };
 
 /* Prints what stands in a linked section, at an address, for a relocation in that of the object. */
 static void show(uint32_t r_type, int64_t addend, const uint8_t *object, size_t len, uint64_t at,
@@ -17,25 +19,22 @@ static void show(uint32_t r_type, int64_t addend, const uint8_t *object, size_t 
     linker_utils_recognise(EM_X86_64, r_type, object + begin, window.len, window.back, NULL, 0,
                            linked + begin, window.len, found, LINKER_UTILS_CANDIDATES, &count);
     for (size_t i = 0; i < count; i++) {
-        uint8_t after[64];
-        uint64_t field = at, place = address + begin + found[i].offset;
-        int64_t added = addend;
-        memcpy(after, object, len);
-        linker_utils_apply(EM_X86_64, found[i].choice.rewrite, found[i].choice.opcode_len, after,
-                           len, &field, &added);
-        struct linker_utils_operands operands = linker_utils_operands_of(0, 0, place);
-        struct linker_utils_field_value sum = {0, 0, 0, 0};
-        uint32_t which;
-        linker_utils_solve(EM_X86_64, found[i].choice.relocation, &found[i].value, &operands,
-                           &which, &sum);
-        printf("rewrite %u, %#x\n", found[i].choice.rewrite, (unsigned)(sum.bits - added));
+        struct linker_utils_operands operands =
+            linker_utils_operands_of(0, addend, address + begin + found[i].offset);
+        struct linker_utils_destination to = {{0, 0, 0, 0}, 0, 0, 0, 0};
+        linker_utils_destination(EM_X86_64, &found[i], object + begin, window.len, window.back,
+                                 &operands, 0, &to);
+        printf("rewrite %u, %#x\n", found[i].choice.rewrite, (unsigned)to.symbol);
     }
 }
 
 int main(void) { /* mov x@GOTPCREL(%rip), %rax became lea x(%rip), %rax, and mov $x, %rax */
     const uint8_t object[7] = {0x48, 0x8b, 0x05}, one[7] = {0x48, 0x8d, 0x05, 0x09, 0x30};
     const uint8_t other[7] = {0x48, 0xc7, 0xc0, 0x10, 0x50, 0x40};
+    /* the same of %r16, with a prefix of two bytes */
+    const uint8_t rex2[8] = {0xd5, 0x48, 0x8b, 0x05}, lea[8] = {0xd5, 0x48, 0x8d, 0x05, 0x08, 0x30};
     show(R_X86_64_REX_GOTPCRELX, -4, object, 7, 3, one, 0x401000);
     show(R_X86_64_REX_GOTPCRELX, -4, object, 7, 3, other, 0x402000);
+    show(CODE_4_GOTPCRELX, -4, rex2, 8, 4, lea, 0x401000);
     return 0;
 }

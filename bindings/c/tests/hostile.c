@@ -2366,7 +2366,7 @@ static void call_destination(void) {
         .tls_base = any_number()};
     struct linker_utils_destination *found = output(sizeof *found);
     uint32_t status = CALL(destination, machine, made->given, original->given, original->len, offset,
-                           given->given, found);
+                           given->given, (uint8_t)any(), found);
     if (status == LINKER_UTILS_OK) {
         expect_field_value(&found->address);
         expect(found->reference <= LINKER_UTILS_REFERENCE_PLT_ENTRY && found->has_symbol <= 1 &&

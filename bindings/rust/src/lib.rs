@@ -2645,12 +2645,13 @@ pub fn recognise_chosen(
 
 /// Where a relocation leads that `recognise` or `recognise_chosen` found in these original bytes, whose
 /// offset in them is given. Of the operands the addend is that before the rewrite, and the place the
-/// address of the field in the linked file.
+/// address of the field in the linked file. `st_other` is the symbol's, which branches of PowerPC64 read.
 pub fn destination(
     made: &Recognised,
     original: &[u8],
     offset: u64,
     operands: &Operands,
+    st_other: u8,
 ) -> Result<Destination, Status> {
     let (machine, rewrite, opcode_len) = made.choice.rewrite.numbers();
     let made = raw::Recognised {
@@ -2672,6 +2673,7 @@ pub fn destination(
             original.len(),
             offset,
             operands,
+            st_other,
             &mut found,
         )
     };

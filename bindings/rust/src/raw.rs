@@ -1024,6 +1024,7 @@ extern "C" {
         original_len: usize,
         offset: u64,
         operands: *const Operands,
+        st_other: u8,
         destination: *mut Destination,
     ) -> u32;
 }

@@ -213,14 +213,14 @@ fn a_rewritten_load_leads_to_its_symbol() {
     let windows = Windows { original: &original, offset: 3, others: &[], linked: &linked };
     let found = recognise(X86_64, 42, windows).unwrap();
     let operands = Operands { addend: -4, place: 0x401003, ..Operands::default() };
-    let led = destination(&found[0], &original, 3, &operands).unwrap();
+    let led = destination(&found[0], &original, 3, &operands, 0).unwrap();
     // the next instruction is at 0x401007
     assert_eq!((led.reference, led.symbol, led.addend), (Reference::Symbol, Some(0x403017), -4));
     assert_eq!(led.address.number(), Some(0x403013));
     // without a value
     let none = Recognised { value: None, ..found[0].clone() };
-    assert_eq!(destination(&none, &original, 3, &operands), Err(Status::NoAddress));
-    assert_eq!(destination(&found[0], &[0; 65], 3, &operands), Err(Status::WindowTooLong));
+    assert_eq!(destination(&none, &original, 3, &operands, 0), Err(Status::NoAddress));
+    assert_eq!(destination(&found[0], &[0; 65], 3, &operands, 0), Err(Status::WindowTooLong));
 }
 
 #[test]

@@ -7,13 +7,13 @@ pub mod Chosen
 pub mod FieldBits
 pub mod Formulas
 pub mod Found
-pub mod LeastWindow
 pub mod LoongArchFieldBits
 pub mod LoongArchNumbers
 pub mod LoongArchWritten
 pub mod Masked
 pub mod Masks
 pub mod Numbers
+pub mod Parts
 pub mod Ppc64FieldBits
 pub mod Ppc64Numbers
 pub mod Ppc64Written

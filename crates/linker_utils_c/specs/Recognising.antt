@@ -121,33 +121,35 @@ abbrev pub IsSymbol : Option ℕ → DestinationNumbers → Type 0
 IsSymbol None numbers = (numbers.has_symbol ≡ 0) × (numbers.symbol ≡ 0)
 IsSymbol (Some symbol) numbers = (numbers.has_symbol ≡ 1) × (numbers.symbol ≡ symbol)
 
-pub record IsDestinationInNumbers (d : Destination) (numbers : DestinationNumbers) : Type 0 where
+pub record IsDestinationInNumbers (d : Destination) (st_other : ℕ) (numbers : DestinationNumbers)
+    : Type 0 where
   pub address : field_of numbers.address ≡ d.address
   pub addend : numbers.addend ≡ d.addend
   pub reference : numbers.reference ≡ reference_number d.reference
-  pub symbol : IsSymbol (symbol_of d) numbers
+  pub symbol : IsSymbol (symbol_of d st_other) numbers
 
-abbrev pub IsDestinationPut : Option Destination → DestinationNumbers → DestinationNumbers → ℕ
+abbrev pub IsDestinationPut : Option Destination → ℕ → DestinationNumbers → DestinationNumbers → ℕ
     → Type 0
-IsDestinationPut None old new status = (status ≡ code NoAddress) × (new ≡ old)
-IsDestinationPut (Some d) old new status = (status ≡ code Success) × IsDestinationInNumbers d new
+IsDestinationPut None st_other old new status = (status ≡ code NoAddress) × (new ≡ old)
+IsDestinationPut (Some d) st_other old new status =
+    (status ≡ code Success) × IsDestinationInNumbers d st_other new
 
 -- after a rewrite, or no rewrite has the numbers
 abbrev pub IsDestinationOf : Architecture → Option Relaxation → RecognisedNumbers → List ℕ → ℕ
-    → Operands → DestinationNumbers → DestinationNumbers → ℕ → Type 0
-IsDestinationOf architecture None made original o operands old new status =
+    → Operands → ℕ → DestinationNumbers → DestinationNumbers → ℕ → Type 0
+IsDestinationOf architecture None made original o operands st_other old new status =
     (status ≡ code UnknownRewrite) × (new ≡ old)
-IsDestinationOf architecture (Some kind) made original o operands old new status =
+IsDestinationOf architecture (Some kind) made original o operands st_other old new status =
     (row : Option RelocationKindInfo) × IsRow architecture made.choice.relocation row
     × (d : Option Destination)
     × IsDestination row (Some (field_of made.value)) kind original o operands d
-    × IsDestinationPut d old new status
+    × IsDestinationPut d st_other old new status
 
 -- of a relocation in at most 64 bytes
 pub record IsDestinationReturned (architecture : Architecture) (made : RecognisedNumbers)
-    (original : List ℕ) (o : ℕ) (operands : Operands) (old new : DestinationNumbers) (status : ℕ)
-    : Type 0 where
+    (original : List ℕ) (o : ℕ) (operands : Operands) (st_other : ℕ)
+    (old new : DestinationNumbers) (status : ℕ) : Type 0 where
   pub long : 64 < length original → (status ≡ code WindowTooLong) × (new ≡ old)
   pub short : length original ≤ 64 → IsDestinationOf architecture
       (rewrite_of_number architecture made.choice.rewrite made.choice.opcode_len) made original o
-      operands old new status
+      operands st_other old new status

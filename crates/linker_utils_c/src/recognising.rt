@@ -291,7 +291,8 @@ pub struct DestinationNumbers {
     pub address: FieldValueNumbers,
     /// A, the addend of the relocation after the rewrite.
     pub addend: i64,
-    /// S, or L of a relocation that goes by a PLT entry; 0 where `has_symbol` is.
+    /// S, or L of a relocation that goes by a PLT entry, as `symbol` of `Destination` returns it; 0
+    /// where `has_symbol` is.
     pub symbol: u64,
     /// Which address it is: 0 S + A, 1 the GOT entry's, 2 L + A.
     pub reference: u32,
@@ -301,10 +302,10 @@ pub struct DestinationNumbers {
 
 /// A destination in numbers.
 #[inline(always)]
-fn destination_in(destination: &Destination) -> DestinationNumbers
-    ensures { IsDestinationInNumbers destination.now result }
+fn destination_in(destination: &Destination, st_other: u8) -> DestinationNumbers
+    ensures { IsDestinationInNumbers destination.now st_other result }
 {
-    let (has_symbol, symbol) = match destination.symbol() {
+    let (has_symbol, symbol) = match destination.symbol(st_other) {
         Some(symbol) => (1, symbol),
         None => (0, 0),
     };
@@ -319,12 +320,16 @@ fn destination_in(destination: &Destination) -> DestinationNumbers
 
 /// Writes where a relocation leads, if it leads anywhere.
 #[inline(always)]
-fn put_destination(found: Option<Destination>, destination: &mut DestinationNumbers) -> u32
-    ensures { IsDestinationPut found destination.old destination.new result }
+fn put_destination(
+    found: Option<Destination>,
+    st_other: u8,
+    destination: &mut DestinationNumbers,
+) -> u32
+    ensures { IsDestinationPut found st_other destination.old destination.new result }
 {
     match found {
         Some(found) => {
-            *destination = destination_in(&found);
+            *destination = destination_in(&found, st_other);
             Status::Success.number()
         }
         None => Status::NoAddress.number(),
@@ -338,12 +343,13 @@ fn put_destination_of(
     original: &[u8],
     offset: u64,
     operands: &Operands,
+    st_other: u8,
     destination: &mut DestinationNumbers,
 ) -> u32
     requires { length original.now ≤ 64 }
     ensures { IsDestinationOf architecture (rewrite_of_number architecture made.now.choice.rewrite
-        made.now.choice.opcode_len) made.now original.now offset operands.now destination.old
-        destination.new result }
+        made.now.choice.opcode_len) made.now original.now offset operands.now st_other
+        destination.old destination.new result }
 {
     let choice = &made.choice;
     let Some(kind) = architecture.rewrite(choice.rewrite, choice.opcode_len) else {
@@ -359,13 +365,15 @@ fn put_destination_of(
     };
     put_destination(
         destination_of(architecture, &made, original, offset, operands),
+        st_other,
         destination,
     )
 }
 
 /// Where a relocation leads that `linker_utils_recognise` or `linker_utils_recognise_chosen` found,
-/// with the same original bytes and offset, as `destination_of` of `linker_reading`. The first that
-/// applies of `UnknownArchitecture`; `WindowTooLong`; `UnknownRewrite`; `NoAddress`.
+/// with the same original bytes and offset, as `destination_of` of `linker_reading`; the symbol by
+/// its `st_other`. The first that applies of `UnknownArchitecture`; `WindowTooLong`;
+/// `UnknownRewrite`; `NoAddress`.
 #[unsafe(no_mangle)]
 pub extern "C" fn linker_utils_destination_nonnull(
     machine: u16,
@@ -373,10 +381,11 @@ pub extern "C" fn linker_utils_destination_nonnull(
     original: &[u8],
     offset: u64,
     operands: &Operands,
+    st_other: u8,
     destination: &mut DestinationNumbers,
 ) -> u32
     ensures known { IfSome (architecture_of machine) (λ architecture.
-        IsDestinationReturned architecture made.now original.now offset operands.now
+        IsDestinationReturned architecture made.now original.now offset operands.now st_other
         destination.old destination.new result) }
     ensures unknown { IfNone (architecture_of machine) ((result ≡ code Status.UnknownArchitecture)
         × (destination.new ≡ destination.old)) }
@@ -387,5 +396,13 @@ pub extern "C" fn linker_utils_destination_nonnull(
     if original.len() > MAX_WINDOW {
         return Status::WindowTooLong.number();
     }
-    put_destination_of(architecture, made, original, offset, operands, destination)
+    put_destination_of(
+        architecture,
+        made,
+        original,
+        offset,
+        operands,
+        st_other,
+        destination,
+    )
 }

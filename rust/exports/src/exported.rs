@@ -1511,6 +1511,7 @@ unsafe extern "C" fn linker_utils_destination_nonnull(
     original_len: usize,
     offset: u64,
     operands: *const Operands,
+    st_other: u8,
     destination: *mut DestinationNumbers,
 ) -> u32 {
     // SAFETY: the arguments are as the head of the header says.
@@ -1521,6 +1522,7 @@ unsafe extern "C" fn linker_utils_destination_nonnull(
             from_raw_parts(original, original_len),
             offset,
             &*operands,
+            st_other,
             &mut *destination,
         )
     }

@@ -232,7 +232,8 @@ pub struct DestinationNumbers {
     pub address: FieldValueNumbers,
     /// A, the addend of the relocation after the rewrite.
     pub addend: i64,
-    /// S, or L of a relocation that goes by a PLT entry; 0 where `has_symbol` is.
+    /// S, or L of a relocation that goes by a PLT entry, as `symbol` of `Destination` returns it; 0
+    /// where `has_symbol` is.
     pub symbol: u64,
     /// Which address it is: 0 S + A, 1 the GOT entry's, 2 L + A.
     pub reference: u32,
@@ -242,8 +243,8 @@ pub struct DestinationNumbers {
 
 /// A destination in numbers.
 #[inline(always)]
-fn destination_in(destination: &Destination) -> DestinationNumbers {
-    let (has_symbol, symbol) = match destination.symbol() {
+fn destination_in(destination: &Destination, st_other: u8) -> DestinationNumbers {
+    let (has_symbol, symbol) = match destination.symbol(st_other) {
         Some(symbol) => (1, symbol),
         None => (0, 0),
     };
@@ -258,10 +259,14 @@ fn destination_in(destination: &Destination) -> DestinationNumbers {
 
 /// Writes where a relocation leads, if it leads anywhere.
 #[inline(always)]
-fn put_destination(found: Option<Destination>, destination: &mut DestinationNumbers) -> u32 {
+fn put_destination(
+    found: Option<Destination>,
+    st_other: u8,
+    destination: &mut DestinationNumbers,
+) -> u32 {
     match found {
         Some(found) => {
-            *destination = destination_in(&found);
+            *destination = destination_in(&found, st_other);
             Status::Success.number()
         }
         None => Status::NoAddress.number(),
@@ -275,6 +280,7 @@ fn put_destination_of(
     original: &[u8],
     offset: u64,
     operands: &Operands,
+    st_other: u8,
     destination: &mut DestinationNumbers,
 ) -> u32 {
     let choice = &made.choice;
@@ -291,19 +297,22 @@ fn put_destination_of(
     };
     put_destination(
         destination_of(architecture, &made, original, offset, operands),
+        st_other,
         destination,
     )
 }
 
 /// Where a relocation leads that `linker_utils_recognise` or `linker_utils_recognise_chosen` found,
-/// with the same original bytes and offset, as `destination_of` of `linker_reading`. The first that
-/// applies of `UnknownArchitecture`; `WindowTooLong`; `UnknownRewrite`; `NoAddress`.
+/// with the same original bytes and offset, as `destination_of` of `linker_reading`; the symbol by
+/// its `st_other`. The first that applies of `UnknownArchitecture`; `WindowTooLong`;
+/// `UnknownRewrite`; `NoAddress`.
 pub fn linker_utils_destination_nonnull(
     machine: u16,
     made: &RecognisedNumbers,
     original: &[u8],
     offset: u64,
     operands: &Operands,
+    st_other: u8,
     destination: &mut DestinationNumbers,
 ) -> u32 {
     let Some(architecture) = Architecture::from_machine(machine) else {
@@ -312,5 +321,13 @@ pub fn linker_utils_destination_nonnull(
     if original.len() > MAX_WINDOW {
         return Status::WindowTooLong.number();
     }
-    put_destination_of(architecture, made, original, offset, operands, destination)
+    put_destination_of(
+        architecture,
+        made,
+        original,
+        offset,
+        operands,
+        st_other,
+        destination,
+    )
 }

@@ -3,11 +3,15 @@
 //! Which bytes around a relocation recognising compares, and where a recognised one leads.
 
 use crate::linker_reading::fields::FieldValue;
-use crate::linker_reading::recognise::{CANDIDATES, Choices, MAX_WINDOW, Recognised, RecognisedName};
+use crate::linker_reading::recognise::{
+    CANDIDATES, Choices, MAX_WINDOW, Recognised, RecognisedName, deleted_at, field_at,
+};
 use crate::linker_reading::solving::{Reference, solve, terms_of};
 use crate::linker_base::rewrite::RewriteWindow;
 use crate::linker_elf::elf::choice_table::RelocationName;
-use crate::linker_elf::elf::{InstructionRewrite, Row};
+use crate::linker_elf::elf::{
+    InstructionRewrite, Ppc64Instruction, RelocationInstruction, RelocationSize, Row,
+};
 use crate::architecture::Relaxation;
 use crate::elf::{Architecture, Choice, Operands};
 
@@ -21,41 +25,37 @@ fn place_after(kind: Relaxation, original: &[u8], offset: u64, addend: i64) -> (
     (at, addend_now)
 }
 
-/// How many bytes the field of a row has.
-fn field_len(row: &Option<Row>) -> u64 {
-    match row {
-        Some(row) => row.window() as u64,
-        None => 0,
+/// Whether a choice is one of some.
+fn is_listed<N: RecognisedName>(choices: &Choices<N::Kind, N>, choice: Choice<N::Kind, N>) -> bool {
+    for index in 0..choices.1 {
+        if choices.0[index] == choice {
+            return true;
+        }
     }
+    false
 }
 
-/// The bytes of a choice, from the first one to below the end, if its rewrite is meant for what is
-/// at the offset and they are there.
-fn bytes_of<N: RecognisedName>(
+/// Whether a choice is one of those that are listed for bytes, its rewrite is meant for what is at the
+/// offset, and all is there that `recognise` compares.
+fn is_there<N: RecognisedName>(
+    listed: &Choices<N::Kind, N>,
     choice: Choice<N::Kind, N>,
-    original: &[u8],
+    bytes: &[u8],
     offset: u64,
-) -> Option<(u64, u64)> {
+) -> bool {
     let kind = N::relaxation(choice.kind);
-    if !kind.matches(original, offset) {
-        return None;
+    if !kind.matches(bytes, offset) {
+        return false;
     }
-    let (at, _) = place_after(kind, original, offset, 0);
-    let window = kind.window();
-    let begin = offset.saturating_sub(window.back);
-    let written = begin.saturating_add(window.len);
-    let deleted = match kind.deleted() {
-        Some(bytes) => offset
-            .saturating_add(bytes.start)
-            .saturating_add(u64::from(bytes.count)),
-        None => 0,
-    };
-    let field = at.saturating_add(field_len(&choice.relocation.find_row()));
-    let end = written.max(deleted.max(field));
-    if end > original.len() as u64 {
-        return None;
+    let (at, _) = place_after(kind, bytes, offset, 0);
+    if field_at(&choice.relocation.find_row(), at, bytes).is_none() {
+        return false;
     }
-    Some((begin.min(at), end))
+    let (start, count) = deleted_at(kind.deleted(), offset);
+    if start.saturating_add(count) > bytes.len() as u64 {
+        return false;
+    }
+    is_listed(listed, choice)
 }
 
 /// The choice at an index.
@@ -67,19 +67,44 @@ fn choice_at<N: RecognisedName>(
     choices[index]
 }
 
-/// The least window around an offset with the bytes of each of some choices that
-/// is meant for what is there.
+/// Whether each choice that is there is so in the bytes from `begin` to `end`, too.
+fn has_each<N: RecognisedName>(
+    name: N,
+    choices: &Choices<N::Kind, N>,
+    original: &[u8],
+    offset: u64,
+    begin: u64,
+    end: u64,
+) -> bool {
+    let len = original.len() as u64;
+    let from = begin.min(len);
+    let part = &original[from as usize..end.min(len).max(from) as usize];
+    let at = offset - begin;
+    let listed = name.listed(part, at);
+    for index in 0..choices.1 {
+        let choice = choice_at(&choices.0, index);
+        if is_there(choices, choice, original, offset) && !is_there(&listed, choice, part, at) {
+            return false;
+        }
+    }
+    true
+}
+
+/// The window that begins at the last byte, and ends at the first one, with which each choice is
+/// there that is there in all bytes.
 pub(crate) fn least_window<N: RecognisedName>(
+    name: N,
     choices: &Choices<N::Kind, N>,
     original: &[u8],
     offset: u64,
 ) -> RewriteWindow {
+    let len = original.len() as u64;
     let (mut begin, mut end) = (offset, offset);
-    for index in 0..choices.1 {
-        if let Some((first, behind)) = bytes_of(choice_at(&choices.0, index), original, offset) {
-            begin = begin.min(first);
-            end = end.max(behind);
-        }
+    while begin > 0 && !has_each(name, choices, original, offset, begin, len) {
+        begin -= 1;
+    }
+    while end < len && !has_each(name, choices, original, offset, begin, end) {
+        end += 1;
     }
     RewriteWindow {
         back: offset - begin,
@@ -96,23 +121,58 @@ pub struct Destination {
     pub address: FieldValue,
     /// A, the addend of the relocation after the rewrite.
     pub addend: i64,
+    /// Whether it is where a branch of PowerPC64 goes, which enters a function of its own output at
+    /// the local entry point.
+    pub is_local_entry: bool,
 }
 
 impl Destination {
-    /// S, or L of a relocation that goes by a PLT entry: the address less the addend. `None` of the
-    /// GOT entry's, and where not all bits are known, as of a half of an address.
+    /// The address less the addend: S, or L of a relocation that goes by a PLT entry; of a branch
+    /// of PowerPC64 the function's local entry point, or a stub. `None` of the GOT entry's, and
+    /// where not all bits are known, as of a half of an address.
     #[must_use]
-    pub fn symbol(&self) -> Option<u64> {
+    pub fn local_entry(&self) -> Option<u64> {
         if !is_of_symbol(self.reference) {
             return None;
         }
         let address = self.address.number()?;
         Some(address.wrapping_sub(self.addend as u64))
     }
+
+    /// The same, but S also of a branch of PowerPC64 that goes to the function itself, by the
+    /// symbol's `st_other` (64-Bit ELF V2 ABI, "Symbol Values"). Of all else it isn't read.
+    #[must_use]
+    pub fn symbol(&self, st_other: u8) -> Option<u64> {
+        let entry = self.local_entry()?;
+        Some(entry.wrapping_sub(entry_distance(self.is_local_entry, st_other)))
+    }
 }
 
 fn is_of_symbol(reference: Reference) -> bool {
     !matches!(reference, Reference::GotEntry)
+}
+
+/// How far behind the symbol a branch goes: bits 5 to 7 of `st_other` say the logarithm.
+fn entry_distance(is_local: bool, st_other: u8) -> u64 {
+    let logarithm = st_other / 32;
+    if is_local && logarithm > 1 {
+        1 << logarithm
+    } else {
+        0
+    }
+}
+
+/// Whether a row is that of a branch of PowerPC64.
+fn is_local_entry(size: RelocationSize) -> bool {
+    matches!(
+        size,
+        RelocationSize::BitMasking {
+            insn: RelocationInstruction::Ppc64(
+                Ppc64Instruction::Branch14 | Ppc64Instruction::Branch24
+            ),
+            ..
+        }
+    )
 }
 
 /// Where a relocation with a row and a value leads, after a rewrite.
@@ -145,6 +205,7 @@ fn destination_by(
         reference: terms.reference,
         address,
         addend,
+        is_local_entry: is_local_entry(info.size),
     })
 }
 

@@ -123,10 +123,15 @@ pub fn recognise_chosen(
 }
 
 /// The window that `recognise` wants, in bytes of an object around the relocation with a code at an
-/// offset of them: the least one with the bytes of each choice of its table that is meant for what
-/// is there. They are those that the rewrite writes and deletes, and the field of the relocation
-/// after it. It begins `back` bytes before the offset. A choice whose bytes aren't all given isn't
-/// counted: give 16 before the offset and 48 from there on, or those that there are.
+/// offset of them. It begins at the last byte, and ends at the first one, with which `recognise`
+/// finds each choice that it finds in all of these bytes. So it has the bytes that their rewrites
+/// write and delete, those that `matches` reads, and the fields of the relocations after them. What
+/// other relocations write there is to be named in `others`. It begins `back` bytes before the
+/// offset.
+///
+/// A choice whose bytes aren't all given isn't counted: give 16 before the offset and 44 from there
+/// on, or those that there are. On PowerPC64 the first byte has to be at a multiple of 4 in its
+/// section, since `matches` tests where an instruction begins.
 pub fn window_of(
     architecture: Architecture,
     code: u32,
@@ -137,6 +142,6 @@ pub fn window_of(
     ensures { IsWindowOf architecture code original.now offset result }
 {
     of_name!(architecture, code, name => {
-        windows::least_window(&name.listed(original, offset), original, offset)
+        windows::least_window(name, &name.listed(original, offset), original, offset)
     })
 }

@@ -377,7 +377,7 @@ fn relocations_have_their_meaning() {
 }
 
 /// `adrp` and `add` in reach of `adr`: the bytes before, the value, and the bytes after.
-static NOP_ADR: [([u8; 8], u64, [u8; 8]); 8] = [
+pub(crate) static NOP_ADR: [([u8; 8], u64, [u8; 8]); 8] = [
     (
         [0x1e, 0x00, 0x00, 0x90, 0xde, 0x03, 0x00, 0x91],
         0x3,

@@ -4,7 +4,7 @@
 mod assembled;
 mod choices;
 mod linked;
-mod relaxed;
+pub(crate) mod relaxed;
 
 use assembled::{BRANCH_21, BRANCH_26, SHIFT_5, SHIFT_10};
 use linked::{ABSOLUTE, CALL_36, FIVE, PAGE_PAIR};

@@ -3,7 +3,7 @@
 //! worked values.
 
 mod choices;
-mod linked;
+pub(crate) mod linked;
 
 use linker_utils::bit_misc::BitExtraction;
 use linker_utils::elf::{

@@ -1,16 +1,21 @@
 // SPDX-License-Identifier: MIT OR Apache-2.0
 //! What linkers made of instructions and sequences.
 
+use crate::{aarch64, loongarch64, ppc64, riscv64, x86_64};
 use linker_utils::aarch64::{AArch64Relocation, RelaxationKind as AArch64Kind};
 use linker_utils::architecture::Relaxation;
 use linker_utils::bit_misc::BitRange;
-use linker_utils::elf::{Architecture, Choice, LinkFacts};
+use linker_utils::choice_table::ChosenByTable;
+use linker_utils::elf::{
+    Architecture, Choice, InstructionRewrite, LinkFacts, Operands, RelocateError,
+};
 use linker_utils::loongarch64::{LoongArch64Relocation, RelaxationKind as LoongArchKind};
 use linker_utils::ppc64::{Ppc64Relocation, RelaxationKind as Ppc64Kind};
 use linker_utils::reading::FieldValue;
 use linker_utils::recognise::{FieldBits, Recognised, architecture, recognise, same_but_for};
 use linker_utils::riscv64::{RelaxationKind as RiscVKind, RiscVRelocation};
 use linker_utils::x86_64::{RelaxationKind as X86Kind, X86_64Relocation};
+use std::collections::BTreeSet;
 
 fn x86_64_choice(kind: X86Kind, relocation: X86_64Relocation) -> Choice<X86Kind, X86_64Relocation> {
     Choice { kind, relocation }
@@ -292,4 +297,325 @@ fn jumps_and_kept_moves_are_recognised() {
     ] {
         assert_eq!(same_but_for(&row, &word.to_le_bytes(), &other.to_le_bytes()), is_same);
     }
+}
+
+/// Bytes of an object with a relocation, and what a linker made of them.
+struct Site {
+    architecture: Architecture,
+    code: u32,
+    offset: usize,
+    before: Vec<u8>,
+    after: Vec<u8>,
+    /// The rewrite, where a table names it.
+    kind: Option<Relaxation>,
+    /// Whether all but the relocation's own instruction is that of other relocations.
+    is_one_of_many: bool,
+}
+
+fn bytes_of(words: &[u32]) -> Vec<u8> {
+    words.iter().copied().flat_map(u32::to_le_bytes).collect()
+}
+
+/// All that linkers left in the tables of this folder.
+fn sites() -> Vec<Site> {
+    let mut all = vec![];
+    let mut add = |architecture, code, offset, before: &[u8], after: &[u8], kind| {
+        let (before, after) = (before.to_vec(), after.to_vec());
+        let is_one_of_many = false;
+        all.push(Site { architecture, code, offset, before, after, kind, is_one_of_many });
+    };
+    for it in &x86_64::REWRITES {
+        let kind = Some(Relaxation::X86_64(it.kind));
+        let (code, offset) = (it.name.elf_code(), it.offset as usize);
+        add(Architecture::X86_64, code, offset, &it.before, &it.after, kind);
+    }
+    for it in &x86_64::SEQUENCES {
+        let kind = Some(Relaxation::X86_64(it.kind));
+        let (code, offset) = (it.name.elf_code(), it.offset as usize);
+        add(Architecture::X86_64, code, offset, &it.before, &it.after, kind);
+    }
+    for &(code, _, _, place, before, after) in &ppc64::linked::SITES {
+        let (before, after) = (before.to_le_bytes(), after.to_le_bytes());
+        add(Architecture::Ppc64, code, (place % 4) as usize, &before, &after, None);
+    }
+    for &(code, _, _, _, _, before, after) in &riscv64::linked::SITES {
+        let left = after.to_le_bytes();
+        let left = if after == 0 { &[][..] } else { &left[..] };
+        add(Architecture::RiscV, code, 0, &before.to_le_bytes(), left, None);
+    }
+    let pairs = riscv64::pairs::SHORTENED_LUI.iter();
+    for (before, after) in pairs.map(|(before, _, after)| (&before[..4], &after[..2])) {
+        let kind = Some(Relaxation::RiscV(RiscVKind::Hi20ToCLui));
+        add(Architecture::RiscV, 26, 0, before, after, kind);
+    }
+    for (before, _, after) in &aarch64::NOP_ADR {
+        let kind = Some(Relaxation::AArch64(AArch64Kind::AdrpAddToNopAdr));
+        add(Architecture::AArch64, 277, 4, before, after, kind);
+    }
+    for &(code, offset, _, _, words, left) in &loongarch64::relaxed::SITES {
+        let listed = listed(Architecture::LoongArch64, code, &[], 0);
+        // GNU ld deletes what is a `nop` by the library
+        if left == 0 && listed.iter().all(|it| it.kind.deleted().is_none()) {
+            continue;
+        }
+        let index = (offset / 4) as usize;
+        let mut after = words.to_vec();
+        let mut kind = None;
+        match left {
+            0 => drop(after.remove(index)),
+            _ => after[index] = left,
+        }
+        // `pcaddi`, `bl` and `b`
+        match (left >> 25, left >> 26) {
+            (0x0c, _) => kind = Some(LoongArchKind::PcalaToPcaddi),
+            (_, 0x15) => kind = Some(LoongArchKind::CallToBl),
+            (_, 0x14) => kind = Some(LoongArchKind::CallToB),
+            _ => {}
+        }
+        if matches!(kind, Some(LoongArchKind::CallToBl | LoongArchKind::CallToB)) {
+            after.remove(index + 1);
+        }
+        all.push(Site {
+            architecture: Architecture::LoongArch64,
+            code,
+            offset: offset as usize,
+            before: bytes_of(&words),
+            after: bytes_of(&after),
+            kind: kind.map(Relaxation::LoongArch64),
+            is_one_of_many: true,
+        });
+    }
+    all
+}
+
+/// Filler before and behind the bytes of a site, so that there are 16 before an offset and 44 from
+/// there on, or more.
+fn between(bytes: &[u8]) -> Vec<u8> {
+    [&[0xa5; 16][..], bytes, &[0xa5; 44]].concat()
+}
+
+/// What is recognised in exactly the window of `window_of`, the original bytes of the window, and
+/// the offset there.
+fn found_in_window(site: &Site) -> (Vec<Choice<Relaxation, u32>>, Vec<u8>, u64) {
+    let (before, after) = (between(&site.before), between(&site.after));
+    let from = site.offset / 4 * 4;
+    let ample = &before[from..from + 60];
+    let offset = 16 + site.offset - from;
+    let window = architecture::window_of(site.architecture, site.code, ample, offset as u64);
+    let begin = from + offset - window.back as usize;
+    let original = &before[begin..begin + window.len as usize];
+    let linked = &after[begin..begin + original.len() - (site.before.len() - site.after.len())];
+    let own = window.back..window.back + 4;
+    let others: Vec<FieldBits> = (0..window.len)
+        .filter(|at| site.is_one_of_many && !own.contains(at))
+        .map(|offset| FieldBits { offset, bits: 0xff })
+        .collect();
+    let found = architecture::recognise(
+        site.architecture,
+        site.code,
+        original,
+        window.back,
+        &others,
+        linked,
+    );
+    let choices = found.into_iter().flatten().map(|made| made.choice).collect();
+    (choices, original.to_vec(), window.back)
+}
+
+#[test]
+fn what_linkers_made_is_recognised_in_its_window() {
+    for (index, site) in sites().iter().enumerate() {
+        let (found, original, _) = found_in_window(site);
+        let what = (index, site.architecture, site.code, original, &site.after);
+        match site.kind {
+            Some(kind) => assert!(found.iter().any(|it| it.kind == kind), "{what:x?}: {found:?}"),
+            None => assert!(!found.is_empty(), "{what:x?}"),
+        }
+    }
+}
+
+/// The choices of a table, of whatever stands there.
+macro_rules! listed {
+    ($variant:ident, $kinds:ty, $names:ty, $code:expr, $bytes:expr, $at:expr) => {
+        <$kinds as ChosenByTable>::entries(<$names>::from_elf($code), $bytes, $at)
+            .iter()
+            .map(|it| Choice {
+                kind: Relaxation::$variant(it.kind),
+                relocation: it.relocation.elf_code(),
+            })
+            .collect()
+    };
+}
+
+fn listed(
+    architecture: Architecture,
+    code: u32,
+    bytes: &[u8],
+    at: u64,
+) -> Vec<Choice<Relaxation, u32>> {
+    match architecture {
+        Architecture::AArch64 => {
+            listed!(AArch64, AArch64Kind, AArch64Relocation, code, bytes, at)
+        }
+        Architecture::RiscV => listed!(RiscV, RiscVKind, RiscVRelocation, code, bytes, at),
+        Architecture::LoongArch64 => {
+            listed!(LoongArch64, LoongArchKind, LoongArch64Relocation, code, bytes, at)
+        }
+        Architecture::Ppc64 => listed!(Ppc64, Ppc64Kind, Ppc64Relocation, code, bytes, at),
+        Architecture::X86_64 => listed!(X86_64, X86Kind, X86_64Relocation, code, bytes, at),
+        _ => unreachable!(),
+    }
+}
+
+/// Each entry of each table, at instructions that its rewrite is meant for.
+#[test]
+fn each_entry_is_recognised_in_its_window() {
+    let words = |words: &[u32], offsets: &[usize]| -> Vec<(Vec<u8>, usize)> {
+        offsets.iter().map(|offset| (bytes_of(words), *offset)).collect()
+    };
+    let mut samples: Vec<(Architecture, Vec<u8>, usize)> = vec![];
+    for site in sites() {
+        samples.push((site.architecture, site.before, site.offset));
+    }
+    let others = [
+        // adrp x0; ldr x0, [x0]; add x0, x0, #0; blr x1
+        (
+            Architecture::AArch64,
+            words(&[0x9000_0000, 0xf940_0000, 0x9100_0000, 0xd63f_0020], &[0, 4, 8, 12]),
+        ),
+        // auipc ra; jalr ra, 0(ra); auipc t1; jr t1; lui a0; ld a1, 0(a0); sd a1, 0(a0)
+        (
+            Architecture::RiscV,
+            words(
+                &[0x97, 0x80e7, 0x317, 0x3_0067, 0x537, 0x5_3583, 0xb5_3023],
+                &[0, 8, 16, 20, 24],
+            ),
+        ),
+        // addi a0, a0, 0; jalr t0, 0(a1); c.lui a0, 1
+        (Architecture::RiscV, words(&[0x5_0513, 0x5_82e7, 0x6505], &[0, 4, 8])),
+        // pcaddu18i ra; jirl ra, ra; pcaddu18i t0; jr t0; pcalau12i a0; addi.d a0, a0
+        (
+            Architecture::LoongArch64,
+            words(
+                &[0x1e00_0001, 0x4c00_0021, 0x1e00_000c, 0x4c00_0180, 0x1a00_0004, 0x02c0_0084],
+                &[0, 8, 16, 20],
+            ),
+        ),
+        // addis 2, 12; addi 2, 2; bl; nop; addis 3, 13; addi 3, 3
+        (
+            Architecture::Ppc64,
+            words(
+                &[0x3c4c_0000, 0x3842_0000, 0x4800_0001, 0x6000_0000, 0x3c6d_0000, 0x3863_0000],
+                &[0, 4, 8, 16, 20],
+            ),
+        ),
+    ];
+    for (architecture, all) in others {
+        samples.extend(all.into_iter().map(|(bytes, offset)| (architecture, bytes, offset)));
+    }
+    for it in &x86_64::INSTRUCTIONS {
+        samples.push((Architecture::X86_64, it.bytes.to_vec(), it.offset as usize));
+    }
+    // adc, and, or, sbb and xor with REX2 and EVEX
+    for opcode in [0x13, 0x23, 0x0b, 0x1b, 0x33] {
+        let (rex2, evex) = ([0xd5, 0x48, opcode, 0x1d], [0x62, 0xf4, 0xec, 0x10, opcode, 0x0d]);
+        samples.push((Architecture::X86_64, [&rex2[..], &[0; 4]].concat(), 4));
+        samples.push((Architecture::X86_64, [&evex[..], &[0; 4]].concat(), 6));
+    }
+    let (mut all, mut tried) = (BTreeSet::new(), BTreeSet::new());
+    let name =
+        |code: u32, it: &Choice<Relaxation, u32>| (code, format!("{:?}", it.kind), it.relocation);
+    for code in 0..300 {
+        for architecture in [
+            Architecture::AArch64,
+            Architecture::RiscV,
+            Architecture::LoongArch64,
+            Architecture::Ppc64,
+        ] {
+            all.extend(listed(architecture, code, &[], 0).iter().map(|it| name(code, it)));
+        }
+        for opcode in 0..=u8::MAX {
+            let entries = listed(Architecture::X86_64, code, &[opcode, 0], 2);
+            all.extend(entries.iter().map(|it| name(code, it)));
+        }
+        for (architecture, before, offset) in &samples {
+            let mut site = Site {
+                architecture: *architecture,
+                code,
+                offset: *offset,
+                before: before.clone(),
+                after: before.clone(),
+                kind: None,
+                is_one_of_many: false,
+            };
+            for choice in listed(*architecture, code, before, *offset as u64) {
+                if !choice.kind.matches(before, *offset as u64) {
+                    continue;
+                }
+                let (mut at, mut addend) = (*offset as u64, 0);
+                site.after = before.clone();
+                choice.kind.apply(&mut site.after, &mut at, &mut addend);
+                if let Some(deleted) = choice.kind.deleted() {
+                    let start = offset + deleted.start as usize;
+                    site.after.drain(start..start + deleted.count as usize);
+                }
+                let (found, original, back) = found_in_window(&site);
+                assert!(found.contains(&choice), "{code}: {choice:?} in {original:x?} at {back}");
+                tried.insert(name(code, &choice));
+            }
+        }
+    }
+    // no `mov`, `sub`, `cmp` or `test` has EVEX
+    let without = ["Mov", "Sub", "Cmp", "Test"].map(|it| format!("Rex{it}IndirectToAbsolute(6)"));
+    let untried: Vec<_> = all
+        .difference(&tried)
+        .filter(|(_, kind, _)| !without.iter().any(|it| kind.contains(it)))
+        .collect();
+    assert!(untried.is_empty(), "{} of {}: {untried:?}", untried.len(), all.len());
+}
+
+/// Branches of PowerPC64 and a word with an address, as ld.lld 19.1.7 linked them: the relocation,
+/// the words before and after, the address, and the symbol's `st_other` and value. GNU ld 2.40 wrote
+/// the same branches. Those of functions with two entry points go to the local one.
+#[test]
+fn a_branch_leads_to_the_symbol_behind_its_local_entry() {
+    let table: [(u32, u64, u64, u64, u8, u64, u64); 6] = [
+        (10, 0x4800_0001, 0x4800_0029, 0x1001_01c8, 0x60, 0x1001_01e8, 0x1001_01f0),
+        (10, 0x4800_0001, 0x4800_0035, 0x1001_01d0, 0x80, 0x1001_01f4, 0x1001_0204),
+        (116, 0x4800_0001, 0x4800_0031, 0x1001_01d8, 0x20, 0x1001_0208, 0x1001_0208),
+        (11, 0x4182_0000, 0x4182_0014, 0x1001_01dc, 0x60, 0x1001_01e8, 0x1001_01f0),
+        (10, 0x4800_0001, 0x4800_0011, 0x1001_01e0, 0x60, 0x1001_01e8, 0x1001_01f0),
+        // R_PPC64_ADDR64
+        (38, 0, 0x1001_01e8, 0x1003_0200, 0x60, 0x1001_01e8, 0x1001_01e8),
+    ];
+    for (code, before, after, place, st_other, symbol, entry) in table {
+        let is_branch = code != 38;
+        let len = if is_branch { 4 } else { 8 };
+        let (original, linked) = (before.to_le_bytes(), after.to_le_bytes());
+        let (original, linked) = (&original[..len], &linked[..len]);
+        let of = Architecture::Ppc64;
+        let found = architecture::recognise(of, code, original, 0, &[], linked);
+        let made = found.into_iter().flatten().next().expect("a choice");
+        let operands = Operands { place, ..Operands::default() };
+        let led = architecture::destination_of(of, &made, original, 0, &operands);
+        let led = led.expect("a destination");
+        assert_eq!(
+            (led.symbol(st_other), led.local_entry()),
+            (Some(symbol), Some(entry)),
+            "{code}"
+        );
+        assert_eq!(led.is_local_entry, is_branch, "{code}");
+    }
+}
+
+/// A field is at an offset of the whole window. Of what begins there it isn't.
+#[test]
+fn a_field_outside_of_the_window_is_an_error() {
+    let row = linker_utils::riscv64::row(RiscVRelocation::R_RISCV_JAL).expect("a row");
+    // c.nop; jal zero, 0
+    let window = [0x01, 0x00, 0x6f, 0x00, 0x00, 0x00];
+    let field = FieldBits { offset: 2, bits: 0xffff_f000 };
+    assert_eq!(FieldBits::of_row(&row, 2, &window), Ok(field));
+    assert_eq!(FieldBits::of_row(&row, 2, &window[2..]), Err(RelocateError::TooShort));
+    assert_eq!(FieldBits::of_row(&row, u64::MAX, &window), Err(RelocateError::TooShort));
 }

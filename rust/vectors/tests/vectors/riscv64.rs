@@ -3,8 +3,8 @@
 //! by hand from the manual.
 
 mod choices;
-mod linked;
-mod pairs;
+pub(crate) mod linked;
+pub(crate) mod pairs;
 mod words;
 
 use linker_utils::elf::{

@@ -3,23 +3,24 @@
 //! assemblers write both instructions, and worked values.
 
 mod choices;
+pub(crate) use choices::INSTRUCTIONS;
 
 use linker_utils::elf::{AllowedRange, RelocationKind, RelocationKindInfo, RelocationSize};
 use linker_utils::relaxation::RelocationModifier;
 use linker_utils::x86_64::{RelaxationKind, X86_64Relocation, may_be_skipped, relocation_from_raw};
 
-struct Rewrite {
+pub(crate) struct Rewrite {
     /// The relocation that the assembler writes.
-    name: X86_64Relocation,
-    kind: RelaxationKind,
-    offset: u64,
-    before: [u8; 10],
+    pub(crate) name: X86_64Relocation,
+    pub(crate) kind: RelaxationKind,
+    pub(crate) offset: u64,
+    pub(crate) before: [u8; 10],
     /// What the linker then puts into the field.
-    field: Option<u32>,
-    after: [u8; 10],
+    pub(crate) field: Option<u32>,
+    pub(crate) after: [u8; 10],
 }
 
-static REWRITES: [Rewrite; 71] = [
+pub(crate) static REWRITES: [Rewrite; 71] = [
     Rewrite {
         name: X86_64Relocation::R_X86_64_REX_GOTPCRELX,
         kind: RelaxationKind::MovIndirectToLea,
@@ -618,20 +619,20 @@ fn rewrites_match_linkers() {
 
 /// A TLS sequence as GNU as assembles it, with what follows it, and as GNU ld links it into a
 /// program.
-struct Sequence {
+pub(crate) struct Sequence {
     /// The relocation of the `lea`.
-    name: X86_64Relocation,
-    kind: RelaxationKind,
-    offset: u64,
-    before: [u8; 24],
+    pub(crate) name: X86_64Relocation,
+    pub(crate) kind: RelaxationKind,
+    pub(crate) offset: u64,
+    pub(crate) before: [u8; 24],
     /// The relocation of `__tls_get_addr`, as GNU as places it.
-    call: (u64, X86_64Relocation),
+    pub(crate) call: (u64, X86_64Relocation),
     /// The field's offset, and what the linker puts there.
-    field: Option<(usize, u32)>,
-    after: [u8; 24],
+    pub(crate) field: Option<(usize, u32)>,
+    pub(crate) after: [u8; 24],
 }
 
-static SEQUENCES: [Sequence; 8] = [
+pub(crate) static SEQUENCES: [Sequence; 8] = [
     Sequence {
         name: X86_64Relocation::R_X86_64_TLSGD,
         kind: RelaxationKind::TlsGdToLocalExec,

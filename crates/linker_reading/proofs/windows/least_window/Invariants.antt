@@ -1,7 +1,19 @@
-use Rattle.std.proofs.Common.{take}
-use Rattle.linker_reading.proofs.LeastWindow.{IsLeastOfFirst}
+use Rattle.std.proofs.Common.{◌-◌, ◌≤◌, ◌<◌, ℕ, length}
+use Rattle.linker_reading.specs.Windows.{HasEach}
 use Rattle.linker_reading.proofs.windows.least_window.Given as goal
 
-abbrev pub invariant-loop-index : goal.invariant-loop-index
-invariant-loop-index g l =
-    IsLeastOfFirst g.N.RecognisedName.how l.original l.offset (take l.choices.1 l.choices.0) l.begin l.end l.index
+abbrev pub invariant-loop-begin : goal.invariant-loop-begin
+invariant-loop-begin g l =
+    (l.begin ≤ l.offset)
+    × ((b : ℕ) → l.begin < b → b ≤ l.offset → HasEach g.N.RecognisedName.how l.fn.name l.original l.offset b (length l.original) → ⊥)
+
+abbrev pub decreases-loop-begin : goal.decreases-loop-begin
+decreases-loop-begin g l = l.begin
+
+abbrev pub invariant-loop-end : goal.invariant-loop-end
+invariant-loop-end g l =
+    (l.offset ≤ l.end)
+    × ((e : ℕ) → l.offset ≤ e → e < l.end → HasEach g.N.RecognisedName.how l.fn.name l.original l.offset l.begin e → ⊥)
+
+abbrev pub decreases-loop-end : goal.decreases-loop-end
+decreases-loop-end g l = l.len - l.end

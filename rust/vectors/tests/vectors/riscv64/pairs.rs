@@ -191,7 +191,7 @@ pub(super) const UI: [Pair; 88] = [
 ];
 
 /// `lui` and `addi` whose `lui` GNU ld makes a `c.lui`, the value, and what is left.
-pub(super) const SHORTENED_LUI: [([u8; 8], i64, [u8; 6]); 11] = [
+pub(crate) const SHORTENED_LUI: [([u8; 8], i64, [u8; 6]); 11] = [
     ([0xb7, 0x04, 0x00, 0x00, 0x93, 0x84, 0x04, 0x00], 6144, [0x89, 0x64, 0x93, 0x84, 0x04, 0x80]),
     (
         [0xb7, 0x01, 0x00, 0x00, 0x93, 0x81, 0x01, 0x00],

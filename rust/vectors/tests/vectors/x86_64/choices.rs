@@ -149,14 +149,14 @@ fn sequences_that_do_not_fit_stay() {
 
 /// An instruction, and the bits that can be others so that it is still one with a rewrite: the
 /// register, the width, and the operation.
-struct Instruction {
-    name: X86_64Relocation,
-    offset: u64,
-    bytes: [u8; 10],
-    free: [u8; 10],
+pub(crate) struct Instruction {
+    pub(crate) name: X86_64Relocation,
+    pub(crate) offset: u64,
+    pub(crate) bytes: [u8; 10],
+    pub(crate) free: [u8; 10],
 }
 
-static INSTRUCTIONS: [Instruction; 15] = [
+pub(crate) static INSTRUCTIONS: [Instruction; 15] = [
     // mov; or
     Instruction {
         name: X86_64Relocation::R_X86_64_REX_GOTPCRELX,
