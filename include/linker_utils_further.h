@@ -502,7 +502,7 @@ size_t linker_utils_most_stubs(size_t branches_len);
  *   how many there are in all. What was at an offset is so much higher as `before` says for the
  *   first boundary above it.
  * Each stub has a branch that goes by it. At a boundary a target has at most three: one next to
- * branches before it, one next to branches behind it, and one of branches farther away.
+ * branches before it, one next to branches after it, and one of branches farther away.
  * With any status but LINKER_UTILS_OK only `faulty` is written, and only where it says so.
  *
  * The first that applies of these, with the first index of it:

@@ -39,7 +39,7 @@ before_next lists stubs heads nexts boundary part target j s are within listed n
 near_part : (part : Part) (code : Code) (branch : Branch) (stub : StubAt) → stub.part ≡ part → IsNearIn part code branch stub → IsNear code branch stub
 near_part part code branch stub e near = subst (λ p. IsNearIn p code branch stub) (sym e) near
 
--- Where that of a target isn't near a branch, neither is a new one beside it.
+-- Where the stub of a target isn't near a branch, neither is a new one in the same part.
 pub out_there : (code : Code) (state : State) (branch : Branch) (boundary : ℕ) (part : Part) (s : ℕ) → IsCode code → IsState code state → boundary < length code.boundaries.now
     → IsAt state.stubs.items boundary part branch.target s → ¬ IsNear code branch (stub_at state.stubs.items s) → IsOutThere code state branch boundary part
 out_there code state branch boundary part s is_code is inside here far =

@@ -271,7 +271,7 @@ impl State {
     }
 }
 
-/// Whether a branch goes by each stub, of which there are so many.
+/// Whether a branch goes by each of `len` stubs.
 fn are_used(alloc: Global, stubs: &[Option<usize>], len: usize) -> Result<bool, OutOfMemory>
     ensures { IfOk result (λ used. used ≡ true → AreUsed stubs.now len) }
 {

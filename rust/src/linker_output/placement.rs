@@ -254,7 +254,7 @@ impl State {
     }
 }
 
-/// Whether a branch goes by each stub, of which there are so many.
+/// Whether a branch goes by each of `len` stubs.
 fn are_used(stubs: &[Option<usize>], len: usize) -> Result<bool, OutOfMemory> {
     let mut used = try_vec![false; len]?;
     for stub in stubs {

@@ -69,7 +69,7 @@ IsWay code stubs branch (Near s) =
     (s < length stubs) × ((stub_at stubs s).target ≡ branch.target)
     × IsNear code branch (stub_at stubs s)
 
--- in which of so many lists the stubs of a target at a boundary are
+-- in which of the lists the stubs of a target at a boundary are
 unfoldable pub list_of : ℕ → ℕ → ℕ → ℕ
 list_of lists boundary target = (boundary % 0x9e3779b1 * 0x9e3779b1 + target % 0x9e3779b1) % lists
 

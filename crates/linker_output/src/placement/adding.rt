@@ -68,7 +68,7 @@ impl Part {
 /// What the indexes of boundaries are multiplied by, a prime, so that stubs are spread over the lists.
 const SPREAD: usize = 0x9e37_79b1;
 
-/// In which of so many lists the stubs of a target at a boundary are.
+/// In which of the lists the stubs of a target at a boundary are.
 #[inline(always)]
 fn list_of(lists: usize, boundary: usize, target: usize) -> usize
     requires { 0 < lists }
