@@ -616,7 +616,7 @@ static inline uint32_t linker_utils_rewrite_section(
  * `linker_utils_survey` does before. So do those with a distance out of reach or an instruction
  * without a mark. Each phase has an array of its own, which begins with all false. `symbols` and
  * `values` both have the object's symbols at the indexes that its relocations name.
- * LINKER_UTILS_UNKNOWN_ARCHITECTURE; LINKER_UTILS_UNKNOWN_PHASE. */
+ * LINKER_UTILS_UNKNOWN_ARCHITECTURE; LINKER_UTILS_UNKNOWN_PHASE; LINKER_UTILS_FACTS_CONTRADICT. */
 static inline uint32_t linker_utils_survey_placed_section(
     uint16_t machine, uint32_t phase, const struct linker_utils_output_facts *output,
     const struct linker_utils_symbol_facts *symbols, size_t symbols_len,
@@ -637,11 +637,11 @@ static inline uint32_t linker_utils_survey_placed_section(
  * most one for each relocation. Further elements of `deleted` are unchanged, and it need not be
  * initialised. It may be null where there are none.
  *
- * LINKER_UTILS_UNKNOWN_ARCHITECTURE; LINKER_UTILS_UNKNOWN_PHASE; LINKER_UTILS_SHORT_MEMORY where
- * there are fewer decisions than relocations; LINKER_UTILS_NOT_SURVEYED and LINKER_UTILS_OVERLAPS
- * as above, of the relocation `faulty`; and LINKER_UTILS_SHORT_MEMORY where `deleted` has fewer
- * elements than there are deletions. With any status except LINKER_UTILS_OK the section, its
- * relocations and `deleted_used` are unchanged. */
+ * LINKER_UTILS_UNKNOWN_ARCHITECTURE; LINKER_UTILS_UNKNOWN_PHASE; LINKER_UTILS_FACTS_CONTRADICT of
+ * the symbol `faulty`; LINKER_UTILS_SHORT_MEMORY where there are fewer decisions than relocations;
+ * LINKER_UTILS_NOT_SURVEYED and LINKER_UTILS_OVERLAPS as above, of the relocation `faulty`; and
+ * LINKER_UTILS_SHORT_MEMORY where `deleted` has fewer elements than there are deletions. With any
+ * status except LINKER_UTILS_OK the section, relocations and `deleted_used` are unchanged. */
 static inline uint32_t linker_utils_rewrite_placed_section(
     uint16_t machine, uint32_t phase, const struct linker_utils_output_facts *output,
     const struct linker_utils_symbol_facts *symbols, size_t symbols_len,

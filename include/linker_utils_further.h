@@ -234,7 +234,8 @@ uint32_t linker_utils_entry_relocation(uint16_t machine, uint32_t r_type, uint32
  * What stays there already stays, and so does a word without an element. A relocation is of the
  * word at the address that it refers to, whichever its symbol. `symbols` and `values` are those of
  * `linker_utils_survey_placed_section`. Where an architecture has no such section nothing is noted.
- * It takes a search in log n steps for each load. LINKER_UTILS_UNKNOWN_ARCHITECTURE. */
+ * It takes a search in log n steps for each load. LINKER_UTILS_UNKNOWN_ARCHITECTURE;
+ * LINKER_UTILS_FACTS_CONTRADICT, also of the symbol of a word. */
 static inline uint32_t linker_utils_survey_address_loads(
     uint16_t machine, const struct linker_utils_output_facts *output,
     const struct linker_utils_symbol_facts *symbols, size_t symbols_len,
@@ -248,7 +249,8 @@ static inline uint32_t linker_utils_survey_address_loads(
  * LINKER_UTILS_FATE_REDIRECTED: they get the symbol and the addend of the word's relocation. `kept`
  * is what `linker_utils_survey_address_loads` noted of all sections of code of the object, with the
  * same facts, addresses and words. Nothing is deleted. The statuses, and what an error leaves, are
- * those of `linker_utils_rewrite_section`. */
+ * those of `linker_utils_rewrite_section`; before LINKER_UTILS_SHORT_MEMORY comes
+ * LINKER_UTILS_FACTS_CONTRADICT, of the symbol `faulty`. */
 static inline uint32_t linker_utils_rewrite_address_loads(
     uint16_t machine, const struct linker_utils_output_facts *output,
     const struct linker_utils_symbol_facts *symbols, size_t symbols_len,
@@ -271,7 +273,7 @@ static inline uint32_t linker_utils_rewrite_address_loads(
  * `__global_pointer$`. `symbols` and `values` are those of `linker_utils_survey_placed_section`.
  * `kept` has an element for each symbol, which is false at first; what stays there already stays,
  * and so does a symbol without an element. For other machines nothing is noted.
- * LINKER_UTILS_UNKNOWN_ARCHITECTURE. */
+ * LINKER_UTILS_UNKNOWN_ARCHITECTURE; LINKER_UTILS_FACTS_CONTRADICT. */
 static inline uint32_t linker_utils_survey_global_pointer(
     uint16_t machine, const struct linker_utils_output_facts *output,
     const struct linker_utils_symbol_facts *symbols, size_t symbols_len,
@@ -656,9 +658,11 @@ static inline uint32_t linker_utils_keep_facts(
  * and `kept` those of `linker_utils_keep_facts` when rewrites were chosen. So a symbol that was
  * local then, and isn't any more, doesn't get code that bypasses its entry of the GOT.
  *
- * LINKER_UTILS_UNKNOWN_ARCHITECTURE; LINKER_UTILS_SHORT_MEMORY; LINKER_UTILS_FACTS_CHANGED, and
- * `faulty` is the first relocation of whose symbol other facts are kept, or none; else the statuses
- * of `linker_utils_relocate_section`. The section is unchanged with each of them. */
+ * LINKER_UTILS_UNKNOWN_ARCHITECTURE; LINKER_UTILS_SHORT_MEMORY; LINKER_UTILS_FACTS_CONTRADICT, and
+ * `faulty` is the symbol's index; LINKER_UTILS_FACTS_CHANGED, and `faulty` is the first relocation
+ * of whose symbol other facts are kept, or none; LINKER_UTILS_NEEDS_STUB, and `faulty` is the first
+ * R_PPC64_REL24 of a symbol of another file without a stub; else the statuses of
+ * `linker_utils_relocate_section`. The section is unchanged with each of them. */
 static inline uint32_t linker_utils_relocate_rewritten_section(
     uint16_t machine, const struct linker_utils_output_facts *output,
     const struct linker_utils_symbol_facts *facts, size_t facts_len,

@@ -153,7 +153,10 @@
            "The function may return with another TOC pointer, and its symbol has no stub that " \
            "keeps the caller's.") \
     STATUS(OTHER_LENGTH, 82, \
-           "The instruction there is shorter or longer than the one that the relocation is for.")
+           "The instruction there is shorter or longer than the one that the relocation is for.") \
+    STATUS(FACTS_CONTRADICT, 83, \
+           "The facts and the values of a symbol contradict each other: it is local, and undefined " \
+           "and weak, or `other` is not the same.")
 
 enum linker_utils_status {
 #define LINKER_UTILS_STATUS(name, number, text) LINKER_UTILS_##name = number,

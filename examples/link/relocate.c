@@ -71,7 +71,7 @@ struct linker_utils_symbol known_symbol(const struct symbol *s, int64_t addend) 
     struct linker_utils_symbol known = {
         .address = address_of(s->output, s->offset), .entry_addend = addend,
         .stub = s->has_stub ? address_of(stubs, s->stub) : 0, .size = s->elf.st_size,
-        .other = s->elf.st_other, .is_thread_local = is_thread_local(s),
+        .other = is_ifunc(s) ? 0 : s->elf.st_other, .is_thread_local = is_thread_local(s),
         .is_undefined_weak = is_undefined_weak(s)};
     uint64_t *const of_class[] = {[LINKER_UTILS_ENTRY_ADDRESS] = &known.address_entry,
                                   [LINKER_UTILS_ENTRY_THREAD_OFFSET] = &known.thread_entry,
@@ -125,7 +125,7 @@ void relocate_section(struct section *s, const struct linker_utils_symbol_facts 
         machine, &linked, facts, count, s->object->facts, count, &here, TABLE_OF(s), values, count,
         BYTES_OF(s), memory, memory_len, &at);
     if (!status) return;
-    const Elf64_Rela *r = &s->relocations[at];
+    const Elf64_Rela *r = &s->relocations[at < s->relocations_len ? at : 0];
     const struct linker_utils_relocation_reach *reach = &kind_of(s, r)->reach;
     if (status == LINKER_UTILS_OUT_OF_REACH &&
         !linker_utils_value_at(machine, &here, TABLE_OF(s), values, count, at, &value))

@@ -4,7 +4,7 @@
 
 #define HIDDEN (UINT64_C(1) << 31) /* in a relocation's type: then the library knows it not */
 
-/* What is known of the symbols of one object after another, once addresses are known also these. */
+/* What is known of the symbols of one object after another, and their addresses once they are. */
 static struct linker_utils_symbol_facts *facts;
 static struct linker_utils_symbol *values;
 struct linker_utils_kept_groups *kept;
@@ -28,7 +28,7 @@ static bool is_code(const struct section *s) {
 /* Notes what is known of an object's symbols, and returns whether relocations may have to be
  * hidden. What choices read is the same in each phase: also of a variable that is copied here and of
  * an indirect function that has a stub, and whatever other relocations have got symbols since. */
-static bool note_symbols(struct object *o, bool has_addresses) {
+static bool note_symbols(struct object *o) {
     static size_t rooms[3];
     bool hides = !relaxes || has_far_symbols;
     size_t len = o->symbols_len;
@@ -39,12 +39,14 @@ static bool note_symbols(struct object *o, bool has_addresses) {
     for (size_t i = 1; i < len; i++) {
         const struct symbol *s = o->symbols[i];
         __builtin_prefetch(o->symbols[i + 8 < len ? i + 8 : i]);
-        if (has_addresses) values[i] = known_symbol(s, o->addends ? o->addends[i] : 0);
+        values[i] = known_symbol(s, o->addends ? o->addends[i] : 0);
         hides |= !s->is_imported && !is_here(s) && stt_of(s) != STT_FILE;
         o->is_threaded |= is_thread_local(s);
+        bool is_absent = is_undefined_weak(s) && !is_thread_local(s);
         facts[i] = (struct linker_utils_symbol_facts){
-            .is_local = !s->is_imported && !s->is_copied, .is_ifunc = is_ifunc(s),
-            .other = is_ifunc(s) ? 0 : s->elf.st_other, .is_tls_get_addr = s == tls_get_addr};
+            .is_local = !s->is_imported && !s->is_copied && !is_absent, .is_ifunc = is_ifunc(s),
+            .is_undefined_weak = is_absent, .other = values[i].other,
+            .is_tls_get_addr = s == tls_get_addr};
     }
     o->facts = grow(o->facts, len, &o->facts_room, sizeof *o->facts);
     linker_utils_keep_facts(&linked, facts + o->facts_len, len - o->facts_len,
@@ -63,25 +65,23 @@ static void rewrite_in(uint32_t phase, struct section *s, const struct section *
     size_t count = s->object->symbols_len, len = s->relocations_len, used = 0, at = 0;
     struct linker_utils_addresses here = addresses_of(s);
     uint64_t start = words ? words->output->address + words->offset : 0;
-    if (is_survey && words)
-        linker_utils_survey_address_loads(
-            machine, &linked, facts, count, &here, values, count, start, TABLE_OF(words),
-            TABLE_OF(s), BYTES_OF(s), words->kept_words, words->relocations_len);
-    else if (is_survey)
-        linker_utils_survey_placed_section(machine, phase, &linked, facts, count, &here, values,
-                                           count, TABLE_OF(s), BYTES_OF(s), kept, count);
-    if (is_survey) return;
     decisions = grow(decisions, len, &rooms[0], sizeof *decisions);
     deleted = grow(deleted, len, &rooms[1], sizeof *deleted);
     uint32_t status =
-        words ? linker_utils_rewrite_address_loads(
-                    machine, &linked, facts, count, &here, values, count, start, TABLE_OF(words),
-                    words->kept_words, words->relocations_len, TABLE_OF(s), BYTES_OF(s), decisions,
-                    len, &at)
-              : linker_utils_rewrite_placed_section(
-                    machine, phase, &linked, facts, count, &here, values, count, kept, count,
-                    TABLE_OF(s), BYTES_OF(s), decisions, len, deleted, len, &used, &at);
-    check(s, &s->relocations[at], status);
+        is_survey && words ? linker_utils_survey_address_loads(
+                  machine, &linked, facts, count, &here, values, count, start, TABLE_OF(words),
+                  TABLE_OF(s), BYTES_OF(s), words->kept_words, words->relocations_len)
+        : is_survey ? linker_utils_survey_placed_section(
+                          machine, phase, &linked, facts, count, &here, values, count, TABLE_OF(s),
+                          BYTES_OF(s), kept, count)
+        : words ? linker_utils_rewrite_address_loads(
+                      machine, &linked, facts, count, &here, values, count, start, TABLE_OF(words),
+                      words->kept_words, words->relocations_len, TABLE_OF(s), BYTES_OF(s),
+                      decisions, len, &at)
+                : linker_utils_rewrite_placed_section(
+                      machine, phase, &linked, facts, count, &here, values, count, kept, count,
+                      TABLE_OF(s), BYTES_OF(s), decisions, len, deleted, len, &used, &at);
+    check(s, &s->relocations[at < len ? at : 0], status);
     if (!used) return;
     s->deleted_len = (uint32_t)used;
     s->deleted = memcpy(take(used, sizeof *deleted), deleted, used * sizeof *deleted);
@@ -117,7 +117,7 @@ static bool has_offsets(struct object *o) {
 
 /* Rewrites the instructions of an object in some phases, all of a group or none. */
 void rewrite_object(struct object *o, uint32_t first, uint32_t last) {
-    bool is_early = first == LINKER_UTILS_PHASE_EARLY, hides = note_symbols(o, !is_early);
+    bool is_early = first == LINKER_UTILS_PHASE_EARLY, hides = note_symbols(o);
     bool keeps = is_early && o->is_threaded && has_offsets(o);
     if (hides) hide(o);
     EACH_SECTION_OF(o, words)
@@ -181,7 +181,7 @@ void relax_near(bool is_final) {
     uint64_t pointer = address_of(to->output, to->offset);
     EACH_OBJECT(o) {
         size_t count = o->symbols_len, at = 0;
-        bool *stays = zeros(count, 1), hides = note_symbols(o, true);
+        bool *stays = zeros(count, 1), hides = note_symbols(o);
         if (hides) hide(o);
         for (int step = is_final ? 2 : 0; step < (is_final ? 3 : 2); step++)
             EACH_SECTION_OF(o, s) {

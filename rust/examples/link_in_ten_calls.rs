@@ -57,7 +57,8 @@ fn link(
     for phase in [Phase::ThreadOffsets, Phase::GotLoads, Phase::Distances] {
         let mut kept = vec![KeptGroups::default(); facts.len()];
         let (at, deleted) = (&addresses, &mut vec![(0, 0); count]);
-        survey_placed_section(architecture, phase, &output, facts, at, symbols, rela, code, &mut kept);
+        survey_placed_section(architecture, phase, &output, facts, at, symbols, rela, code, &mut kept)
+            .unwrap();
         rewrite_placed_section(
             architecture, phase, &output, facts, at, symbols, &kept, rela, code, &mut decisions, deleted,
         )

@@ -417,6 +417,11 @@ impl Error for SectionError {
     }
 }
 
+/// The text of two tables that contradict each other about a symbol.
+fn contradiction(symbol: usize, f: &mut Formatter<'_>) -> Result {
+    write!(f, "the facts and the values of the symbol at index {symbol} contradict each other")
+}
+
 impl Display for RewritingError {
     fn fmt(&self, f: &mut Formatter<'_>) -> Result {
         match self {
@@ -432,6 +437,7 @@ impl Display for RewritingError {
                 f,
                 "the rewrite of the relocation at index {index} overlaps that of one before it"
             ),
+            RewritingError::Contradiction(symbol) => contradiction(*symbol, f),
         }
     }
 }
@@ -441,9 +447,15 @@ impl Error for RewritingError {}
 impl Display for WritingError {
     fn fmt(&self, f: &mut Formatter<'_>) -> Result {
         match self {
+            WritingError::Contradiction(symbol) => contradiction(*symbol, f),
             WritingError::Changed(index) => write!(
                 f,
                 "other facts hold of the symbol of the relocation at index {index} than are kept"
+            ),
+            WritingError::NeedsStub(index) => write!(
+                f,
+                "the function that is called at the relocation at index {index} may return with \
+                 another TOC pointer, and its symbol has no stub that keeps the caller's"
             ),
             WritingError::Section(error) => error.fmt(f),
         }
@@ -454,8 +466,8 @@ impl Display for WritingError {
 impl Error for WritingError {
     fn source(&self) -> Option<&(dyn Error + 'static)> {
         match self {
-            WritingError::Changed(_) => None,
             WritingError::Section(error) => error.source(),
+            _ => None,
         }
     }
 }

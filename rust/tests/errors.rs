@@ -317,4 +317,9 @@ fn errors_of_routes_runs_and_rewritten_sections_are_errors() {
         texts(WritingError::Changed(6)),
         ["other facts hold of the symbol of the relocation at index 6 than are kept"]
     );
+    assert_eq!(
+        texts(WritingError::Contradiction(7)),
+        texts(RewritingError::Contradiction(7))
+    );
+    assert_eq!(texts(WritingError::NeedsStub(8)).len(), 1);
 }

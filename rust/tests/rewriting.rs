@@ -5,13 +5,13 @@
 use linker_utils::elf::Architecture::{self, AArch64, LoongArch64, Ppc64, RiscV, X86_64};
 use linker_utils::relaxation::AsDeletion;
 use linker_utils::rewriting::{
-    first_changed, from_global_pointer, has_rewrites, keep_facts, relocate_rewritten_section,
+    AsDecision, Decision, FromDeletion, GPREL_I, GPREL_S, Group, KeptFacts, KeptGroups,
+    OutputFacts, Phase, RewritingError, Scope, SymbolFacts, WritingError, first_changed,
+    from_global_pointer, has_rewrites, keep_facts, relocate_rewritten_section,
     rewrite_address_loads, rewrite_global_pointer, rewrite_placed_section, rewrite_section,
-    scope_in, scope_of, survey, survey_address_loads, survey_global_pointer,
-    survey_placed_section, AsDecision, Decision, FromDeletion, Group, KeptFacts, KeptGroups,
-    OutputFacts, Phase, RewritingError, Scope, SymbolFacts, WritingError, GPREL_I, GPREL_S,
+    scope_in, scope_of, survey, survey_address_loads, survey_global_pointer, survey_placed_section,
 };
-use linker_utils::section::{relocate_section, relocation_at, Addresses, Rela, Symbol};
+use linker_utils::section::{Addresses, Rela, Symbol, relocate_section, relocation_at};
 
 const EXECUTABLE: OutputFacts = OutputFacts {
     is_executable: true,
@@ -625,7 +625,10 @@ fn branches_of_aarch64_stay_unless_nothing_defines_them() {
     };
     let made = rewritten(AArch64, &symbols, &[&before]);
     let nop = 0xd503_201f;
-    assert_eq!(made[0].0.bytes, words(&[0x9400_0000, nop, nop, 0x1400_0000]));
+    assert_eq!(
+        made[0].0.bytes,
+        words(&[0x9400_0000, nop, nop, 0x1400_0000])
+    );
     let codes: Vec<_> = made[0].0.relocations.iter().map(|it| it.code).collect();
     assert_eq!(codes, [283, 0, 0, 282]);
 }
@@ -642,7 +645,10 @@ fn calls_of_ppc64_restore_the_toc_pointer_where_it_may_change() {
         relocations: vec![rela(0, 10, 1, 0), rela(8, 10, 3, 0), rela(16, 10, 4, 0)],
     };
     let made = rewritten(Ppc64, &symbols, &[&before]);
-    assert_eq!(made[0].0.bytes, words(&[call, nop, call, restore, call, restore]));
+    assert_eq!(
+        made[0].0.bytes,
+        words(&[call, nop, call, restore, call, restore])
+    );
     assert_eq!(made[0].0.relocations, before.relocations);
 }
 
@@ -867,7 +873,8 @@ fn placed(
             &bytes_of(&it.relocations),
             &it.bytes,
             &mut kept,
-        );
+        )
+        .unwrap();
     }
     sections
         .iter()
@@ -1494,7 +1501,9 @@ fn loads_of_one_label_become_sums() {
     word.bytes[4..].copy_from_slice(&0x0005_2503_u32.to_le_bytes());
     unchanged(&values, &word);
     let mut store = load_by_label();
-    store.relocations.extend([rela(4, 25, 3, 0), rela(4, 51, 0, 0)]);
+    store
+        .relocations
+        .extend([rela(4, 25, 3, 0), rela(4, 51, 0, 0)]);
     unchanged(&values, &store);
     let mut elsewhere = values;
     elsewhere[3].address = 4;
@@ -1511,7 +1520,8 @@ fn labels_of_one_symbol_are_apart() {
     // the second load of symbol 1 has no marks, and its label is symbol 4
     let mut two = load_by_label();
     two.bytes.extend(load_by_label().bytes);
-    two.relocations.extend([rela(8, 20, 1, 0), rela(12, 24, 4, 0)]);
+    two.relocations
+        .extend([rela(8, 20, 1, 0), rela(12, 24, 4, 0)]);
     let mut values = values(0x1008, 0);
     values[4].address = 8;
     let made = placed(
@@ -1588,6 +1598,10 @@ fn values_are_written_where_the_kept_facts_still_hold() {
     let values = values(0x2000, 0);
     let written = |kept: &[KeptFacts], output: &OutputFacts, facts: &[SymbolFacts]| {
         let mut section = call;
+        let mut values = values;
+        for (value, known) in values.iter_mut().zip(facts) {
+            value.other = known.other;
+        }
         let result = relocate_rewritten_section(
             X86_64,
             output,
@@ -1614,7 +1628,7 @@ fn values_are_written_where_the_kept_facts_still_hold() {
         |it| it.is_local = false,
         |it| it.is_ifunc = true,
         |it| it.is_absolute = true,
-        |it| it.is_undefined_weak = true,
+        |it| (it.is_local, it.is_undefined_weak) = (false, true),
         |it| it.is_tls_get_addr = true,
         |it| it.other = 1 << 5,
         |it| it.other = 7 << 5,
@@ -1726,7 +1740,8 @@ fn with_addresses(
         &entries,
         &section.bytes,
         &mut kept,
-    );
+    )
+    .unwrap();
     let mut bytes = section.bytes.clone();
     let mut decisions = vec![Decision::Kept; section.relocations.len()];
     rewrite_address_loads(
@@ -1754,9 +1769,19 @@ fn all_loads_of_a_word_compute_its_address() {
     let section = loads(0xe8e3_0000, TOC16_LO_DS);
     let (kept, after, decisions) = with_addresses(Ppc64, &CODE, &words_of(3), &section);
     assert_eq!(kept, [false; 2]);
-    assert!(decisions.iter().all(|it| matches!(it, Decision::Redirected(..))));
+    assert!(
+        decisions
+            .iter()
+            .all(|it| matches!(it, Decision::Redirected(..)))
+    );
     // each `ld` becomes an `addi`, and the relocations are those of the words
-    let code = [0x3c62_0000, 0x3883_0000, 0x3ca2_0000, 0x38c5_0000, 0x38e3_0000];
+    let code = [
+        0x3c62_0000,
+        0x3883_0000,
+        0x3ca2_0000,
+        0x38c5_0000,
+        0x38e3_0000,
+    ];
     assert_eq!(after.bytes, words(&code));
     let relocations = [
         rela(0, TOC16_HA, 3, 8),
@@ -1774,7 +1799,13 @@ fn a_word_with_another_use_stays() {
     let section = loads(0x38e3_0000, TOC16_LO);
     let (kept, after, decisions) = with_addresses(Ppc64, &CODE, &words_of(3), &section);
     assert_eq!(kept, [true, false]);
-    let code = [0x3c62_0000, 0xe883_0000, 0x3ca2_0000, 0x38c5_0000, 0x38e3_0000];
+    let code = [
+        0x3c62_0000,
+        0xe883_0000,
+        0x3ca2_0000,
+        0x38c5_0000,
+        0x38e3_0000,
+    ];
     assert_eq!(after.bytes, words(&code));
     let kept = [0, 1, 4].map(|index| decisions[index] == Decision::Kept);
     assert_eq!(kept, [true; 3]);
@@ -1804,7 +1835,13 @@ fn a_word_without_the_relocation_of_an_address_is_none() {
     let section = loads(0x38e3_0000, TOC16_LO);
     let (kept, after, _) = with_addresses(Ppc64, &CODE, &table, &section);
     assert_eq!(kept, [false; 2]);
-    let code = [0x3c62_0000, 0xe883_0000, 0x3ca2_0000, 0x38c5_0000, 0x38e3_0000];
+    let code = [
+        0x3c62_0000,
+        0xe883_0000,
+        0x3ca2_0000,
+        0x38c5_0000,
+        0x38e3_0000,
+    ];
     assert_eq!(after.bytes, words(&code));
 }
 
@@ -1839,8 +1876,14 @@ fn loads_that_were_not_surveyed_are_an_error() {
             decisions,
         )
     };
-    assert_eq!(rewrite(&mut [Decision::Kept; 5]), Err(RewritingError::NotSurveyed(4)));
-    assert_eq!(rewrite(&mut [Decision::Kept; 4]), Err(RewritingError::TooShort));
+    assert_eq!(
+        rewrite(&mut [Decision::Kept; 5]),
+        Err(RewritingError::NotSurveyed(4))
+    );
+    assert_eq!(
+        rewrite(&mut [Decision::Kept; 4]),
+        Err(RewritingError::TooShort)
+    );
     assert_eq!(entries, given);
     assert_eq!(bytes, section.bytes);
 }
@@ -1887,7 +1930,8 @@ fn near(bytes: &[u8], mut entries: Vec<u8>) -> ([bool; 4], Vec<u8>, Vec<(u64, u3
         &entries,
         bytes,
         &mut kept,
-    );
+    )
+    .unwrap();
     let count = entries.len() / 24;
     let mut deleted = vec![(0, 0); count];
     let len = rewrite_global_pointer(
@@ -2025,4 +2069,254 @@ fn parts_with_a_label_go_with_it() {
     let turned = [rela(4, GPREL_I, 1, 0), rela(8, GPREL_S, 1, 0)];
     assert_eq!(relocation_at(&after, 0), Some(rela(0, 0, 1, 0)));
     assert_eq!([2, 4].map(|at| relocation_at(&after, at).unwrap()), turned);
+}
+
+/// What each call that takes both tables returns: the surveys, the rewrites, and that which writes
+/// values. Nothing is noted, rewritten or written where it is an error.
+fn with_both(facts: &[SymbolFacts; 4], values: &[Symbol; 4]) -> [Option<usize>; 7] {
+    let addresses = Addresses {
+        section: 0x1_1000,
+        ..Addresses::default()
+    };
+    // lui a0, %hi(x) and lw a1, %lo(x)(a0), of symbol 1, with a word of symbol 2
+    let code = words(&[0x0000_0537, 0x0005_2583]);
+    let entries = marked(&[(0, 26, 1, true), (4, 27, 1, true)]);
+    let word = bytes_of(&[rela(0, ADDR64, 2, 0)]);
+    let (mut kept, mut symbols_kept, mut words_kept) =
+        ([KeptGroups::default(); 4], [false; 4], [false; 1]);
+    let (start, gp, phase) = (0x8000, GLOBAL_POINTER, Phase::GotLoads);
+    let surveys = [
+        survey_placed_section(
+            RiscV,
+            phase,
+            &EXECUTABLE,
+            facts,
+            &addresses,
+            values,
+            &entries,
+            &code,
+            &mut kept,
+        ),
+        survey_address_loads(
+            RiscV,
+            &EXECUTABLE,
+            facts,
+            &addresses,
+            values,
+            start,
+            &word,
+            &entries,
+            &code,
+            &mut words_kept,
+        ),
+        survey_global_pointer(
+            RiscV,
+            &EXECUTABLE,
+            facts,
+            &addresses,
+            values,
+            gp,
+            &entries,
+            &code,
+            &mut symbols_kept,
+        ),
+    ];
+    let noted = (kept, symbols_kept, words_kept);
+    assert!(surveys[0].is_ok() || noted == ([KeptGroups::default(); 4], [false; 4], [false]));
+    let (mut after, mut bytes) = (entries.clone(), code.clone());
+    let (mut decisions, mut deleted) = ([Decision::Kept; 4], [(0, 0); 4]);
+    let placed = rewrite_placed_section(
+        RiscV,
+        phase,
+        &EXECUTABLE,
+        facts,
+        &addresses,
+        values,
+        &kept,
+        &mut after,
+        &mut bytes,
+        &mut decisions,
+        &mut deleted,
+    );
+    let loads = rewrite_address_loads(
+        RiscV,
+        &EXECUTABLE,
+        facts,
+        &addresses,
+        values,
+        start,
+        &word,
+        &words_kept,
+        &mut after,
+        &mut bytes,
+        &mut decisions,
+    );
+    let mut turned = entries.clone();
+    let near = rewrite_global_pointer(
+        RiscV,
+        &EXECUTABLE,
+        facts,
+        &addresses,
+        values,
+        gp,
+        &[false; 4],
+        &mut turned,
+        &code,
+        &mut decisions,
+        &mut deleted,
+    );
+    assert!(near.is_ok() || turned == entries);
+    let mut kept_facts = [KeptFacts::default(); 4];
+    keep_facts(&EXECUTABLE, facts, &mut kept_facts);
+    let written = relocate_rewritten_section(
+        RiscV,
+        &EXECUTABLE,
+        facts,
+        &kept_facts,
+        &addresses,
+        &entries,
+        values,
+        &mut bytes,
+        &mut [0; 4],
+    );
+    assert!(written.is_ok() || (after == entries && bytes == code));
+    let rewrites = [placed.err(), loads.err(), near.err()].map(|error| match error {
+        Some(RewritingError::Contradiction(symbol)) => Some(symbol),
+        _ => None,
+    });
+    let of_writing = match written {
+        Err(WritingError::Contradiction(symbol)) => Some(symbol),
+        _ => None,
+    };
+    let [first, second, third] = surveys.map(Result::err);
+    let [fourth, fifth, sixth] = rewrites;
+    [first, second, third, fourth, fifth, sixth, of_writing]
+}
+
+#[test]
+fn tables_that_contradict_each_other_are_rejected() {
+    let local = SymbolFacts {
+        is_local: true,
+        ..SymbolFacts::default()
+    };
+    let value = Symbol {
+        address: GLOBAL_POINTER + 16,
+        ..Symbol::default()
+    };
+    let weak = Symbol {
+        is_undefined_weak: true,
+        ..value
+    };
+    let both = |facts, value| {
+        let facts = [SymbolFacts::default(), facts, local, local];
+        with_both(
+            &facts,
+            &[Symbol::default(), value, self::near_symbols()[2], weak],
+        )
+    };
+    let (agree, contradict) = ([None; 7], [Some(1); 7]);
+    // symbol 3 is in no relocation
+    assert_eq!(both(local, value), agree);
+    assert_eq!(both(local, weak), contradict);
+    let twice = SymbolFacts {
+        is_undefined_weak: true,
+        ..local
+    };
+    assert_eq!(both(twice, value), contradict);
+    assert_eq!(both(twice, weak), contradict);
+    let other = SymbolFacts { other: 2, ..local };
+    assert_eq!(both(other, value), contradict);
+    assert_eq!(
+        both(
+            local,
+            Symbol {
+                other: 0x20,
+                ..value
+            }
+        ),
+        contradict
+    );
+    assert_eq!(both(other, Symbol { other: 2, ..value }), agree);
+    // The dynamic linker may define an undefined weak symbol, or nothing does. A thread-local one is
+    // at the thread pointer, so that ld.lld 19 computes its offset as that of a definition.
+    let absent = SymbolFacts {
+        is_undefined_weak: true,
+        ..SymbolFacts::default()
+    };
+    assert_eq!(both(SymbolFacts::default(), weak), agree);
+    assert_eq!(both(absent, weak), agree);
+    let thread_local = Symbol {
+        is_thread_local: true,
+        ..weak
+    };
+    assert_eq!(both(local, thread_local), agree);
+    // the symbol of a word alone
+    let facts = [SymbolFacts::default(), local, local, local];
+    let known = [Symbol::default(), value, weak, value];
+    let mut of_word = [None; 7];
+    (of_word[1], of_word[4]) = (Some(2), Some(2));
+    assert_eq!(with_both(&facts, &known), of_word);
+}
+
+/// `bl f; nop` of a function in a shared library, beside what ld.lld 19 and GNU ld 2.40 made of it:
+/// `bl` of a stub with `std 2,24(1)`, and `ld 2,24(1)`.
+#[test]
+fn calls_of_other_files_on_ppc64_go_by_a_stub() {
+    let addresses = Addresses {
+        section: 0x1001_0014,
+        ..Addresses::default()
+    };
+    let written = |architecture, code, facts: SymbolFacts, value: Symbol| {
+        let (facts, mut kept) = ([SymbolFacts::default(), facts], [KeptFacts::default(); 2]);
+        keep_facts(&EXECUTABLE, &facts, &mut kept);
+        let mut section = words(&[0x4800_0001, 0xe841_0018]);
+        let before = section.clone();
+        let result = relocate_rewritten_section(
+            architecture,
+            &EXECUTABLE,
+            &facts,
+            &kept,
+            &addresses,
+            &bytes_of(&[rela(0, 0, 1, 0), rela(0, code, 1, 0)]),
+            &[Symbol::default(), value],
+            &mut section,
+            &mut [0; 2],
+        );
+        assert!(result.is_ok() || section == before);
+        result.map(|()| u32::from_le_bytes(section[..4].try_into().unwrap()))
+    };
+    let imported = SymbolFacts::default();
+    let function = Symbol {
+        address: 0x1001_002c,
+        ..Symbol::default()
+    };
+    let lacks = Err(WritingError::NeedsStub(1));
+    assert_eq!(written(Ppc64, 10, imported, function), lacks);
+    let by_stub = Symbol {
+        stub: 0x1001_0040,
+        ..function
+    };
+    assert_eq!(written(Ppc64, 10, imported, by_stub), Ok(0x4800_002d));
+    // R_PPC64_REL24_NOTOC has no TOC pointer to keep
+    assert_eq!(written(Ppc64, 116, imported, function), Ok(0x4800_0019));
+    // a function of this output, as one with `std 2,24(1); bl f; ld 2,24(1)` that both link
+    let local = SymbolFacts {
+        is_local: true,
+        ..imported
+    };
+    assert_eq!(written(Ppc64, 10, local, function), Ok(0x4800_0019));
+    // nothing defines `__gmon_start__`: the call stays where it is, as both linkers leave it
+    let missing = Symbol {
+        is_undefined_weak: true,
+        ..function
+    };
+    let absent = SymbolFacts {
+        is_undefined_weak: true,
+        ..imported
+    };
+    for facts in [imported, absent] {
+        assert!(written(Ppc64, 10, facts, missing).is_ok());
+    }
+    // no other architecture's of that number
+    assert!(written(X86_64, 10, imported, function).is_ok());
 }

@@ -763,6 +763,11 @@ static uint32_t any_type_of_section(uint16_t machine) {
     return once_in(8) ? any_relocation_type() : (uint32_t)below(60);
 }
 
+/* `st_other` of a symbol, which both tables mostly have alike. */
+static uint8_t other_of(size_t symbol) {
+    return (uint8_t)(once_in(64) ? any() : 37 * symbol);
+}
+
 /* What a linker knows of symbols, usually that they are near. */
 static struct buffer *symbols(size_t count) {
     struct buffer *buffer = place(READ, count, sizeof(struct linker_utils_symbol));
@@ -773,8 +778,8 @@ static struct buffer *symbols(size_t count) {
             .address = once_in(8) ? any_number() : 0x11000 + 4 * below(12), .size = any_number(),
             .stub = once_in(4) ? 0x11800 : 0, .address_entry = entry, .thread_entry = entry,
             .module_entry = entry, .descriptor = entry,
-            .entry_addend = once_in(4) ? (int64_t)any_number() : 0, .other = (uint8_t)any(),
-            .is_thread_local = once_in(4), .is_undefined_weak = once_in(4)};
+            .entry_addend = once_in(4) ? (int64_t)any_number() : 0, .other = other_of(i),
+            .is_thread_local = once_in(4), .is_undefined_weak = once_in(16)};
     }
     return buffer;
 }
@@ -864,8 +869,7 @@ static struct buffer *symbol_facts(size_t count) {
     for (size_t i = 0; i < count; i++)
         at[i] = (struct linker_utils_symbol_facts){
             .is_local = !once_in(4), .is_ifunc = once_in(8), .is_absolute = once_in(8),
-            .is_undefined_weak = once_in(8), .is_tls_get_addr = once_in(4),
-            .other = (uint8_t)any()};
+            .is_undefined_weak = once_in(32), .is_tls_get_addr = once_in(4), .other = other_of(i)};
     return buffer;
 }
 
@@ -924,6 +928,11 @@ static struct buffer *kept_facts(struct buffer *output, struct buffer *known) {
     return buffer;
 }
 
+/* What an index at fault is below: that of a relocation, or of a symbol. */
+static size_t limit_of(uint32_t status, size_t relocations_len, size_t symbols_len) {
+    return status == LINKER_UTILS_FACTS_CONTRADICT ? symbols_len : relocations_len;
+}
+
 static void call_relocate_rewritten_section(void) {
     uint16_t machine = any_machine();
     struct buffer *section = bytes(WRITTEN, any_section_len());
@@ -942,11 +951,12 @@ static void call_relocate_rewritten_section(void) {
                            section->given, section->len, memory->given, count, faulty);
     expect_status(status, 0 NO_VALUE_AT NOT_RELOCATED OR(ULEB128_ENDED) OR(ULEB128_TOO_LARGE)
                               OR(DOES_NOT_FIT) OR(OVERLAPS) OR(SHORT_MEMORY) OR(FACTS_CHANGED)
-                              OR(NOT_ALIGNED) OR(NEEDS_STUB) OR(OTHER_LENGTH));
+                              OR(NOT_ALIGNED) OR(NEEDS_STUB) OR(OTHER_LENGTH)
+                              OR(FACTS_CONTRADICT));
     expect((status == LINKER_UTILS_SHORT_MEMORY) <= is_short, "the memory is long enough");
     bool is_of_entry = status != LINKER_UTILS_OK && status != LINKER_UTILS_UNKNOWN_ARCHITECTURE &&
                        status != LINKER_UTILS_SHORT_MEMORY;
-    finish_faulty(faulty, is_of_entry, needed);
+    finish_faulty(faulty, is_of_entry, limit_of(status, needed, symbols_len));
     finish(status == LINKER_UTILS_OK);
 }
 
@@ -1033,7 +1043,7 @@ static void call_survey_placed_section(void) {
                            section->len, KEPT(kept));
     const uint8_t *now = filled(kept);
     for (size_t i = 0; i < kept->len; i++) expect(now[i] <= 1 && now[i] >= kept->was[i], "no flags");
-    finish_with(status, 0 OR(UNKNOWN_ARCHITECTURE) OR(UNKNOWN_PHASE));
+    finish_with(status, 0 OR(UNKNOWN_ARCHITECTURE) OR(UNKNOWN_PHASE) OR(FACTS_CONTRADICT));
 }
 
 static void call_rewrite_placed_section(void) {
@@ -1058,7 +1068,7 @@ static void call_rewrite_placed_section(void) {
                            section->given, section->len, decisions->given, count, deleted->given,
                            room, deleted_used, faulty);
     expect_status(status, 0 OR(UNKNOWN_ARCHITECTURE) OR(UNKNOWN_PHASE) OR(SHORT_MEMORY)
-                              OR(NOT_SURVEYED) OR(OVERLAPS));
+                              OR(NOT_SURVEYED) OR(OVERLAPS) OR(FACTS_CONTRADICT));
     expect((status == LINKER_UTILS_SHORT_MEMORY) <= (is_short || has_little_room),
            "the memory is long enough");
     if (status == LINKER_UTILS_OK) {
@@ -1072,7 +1082,8 @@ static void call_rewrite_placed_section(void) {
         changes(deleted, 0, *deleted_used * sizeof *at);
     }
     bool is_of_entry = status == LINKER_UTILS_NOT_SURVEYED || status == LINKER_UTILS_OVERLAPS;
-    finish_faulty(faulty, is_of_entry, needed);
+    finish_faulty(faulty, is_of_entry || status == LINKER_UTILS_FACTS_CONTRADICT,
+                  limit_of(status, needed, symbols_len));
     if (is_of_entry) keep_decisions(decisions, needed);
     if (status == LINKER_UTILS_SHORT_MEMORY && !is_short) {
         keep_decisions(decisions, needed);
@@ -1103,7 +1114,7 @@ static void call_survey_address_loads(void) {
                            section->given, section->len, kept->given, kept->len);
     const uint8_t *now = filled(kept);
     for (size_t i = 0; i < kept->len; i++) expect(now[i] <= 1 && now[i] >= kept->was[i], "no flags");
-    finish_with(status, 0 OR(UNKNOWN_ARCHITECTURE));
+    finish_with(status, 0 OR(UNKNOWN_ARCHITECTURE) OR(FACTS_CONTRADICT));
 }
 
 static void call_rewrite_address_loads(void) {
@@ -1126,12 +1137,13 @@ static void call_rewrite_address_loads(void) {
                            SYMBOLS(values), any_number(), RELAS(words), kept->given,
                            kept->len, RELAS(given), section->given, section->len,
                            decisions->given, count, faulty);
-    expect_status(status,
-                  0 OR(UNKNOWN_ARCHITECTURE) OR(SHORT_MEMORY) OR(NOT_SURVEYED) OR(OVERLAPS));
+    expect_status(status, 0 OR(UNKNOWN_ARCHITECTURE) OR(SHORT_MEMORY) OR(NOT_SURVEYED)
+                              OR(OVERLAPS) OR(FACTS_CONTRADICT));
     expect((status == LINKER_UTILS_SHORT_MEMORY) <= is_short, "the memory is long enough");
     if (status == LINKER_UTILS_OK) expect_decisions(filled(decisions), needed, machine);
     bool is_of_entry = status == LINKER_UTILS_NOT_SURVEYED || status == LINKER_UTILS_OVERLAPS;
-    finish_faulty(faulty, is_of_entry, needed);
+    finish_faulty(faulty, is_of_entry || status == LINKER_UTILS_FACTS_CONTRADICT,
+                  limit_of(status, needed, symbols_len));
     if (is_of_entry) keep_decisions(decisions, needed);
     finish(status == LINKER_UTILS_OK);
 }
@@ -1154,7 +1166,7 @@ static void call_survey_global_pointer(void) {
                            section->len, kept->given, kept->len);
     const uint8_t *now = filled(kept);
     for (size_t i = 0; i < kept->len; i++) expect(now[i] <= 1 && now[i] >= kept->was[i], "no flags");
-    finish_with(status, 0 OR(UNKNOWN_ARCHITECTURE));
+    finish_with(status, 0 OR(UNKNOWN_ARCHITECTURE) OR(FACTS_CONTRADICT));
 }
 
 static void call_rewrite_global_pointer(void) {
@@ -1178,7 +1190,8 @@ static void call_rewrite_global_pointer(void) {
                            SYMBOLS(values), any_number(), kept->given, kept->len, RELAS(given),
                            section->given, section->len, decisions->given, count,
                            deleted->given, room, deleted_used, faulty);
-    expect_status(status, 0 OR(UNKNOWN_ARCHITECTURE) OR(SHORT_MEMORY) OR(NOT_SURVEYED));
+    expect_status(status, 0 OR(UNKNOWN_ARCHITECTURE) OR(SHORT_MEMORY) OR(NOT_SURVEYED)
+                              OR(OVERLAPS) OR(FACTS_CONTRADICT));
     expect((status == LINKER_UTILS_SHORT_MEMORY) <= (is_short || has_little_room),
            "the memory is long enough");
     if (status == LINKER_UTILS_OK) {
@@ -1189,8 +1202,10 @@ static void call_rewrite_global_pointer(void) {
             expect(at[i].bytes == 4 && at[i].offset + 4 <= section->len, "deletes what isn't there");
         changes(deleted, 0, *deleted_used * sizeof *at);
     }
-    finish_faulty(faulty, status == LINKER_UTILS_NOT_SURVEYED, needed);
-    if (status == LINKER_UTILS_NOT_SURVEYED) keep_decisions(decisions, needed);
+    bool is_of_entry = status == LINKER_UTILS_NOT_SURVEYED || status == LINKER_UTILS_OVERLAPS;
+    finish_faulty(faulty, is_of_entry || status == LINKER_UTILS_FACTS_CONTRADICT,
+                  limit_of(status, needed, symbols_len));
+    if (is_of_entry) keep_decisions(decisions, needed);
     if (status == LINKER_UTILS_SHORT_MEMORY && !is_short) {
         keep_decisions(decisions, needed);
         keep_written(deleted, deleted->len);

@@ -1177,6 +1177,7 @@ pub struct Placed<'a> {
 
 /// Notes in `kept` which groups of an object stay in a phase once addresses are known, by one of its
 /// sections of code, as `survey` does before.
+/// The error is `FactsContradict`.
 pub fn survey_placed_section(
     architecture: Architecture,
     phase: Phase,
@@ -1184,7 +1185,7 @@ pub fn survey_placed_section(
     relocations: &[u8],
     section: &[u8],
     kept: &mut [KeptGroups],
-) {
+) -> Result<(), Status> {
     let status = unsafe {
         raw::linker_utils_survey_placed_section_nonnull(
             architecture.machine(),
@@ -1203,13 +1204,14 @@ pub fn survey_placed_section(
             kept.len(),
         )
     };
-    debug_assert_eq!(status, 0);
+    result_of(status, ())
 }
 
 /// Notes in `kept` which words of an object's section of addresses stay, by one of its sections of code:
 /// an instruction loads a word's address and can't compute it. `words` are the relocations of the section
 /// of addresses, ascending by offset, and `words_start` is its address; `kept` has an element for each,
 /// false at first.
+/// The error is `FactsContradict`.
 pub fn survey_address_loads(
     architecture: Architecture,
     placed: Placed<'_>,
@@ -1218,7 +1220,7 @@ pub fn survey_address_loads(
     relocations: &[u8],
     section: &[u8],
     kept: &mut [bool],
-) {
+) -> Result<(), Status> {
     let status = unsafe {
         raw::linker_utils_survey_address_loads_nonnull(
             architecture.machine(),
@@ -1239,7 +1241,7 @@ pub fn survey_address_loads(
             kept.len(),
         )
     };
-    debug_assert_eq!(status, 0);
+    result_of(status, ())
 }
 
 /// Has the instructions of a section of code compute the addresses that they load from such words, all
@@ -1333,6 +1335,7 @@ pub fn rewrite_placed_section(
 /// Notes in `kept` which symbols of an object keep the high parts of their address, by one of its sections
 /// of code, before RISC-V's `lui` and `auipc` of addresses near `global_pointer` or 0 are deleted. `kept`
 /// has an element for each symbol, false at first.
+/// The error is `FactsContradict`.
 pub fn survey_global_pointer(
     architecture: Architecture,
     placed: Placed<'_>,
@@ -1340,7 +1343,7 @@ pub fn survey_global_pointer(
     relocations: &[u8],
     section: &[u8],
     kept: &mut [bool],
-) {
+) -> Result<(), Status> {
     let status = unsafe {
         raw::linker_utils_survey_global_pointer_nonnull(
             architecture.machine(),
@@ -1359,7 +1362,7 @@ pub fn survey_global_pointer(
             kept.len(),
         )
     };
-    debug_assert_eq!(status, 0);
+    result_of(status, ())
 }
 
 /// Has the high parts go of the symbols that don't stay by `kept`, as `survey_global_pointer` noted. What

@@ -165,7 +165,7 @@ fn a_short_offset_from_the_thread_pointer_needs_one_instruction() {
         };
         let (mut section, mut relocations) = (code.clone(), relas(&listed));
         let mut kept = [KeptGroups::default(); 4];
-        survey_placed_section(riscv, phase, placed, &relocations, &section, &mut kept);
+        survey_placed_section(riscv, phase, placed, &relocations, &section, &mut kept).unwrap();
         assert_eq!(kept[1].initial_exec, !is_short);
         let (given, bytes) = (&mut relocations, &mut section);
         let made = rewrite_placed_section(riscv, phase, placed, &kept, given, bytes).unwrap();
@@ -307,7 +307,7 @@ fn loads_from_words_compute_the_address() {
     let mut relocations = relas(&[(0, 50, 3, 0), (4, 64, 3, 0)]);
     let mut section = words([0x3c62_0000, 0xe863_0000]);
     let mut kept = [false];
-    survey_address_loads(machine, placed, start, &table, &relocations, &section, &mut kept);
+    survey_address_loads(machine, placed, start, &table, &relocations, &section, &mut kept).unwrap();
     assert_eq!(kept, [false]);
     let (given, code) = (&mut relocations, &mut section);
     let made = rewrite_address_loads(machine, placed, start, &table, &kept, given, code).unwrap();
@@ -318,7 +318,7 @@ fn loads_from_words_compute_the_address() {
     // lwz 3,.toc@toc@l(3), which loads no address, keeps the word
     let relocations = relas(&[(0, 64, 3, 0)]);
     let section = 0x8063_0000u32.to_le_bytes();
-    survey_address_loads(machine, placed, start, &table, &relocations, &section, &mut kept);
+    survey_address_loads(machine, placed, start, &table, &relocations, &section, &mut kept).unwrap();
     assert_eq!(kept, [true]);
 }
 
@@ -350,7 +350,7 @@ fn high_parts_near_the_global_pointer_go() {
     let mut relocations = relas(&marked);
     let section = words([0x0000_0537, 0x0005_2583]);
     let mut kept = [false; 2];
-    survey_global_pointer(machine, placed, global_pointer, &relocations, &section, &mut kept);
+    survey_global_pointer(machine, placed, global_pointer, &relocations, &section, &mut kept).unwrap();
     assert_eq!(kept, [false; 2]);
     let given = &mut relocations;
     let (_, deleted) =

@@ -1,6 +1,6 @@
 -- Parts of addresses near the global pointer: what is noted, decided and turned, relocation by
 -- relocation, and that all parts of a symbol are rewritten, or none is.
-use Rattle.std.proofs.Common.{◌≡◌, ◌≢◌, ℕ, suc, nat_le, is_some, ◌+◌, ◌<◌, ◌≤◌, ◌∙◌, ◌&&◌, inl, inr, List, length, ap, sym, subst, arith, refl, Bool, true, false, true≢false, Option, None, Some, slice_get, slice_set, if◌then◌else◌}
+use Rattle.std.proofs.Common.{◌≡◌, ◌≢◌, ℕ, suc, nat_le, not, is_some, ◌+◌, ◌<◌, ◌≤◌, ◌∙◌, ◌&&◌, inl, inr, List, length, ap, sym, subst, arith, refl, Bool, true, false, true≢false, Option, None, Some, slice_get, slice_set, if◌then◌else◌}
 use Rattle.std.proofs.lemmas.List.{get_or-set_same, get_or-set_other}
 use Rattle.linker_rewriting.proofs.LabelGroups.{one_high_from}
 use Rattle.linker_rewriting.proofs.WordsNoted.{AreWordsKeptToo, stays_on, stays_now}
@@ -10,14 +10,16 @@ use Rattle.linker_rewriting.specs.Decisions.{CanBeMade, IsEndBehind, decision_at
 use Rattle.linker_rewriting.specs.Facts.{Setting}
 use Rattle.linker_rewriting.specs.GlobalPointer.{relative_high, IsLabelled, IsSubject, IsMemberBy, IsMember, part_of, is_reached, is_expected, fits, kept_by, IsKeepingSymbol, IsSymbolNoted, AreSymbolsSurveyed, part_decision, decided_by, IsPartDecided, ArePartsDecided, ArePartsApart, IsPartOverlapping, part_end, ArePartsRejected, MeansSymbolsUnsurveyed, ArePartsWhole, ArePartsWholeAcross, low_code, base_of, is_placed_by, is_placed, based_section, section_based}
 use Rattle.linker_rewriting.specs.Inner.Words.{IsThatWord}
-use Rattle.linker_rewriting.specs.Labels.{offset_of_label}
+use Rattle.linker_rewriting.specs.Agreement.{Agree}
+use Rattle.linker_rewriting.specs.Decisions.{IsRejectedFirst}
+use Rattle.linker_rewriting.specs.Labels.{offset_of_label, is_beyond}
 use Rattle.linker_rewriting.specs.Rewritten.{IsRewritten}
 use Rattle.linker_rewriting.specs.Sequences.{is_marked_at}
 use Rattle.linker_rewriting.specs.Words.{StaysBy, word_stays}
 use Rattle.linker_rewriting.specs.declared.decisions.Decision.{Decision}
 use Rattle.linker_rewriting.specs.declared.decisions.Decision.TheVariants.{Kept}
 use Rattle.linker_rewriting.specs.declared.decisions.RewritingError.{RewritingError}
-use Rattle.linker_rewriting.specs.declared.decisions.RewritingError.TheVariants.{TooShort, NotSurveyed, Overlaps}
+use Rattle.linker_rewriting.specs.declared.decisions.RewritingError.TheVariants.{TooShort, NotSurveyed, Overlaps, Contradiction}
 use Rattle.linker_rewriting.specs.declared.global_pointer.Part.{Part}
 use Rattle.linker_rewriting.specs.declared.global_pointer.Part.TheVariants.{High, Low, Labelled}
 use Rattle.linker_section.specs.Relocations.{relocation_in}
@@ -138,7 +140,8 @@ expected : (s : Setting) (gp : ℕ) (a : Bool) (bytes section : List ℕ) (n : �
 expected s gp a bytes section n r part subject is =
     and_second (is_reached s gp subject) _
     (and_second (is_marked_at s.architecture bytes n r) _
-    (and_second s.output.is_fixed _ (and_second s.output.is_executable _ (and_second a _ is))))
+    (and_second s.output.is_fixed _ (and_second s.output.is_executable _
+    (and_second (not (is_beyond bytes r.offset n)) _ (and_second a _ is)))))
 
 -- what fits can be made
 part_made : (s : Setting) (gp : ℕ) (a : Bool) (bytes section : List ℕ) (n : ℕ) (r : Rela)
@@ -366,6 +369,18 @@ means_unsurveyed s gp kept bytes section decisions room (NotSurveyed n) is =
     (subst (λ a. here.symbol ≡ kept_by s gp a bytes section n r keeping.member) flag keeping.keeps))
     here.stays
 means_unsurveyed s gp kept bytes section decisions room (Overlaps n) is = tt
+means_unsurveyed s gp kept bytes section decisions room (Contradiction symbol) is = tt
+
+-- where the tables agree another error is the first
+pub rejected_first : (s : Setting) (gp : ℕ) (kept : List Bool) (bytes section : List ℕ)
+    (decisions : List Decision) (room : ℕ) (error : RewritingError)
+    → Agree s.symbols s.values bytes → ArePartsRejected s gp kept bytes section decisions room error
+    → IsRejectedFirst s.symbols s.values bytes
+    (ArePartsRejected s gp kept bytes section decisions room) error
+rejected_first s gp kept bytes section decisions room TooShort agree is = (agree, is)
+rejected_first s gp kept bytes section decisions room (NotSurveyed n) agree is = (agree, is)
+rejected_first s gp kept bytes section decisions room (Overlaps n) agree is = (agree, is)
+rejected_first s gp kept bytes section decisions room (Contradiction symbol) agree is = absurd is
 
 -- ---- bases
 

@@ -1,8 +1,8 @@
 -- Groups of one label: each relocation has one high part, and what is noted is right.
 use Rattle.std.proofs.Common.{◌≡◌, ℕ, zero, suc, ◌∙◌, ◌+◌, ◌≤◌, ◌<◌, ◌/◌, inl, inr, List, [], ◌∷◌, length, ap, sym, subst, arith, refl, Bool, true, false, true≢false, Option, Some, None, slice_get, slice_set, eq-eqb}
-use Rattle.std.specs.Prelude.{◌&&◌, ◌==◌}
+use Rattle.std.specs.Prelude.{◌&&◌, ◌==◌, ◌⊎◌, ◌-◌, not, nat_le}
 use Rattle.std.proofs.Math.Bool.{and-false}
-use Rattle.std.proofs.lemmas.Bool.{eqb-true, cases_eq, cases_lt, cases_Bool, and_parts, cond-true}
+use Rattle.std.proofs.lemmas.Bool.{eqb-true, leb-true, le-leb, cases_eq, cases_lt, cases_Bool, and_parts, cond-true}
 use Rattle.std.proofs.lemmas.List.{get_or-set_same, get_or-set_other}
 use Rattle.linker_elf.specs.declared.aarch64.relocations.AArch64Relocation.{AArch64Relocation}
 use Rattle.linker_elf.specs.declared.aarch64.relocations.AArch64Relocation.TheVariants as aarch64
@@ -17,7 +17,7 @@ use Rattle.linker_rewriting.proofs.Unique.{one_scope, one_candidate_with}
 use Rattle.linker_rewriting.specs.Decisions.{decision_at, label_decision, IsLabelDecision, CanBeMade}
 use Rattle.linker_rewriting.specs.Facts.{Setting}
 use Rattle.linker_rewriting.specs.Groups.{aarch64_scope_in, loongarch_scope_in, ppc64_scope_in, x86_64_scope_in}
-use Rattle.linker_rewriting.specs.Labels.{high_code, is_high, IsHighAt, offset_of_label, label_offset, IsHighFrom, IsHighIn, is_labelled, has_labels, IsInLabel, label_facts, IsLabelCandidate, Lacks, IsLacking, HasLacking, LabelFits, LabelStays, IsLabelNote}
+use Rattle.linker_rewriting.specs.Labels.{high_code, is_high, searched, is_beyond, is_high_in, IsHighAt, offset_of_label, label_offset, IsHighFrom, IsHighIn, is_labelled, has_labels, IsInLabel, label_facts, IsLabelCandidate, Lacks, IsLacking, HasLacking, LabelFits, LabelStays, IsLabelNote}
 use Rattle.linker_rewriting.specs.Notes.{is_note, AreHighsNoted, IsNoteAt, IsNoteOf, AreLabelsNoted}
 use Rattle.linker_rewriting.specs.declared.decisions.Decision.{Decision}
 use Rattle.linker_rewriting.specs.declared.decisions.Decision.TheVariants.{Kept, Rewritten, TakenAlong}
@@ -79,7 +79,8 @@ own_from : (bytes : List ℕ) (code h : ℕ) (at : Option ℕ) → IsHighFrom by
     × IsHighAt bytes code (relocation_in bytes h).offset (Some h)
 own_from bytes code h None is = absurd (let e : Some h ≡ None = is in cc)
 own_from bytes code h (Some at) is =
-    let parts = and_parts ((relocation_in bytes h).offset == at) ((relocation_in bytes h).code == code) (is.1) in (
+    let there = and_parts (is_high code at (relocation_in bytes h)) (not (is_beyond bytes at h)) (is.1) in
+    let parts = and_parts ((relocation_in bytes h).offset == at) ((relocation_in bytes h).code == code) (there.0) in (
       parts.1,
       subst (λ a. IsHighAt bytes code a (Some h))
           (sym (eqb-true (relocation_in bytes h).offset at (parts.0))) is,
@@ -138,15 +139,79 @@ none_below bytes code at first limit before none n less =
       | inr from ↦ none n from less
     ]
 
+both : (a b : Bool) → a ≡ true → b ≡ true → (a && b) ≡ true
+both a b x y = ap (λ c. c && b) x ∙ y
+
+-- what isn't one isn't one that is searched
+isnt_searched : (bytes : List ℕ) (code at n : ℕ) → is_high code at (relocation_in bytes n) ≡ false
+    → is_high_in bytes code at n ≡ false
+isnt_searched bytes code at n is = ap (λ b. b && not (is_beyond bytes at n)) is
+
+-- what is so near the first relocation at an offset is searched
+near_first : (bytes : List ℕ) (at first index : ℕ)
+    → ((n : ℕ) → n < first → offset_at bytes n < at) → index < first + searched
+    → is_beyond bytes at index ≡ false
+near_first bytes at first index before near =
+    elim (cases_Bool (is_beyond bytes at index)) [
+      | inl beyond ↦
+          let parts = and_parts (nat_le searched index) ((relocation_in bytes (index - searched)).offset == at) beyond in
+          let behind : searched ≤ index = leb-true searched index (parts.0) in
+          let less : index - searched < first = omega (arith, behind, near) in
+          let below = before (index - searched) less in
+          let is : offset_at bytes (index - searched) ≡ at = eqb-true (relocation_in bytes (index - searched)).offset at (parts.1) in
+          absurd (omega (arith, below, is))
+      | inr isnt ↦ isnt
+    ]
+
 pub found : (bytes : List ℕ) (code at first index : ℕ) (r : Rela)
     → ((n : ℕ) → n < first → offset_at bytes n < at) → NoneIn bytes code at first index
-    → index < length bytes / 24 → r ≡ relocation_in bytes index → r.offset ≡ at → r.code ≡ code
-    → IsHighAt bytes code at (Some index)
-found bytes code at first index r before none within same offset_is code_is = (
+    → index < length bytes / 24 → index < first + searched → r ≡ relocation_in bytes index
+    → r.offset ≡ at → r.code ≡ code → IsHighAt bytes code at (Some index)
+found bytes code at first index r before none within near same offset_is code_is = (
   within,
-  subst (λ x. is_high code at x ≡ true) same (is_there code at r offset_is code_is),
-  none_below bytes code at first index before none,
+  both (is_high code at (relocation_in bytes index)) (not (is_beyond bytes at index))
+      (subst (λ x. is_high code at x ≡ true) same (is_there code at r offset_is code_is))
+      (ap not (near_first bytes at first index before near)),
+  λ n less. isnt_searched bytes code at n (none_below bytes code at first index before none n less),
 )
+
+-- what has as many others at its offset before it as are searched is beyond them
+beyond : (bytes : List ℕ) (at first n : ℕ) → IsAscending bytes
+    → ((n : ℕ) → first ≤ n → n < length bytes / 24 → at ≤ offset_at bytes n)
+    → first + searched ≤ n → n < length bytes / 24 → offset_at bytes n ≡ at
+    → is_beyond bytes at n ≡ true
+beyond bytes at first n ascending behind far within there =
+    let deep : searched ≤ n = omega (arith, far) in
+    let from : first ≤ n - searched = omega (arith, far) in
+    let less : n - searched < length bytes / 24 = omega (arith, within) in
+    let low = behind (n - searched) from less in
+    let up = ascending (n - searched) n (omega arith) within in
+    both (nat_le searched n) ((relocation_in bytes (n - searched)).offset == at)
+    (le-leb searched n deep) (eq-eqb (relocation_in bytes (n - searched)).offset at (omega (arith, low, up, there)))
+
+-- none is among those that are searched
+pub none_searched : (bytes : List ℕ) (code at first limit : ℕ) → IsAscending bytes
+    → ((n : ℕ) → n < first → offset_at bytes n < at)
+    → ((n : ℕ) → first ≤ n → n < length bytes / 24 → at ≤ offset_at bytes n)
+    → NoneIn bytes code at first limit
+    → (length bytes / 24 ≤ limit) ⊎ (first + searched ≤ limit)
+    → IsHighAt bytes code at None
+none_searched bytes code at first limit ascending before behind none far n less =
+    elim (cases_lt n limit) [
+      | inl below ↦ isnt_searched bytes code at n (none_below bytes code at first limit before none n below)
+      | inr on ↦ elim far [
+        | inl all ↦ absurd (omega (arith, all, on, less))
+        | inr end ↦ elim (cases_Bool (is_high code at (relocation_in bytes n))) [
+          | inr isnt ↦ isnt_searched bytes code at n isnt
+          | inl is ↦
+              let there = and_parts ((relocation_in bytes n).offset == at) ((relocation_in bytes n).code == code) is in
+              let at_is : offset_at bytes n ≡ at = eqb-true (relocation_in bytes n).offset at (there.0) in
+              ap (λ b. is_high code at (relocation_in bytes n) && not b)
+              (beyond bytes at first n ascending behind (omega (arith, end, on)) less at_is)
+              ∙ and-false (is_high code at (relocation_in bytes n))
+        ]
+      ]
+    ]
 
 pub none_at : (bytes : List ℕ) (code at first index : ℕ) → IsAscending bytes
     → ((n : ℕ) → n < first → offset_at bytes n < at)
@@ -155,13 +220,13 @@ pub none_at : (bytes : List ℕ) (code at first index : ℕ) → IsAscending byt
     → ((relocation_in bytes index).offset ≡ at → ⊥)
     → IsHighAt bytes code at None
 none_at bytes code at first index ascending before behind none from within other n less =
-    elim (cases_lt n index) [
+    isnt_searched bytes code at n (elim (cases_lt n index) [
       | inl below ↦ none_below bytes code at first index before none n below
       | inr on ↦ isnt_there code at (relocation_in bytes n)
           (λ e. let b = behind index from within in
           let up = ascending index n on less in
           other (omega (arith, b, up, e)))
-    ]
+    ])
 
 -- ---- one candidate
 
@@ -517,3 +582,9 @@ can_make_label Early chosen high section offset can = can
 can_make_label ThreadOffsets chosen high section offset can = can
 can_make_label GotLoads chosen high section offset can = can
 can_make_label Distances chosen high section offset can = can
+
+-- a group that doesn't stay has a high part
+pub noted_high : (s : Setting) (bytes section : List ℕ) (r : Rela) → IsLabelNote s bytes section r false
+    → (IsAscending bytes → IsHighIn s bytes r None) → ⊥
+noted_high s bytes section r note none =
+    let fits = note.2 in not_none s bytes r (note.0) (note.1) (none (fits.0))

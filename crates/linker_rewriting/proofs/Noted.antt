@@ -9,7 +9,7 @@ use Rattle.linker_rewriting.specs.Groups.{IsScopeIn, stays_at, symbol_of_group, 
 use Rattle.linker_rewriting.specs.Surveys.{IsKeeping, HasRewrite, StaysBy, IsNoted, NotesStay, MeansUnsurveyed}
 use Rattle.linker_rewriting.specs.declared.decisions.Decision.{Decision}
 use Rattle.linker_rewriting.specs.declared.decisions.RewritingError.{RewritingError}
-use Rattle.linker_rewriting.specs.declared.decisions.RewritingError.TheVariants.{TooShort, NotSurveyed, Overlaps}
+use Rattle.linker_rewriting.specs.declared.decisions.RewritingError.TheVariants.{TooShort, NotSurveyed, Overlaps, Contradiction}
 use Rattle.linker_rewriting.specs.declared.groups.Group.{Group}
 use Rattle.linker_rewriting.specs.declared.groups.KeptGroups.{KeptGroups}
 use Rattle.linker_rewriting.specs.declared.groups.Scope.{Scope}
@@ -77,3 +77,4 @@ means_unsurveyed s kept bytes section decisions TooShort is = tt
 means_unsurveyed s kept bytes section decisions (NotSurveyed n) is =
     λ noted. always_surveyed s kept bytes section n (is.2) (noted n (is.0))
 means_unsurveyed s kept bytes section decisions (Overlaps n) is = tt
+means_unsurveyed s kept bytes section decisions (Contradiction symbol) is = tt

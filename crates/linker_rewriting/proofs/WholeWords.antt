@@ -7,7 +7,7 @@ use Rattle.linker_rewriting.specs.Rewritten.{IsRewritten}
 use Rattle.linker_rewriting.specs.Words.{IsLoad, IsLoadCandidate, IsLoadDecision, IsDecisionBy, IsWordDecision, IsKeepingWord, HasLoadRewrite, StaysBy, AreLoadsDecided, AreLoadsRejected, MeansWordsUnsurveyed, WordsAreWhole, WordsAreWholeAcross, word_code, word_offset, word_stays}
 use Rattle.linker_rewriting.specs.declared.decisions.Decision.{Decision}
 use Rattle.linker_rewriting.specs.declared.decisions.RewritingError.{RewritingError}
-use Rattle.linker_rewriting.specs.declared.decisions.RewritingError.TheVariants.{TooShort, NotSurveyed, Overlaps}
+use Rattle.linker_rewriting.specs.declared.decisions.RewritingError.TheVariants.{TooShort, NotSurveyed, Overlaps, Contradiction}
 use Rattle.linker_section.specs.Relocations.{relocation_in}
 use Rattle.linker_section.specs.Values.{IsAscending}
 use Rattle.linker_section.specs.declared.relocations.Rela.{Rela}
@@ -117,3 +117,4 @@ means_unsurveyed s start words kept bytes section decisions (NotSurveyed n) is =
     λ up noted. let this = is.2 in let here = noted n (is.0) in
     noted_stays s start words kept bytes section n (relocation_in bytes n) (this.0) here.word up (this.1) (this.2) (this.3) here.is_keeping here.stays
 means_unsurveyed s start words kept bytes section decisions (Overlaps n) is = tt
+means_unsurveyed s start words kept bytes section decisions (Contradiction symbol) is = tt

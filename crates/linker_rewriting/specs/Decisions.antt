@@ -8,6 +8,7 @@ use Rattle.linker_base.specs.RewriteWindow.{window_of_rewrite}
 use Rattle.linker_base.specs.declared.rewrite.DeletedBytes.{DeletedBytes}
 use Rattle.linker_base.specs.declared.rewrite.RewriteWindow.{RewriteWindow}
 use Rattle.linker_elf.specs.declared.elf.choice.Choice.{Choice}
+use Rattle.linker_rewriting.specs.Agreement.{Agree, IsContradiction}
 use Rattle.linker_rewriting.specs.Candidates.{IsCandidate, deletes_within}
 use Rattle.linker_rewriting.specs.Facts.{Setting, early}
 use Rattle.linker_rewriting.specs.Groups.{IsScopeIn, group_stays, stays_at}
@@ -20,6 +21,7 @@ use Rattle.linker_rewriting.specs.declared.decisions.RewritingError.{RewritingEr
 use Rattle.linker_rewriting.specs.declared.decisions.RewritingError.TheVariants.{TooShort}
 use Rattle.linker_rewriting.specs.declared.decisions.RewritingError.TheVariants.{NotSurveyed}
 use Rattle.linker_rewriting.specs.declared.decisions.RewritingError.TheVariants.{Overlaps}
+use Rattle.linker_rewriting.specs.declared.decisions.RewritingError.TheVariants.{Contradiction}
 use Rattle.linker_rewriting.specs.declared.facts.OutputFacts.{OutputFacts}
 use Rattle.linker_rewriting.specs.declared.facts.SymbolFacts.{SymbolFacts}
 use Rattle.linker_rewriting.specs.declared.groups.Group.{Group}
@@ -30,6 +32,7 @@ use Rattle.linker_rewriting.specs.declared.groups.Scope.TheVariants.{Ahead, Matc
 use Rattle.linker_rewriting.specs.declared.phases.Phase.{Phase}
 use Rattle.linker_rewriting.specs.declared.phases.Phase.TheVariants.{ThreadOffsets}
 use Rattle.linker_section.specs.Relocations.{relocation_in, relocation_at}
+use Rattle.linker_section.specs.declared.facts.Symbol.{Symbol}
 use Rattle.linker_section.specs.declared.relocations.Rela.{Rela}
 use Rattle.linker_utils.specs.Architectures.{relaxation_rewrite, relaxation_skipped}
 use Rattle.linker_utils.specs.Architectures.{relaxation_deleted}
@@ -285,21 +288,35 @@ IsRejectedIn s kept bytes section decisions (Overlaps n) =
     (n < length bytes / 24) × AreDecidedIn s kept bytes section decisions n
     × IsOverlapping s kept bytes section decisions n
     × (length bytes / 24 ≤ length decisions)
+IsRejectedIn s kept bytes section decisions (Contradiction symbol) = ⊥
 
 -- before addresses are known
 abbrev pub IsRejected : Architecture → OutputFacts → List SymbolFacts → List KeptGroups → List ℕ
     → List ℕ → List Decision → RewritingError → Type 0
 IsRejected architecture output symbols = IsRejectedIn (early architecture output symbols)
 
--- and once they are: there may also be less room for deletions than there are
-abbrev pub IsRejectedPlaced : Setting → List KeptGroups → List ℕ → List ℕ → List Decision → ℕ
+-- and where there may also be less room for deletions than there are
+abbrev pub IsRejectedWith : Setting → List KeptGroups → List ℕ → List ℕ → List Decision → ℕ
     → RewritingError → Type 0
-IsRejectedPlaced s kept bytes section decisions room TooShort =
+IsRejectedWith s kept bytes section decisions room TooShort =
     (length decisions < length bytes / 24)
     ⊎ (AreDecidedIn s kept bytes section decisions (length bytes / 24)
     × (room < length (deletions_by bytes decisions (length bytes / 24))))
-IsRejectedPlaced s kept bytes section decisions room error =
+IsRejectedWith s kept bytes section decisions room error =
     IsRejectedIn s kept bytes section decisions error
+
+-- the tables of symbols contradict each other, or they agree and there is another error
+abbrev pub IsRejectedFirst : List SymbolFacts → List Symbol → List ℕ → (RewritingError → Type 0)
+    → RewritingError → Type 0
+IsRejectedFirst facts symbols bytes IsError (Contradiction symbol) =
+    IsContradiction facts symbols bytes symbol
+IsRejectedFirst facts symbols bytes IsError error = Agree facts symbols bytes × IsError error
+
+-- once addresses are known
+abbrev pub IsRejectedPlaced : Setting → List KeptGroups → List ℕ → List ℕ → List Decision → ℕ
+    → RewritingError → Type 0
+IsRejectedPlaced s kept bytes section decisions room =
+    IsRejectedFirst s.symbols s.values bytes (IsRejectedWith s kept bytes section decisions room)
 
 -- ---- what decisions follow from
 

@@ -17,7 +17,7 @@ use Rattle.linker_riscv64.specs.RiscVRewrites.{rewrites_word, rs1_of, stores_bas
 use Rattle.linker_riscv64.specs.declared.rewrites.RelaxationKind.TheVariants as kinds
 use Rattle.linker_rewriting.specs.Decisions.{decision_at, deletions_by}
 use Rattle.linker_rewriting.specs.Facts.{Setting, address_in}
-use Rattle.linker_rewriting.specs.Labels.{IsHighFrom, offset_of_label}
+use Rattle.linker_rewriting.specs.Labels.{IsHighFrom, offset_of_label, is_beyond}
 use Rattle.linker_rewriting.specs.Rewritten.{IsRewritten}
 use Rattle.linker_rewriting.specs.Sequences.{is_marked_at}
 use Rattle.linker_rewriting.specs.Words.{StaysBy, subject_of, word_stays}
@@ -28,6 +28,7 @@ use Rattle.linker_rewriting.specs.declared.decisions.RewritingError.{RewritingEr
 use Rattle.linker_rewriting.specs.declared.decisions.RewritingError.TheVariants.{TooShort}
 use Rattle.linker_rewriting.specs.declared.decisions.RewritingError.TheVariants.{NotSurveyed}
 use Rattle.linker_rewriting.specs.declared.decisions.RewritingError.TheVariants.{Overlaps}
+use Rattle.linker_rewriting.specs.declared.decisions.RewritingError.TheVariants.{Contradiction}
 use Rattle.linker_rewriting.specs.declared.facts.SymbolFacts.{SymbolFacts}
 use Rattle.linker_rewriting.specs.declared.global_pointer.Part.{Part}
 use Rattle.linker_rewriting.specs.declared.global_pointer.Part.TheVariants.{High, Low, Labelled}
@@ -163,12 +164,13 @@ is_expected section r (Labelled code) subject =
     && (rs1_of (word_at section r.offset) == rd_of (word_at section subject.offset))))
 
 -- It can be rewritten, if all of its symbol can: in an executable with fixed addresses it is
--- marked, in reach, and of an expected instruction, in a section whose relocations ascend.
+-- marked, in reach, and of an expected instruction, in a section whose relocations ascend, and is
+-- searched for labels.
 abbrev pub fits : Setting → ℕ → Bool → List ℕ → List ℕ → ℕ → Rela → Part × Rela → Bool
 fits s gp ascends bytes section n r member =
-    ascends && (s.output.is_executable && (s.output.is_fixed
+    ascends && (not (is_beyond bytes r.offset n) && (s.output.is_executable && (s.output.is_fixed
     && (is_marked_at s.architecture bytes n r && (is_reached s gp (member.1)
-    && is_expected section r (member.0) (member.1)))))
+    && is_expected section r (member.0) (member.1))))))
 
 -- ---- symbols that stay
 
@@ -340,6 +342,7 @@ ArePartsRejected s gp kept bytes section decisions room (Overlaps n) =
     (n < length bytes / 24) × ArePartsDecided s gp kept bytes section decisions n
     × IsPartOverlapping s gp kept bytes section decisions n
     × (length bytes / 24 ≤ length decisions)
+ArePartsRejected s gp kept bytes section decisions room (Contradiction symbol) = ⊥
 
 -- an error that a section wasn't surveyed comes only where what it keeps isn't all noted
 abbrev pub MeansSymbolsUnsurveyed : Setting → ℕ → List ℕ → List ℕ → List Bool → RewritingError

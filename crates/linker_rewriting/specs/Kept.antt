@@ -1,12 +1,17 @@
 -- What choices of rewrites read of symbols and of the output, kept until values are written.
 use Rattle.std.specs.Prelude.{◌≡◌, ℕ, ◌+◌, ◌*◌, ◌/◌, ◌<◌, ◌^◌, ℤ, Bool, true, false, List, length}
-use Rattle.std.specs.Prelude.{slice_get, Option, Some, None}
-use Rattle.linker_rewriting.specs.Facts.{facts_of, placed_facts}
+use Rattle.std.specs.Prelude.{slice_get, Option, Some, None, ◌==◌, ◌&&◌, not}
+use Rattle.linker_elf.specs.ElfNames.{code_of}
+use Rattle.linker_elf.specs.Ppc64Relocations.{ppc64_name}
+use Rattle.linker_elf.specs.declared.ppc64.relocations.Ppc64Relocation.TheVariants as ppc64
+use Rattle.linker_rewriting.specs.Agreement.{Agree, IsContradiction}
+use Rattle.linker_rewriting.specs.Facts.{facts_of, placed_facts, is_imported}
 use Rattle.linker_rewriting.specs.declared.facts.OutputFacts.{OutputFacts}
 use Rattle.linker_rewriting.specs.declared.facts.SymbolFacts.{SymbolFacts}
 use Rattle.linker_rewriting.specs.declared.kept.KeptFacts.{KeptFacts}
 use Rattle.linker_rewriting.specs.declared.kept.WritingError.{WritingError}
-use Rattle.linker_rewriting.specs.declared.kept.WritingError.TheVariants.{Changed, Section}
+use Rattle.linker_rewriting.specs.declared.kept.WritingError.TheVariants.{Contradiction, Changed}
+use Rattle.linker_rewriting.specs.declared.kept.WritingError.TheVariants.{NeedsStub, Section}
 use Rattle.linker_rewriting.specs.declared.phases.Phase.{Phase}
 use Rattle.linker_section.specs.Relocations.{relocation_in}
 use Rattle.linker_section.specs.Sections.{IsFirstRejected}
@@ -15,6 +20,7 @@ use Rattle.linker_section.specs.declared.facts.Addresses.{Addresses}
 use Rattle.linker_section.specs.declared.facts.Symbol.{Symbol}
 use Rattle.linker_section.specs.declared.relocations.Rela.{Rela}
 use Rattle.linker_utils.specs.declared.elf.Architecture.{Architecture}
+use Rattle.linker_utils.specs.declared.elf.Architecture.TheVariants as architectures
 
 -- ---- the facts of a symbol in a number
 
@@ -62,21 +68,64 @@ pub record IsFirstChanged (output : OutputFacts) (symbols : List SymbolFacts)
   pub same_before : AreAsKept output symbols kept bytes n
   pub changed : ¬ IsAsKept output symbols kept (relocation_in bytes n)
 
+-- ---- stubs
+
+-- a function of another file, without a stub that keeps its caller's TOC pointer
+abbrev pub needs_stub : SymbolFacts → Symbol → Bool
+needs_stub facts symbol =
+    is_imported facts && (symbol.stub == 0 && not symbol.is_undefined_weak)
+
+abbrev pub needs_stub_if : SymbolFacts → Option Symbol → Bool
+needs_stub_if facts None = false
+needs_stub_if facts (Some symbol) = needs_stub facts symbol
+
+abbrev pub need_stub_if : Option SymbolFacts → Option Symbol → Bool
+need_stub_if None symbol = false
+need_stub_if (Some facts) symbol = needs_stub_if facts symbol
+
+-- an `R_PPC64_REL24` of such a function (64-Bit ELF V2 ABI, "Function Call")
+abbrev pub lacks_stub : Architecture → List SymbolFacts → List Symbol → Rela → Bool
+lacks_stub architectures.Ppc64 facts symbols r =
+    r.code == code_of (ppc64_name ppc64.R_PPC64_REL24)
+    && need_stub_if (slice_get facts r.symbol) (slice_get symbols r.symbol)
+lacks_stub architecture facts symbols r = false
+
+-- none of the relocations with an index below a limit is one
+abbrev pub HaveStubs : Architecture → List SymbolFacts → List Symbol → List ℕ → ℕ → Type 0
+HaveStubs architecture facts symbols bytes limit =
+    (n : ℕ) → n < limit → lacks_stub architecture facts symbols (relocation_in bytes n) ≡ false
+
+-- the first that is
+pub record IsFirstWithoutStub (architecture : Architecture) (facts : List SymbolFacts)
+    (symbols : List Symbol) (bytes : List ℕ) (n : ℕ) : Type 0 where
+  pub within : n < length bytes / 24
+  pub stubs_before : HaveStubs architecture facts symbols bytes n
+  pub lacks : lacks_stub architecture facts symbols (relocation_in bytes n) ≡ true
+
+-- ---- errors
+
 -- why values aren't written
 abbrev pub IsWritingCause : Architecture → OutputFacts → List SymbolFacts → List KeptFacts
     → Addresses → List ℕ → List Symbol → List ℕ → WritingError → Type 0
+IsWritingCause architecture output facts kept addresses bytes symbols section
+    (Contradiction symbol) =
+    IsContradiction facts symbols bytes symbol
 IsWritingCause architecture output facts kept addresses bytes symbols section (Changed n) =
-    IsFirstChanged output facts kept bytes n
+    Agree facts symbols bytes × IsFirstChanged output facts kept bytes n
+IsWritingCause architecture output facts kept addresses bytes symbols section (NeedsStub n) =
+    Agree facts symbols bytes × AreAsKept output facts kept bytes (length bytes / 24)
+    × IsFirstWithoutStub architecture facts symbols bytes n
 IsWritingCause architecture output facts kept addresses bytes symbols section (Section error) =
-    AreAsKept output facts kept bytes (length bytes / 24)
+    Agree facts symbols bytes × AreAsKept output facts kept bytes (length bytes / 24)
+    × HaveStubs architecture facts symbols bytes (length bytes / 24)
     × IsFirstFault architecture addresses bytes symbols section error
 
 -- where a value isn't written it is the first that can't be
 abbrev pub IsRejectedOrChanged : Architecture → Addresses → List ℕ → List Symbol → List ℕ
     → WritingError → Type 0
-IsRejectedOrChanged architecture addresses bytes symbols section (Changed n) = Unit
 IsRejectedOrChanged architecture addresses bytes symbols section (Section error) =
     IsFirstRejected architecture addresses bytes symbols section error
+IsRejectedOrChanged architecture addresses bytes symbols section error = Unit
 
 -- ---- what they tell
 

@@ -1,7 +1,8 @@
 -- Groups of one label of RISC-V: a high part, and the low parts whose symbol is the label at it
 -- (RISC-V ELF psABI, "PC-Relative Symbol Addresses" and "TLS Descriptors").
 use Rattle.std.specs.Prelude.{◌≡◌, ℕ, ◌<◌, ◌/◌, ◌^◌, ◌⊎◌, ◌&&◌, ◌==◌, Bool, true, false, List}
-use Rattle.std.specs.Prelude.{length, Option, Some, None, if◌then◌else◌, slice_get}
+use Rattle.std.specs.Prelude.{length, Option, Some, None, if◌then◌else◌, slice_get, nat_le, not}
+use Rattle.std.specs.Prelude.{◌-◌}
 use Rattle.linker_elf.specs.ElfNames.{code_of}
 use Rattle.linker_elf.specs.RiscVRelocations.{riscv_name}
 use Rattle.linker_elf.specs.Value.{sum_64, difference_64}
@@ -36,13 +37,25 @@ high_code phase = code_of (riscv_name riscv64.R_RISCV_GOT_HI20)
 abbrev pub is_high : ℕ → ℕ → Rela → Bool
 is_high code at r = (r.offset == at) && (r.code == code)
 
+-- how many relocations at one offset are searched, so that a search has a bound
+abbrev pub searched : ℕ
+searched = 16
+
+-- As many others at an offset are before the relocation with an index, where relocations ascend.
+abbrev pub is_beyond : List ℕ → ℕ → ℕ → Bool
+is_beyond bytes at n = nat_le searched n && ((relocation_in bytes (n - searched)).offset == at)
+
+-- the relocation with an index is such a one, and is searched
+abbrev pub is_high_in : List ℕ → ℕ → ℕ → ℕ → Bool
+is_high_in bytes code at n = is_high code at (relocation_in bytes n) && not (is_beyond bytes at n)
+
 -- the index of the first one of a section
 abbrev pub IsHighAt : List ℕ → ℕ → ℕ → Option ℕ → Type 0
 IsHighAt bytes code at None =
-    (n : ℕ) → n < length bytes / 24 → is_high code at (relocation_in bytes n) ≡ false
+    (n : ℕ) → n < length bytes / 24 → is_high_in bytes code at n ≡ false
 IsHighAt bytes code at (Some high) =
-    (high < length bytes / 24) × (is_high code at (relocation_in bytes high) ≡ true)
-    × ((n : ℕ) → n < high → is_high code at (relocation_in bytes n) ≡ false)
+    (high < length bytes / 24) × (is_high_in bytes code at high ≡ true)
+    × ((n : ℕ) → n < high → is_high_in bytes code at n ≡ false)
 
 -- where a label is in the section
 abbrev pub offset_of_label : Addresses → Option Symbol → Option ℕ

@@ -1,3 +1,4 @@
+pub mod Agreement
 pub mod Candidates
 pub mod Decisions
 pub mod Facts

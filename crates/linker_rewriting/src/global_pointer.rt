@@ -5,7 +5,9 @@ ghost use Rattle.std.specs.Prelude.{◌≡◌, ◌↔◌, ◌+◌, ◌<◌, ◌�
 ghost use Rattle.std.specs.Prelude.{IfSome, IfErr, IfOk, OnOk, OnErr, All, IsTrue, slice_get};
 ghost use Rattle.std.specs.Prelude.{◌&&◌, ◌==◌, true, MatchOption};
 ghost use Rattle.std.specs.Int.{w32, from_le_bytes};
+ghost use Rattle.linker_rewriting.specs.Agreement.{Agree, IsContradiction};
 ghost use Rattle.linker_rewriting.specs.Decisions.{CanBeMade, AllCanBeMade, deletions_by};
+ghost use Rattle.linker_rewriting.specs.Decisions.{IsRejectedFirst};
 ghost use Rattle.linker_rewriting.specs.Facts.{setting};
 ghost use Rattle.linker_rewriting.specs.Inner.Settings.{setting_of};
 ghost use Rattle.linker_rewriting.specs.GlobalPointer.{part_of, IsLabelled, IsSubject, IsMember};
@@ -30,9 +32,10 @@ ghost use Rattle.linker_riscv64.specs.RiscVRewrites.{rs1_of, with_rs1};
 ghost use Rattle.linker_section.specs.Relocations.{relocation_in};
 ghost use Rattle.linker_section.specs.Values.{IsAscending};
 
+use crate::agreement::contradiction;
 use crate::decisions::{AsDecision, Decision, FromDeletion, RewritingError, end_behind};
 use crate::facts::{OutputFacts, Setting, SymbolFacts, address_in};
-use crate::labels::high_at;
+use crate::labels::{high_at, is_beyond};
 use crate::phases::Phase;
 use crate::relocations::{relocation_in, set_relocation};
 use crate::sections::list_deletions;
@@ -308,11 +311,12 @@ fn fits(
     relocation: &Rela,
     member: &(Part, Rela),
 ) -> bool
-    requires { index + 1 ≤ usize.MAX }
+    requires { index < length relocations.now / 24 }
     ensures { result ≡ fits (setting_of setting.now) gp ascends relocations.now section.now index
         relocation.now member.now }
 {
     ascends
+        && !is_beyond(relocations, relocation.offset, index)
         && setting.output.is_executable
         && setting.output.is_fixed
         && is_marked_at(setting.architecture, relocations, index, relocation)
@@ -338,7 +342,7 @@ fn kept_by(
     relocation: &Rela,
     member: Option<(Part, Rela)>,
 ) -> Option<usize>
-    requires { index + 1 ≤ usize.MAX }
+    requires { index < length relocations.now / 24 }
     ensures { result ≡ kept_by (setting_of setting.now) gp ascends relocations.now section.now index
         relocation.now member }
 {
@@ -371,7 +375,7 @@ fn keeping_symbol(
     index: usize,
     relocation: &Rela,
 ) -> Option<usize>
-    requires index { index + 1 ≤ usize.MAX }
+    requires index { index < length relocations.now / 24 }
     requires ascending { IsTrue ascends ↔ IsAscending relocations.now }
     ensures { IsKeepingSymbol (setting_of setting.now) gp relocations.now section.now index
         relocation.now result }
@@ -405,6 +409,11 @@ fn keeping_symbol(
 /// at the indexes that its relocations name, and `kept` has an element for each. For other
 /// architectures than RISC-V nothing is noted.
 ///
+/// # Errors
+///
+/// `kept` is as before. `symbols` and `values` contradict each other about the symbol of a
+/// relocation, as `RewritingError::Contradiction` says: the index of the first such symbol.
+///
 /// ```
 /// use linker_rewriting::facts::{OutputFacts, SymbolFacts};
 /// use linker_rewriting::global_pointer::survey_global_pointer;
@@ -425,7 +434,8 @@ fn keeping_symbol(
 ///     &relocations,
 ///     &[0x37, 0x05, 0, 0],
 ///     &mut kept,
-/// );
+/// )
+/// .unwrap();
 /// assert_eq!(kept, [false, true]);
 /// ```
 pub fn survey_global_pointer(
@@ -438,11 +448,18 @@ pub fn survey_global_pointer(
     relocations: &[u8],
     section: &[u8],
     kept: &mut [bool],
-)
-    ensures { AreSymbolsSurveyed (setting architecture Phase.Distances output.now symbols.now
-        addresses.now values.now) gp relocations.now section.now kept.old kept.new
-        (length relocations.now / 24) }
+) -> Result<(), usize>
+    ensures surveyed { OnOk result (AreSymbolsSurveyed (setting architecture Phase.Distances
+        output.now symbols.now addresses.now values.now) gp relocations.now section.now kept.old
+        kept.new (length relocations.now / 24)) }
+    ensures agree { OnOk result (Agree symbols.now values.now relocations.now) }
+    ensures contradiction { IfErr result
+        (IsContradiction symbols.now values.now relocations.now) }
+    ensures unchanged { OnErr result (kept.new ≡ kept.old) }
 {
+    if let Some(symbol) = contradiction(symbols, values, relocations) {
+        return Err(symbol);
+    }
     let setting = Setting {
         architecture,
         phase: Phase::Distances,
@@ -465,6 +482,7 @@ pub fn survey_global_pointer(
         );
         keep_word(kept, symbol);
     }
+    Ok(())
 }
 
 /// What becomes of a part that is rewritten.
@@ -500,7 +518,7 @@ fn decided_by(
     relocation: &Rela,
     member: Option<(Part, Rela)>,
 ) -> Option<Decision>
-    requires { index + 1 ≤ usize.MAX }
+    requires { index < length relocations.now / 24 }
     ensures decision { result ≡ decided_by (setting_of setting.now) gp ascends kept.now
         relocations.now section.now index relocation.now member }
     ensures made { IfSome result (λ d. CanBeMade d section.now relocation.now.offset) }
@@ -540,7 +558,7 @@ fn decide_part(
     index: usize,
     relocation: &Rela,
 ) -> Option<Decision>
-    requires index { index + 1 ≤ usize.MAX }
+    requires index { index < length relocations.now / 24 }
     requires ascending { IsTrue ascends ↔ IsAscending relocations.now }
     ensures decision { IsPartDecided (setting_of setting.now) gp kept.now relocations.now
         section.now index relocation.now result }
@@ -684,7 +702,8 @@ fn turn_all<D: AsDecision>(decisions: &[D], relocations: &mut [u8])
 ///
 /// # Errors
 ///
-/// The relocations are as before. `TooShort`: there are more relocations than `decisions`, or
+/// The relocations are as before. `Contradiction`, as in `survey_global_pointer`, comes first.
+/// `TooShort`: there are more relocations than `decisions`, or
 /// `deleted` has less room than there are deletions. `NotSurveyed`: a relocation of a symbol that
 /// doesn't stay can't be rewritten; it never comes where the section was surveyed into the table
 /// with the same facts. `Overlaps`: the instruction of the relocation with the index overlaps one
@@ -733,6 +752,7 @@ pub fn rewrite_global_pointer<D: AsDecision, L: FromDeletion>(
     decisions: &mut [D],
     deleted: &mut [L],
 ) -> Result<usize, RewritingError>
+    ensures agree { OnOk result (Agree symbols.now values.now relocations.old) }
     ensures decided { OnOk result (ArePartsDecided (setting architecture Phase.Distances output.now
         symbols.now addresses.now values.now) gp kept.now relocations.old section.now
         (map D.decision decisions.new) (length relocations.old / 24)) }
@@ -753,13 +773,17 @@ pub fn rewrite_global_pointer<D: AsDecision, L: FromDeletion>(
     ensures others_stay { drop (length relocations.old / 24) decisions.new
         ≡ drop (length relocations.old / 24) decisions.old }
     ensures deletions_stay { IfOk result (λ len. drop len deleted.new ≡ drop len deleted.old) }
-    ensures rejected { IfErr result (ArePartsRejected (setting architecture Phase.Distances
-        output.now symbols.now addresses.now values.now) gp kept.now relocations.old section.now
-        (map D.decision decisions.new) (length deleted.old)) }
+    ensures rejected { IfErr result (IsRejectedFirst symbols.now values.now relocations.old
+        (ArePartsRejected (setting architecture Phase.Distances output.now symbols.now addresses.now
+        values.now) gp kept.now relocations.old section.now (map D.decision decisions.new)
+        (length deleted.old))) }
     ensures surveyed { IfErr result (MeansSymbolsUnsurveyed (setting architecture Phase.Distances
         output.now symbols.now addresses.now values.now) gp relocations.old section.now kept.now) }
     ensures entries { OnErr result (relocations.new ≡ relocations.old) }
 {
+    if let Some(symbol) = contradiction(symbols, values, relocations) {
+        return Err(RewritingError::Contradiction(symbol));
+    }
     let setting = Setting {
         architecture,
         phase: Phase::Distances,

@@ -2,20 +2,24 @@
 //! hold.
 
 ghost use Rattle.std.specs.Prelude.{◌≡◌, ◌≤◌, ◌<◌, ◌*◌, ◌/◌, ◌^◌, ◌↔◌, length, IsTrue, IfErr};
-ghost use Rattle.std.specs.Prelude.{IfSome, IfNone, OnOk};
+ghost use Rattle.std.specs.Prelude.{IfSome, IfNone, OnOk, MatchOption};
+ghost use Rattle.linker_rewriting.specs.Agreement.{Agree};
 ghost use Rattle.linker_rewriting.specs.Kept.{AreAsKept, AreKept, IsAsKept, IsFirstChanged};
 ghost use Rattle.linker_rewriting.specs.Kept.{IsWritingCause, IsRejectedOrChanged, bit_if};
-ghost use Rattle.linker_rewriting.specs.Kept.{kept_facts};
+ghost use Rattle.linker_rewriting.specs.Kept.{kept_facts, needs_stub, lacks_stub, HaveStubs};
+ghost use Rattle.linker_rewriting.specs.Kept.{IsFirstWithoutStub};
 ghost use Rattle.linker_section.specs.Sections.{AreAllRelocated};
 ghost use Rattle.linker_section.specs.Relocations.{relocation_in};
 ghost use Rattle.linker_section.specs.WrittenFields.{AreWritten};
 
+use crate::agreement::contradiction;
 use crate::facts::{OutputFacts, SymbolFacts};
 use crate::relocations::relocation_in;
 use linker_section::facts::{Addresses, Symbol};
 use linker_section::relocations::{Rela, relocations_len};
 use linker_section::sections::{SectionError, relocate_section};
 use linker_utils::elf::Architecture;
+use linker_utils::ppc64::Ppc64Relocation;
 
 /// What choices read of a symbol and of the output, a bit for each fact; 0 where nothing is kept. A
 /// table of these has those of an object at the indexes that its relocations name (`r_sym`).
@@ -29,8 +33,14 @@ pub struct KeptFacts {
 /// Why the values of a section whose instructions were rewritten aren't written.
 #[derive(Debug, Clone, Copy, PartialEq, Eq)]
 pub enum WritingError {
+    /// The tables of facts and of addresses contradict each other about the symbol with this index,
+    /// as `RewritingError::Contradiction` says.
+    Contradiction(usize),
     /// Of the symbol of the relocation with this index other facts hold than those that are kept.
     Changed(usize),
+    /// The relocation with this index is an `R_PPC64_REL24` of a function of another file, which
+    /// may return with another TOC pointer, and whose symbol has no stub that keeps the caller's.
+    NeedsStub(usize),
     /// A value isn't written, as `relocate_section` says.
     Section(SectionError),
 }
@@ -123,6 +133,57 @@ pub fn first_changed(
     None
 }
 
+/// Whether a symbol is a function of another file, and has no stub that keeps its caller's TOC
+/// pointer. A call of what is undefined and weak needs none.
+#[inline(always)]
+fn needs_stub(facts: &SymbolFacts, symbol: &Symbol) -> bool
+    ensures { result ≡ needs_stub facts.now symbol.now }
+{
+    let is_imported = !(facts.is_local || facts.is_undefined_weak);
+    is_imported && symbol.stub == 0 && !symbol.is_undefined_weak
+}
+
+/// Whether a relocation is a call of PowerPC64 of such a function.
+#[inline(always)]
+fn lacks_stub(
+    architecture: Architecture,
+    facts: &[SymbolFacts],
+    symbols: &[Symbol],
+    relocation: &Rela,
+) -> bool
+    ensures { result ≡ lacks_stub architecture facts.now symbols.now relocation.now }
+{
+    let call = Ppc64Relocation::R_PPC64_REL24.elf_code();
+    if !matches!(architecture, Architecture::Ppc64) || relocation.code != call {
+        return false;
+    }
+    let index = relocation.symbol as usize;
+    match (facts.get(index), symbols.get(index)) {
+        (Some(facts), Some(symbol)) => needs_stub(facts, symbol),
+        _ => false,
+    }
+}
+
+/// The index of the first such relocation.
+fn first_without_stub(
+    architecture: Architecture,
+    facts: &[SymbolFacts],
+    symbols: &[Symbol],
+    relocations: &[u8],
+) -> Option<usize>
+    ensures { MatchOption result (HaveStubs architecture facts.now symbols.now relocations.now
+        (length relocations.now / 24))
+        (IsFirstWithoutStub architecture facts.now symbols.now relocations.now) }
+{
+    for index in 0..relocations_len(relocations) {
+        let relocation = relocation_in(relocations, index);
+        if lacks_stub(architecture, facts, symbols, &relocation) {
+            return Some(index);
+        }
+    }
+    None
+}
+
 /// Writes the values of a section whose instructions were rewritten, as `relocate_section` does,
 /// where choices would still read the same facts: `facts` and `output` are those that hold now, and
 /// `kept` those of `keep_facts` when rewrites were chosen. So a symbol that was bound then and
@@ -131,9 +192,11 @@ pub fn first_changed(
 ///
 /// # Errors
 ///
-/// The section is as before. `Changed`: of a symbol other facts hold than are kept, or none are
-/// kept; with the index of the first such relocation. `Section`: all facts are as kept, and a value
-/// isn't written.
+/// The section is as before. The first that applies of `Contradiction`: `facts` and `symbols`
+/// contradict each other about the symbol of a relocation, with the index of the first such symbol;
+/// `Changed`: of a symbol other facts hold than are kept, or none are kept, with the index of the
+/// first such relocation; `NeedsStub`: a call of PowerPC64 may lose its TOC pointer, with the index
+/// of the first one; `Section`: a value isn't written.
 ///
 /// ```
 /// use linker_rewriting::facts::{OutputFacts, SymbolFacts};
@@ -183,6 +246,9 @@ pub fn relocate_rewritten_section(
     memory: &mut [u64],
 ) -> Result<(), WritingError>
     requires memory { length relocations.now / 24 ≤ length memory.old }
+    ensures agree { OnOk result (Agree facts.now symbols.now relocations.now) }
+    ensures stubs { OnOk result (HaveStubs architecture facts.now symbols.now relocations.now
+        (length relocations.now / 24)) }
     ensures kept { OnOk result (AreAsKept output.now facts.now kept.now relocations.now
         (length relocations.now / 24)) }
     ensures ok { OnOk result (AreAllRelocated architecture addresses.now relocations.now symbols.now
@@ -195,8 +261,14 @@ pub fn relocate_rewritten_section(
         addresses.now relocations.now symbols.now section.old) }
     ensures unchanged { IfErr result (λ _. section.new ≡ section.old) }
 {
+    if let Some(symbol) = contradiction(facts, symbols, relocations) {
+        return Err(WritingError::Contradiction(symbol));
+    }
     if let Some(index) = first_changed(output, facts, kept, relocations) {
         return Err(WritingError::Changed(index));
+    }
+    if let Some(index) = first_without_stub(architecture, facts, symbols, relocations) {
+        return Err(WritingError::NeedsStub(index));
     }
     match relocate_section(
         architecture,

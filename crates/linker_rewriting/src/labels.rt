@@ -1,6 +1,6 @@
 //! Groups of one label of RISC-V: a high part, and the low parts whose symbol is the label at it.
 
-ghost use Rattle.std.specs.Prelude.{◌≡◌, ◌+◌, ◌<◌, ◌≤◌, ◌/◌, ℕ, length, IfSome, true};
+ghost use Rattle.std.specs.Prelude.{◌≡◌, ◌+◌, ◌<◌, ◌≤◌, ◌/◌, ◌⊎◌, ℕ, length, IfSome, true};
 ghost use Rattle.std.specs.Prelude.{map, drop, take, All};
 ghost use Rattle.linker_base.specs.Rewrite.{CanRewrite};
 ghost use Rattle.linker_utils.specs.Architectures.{relaxation_rewrite, relaxation_deleted};
@@ -10,6 +10,7 @@ ghost use Rattle.linker_rewriting.specs.Candidates.{deletes_within};
 ghost use Rattle.linker_rewriting.specs.Decisions.{decision_at};
 ghost use Rattle.linker_rewriting.specs.Inner.Settings.{setting_of};
 ghost use Rattle.linker_rewriting.specs.Labels.{high_code, IsHighAt, label_offset, IsHighOf};
+ghost use Rattle.linker_rewriting.specs.Labels.{is_beyond, searched};
 ghost use Rattle.linker_rewriting.specs.Labels.{is_labelled, IsInLabel, is_label_marked};
 ghost use Rattle.linker_rewriting.specs.Labels.{has_labels};
 ghost use Rattle.linker_rewriting.specs.Labels.{without_entry, IsLabelCandidate, IsLacking};
@@ -39,13 +40,43 @@ fn high_code(phase: Phase) -> u32
     }
 }
 
-/// The index of the first relocation with a code at an offset, among relocations that ascend.
+/// How many relocations at one offset are searched for a high part.
+const SEARCHED: usize = 16;
+
+/// Whether as many others at an offset are before the relocation with an index, among relocations
+/// that ascend.
+#[inline(always)]
+pub(crate) fn is_beyond(relocations: &[u8], at: u64, index: usize) -> bool
+    requires { index < length relocations.now / 24 }
+    ensures { result ≡ is_beyond relocations.now at index }
+{
+    SEARCHED <= index && relocation_in(relocations, index - SEARCHED).offset == at
+}
+
+/// Where a search ends that begins at an index, of so many relocations.
+#[inline(always)]
+fn search_end(first: usize, len: usize) -> usize
+    requires { first ≤ len }
+    ensures from { first ≤ result }
+    ensures within { result ≤ len }
+    ensures near { result ≤ first + searched }
+    ensures far { (len ≤ result) ⊎ (first + searched ≤ result) }
+{
+    if len - first < SEARCHED {
+        len
+    } else {
+        first + SEARCHED
+    }
+}
+
+/// The index of the first relocation with a code at an offset, among those that are searched of
+/// relocations that ascend. So it takes O(log n).
 pub(crate) fn high_at(relocations: &[u8], code: u32, at: u64) -> Option<usize>
     ensures within { IfSome result (λ high. high < length relocations.now / 24) }
     ensures high { IsAscending relocations.now → IsHighAt relocations.now code at result }
 {
     let first = first_from(relocations, at);
-    for index in first..relocations_len(relocations) {
+    for index in first..search_end(first, relocations_len(relocations)) {
         let relocation = relocation_in(relocations, index);
         if relocation.offset != at {
             return None;

@@ -2,6 +2,7 @@
 //! instructions are rewritten, all of a group or none, and what becomes of their relocations.
 #![tactic(auto)]
 
+mod agreement;
 mod calls;
 pub mod candidates;
 mod codes;

@@ -3,6 +3,7 @@
 ghost use Rattle.std.specs.Prelude.{◌≡◌, ◌<◌, ◌≤◌, ◌/◌, ℕ, length, take, IfErr, IfOk, IfSome};
 ghost use Rattle.std.specs.Prelude.{IfNone, OnOk, OnErr, All, map, drop, false};
 ghost use Rattle.linker_section.specs.Relocations.{relocation_in};
+ghost use Rattle.linker_rewriting.specs.Agreement.{Agree};
 ghost use Rattle.linker_rewriting.specs.Decisions.{CanBeMade, AllCanBeMade, AreDecided, AreApart};
 ghost use Rattle.linker_rewriting.specs.Decisions.{AreDecidedIn, IsRejected, IsRejectedPlaced};
 ghost use Rattle.linker_rewriting.specs.Decisions.{decision_at, deleted_of, deleted_end};
@@ -14,6 +15,7 @@ ghost use Rattle.linker_rewriting.specs.Rewritten.{AreRelocationsAfter, OthersSt
 ghost use Rattle.linker_rewriting.specs.Rewritten.{GroupsAreWholeIn, LabelsAreWhole};
 ghost use Rattle.linker_rewriting.specs.Surveys.{MeansUnsurveyed};
 
+use crate::agreement::contradiction;
 use crate::decisions::{AsDecision, Decision, FromDeletion, RewritingError, decide_section};
 use crate::facts::{NO_ADDRESSES, OutputFacts, Setting, SymbolFacts};
 use crate::groups::KeptGroups;
@@ -305,8 +307,10 @@ fn list_changes<D: AsDecision, L: FromDeletion>(
 ///
 /// # Errors
 ///
-/// The section and its relocations are as before. Those of `rewrite_section`, and `TooShort` where
-/// `deleted` has less room than there are deletions.
+/// The section and its relocations are as before. `Contradiction`: `symbols` and `values` contradict
+/// each other about the symbol of a relocation, with the index of the first such symbol; an
+/// undefined weak symbol that the dynamic linker may define is none. Those of `rewrite_section`, and
+/// `TooShort` where `deleted` has less room than there are deletions.
 ///
 /// ```
 /// use linker_rewriting::decisions::Decision;
@@ -358,6 +362,7 @@ pub fn rewrite_placed_section<D: AsDecision, L: FromDeletion>(
     decisions: &mut [D],
     deleted: &mut [L],
 ) -> Result<usize, RewritingError>
+    ensures agree { OnOk result (Agree symbols.now values.now relocations.old) }
     ensures decided { OnOk result (AreDecidedIn (setting architecture phase output.now symbols.now
         addresses.now values.now) kept.now relocations.old section.old
         (map D.decision decisions.new) (length relocations.old / 24)) }
@@ -392,6 +397,9 @@ pub fn rewrite_placed_section<D: AsDecision, L: FromDeletion>(
     ensures section { OnErr result (section.new ≡ section.old) }
     ensures entries { OnErr result (relocations.new ≡ relocations.old) }
 {
+    if let Some(symbol) = contradiction(symbols, values, relocations) {
+        return Err(RewritingError::Contradiction(symbol));
+    }
     let setting = Setting {
         architecture,
         phase,

@@ -1,7 +1,9 @@
 //! Which groups of an object stay as they are, since one of their instructions can't be rewritten.
 
 ghost use Rattle.std.specs.Prelude.{◌≡◌, ◌+◌, ◌<◌, ◌≤◌, ◌/◌, ℕ, length, slice_get, true};
+ghost use Rattle.std.specs.Prelude.{OnOk, IfErr, OnErr};
 ghost use Rattle.linker_section.specs.Relocations.{relocation_in};
+ghost use Rattle.linker_rewriting.specs.Agreement.{Agree, IsContradiction};
 ghost use Rattle.linker_rewriting.specs.Candidates.{calls_tls_get_addr};
 ghost use Rattle.linker_rewriting.specs.Facts.{setting};
 ghost use Rattle.linker_rewriting.specs.Inner.Settings.{setting_of};
@@ -11,6 +13,7 @@ ghost use Rattle.linker_rewriting.specs.Surveys.{IsKeeping, IsMarked, IsUnmarked
 ghost use Rattle.linker_rewriting.specs.Surveys.{AreKeptToo, IsGroup, IsGroupOf, IsOfThreads};
 ghost use Rattle.linker_rewriting.specs.Surveys.{IsSurveyed, IsSurveyedIn};
 
+use crate::agreement::contradiction;
 use crate::candidates::{candidate, is_matched, is_tls_get_addr};
 use crate::codes::{group_bit_of, is_surveyed, table_of};
 use crate::facts::{NO_ADDRESSES, OutputFacts, Setting, SymbolFacts};
@@ -308,6 +311,11 @@ pub fn survey(
 ///
 /// `symbols` and `values` both have an object's symbols at the indexes that its relocations name.
 ///
+/// # Errors
+///
+/// `kept` is as before. `symbols` and `values` contradict each other about the symbol of a
+/// relocation, as `RewritingError::Contradiction` says: the index of the first such symbol.
+///
 /// ```
 /// use linker_rewriting::facts::{OutputFacts, SymbolFacts};
 /// use linker_rewriting::groups::KeptGroups;
@@ -330,7 +338,8 @@ pub fn survey(
 ///     &relocations,
 ///     &[0x37, 0x05, 0, 0],
 ///     &mut kept,
-/// );
+/// )
+/// .unwrap();
 /// assert!(kept[1].initial_exec);
 /// ```
 pub fn survey_placed_section(
@@ -343,10 +352,18 @@ pub fn survey_placed_section(
     relocations: &[u8],
     section: &[u8],
     kept: &mut [KeptGroups],
-)
-    ensures { IsSurveyedIn (setting architecture phase output.now symbols.now addresses.now
-        values.now) relocations.now section.now kept.old kept.new (length relocations.now / 24) }
+) -> Result<(), usize>
+    ensures surveyed { OnOk result (IsSurveyedIn (setting architecture phase output.now symbols.now
+        addresses.now values.now) relocations.now section.now kept.old kept.new
+        (length relocations.now / 24)) }
+    ensures agree { OnOk result (Agree symbols.now values.now relocations.now) }
+    ensures contradiction { IfErr result
+        (IsContradiction symbols.now values.now relocations.now) }
+    ensures unchanged { OnErr result (kept.new ≡ kept.old) }
 {
+    if let Some(symbol) = contradiction(symbols, values, relocations) {
+        return Err(symbol);
+    }
     let setting = Setting {
         architecture,
         phase,
@@ -356,4 +373,5 @@ pub fn survey_placed_section(
         values,
     };
     survey_in(&setting, relocations, section, kept);
+    Ok(())
 }

@@ -3,7 +3,7 @@
 //! compute its address: all that load it, or none.
 
 ghost use Rattle.std.specs.Prelude.{◌≡◌, ◌⊎◌, ◌↔◌, ◌+◌, ◌<◌, ◌≤◌, ◌/◌, ℕ, length, map, take};
-ghost use Rattle.std.specs.Prelude.{drop, IfSome, IfErr, OnOk, OnErr, All, true};
+ghost use Rattle.std.specs.Prelude.{drop, IfSome, IfErr, OnOk, OnErr, All, true, MatchOption};
 ghost use Rattle.linker_base.specs.Rewrite.{CanRewrite};
 ghost use Rattle.linker_rewriting.specs.Candidates.{deletes_within};
 ghost use Rattle.linker_rewriting.specs.Decisions.{CanBeMade, AllCanBeMade, AreApart};
@@ -15,10 +15,13 @@ ghost use Rattle.linker_rewriting.specs.Words.{entry_code, word_code, word_offse
 ghost use Rattle.linker_rewriting.specs.Words.{IsLoad, IsLoadCandidate, word_stays, IsKeepingWord};
 ghost use Rattle.linker_rewriting.specs.Words.{AreLoadsSurveyed, IsLoadDecided, AreLoadsDecided};
 ghost use Rattle.linker_rewriting.specs.Words.{AreLoadsRejected, MeansWordsUnsurveyed};
+ghost use Rattle.linker_rewriting.specs.Words.{DoLoadsAgree, IsContradictionOfLoads};
+ghost use Rattle.linker_rewriting.specs.Words.{AreLoadsRejectedFirst};
 ghost use Rattle.linker_rewriting.specs.Words.{WordsAreWhole};
 ghost use Rattle.linker_section.specs.Relocations.{relocation_in};
 ghost use Rattle.linker_utils.specs.Architectures.{relaxation_rewrite, relaxation_deleted};
 
+use crate::agreement::contradiction;
 use crate::candidates::candidate_by;
 use crate::decisions::{AsDecision, Decision, RewritingError, Subject, end_behind, span_of};
 use crate::facts::{OutputFacts, Setting, SymbolFacts, address_in, link_facts};
@@ -209,6 +212,24 @@ fn keeping_word(
     }
 }
 
+/// The index of the symbol of the first relocation of a section or, where there is none, of the
+/// section of words, about which two tables contradict each other.
+#[inline(always)]
+fn contradiction_of_loads(
+    symbols: &[SymbolFacts],
+    values: &[Symbol],
+    words: &[u8],
+    relocations: &[u8],
+) -> Option<usize>
+    ensures { MatchOption result (DoLoadsAgree symbols.now values.now words.now relocations.now)
+        (IsContradictionOfLoads symbols.now values.now words.now relocations.now) }
+{
+    match contradiction(symbols, values, relocations) {
+        Some(symbol) => Some(symbol),
+        None => contradiction(symbols, values, words),
+    }
+}
+
 /// Notes which words of an object's section of addresses stay, since a relocation of this section
 /// of code is of an instruction that loads one and can't compute its address: it is none that the
 /// rewrite is meant for, the address may be of another file or in another place each time, or it is
@@ -222,6 +243,12 @@ fn keeping_word(
 /// A relocation is of a word where it refers to its address, whichever its symbol. `symbols` and
 /// `values` both have an object's symbols at the indexes that its relocations name. Only PowerPC64
 /// has such a section: of other architectures nothing is noted.
+///
+/// # Errors
+///
+/// `kept` is as before. `symbols` and `values` contradict each other about the symbol of a
+/// relocation of the section or, where there is none, of a word, as `RewritingError::Contradiction`
+/// says: the index of the first such symbol.
 ///
 /// ```
 /// use linker_rewriting::facts::{OutputFacts, SymbolFacts};
@@ -248,7 +275,8 @@ fn keeping_word(
 ///     &relocation(64, 1),
 ///     &[0, 0, 0x63, 0x80],
 ///     &mut kept,
-/// );
+/// )
+/// .unwrap();
 /// assert_eq!(kept, [true]);
 /// ```
 pub fn survey_address_loads(
@@ -262,11 +290,19 @@ pub fn survey_address_loads(
     relocations: &[u8],
     section: &[u8],
     kept: &mut [bool],
-)
-    ensures { AreLoadsSurveyed (setting architecture Phase.Distances output.now symbols.now
-        addresses.now values.now) words_start words.now relocations.now section.now
-        kept.old kept.new (length relocations.now / 24) }
+) -> Result<(), usize>
+    ensures surveyed { OnOk result (AreLoadsSurveyed (setting architecture Phase.Distances
+        output.now symbols.now addresses.now values.now) words_start words.now relocations.now
+        section.now kept.old kept.new (length relocations.now / 24)) }
+    ensures agree { OnOk result
+        (DoLoadsAgree symbols.now values.now words.now relocations.now) }
+    ensures contradiction { IfErr result
+        (IsContradictionOfLoads symbols.now values.now words.now relocations.now) }
+    ensures unchanged { OnErr result (kept.new ≡ kept.old) }
 {
+    if let Some(symbol) = contradiction_of_loads(symbols, values, words, relocations) {
+        return Err(symbol);
+    }
     let setting = Setting {
         architecture,
         phase: Phase::Distances,
@@ -288,6 +324,7 @@ pub fn survey_address_loads(
         );
         keep_word(kept, word);
     }
+    Ok(())
 }
 
 /// What a rewritten load's relocation is of: the symbol and the addend of the word's.
@@ -409,7 +446,8 @@ fn decide_loads<D: AsDecision>(
 /// The section and its relocations are as before. `TooShort`: there are more relocations than
 /// `decisions`. `NotSurveyed`: a load of a word that doesn't stay can't be rewritten; it never
 /// comes where the section was surveyed into the table with the same facts. `Overlaps`: the bytes
-/// of two rewrites overlap, or those of the second lie below those of the first.
+/// of two rewrites overlap, or those of the second lie below those of the first. Before these
+/// `Contradiction`, as in `survey_address_loads`.
 ///
 /// ```
 /// use linker_rewriting::decisions::Decision;
@@ -459,6 +497,8 @@ pub fn rewrite_address_loads<D: AsDecision>(
     section: &mut [u8],
     decisions: &mut [D],
 ) -> Result<(), RewritingError>
+    ensures agree { OnOk result
+        (DoLoadsAgree symbols.now values.now words.now relocations.old) }
     ensures decided { OnOk result (AreLoadsDecided (setting architecture Phase.Distances output.now
         symbols.now addresses.now values.now) words_start words.now kept.now relocations.old
         section.old (map D.decision decisions.new) (length relocations.old / 24)) }
@@ -477,7 +517,7 @@ pub fn rewrite_address_loads<D: AsDecision>(
         (All D.is_written (take (length relocations.old / 24) decisions.new)) }
     ensures others_stay { drop (length relocations.old / 24) decisions.new
         ≡ drop (length relocations.old / 24) decisions.old }
-    ensures rejected { IfErr result (AreLoadsRejected (setting architecture Phase.Distances
+    ensures rejected { IfErr result (AreLoadsRejectedFirst (setting architecture Phase.Distances
         output.now symbols.now addresses.now values.now) words_start words.now kept.now
         relocations.old section.old (map D.decision decisions.new)) }
     ensures surveyed { IfErr result (MeansWordsUnsurveyed (setting architecture Phase.Distances
@@ -486,6 +526,9 @@ pub fn rewrite_address_loads<D: AsDecision>(
     ensures section { OnErr result (section.new ≡ section.old) }
     ensures entries { OnErr result (relocations.new ≡ relocations.old) }
 {
+    if let Some(symbol) = contradiction_of_loads(symbols, values, words, relocations) {
+        return Err(RewritingError::Contradiction(symbol));
+    }
     let setting = Setting {
         architecture,
         phase: Phase::Distances,

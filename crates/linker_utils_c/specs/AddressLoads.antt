@@ -3,7 +3,8 @@ use Rattle.std.specs.Prelude.{◌≡◌, ◌⊎◌, ℕ, ◌/◌, Bool, List, le
 use Rattle.linker_rewriting.specs.Decisions.{AreApart}
 use Rattle.linker_rewriting.specs.Facts.{Setting}
 use Rattle.linker_rewriting.specs.Rewritten.{AreRelocationsAfter, AreDone, OthersStay}
-use Rattle.linker_rewriting.specs.Words.{AreLoadsDecided, AreLoadsRejected, WordsAreWhole}
+use Rattle.linker_rewriting.specs.Words.{AreLoadsDecided, AreLoadsRejectedFirst, WordsAreWhole}
+use Rattle.linker_rewriting.specs.Words.{DoLoadsAgree}
 use Rattle.linker_rewriting.specs.declared.decisions.Decision.{Decision}
 use Rattle.linker_utils_c.specs.Rewriting.{decisions_in, IsWrittenDecision, IsErrorReturned}
 use Rattle.linker_utils_c.specs.Status.{code}
@@ -26,8 +27,9 @@ AreLoadsReturned s start words kept bytes bytes_after section section_after old 
     old_faulty faulty status =
     (drop (length bytes / 24) new ≡ drop (length bytes / 24) old)
     × (((status ≡ code Success) × (faulty ≡ old_faulty)
+    × DoLoadsAgree s.symbols s.values words bytes
     × AreLoadsRewrittenAs s start words kept bytes bytes_after section section_after
     (decisions_in new)
     × All IsWrittenDecision (take (length bytes / 24) new))
-    ⊎ IsErrorReturned (AreLoadsRejected s start words kept bytes section (decisions_in new)) bytes
+    ⊎ IsErrorReturned (AreLoadsRejectedFirst s start words kept bytes section (decisions_in new)) bytes
     bytes_after section section_after old_faulty faulty status)

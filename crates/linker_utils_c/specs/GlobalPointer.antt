@@ -1,5 +1,7 @@
 -- Addresses near the global pointer, in the numbers that C sees.
 use Rattle.std.specs.Prelude.{◌≡◌, ◌⊎◌, ℕ, ◌<◌, ◌/◌, List, Bool, true, length, take, drop, All}
+use Rattle.linker_rewriting.specs.Agreement.{Agree}
+use Rattle.linker_rewriting.specs.Decisions.{IsRejectedFirst}
 use Rattle.linker_rewriting.specs.Facts.{Setting}
 use Rattle.linker_rewriting.specs.GlobalPointer.{ArePartsDecided, ArePartsWhole, AreRelocationsBy}
 use Rattle.linker_rewriting.specs.GlobalPointer.{ArePartsRejected, AreBased, section_based}
@@ -28,12 +30,12 @@ abbrev pub ArePartsReturned : Setting → ℕ → List Bool → List ℕ → Lis
 ArePartsReturned s gp kept bytes bytes_after section old new deleted deleted_after old_len len
     old_faulty faulty status =
     (drop (length bytes / 24) new ≡ drop (length bytes / 24) old)
-    × (((status ≡ code Success) × (faulty ≡ old_faulty)
+    × (((status ≡ code Success) × (faulty ≡ old_faulty) × Agree s.symbols s.values bytes
     × ArePartsRewrittenAs s gp kept bytes bytes_after section (decisions_in new)
     × All IsWrittenDecision (take (length bytes / 24) new)
     × AreDeletionsTo bytes section (decisions_in new) deleted deleted_after len)
-    ⊎ (IsErrorReturned (λ error. ArePartsRejected s gp kept bytes section (decisions_in new)
-    (length deleted) error) bytes bytes_after section section old_faulty faulty status
+    ⊎ (IsErrorReturned (λ error. IsRejectedFirst s.symbols s.values bytes
+    (ArePartsRejected s gp kept bytes section (decisions_in new) (length deleted)) error) bytes bytes_after section section old_faulty faulty status
     × (len ≡ old_len)))
 
 -- each low part has its base, or nothing changes

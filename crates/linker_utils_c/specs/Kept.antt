@@ -1,36 +1,52 @@
 -- Values that are written where choices of rewrites would read what they read, in the numbers that
 -- C sees.
 use Rattle.std.specs.Prelude.{◌≡◌, ℕ, ◌<◌, ◌≤◌, List, length, Result, Ok, Err}
-use Rattle.linker_rewriting.specs.Kept.{AreAsKept, IsFirstChanged}
+use Rattle.linker_rewriting.specs.Agreement.{Agree, IsContradiction}
+use Rattle.linker_rewriting.specs.Kept.{AreAsKept, IsFirstChanged, HaveStubs, IsFirstWithoutStub}
 use Rattle.linker_rewriting.specs.declared.facts.OutputFacts.{OutputFacts}
 use Rattle.linker_rewriting.specs.declared.facts.SymbolFacts.{SymbolFacts}
 use Rattle.linker_rewriting.specs.declared.kept.KeptFacts.{KeptFacts}
 use Rattle.linker_rewriting.specs.declared.kept.WritingError.{WritingError}
-use Rattle.linker_rewriting.specs.declared.kept.WritingError.TheVariants.{Changed, Section}
+use Rattle.linker_rewriting.specs.declared.kept.WritingError.TheVariants.{Contradiction, Changed}
+use Rattle.linker_rewriting.specs.declared.kept.WritingError.TheVariants.{NeedsStub, Section}
 use Rattle.linker_section.specs.declared.facts.Addresses.{Addresses}
 use Rattle.linker_section.specs.declared.facts.Symbol.{Symbol}
 use Rattle.linker_utils.specs.declared.elf.Architecture.{Architecture}
 use Rattle.linker_utils_c.specs.Sections.{room_of, IsSectionOutcome}
 use Rattle.linker_utils_c.specs.Status.{code}
 use Rattle.linker_utils_c.specs.declared.status.Status.TheVariants.{FactsChanged, ShortMemory}
+use Rattle.linker_utils_c.specs.declared.status.Status.TheVariants.{FactsContradict}
+use Rattle.linker_utils_c.specs.declared.status.Status.TheVariants as statuses
 
--- All facts are as kept, and all values are written or none is; or the index is that of the first
--- relocation of which other facts hold, and none is.
+-- The tables agree, all facts are as kept, no call lacks its stub, and all values are written or
+-- none is; or the index is that of the first symbol or relocation of which one of these isn't so, and
+-- none is.
 abbrev pub IsRewrittenOutcome : Architecture → OutputFacts → List SymbolFacts → List KeptFacts
     → Addresses → List ℕ → List Symbol → List ℕ → List ℕ → ℕ → ℕ → ℕ → Result Unit WritingError
     → Type 0
 IsRewrittenOutcome architecture output facts kept addresses bytes symbols before after old_faulty
     faulty status (Ok u) =
-    AreAsKept output facts kept bytes (room_of bytes)
+    Agree facts symbols bytes × AreAsKept output facts kept bytes (room_of bytes)
+    × HaveStubs architecture facts symbols bytes (room_of bytes)
     × IsSectionOutcome architecture addresses bytes symbols before after old_faulty faulty status
     (Ok u)
 IsRewrittenOutcome architecture output facts kept addresses bytes symbols before after old_faulty
+    faulty status (Err (Contradiction symbol)) =
+    (status ≡ code FactsContradict) × (faulty ≡ symbol) × (after ≡ before)
+    × IsContradiction facts symbols bytes symbol
+IsRewrittenOutcome architecture output facts kept addresses bytes symbols before after old_faulty
     faulty status (Err (Changed n)) =
-    (status ≡ code FactsChanged) × (faulty ≡ n) × (after ≡ before)
+    (status ≡ code FactsChanged) × (faulty ≡ n) × (after ≡ before) × Agree facts symbols bytes
     × IsFirstChanged output facts kept bytes n
 IsRewrittenOutcome architecture output facts kept addresses bytes symbols before after old_faulty
+    faulty status (Err (NeedsStub n)) =
+    (status ≡ code statuses.NeedsStub) × (faulty ≡ n) × (after ≡ before)
+    × Agree facts symbols bytes × AreAsKept output facts kept bytes (room_of bytes)
+    × IsFirstWithoutStub architecture facts symbols bytes n
+IsRewrittenOutcome architecture output facts kept addresses bytes symbols before after old_faulty
     faulty status (Err (Section error)) =
-    AreAsKept output facts kept bytes (room_of bytes)
+    Agree facts symbols bytes × AreAsKept output facts kept bytes (room_of bytes)
+    × HaveStubs architecture facts symbols bytes (room_of bytes)
     × IsSectionOutcome architecture addresses bytes symbols before after old_faulty faulty status
     (Err error)
 

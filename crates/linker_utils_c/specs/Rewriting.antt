@@ -3,6 +3,7 @@ use Rattle.std.specs.Prelude.{◌≡◌, ◌⊎◌, ℕ, ◌/◌, ◌==◌, if�
 use Rattle.std.specs.Prelude.{take, drop, pos}
 use Rattle.std.specs.Prelude.{All, Option, Some, None}
 use Rattle.linker_elf.specs.declared.elf.choice.Choice.{Choice}
+use Rattle.linker_rewriting.specs.Agreement.{Agree}
 use Rattle.linker_rewriting.specs.Decisions.{AreDecidedIn, AreApart, AllCanBeMade, deletions_by}
 use Rattle.linker_rewriting.specs.Decisions.{IsRejectedIn, IsRejectedPlaced}
 use Rattle.linker_rewriting.specs.Facts.{Setting}
@@ -29,6 +30,7 @@ use Rattle.linker_utils_c.specs.declared.rewriting.DecisionNumbers.{DecisionNumb
 use Rattle.linker_utils_c.specs.declared.status.Status.{Status}
 use Rattle.linker_utils_c.specs.declared.status.Status.TheVariants.{Success, ShortMemory}
 use Rattle.linker_utils_c.specs.declared.status.Status.TheVariants.{NotSurveyed, Overlaps}
+use Rattle.linker_utils_c.specs.declared.status.Status.TheVariants.{FactsContradict}
 
 -- ---- phases
 
@@ -113,6 +115,12 @@ IsWrittenDecision numbers = IsWrittenAs (decision_in numbers) numbers
 
 -- ---- a section
 
+-- it is surveyed, or its symbols contradict each other and nothing is noted
+abbrev pub IsSurveyReturned : Type 0 → Type 0 → Type 0 → ℕ → Type 0
+IsSurveyReturned Surveyed Contradicts Unchanged status =
+    ((status ≡ code Success) × Surveyed)
+    ⊎ ((status ≡ code FactsContradict) × Contradicts × Unchanged)
+
 -- it is rewritten as decided, all of a group or none
 pub record IsRewrittenAs (s : Setting) (kept : List KeptGroups) (bytes bytes_after : List ℕ)
     (section section_after : List ℕ) (decisions : List Decision) : Type 0 where
@@ -123,16 +131,18 @@ pub record IsRewrittenAs (s : Setting) (kept : List KeptGroups) (bytes bytes_aft
   pub done : AreDone bytes decisions section section_after (length bytes / 24)
   pub others : OthersStay bytes decisions section section_after (length bytes / 24)
 
--- the status of an error, and the index of the relocation at fault, if one is
+-- the status of an error, and the index of the relocation or of the symbol at fault, if one is
 abbrev pub rewriting_status : RewritingError → Status
 rewriting_status errors.TooShort = ShortMemory
 rewriting_status (errors.NotSurveyed n) = NotSurveyed
 rewriting_status (errors.Overlaps n) = Overlaps
+rewriting_status (errors.Contradiction symbol) = FactsContradict
 
 abbrev pub faulty_after : RewritingError → ℕ → ℕ
 faulty_after errors.TooShort old = old
 faulty_after (errors.NotSurveyed n) old = n
 faulty_after (errors.Overlaps n) old = n
+faulty_after (errors.Contradiction symbol) old = symbol
 
 -- an error of some kind, with which the section and its relocations are unchanged
 pub record IsErrorReturned (IsError : RewritingError → Type 0) (bytes bytes_after : List ℕ)
@@ -169,7 +179,7 @@ abbrev pub IsPlacedReturned : Setting → List KeptGroups → List ℕ → List 
 IsPlacedReturned s kept bytes bytes_after section section_after old new deleted deleted_after
     old_len len old_faulty faulty status =
     (drop (length bytes / 24) new ≡ drop (length bytes / 24) old)
-    × (((status ≡ code Success) × (faulty ≡ old_faulty)
+    × (((status ≡ code Success) × (faulty ≡ old_faulty) × Agree s.symbols s.values bytes
     × IsRewrittenAs s kept bytes bytes_after section section_after (decisions_in new)
     × All IsWrittenDecision (take (length bytes / 24) new)
     × AreDeletionsTo bytes section (decisions_in new) deleted deleted_after len)

@@ -1,14 +1,16 @@
 //! RISC-V's addresses near the global pointer or 0, without their high part.
 
-ghost use Rattle.std.specs.Prelude.{◌≡◌, ◌/◌, length, IfSome, IfNone};
+ghost use Rattle.std.specs.Prelude.{◌≡◌, ◌/◌, ℕ, length, IfSome, IfNone};
+ghost use Rattle.linker_rewriting.specs.Agreement.{Agree, IsContradiction};
 ghost use Rattle.linker_rewriting.specs.Facts.{setting};
 ghost use Rattle.linker_rewriting.specs.GlobalPointer.{AreSymbolsSurveyed};
 ghost use Rattle.linker_utils.specs.Machines.{architecture_of};
 ghost use Rattle.linker_utils_c.specs.GlobalPointer.{ArePartsReturned, AreBasesReturned};
+ghost use Rattle.linker_utils_c.specs.Rewriting.{IsSurveyReturned};
 ghost use Rattle.linker_utils_c.specs.Status.{code};
 
 use crate::deltas::Deletion;
-use crate::rewriting::{DecisionNumbers, put_error};
+use crate::rewriting::{DecisionNumbers, put_error, survey_status};
 use crate::status::Status;
 use linker_rewriting::facts::{OutputFacts, SymbolFacts};
 use linker_rewriting::global_pointer::{
@@ -19,7 +21,7 @@ use linker_section::facts::{Addresses, Symbol};
 use linker_utils::elf::Architecture;
 
 /// Notes which symbols of an object keep the high part of their address, by one of its sections of
-/// code, as `survey_global_pointer` of `linker_rewriting`. `UnknownArchitecture`.
+/// code, as `survey_global_pointer` of `linker_rewriting`. `UnknownArchitecture`; `FactsContradict`.
 #[unsafe(no_mangle)]
 pub extern "C" fn linker_utils_survey_global_pointer_nonnull(
     machine: u16,
@@ -32,17 +34,19 @@ pub extern "C" fn linker_utils_survey_global_pointer_nonnull(
     section: &[u8],
     kept: &mut [bool],
 ) -> u32
-    ensures known { IfSome (architecture_of machine) (λ architecture. (result ≡ code Status.Success)
-        × AreSymbolsSurveyed (setting architecture Phase.Distances output.now symbols.now
-        addresses.now values.now) global_pointer relocations.now section.now kept.old kept.new
-        (length relocations.now / 24)) }
+    ensures known { IfSome (architecture_of machine) (λ architecture.
+        IsSurveyReturned (AreSymbolsSurveyed (setting architecture Phase.Distances output.now
+        symbols.now addresses.now values.now) global_pointer relocations.now section.now kept.old
+        kept.new (length relocations.now / 24) × Agree symbols.now values.now relocations.now)
+        ((symbol : ℕ) × IsContradiction symbols.now values.now relocations.now symbol)
+        (kept.new ≡ kept.old) result) }
     ensures unknown { IfNone (architecture_of machine)
         ((result ≡ code Status.UnknownArchitecture) × (kept.new ≡ kept.old)) }
 {
     let Some(architecture) = Architecture::from_machine(machine) else {
         return Status::UnknownArchitecture.number();
     };
-    survey_global_pointer(
+    survey_status(survey_global_pointer(
         architecture,
         output,
         symbols,
@@ -52,19 +56,18 @@ pub extern "C" fn linker_utils_survey_global_pointer_nonnull(
         relocations,
         section,
         kept,
-    );
-    Status::Success.number()
+    ))
 }
 
 /// Has the high parts of addresses near the global pointer or 0 go, and turns the relocations of a
 /// section of code into those without them, as `rewrite_global_pointer` of `linker_rewriting`. What
 /// became of each relocation is in `decisions`, and what is to be deleted in the first
-/// `deleted_used` elements of `deleted`; the elements behind these are unchanged.
+/// `deleted_used` elements of `deleted`; the elements after these are unchanged.
 ///
-/// The first that applies of `UnknownArchitecture`; `ShortMemory`, where there are fewer decisions
-/// than relocations; `NotSurveyed` or `Overlaps`, of the relocation at `faulty`; and `ShortMemory`,
-/// where there are fewer elements of `deleted` than deletions. Then the relocations and
-/// `deleted_used` are unchanged.
+/// The first that applies of `UnknownArchitecture`; `FactsContradict`, of the symbol at `faulty`;
+/// `ShortMemory`, where there are fewer decisions than relocations; `NotSurveyed` or `Overlaps`, of
+/// the relocation at `faulty`; and `ShortMemory`, where there are fewer elements of `deleted` than
+/// deletions. Then the relocations and `deleted_used` are unchanged.
 #[unsafe(no_mangle)]
 pub extern "C" fn linker_utils_rewrite_global_pointer_nonnull(
     machine: u16,

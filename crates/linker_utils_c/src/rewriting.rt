@@ -1,18 +1,21 @@
 //! The rewrites of a section in one call, before addresses are known and once they are.
 
-ghost use Rattle.std.specs.Prelude.{◌≡◌, ◌/◌, ℕ, length, IfSome, IfNone, Some, false};
+ghost use Rattle.std.specs.Prelude.{◌≡◌, ◌/◌, ℕ, length, IfSome, IfNone, Some, false, OnOk, OnErr};
 ghost use Rattle.linker_output.specs.Addresses.{entry_code_of};
 ghost use Rattle.linker_output.specs.Targets.{target_of};
+ghost use Rattle.linker_rewriting.specs.Agreement.{Agree, IsContradiction};
 ghost use Rattle.linker_rewriting.specs.Facts.{early, setting};
 ghost use Rattle.linker_rewriting.specs.Groups.{has_rewrites};
 ghost use Rattle.linker_rewriting.specs.Surveys.{IsSurveyed, IsSurveyedIn};
-ghost use Rattle.linker_rewriting.specs.Words.{AreLoadsSurveyed, entry_code};
+ghost use Rattle.linker_rewriting.specs.Words.{AreLoadsSurveyed, entry_code, DoLoadsAgree};
+ghost use Rattle.linker_rewriting.specs.Words.{IsContradictionOfLoads};
 ghost use Rattle.linker_utils.specs.Architectures.{relaxation_architecture};
 ghost use Rattle.linker_utils.specs.Machines.{architecture_of, machine_of};
 ghost use Rattle.linker_utils_c.specs.AddressLoads.{AreLoadsReturned};
 ghost use Rattle.linker_utils_c.specs.Rewriting.{phase_of, of_fate, choice_in, subject_in};
 ghost use Rattle.linker_utils_c.specs.Rewriting.{IsRewriteReturned, IsPlacedReturned};
 ghost use Rattle.linker_utils_c.specs.Rewriting.{rewriting_status, faulty_after};
+ghost use Rattle.linker_utils_c.specs.Rewriting.{IsSurveyReturned};
 ghost use Rattle.linker_utils_c.specs.Status.{code};
 
 use crate::deltas::Deletion;
@@ -226,7 +229,7 @@ pub extern "C" fn linker_utils_survey_nonnull(
 
 /// Notes which groups of an object stay in a phase once addresses are known, by one of its
 /// sections, as `survey_placed_section` of `linker_rewriting`. The first that applies of
-/// `UnknownArchitecture`; `UnknownPhase`.
+/// `UnknownArchitecture`; `UnknownPhase`; `FactsContradict`.
 #[unsafe(no_mangle)]
 pub extern "C" fn linker_utils_survey_placed_section_nonnull(
     machine: u16,
@@ -240,9 +243,11 @@ pub extern "C" fn linker_utils_survey_placed_section_nonnull(
     kept: &mut [KeptGroups],
 ) -> u32
     ensures known { IfSome (architecture_of machine) (λ architecture. IfSome (phase_of phase)
-        (λ when. (result ≡ code Status.Success)
-        × IsSurveyedIn (setting architecture when output.now symbols.now addresses.now values.now)
-        relocations.now section.now kept.old kept.new (length relocations.now / 24))) }
+        (λ when. IsSurveyReturned (IsSurveyedIn (setting architecture when output.now symbols.now
+        addresses.now values.now) relocations.now section.now kept.old kept.new
+        (length relocations.now / 24) × Agree symbols.now values.now relocations.now)
+        ((symbol : ℕ) × IsContradiction symbols.now values.now relocations.now symbol)
+        (kept.new ≡ kept.old) result)) }
     ensures unknown_phase { IfSome (architecture_of machine) (λ _. IfNone (phase_of phase)
         ((result ≡ code Status.UnknownPhase) × (kept.new ≡ kept.old))) }
     ensures unknown { IfNone (architecture_of machine)
@@ -254,7 +259,7 @@ pub extern "C" fn linker_utils_survey_placed_section_nonnull(
     let Some(phase) = phase_of(phase) else {
         return Status::UnknownPhase.number();
     };
-    survey_placed_section(
+    survey_status(survey_placed_section(
         architecture,
         phase,
         output,
@@ -264,11 +269,23 @@ pub extern "C" fn linker_utils_survey_placed_section_nonnull(
         relocations,
         section,
         kept,
-    );
-    Status::Success.number()
+    ))
 }
 
-/// The status of an error. The index of the relocation at fault is written, if one is.
+/// The status of a survey.
+#[inline(always)]
+pub(crate) fn survey_status(surveyed: Result<(), usize>) -> u32
+    ensures ok { OnOk surveyed (result ≡ code Status.Success) }
+    ensures err { OnErr surveyed (result ≡ code Status.FactsContradict) }
+{
+    match surveyed {
+        Ok(()) => Status::Success.number(),
+        Err(_) => Status::FactsContradict.number(),
+    }
+}
+
+/// The status of an error. The index of the relocation or the symbol at fault is written, if one
+/// is.
 #[inline(always)]
 pub(crate) fn put_error(error: RewritingError, faulty: &mut usize) -> u32
     ensures status { result ≡ code (rewriting_status error) }
@@ -283,6 +300,10 @@ pub(crate) fn put_error(error: RewritingError, faulty: &mut usize) -> u32
         RewritingError::Overlaps(index) => {
             *faulty = index;
             Status::Overlaps.number()
+        }
+        RewritingError::Contradiction(symbol) => {
+            *faulty = symbol;
+            Status::FactsContradict.number()
         }
     }
 }
@@ -335,12 +356,13 @@ pub extern "C" fn linker_utils_rewrite_section_nonnull(
 /// Rewrites the instructions of a section of code in a phase, once addresses are known, and turns
 /// its relocations into those after it, as `rewrite_placed_section` of `linker_rewriting`. What
 /// became of each relocation is in `decisions`, and what is to be deleted in the first
-/// `deleted_used` elements of `deleted`; the elements behind these are unchanged.
+/// `deleted_used` elements of `deleted`; the elements after these are unchanged.
 ///
-/// The first that applies of `UnknownArchitecture`; `UnknownPhase`; `ShortMemory`, where there are
-/// fewer decisions than relocations; why it can't rewrite the relocation at `faulty`, `NotSurveyed`
-/// or `Overlaps`; and `ShortMemory`, where there are fewer elements of `deleted` than deletions.
-/// Then the section, its relocations and `deleted_used` are unchanged.
+/// The first that applies of `UnknownArchitecture`; `UnknownPhase`; `FactsContradict`, of the symbol
+/// at `faulty`; `ShortMemory`, where there are fewer decisions than relocations; why it can't
+/// rewrite the relocation at `faulty`, `NotSurveyed` or `Overlaps`; and `ShortMemory`, where there
+/// are fewer elements of `deleted` than deletions. Then the section, its relocations and
+/// `deleted_used` are unchanged.
 #[unsafe(no_mangle)]
 pub extern "C" fn linker_utils_rewrite_placed_section_nonnull(
     machine: u16,
@@ -401,7 +423,7 @@ pub extern "C" fn linker_utils_rewrite_placed_section_nonnull(
 }
 
 /// Notes which words of an object's section of addresses stay, by one of its sections of code, as
-/// `survey_address_loads` of `linker_rewriting`. `UnknownArchitecture`.
+/// `survey_address_loads` of `linker_rewriting`. `UnknownArchitecture`; `FactsContradict`.
 #[unsafe(no_mangle)]
 pub extern "C" fn linker_utils_survey_address_loads_nonnull(
     machine: u16,
@@ -415,17 +437,20 @@ pub extern "C" fn linker_utils_survey_address_loads_nonnull(
     section: &[u8],
     kept: &mut [bool],
 ) -> u32
-    ensures known { IfSome (architecture_of machine) (λ architecture. (result ≡ code Status.Success)
-        × AreLoadsSurveyed (setting architecture Phase.Distances output.now symbols.now
-        addresses.now values.now) words_start words.now relocations.now section.now
-        kept.old kept.new (length relocations.now / 24)) }
+    ensures known { IfSome (architecture_of machine) (λ architecture.
+        IsSurveyReturned (AreLoadsSurveyed (setting architecture Phase.Distances output.now
+        symbols.now addresses.now values.now) words_start words.now relocations.now section.now
+        kept.old kept.new (length relocations.now / 24)
+        × DoLoadsAgree symbols.now values.now words.now relocations.now)
+        ((symbol : ℕ) × IsContradictionOfLoads symbols.now values.now words.now relocations.now
+        symbol) (kept.new ≡ kept.old) result) }
     ensures unknown { IfNone (architecture_of machine)
         ((result ≡ code Status.UnknownArchitecture) × (kept.new ≡ kept.old)) }
 {
     let Some(architecture) = Architecture::from_machine(machine) else {
         return Status::UnknownArchitecture.number();
     };
-    survey_address_loads(
+    survey_status(survey_address_loads(
         architecture,
         output,
         symbols,
@@ -436,8 +461,7 @@ pub extern "C" fn linker_utils_survey_address_loads_nonnull(
         relocations,
         section,
         kept,
-    );
-    Status::Success.number()
+    ))
 }
 
 /// Has the instructions of a section of code compute the addresses that they load from words of an
@@ -446,10 +470,10 @@ pub extern "C" fn linker_utils_survey_address_loads_nonnull(
 /// whose elements behind those of the relocations are unchanged. The types of loads are those of
 /// which `linker_utils_entry_relocation` says another one.
 ///
-/// The first that applies of `UnknownArchitecture`; `ShortMemory`, where there are fewer decisions
-/// than relocations; and why it can't rewrite the relocation at `faulty`: `NotSurveyed` or
-/// `Overlaps`. Then the section and its relocations are unchanged, and the decisions below `faulty`
-/// are made.
+/// The first that applies of `UnknownArchitecture`; `FactsContradict`, of the symbol at `faulty`;
+/// `ShortMemory`, where there are fewer decisions than relocations; and why it can't rewrite the
+/// relocation at `faulty`: `NotSurveyed` or `Overlaps`. Then the section and its relocations are
+/// unchanged, and the decisions below `faulty` are made.
 #[unsafe(no_mangle)]
 pub extern "C" fn linker_utils_rewrite_address_loads_nonnull(
     machine: u16,

@@ -3,7 +3,7 @@
 //! RISC-V's addresses near the global pointer or 0, without their high part.
 
 use crate::deltas::Deletion;
-use crate::rewriting::{DecisionNumbers, put_error};
+use crate::rewriting::{DecisionNumbers, put_error, survey_status};
 use crate::status::Status;
 use linker_utils::rewriting::{OutputFacts, SymbolFacts};
 use linker_utils::rewriting::{
@@ -14,7 +14,7 @@ use linker_utils::section::{Addresses, Symbol};
 use linker_utils::elf::Architecture;
 
 /// Notes which symbols of an object keep the high part of their address, by one of its sections of
-/// code, as `survey_global_pointer` of `linker_rewriting`. `UnknownArchitecture`.
+/// code, as `survey_global_pointer` of `linker_rewriting`. `UnknownArchitecture`; `FactsContradict`.
 pub fn linker_utils_survey_global_pointer_nonnull(
     machine: u16,
     output: &OutputFacts,
@@ -29,7 +29,7 @@ pub fn linker_utils_survey_global_pointer_nonnull(
     let Some(architecture) = Architecture::from_machine(machine) else {
         return Status::UnknownArchitecture.number();
     };
-    survey_global_pointer(
+    survey_status(survey_global_pointer(
         architecture,
         output,
         symbols,
@@ -39,19 +39,18 @@ pub fn linker_utils_survey_global_pointer_nonnull(
         relocations,
         section,
         kept,
-    );
-    Status::Success.number()
+    ))
 }
 
 /// Has the high parts of addresses near the global pointer or 0 go, and turns the relocations of a
 /// section of code into those without them, as `rewrite_global_pointer` of `linker_rewriting`. What
 /// became of each relocation is in `decisions`, and what is to be deleted in the first
-/// `deleted_used` elements of `deleted`; the elements behind these are unchanged.
+/// `deleted_used` elements of `deleted`; the elements after these are unchanged.
 ///
-/// The first that applies of `UnknownArchitecture`; `ShortMemory`, where there are fewer decisions
-/// than relocations; `NotSurveyed` or `Overlaps`, of the relocation at `faulty`; and `ShortMemory`,
-/// where there are fewer elements of `deleted` than deletions. Then the relocations and
-/// `deleted_used` are unchanged.
+/// The first that applies of `UnknownArchitecture`; `FactsContradict`, of the symbol at `faulty`;
+/// `ShortMemory`, where there are fewer decisions than relocations; `NotSurveyed` or `Overlaps`, of
+/// the relocation at `faulty`; and `ShortMemory`, where there are fewer elements of `deleted` than
+/// deletions. Then the relocations and `deleted_used` are unchanged.
 pub fn linker_utils_rewrite_global_pointer_nonnull(
     machine: u16,
     output: &OutputFacts,

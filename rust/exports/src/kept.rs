@@ -27,8 +27,9 @@ pub fn linker_utils_keep_facts_nonnull(
 /// Writes the values of a section whose instructions were rewritten, as
 /// `relocate_rewritten_section` of `linker_rewriting`, or none of them. The first that applies of
 /// `UnknownArchitecture`; `ShortMemory`, where `memory` has fewer elements than
-/// `linker_utils_relocate_memory`; `FactsChanged`, with the first such relocation at `faulty`; and
-/// why the relocation at `faulty` can't be written.
+/// `linker_utils_relocate_memory`; `FactsContradict`, with the symbol at `faulty`; `FactsChanged`,
+/// with the first such relocation at `faulty`; `NeedsStub`, likewise; and why the relocation at
+/// `faulty` can't be written.
 pub fn linker_utils_relocate_rewritten_section_nonnull(
     machine: u16,
     output: &OutputFacts,
@@ -59,9 +60,17 @@ pub fn linker_utils_relocate_rewritten_section_nonnull(
         memory,
     ) {
         Ok(()) => Status::Success.number(),
+        Err(WritingError::Contradiction(symbol)) => {
+            *faulty = symbol;
+            Status::FactsContradict.number()
+        }
         Err(WritingError::Changed(index)) => {
             *faulty = index;
             Status::FactsChanged.number()
+        }
+        Err(WritingError::NeedsStub(index)) => {
+            *faulty = index;
+            Status::NeedsStub.number()
         }
         Err(WritingError::Section(error)) => {
             *faulty = error.index;

@@ -182,7 +182,7 @@ pub fn linker_utils_survey_nonnull(
 
 /// Notes which groups of an object stay in a phase once addresses are known, by one of its
 /// sections, as `survey_placed_section` of `linker_rewriting`. The first that applies of
-/// `UnknownArchitecture`; `UnknownPhase`.
+/// `UnknownArchitecture`; `UnknownPhase`; `FactsContradict`.
 pub fn linker_utils_survey_placed_section_nonnull(
     machine: u16,
     phase: u32,
@@ -200,7 +200,7 @@ pub fn linker_utils_survey_placed_section_nonnull(
     let Some(phase) = phase_of(phase) else {
         return Status::UnknownPhase.number();
     };
-    survey_placed_section(
+    survey_status(survey_placed_section(
         architecture,
         phase,
         output,
@@ -210,11 +210,20 @@ pub fn linker_utils_survey_placed_section_nonnull(
         relocations,
         section,
         kept,
-    );
-    Status::Success.number()
+    ))
 }
 
-/// The status of an error. The index of the relocation at fault is written, if one is.
+/// The status of a survey.
+#[inline(always)]
+pub(crate) fn survey_status(surveyed: Result<(), usize>) -> u32 {
+    match surveyed {
+        Ok(()) => Status::Success.number(),
+        Err(_) => Status::FactsContradict.number(),
+    }
+}
+
+/// The status of an error. The index of the relocation or the symbol at fault is written, if one
+/// is.
 #[inline(always)]
 pub(crate) fn put_error(error: RewritingError, faulty: &mut usize) -> u32 {
     match error {
@@ -226,6 +235,10 @@ pub(crate) fn put_error(error: RewritingError, faulty: &mut usize) -> u32 {
         RewritingError::Overlaps(index) => {
             *faulty = index;
             Status::Overlaps.number()
+        }
+        RewritingError::Contradiction(symbol) => {
+            *faulty = symbol;
+            Status::FactsContradict.number()
         }
     }
 }
@@ -268,12 +281,13 @@ pub fn linker_utils_rewrite_section_nonnull(
 /// Rewrites the instructions of a section of code in a phase, once addresses are known, and turns
 /// its relocations into those after it, as `rewrite_placed_section` of `linker_rewriting`. What
 /// became of each relocation is in `decisions`, and what is to be deleted in the first
-/// `deleted_used` elements of `deleted`; the elements behind these are unchanged.
+/// `deleted_used` elements of `deleted`; the elements after these are unchanged.
 ///
-/// The first that applies of `UnknownArchitecture`; `UnknownPhase`; `ShortMemory`, where there are
-/// fewer decisions than relocations; why it can't rewrite the relocation at `faulty`, `NotSurveyed`
-/// or `Overlaps`; and `ShortMemory`, where there are fewer elements of `deleted` than deletions.
-/// Then the section, its relocations and `deleted_used` are unchanged.
+/// The first that applies of `UnknownArchitecture`; `UnknownPhase`; `FactsContradict`, of the symbol
+/// at `faulty`; `ShortMemory`, where there are fewer decisions than relocations; why it can't
+/// rewrite the relocation at `faulty`, `NotSurveyed` or `Overlaps`; and `ShortMemory`, where there
+/// are fewer elements of `deleted` than deletions. Then the section, its relocations and
+/// `deleted_used` are unchanged.
 pub fn linker_utils_rewrite_placed_section_nonnull(
     machine: u16,
     phase: u32,
@@ -317,7 +331,7 @@ pub fn linker_utils_rewrite_placed_section_nonnull(
 }
 
 /// Notes which words of an object's section of addresses stay, by one of its sections of code, as
-/// `survey_address_loads` of `linker_rewriting`. `UnknownArchitecture`.
+/// `survey_address_loads` of `linker_rewriting`. `UnknownArchitecture`; `FactsContradict`.
 pub fn linker_utils_survey_address_loads_nonnull(
     machine: u16,
     output: &OutputFacts,
@@ -333,7 +347,7 @@ pub fn linker_utils_survey_address_loads_nonnull(
     let Some(architecture) = Architecture::from_machine(machine) else {
         return Status::UnknownArchitecture.number();
     };
-    survey_address_loads(
+    survey_status(survey_address_loads(
         architecture,
         output,
         symbols,
@@ -344,8 +358,7 @@ pub fn linker_utils_survey_address_loads_nonnull(
         relocations,
         section,
         kept,
-    );
-    Status::Success.number()
+    ))
 }
 
 /// Has the instructions of a section of code compute the addresses that they load from words of an
@@ -354,10 +367,10 @@ pub fn linker_utils_survey_address_loads_nonnull(
 /// whose elements behind those of the relocations are unchanged. The types of loads are those of
 /// which `linker_utils_entry_relocation` says another one.
 ///
-/// The first that applies of `UnknownArchitecture`; `ShortMemory`, where there are fewer decisions
-/// than relocations; and why it can't rewrite the relocation at `faulty`: `NotSurveyed` or
-/// `Overlaps`. Then the section and its relocations are unchanged, and the decisions below `faulty`
-/// are made.
+/// The first that applies of `UnknownArchitecture`; `FactsContradict`, of the symbol at `faulty`;
+/// `ShortMemory`, where there are fewer decisions than relocations; and why it can't rewrite the
+/// relocation at `faulty`: `NotSurveyed` or `Overlaps`. Then the section and its relocations are
+/// unchanged, and the decisions below `faulty` are made.
 pub fn linker_utils_rewrite_address_loads_nonnull(
     machine: u16,
     output: &OutputFacts,

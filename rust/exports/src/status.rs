@@ -177,6 +177,9 @@ pub enum Status {
     NeedsStub,
     /// The instruction there is shorter or longer than the one that the relocation is for.
     OtherLength,
+    /// The facts and the values of a symbol contradict each other: it is local, and undefined and
+    /// weak, or `other` is not the same.
+    FactsContradict,
 }
 
 impl Status {

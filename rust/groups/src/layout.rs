@@ -126,13 +126,14 @@ impl Layout {
                 foreign + FOREIGN_LEN / 2
             };
             truths.push(truth);
+            let other = if is_tls_get_addr { 0 } else { symbol.other };
             facts.push(SymbolFacts {
                 is_local,
                 is_ifunc: symbol.is_ifunc,
                 is_absolute: symbol.home == Home::Absolute,
                 is_undefined_weak,
                 is_tls_get_addr,
-                other: symbol.other,
+                other,
             });
             symbols.push(Symbol {
                 address,
@@ -141,7 +142,7 @@ impl Layout {
                     true if !is_tls_get_addr => foreign,
                     _ => 0,
                 },
-                other: if is_tls_get_addr { 0 } else { symbol.other },
+                other,
                 is_thread_local: symbol.is_thread_local,
                 is_undefined_weak,
                 ..Symbol::default()

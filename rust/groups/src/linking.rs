@@ -153,7 +153,8 @@ pub fn link(object: &Object, layout: &Layout) -> Vec<Result<Linked, Box<dyn Erro
                 &tables[index],
                 &bytes[index],
                 &mut kept,
-            );
+            )
+            .expect("tables that agree");
         }
         for &index in &code {
             let mut decisions = vec![Decision::Kept; relocations_len(&tables[index])];

@@ -91,6 +91,10 @@ pub enum RewritingError {
     /// Bytes that would be rewritten or deleted at the relocation with this index are also
     /// rewritten or deleted at one before it, or lie below such bytes.
     Overlaps(usize),
+    /// The tables of facts and of addresses contradict each other about the symbol with this index:
+    /// it is local, and undefined and weak, or `other` isn't the same in both. That a thread-local
+    /// symbol which nothing defines is local is no contradiction: it is at the thread pointer.
+    Contradiction(usize),
 }
 
 impl Decision {

@@ -3,9 +3,10 @@
 //! RISC-V's addresses within 2 KiB of the global pointer or of 0. They need no `lui` and no
 //! `auipc`: each low part takes x3 or x0 as its base, all of a symbol or none.
 
+use crate::linker_rewriting::agreement::contradiction;
 use crate::linker_rewriting::decisions::{AsDecision, Decision, FromDeletion, RewritingError, end_behind};
 use crate::linker_rewriting::facts::{OutputFacts, Setting, SymbolFacts, address_in};
-use crate::linker_rewriting::labels::high_at;
+use crate::linker_rewriting::labels::{high_at, is_beyond};
 use crate::linker_rewriting::phases::Phase;
 use crate::linker_rewriting::relocations::{relocation_in, set_relocation};
 use crate::linker_rewriting::sections::list_deletions;
@@ -238,6 +239,7 @@ fn fits(
     member: &(Part, Rela),
 ) -> bool {
     ascends
+        && !is_beyond(relocations, relocation.offset, index)
         && setting.output.is_executable
         && setting.output.is_fixed
         && is_marked_at(setting.architecture, relocations, index, relocation)
@@ -321,6 +323,11 @@ fn keeping_symbol(
 /// at the indexes that its relocations name, and `kept` has an element for each. For other
 /// architectures than RISC-V nothing is noted.
 ///
+/// # Errors
+///
+/// `kept` is as before. `symbols` and `values` contradict each other about the symbol of a
+/// relocation, as `RewritingError::Contradiction` says: the index of the first such symbol.
+///
 /// ```
 /// use linker_utils::rewriting::{OutputFacts, SymbolFacts};
 /// use linker_utils::rewriting::survey_global_pointer;
@@ -341,7 +348,8 @@ fn keeping_symbol(
 ///     &relocations,
 ///     &[0x37, 0x05, 0, 0],
 ///     &mut kept,
-/// );
+/// )
+/// .unwrap();
 /// assert_eq!(kept, [false, true]);
 /// ```
 pub fn survey_global_pointer(
@@ -354,7 +362,10 @@ pub fn survey_global_pointer(
     relocations: &[u8],
     section: &[u8],
     kept: &mut [bool],
-) {
+) -> Result<(), usize> {
+    if let Some(symbol) = contradiction(symbols, values, relocations) {
+        return Err(symbol);
+    }
     let setting = Setting {
         architecture,
         phase: Phase::Distances,
@@ -377,6 +388,7 @@ pub fn survey_global_pointer(
         );
         keep_word(kept, symbol);
     }
+    Ok(())
 }
 
 /// What becomes of a part that is rewritten.
@@ -556,7 +568,8 @@ fn turn_all<D: AsDecision>(decisions: &[D], relocations: &mut [u8]) {
 ///
 /// # Errors
 ///
-/// The relocations are as before. `TooShort`: there are more relocations than `decisions`, or
+/// The relocations are as before. `Contradiction`, as in `survey_global_pointer`, comes first.
+/// `TooShort`: there are more relocations than `decisions`, or
 /// `deleted` has less room than there are deletions. `NotSurveyed`: a relocation of a symbol that
 /// doesn't stay can't be rewritten; it never comes where the section was surveyed into the table
 /// with the same facts. `Overlaps`: the instruction of the relocation with the index overlaps one
@@ -605,6 +618,9 @@ pub fn rewrite_global_pointer<D: AsDecision, L: FromDeletion>(
     decisions: &mut [D],
     deleted: &mut [L],
 ) -> Result<usize, RewritingError> {
+    if let Some(symbol) = contradiction(symbols, values, relocations) {
+        return Err(RewritingError::Contradiction(symbol));
+    }
     let setting = Setting {
         architecture,
         phase: Phase::Distances,

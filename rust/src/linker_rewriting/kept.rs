@@ -3,12 +3,14 @@
 //! What choices of rewrites read of symbols, kept until values are written: then the same has to
 //! hold.
 
+use crate::linker_rewriting::agreement::contradiction;
 use crate::linker_rewriting::facts::{OutputFacts, SymbolFacts};
 use crate::linker_rewriting::relocations::relocation_in;
 use crate::linker_section::facts::{Addresses, Symbol};
 use crate::linker_section::relocations::{Rela, relocations_len};
 use crate::linker_section::sections::{SectionError, relocate_section};
 use crate::elf::Architecture;
+use crate::ppc64::Ppc64Relocation;
 
 /// What choices read of a symbol and of the output, a bit for each fact; 0 where nothing is kept. A
 /// table of these has those of an object at the indexes that its relocations name (`r_sym`).
@@ -22,8 +24,14 @@ pub struct KeptFacts {
 /// Why the values of a section whose instructions were rewritten aren't written.
 #[derive(Debug, Clone, Copy, PartialEq, Eq)]
 pub enum WritingError {
+    /// The tables of facts and of addresses contradict each other about the symbol with this index,
+    /// as `RewritingError::Contradiction` says.
+    Contradiction(usize),
     /// Of the symbol of the relocation with this index other facts hold than those that are kept.
     Changed(usize),
+    /// The relocation with this index is an `R_PPC64_REL24` of a function of another file, which
+    /// may return with another TOC pointer, and whose symbol has no stub that keeps the caller's.
+    NeedsStub(usize),
     /// A value isn't written, as `relocate_section` says.
     Section(SectionError),
 }
@@ -106,6 +114,49 @@ pub fn first_changed(
     None
 }
 
+/// Whether a symbol is a function of another file, and has no stub that keeps its caller's TOC
+/// pointer. A call of what is undefined and weak needs none.
+#[inline(always)]
+fn needs_stub(facts: &SymbolFacts, symbol: &Symbol) -> bool {
+    let is_imported = !(facts.is_local || facts.is_undefined_weak);
+    is_imported && symbol.stub == 0 && !symbol.is_undefined_weak
+}
+
+/// Whether a relocation is a call of PowerPC64 of such a function.
+#[inline(always)]
+fn lacks_stub(
+    architecture: Architecture,
+    facts: &[SymbolFacts],
+    symbols: &[Symbol],
+    relocation: &Rela,
+) -> bool {
+    let call = Ppc64Relocation::R_PPC64_REL24.elf_code();
+    if !matches!(architecture, Architecture::Ppc64) || relocation.code != call {
+        return false;
+    }
+    let index = relocation.symbol as usize;
+    match (facts.get(index), symbols.get(index)) {
+        (Some(facts), Some(symbol)) => needs_stub(facts, symbol),
+        _ => false,
+    }
+}
+
+/// The index of the first such relocation.
+fn first_without_stub(
+    architecture: Architecture,
+    facts: &[SymbolFacts],
+    symbols: &[Symbol],
+    relocations: &[u8],
+) -> Option<usize> {
+    for index in 0..relocations_len(relocations) {
+        let relocation = relocation_in(relocations, index);
+        if lacks_stub(architecture, facts, symbols, &relocation) {
+            return Some(index);
+        }
+    }
+    None
+}
+
 /// Writes the values of a section whose instructions were rewritten, as `relocate_section` does,
 /// where choices would still read the same facts: `facts` and `output` are those that hold now, and
 /// `kept` those of `keep_facts` when rewrites were chosen. So a symbol that was bound then and
@@ -114,9 +165,11 @@ pub fn first_changed(
 ///
 /// # Errors
 ///
-/// The section is as before. `Changed`: of a symbol other facts hold than are kept, or none are
-/// kept; with the index of the first such relocation. `Section`: all facts are as kept, and a value
-/// isn't written.
+/// The section is as before. The first that applies of `Contradiction`: `facts` and `symbols`
+/// contradict each other about the symbol of a relocation, with the index of the first such symbol;
+/// `Changed`: of a symbol other facts hold than are kept, or none are kept, with the index of the
+/// first such relocation; `NeedsStub`: a call of PowerPC64 may lose its TOC pointer, with the index
+/// of the first one; `Section`: a value isn't written.
 ///
 /// ```
 /// use linker_utils::rewriting::{OutputFacts, SymbolFacts};
@@ -169,8 +222,14 @@ pub fn relocate_rewritten_section(
     section: &mut [u8],
     memory: &mut [u64],
 ) -> Result<(), WritingError> {
+    if let Some(symbol) = contradiction(facts, symbols, relocations) {
+        return Err(WritingError::Contradiction(symbol));
+    }
     if let Some(index) = first_changed(output, facts, kept, relocations) {
         return Err(WritingError::Changed(index));
+    }
+    if let Some(index) = first_without_stub(architecture, facts, symbols, relocations) {
+        return Err(WritingError::NeedsStub(index));
     }
     match relocate_section(
         architecture,

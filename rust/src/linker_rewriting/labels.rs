@@ -24,10 +24,31 @@ fn high_code(phase: Phase) -> u32 {
     }
 }
 
-/// The index of the first relocation with a code at an offset, among relocations that ascend.
+/// How many relocations at one offset are searched for a high part.
+const SEARCHED: usize = 16;
+
+/// Whether as many others at an offset are before the relocation with an index, among relocations
+/// that ascend.
+#[inline(always)]
+pub(crate) fn is_beyond(relocations: &[u8], at: u64, index: usize) -> bool {
+    SEARCHED <= index && relocation_in(relocations, index - SEARCHED).offset == at
+}
+
+/// Where a search ends that begins at an index, of so many relocations.
+#[inline(always)]
+fn search_end(first: usize, len: usize) -> usize {
+    if len - first < SEARCHED {
+        len
+    } else {
+        first + SEARCHED
+    }
+}
+
+/// The index of the first relocation with a code at an offset, among those that are searched of
+/// relocations that ascend. So it takes O(log n).
 pub(crate) fn high_at(relocations: &[u8], code: u32, at: u64) -> Option<usize> {
     let first = first_from(relocations, at);
-    for index in first..relocations_len(relocations) {
+    for index in first..search_end(first, relocations_len(relocations)) {
         let relocation = relocation_in(relocations, index);
         if relocation.offset != at {
             return None;

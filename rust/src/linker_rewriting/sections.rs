@@ -2,6 +2,7 @@
 // Made by tools/erase of crates/linker_rewriting/src/sections.rt.
 //! The rewrites of a section, made in one call for each phase.
 
+use crate::linker_rewriting::agreement::contradiction;
 use crate::linker_rewriting::decisions::{AsDecision, Decision, FromDeletion, RewritingError, decide_section};
 use crate::linker_rewriting::facts::{NO_ADDRESSES, OutputFacts, Setting, SymbolFacts};
 use crate::linker_rewriting::groups::KeptGroups;
@@ -214,8 +215,10 @@ fn list_changes<D: AsDecision, L: FromDeletion>(
 ///
 /// # Errors
 ///
-/// The section and its relocations are as before. Those of `rewrite_section`, and `TooShort` where
-/// `deleted` has less room than there are deletions.
+/// The section and its relocations are as before. `Contradiction`: `symbols` and `values` contradict
+/// each other about the symbol of a relocation, with the index of the first such symbol; an
+/// undefined weak symbol that the dynamic linker may define is none. Those of `rewrite_section`, and
+/// `TooShort` where `deleted` has less room than there are deletions.
 ///
 /// ```
 /// use linker_utils::rewriting::Decision;
@@ -267,6 +270,9 @@ pub fn rewrite_placed_section<D: AsDecision, L: FromDeletion>(
     decisions: &mut [D],
     deleted: &mut [L],
 ) -> Result<usize, RewritingError> {
+    if let Some(symbol) = contradiction(symbols, values, relocations) {
+        return Err(RewritingError::Contradiction(symbol));
+    }
     let setting = Setting {
         architecture,
         phase,

@@ -2,6 +2,7 @@
 // Made by tools/erase of crates/linker_rewriting/src/surveys.rt.
 //! Which groups of an object stay as they are, since one of their instructions can't be rewritten.
 
+use crate::linker_rewriting::agreement::contradiction;
 use crate::linker_rewriting::candidates::{candidate, is_matched, is_tls_get_addr};
 use crate::linker_rewriting::codes::{group_bit_of, is_surveyed, table_of};
 use crate::linker_rewriting::facts::{NO_ADDRESSES, OutputFacts, Setting, SymbolFacts};
@@ -255,6 +256,11 @@ pub fn survey(
 ///
 /// `symbols` and `values` both have an object's symbols at the indexes that its relocations name.
 ///
+/// # Errors
+///
+/// `kept` is as before. `symbols` and `values` contradict each other about the symbol of a
+/// relocation, as `RewritingError::Contradiction` says: the index of the first such symbol.
+///
 /// ```
 /// use linker_utils::rewriting::{OutputFacts, SymbolFacts};
 /// use linker_utils::rewriting::KeptGroups;
@@ -277,7 +283,8 @@ pub fn survey(
 ///     &relocations,
 ///     &[0x37, 0x05, 0, 0],
 ///     &mut kept,
-/// );
+/// )
+/// .unwrap();
 /// assert!(kept[1].initial_exec);
 /// ```
 pub fn survey_placed_section(
@@ -290,7 +297,10 @@ pub fn survey_placed_section(
     relocations: &[u8],
     section: &[u8],
     kept: &mut [KeptGroups],
-) {
+) -> Result<(), usize> {
+    if let Some(symbol) = contradiction(symbols, values, relocations) {
+        return Err(symbol);
+    }
     let setting = Setting {
         architecture,
         phase,
@@ -300,4 +310,5 @@ pub fn survey_placed_section(
         values,
     };
     survey_in(&setting, relocations, section, kept);
+    Ok(())
 }

@@ -4,6 +4,7 @@
 //! `.toc`. Nothing changes such a word, so that once addresses are known the instructions may
 //! compute its address: all that load it, or none.
 
+use crate::linker_rewriting::agreement::contradiction;
 use crate::linker_rewriting::candidates::candidate_by;
 use crate::linker_rewriting::decisions::{AsDecision, Decision, RewritingError, Subject, end_behind, span_of};
 use crate::linker_rewriting::facts::{OutputFacts, Setting, SymbolFacts, address_in, link_facts};
@@ -165,6 +166,21 @@ fn keeping_word(
     }
 }
 
+/// The index of the symbol of the first relocation of a section or, where there is none, of the
+/// section of words, about which two tables contradict each other.
+#[inline(always)]
+fn contradiction_of_loads(
+    symbols: &[SymbolFacts],
+    values: &[Symbol],
+    words: &[u8],
+    relocations: &[u8],
+) -> Option<usize> {
+    match contradiction(symbols, values, relocations) {
+        Some(symbol) => Some(symbol),
+        None => contradiction(symbols, values, words),
+    }
+}
+
 /// Notes which words of an object's section of addresses stay, since a relocation of this section
 /// of code is of an instruction that loads one and can't compute its address: it is none that the
 /// rewrite is meant for, the address may be of another file or in another place each time, or it is
@@ -178,6 +194,12 @@ fn keeping_word(
 /// A relocation is of a word where it refers to its address, whichever its symbol. `symbols` and
 /// `values` both have an object's symbols at the indexes that its relocations name. Only PowerPC64
 /// has such a section: of other architectures nothing is noted.
+///
+/// # Errors
+///
+/// `kept` is as before. `symbols` and `values` contradict each other about the symbol of a
+/// relocation of the section or, where there is none, of a word, as `RewritingError::Contradiction`
+/// says: the index of the first such symbol.
 ///
 /// ```
 /// use linker_utils::rewriting::{OutputFacts, SymbolFacts};
@@ -204,7 +226,8 @@ fn keeping_word(
 ///     &relocation(64, 1),
 ///     &[0, 0, 0x63, 0x80],
 ///     &mut kept,
-/// );
+/// )
+/// .unwrap();
 /// assert_eq!(kept, [true]);
 /// ```
 pub fn survey_address_loads(
@@ -218,7 +241,10 @@ pub fn survey_address_loads(
     relocations: &[u8],
     section: &[u8],
     kept: &mut [bool],
-) {
+) -> Result<(), usize> {
+    if let Some(symbol) = contradiction_of_loads(symbols, values, words, relocations) {
+        return Err(symbol);
+    }
     let setting = Setting {
         architecture,
         phase: Phase::Distances,
@@ -240,6 +266,7 @@ pub fn survey_address_loads(
         );
         keep_word(kept, word);
     }
+    Ok(())
 }
 
 /// What a rewritten load's relocation is of: the symbol and the addend of the word's.
@@ -340,7 +367,8 @@ fn decide_loads<D: AsDecision>(
 /// The section and its relocations are as before. `TooShort`: there are more relocations than
 /// `decisions`. `NotSurveyed`: a load of a word that doesn't stay can't be rewritten; it never
 /// comes where the section was surveyed into the table with the same facts. `Overlaps`: the bytes
-/// of two rewrites overlap, or those of the second lie below those of the first.
+/// of two rewrites overlap, or those of the second lie below those of the first. Before these
+/// `Contradiction`, as in `survey_address_loads`.
 ///
 /// ```
 /// use linker_utils::rewriting::Decision;
@@ -390,6 +418,9 @@ pub fn rewrite_address_loads<D: AsDecision>(
     section: &mut [u8],
     decisions: &mut [D],
 ) -> Result<(), RewritingError> {
+    if let Some(symbol) = contradiction_of_loads(symbols, values, words, relocations) {
+        return Err(RewritingError::Contradiction(symbol));
+    }
     let setting = Setting {
         architecture,
         phase: Phase::Distances,

@@ -16,7 +16,8 @@ use linker_utils::relaxation::{
     pack_section, shrink_calls,
 };
 use linker_utils::rewriting::{
-    Decision, KeptGroups, OutputFacts, SymbolFacts, rewrite_section, survey,
+    Decision, KeptGroups, OutputFacts, Phase, SymbolFacts, rewrite_global_pointer,
+    rewrite_placed_section, rewrite_section, survey, survey_global_pointer,
 };
 use linker_utils::runs::items::{Relocation, first_malformed, section_items};
 use linker_utils::runs::packing::{Machine, pack_run, packed_run_len};
@@ -514,6 +515,85 @@ fn expect_rewritten(count: usize) {
     }
 }
 
+/// RISC-V's low parts of a label, at which half of the relocations are marks before the high part, and
+/// of two such labels by turns.
+fn expect_labels(count: usize) {
+    const AT: u64 = 0x1_0000;
+    // R_RISCV_TLSDESC_HI20 and R_RISCV_TLSDESC_LOAD_LO12; R_RISCV_GOT_HI20 and
+    // R_RISCV_PCREL_HI20, with R_RISCV_PCREL_LO12_I
+    let parts =
+        [(62, 63, Phase::ThreadOffsets), (20, 24, Phase::GotLoads), (23, 24, Phase::Distances)];
+    for ((high, low, phase), labels) in parts.into_iter().flat_map(|it| [(it, 1), (it, 2)]) {
+        let made = |count: usize| {
+            let at = |offset, code, symbol| Rela { offset, code, symbol, addend: 0 };
+            let label = |label: u64| {
+                let marks = (0..count / 2 / labels).map(move |_| at(4 * label, 51, 0));
+                marks.chain([at(4 * label, high, 3)])
+            };
+            let lows = (labels as u64..count as u64 / 2)
+                .map(|index| at(4 * index, low, 1 + index as u32 % labels as u32));
+            entries((0..labels as u64).flat_map(label).chain(lows))
+        };
+        let name = format!("a section with {labels} labels, in phase {phase:?}");
+        expect_growth(&name, count, made, |mut relocations| {
+            let len = relocations.len() / 24;
+            let (is_executable, is_fixed, has_near_symbols) = (true, true, true);
+            let output = OutputFacts { is_executable, is_fixed, has_near_symbols };
+            let facts = [SymbolFacts { is_local: true, ..SymbolFacts::default() }; 4];
+            let values = [0, AT, AT + 4, 16].map(|address| Symbol { address, ..Symbol::default() });
+            let addresses = Addresses { section: AT, ..Addresses::default() };
+            // auipc a0, 0 and addi a0, a0, 0
+            let mut section =
+                [[0x17, 0x05, 0, 0].repeat(labels), [0x13, 5, 5, 0].repeat(len)].concat();
+            let (mut kept, riscv) = ([false; 4], Architecture::RiscV);
+            let (mut decisions, mut deleted) = (vec![Decision::Kept; len], vec![(0, 0); len]);
+            if phase == Phase::Distances {
+                survey_global_pointer(
+                    riscv,
+                    &output,
+                    &facts,
+                    &addresses,
+                    &values,
+                    0,
+                    &relocations,
+                    &section,
+                    &mut kept,
+                )
+                .expect("tables that agree");
+                let made = rewrite_global_pointer(
+                    riscv,
+                    &output,
+                    &facts,
+                    &addresses,
+                    &values,
+                    0,
+                    &kept,
+                    &mut relocations,
+                    &section,
+                    &mut decisions,
+                    &mut deleted,
+                );
+                assert!(made.is_ok(), "{name}: {made:?}");
+            } else {
+                let made = rewrite_placed_section(
+                    riscv,
+                    phase,
+                    &output,
+                    &facts,
+                    &addresses,
+                    &values,
+                    &[KeptGroups::default(); 4],
+                    &mut relocations,
+                    &mut section,
+                    &mut decisions,
+                    &mut deleted,
+                );
+                assert!(made.is_ok(), "{name}: {made:?}");
+            }
+        });
+    }
+}
+
 /// The fields of other relocations may be many.
 fn expect_recognising(count: usize) {
     let others = |count: usize| -> Vec<FieldBits> {
@@ -614,6 +694,7 @@ fn expect_all(count: usize) {
     expect_sections(count);
     expect_relocated(count);
     expect_rewritten(count);
+    expect_labels(count);
     expect_recognising(count);
 }
 

@@ -1,4 +1,4 @@
-use Rattle.std.proofs.Common.{◌≡◌, subst, sym, true}
+use Rattle.std.proofs.Common.{◌≡◌, inl, refl, subst, sym, true}
 use Rattle.std.specs.Prelude.{IfSome}
 use Rattle.linker_base.specs.Rewrite.{CanRewrite}
 use Rattle.linker_utils.specs.Architectures.{relaxation_rewrite, relaxation_deleted}
@@ -6,7 +6,7 @@ use Rattle.linker_rewriting.specs.Candidates.{deletes_within}
 use Rattle.linker_rewriting.specs.Decisions.{CanBeMade}
 use Rattle.linker_rewriting.specs.Inner.Settings.{setting_of}
 use Rattle.linker_rewriting.specs.Labels.{IsHighOf, IsLabelCandidate, IsLabelNote}
-use Rattle.linker_rewriting.proofs.LabelGroups.{rewritten_label, never_kept, can_make_label}
+use Rattle.linker_rewriting.proofs.LabelGroups.{rewritten_label, never_kept, can_make_label, noted_high}
 use Rattle.linker_rewriting.proofs.decisions.decide_label.Goals as goal
 
 pub returns-in-Some-label_candidate-clause-decision : goal.returns-in-Some-label_candidate-clause-decision
@@ -38,3 +38,18 @@ returns-in-None-clause-decision c =
     (subst (IsLabelCandidate (setting_of a.setting.now) a.relocations.now a.section.now a.index a.relocation.now c.in-Some.high)
     c.in-None.is c.label_candidate.ensures.candidate)
     c.requires.there c.requires.within c.requires.in_label)
+
+pub returns-then-stays-clause-decision : goal.returns-then-stays-clause-decision
+returns-then-stays-clause-decision c =
+    let a = c.args in
+    inl (
+      subst (IsLabelNote (setting_of a.setting.now) a.relocations.now a.section.now a.relocation.now) c.if-stays.true c.requires.noted,
+      refl,
+    )
+
+pub returns-in_default-clause-decision : goal.returns-in_default-clause-decision
+returns-in_default-clause-decision c =
+    let a = c.args in
+    absurd (noted_high (setting_of a.setting.now) a.relocations.now a.section.now a.relocation.now
+    (subst (IsLabelNote (setting_of a.setting.now) a.relocations.now a.section.now a.relocation.now) c.if-stays.false c.requires.noted)
+    (λ ascending. c.in_default.ensures.high ascending))

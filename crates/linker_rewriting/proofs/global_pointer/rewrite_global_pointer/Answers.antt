@@ -1,5 +1,5 @@
 use Rattle.std.proofs.Common.{◌/◌, length, map, rules}
-use Rattle.linker_rewriting.proofs.GlobalPointer.{whole, means_unsurveyed}
+use Rattle.linker_rewriting.proofs.GlobalPointer.{whole, means_unsurveyed, rejected_first}
 use Rattle.linker_rewriting.proofs.Listing.{all_fit}
 use Rattle.linker_rewriting.specs.Facts.{setting}
 use Rattle.linker_rewriting.specs.declared.phases.Phase.TheVariants.{Distances}
@@ -11,8 +11,8 @@ returns-in-Err-clause-surveyed g c =
     means_unsurveyed (setting a.architecture Distances a.output.now a.symbols.now a.addresses.now a.values.now)
     a.gp a.kept.now a.relocations.now a.section.now (map g.D.AsDecision.decision c.decide_parts.new.decisions) 0 _ (c.in-Err.ensures.rejected 0)
 
-pub returns-in-Some-clause-symbols : goal.returns-in-Some-clause-symbols
-returns-in-Some-clause-symbols g c =
+pub returns-in-Some-list_deletions-clause-symbols : goal.returns-in-Some-list_deletions-clause-symbols
+returns-in-Some-list_deletions-clause-symbols g c =
     let a = c.args in
     whole (setting a.architecture Distances a.output.now a.symbols.now a.addresses.now a.values.now)
     a.gp a.kept.now a.relocations.now a.section.now (map g.D.AsDecision.decision c.decide_parts.new.decisions)
@@ -25,4 +25,8 @@ list_deletions-requires-clause-fit g c =
     (length a.relocations.now / 24) _ c.in-Ok.ensures.made (search rules)
 
 pub returns-in-Err-clause-rejected : goal.returns-in-Err-clause-rejected
-returns-in-Err-clause-rejected g c = c.in-Err.ensures.rejected (length c.args.deleted.now)
+returns-in-Err-clause-rejected g c =
+    let a = c.args in
+    rejected_first (setting a.architecture Distances a.output.now a.symbols.now a.addresses.now a.values.now)
+    a.gp a.kept.now a.relocations.now a.section.now (map g.D.AsDecision.decision c.decide_parts.new.decisions)
+    (length a.deleted.now) _ c.in_default.ensures (c.in-Err.ensures.rejected (length a.deleted.now))

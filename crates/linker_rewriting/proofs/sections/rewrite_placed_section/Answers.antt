@@ -11,8 +11,8 @@ returns-in-Err-clause-surveyed g c =
     means_unsurveyed (setting a.architecture a.phase a.output.now a.symbols.now a.addresses.now a.values.now)
     a.kept.now a.relocations.now a.section.now (map g.D.AsDecision.decision c.decide_section.new.decisions) _ c.in-Err.ensures.rejected
 
-pub returns-in-Some-clause-groups : goal.returns-in-Some-clause-groups
-returns-in-Some-clause-groups g c =
+pub returns-in-Some-list_changes-clause-groups : goal.returns-in-Some-list_changes-clause-groups
+returns-in-Some-list_changes-clause-groups g c =
     let a = c.args in
     whole (setting a.architecture a.phase a.output.now a.symbols.now a.addresses.now a.values.now)
     a.kept.now a.relocations.now a.section.now (map g.D.AsDecision.decision c.decide_section.new.decisions)
@@ -24,8 +24,8 @@ list_changes-requires-clause-fit g c =
     all_fit a.relocations.now a.section.now (map g.D.AsDecision.decision c.decide_section.new.decisions)
     (length a.relocations.now / 24) _ c.in-Ok.ensures.made (search rules)
 
-pub returns-in-Some-clause-labels : goal.returns-in-Some-clause-labels
-returns-in-Some-clause-labels g c =
+pub returns-in-Some-list_changes-clause-labels : goal.returns-in-Some-list_changes-clause-labels
+returns-in-Some-list_changes-clause-labels g c =
     let a = c.args in
     labels_whole (setting a.architecture a.phase a.output.now a.symbols.now a.addresses.now a.values.now)
     a.kept.now a.relocations.now a.section.now (map g.D.AsDecision.decision c.decide_section.new.decisions)

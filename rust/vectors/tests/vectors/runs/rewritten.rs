@@ -66,7 +66,8 @@ fn without_thread_offsets(
         &rela,
         &section,
         &mut kept,
-    );
+    )
+    .expect("tables that agree");
     let mut decisions = vec![Decision::Kept; entries.len()];
     let mut deleted = vec![(0, 0); entries.len()];
     let count = rewrite_placed_section(
