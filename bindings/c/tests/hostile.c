@@ -2168,13 +2168,13 @@ static void call_pack_run(void) {
     expect(!is_high || wanted == 0, "has a length above 2^64 - 1");
     size_t len = wanted > BUFFER_LEN || once_in(8) ? any_len(40) : wanted;
     struct buffer *packed = bytes(WRITTEN, len);
-    size_t *faulty = any_faulty();
     uint16_t machine = once_in(4) ? any_machine()
                        : is_riscv ? LINKER_UTILS_RISCV
                                   : LINKER_UTILS_LOONGARCH64;
     bool is_packed = machine == LINKER_UTILS_RISCV || machine == LINKER_UTILS_LOONGARCH64;
     struct buffer *moved = relocations(WRITTEN, machine, section_len, 8);
     changes(moved, 0, 24 * (moved->len / 24));
+    size_t *faulty = any_faulty();
     uint32_t status = CALL(pack_run, machine, section->given, section_len, base, ITEMS(items),
                            DELTAS(listed), any_number(), RELAS(moved), packed->given, len, faulty);
     expect((status == LINKER_UTILS_UNKNOWN_ARCHITECTURE) == !is_packed, "another machine");
