@@ -1311,9 +1311,9 @@ struct linker_utils_destination {
 /* Where a relocation leads that `linker_utils_recognise` or `linker_utils_recognise_chosen` found
  * with the same original bytes and offset, into `destination`. Of the operands the addend is that
  * before the rewrite, and the place is the address of the field in the linked file; which others
- * are read `linker_utils_solve` says. `st_other` is that of the symbol. Only of a branch of PowerPC64
- * it is read: `symbol` is lower by the distance of the local entry point that it says. With 0 it is
- * where the branch goes, to that entry point or to a stub. LINKER_UTILS_UNKNOWN_ARCHITECTURE;
+ * are read `linker_utils_solve` says. `st_other` is the symbol's, and is read of a branch of
+ * PowerPC64 only: `symbol` is lower by the distance of the local entry point that it says. With 0 it
+ * is the branch's target, that entry point or a stub. LINKER_UTILS_UNKNOWN_ARCHITECTURE;
  * LINKER_UTILS_WINDOW_TOO_LONG; LINKER_UTILS_UNKNOWN_REWRITE; LINKER_UTILS_NO_ADDRESS of a
  * relocation without a value, of one that `linker_utils_solve` has no address for, and of a rewrite
  * that isn't meant for what is there. */

@@ -18,12 +18,11 @@ fn made(of: Architecture, object: &[u8], linked: (u64, &[u8]), relocations: &[(u
     });
     let (others, original) = (others.collect::<Vec<_>>(), &object[range.clone()]);
     let found = recognise(of, code, original, window.back, &others, &linked.1[range.clone()]);
-    let lines = found.into_iter().flatten().map(|made| {
+    found.into_iter().flatten().map(|made| {
         let operands = Operands { place: linked.0 + range.start as u64 + made.offset, addend, ..Operands::default() };
         let symbol = destination_of(of, &made, original, window.back, &operands).and_then(|to| to.symbol(0));
         format!("{:?} to {:x?}", made.choice.kind, symbol)
-    });
-    lines.collect()
+    }).collect()
 }
 
 fn main() {
@@ -31,7 +30,8 @@ fn main() {
     // lea x(%rip) by one linker, mov $x, jmp f and mov $x by another
     let object = [0x48, 0x8b, 5, 0, 0, 0, 0, 0xff, 0x25, 0, 0, 0, 0, 0xd5, 0x48, 0x8b, 5, 0, 0, 0, 0];
     let one = [0x48, 0x8d, 5, 9, 0x30, 0, 0, 0xe9, 0xf4, 0xf, 0, 0, 0x90, 0xd5, 0x48, 0x8d, 5, 0xfb, 0x2f, 0, 0];
-    let other = [0x48, 0xc7, 0xc0, 0x10, 0x50, 0x40, 0, 0xe9, 0xf4, 0xf, 0, 0, 0x90, 0xd5, 0x18, 0xc7, 0xc0, 0x10, 0x50, 0x40, 0];
+    let mov = [0xc7, 0xc0, 0x10, 0x50, 0x40, 0];
+    let other = [&[0x48], &mov[..], &[0xe9, 0xf4, 0xf, 0, 0, 0x90, 0xd5, 0x18], &mov].concat();
     for (at, code, differ) in [(3, 42, true), (9, 41, false), (17, 43, true)] {
         let [a, b] = [(0x401000, &one[..]), (0x402000, &other[..])]
             .map(|linked| made(Architecture::X86_64, &object, linked, &[(at, code, -4)]));

@@ -35,8 +35,8 @@ use Rattle.linker_utils.specs.declared.elf.Architecture.{Architecture}
 
 -- ---- the window of all choices
 
--- A choice is listed for an offset of bytes, its rewrite is meant for what is there, and all is there
--- that recognising it compares. So it is recognised where it was made (`IsFound`, `IsMade`).
+-- A choice is listed for an offset of bytes, its rewrite is meant for what is there, and all is
+-- there that recognising it compares. So it is recognised where it was made (`IsFound`, `IsMade`).
 pub record IsThere {K R : Type 0} (it : Recogniser K R) (name : R) (bytes : List ℕ) (o : ℕ)
     (c : Choice K R) : Type 0 where
   pub listed : IsOneOf c (choices_at it name bytes o)
@@ -55,8 +55,8 @@ HasEach {K} {R} it name original o b e =
     (c : Choice K R) → IsThere it name original o c
     → IsThere it name (take (e - b) (drop b original)) (o - b) c
 
--- The window that begins at the last byte from which on it has each, and ends at the first one below
--- which it does. It has the offset, or ends there.
+-- The window that begins at the last byte from which on it has each, and ends at the first one
+-- below which it does. It has the offset, or ends there.
 pub record IsLeastWindow {K R : Type 0} (it : Recogniser K R) (name : R) (original : List ℕ) (o : ℕ)
     (window : RewriteWindow) : Type 0 where
   pub back : window.back ≤ o
@@ -90,7 +90,7 @@ is_local_entry (BitMasking bits (Ppc64 insn)) = is_ppc64_branch insn
 is_local_entry size = false
 
 -- What is known of the address that a value of a row comes from, the addend after the rewrite, and
--- whether a branch goes there.
+-- whether a branch of PowerPC64 leads there.
 pub record LeadsTo (row : RelocationKindInfo) (value : FieldValue) (kind : Relaxation)
     (original : List ℕ) (o : ℕ) (operands : Operands) (d : Destination) : Type 0 where
   pub matches : relaxation_matches kind original o
@@ -122,8 +122,8 @@ local_entry_of d =
     then of_some (λ n. difference_64 n (cast_unsigned w64 d.addend)) (whole_number d.address)
     else None
 
--- How far behind the symbol a branch of PowerPC64 goes in its own output: bits 5 to 7 of `st_other`
--- say the logarithm, from 4 bytes on (64-Bit ELF V2 ABI, "Symbol Values").
+-- How far after the symbol a branch of PowerPC64 leads in its own output: bits 5 to 7 of `st_other`
+-- are the logarithm, from 4 bytes on (64-Bit ELF V2 ABI, "Symbol Values").
 abbrev pub entry_distance : Bool → ℕ → ℕ
 entry_distance is_local other = if is_local && nat_lt 1 (other / 32) then 2 ^ (other / 32) else 0
 

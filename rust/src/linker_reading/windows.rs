@@ -35,8 +35,8 @@ fn is_listed<N: RecognisedName>(choices: &Choices<N::Kind, N>, choice: Choice<N:
     false
 }
 
-/// Whether a choice is one of those that are listed for bytes, its rewrite is meant for what is at the
-/// offset, and all is there that `recognise` compares.
+/// Whether a choice is one of those that are listed for bytes, its rewrite is meant for what is at
+/// the offset, and all is there that `recognise` compares.
 fn is_there<N: RecognisedName>(
     listed: &Choices<N::Kind, N>,
     choice: Choice<N::Kind, N>,
@@ -121,8 +121,8 @@ pub struct Destination {
     pub address: FieldValue,
     /// A, the addend of the relocation after the rewrite.
     pub addend: i64,
-    /// Whether it is where a branch of PowerPC64 goes, which enters a function of its own output at
-    /// the local entry point.
+    /// Whether a branch of PowerPC64 leads there. In a function of its own output that is the local
+    /// entry point.
     pub is_local_entry: bool,
 }
 
@@ -139,8 +139,9 @@ impl Destination {
         Some(address.wrapping_sub(self.addend as u64))
     }
 
-    /// The same, but S also of a branch of PowerPC64 that goes to the function itself, by the
-    /// symbol's `st_other` (64-Bit ELF V2 ABI, "Symbol Values"). Of all else it isn't read.
+    /// S, also of a branch of PowerPC64: `local_entry` less the distance of the local entry point
+    /// that the symbol's `st_other` says (64-Bit ELF V2 ABI, "Symbol Values"). `st_other` is read
+    /// of such branches only, and has to be 0 for one to a stub.
     #[must_use]
     pub fn symbol(&self, st_other: u8) -> Option<u64> {
         let entry = self.local_entry()?;
@@ -152,7 +153,7 @@ fn is_of_symbol(reference: Reference) -> bool {
     !matches!(reference, Reference::GotEntry)
 }
 
-/// How far behind the symbol a branch goes: bits 5 to 7 of `st_other` say the logarithm.
+/// How far after the symbol a branch leads: bits 5 to 7 of `st_other` are the logarithm.
 fn entry_distance(is_local: bool, st_other: u8) -> u64 {
     let logarithm = st_other / 32;
     if is_local && logarithm > 1 {

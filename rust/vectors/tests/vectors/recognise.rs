@@ -388,7 +388,7 @@ fn sites() -> Vec<Site> {
     all
 }
 
-/// Filler before and behind the bytes of a site, so that there are 16 before an offset and 44 from
+/// Filler before and after the bytes of a site, so that there are 16 before an offset and 44 from
 /// there on, or more.
 fn between(bytes: &[u8]) -> Vec<u8> {
     [&[0xa5; 16][..], bytes, &[0xa5; 44]].concat()
@@ -578,7 +578,7 @@ fn each_entry_is_recognised_in_its_window() {
 /// the words before and after, the address, and the symbol's `st_other` and value. GNU ld 2.40 wrote
 /// the same branches. Those of functions with two entry points go to the local one.
 #[test]
-fn a_branch_leads_to_the_symbol_behind_its_local_entry() {
+fn a_branch_leads_to_the_symbol_of_its_local_entry() {
     let table: [(u32, u64, u64, u64, u8, u64, u64); 6] = [
         (10, 0x4800_0001, 0x4800_0029, 0x1001_01c8, 0x60, 0x1001_01e8, 0x1001_01f0),
         (10, 0x4800_0001, 0x4800_0035, 0x1001_01d0, 0x80, 0x1001_01f4, 0x1001_0204),
