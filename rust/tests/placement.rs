@@ -104,8 +104,8 @@ fn check_placement(code: &Code<'_>, placement: &Placement) {
 /// boundary. A branch that reaches its target whatever stubs there are goes there.
 fn check_sharing(code: &Code<'_>, placement: &Placement) {
     let stubs = &placement.layout.stubs;
-    for index in 0..stubs.len() {
-        assert!(placement.stubs.contains(&Some(index)), "{:?}", stubs[index]);
+    for (index, stub) in stubs.iter().enumerate() {
+        assert!(placement.stubs.contains(&Some(index)), "{stub:?}");
     }
     let mut all: Vec<_> =
         stubs.iter().map(|stub| (stub.boundary, stub.part as u8, stub.target)).collect();
