@@ -152,7 +152,10 @@
            "The function may return with another TOC pointer, and its symbol has no stub that " \
            "keeps the caller's.") \
     STATUS(OTHER_LENGTH, 82, \
-           "The instruction there is shorter or longer than the one that the relocation is for.")
+           "The instruction there is shorter or longer than the one that the relocation is for.") \
+    STATUS(NO_TLS_BASE, 83, \
+           "The value counts from the origin of thread-local offsets, and `has_tls_base` is not " \
+           "set.")
 
 enum linker_utils_status {
 #define LINKER_UTILS_STATUS(name, number, text) LINKER_UTILS_##name = number,

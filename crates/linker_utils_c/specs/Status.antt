@@ -49,7 +49,7 @@ use Rattle.linker_utils_c.specs.declared.status.Status.TheVariants.{StubWithoutL
 use Rattle.linker_utils_c.specs.declared.status.Status.TheVariants.{CodeTooLong, NoBoundary}
 use Rattle.linker_utils_c.specs.declared.status.Status.TheVariants.{StubTooFar, FactsChanged}
 use Rattle.linker_utils_c.specs.declared.status.Status.TheVariants.{NotAligned, NeedsStub}
-use Rattle.linker_utils_c.specs.declared.status.Status.TheVariants.{OtherLength}
+use Rattle.linker_utils_c.specs.declared.status.Status.TheVariants.{OtherLength, NoTlsBase}
 
 abbrev pub code : Status → ℕ
 code Success = 0
@@ -133,6 +133,7 @@ code FactsChanged = 79
 code NotAligned = 80
 code NeedsStub = 81
 code OtherLength = 82
+code NoTlsBase = 83
 
 -- the status is one of these
 abbrev pub IsOneOf : List Status → ℕ → Type 0

@@ -178,6 +178,8 @@ pub enum Status {
     NeedsStub,
     /// The instruction there is shorter or longer than the one that the relocation is for.
     OtherLength,
+    /// The value counts from the origin of thread-local offsets, and `has_tls_base` is not set.
+    NoTlsBase,
 }
 
 impl Status {

@@ -3,6 +3,7 @@
 
 use crate::choices::{ChoiceNumbers, LinkFactNumbers, in_numbers};
 use crate::reading::{FieldValueNumbers, reference_number};
+use crate::relocate::OperandNumbers;
 use crate::status::Status;
 use linker_utils::reading::FieldValue;
 use linker_utils::recognise::architecture::{
@@ -302,7 +303,7 @@ pub fn linker_utils_destination_nonnull(
     made: &RecognisedNumbers,
     original: &[u8],
     offset: u64,
-    operands: &Operands,
+    operands: &OperandNumbers,
     destination: &mut DestinationNumbers,
 ) -> u32 {
     let Some(architecture) = Architecture::from_machine(machine) else {
@@ -311,5 +312,6 @@ pub fn linker_utils_destination_nonnull(
     if original.len() > MAX_WINDOW {
         return Status::WindowTooLong.number();
     }
-    put_destination_of(architecture, made, original, offset, operands, destination)
+    let operands = operands.operands();
+    put_destination_of(architecture, made, original, offset, &operands, destination)
 }
