@@ -125,13 +125,10 @@ struct linker_utils_operands {
      * function's local entry point, or the stub that calls it ("Calls on PowerPC64" in
      * linker_utils_further.h). */
     uint64_t symbol;
-    /* A: for R_RISCV_PCREL_LO12_*, R_RISCV_TLSDESC_LOAD_LO12 and R_RISCV_TLSDESC_ADD_LO12 that of
-     * the high part. */
-    int64_t addend;
+    int64_t addend; /* A: for RISC-V's PCREL_LO12_* and TLSDESC_*_LO12 that of the high part */
     /* P: the address of the field. For LoongArch's halves of 64-bit addresses it is the address of
-     * the relocated instruction, not that of the `pcalau12i`; for R_RISCV_PCREL_LO12_*,
-     * R_RISCV_TLSDESC_LOAD_LO12 and R_RISCV_TLSDESC_ADD_LO12 that of the high part. By its own
-     * address a low part gets a wrong value, and no call returns an error. */
+     * the relocated instruction, not that of the `pcalau12i`; for RISC-V's PCREL_LO12_* and
+     * TLSDESC_*_LO12 that of the high part. By its own a value is wrong, without an error. */
     uint64_t place;
     /* GOT + G, GD, LD, IE or DESC: the address of the entry that the relocation requires. For an
      * instruction of AArch64 or PowerPC64 it is the entry of S + A, and A isn't added to its
@@ -140,7 +137,7 @@ struct linker_utils_operands {
      * R_LARCH_TLS_LD_PC_HI20 takes the entry of that high half. */
     uint64_t got_entry;
     uint64_t got_base; /* GOT */
-    uint64_t plt_entry; /* L: the PLT entry's address, or S where there is none. Calls read it. */
+    uint64_t plt_entry; /* L: the PLT entry's address */
     uint64_t symbol_size; /* Z */
     /* The origin of offsets of TLS symbols, as an address in the TLS segment's image. For an offset
      * from the thread pointer it is the thread pointer's. On AArch64 that is the image's address
@@ -149,10 +146,12 @@ struct linker_utils_operands {
      * up. For an offset in the module's TLS block it is the image's address, aligned or not; plus
      * 0x8000 on PowerPC64, and plus 0x800 on RISC-V. */
     uint64_t tls_base;
+    bool has_got_entry; /* there is such an entry */
+    bool has_plt_entry; /* else L is S, but PowerPC64's PLT16_* and PLT_PCREL34* have none */
+    bool has_tls_base;
 };
 
-/* The operands for a symbol without a PLT entry, for which L is S: S, A and P, and zeros. For a
- * symbol with one set `plt_entry` to its address. */
+/* The operands S, A and P, and zeros: there is nothing else. */
 static inline struct linker_utils_operands linker_utils_operands_of(
     uint64_t symbol, int64_t addend, uint64_t place);
 
@@ -160,7 +159,8 @@ static inline struct linker_utils_operands linker_utils_operands_of(
  * applied after that, modulo 2^64 and read in two's complement. So LoongArch's page of a GOT entry
  * is that of the entry's address plus A plus 0x800. The value of R_RISCV_SET_ULEB128 and
  * R_LARCH_ADD_ULEB128 is S + A, though their kind is LINKER_UTILS_KIND_RELATIVE.
- * LINKER_UTILS_UNKNOWN_ARCHITECTURE; LINKER_UTILS_UNKNOWN_RELOCATION; LINKER_UTILS_NO_VALUE. */
+ * LINKER_UTILS_UNKNOWN_ARCHITECTURE; LINKER_UTILS_UNKNOWN_RELOCATION; LINKER_UTILS_NO_ENTRY or
+ * LINKER_UTILS_NO_TLS_BASE for what the formula has and there isn't; LINKER_UTILS_NO_VALUE. */
 uint32_t linker_utils_value(uint16_t machine, uint32_t r_type,
                             const struct linker_utils_operands *operands, int64_t *value);
 
@@ -427,7 +427,7 @@ struct linker_utils_requirements {
     uint8_t stub_only_if_undefined;
     uint8_t is_word; /* it is a word of 8 bytes with S + A, which a dynamic linker can write too */
     /* What is written depends on where the output is loaded, if that is a multiple of 4 KiB beside
-     * where it was linked for. Not of halves of a difference, as R_RISCV_ADD32 and R_RISCV_SUB32. */
+     * where it was linked for. Not of halves of a difference, as R_RISCV_ADD32 and _SUB32. */
     uint8_t depends_on_load;
 };
 

@@ -547,9 +547,9 @@ static inline uint32_t linker_utils_place_stubs(
  *   that sets r12 to the global entry point, by its own place, and goes there. Through the PLT it
  *   sets r12 to the doubleword there. Neither stub stores r2.
  * - R_PPC64_PLT16_HA, R_PPC64_PLT16_LO_DS, R_PPC64_PLT_PCREL34 and its _NOTOC load the doubleword
- *   of `.plt` themselves: `plt_entry` is its address, and no stub is needed. R_PPC64_PLTSEQ and
- *   R_PPC64_PLTCALL, and their _NOTOC, mark the other instructions of such a call, and the `ld
- *   2,24(1)` is in the object.
+ *   of `.plt` themselves. `plt_entry` is its address, without which they have no value, and no stub
+ *   is needed. R_PPC64_PLTSEQ and R_PPC64_PLTCALL, and their _NOTOC, mark the other instructions of
+ *   such a call, and the `ld 2,24(1)` is in the object.
  * - `bl __tls_get_addr` has R_PPC64_TLSGD or R_PPC64_TLSLD and then R_PPC64_REL24 or
  *   R_PPC64_REL24_NOTOC at the same offset. After a rewrite of the former the latter is skipped. A
  *   call whose argument a prefixed instruction computes has R_PPC64_REL24_NOTOC. Where that is the

@@ -19,7 +19,8 @@ static inline const char *linker_utils_status_text(uint32_t status) {
 
 static inline struct linker_utils_operands linker_utils_operands_of(
     uint64_t symbol, int64_t addend, uint64_t place) {
-    struct linker_utils_operands operands = {symbol, addend, place, 0, 0, symbol, 0, 0};
+    struct linker_utils_operands operands = {symbol, addend, place, 0, 0, 0, 0, 0,
+                                             false, false, false};
     return operands;
 }
 

@@ -156,7 +156,10 @@
            "The instruction there is shorter or longer than the one that the relocation is for.") \
     STATUS(FACTS_CONTRADICT, 83, \
            "The facts and the values of a symbol contradict each other: it is local, and undefined " \
-           "and weak, or `other` is not the same.")
+           "and weak, or `other` is not the same.") \
+    STATUS(NO_TLS_BASE, 84, \
+           "The value counts from the origin of thread-local offsets, and `has_tls_base` is not " \
+           "set.")
 
 enum linker_utils_status {
 #define LINKER_UTILS_STATUS(name, number, text) LINKER_UTILS_##name = number,

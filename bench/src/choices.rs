@@ -163,6 +163,8 @@ fn of_c(operands: &Operands) -> sathunne::Operands {
         place: operands.place,
         got_entry: operands.got_entry,
         plt_entry: operands.plt_entry,
+        has_got_entry: true,
+        has_plt_entry: true,
         ..sathunne::Operands::default()
     }
 }

@@ -215,6 +215,9 @@ fn relocations(report: &mut Report, random: &mut Random) {
     let operands = Operands {
         symbol: 0x8_0000,
         place: 0x4_0000,
+        has_got_entry: true,
+        has_plt_entry: true,
+        has_tls_base: true,
         ..Operands::default()
     };
     let mut value = 0;

@@ -227,6 +227,9 @@ fn by_exports(input: &Input) -> Side<'_> {
         plt_entry: of.plt_entry,
         symbol_size: of.symbol_size,
         tls_base: of.tls_base,
+        has_got_entry: true,
+        has_plt_entry: true,
+        has_tls_base: true,
     };
     let operands: Vec<_> = input
         .operands

@@ -11,7 +11,7 @@ static struct linker_utils_field_value address_at(uint16_t machine, uint32_t r_t
                                                   uint32_t word) {
     const uint8_t bytes[4] = {(uint8_t)word, (uint8_t)(word >> 8), (uint8_t)(word >> 16),
                               (uint8_t)(word >> 24)};
-    const struct linker_utils_operands operands = {0, 0, place, 0, 0, 0, 0, 0};
+    const struct linker_utils_operands operands = linker_utils_operands_of(0, 0, place);
     struct linker_utils_field_value value, address = {0, 0, 0, 0};
     uint32_t reference;
     uint32_t status = linker_utils_read_value(machine, r_type, bytes, sizeof bytes, &value);

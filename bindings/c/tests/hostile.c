@@ -468,9 +468,9 @@ static void call_operands_of(void) {
     uint64_t symbol = any_number(), place = any_number();
     int64_t addend = (int64_t)any_number();
     struct linker_utils_operands made = CALL(operands_of, symbol, addend, place);
-    struct linker_utils_operands wanted = {
-        .symbol = symbol, .addend = addend, .place = place, .plt_entry = symbol};
-    expect(!memcmp(&made, &wanted, sizeof made), "other operands");
+    expect(made.symbol == symbol && made.addend == addend && made.place == place &&
+               !made.has_got_entry && !made.has_plt_entry && !made.has_tls_base,
+           "other operands");
     finish(true);
 }
 
@@ -682,14 +682,19 @@ static void call_relocation_name(void) {
     finish_with(status, 0 NO_RELOCATION OR(TOO_SHORT));
 }
 
+static void fill_operands(struct linker_utils_operands *operands) {
+    *operands = (struct linker_utils_operands){
+        any_number(), (int64_t)any_number(), any_number(), any_number(), any_number(), any_number(),
+        any_number(), any_number(), once_in(2), once_in(2), once_in(2)};
+}
+
 static void call_value(void) {
     uint16_t machine = any_machine();
     struct buffer *given = place(READ, 1, sizeof(struct linker_utils_operands));
-    uint64_t *operand = filled(given);
-    for (size_t i = 0; i < given->len / sizeof *operand; i++) operand[i] = any_number();
+    fill_operands(filled(given));
     int64_t *value = output(sizeof(int64_t));
     uint32_t status = CALL(value, machine, any_relocation_type(), given->given, value);
-    finish_with(status, 0 NO_RELOCATION OR(NO_VALUE));
+    finish_with(status, 0 NO_RELOCATION OR(NO_ENTRY) OR(NO_TLS_BASE) OR(NO_VALUE));
 }
 
 static void call_reach(void) {
@@ -2249,8 +2254,7 @@ static void call_solve(void) {
     if (once_in(2)) linker_utils_read_value(machine, r_type, word, sizeof word, &value);
     const struct linker_utils_field_value *given = input(&value, sizeof value);
     struct buffer *operands = place(READ, 1, sizeof(struct linker_utils_operands));
-    uint64_t *operand = filled(operands);
-    for (size_t i = 0; i < operands->len / sizeof *operand; i++) operand[i] = any_number();
+    fill_operands(filled(operands));
     uint32_t *reference = output(sizeof *reference);
     struct linker_utils_field_value *address = output(sizeof *address);
     uint32_t status = CALL(solve, machine, r_type, given, operands->given, reference, address);

@@ -122,16 +122,19 @@ pub struct Operands {
     pub plt_entry: u64,
     pub symbol_size: u64,
     pub tls_base: u64,
+    pub has_got_entry: bool,
+    /// Without one L is S.
+    pub has_plt_entry: bool,
+    pub has_tls_base: bool,
 }
 
 impl Operands {
-    /// Those for a symbol without a PLT entry, for which L is S.
+    /// S, A and P; there is nothing else.
     pub fn new(symbol: u64, addend: i64, place: u64) -> Operands {
         Operands {
             symbol,
             addend,
             place,
-            plt_entry: symbol,
             ..Operands::default()
         }
     }

@@ -488,6 +488,7 @@ fn choices_are_by_what_the_linker_knows() {
         symbol: 0x1800,
         place: 0x1002,
         plt_entry: 0x1800,
+        has_plt_entry: true,
         ..Operands::default()
     };
     facts.has_addresses = true;

@@ -251,6 +251,7 @@ fn element(kind: &str) -> String {
     match kind.trim() {
         "RelaxDelta" => "Delta".to_string(),
         "RelocationNumbers" => "RelocationInfo".to_string(),
+        "OperandNumbers" => "Operands".to_string(),
         "LinkFactNumbers" => "LinkFacts".to_string(),
         "ChoiceNumbers" => "Choice".to_string(),
         "ItemNumbers" => "Item".to_string(),
@@ -823,6 +824,7 @@ fn the_structs_are_those_of_the_library() {
         }
         "linker_utils_operands": Operands {
             symbol, addend, place, got_entry, got_base, plt_entry, symbol_size, tls_base,
+            has_got_entry, has_plt_entry, has_tls_base,
         }
         "linker_utils_link_facts": raw::LinkFacts {
             is_local, is_ifunc, is_undefined_weak, has_fixed_address, has_fixed_distance,
@@ -914,7 +916,7 @@ fn the_structs_are_those_of_the_library() {
         ("linker_utils_block_head", "BlockHead"),
         ("linker_utils_delta", "RelaxDelta"),
         ("linker_utils_relocation_info", "RelocationNumbers"),
-        ("linker_utils_operands", "Operands"),
+        ("linker_utils_operands", "OperandNumbers"),
         ("linker_utils_link_facts", "LinkFactNumbers"),
         ("linker_utils_choice", "ChoiceNumbers"),
         ("linker_utils_window_bounds", "RewriteWindow"),

@@ -142,6 +142,7 @@ fn got_entries_of_ppc64_take_no_second_addend() {
         got_entry: 0x1ff20,
         addend: 8,
         place: 0x2c0,
+        has_got_entry: true,
         ..Operands::default()
     };
     assert_eq!(value(Architecture::Ppc64, 133, &operands), Ok(130144));
@@ -157,6 +158,7 @@ fn got_entries_of_ppc64_take_no_second_addend() {
         got_entry: 0x1ff18,
         addend: 8,
         got_base: 0x27f00,
+        has_got_entry: true,
         ..Operands::default()
     };
     assert_eq!(value(Architecture::Ppc64, 87, &operands), Ok(-32744));
@@ -164,6 +166,33 @@ fn got_entries_of_ppc64_take_no_second_addend() {
         word(Architecture::Ppc64, 87, -32744, 0xe8a2_0000),
         Ok(0xe8a2_8018)
     );
+}
+
+#[test]
+fn operands_that_there_are_not_are_errors() {
+    let call = Operands::new(0x401020, -4, 0x401131);
+    // `R_X86_64_PLT32` of a function without an entry of the PLT, as ld.lld and GNU ld link it, and
+    // of one with an entry at address 0
+    assert_eq!(value(Architecture::X86_64, 4, &call), Ok(-0x115));
+    let by_entry = Operands { has_plt_entry: true, ..call };
+    assert_eq!(value(Architecture::X86_64, 4, &by_entry), Ok(-0x401135));
+    // a load from the GOT and one of TLS, of each architecture: an entry, or an origin
+    for (architecture, entry, offset) in [
+        (Architecture::X86_64, 9, 23),
+        (Architecture::AArch64, 311, 549),
+        (Architecture::RiscV, 20, 29),
+        (Architecture::LoongArch64, 75, 83),
+        (Architecture::Ppc64, 15, 70),
+    ] {
+        assert_eq!(value(architecture, entry, &call), Err(Status::NoEntry));
+        assert_eq!(value(architecture, offset, &call), Err(Status::NoTlsBase));
+        let all = Operands { has_got_entry: true, has_tls_base: true, ..call };
+        assert!(value(architecture, entry, &all).is_ok() && value(architecture, offset, &all).is_ok());
+    }
+    // R_RISCV_TLSDESC_LOAD_LO12 has the entry of its high part; R_PPC64_PLT16_HA a word of the PLT
+    assert_eq!(value(Architecture::RiscV, 63, &call), Err(Status::NoEntry));
+    assert_eq!(value(Architecture::Ppc64, 31, &call), Err(Status::NoEntry));
+    assert!(value(Architecture::Ppc64, 31, &by_entry).is_ok());
 }
 
 #[test]

@@ -67,6 +67,7 @@ fn linked(architecture: Architecture, text: &str, pc: &str, target: &str) -> (u6
         symbol: address(target),
         plt_entry: address(target),
         place: address(pc) + from_pc,
+        has_plt_entry: true,
         ..Operands::default()
     };
     (offset, r_type, operands)
@@ -192,6 +193,9 @@ fn bounds_are_those_of_lld() {
             got_entry: address(target),
             place: address(place),
             got_base: 0x34_0000_8000,
+            has_plt_entry: true,
+            has_got_entry: true,
+            has_tls_base: true,
             ..Operands::default()
         };
         let value = value(architecture, r_type, &operands).expect("it has a value");
@@ -238,6 +242,7 @@ fn words_of_got_entries_are_those_of_lld() {
         let operands = Operands {
             place,
             got_entry,
+            has_got_entry: true,
             ..Operands::default()
         };
         let mut section = bytes_of(before);
@@ -272,6 +277,9 @@ fn words_are_those_of_gnu_ld() {
             plt_entry,
             got_base,
             tls_base,
+            has_got_entry: true,
+            has_plt_entry: true,
+            has_tls_base: true,
             ..Operands::default()
         };
         let value = value(architecture, r_type, &operands).expect("it has a value");

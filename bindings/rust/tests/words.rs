@@ -294,6 +294,8 @@ fn choices_of_riscv_match_lld() {
             place,
             got_entry: ENTRY,
             tls_base: IMAGE,
+            has_got_entry: true,
+            has_tls_base: true,
             ..Operands::default()
         };
         let mut facts = facts_with(flags & 2 != 0, operands);
@@ -325,6 +327,9 @@ fn choices_of_loongarch_match_gnu_ld() {
             plt_entry: symbol,
             got_entry: ENTRY,
             tls_base: IMAGE,
+            has_plt_entry: true,
+            has_got_entry: true,
+            has_tls_base: true,
             ..Operands::default()
         };
         let mut facts = facts_with(symbol != 0, operands);
@@ -363,6 +368,8 @@ fn choices_of_powerpc64_match_linkers() {
             } else {
                 0x1002_7000
             },
+            has_got_entry: true,
+            has_tls_base: true,
             ..Operands::default()
         };
         let mut facts = facts_with(flags & 1 != 0, operands);

@@ -50,6 +50,7 @@ use Rattle.linker_utils_c.specs.declared.status.Status.TheVariants.{CodeTooLong,
 use Rattle.linker_utils_c.specs.declared.status.Status.TheVariants.{StubTooFar, FactsChanged}
 use Rattle.linker_utils_c.specs.declared.status.Status.TheVariants.{NotAligned, NeedsStub}
 use Rattle.linker_utils_c.specs.declared.status.Status.TheVariants.{OtherLength, FactsContradict}
+use Rattle.linker_utils_c.specs.declared.status.Status.TheVariants.{NoTlsBase}
 
 abbrev pub code : Status → ℕ
 code Success = 0
@@ -134,6 +135,7 @@ code NotAligned = 80
 code NeedsStub = 81
 code OtherLength = 82
 code FactsContradict = 83
+code NoTlsBase = 84
 
 -- the status is one of these
 abbrev pub IsOneOf : List Status → ℕ → Type 0

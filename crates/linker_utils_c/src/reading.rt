@@ -9,9 +9,11 @@ ghost use Rattle.linker_utils_c.specs.Reading.{field_of, reference_number, IsVal
 ghost use Rattle.linker_utils_c.specs.Reading.{IsAddress, IsRowSolved, IsValueSolved};
 ghost use Rattle.linker_utils_c.specs.Forms.{named_form};
 ghost use Rattle.linker_utils_c.specs.Reading.{IsWhole, AreHalvesJoined, IsOperandReturned};
+ghost use Rattle.linker_utils_c.specs.Relocate.{operands_of};
 ghost use Rattle.linker_utils_c.specs.Status.{code};
 
 use crate::forms::form_of;
+use crate::relocate::OperandNumbers;
 use crate::status::Status;
 use linker_reading::fields::FieldValue;
 use linker_reading::operands::operand;
@@ -204,14 +206,14 @@ pub extern "C" fn linker_utils_solve(
     machine: u16,
     r_type: u32,
     value: &FieldValueNumbers,
-    operands: &Operands,
+    operands: &OperandNumbers,
     reference: &mut u32,
     address: &mut FieldValueNumbers,
 ) -> u32
     ensures known { IfSome (architecture_of machine)
         (λ architecture. (meaning : Option RelocationKindInfo) × IsRow architecture r_type meaning
-        × IsValueSolved meaning (field_of value.now) operands.now reference.old reference.new
-        address.old address.new result) }
+        × IsValueSolved meaning (field_of value.now) (operands_of operands.now) reference.old
+        reference.new address.old address.new result) }
     ensures unknown { IfNone (architecture_of machine)
         ((result ≡ code Status.UnknownArchitecture) × (reference.new ≡ reference.old)
         × (address.new ≡ address.old)) }
@@ -220,7 +222,7 @@ pub extern "C" fn linker_utils_solve(
         return Status::UnknownArchitecture.number();
     };
     match architecture.row(r_type) {
-        Some(meaning) => solve_row(&meaning, value, operands, reference, address),
+        Some(meaning) => solve_row(&meaning, value, &operands.operands(), reference, address),
         None => Status::UnknownRelocation.number(),
     }
 }

@@ -4,6 +4,7 @@
 //! behind it.
 
 use crate::forms::form_of;
+use crate::relocate::OperandNumbers;
 use crate::status::Status;
 use linker_utils::reading::FieldValue;
 use linker_utils::reading::operand;
@@ -167,7 +168,7 @@ pub fn linker_utils_solve(
     machine: u16,
     r_type: u32,
     value: &FieldValueNumbers,
-    operands: &Operands,
+    operands: &OperandNumbers,
     reference: &mut u32,
     address: &mut FieldValueNumbers,
 ) -> u32 {
@@ -175,7 +176,7 @@ pub fn linker_utils_solve(
         return Status::UnknownArchitecture.number();
     };
     match architecture.row(r_type) {
-        Some(meaning) => solve_row(&meaning, value, operands, reference, address),
+        Some(meaning) => solve_row(&meaning, value, &operands.operands(), reference, address),
         None => Status::UnknownRelocation.number(),
     }
 }
