@@ -359,9 +359,9 @@ module _ (architecture : Architecture) (addresses : Addresses) (bytes : List ℕ
       elim (cases_Bool (is_of_pair row)) [
         | inr alone ↦
             let here = accepts.0 alone in
-            elim (not.rejected.inside here.inside) [
-              | inl cause ↦ accepted_no_cause row not.value (drop (offset_at bytes i) section) why here.accepted cause
-              | inr other ↦ true≢false (sym here.holds ∙ other.2)
+            elim not.rejected [
+              | inl rejected ↦ accepted_no_cause row not.value (drop (offset_at bytes i) section) why here.accepted (rejected.inside here.inside)
+              | inr out ↦ true≢false (sym here.holds ∙ out.other)
             ]
         | inl paired ↦
             let of = accepts.1 paired in

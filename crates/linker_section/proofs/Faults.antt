@@ -20,7 +20,7 @@ use Rattle.linker_section.proofs.Stepping.{len_paired}
 use Rattle.linker_section.proofs.Ulebs.{some_uleb, uleb_len_is, uleb_same, pair_number_from}
 use Rattle.linker_section.specs.Fields.{IsField, field_len, begins_pair, ends_pair, uleb_len, AreApart}
 use Rattle.linker_section.specs.Relocations.{relocation_in}
-use Rattle.linker_section.specs.Sections.{AreRelocated, IsRejected, IsPairRejected, IsNotAccepted, IsOtherLength, IsCauseAt, BeginsPair, IsOfValue, IsFirstRejected}
+use Rattle.linker_section.specs.Sections.{AreRelocated, IsUnwritable, IsPairRejected, IsNotAccepted, IsOtherLength, IsCauseAt, BeginsPair, IsOfValue, IsFirstRejected}
 use Rattle.linker_section.specs.Values.{offset_at}
 use Rattle.linker_section.specs.WrittenFields.{IsFirstFault}
 use Rattle.linker_section.specs.declared.facts.Addresses.{Addresses}
@@ -55,20 +55,24 @@ cause_same row v xs ys OutOfReach same len cause =
 
 rejected_same : (row : RelocationKindInfo) (v : ℤ) (o : ℕ) (now before : List ℕ)
     (error : RelocateError) → HaveSameWindow row.size (drop o now) (drop o before)
-    → length now ≡ length before → IsRejected row v o now error
-    → IsRejected row v o before error
-rejected_same row v o now before error same len rejected =
-    record {
+    → length now ≡ length before → IsUnwritable row v o now error
+    → IsUnwritable row v o before error
+rejected_same row v o now before error same len (inl rejected) =
+    inl (record {
       outside = λ past. rejected.outside (omega (arith, past, len));
-      inside = λ within.
-          let d = length-drop o before in let dn = length-drop o now in
-          elim (rejected.inside (omega (arith, within, len))) [
-            | inl cause ↦ inl (cause_same row v (drop o now) (drop o before) error same (omega (arith, d, dn, len)) cause)
-            | inr beyond ↦
-                let long = beyond.1 in
-                inr (beyond.0, omega (arith, d, dn, len, long), sym (offset_same row v (drop o now) (drop o before) same) ∙ beyond.2)
-          ];
-    }
+      inside = λ within. cause_same row v (drop o now) (drop o before) error same
+          (let d = length-drop o before in let dn = length-drop o now in omega (arith, d, dn, len))
+          (rejected.inside (omega (arith, within, len)));
+    })
+rejected_same row v o now before error same len (inr out) =
+    let d = length-drop o before in let dn = length-drop o now in
+    let inside = out.inside in let long = out.long in
+    inr (record {
+      is_error = out.is_error;
+      inside = omega (arith, inside, len);
+      long = omega (arith, long, d, dn, len);
+      other = sym (offset_same row v (drop o now) (drop o before) same) ∙ out.other;
+    })
 
 -- ---- the number of a pair
 

@@ -18,7 +18,7 @@ use Rattle.linker_section.specs.Conditions.{HasLength, HoldsOffset, holds_offset
 use Rattle.linker_section.specs.Fields.{is_of_pair}
 use Rattle.linker_section.specs.Inner.Quick.{length_of as length_by, shows}
 use Rattle.linker_section.specs.Relocations.{relocation_in}
-use Rattle.linker_section.specs.Sections.{HasValue, IsOtherLength, IsRejected}
+use Rattle.linker_section.specs.Sections.{HasValue, IsOtherLength, IsUnwritable}
 use Rattle.linker_section.specs.Values.{offset_at}
 use Rattle.linker_section.specs.declared.facts.Addresses.{Addresses}
 use Rattle.linker_section.specs.declared.facts.Symbol.{Symbol}
@@ -137,15 +137,15 @@ offset_of row v offset section result is holds = is.0 holds
 
 -- what isn't held is out of reach, in the section
 pub offset_beyond : (row : RelocationKindInfo) (v : ℤ) (o : ℕ) (section : List ℕ)
-    → (HoldsOffset row v o section → ⊥) → IsRejected row v o section OutOfReach
+    → (HoldsOffset row v o section → ⊥) → IsUnwritable row v o section OutOfReach
 offset_beyond row v o section isnt =
-    record {
-      outside = λ past. absurd (isnt (λ inside. absurd (omega (arith, past, inside))));
-      inside = λ inside. elim (cases_lt (length (drop o section)) (window_len row)) [
+    elim (cases_lt (length section) o) [
+      | inl past ↦ absurd (isnt (λ inside. absurd (omega (arith, past, inside))))
+      | inr inside ↦ elim (cases_lt (length (drop o section)) (window_len row)) [
         | inl short ↦ absurd (isnt (λ _ long. absurd (omega (arith, short, long))))
         | inr long ↦ elim (cases_Bool (holds_offset row v (drop o section))) [
           | inl held ↦ absurd (isnt (λ _ _. held))
-          | inr other ↦ inr (refl, long, other)
+          | inr other ↦ inr (record { is_error = refl; inside = inside; long = long; other = other })
         ]
-      ];
-    }
+      ]
+    ]

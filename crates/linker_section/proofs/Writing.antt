@@ -18,9 +18,9 @@ pub written_at : (row : RelocationKindInfo) (v : ℤ) (offset : ℕ) (before aft
 written_at row v offset before after rest (Ok u) inside shown held around len ok err =
     record { inside = inside; rest = rest; around = around; same_length = len; length_shown = shown; holds = held inside ok.accepted.long; written = ok }
 written_at row v offset before after rest (Err error) inside shown held around len ok err = (
-  record {
+  inl (record {
     outside = λ past. absurd (omega arith);
-    inside = λ _. inl (err.0);
-  },
+    inside = λ _. err.0;
+  }),
   around ∙ (ap (λ bytes. take offset before ++ bytes) (err.1) ∙ take-append-drop offset before),
 )

@@ -48,25 +48,29 @@ pub record IsWritten (row : RelocationKindInfo) (v : ℤ) (offset : ℕ) (before
   pub holds : holds_offset row v (drop offset before) ≡ true
   pub written : WritesRow row v (drop offset before) rest
 
--- The row rejects the value, or it is an offset that an instruction with the thread pointer as its
--- base doesn't hold.
-abbrev pub IsCauseThere : RelocationKindInfo → ℤ → List ℕ → RelocateError → Type 0
-IsCauseThere row v there error =
-    IsCause row v there error
-    ⊎ ((error ≡ OutOfReach) × (window_len row ≤ length there)
-    × (holds_offset row v there ≡ false))
-
--- the bytes there reject the value, or the offset is past the end
+-- the row rejects the value there, or the offset is past the end
 pub record IsRejected (row : RelocationKindInfo) (v : ℤ) (offset : ℕ) (before : List ℕ)
     (error : RelocateError) : Type 0 where
   pub outside : length before < offset → error ≡ TooShort
-  pub inside : offset ≤ length before → IsCauseThere row v (drop offset before) error
+  pub inside : offset ≤ length before → IsCause row v (drop offset before) error
+
+-- the value is an offset that an instruction with the thread pointer as its base doesn't hold
+pub record IsBeyond (row : RelocationKindInfo) (v : ℤ) (offset : ℕ) (before : List ℕ)
+    (error : RelocateError) : Type 0 where
+  pub is_error : error ≡ OutOfReach
+  pub inside : offset ≤ length before
+  pub long : window_len row ≤ length (drop offset before)
+  pub other : holds_offset row v (drop offset before) ≡ false
+
+abbrev pub IsUnwritable : RelocationKindInfo → ℤ → ℕ → List ℕ → RelocateError → Type 0
+IsUnwritable row v offset before error =
+    IsRejected row v offset before error ⊎ IsBeyond row v offset before error
 
 abbrev pub IsWrittenAt : RelocationKindInfo → ℤ → ℕ → List ℕ → List ℕ → Result Unit RelocateError
     → Type 0
 IsWrittenAt row v offset before after (Ok u) = IsWritten row v offset before after
 IsWrittenAt row v offset before after (Err error) =
-    IsRejected row v offset before error × (after ≡ before)
+    IsUnwritable row v offset before error × (after ≡ before)
 
 -- ---- one relocation
 
@@ -225,7 +229,7 @@ pub record IsNotAccepted (architecture : Architecture) (addresses : Addresses) (
   pub value : ℤ
   pub has_value : HasValue architecture addresses bytes symbols (relocation_in bytes i) row value
   pub length_shown : HasLength row (offset_at bytes i) now
-  pub rejected : IsRejected row value (offset_at bytes i) now error
+  pub rejected : IsUnwritable row value (offset_at bytes i) now error
   pub alone : ¬ BeginsPair architecture bytes i
 
 -- the instruction there is shorter or longer than its form
