@@ -1,15 +1,18 @@
-use Rattle.std.proofs.Common.{◌≡◌, ◌∙◌, false, true, refl, sym, arith}
+use Rattle.std.specs.Prelude.{◌↔◌, IsTrue, nat_eq}
+use Rattle.std.proofs.Common.{◌≡◌, ◌%◌, ◌∙◌, ℕ, false, true, refl, sym, arith}
 use Rattle.std.proofs.lemmas.Bool.Decides.{nat_tests}
 use Rattle.linker_runs.specs.declared.shapes.loongarch64.TheConstants.{CALL36}
 use Rattle.linker_runs.proofs.Same.{shapes_decide}
 use Rattle.linker_runs.proofs.relaxation.Site.is_in_words.Goals as goal
 
+same : (a b : ℕ) → IsTrue (nat_eq a b) ↔ (a ≡ b)
+same a b = (λ yes. grind (arith, nat_tests), λ is. grind (arith, nat_tests))
+
 pub returns-then-eq : goal.returns-then-eq
 returns-then-eq c =
-    let call = shapes_decide c.args.self.now.shapes CALL36 c.eq.result c.eq.ensures in (
-      λ yes is. grind (arith, nat_tests),
-      λ words. let e = words (call.0 c.if-eq.true) in grind (arith, nat_tests),
-    )
+    let call = shapes_decide c.args.self.now.shapes CALL36 c.eq.result c.eq.ensures in
+    let words = same (c.args.self.now.target % 4) (c.args.self.now.offset % 4) in
+    (λ yes is. words.0 yes, λ met. words.1 (met (call.0 c.if-eq.true)))
 
 pub returns-else-eq : goal.returns-else-eq
 returns-else-eq c =
