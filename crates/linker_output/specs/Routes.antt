@@ -1,14 +1,14 @@
 -- How branches go to their targets: directly, or by a stub.
-use Rattle.std.specs.Prelude.{◌≡◌, ◌≢◌, ◌↔◌, ◌==◌, ◌&&◌, ◌||◌, ◌/◌, ◌%◌, ◌^◌, ◌<◌, ◌≤◌, ℕ, ℤ, List, []}
+use Rattle.std.specs.Prelude.{◌≡◌, ◌≢◌, ◌↔◌, ◌==◌, ◌&&◌, ◌||◌, ◌/◌, ◌%◌, ◌^◌, ◌≤◌, ℕ, ℤ, List, []}
 use Rattle.std.specs.Prelude.{◌∷◌, Bool}
 use Rattle.std.specs.Prelude.{true, false, not, nat_lt, length, drop, if◌then◌else◌, IsTrue}
 use Rattle.std.specs.Prelude.{Option, Some, None, Result, Ok, Err}
 use Rattle.std.specs.Int.{w64, cast_unsigned}
-use Rattle.linker_elf.specs.Relocate.{IsAccepted, IsCause}
+use Rattle.linker_elf.specs.Relocate.{IsAccepted}
 use Rattle.linker_elf.specs.Value.{sum_64}
 use Rattle.linker_elf.specs.declared.elf.RelocationKindInfo.{RelocationKindInfo}
 use Rattle.linker_elf.specs.declared.elf.relocate.RelocateError.{RelocateError}
-use Rattle.linker_elf.specs.declared.elf.relocate.RelocateError.TheVariants.{OutOfReach, TooShort}
+use Rattle.linker_elf.specs.declared.elf.relocate.RelocateError.TheVariants.{OutOfReach}
 use Rattle.linker_output.specs.Stubs.{StubCode}
 use Rattle.linker_output.specs.View.{Description}
 use Rattle.linker_output.specs.declared.routes.Route.{Route}
@@ -19,6 +19,7 @@ use Rattle.linker_output.specs.declared.stubs.StubKind.{StubKind}
 use Rattle.linker_output.specs.declared.stubs.StubKind.TheVariants.{Load, Jump}
 use Rattle.linker_ppc64.specs.Ppc64Rewrites.{HasTwo}
 use Rattle.linker_section.specs.Needed.{may_use_stub}
+use Rattle.linker_section.specs.Sections.{IsRejected}
 use Rattle.linker_section.specs.Values.{IsValue, local_entry}
 use Rattle.linker_section.specs.declared.facts.Addresses.{Addresses}
 use Rattle.linker_section.specs.declared.facts.Symbol.{Symbol}
@@ -109,9 +110,7 @@ by_jump (Some stub) loses has_room target = by_stub Jump stub.entry loses has_ro
 abbrev pub IsObstacle : RelocationKindInfo → ℤ → ℕ → List ℕ → Option RelocateError → Type 0
 IsObstacle row v offset section None =
     (offset ≤ length section) × IsAccepted row v (drop offset section)
-IsObstacle row v offset section (Some error) =
-    (length section < offset → error ≡ TooShort)
-    × (offset ≤ length section → IsCause row v (drop offset section) error)
+IsObstacle row v offset section (Some error) = IsRejected row v offset section error
 
 -- Directly where the branch can be written. By a stub where it doesn't reach its target, and may go
 -- by one. Nothing leads to what nothing defines.

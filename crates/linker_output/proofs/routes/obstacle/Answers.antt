@@ -13,7 +13,7 @@ obstacle_is : (row : RelocationKindInfo) (v : ℤ) (offset : ℕ) (section : Lis
     → IfSome found (IsCause row v (drop offset section)) → IsObstacle row v offset section found
 obstacle_is row v offset section None inside none some = (inside, none)
 obstacle_is row v offset section (Some error) inside none some =
-    ((λ past. absurd (omega (arith, past, inside))), λ _. some)
+    record { outside = λ past. absurd (omega (arith, past, inside)); inside = λ _. some }
 
 pub returns : goal.returns
 returns c =
