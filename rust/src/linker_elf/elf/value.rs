@@ -37,10 +37,12 @@ pub struct Operands {
     pub plt_entry: u64,
     /// Z: the symbol's size.
     pub symbol_size: u64,
-    /// What offsets of TLS symbols count from, as an address in the TLS segment's image. For an
-    /// offset from the thread pointer it is where the thread pointer points to; on PowerPC64 that
-    /// is the image's address plus 0x7000. For an offset in the module's TLS block it is the
-    /// image's address; plus 0x8000 on PowerPC64, and plus 0x800 on RISC-V.
+    /// The origin of offsets of TLS symbols, as an address in the TLS segment's image. For an
+    /// offset from the thread pointer it is the thread pointer's. On AArch64 that is the image's
+    /// address less 16, rounded down to the segment's alignment. On RISC-V and LoongArch it is the
+    /// image's address rounded down so, on PowerPC64 that plus 0x7000, and on x86-64 the image's
+    /// end rounded up. For an offset in the module's TLS block it is the image's address, aligned
+    /// or not; plus 0x8000 on PowerPC64, and plus 0x800 on RISC-V.
     pub tls_base: u64,
 }
 

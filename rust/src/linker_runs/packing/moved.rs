@@ -1,3 +1,4 @@
+// SPDX-License-Identifier: MIT OR Apache-2.0
 // Made by tools/erase of crates/linker_runs/src/packing/moved.rt.
 //! The relocations of a packed section.
 
@@ -145,7 +146,7 @@ fn relocation_in(relocations: &[u8], index: usize) -> Rela {
 /// Writes a relocation to its 24 bytes.
 #[inline(always)]
 fn write_relocation(entry: &mut [u8], relocation: &Rela) {
-    let addend = relocation.addend.cast_unsigned();
+    let addend = relocation.addend as u64;
     overwrite(entry, 0, &relocation.offset.to_le_bytes());
     overwrite(entry, 8, &relocation.code.to_le_bytes());
     overwrite(entry, 12, &relocation.symbol.to_le_bytes());
