@@ -1,6 +1,6 @@
 //! Whether the two tables of an object's symbols say the same of a symbol.
 
-ghost use Rattle.std.specs.Prelude.{◌≡◌, MatchOption, slice_get};
+ghost use Rattle.std.specs.Prelude.{◌≡◌, MatchOption};
 ghost use Rattle.linker_rewriting.specs.Agreement.{is_absent, contradicts, contradict_at, Agree};
 ghost use Rattle.linker_rewriting.specs.Agreement.{IsContradiction};
 

@@ -1,7 +1,6 @@
 //! A walk through deltas, for offsets that don't decrease.
 
-ghost use Rattle.std.specs.Prelude.{◌≡◌, ◌+◌, ◌%◌, ◌^◌, ◌<◌, ◌≤◌, ◌↔◌, IsTrue, length, map, max};
-ghost use Rattle.std.specs.List.Sorted.{IsNonDecreasing};
+ghost use Rattle.std.specs.Prelude.{◌≡◌, ◌+◌, ◌%◌, ◌^◌, ◌<◌, ◌≤◌, length, map, max};
 ghost use Rattle.linker_base.specs.Deletions.{begun_below, rank};
 ghost use Rattle.linker_base.specs.Deltas.{deletion_of};
 ghost use Rattle.linker_base.specs.Listed.{AreValidDeltas};
