@@ -28,7 +28,7 @@
  *   of deltas, heads, items or relocations by any number of threads. So threads may also write
  *   parts of one section at once, each through a slice that no other overlaps.
  * - With such pointers and counts each call is defined, whatever the numbers and bytes.
- * - A call that returns `uint32_t` returns a status of `enum linker_utils_status`, but for
+ * - A call that returns `uint32_t` returns a status of `enum linker_utils_status`, except for
  *   `linker_utils_output_flags`, `linker_utils_forms_of` and `linker_utils_uleb128_role`. With any
  *   except `LINKER_UTILS_OK` it has written nothing but `faulty`, `memory`, `decisions`, `deleted`,
  *   and what `linker_utils_relocate_all`, `linker_utils_rewritten_items` and
@@ -315,7 +315,7 @@ struct linker_utils_choice {
  * belong to several others. Each is chosen by its own instruction, and only with `group_fits`. That
  * has to be the same for all of that symbol and addend in the object, as the other facts except for
  * `place`. Between the instructions of a descriptor nothing else reads or writes `a0` and `ra`, and
- * nothing reads `ra` behind them. What a high half left is read by low halves of that symbol and
+ * nothing reads `ra` after them. What a high half left is read by low halves of that symbol and
  * addend alone, or copied. So compilers emit them. On RISC-V the instructions of a descriptor, and
  * the `auipc` and `ld` of a GOT entry, may be apart. Each is chosen by the facts of the high part
  * that its label names, `is_relaxable` of a descriptor's R_RISCV_TLSDESC_HI20 among them. The
@@ -330,7 +330,7 @@ struct linker_utils_choice {
  * R_LARCH_TLS_LE_HI20_R. By `group_fits` they are R_PPC64_TLS and the load of its entry,
  * R_PPC64_REL16_HA and R_PPC64_REL16_LO, and the `lea` and the call of a descriptor on x86-64.
  * Those of R_PPC64_REL16_HA and R_PPC64_REL16_LO are at the entry of a function, where r12 has the
- * address of the first. The second is 4 bytes behind it, of the same symbol, with 4 more in its
+ * address of the first. The second is 4 bytes after it, of the same symbol, with 4 more in its
  * addend. AArch64's ADRP_ADD_TO_NOP_ADR erases the `adrp` too, whose relocation has to be of the
  * same symbol and addend as the `add`'s. */
 static inline uint32_t linker_utils_choose(uint16_t machine, uint32_t r_type,

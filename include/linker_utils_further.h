@@ -100,7 +100,7 @@ static inline uint32_t linker_utils_relocate_all(
  * Types of dynamic relocations, words of the GOT, what offsets of thread-local storage count from,
  * `e_flags`, symbols and functions that linkers provide, and the code of stubs and lazy PLTs. The
  * status LINKER_UTILS_UNKNOWN_ARCHITECTURE comes first. With any status but LINKER_UTILS_OK nothing
- * is written. Each call takes O(1), but for copies of texts. */
+ * is written. Each call takes O(1), except for copies of texts. */
 
 /* The types of the dynamic relocations that a linker emits. */
 struct linker_utils_dynamic_types {
@@ -119,7 +119,7 @@ struct linker_utils_dynamic_types {
 /* The dynamic relocations of an architecture, into `types`. */
 uint32_t linker_utils_dynamic_types(uint16_t machine, struct linker_utils_dynamic_types *types);
 
-/* Writes the name of one of these types, as `R_X86_64_RELATIVE`, to `name`, without a zero behind
+/* Writes the name of one of these types, as `R_X86_64_RELATIVE`, to `name`, without a zero after
  * it, and its length to `name_used`. LINKER_UTILS_UNKNOWN_RELOCATION; LINKER_UTILS_TOO_SHORT. No
  * name is longer than LINKER_UTILS_NAME_SIZE. */
 static inline uint32_t linker_utils_dynamic_name(uint16_t machine, uint32_t r_type, uint8_t *name,
@@ -203,13 +203,13 @@ uint64_t linker_utils_code_unit(uint16_t machine, uint32_t flags);
 uint8_t linker_utils_filler(uint16_t machine, uint64_t offset);
 
 /* Writes the path of the dynamic linker in glibc for an output with such `e_flags` to `path`,
- * without a zero behind it, and its length to `path_used`. LINKER_UTILS_NOT_PROVIDED where glibc
+ * without a zero after it, and its length to `path_used`. LINKER_UTILS_NOT_PROVIDED where glibc
  * has none for them; LINKER_UTILS_TOO_SHORT. No path is longer than LINKER_UTILS_NAME_SIZE. */
 static inline uint32_t linker_utils_interpreter(uint16_t machine, uint32_t flags, uint8_t *path,
                                                 size_t path_len, size_t *path_used);
 
 /* Writes the name of the section of objects in which compilers keep addresses, as the GOT does, to
- * `name`, without a zero behind it, and its length to `name_used`: PowerPC64's `.toc`. It stands
+ * `name`, without a zero after it, and its length to `name_used`: PowerPC64's `.toc`. It stands
  * beside the GOT. Nothing changes its words, so that a linker may have instructions compute such an
  * address. LINKER_UTILS_NOT_PROVIDED where there is none; LINKER_UTILS_TOO_SHORT. No name is longer
  * than LINKER_UTILS_NAME_SIZE. */
@@ -322,7 +322,7 @@ struct linker_utils_provided_symbol {
     uint32_t place; /* `enum linker_utils_symbol_place` */
 };
 
-/* The symbol with an index, from 0 on: its name to `name`, without a zero behind it, its length to
+/* The symbol with an index, from 0 on: its name to `name`, without a zero after it, its length to
  * `name_used`, and where it is to `symbol`. LINKER_UTILS_NOT_PROVIDED where there is none with this
  * index or above; LINKER_UTILS_TOO_SHORT. No name is longer than LINKER_UTILS_NAME_SIZE. */
 static inline uint32_t linker_utils_provided_symbol(uint16_t machine, size_t index, uint8_t *name,
@@ -335,14 +335,14 @@ static inline uint32_t linker_utils_provided_symbol(uint16_t machine, size_t ind
 struct linker_utils_provided_run {
     uint64_t len; /* how many instructions of 4 bytes the run has */
     /* The number in the first function's name. That with a number n begins
-     * 4 * `spacing` * (n - `first`) bytes behind the run's start. */
+     * 4 * `spacing` * (n - `first`) bytes after the run's start. */
     uint32_t first;
     uint32_t count;   /* how many functions there are */
     uint32_t spacing; /* how many instructions, from 1 on, a function begins before the next */
 };
 
 /* The run with an index, from 0 on. It writes the functions' names without the number, which stands
- * behind it in decimal, to `prefix`, its length to `prefix_used`, and the numbers to `run`.
+ * after it in decimal, to `prefix`, its length to `prefix_used`, and the numbers to `run`.
  * LINKER_UTILS_NOT_PROVIDED where there is none with this index or above; LINKER_UTILS_TOO_SHORT.
  * No prefix is longer than LINKER_UTILS_NAME_SIZE. */
 static inline uint32_t linker_utils_provided_run(uint16_t machine, size_t index, uint8_t *prefix,
@@ -372,7 +372,7 @@ uint32_t linker_utils_stub(uint16_t machine, uint32_t kind, struct linker_utils_
 static inline uint32_t linker_utils_write_stub(uint16_t machine, uint32_t kind, uint64_t place,
                                                uint64_t target, uint8_t *bytes, size_t bytes_len);
 
-/* A lazy PLT of an architecture: its header, and behind it an entry for each function. An entry
+/* A lazy PLT of an architecture: its header, and after it an entry for each function. An entry
  * jumps to the address that its word of `.got.plt` has. That is the function's only once the
  * dynamic linker has looked it up; until then the word leads on to the header, which jumps to the
  * dynamic linker. */
@@ -425,7 +425,7 @@ struct linker_utils_route {
     uint64_t target; /* what the stub goes to, as `linker_utils_write_stub` takes it */
     /* The offset at which the branch enters the stub. Where that is 0 and the stub's own `entry`
      * isn't, the stub stores PowerPC64's TOC pointer, and `ld 2,24(1)` has to be in place of the
-     * `nop` behind the branch. */
+     * `nop` after the branch. */
     uint64_t entry;
     uint32_t kind;      /* the stub's, as `enum linker_utils_stub_kind` */
     uint8_t is_by_stub; /* 0: it goes directly, and all others are 0 */
@@ -495,12 +495,12 @@ struct linker_utils_placed_stub {
 size_t linker_utils_most_stubs(size_t branches_len);
 
 /* Places stubs at boundaries between sections. Offsets are those of a run of sections, or their
- * addresses before there are stubs. Boundaries ascend, and what has the offset of one is behind its
+ * addresses before there are stubs. Boundaries ascend, and what has the offset of one is after its
  * stubs. Where the offsets of branches ascend, more of them share a stub. It writes
  * - to the beginning of `stubs` the stubs, and to `stubs_used` how many there are;
  * - to `ways` for each branch the index of the stub that it goes by, or SIZE_MAX if it goes to its
  *   target;
- * - to `before` for each boundary how many bytes of stubs are before those at it, and behind these
+ * - to `before` for each boundary how many bytes of stubs are before those at it, and after these
  *   how many there are in all. What was at an offset is so much higher as `before` says for the
  *   first boundary above it.
  * Each stub has a branch that goes by it. At a boundary a target has at most three: one next to
@@ -511,7 +511,7 @@ size_t linker_utils_most_stubs(size_t branches_len);
  * LINKER_UTILS_DIFFERENT_LENGTHS where `ways_len` isn't `branches_len`, or `before_len` isn't
  * `boundaries_len` + 1; LINKER_UTILS_SHORT_MEMORY where `stubs_len` is below
  * `linker_utils_most_stubs(branches_len)`; LINKER_UTILS_STUB_WITHOUT_LENGTH;
- * LINKER_UTILS_NOT_ASCENDING, where the boundary behind the one at the index `faulty` is below it;
+ * LINKER_UTILS_NOT_ASCENDING, where the boundary after the one at the index `faulty` is below it;
  * LINKER_UTILS_NO_TARGET, of the branch at `faulty`; LINKER_UTILS_CODE_TOO_LONG;
  * LINKER_UTILS_OUT_OF_MEMORY; LINKER_UTILS_NO_BOUNDARY, of the branch at `faulty`;
  * LINKER_UTILS_STUB_TOO_FAR, of the target at `faulty`. A few passes of O((n + s) log b) for n
@@ -533,16 +533,16 @@ static inline uint32_t linker_utils_place_stubs(
  *   1       at the global one. The function doesn't use r2, and may have changed it on return.
  *   2 to 6  2^v bytes past the global one: 4, 8, 16, 32 or 64.
  *   7       reserved
- * Which address a call takes as `symbol`, and what has to be behind the call:
+ * Which address a call takes as `symbol`, and what has to be after the call:
  * - R_PPC64_REL24 and R_PPC64_REL14: the caller has its TOC pointer in r2, and expects it there on
  *   return. For a function of the same output with the same TOC and v other than 1 the address is
- *   that of the local entry point. The `nop` behind the call, if there is one, stays then. Else it
+ *   that of the local entry point. The `nop` after the call, if there is one, stays then. Else it
  *   is that of a stub, which stores r2 at r1 + 24 and enters the function. It goes through the PLT
- *   with the doubleword there in r12, or where v is 1 directly. Then the `nop` behind the call has
+ *   with the doubleword there in r12, or where v is 1 directly. Then the `nop` after the call has
  *   to become `ld 2,24(1)`, which `linker_utils_choose` at the R_PPC64_REL24 says where
- *   `may_change_toc` is set. If no `nop` is there, as behind the `b` of a tail call, the rewrite is
+ *   `may_change_toc` is set. If no `nop` is there, as after the `b` of a tail call, the rewrite is
  *   NO_OP, the stub can't be used, and linkers report an error.
- * - R_PPC64_REL24_NOTOC: the caller keeps nothing in r2, and no `nop` is behind. For a function of
+ * - R_PPC64_REL24_NOTOC: the caller keeps nothing in r2, and no `nop` is after. For a function of
  *   the same output with v 0 or 1 the address is its own. With v from 2 up it is that of a stub
  *   that sets r12 to the global entry point, by its own place, and goes there. Through the PLT it
  *   sets r12 to the doubleword there. Neither stub stores r2.
@@ -553,7 +553,7 @@ static inline uint32_t linker_utils_place_stubs(
  * - `bl __tls_get_addr` has R_PPC64_TLSGD or R_PPC64_TLSLD and then R_PPC64_REL24 or
  *   R_PPC64_REL24_NOTOC at the same offset. After a rewrite of the former the latter is skipped. A
  *   call whose argument a prefixed instruction computes has R_PPC64_REL24_NOTOC. Where that is the
- *   relocation behind it, R_PPC64_TLSGD or R_PPC64_TLSLD is chosen with `is_relaxable`. */
+ *   relocation after it, R_PPC64_TLSGD or R_PPC64_TLSLD is chosen with `is_relaxable`. */
 
 /* ---- Forms: values in the immediates of instructions.
  *
@@ -629,7 +629,7 @@ struct linker_utils_window_bounds {
 
 /* The bytes that `linker_utils_apply` writes at an offset, into `window`: all others stay. Two
  * rewrites whose windows have a byte in common write over each other. On x86-64 the field of the
- * relocation after a rewrite may lie behind the window. A general-dynamic TLS sequence has 16
+ * relocation after a rewrite may lie after the window. A general-dynamic TLS sequence has 16
  * bytes, which are the window's 12 and the field's 4. */
 uint32_t linker_utils_rewrite_window(uint16_t machine, uint32_t rewrite, uint8_t opcode_len,
                                      struct linker_utils_window_bounds *window);
@@ -965,7 +965,7 @@ struct linker_utils_item {
     uint64_t offset; /* the input offset of its first byte */
     uint64_t target; /* of a site: the input offset that it has to reach; it means nothing where
                         there are no shorter shapes */
-    uint64_t alignment; /* of an alignment: what the output address behind it is a multiple of */
+    uint64_t alignment; /* of an alignment: what the output address after it is a multiple of */
     uint64_t max_skip; /* of a limited alignment: how many bytes of nops may stay; where more are
                           needed, none stay */
     uint32_t len; /* how many bytes it has: of an alignment, its nops */
@@ -1005,7 +1005,7 @@ struct linker_utils_rela {
  *
  * LoongArch, where R_LARCH_RELAX is the relocation that has to be next: R_LARCH_CALL36 makes a site
  * if the bytes are a pcaddu18i and a jirl of one register that links ra or none. R_LARCH_PCALA_HI20
- * makes one if R_LARCH_PCALA_LO12 of the next instruction comes behind its R_LARCH_RELAX, with the
+ * makes one if R_LARCH_PCALA_LO12 of the next instruction comes after its R_LARCH_RELAX, with the
  * same target and an R_LARCH_RELAX too. The bytes have to be a pcalau12i and an addi.d of one
  * register.
  * R_LARCH_ALIGN makes an alignment, unless there are no nops. Without a symbol its addend is how
@@ -1018,7 +1018,7 @@ struct linker_utils_rela {
  * `len` is how many items there are; the elements from there on are unchanged.
  * LINKER_UTILS_UNKNOWN_ARCHITECTURE for other machines. LINKER_UTILS_DIFFERENT_LENGTHS.
  * LINKER_UTILS_ENDS_TOO_HIGH where `base` and `section_len` add up to 2^64 or more.
- * LINKER_UTILS_MALFORMED_RELOCATION, and `faulty` is the first malformed one. It lies behind the
+ * LINKER_UTILS_MALFORMED_RELOCATION, and `faulty` is the first malformed one. It lies after the
  * section's end, or is a call's (of LoongArch's an R_LARCH_CALL36) with less than eight bytes
  * there. Or it is an R_RISCV_ALIGN whose addend isn't a multiple of 2 from 0 up, below 2^32, of
  * bytes in the section. Or it is an R_LARCH_ALIGN whose addend is below 0 or whose exponent is
@@ -1170,7 +1170,7 @@ static inline uint32_t linker_utils_has_its_instructions(uint16_t machine, const
  * LINKER_UTILS_NOT_ITS_FIRST_BYTES, LINKER_UTILS_NOT_ITS_INSTRUCTIONS, LINKER_UTILS_NO_SHAPE and
  * LINKER_UTILS_TARGET_OUT_OF_REACH. Only the first three can be of a site with one shape.
  * LINKER_UTILS_DELETED_OUTSIDE where bytes before the item are deleted that are of no item: an item
- * is missing; `faulty` is `items_len` where they are behind the last item. With any status except
+ * is missing; `faulty` is `items_len` where they are after the last item. With any status except
  * LINKER_UTILS_OK nothing is written. For k items, m relocations and n deltas it takes O((k + m)
  * log n + m log k). Beside that it takes a step for each byte of the section and each delta in it. */
 static inline uint32_t linker_utils_pack_run(

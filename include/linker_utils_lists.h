@@ -1,6 +1,6 @@
 /* SPDX-License-Identifier: MIT OR Apache-2.0 */
 /* The lists of linker_utils.h, which includes this file: the statuses, and the numbers of
- * architectures, kinds of relocations, forms, rewrites and others. Behind the rewrites are the
+ * architectures, kinds of relocations, forms, rewrites and others. After the rewrites are the
  * tables of choices. */
 #ifndef LINKER_UTILS_LISTS_H
 #define LINKER_UTILS_LISTS_H
@@ -439,7 +439,7 @@ enum linker_utils_loongarch64_rewrite {
 };
 
 /* Those of a call stand for 8 bytes, the call and the `nop` after it. CALL_TO_ADDI, CALL_TO_ADD and
- * CALL_TO_ADDI4096 move the offset 4 bytes on, to the instruction behind the `nop` that they leave;
+ * CALL_TO_ADDI4096 move the offset 4 bytes on, to the instruction after the `nop` that they leave;
  * the next relocation, R_PPC64_REL24 of the call, is skipped. BRANCH_TO_NOP and BRANCH_TO_ADD are
  * of a call with R_PPC64_REL24_NOTOC, which is skipped too, and stand for its 4 bytes. ADD_TO_MOVE
  * and INDEXED_TO_DIRECT begin one byte before the offset. */
@@ -479,7 +479,7 @@ enum linker_utils_ppc64_rewrite {
     LINKER_UTILS_PPC64_REWRITE_KEEP_ADDIS = 15,
     /* Turns `addis 2,12`, at the entry of a function, into `lis 2,0`. */
     LINKER_UTILS_PPC64_REWRITE_ADDIS_TO_LIS = 16,
-    /* Writes `addi 2,2,0` behind that. The addend is then 0. */
+    /* Writes `addi 2,2,0` after that. The addend is then 0. */
     LINKER_UTILS_PPC64_REWRITE_ADDI_BEHIND_LIS = 17,
     /* Writes `nop` in place of `addis rT,13`. */
     LINKER_UTILS_PPC64_REWRITE_ADDIS_THREAD_TO_NOP = 18,

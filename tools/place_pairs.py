@@ -4,7 +4,7 @@ to, and how both stand."""
 import collections
 
 # Low parts, and the high parts that they may belong to. `+ n`: where the low part follows the high
-# part without another instruction between, if that isn't behind the high part. `label`: its symbol
+# part without another instruction between, if that isn't after the high part. `label`: its symbol
 # is the place of the high part.
 PAIRS = {
     183: """

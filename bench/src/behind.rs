@@ -1,5 +1,5 @@
 // SPDX-License-Identifier: MIT OR Apache-2.0
-//! The original crate behind calls of the same shape: numbers in, the same tests of numbers and of
+//! The original crate after calls of the same shape: numbers in, the same tests of numbers and of
 //! lengths, a status out. No call is inlined.
 
 use crate::direct::original;

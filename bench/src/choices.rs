@@ -360,7 +360,7 @@ fn add_object(object: &[u8], section: &mut Vec<u8>, sites: &mut Vec<Site>) {
     }
 }
 
-/// The objects of an architecture in `examples/objects`, one behind another.
+/// The objects of an architecture in `examples/objects`, one after another.
 fn objects(folder: &str) -> (Vec<u8>, Vec<Site>) {
     let at = concat!(env!("CARGO_MANIFEST_DIR"), "/../../examples/objects/");
     let (mut section, mut sites) = (Vec::new(), Vec::new());

@@ -232,7 +232,7 @@ fn relocations(report: &mut Report, random: &mut Random) {
 }
 
 fn instructions(report: &mut Report, random: &mut Random) {
-    // `auipc` and `jalr`, and each 64 bytes a deletion behind them
+    // `auipc` and `jalr`, and each 64 bytes a deletion after them
     let call = 0x000080e7_00000097_u64.to_le_bytes();
     let fresh: Vec<u8> = (0..CALLS)
         .flat_map(|_| [&call[..], &[0; 56]].concat())
@@ -648,7 +648,7 @@ fn lists(report: &mut Report, random: &mut Random) {
     );
 }
 
-/// The items of such a section of which four bytes behind each call are deleted.
+/// The items of such a section of which four bytes after each call are deleted.
 fn rewritten_beside(
     report: &mut Report,
     machine: u16,

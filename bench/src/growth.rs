@@ -70,7 +70,7 @@ fn rejected_merges(report: &mut Report) {
 fn cascades(report: &mut Report) {
     const REACH: u64 = 1 << 20;
     let site = |k: usize| 2 * REACH + 8 * k as u64;
-    // its target is in reach if its own bytes and those of one call behind it are deleted
+    // its target is in reach if its own bytes and those of one call after it are deleted
     let ahead = |k| Call {
         site: site(k),
         target: site(k) + REACH + 6,

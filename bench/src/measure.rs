@@ -40,7 +40,7 @@ fn own() -> [usize; 2] {
     [usize::from(sathunne::is_proved()), 2]
 }
 
-/// What a program compares: its exports and the original crate behind functions of the same
+/// What a program compares: its exports and the original crate after functions of the same
 /// arguments, then the erased crate and the original one, both called directly.
 pub type Sides<'a> = [Option<Side<'a>>; 4];
 

@@ -45,7 +45,7 @@ const OF_PPC64: [Sequence; 3] = [
     (&[0, 0, 0x62, 0x3c, 0, 0, 0x63, 0xe8], &[(0, 50), (4, 64)]),
 ];
 
-/// A section with its relocations behind it, and what a linker knows of symbols.
+/// A section with its relocations after it, and what a linker knows of symbols.
 struct Input {
     machine: u16,
     bytes: Vec<u8>,
@@ -383,7 +383,7 @@ impl Loads {
     }
 }
 
-/// Calls an export over the loads, which returns 0: its last arguments are those behind the words.
+/// Calls an export over the loads, which returns 0: its last arguments are those after the words.
 macro_rules! call_over {
     ($loads:ident, $output:ident, $export:ident, $($argument:expr),+) => {{
         // SAFETY: a slice's pointer and length are its own, and a reference is of one value.

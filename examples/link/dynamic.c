@@ -155,7 +155,7 @@ static int by_bucket(const void *left, const void *right) {
     return by ? by : strcmp(a->name, b->name);
 }
 
-/* Writes the hashes of the symbols that others may see, behind a word of bits that excludes none,
+/* Writes the hashes of the symbols that others may see, after a word of bits that excludes none,
  * and the first of each bucket. Of the last one of a bucket the hash is odd. */
 static void write_hashes(void) {
     uint32_t head[6] = {buckets_len(), (uint32_t)imports_len, 1, 0, UINT32_MAX, UINT32_MAX};
@@ -240,7 +240,7 @@ static void put_table(const struct output *o, int64_t tag, int64_t size, int64_t
     if (o->len && element) put_entry(element, o->element);
 }
 
-/* An array of functions: with priorities it is several sections, one behind the other. */
+/* An array of functions: with priorities it is several sections, one after the other. */
 static void put_array(int64_t tag, int64_t size, unsigned rank) {
     uint64_t start = 0, end = 0;
     EACH_OUTPUT(o) {
@@ -283,7 +283,7 @@ static void put_entries(void) {
     put_entry(DT_NULL, 0);
 }
 
-/* Makes all that is in the tables but for addresses. */
+/* Makes all that is in the tables except for addresses. */
 void make_dynamic(void) {
     uint8_t path[LINKER_UTILS_NAME_SIZE + 1] = {0};
     size_t used = 0, most = sizeof path - 1;

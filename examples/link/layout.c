@@ -92,7 +92,7 @@ uint32_t add_name(struct output *o, const char *text) {
 }
 
 /* The part of a section into which code of a length goes. Where thunks may be needed another one
- * begins behind so much code as each branch reaches across. */
+ * begins after so much code as each branch reaches across. */
 static struct output *part_for(struct output *o, uint64_t len) {
     struct linker_utils_stub stub;
     while (o->behind) o = o->behind;
@@ -186,7 +186,7 @@ static void skip(struct place *p, uint64_t len) {
     p->high += len;
 }
 
-/* Aligns the next section. Behind code that becomes shorter this is an alignment of the run, with
+/* Aligns the next section. After code that becomes shorter this is an alignment of the run, with
  * as many bytes as it may need. */
 static void align_next(struct place *p, struct output *o, uint64_t align) {
     uint64_t unit = code_unit(), len = round_up(p->low, align) - p->low;
@@ -201,7 +201,7 @@ static void align_next(struct place *p, struct output *o, uint64_t align) {
     p->high = round_up(p->high, align);
 }
 
-/* Puts the next section at its address. Behind code that becomes shorter an alignment comes first,
+/* Puts the next section at its address. After code that becomes shorter an alignment comes first,
  * which ends at one address wherever the code ends. Where there is no room for one, another run
  * begins. */
 static void place_next(struct place *p, struct output *o) {
@@ -216,7 +216,7 @@ static void place_next(struct place *p, struct output *o) {
     skip(p, o->place - p->high);
 }
 
-/* Puts the next section behind those before it. One with other permissions begins a new page, at
+/* Puts the next section after those before it. One with other permissions begins a new page, at
  * the same offset in the page as the one before it ends. The first that isn't protected begins one
  * too. */
 static void place_behind(struct place *p, struct output *o) {
@@ -232,7 +232,7 @@ static void place_behind(struct place *p, struct output *o) {
 }
 
 /* Places the sections, first those that the command line places. Thread-local storage has no gaps
- * but for its alignments. */
+ * except for its alignments. */
 void place_outputs(void) {
     struct place p = {.run = NULL};
     first_tls = NULL;

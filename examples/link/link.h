@@ -42,7 +42,7 @@
 #define MOST_VERSIONS 0x7fff            /* of a library: above is the mark of hidden ones */
 #define END UINT64_MAX                  /* the offset of a section's end, wherever that will be */
 
-/* the order of the sections of the linked file; there are three kinds of arrays, and behind the GOT
+/* the order of the sections of the linked file; there are three kinds of arrays, and after the GOT
  * is what is of addresses as it */
 enum { RANK_HEADERS, RANK_FIXED, RANK_CODE, RANK_TLS, RANK_TLS_BSS, RANK_ARRAYS, RANK_RELOCATED = 8,
        RANK_GOT, RANK_DATA = RANK_GOT + 2, RANK_SMALL_DATA, RANK_BSS };
@@ -70,7 +70,7 @@ enum { RANK_HEADERS, RANK_FIXED, RANK_CODE, RANK_TLS, RANK_TLS_BSS, RANK_ARRAYS,
 #define BYTES_OF(s) (s)->output->bytes + (s)->offset, (s)->len
 #define TABLE_OF(s) (s)->relocations, (s)->relocations_len
 
-/* Sections that are relaxed together, one behind the other from `start` on: all of the linked file,
+/* Sections that are relaxed together, one after the other from `start` on: all of the linked file,
  * as far as the addresses of the command line allow it. Their offsets in it count from before bytes
  * are deleted. */
 struct run {
@@ -102,7 +102,7 @@ struct output {
     struct section *first, *last;        /* of its parts, where it shrinks */
 };
 
-/* An object. Behind its own symbols are those that relocations get, with entries of the GOT for an
+/* An object. After its own symbols are those that relocations get, with entries of the GOT for an
  * addend each, or a thunk. */
 struct object {
     struct object *next, *below; /* and in the stack of those that are being read */
@@ -217,7 +217,7 @@ extern struct library *libraries;    /* in their order */
 extern struct symbol *symbols;       /* all that objects mention, in their order */
 extern struct symbol *module_base;   /* `_TLS_MODULE_BASE_`; null where no object requires it */
 extern struct symbol module;         /* has the entry of the GOT that is the module's, if any */
-extern struct output *outputs[MOST_OUTPUTS + 3]; /* null behind them */
+extern struct output *outputs[MOST_OUTPUTS + 3]; /* null after them */
 extern struct output *headers, *got, *stubs, *slots, *rela, *frames, *index_of;
 /* null where there is none: */
 extern struct output *interpreter, *dynamic, *dynsym, *dynstr, *hash_table, *versym, *verneed;

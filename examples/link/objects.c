@@ -165,7 +165,7 @@ void read_heads(struct object *o, uint16_t type, const char *otherwise) {
     if (type == ET_REL) machine_flags = joined;
 }
 
-/* Reads an object, and puts it behind the others. */
+/* Reads an object, and puts it after the others. */
 static void read_object(const char *path, struct bytes file) {
     struct object *o = take(1, sizeof *o);
     *o = (struct object){.path = path, .bytes = file.at, .len = file.len};
@@ -187,7 +187,7 @@ static void read_object(const char *path, struct bytes file) {
     }
 }
 
-/* What an archive's member has behind its header. */
+/* What an archive's member has after its header. */
 static struct bytes member_at(const struct archive *a, uint64_t offset) {
     const struct ar_hdr *head = (const void *)bytes_at(&a->file, offset, sizeof *head);
     char size[sizeof head->ar_size + 1] = {0}, *end;

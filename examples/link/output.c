@@ -55,7 +55,7 @@ Elf64_Sym symbol_of(const struct symbol *s) {
     return elf;
 }
 
-/* Puts the symbols, if wanted, behind the segments, local ones first, and then the section headers.
+/* Puts the symbols, if wanted, after the segments, local ones first, and then the section headers.
  * Symbols have a name and are in the file. */
 static void put_symbols(uint64_t offset, Elf64_Ehdr *head, bool has_symbols) {
     symbol_table.room = (has_symbols ? symbols_len + 1 : 1) * sizeof(Elf64_Sym);
@@ -81,7 +81,7 @@ static void put_symbols(uint64_t offset, Elf64_Ehdr *head, bool has_symbols) {
     head->e_shstrndx = strings.index;
 }
 
-/* Writes a part of the file, which is behind those before it, with zeros between. */
+/* Writes a part of the file, which is after those before it, with zeros between. */
 static void write_part(FILE *file, uint64_t offset, const void *bytes, uint64_t len) {
     static uint64_t end;
     for (; end < offset; end++) putc(0, file);

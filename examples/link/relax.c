@@ -12,7 +12,7 @@ static uint64_t *stay;
 static size_t *makers, items_len;
 
 /* What the library reads of a relocation: its target, if that is in the same run. Between a
- * symbol in code and what is some bytes behind it code may become shorter. */
+ * symbol in code and what is some bytes after it code may become shorter. */
 static struct linker_utils_rela seen(const struct section *s, const Elf64_Rela *r) {
     const struct symbol *to = symbol_at(s, r);
     const struct output *o = to->is_imported && is_defined(to) ? NULL : to->output;
@@ -31,7 +31,7 @@ static void check_items(const struct section *s, size_t at, uint32_t status) {
     if (status) fail("%s can't be relaxed: %s", s->output->name, linker_utils_status_text(status));
 }
 
-/* Adds the items of a section of code to those of its run, behind the alignment before it. */
+/* Adds the items of a section of code to those of its run, after the alignment before it. */
 static void add_items(struct section *s) {
     static struct linker_utils_rela *relocations; /* of one section after another */
     static size_t room;

@@ -130,7 +130,7 @@ void offer(const char *name, struct archive *a, uint64_t member) {
     if (is_needed(s)) load_member(a, member);
 }
 
-/* Puts a symbol behind the others, once. */
+/* Puts a symbol after the others, once. */
 void list_symbol(struct symbol *s) {
     static struct symbol **end = &symbols;
     if (s->is_listed) return;
@@ -164,8 +164,8 @@ static void define_end(struct output *o, bool is_end) {
     define(name, o, is_end ? END : 0);
 }
 
-/* The functions of runs of code that objects refer to, and those behind them in the run: that of a
- * number goes on to that of the next, and the last one to the instructions behind it. */
+/* The functions of runs of code that objects refer to, and those after them in the run: that of a
+ * number goes on to that of the next, and the last one to the instructions after it. */
 static void define_runs(void) {
     uint8_t prefix[LINKER_UTILS_NAME_SIZE];
     char name[LINKER_UTILS_NAME_SIZE + 16];

@@ -3,7 +3,7 @@
  * does anything but write a file or end with an error and leave none behind.
  *
  * usage: damaged CASES SEED OUTPUT FILE... [-- ARGUMENT...]
- * The arguments behind `--` are given to the linker as they are.
+ * The arguments after `--` are given to the linker as they are.
  * Half of the cases set a field of the header, of a section's header, or of an entry of a section
  * (a symbol, a relocation, a group) to an extreme number, the others change some random bytes. In
  * an archive both do so to a member, or to the index and the members' headers. With -DGUARDED each

@@ -87,7 +87,7 @@ macro_rules! text_of {
 
 impl Relaxation {
     /// The rewrite's number and its count of bytes before the field, which `Architecture::rewrite`
-    /// takes. The count is 0 but for the rewrites of x86-64 that have one.
+    /// takes. The count is 0 except for the rewrites of x86-64 that have one.
     #[must_use]
     #[inline]
     pub fn number(self) -> (u32, u8) {
@@ -362,7 +362,7 @@ impl Architecture {
     /// bytes: `code` is that of the first, and `first` and `second` are their values, S + A. With
     /// `R_RISCV_SET_ULEB128` and `R_RISCV_SUB_ULEB128` it is the difference of both, and with
     /// `R_LARCH_ADD_ULEB128` and `R_LARCH_SUB_ULEB128` the existing number plus that, modulo 2^64.
-    /// Bytes behind the number are unchanged, and it is padded as `utils::write_uleb128` does.
+    /// Bytes after the number are unchanged, and it is padded as `utils::write_uleb128` does.
     ///
     /// ```
     /// use linker_utils::elf::Architecture;

@@ -21,7 +21,7 @@ use std::alloc::{GlobalAlloc, Layout, System};
 use std::cell::Cell;
 use std::ptr::null_mut;
 
-/// The system's allocator, but for one allocation that fails.
+/// The system's allocator, except for one allocation that fails.
 struct FailingOnce;
 
 thread_local! {

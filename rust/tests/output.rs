@@ -496,7 +496,7 @@ fn a_further_architecture_is_a_value() {
         interpreter_flags: 0,
         interpreters: &[],
         instructions: Architecture::RiscV,
-        // `nop` in front, and behind
+        // `nop` in front, and after
         load_stub: Stub {
             head: &[0x13, 0, 0, 0],
             pair: load.pair,
@@ -543,7 +543,7 @@ fn a_further_architecture_is_a_value() {
         (&out[..4], &out[16..]),
         (&[0x13, 0, 0, 0][..], &[0x13, 0, 0, 0][..])
     );
-    // a field behind the pair, and one without a row
+    // a field after the pair, and one without a row
     for (offset, relocation, error) in [
         (9, 23, RelocateError::TooShort),
         (usize::MAX, 23, RelocateError::TooShort),

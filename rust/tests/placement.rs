@@ -20,7 +20,7 @@ impl Random {
 /// What stands one after the other in an output: each of the bytes of stubs at a boundary, and of
 /// the code there.
 struct Laid {
-    /// Where each boundary's stubs begin, and where the code behind them does.
+    /// Where each boundary's stubs begin, and where the code after them does.
     ends: Vec<(u64, u64)>,
 }
 
@@ -143,7 +143,7 @@ fn has_way(code: &Code<'_>, layout: &Layout, branch: &Branch) -> bool {
                 as u64
         };
         if code.boundaries[index] <= branch.offset {
-            // one more stub before the last ones: the branch moves, and they stay behind it
+            // one more stub before the last ones: the branch moves, and they stay after it
             let back = (of(Part::Back) + 1) * code.shape.len;
             if branch_reaches(branch, from - end + back, 0) {
                 return true;

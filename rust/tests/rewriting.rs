@@ -633,7 +633,7 @@ fn branches_of_aarch64_stay_unless_nothing_defines_them() {
     assert_eq!(codes, [283, 0, 0, 282]);
 }
 
-/// 64-Bit ELF V2 ABI, "Function Call": the `nop` behind a call becomes `ld r2,24(r1)` where the callee
+/// 64-Bit ELF V2 ABI, "Function Call": the `nop` after a call becomes `ld r2,24(r1)` where the callee
 /// may have another TOC pointer, through a stub or by `st_other`.
 #[test]
 fn calls_of_ppc64_restore_the_toc_pointer_where_it_may_change() {
@@ -1458,7 +1458,7 @@ fn phases_without_rewrites_list_no_relocation() {
     }
 }
 
-/// auipc a0, %got_pcrel_hi(x); ld a0, %pcrel_lo(label)(a0), with R_RISCV_RELAX behind both, of symbol 1 and
+/// auipc a0, %got_pcrel_hi(x); ld a0, %pcrel_lo(label)(a0), with R_RISCV_RELAX after both, of symbol 1 and
 /// of the label that is symbol 3.
 fn load_by_label() -> Section {
     Section {
@@ -1706,7 +1706,7 @@ fn words_of(symbol: u32) -> Vec<u8> {
 }
 
 /// addis 3,2,.toc@toc@ha and ld 4,.toc@toc@l(3) of the first word, the same of registers 5 and 6 and
-/// the second one, and `last` of the first word, behind the first addis.
+/// the second one, and `last` of the first word, after the first addis.
 fn loads(last: u32, code: u32) -> Section {
     Section {
         bytes: words(&[0x3c62_0000, 0xe883_0000, 0x3ca2_0000, 0xe8c5_0000, last]),
@@ -2028,7 +2028,7 @@ fn parts_near_the_global_pointer_are_apart() {
         assert!(made.is_ok() || entries == before);
         made
     };
-    // lui a0 and lui a1 behind it; and lui a0 with two relocations, of which one instruction of four
+    // lui a0 and lui a1 after it; and lui a0 with two relocations, of which one instruction of four
     // bytes can be deleted once
     let code = words(&[0x0000_0537, 0x0000_05b7]);
     let parts = [(0, 26, 1, true), (4, 26, 1, true)];

@@ -884,7 +884,7 @@ fn rela(offset: u64, code: u32, symbol: u32, addend: i64) -> Rela {
 }
 
 /// What `.p2align` leaves of a section that isn't packed. The offsets and addends are those that
-/// GNU as and llvm-mc wrote, and where what is behind an alignment goes is what ld.lld 19 left.
+/// GNU as and llvm-mc wrote, and where what is after an alignment goes is what ld.lld 19 left.
 #[test]
 fn alignments_that_were_not_packed_hold_or_are_errors() {
     let of = |architecture, at, listed: &[Rela]| {
@@ -987,7 +987,7 @@ fn instructions_are_as_long_as_their_forms() {
         index: 0,
         error: RelocationError::OtherLength,
     });
-    // R_RISCV_JAL at jal ra, and at c.nop with one behind it
+    // R_RISCV_JAL at jal ra, and at c.nop with one after it
     assert_eq!(relocate(RiscV, 17, &[0xef, 0, 0, 0]), Ok(vec![0xef, 0, 0, 1]));
     assert_eq!(relocate(RiscV, 17, &[1, 0, 1, 0]), other);
     // R_RISCV_RVC_JUMP at c.j, and at jal ra

@@ -68,7 +68,7 @@ _start:
     addis 3,3,own@dtprel@ha
     addi 3,3,own@dtprel@l
     lwz 4,own@dtprel@l(3)
-    # the same by prefixed instructions, and a call with a nop behind it
+    # the same by prefixed instructions, and a call with a nop after it
     pld 8,own@got@tprel@pcrel
     add 8,8,own@tls@pcrel
     pld 8,own@got@tprel@pcrel

@@ -81,7 +81,7 @@ static void *take(size_t count, size_t size) {
     return memory;
 }
 
-/* What is known of an object's symbols: sections lie one behind the other. */
+/* What is known of an object's symbols: sections lie one after the other. */
 static void read_object(const char *path) {
     FILE *file = fopen(path, "rb");
     reading = path;
@@ -462,7 +462,7 @@ int main(int count, char **arguments) {
         for (size_t i = 0; i < inputs_len; i++)
             if (inputs[i].machine == machines[m]) of[of_len++] = i;
         expect(of_len > 0, "no section of an architecture");
-        for (size_t i = 0; i < of_len; i++) { /* as they are but for alignments */
+        for (size_t i = 0; i < of_len; i++) { /* as they are except for alignments */
             reading = inputs[of[i]].path;
             struct given it = damaged(&inputs[of[i]], 0);
             whole += relocate(&it) == LINKER_UTILS_OK;

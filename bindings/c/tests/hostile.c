@@ -789,7 +789,7 @@ static struct buffer *symbols(size_t count) {
     return buffer;
 }
 
-/* Relocations, of which some bytes may be behind the last, and often several are at one offset. */
+/* Relocations, of which some bytes may be after the last, and often several are at one offset. */
 static struct buffer *relocations(enum use use, uint16_t machine, size_t section_len,
                                   size_t symbols_len) {
     size_t count = any_count();
@@ -2325,7 +2325,7 @@ static void call_recognise_window(void) {
     finish_with(status, 0 OR(UNKNOWN_ARCHITECTURE) OR(WINDOW_TOO_LONG));
 }
 
-/* Windows that are the same but for a byte or a few that are deleted, or any two. */
+/* Windows that are the same except for a byte or a few that are deleted, or any two. */
 static void call_recognised(bool is_chosen) {
     uint16_t machine = any_machine();
     uint32_t r_type = any_relocation_type();

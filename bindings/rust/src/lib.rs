@@ -522,10 +522,10 @@ pub struct ProvidedSymbol {
 }
 
 /// Functions that compilers call and linkers provide, in one run of code. That with a number n begins
-/// 4 * `spacing` * (n - `first`) bytes behind the run's start.
+/// 4 * `spacing` * (n - `first`) bytes after the run's start.
 #[derive(Debug, Clone, PartialEq, Eq)]
 pub struct ProvidedRun {
-    /// The functions' names without the number, which stands behind it in decimal.
+    /// The functions' names without the number, which stands after it in decimal.
     pub prefix: String,
     /// The least number.
     pub first: u32,
@@ -584,7 +584,7 @@ pub enum Route {
     Stub {
         kind: StubKind,
         /// The offset at which the branch enters the stub. Where that is 0 and `Stub::entry` isn't, the
-        /// stub stores PowerPC64's TOC pointer, and `ld 2,24(1)` has to be in place of the `nop` behind
+        /// stub stores PowerPC64's TOC pointer, and `ld 2,24(1)` has to be in place of the `nop` after
         /// the branch.
         entry: u64,
         /// What the stub goes to, as `write_stub` takes it.

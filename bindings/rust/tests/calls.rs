@@ -1557,7 +1557,7 @@ fn lists_what_is_deleted_among_items() {
 #[test]
 fn relaxes_runs() {
     let call = standard_shapes(ShapesName::RiscVCall);
-    // `jal` reaches even distances from -1048576 to 1048574. The address behind the nops is a multiple
+    // `jal` reaches even distances from -1048576 to 1048574. The address after the nops is a multiple
     // of 16, where the `jal` has 4 bytes and 12 bytes of nops stay.
     let jal = Shape {
         max_backward: 1048576,

@@ -107,7 +107,7 @@ fn linkers_provide_symbols_and_functions() {
 
 #[test]
 fn stubs_go_to_their_targets() {
-    // `jmp *word(%rip)`, and two of `int3`; a byte behind it is left
+    // `jmp *word(%rip)`, and two of `int3`; a byte after it is left
     let mut code = [7; 9];
     assert_eq!(write_stub(X86_64, StubKind::Load, 0x40_1000, 0x40_3010, &mut code), Ok(()));
     assert_eq!(code, [0xff, 0x25, 0x0a, 0x20, 0, 0, 0xcc, 0xcc, 7]);
@@ -181,7 +181,7 @@ fn branches_go_directly_or_by_stubs() {
     // a conditional branch, `b.eq`, goes by none
     let far = route(AARCH64, 280, 0x1800_0000, 0, &[0x5400_0000]);
     assert_eq!(far, Err(Status::OutOfReach));
-    // `bl` of PowerPC64 to a local entry point 8 bytes behind, within 32 MiB and beyond
+    // `bl` of PowerPC64 to a local entry point 8 bytes after, within 32 MiB and beyond
     assert_eq!(route(PPC64, 10, 0x1100_0000, 0x60, &[bl, nop]), Ok(Route::Direct));
     assert_eq!(route(PPC64, 10, 0x1200_0000, 0x60, &[bl, nop]), jump(4, 0x1200_0008));
     // to a function that may leave another TOC pointer

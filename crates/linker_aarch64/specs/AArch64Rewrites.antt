@@ -205,7 +205,7 @@ aarch64_matches kinds.AdrpAddToNopAdr section o = FollowsAdrp IsAdd64 section o
 
 -- AArch64: the rewrite that a linker chooses for a relocation (ELF for the Arm 64-bit Architecture,
 -- "Relocation optimization" and the sequences of thread-local storage; a branch to an undefined
--- weak symbol goes on behind itself). No rewrite moves the place or changes the addend: the
+-- weak symbol goes on after itself). No rewrite moves the place or changes the addend: the
 -- contract of `operands_after` in `choices` says so.
 
 -- ---- the instruction that a relocation's name requires

@@ -119,7 +119,7 @@ module _ (ds : List (ℕ × ℕ)) (base : ℕ) (s packed bytes : List ℕ) (from
             ∙ ap (λ k. get_or s k 0) (omega arith)
       ]
 
--- behind what is filled only deleted positions follow
+-- after what is filled only deleted positions follow
 filled_on : (ds : List (ℕ × ℕ)) (base : ℕ) (s packed : List ℕ) (a b : ℕ) → IsFilledTo ds base s a packed → ((p : ℕ) → a ≤ p → p < b → is_kept ds p ≡ false) → IsFilledTo ds base s b packed
 filled_on ds base s packed a b filled gone p inside low is =
     elim (cases_lt (base + p) a) [

@@ -57,7 +57,7 @@ has_more ds ps i j merged bytes upto disjoint within =
     let second = rw (take-append-drop j ps) at (sum_by-append f (take j ps) (drop j ps)) in
     (omega (arith, upto.size, upto.added_within), omega (arith, upto.sum, sum_by_more f ds i (0, 0) within, first, second, sum_by-append f ds ps, disjoint_fit (ds ++ ps) disjoint))
 
--- one more of the first list is written behind, where it isn't above what comes next of the other
+-- one more of the first list is written after, where it isn't above what comes next of the other
 merged_more : (ds ps : List (ℕ × ℕ)) (i j at : ℕ) (merged : List RelaxDelta) (delta : RelaxDelta) (bytes : ℕ) → IsValid ds → i < length ds → at ≡ i + j → IsMergedUpTo ds ps i j merged bytes
     → deletion_of delta ≡ get_or ds i (0, 0) → (j < length ps → (get_or ds i (0, 0)).0 ≤ (get_or ps j (0, 0)).0) → delta.cumulative_deleted ≡ bytes + (get_or ds i (0, 0)).1 → IsMergedUpTo ds ps (i + 1) j (set merged at delta) delta.cumulative_deleted
 merged_more ds ps i j at merged delta bytes valid within place upto is first sum = record {

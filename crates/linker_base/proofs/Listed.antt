@@ -109,7 +109,7 @@ RecordsDeletions-more ds deltas delta k within listing same sum =
     let more = take_more ds k (0, 0) within in
     rw (more, ← same) (RecordsDeletions-push (take k ds) deltas delta listing (sum ∙ sum_by_more (λ (e : ℕ × ℕ). e.1) ds k (0, 0) within ∙ ap (λ (e : ℕ × ℕ). bytes_of (take k ds) + e.1) (sym same)))
 
--- one more delta, written behind those that are
+-- one more delta, written after those that are
 pub RecordsDeletions-set : (ds : List (ℕ × ℕ)) (deltas : List RelaxDelta) (delta : RelaxDelta) (k : ℕ) → k < length ds → k < length deltas → RecordsDeletions (take k ds) (take k deltas) → deletion_of delta ≡ get_or ds k (0, 0) → delta.cumulative_deleted ≡ bytes_of (take (k + 1) ds) → RecordsDeletions (take (k + 1) ds) (take (k + 1) (set deltas k delta))
 RecordsDeletions-set ds deltas delta k within inside listing same sum = rw (take_more_set deltas k delta inside) (RecordsDeletions-more ds (take k deltas) delta k within listing same sum)
 

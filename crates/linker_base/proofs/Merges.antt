@@ -200,7 +200,7 @@ spends_left start ps old left merged bytes some merging =
     let one : left - 1 + 1 ≡ left = omega arith in
     omega (arith, merging.sum, rw one at (sum_by_more (λ (e : ℕ × ℕ). e.1) ps (left - 1) (0, 0) (omega (arith, merging.left_within))))
 
--- the first i deltas, where they stood, and those behind them list all
+-- the first i deltas, where they stood, and those after them list all
 pub merging_last : (start : List RelaxDelta) (ps : List (ℕ × ℕ)) (i bytes : ℕ) (deltas : List RelaxDelta) → AreValidDeltas start → AreDisjoint (map deletion_of start ++ ps) → IsMerging start ps i 0 deltas bytes → IsSortedUnion (map deletion_of start ++ ps) (map deletion_of deltas) × AreValidDeltas deltas
 merging_last start ps i bytes deltas listed disjoint merging = (union, record { valid = union.valid; listing = record { same = refl; sums = λ k d within. omega (arith, sums.each k d within) } })
   where

@@ -42,7 +42,7 @@ HasOneReading =
     (bytes : List ℕ) (m n : ℕ) (x y : List ℕ) → Uleb bytes m x → Uleb bytes n y → (m ≡ n) × (x ≡ y)
 
 -- the number n stands in place of the one that the bytes began with, in as many bytes, and all
--- bytes behind it are unchanged
+-- bytes after it are unchanged
 pub record IsUlebWritten (before : List ℕ) (n : ℕ) (after : List ℕ) : Type 0 where
   pub old : ℕ
   pub rest : List ℕ

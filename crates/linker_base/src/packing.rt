@@ -88,7 +88,7 @@ fn between(section: &[u8], base: u64, from: u64, to: u64) -> &[u8]
     }
 }
 
-/// Puts bytes at an offset, as far as they fit there, and returns the offset behind them.
+/// Puts bytes at an offset, as far as they fit there, and returns the offset after them.
 #[inline(always)]
 fn put(packed: &mut [u8], at: usize, bytes: &[u8]) -> usize
     requires { at ≤ length packed.old }
@@ -104,7 +104,7 @@ fn put(packed: &mut [u8], at: usize, bytes: &[u8]) -> usize
 }
 
 /// The deltas that begin at the section's base or above, by the index of the first, and the offset
-/// behind what those before it delete, or the base.
+/// after what those before it delete, or the base.
 fn first_run(deltas: &[RelaxDelta], base: u64) -> (usize, u64)
     ensures within { result.0 ≤ length deltas.now }
     ensures first { AreValidDeltas deltas.now

@@ -209,7 +209,7 @@ none_at A (e ∷ es) (suc i) is = none_at A es i (omega (arith, is))
 
 -- ---- the first entry
 
--- from the entry of an index on it is the one behind, or the choice of the index
+-- from the entry of an index on it is the one after, or the choice of the index
 pub behind : {O K R : Type 0} → (A : ChoiceEntry O K R → Type 0) (es : List (ChoiceEntry O K R)) (otherwise c : Choice K R) (i : ℕ)
     → IsChoiceAt A es i None → IsFirstOf A (drop (suc i) es) otherwise c → IsFirstOf A (drop i es) otherwise c
 behind A [] otherwise c zero none later = later

@@ -112,7 +112,7 @@ both_call old new link base back new_back target new_target s t alike one other 
       at_new_target = other.at_target;
     })
 
--- A run of words makes an address, and goes on behind them.
+-- A run of words makes an address, and goes on after them.
 pub record Made (words : List ℕ) (n value behind : ℕ) (s : State) : Type 0 where
   pub end : State
   pub runs : run words s ≡ Some end

@@ -27,7 +27,7 @@ use Rattle.linker_section.specs.declared.relocations.Rela.{Rela}
 use Rattle.linker_utils.specs.declared.architecture.Relaxation.{Relaxation}
 use Rattle.linker_utils.specs.declared.elf.Architecture.TheVariants.{LoongArch64}
 
--- The relocations at two indexes are those of a `pcalau12i` and of the `ld.d` behind it, of one S + A,
+-- The relocations at two indexes are those of a `pcalau12i` and of the `ld.d` after it, of one S + A,
 -- and both are rewritten.
 pub record AreOfLoad (l : Linked) (i j : ℕ) : Type 0 where
   pub page_below : i < count l

@@ -75,7 +75,7 @@ module _ (p : Packed) (is : IsPacked p) (o n : ℕ) (some : 0 < n) (stay : StayT
       let e = ap (rank d) (let far : b + (o + k) ≡ b + o + k = omega arith in far) in
       omega (arith, all, low, e)
 
-  -- and what is behind them goes behind them
+  -- and what is after them goes after them
   pub place_behind : place_of p (o + n) ≡ place_of p o + n
   place_behind =
       let d = p.section.deletions in

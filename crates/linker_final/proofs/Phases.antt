@@ -1,4 +1,4 @@
--- What phases leave alone is the same behind them.
+-- What phases leave alone is the same after them.
 use Rattle.std.proofs.Common.{◌≡◌, ℕ, ◌+◌, ◌-◌, ◌/◌, ◌<◌, ◌≤◌, List, [], ◌∷◌, length, take, drop, get_or, sym, ap, subst, ◌∙◌, arith}
 use Rattle.std.proofs.lemmas.List.{length-take, length-drop, get_or-take, get_or-drop, ext_get_or}
 use Rattle.std.proofs.lemmas.List.Elements.{All-head, All-tail, All-weaker}
@@ -87,7 +87,7 @@ left_alone_is_the_same phases relocations section relocations_last last are i st
       phases_spare phases relocations section relocations_last last are at (none_rewrites phases i start len alone at from less)),
 )
 
--- ---- those behind one
+-- ---- those after one
 
 module _ (l : Linked) (later : ArePhases l.later l.relocations_after l.rewritten l.relocations_last l.last) where
   pub later_as_many : length l.relocations_last ≡ length l.relocations_after
@@ -111,7 +111,7 @@ module _ (l : Linked) (later : ArePhases l.later l.relocations_after l.rewritten
     pub later_bytes : take len (drop start l.last) ≡ take len (drop start l.rewritten)
     later_bytes = same_window start len l.last l.rewritten later_length later_byte
 
--- and behind them values are written
+-- and after them values are written
 module _ (l : Linked) (linked : IsLinked l) where
   pub last_as_many : length l.relocations_last ≡ length l.relocations
   last_as_many = later_as_many l linked.later ∙ linked.as_many

@@ -226,7 +226,7 @@ local_dynamic_anywhere laws = (
 
 module _ (l : Linked) (linked : IsLinked l) (ppc64 : l.setting.architecture ≡ Ppc64) (i : ℕ)
     (below : i < count l) where
-  -- the low half behind a call is applied
+  -- the low half after a call is applied
   pub call_applied : IsMarkAs names.R_PPC64_TPREL16_LO l i → offset_of l i + 4 ≤ length l.section
       → (symbol : Symbol) → slice_get l.symbols (relocation_in l.relocations i).symbol ≡ Some symbol
       → (o : Operands)

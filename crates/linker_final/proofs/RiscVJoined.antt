@@ -272,7 +272,7 @@ module _ (l : Linked) (p : Packed) (joined : IsRewrittenAndPacked l p) (riscv : 
       } in
       subst (λ n. Relocated (Some high_tp.row) y (instruction_at l.rewritten n) (final_instruction p n)) of_add.behind one
 
-  -- the `jalr` is behind it
+  -- the `jalr` is after it
   pub call_behind : place_of p (sequence + 12) ≡ place_of p (sequence + 8) + 4
   call_behind =
       let e : sequence + 12 ≡ sequence + 8 + 4 = omega arith in

@@ -40,7 +40,7 @@ abbrev pub IsAppliedAt : AArch64Relocation → Operands → Linked → ℕ → T
 IsAppliedAt name operands l at =
     IsRelocated name operands (instruction_at l.rewritten at) (instruction_at l.final at)
 
--- Relocations of two names are applied to an instruction and to the one behind it, wherever a GOT
+-- Relocations of two names are applied to an instruction and to the one after it, wherever a GOT
 -- entry is.
 pub record AreAppliedAt (first second : AArch64Relocation) (operands : Operands) (l : Linked)
     (at : ℕ) : Type 0 where

@@ -33,7 +33,7 @@ use Rattle.linker_utils.specs.declared.architecture.Relaxation.{Relaxation}
 use Rattle.linker_utils.specs.declared.architecture.Relaxation.TheVariants as relaxations
 use Rattle.linker_utils.specs.declared.elf.Architecture.TheVariants.{AArch64}
 
--- The relocations at two indexes are of one S + A, and the second is of the instruction behind that
+-- The relocations at two indexes are of one S + A, and the second is of the instruction after that
 -- of the first.
 pub record AreNext (l : Linked) (i j : ℕ) : Type 0 where
   pub first_below : i < count l
@@ -44,7 +44,7 @@ pub record AreNext (l : Linked) (i j : ℕ) : Type 0 where
 
 -- ---- loads of addresses from the GOT
 
--- They are those of an `adrp` and of the `ldr` behind it, and both are rewritten.
+-- They are those of an `adrp` and of the `ldr` after it, and both are rewritten.
 pub record AreOfLoad (l : Linked) (i j : ℕ) : Type 0 where
   pub together : AreNext l i j
   pub page : IsNameOf aarch64_name (relocation_in l.relocations i).code names.R_AARCH64_ADR_GOT_PAGE
@@ -78,7 +78,7 @@ LoadsTheSame l i row =
 
 -- ---- addresses by `adr`
 
--- They are those of an `adrp` and of the `add` behind it. The second is rewritten, which takes the
+-- They are those of an `adrp` and of the `add` after it. The second is rewritten, which takes the
 -- first along.
 pub record AreOfAddress (l : Linked) (i j : ℕ) : Type 0 where
   pub together : AreNext l i j
@@ -200,7 +200,7 @@ LoadsOffset l i row =
 
 -- ---- branches to undefined weak symbols
 
--- A branch that goes on behind itself, by the value of its relocation, does so in the final bytes.
+-- A branch that goes on after itself, by the value of its relocation, does so in the final bytes.
 -- Registers may differ that are named.
 abbrev pub BranchIsAlike : AArch64Relocation → (ℕ → Bool) → Linked → ℕ → Operands → Type 0
 BranchIsAlike name differing l i operands =

@@ -44,7 +44,7 @@ LoadsTwice =
     → IsLeft m o → IsAppliedAt names.R_AARCH64_ADR_PREL_LO21 (behind 4 operands) m (o + 4)
     → LoadIsAlike (record l { final = m.final }) i operands
 
--- They do in the final bytes behind the second call, and behind later ones that leave the pair
+-- They do in the final bytes after the second call, and after later ones that leave the pair
 -- alone, where no other relocation has a field in the `nop`. The symbol isn't an undefined weak
 -- one.
 abbrev pub FinalBytesLoadTheSame : Linked → Linked → ℕ → RelocationKindInfo → Type 0

@@ -98,7 +98,7 @@ pub record LeavesAlone (i start len : ℕ) (p : RewritingPhase) : Type 0 where
   pub kept : Keeps i p
   pub apart : (at : ℕ) → start ≤ at → at < start + len → RewritesNone at p
 
--- What phases leave alone is the same behind them.
+-- What phases leave alone is the same after them.
 abbrev pub LeftAloneIsTheSame : Type 0
 LeftAloneIsTheSame =
     (phases : List RewritingPhase) (relocations section relocations_last last : List ℕ)
@@ -122,7 +122,7 @@ pub record Linked : Type 0 where
   pub decisions : List Decision
   pub relocations_after : List ℕ
   pub rewritten : List ℕ
-  -- the phases behind that one, and what the last of all left
+  -- the phases after that one, and what the last of all left
   pub later : List RewritingPhase
   pub relocations_last : List ℕ
   pub last : List ℕ
@@ -162,7 +162,7 @@ pub record AreRewritten (l : Linked) : Type 0 where
   pub others : OthersStay l.relocations l.decisions l.section l.rewritten (count l)
   pub same_length : length l.rewritten ≡ length l.section
 
--- of what phases were passed and left, and the call that writes values behind them
+-- of what phases were passed and left, and the call that writes values after them
 abbrev pub linked_by : RewritingPhase → List RewritingPhase → List ℕ → List ℕ → Addresses
     → List Symbol → List ℕ → Linked
 linked_by first later relocations_last last addresses symbols final =
@@ -192,7 +192,7 @@ linked setting kept relocations section decisions relocations_after rewritten
     relocations_after rewritten addresses symbols final
 
 -- Phases succeed one after the other, and then values are written. Each phase is one that the laws
--- are about, with those behind it as later ones, and takes what the one before left.
+-- are about, with those after it as later ones, and takes what the one before left.
 abbrev pub AreLinked : List RewritingPhase → List ℕ → List ℕ → List ℕ → List ℕ → Addresses
     → List Symbol → List ℕ → Type 0
 AreLinked [] relocations section relocations_last last addresses symbols final = Unit {0}

@@ -136,7 +136,7 @@ LoadDoesNothing before after =
     (λ u v. HaveGoneOn (with_register 1 c) s t u v × HasDescriptor x u v
     × (read 1 u ≡ loaded 8 s.memory (entry_and_addend x)))
 
--- The `jirl` calls it, and the other run ends as the function returns, each behind its own
+-- The `jirl` calls it, and the other run ends as the function returns, each after its own
 -- instruction.
 abbrev pub CallDoesNothing : List ℕ → List ℕ → Type 0
 CallDoesNothing before after =

@@ -183,7 +183,7 @@ LongLoadedAddressesStay =
 
 -- ---- deleted instructions (thread-local storage)
 
--- The object's run executes an instruction, and the final run nothing: it is behind the instruction
+-- The object's run executes an instruction, and the final run nothing: it is after the instruction
 -- already, since that is deleted.
 
 -- A `lu12i.w` of an offset from the thread pointer of 12 bits puts 0 in its register in the

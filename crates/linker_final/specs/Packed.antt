@@ -193,7 +193,7 @@ abbrev pub site_bytes : Packed → site → List ℕ
 site_bytes p here =
     take (site_len p here) (drop (packed_offset p.section here.offset) p.final)
 
--- the addresses where it goes, the code behind it and its target
+-- the addresses where it goes, the code after it and its target
 abbrev pub site_place : Packed → site → ℕ
 site_place p here = address_of p.section here.offset
 

@@ -170,7 +170,7 @@ GeneralArgumentAnywhere l i chosen =
     ⊎ By kinds.AddiToLd chosen (Becomes names.R_PPC64_GOT_TPREL16_LO_DS l i
     (LoadedArgumentIsAlike l i))
 
--- The relocation of a call becomes one of the instruction behind it, with a name.
+-- The relocation of a call becomes one of the instruction after it, with a name.
 abbrev pub IsMarkAs : Ppc64Relocation → Linked → ℕ → Type 0
 IsMarkAs name l i =
     relocation_in l.relocations_after i ≡ named_behind name (relocation_in l.relocations i)
@@ -179,7 +179,7 @@ IsMarkAs name l i =
 abbrev pub IsCallLeft : Linked → ℕ → Type 0
 IsCallLeft l i = IsLeft l (offset_of l i) × IsLeft l (offset_of l i + 4)
 
--- They have a `nop`, and behind it an instruction with a low half.
+-- They have a `nop`, and after it an instruction with a low half.
 abbrev pub IsCallApplied : Operands → Linked → ℕ → Type 0
 IsCallApplied o l i =
     IsLeft l (offset_of l i)

@@ -315,7 +315,7 @@ ThreadArgumentIsAlike l i o =
 
 -- ---- calls of `__tls_get_addr`
 
--- the final instructions at a call and behind it
+-- the final instructions at a call and after it
 abbrev pub final_call : Linked → ℕ → List ℕ
 final_call l i = two (final l i) (instruction_at l.final (offset_of l i + 4))
 
@@ -345,7 +345,7 @@ CallToBlockIsAlike l i =
     (f : Formats) (s t : State)
     → CallIsAlike (sum_64 (s.registers 13) 0x1000) (λ n. n ≡ sum_64 (s.registers 13) 0) l i f s t
 
--- It holds where no other relocation has a field in the instruction behind the call.
+-- It holds where no other relocation has a field in the instruction after the call.
 abbrev pub IfAloneBehind : Linked → ℕ → Type 0 → Type 0
 IfAloneBehind l i Holds = IsWrittenByNoOther l i (offset_of l i + 4) → Holds
 

@@ -207,11 +207,11 @@ NearArgumentDoesTheSame l m i o =
     → IsRelocated names.R_PPC64_GOT_TLSGD16 o (object l i) addi
     → NopInPlace l m i o f s t c addi o.got_entry
 
--- The final instructions at a call of the object and behind it.
+-- The final instructions at a call of the object and after it.
 abbrev pub final_at_call : Linked → Linked → ℕ → List ℕ
 final_at_call l m i = two (instruction_at m.final (offset_of l i)) (final m i)
 
--- The call and the `nop` behind it became `nop` and `addi 3,3`, and then `nop` and `addi 3,13`. In
+-- The call and the `nop` after it became `nop` and `addi 3,3`, and then `nop` and `addi 3,13`. In
 -- the object's run register 3 has the entry's address, and in the final one any number.
 abbrev pub CallDoesTheSame : Linked → Linked → ℕ → Operands → Type 0
 CallDoesTheSame l m i o =
@@ -250,7 +250,7 @@ NearArgumentsTwice =
 
 -- ---- in the final bytes
 
--- In the final bytes behind the second call, and behind later ones that leave so many bytes from a
+-- In the final bytes after the second call, and after later ones that leave so many bytes from a
 -- start on alone, it holds of the operands that the formula of a name has, wherever a GOT entry is.
 abbrev pub ForFinalOperands : ℕ → ℕ → Ppc64Relocation → Linked → Linked → ℕ → (Operands → Type 0)
     → Type 0

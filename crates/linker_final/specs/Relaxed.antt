@@ -52,7 +52,7 @@ Holds alignment address padding =
 -- ---- in the final section
 
 -- the address where the first nop of an alignment goes, how many bytes of them stay, and the
--- address where the code behind them goes
+-- address where the code after them goes
 abbrev pub padding_at : Packed → Alignment → ℕ
 padding_at p alignment = address_of p.section alignment.offset
 
@@ -69,13 +69,13 @@ padding_index p alignment = packed_offset p.section alignment.offset
 abbrev pub code_index : Packed → Alignment → ℕ
 code_index p alignment = packed_offset p.section (end_of (Aligned alignment))
 
--- The code behind an alignment is of the section, or begins where the section ends. That of an
+-- The code after an alignment is of the section, or begins where the section ends. That of an
 -- alignment between two sections begins where the second one does.
 pub record LeadsInto (p : Packed) (alignment : Alignment) : Type 0 where
   pub lower : p.section.base ≤ end_of (Aligned alignment)
   pub upper : end_of (Aligned alignment) ≤ p.section.base + length p.section.bytes
 
--- An alignment has the padding that it requires where that goes. The code behind it goes next to
+-- An alignment has the padding that it requires where that goes. The code after it goes next to
 -- that, and is in the final section at this address.
 pub record HoldsIn (p : Packed) (alignment : Alignment) : Type 0 where
   pub holds : Holds alignment (padding_at p alignment) (padding_len p alignment)
@@ -86,7 +86,7 @@ pub record HoldsIn (p : Packed) (alignment : Alignment) : Type 0 where
   pub next_there : p.section.base ≤ alignment.offset
       → code_index p alignment ≡ padding_index p alignment + padding_len p alignment
 
--- Each alignment of the run holds in the final section: the code behind it is at a multiple of the
+-- Each alignment of the run holds in the final section: the code after it is at a multiple of the
 -- alignment, and its padding is the least that leads there, or none where the limit is passed. It
 -- may be one of the items that `pack_run` was passed, whose padding is nops (`PaddingIsNops`). One
 -- that loses no bytes may be left out there.

@@ -43,7 +43,7 @@ final_operands p i row symbol =
 
 -- ---- loads of addresses from the GOT
 
--- The relocations at two indexes are those of an `auipc` and of the `ld` behind it, which both are
+-- The relocations at two indexes are those of an `auipc` and of the `ld` after it, which both are
 -- rewritten, and stay then. In the final section the symbol of the second labels the `auipc`.
 pub record AreOfFinalLoad (l : Linked) (p : Packed) (i j : ℕ) : Type 0 where
   pub pair : AreOfPair l i j

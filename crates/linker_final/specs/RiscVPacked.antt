@@ -42,7 +42,7 @@ abbrev pub IsOfCall : RiscVRelocation → Type 0
 IsOfCall name = (name ≡ names.R_RISCV_CALL) ⊎ (name ≡ names.R_RISCV_CALL_PLT)
 
 -- Each hart is at the target of its layout. They are alike but for the register of the `auipc` and
--- the link register, which has the address behind the call.
+-- the link register, which has the address after the call.
 pub record HaveCalled (base link target back new_target new_back : ℕ) (a b : Hart) : Type 0 where
   pub alike : AreAlike (λ r. r == base || r == link) a b
   pub at_target : a.pc ≡ target
@@ -103,7 +103,7 @@ LongCallsStay =
 
 -- ---- deleted instructions (psABI, "Zero-page Relaxation"; thread-local storage)
 
--- The object's run executes an instruction, and the final run nothing: it is behind the instruction
+-- The object's run executes an instruction, and the final run nothing: it is after the instruction
 -- already, since that is deleted.
 
 -- A `lui` of a number of 12 bits, or of an offset from the thread pointer of 12 bits, puts 0 in its

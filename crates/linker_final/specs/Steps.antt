@@ -33,7 +33,7 @@ abbrev pub at : ℕ
 at = 102
 
 -- A row: its own number, the instruction, the numbers before that aren't made of the row's, and the
--- numbers after that aren't as before, each behind its place.
+-- numbers after that aren't as before, each after its place.
 pub record Executed : Type 0 where
   pub row : ℕ
   pub code : ℕ
@@ -141,7 +141,7 @@ are_bytes length start number memory =
 
 -- Of a row, by the numbers before, and an instruction of so many bytes: each of so many registers,
 -- the memory and the flags are as the row leaves them, or else as before. The next address is the
--- one that the row leaves, or else that behind the instruction.
+-- one that the row leaves, or else that after the instruction.
 abbrev pub is_left : ℕ → ℕ → ℕ → Executed → Numbers → Numbers → ℕ → Numbers → ℕ → Bool
 is_left registers bytes mask e numbers register next memory flags_after =
     let start = numbers at in

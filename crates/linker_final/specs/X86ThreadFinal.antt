@@ -33,7 +33,7 @@ use Rattle.linker_utils.specs.declared.architecture.Relaxation.TheVariants as re
 use Rattle.linker_utils.specs.declared.elf.Architecture.TheVariants.{X86_64}
 use Rattle.linker_x86_64.specs.declared.rewrites.RelaxationKind.TheVariants as kinds
 
--- the object's bytes from so many before an offset to so many behind it, in their place in the
+-- the object's bytes from so many before an offset to so many after it, in their place in the
 -- final section
 abbrev pub object_in : Linked → ℕ → ℕ → ℕ → List ℕ
 object_in l o back end = put_back (o - back) (back + end) l.section l.final

@@ -43,7 +43,7 @@ pub fn loongarch64()
 
 /// PowerPC64: displacements, also those in units of 4 and 16 bytes, branches, `paddi`, `ori` and
 /// `oris`, `addis` with `addi` or `ori`, and numbers of 64 bits by five instructions; and what the
-/// instructions of `linker_laws` do, but for `stfs` of a number that is too small for single
+/// instructions of `linker_laws` do, except for `stfs` of a number that is too small for single
 /// precision; and those of stubs, which move the link and the count register, of lazy PLTs, and of
 /// functions that save registers.
 pub fn ppc64()

@@ -24,7 +24,7 @@ pub fn others()
     ensures fields { final_bytes.OtherFields }
 {}
 
-/// All architectures: what phases leave alone is the same behind them, a relocation and bytes. So
+/// All architectures: what phases leave alone is the same after them, a relocation and bytes. So
 /// where earlier phases do, what a law says of what its phase takes, it says of the object's.
 pub fn phases()
     ensures { final_bytes.LeftAloneIsTheSame }
@@ -39,7 +39,7 @@ pub fn phases()
 /// thread pointer, and the offsets that became offsets from it lead from there to the same
 /// addresses. The `lea` of a descriptor's address, into any register, and the call of its function
 /// have a law each, of two runs, whatever stands between them: the variable's offset is in rax
-/// behind the call in both.
+/// after the call in both.
 pub fn x86_64()
     ensures got_operands { x86_64_final.GotOperands }
     ensures general_dynamic { x86_64_threads.GeneralDynamic }
@@ -137,7 +137,7 @@ pub fn loongarch64()
 }
 
 /// PowerPC64: rewritten instructions do in the final bytes what the object's do. They are each
-/// `nop` behind a call that restores the TOC pointer, each high and low half of an address near the
+/// `nop` after a call that restores the TOC pointer, each high and low half of an address near the
 /// TOC pointer and near the thread pointer, each instruction of initial-exec, of general-dynamic
 /// and of local-dynamic TLS, also of prefixed code, and each load of an address from the GOT that
 /// became a sum. The clauses named `anywhere` are of a call of rewriting alone, as those of AArch64

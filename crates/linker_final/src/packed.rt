@@ -208,7 +208,7 @@ pub fn shorter_sections()
 /// where its target goes, as the object's call does in its own layout. So does a call that stays as
 /// it is, by the value of its relocation. Other jumps and branches go where their relocation's
 /// formula says. Where a `lui` of 12 bits or an `add` of the thread
-/// pointer is deleted, the object's run executes it, and the final run does nothing: it is behind
+/// pointer is deleted, the object's run executes it, and the final run does nothing: it is after
 /// it already.
 pub fn shorter_riscv64()
     ensures sites { riscv_packed.SitesCallTheSame }
@@ -243,7 +243,7 @@ pub fn joined_riscv64()
 /// they are, by the values of their relocations. Branches go where their relocation's formula says.
 /// Where a `lu12i.w` of 12 bits or an `add.d` of the
 /// thread pointer is deleted, the object's run executes it, and the final run does nothing: it is
-/// behind it already.
+/// after it already.
 pub fn shorter_loongarch64()
     ensures calls { loongarch_packed.CallsTheSame }
     ensures addresses { loongarch_packed.AddressesAreMade }

@@ -84,7 +84,7 @@ pub fn link_section(
 pub enum PhaseError {
     /// Its instructions aren't rewritten before addresses are known.
     First(RewritingError),
-    /// They are, but aren't in the phase behind that.
+    /// They are, but aren't in the phase after that.
     Second(RewritingError),
     /// They are in both, but its values aren't written.
     Writing(WritingError),

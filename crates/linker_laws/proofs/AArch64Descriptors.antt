@@ -114,7 +114,7 @@ leaves a b nop nop2 s u v first second third fourth =
 twice_other : (b : Bool) (u v r : ℕ) → b ≡ false → cond b v (cond b u r) ≡ r
 twice_other b u v r h = cond-false b v (cond b u r) h ∙ cond-false b u r h
 
--- Behind the call the states are alike.
+-- After the call the states are alike.
 pub behind_call : (call : State → Option State) (changes : Changes) (o : Operands) (s : State)
     (adrp ldr add blr : List ℕ) (t : ℕ) (old : List ℕ) (a b nop nop2 : ℕ) (u v : ℕ)
     → Descriptor call changes o s adrp ldr add blr

@@ -41,7 +41,7 @@ back_word (a ∷ b ∷ []) = refl
 back_word (a ∷ b ∷ c ∷ []) = refl
 back_word (a ∷ b ∷ c ∷ d ∷ xs) = front_word xs
 
--- the words of `nop` and of what stands behind it
+-- the words of `nop` and of what stands after it
 first_word : (r : ℕ) → r < 2 ^ 32 → word_of (to_le_bytes w64 (nop + r * 2 ^ 32)) ≡ nop
 first_word r small = omega arith
 

@@ -227,7 +227,7 @@ module _ (prefixes : relocation_laws.Prefixes) where
 
 -- ---- calls
 
--- Behind a word in place of the call register 3 has the number that the function returns.
+-- After a word in place of the call register 3 has the number that the function returns.
 branch_so : (f : Formats) (call : State → Option State) (changes c : Changes) (number other : ℕ) (s t w : State)
     (bl new : List ℕ) → AgreeBut c s t → laws.IsBranch call changes number other s t bl
     → step f (word_of new) t ≡ Some w → w.registers 3 ≡ number

@@ -244,7 +244,7 @@ front (p ∷ q ∷ []) rest e = absurd (omega (arith, e))
 front (p ∷ q ∷ r ∷ []) rest e = absurd (omega (arith, e))
 front (p ∷ q ∷ r ∷ s ∷ more) rest e = refl
 
--- an instruction of four bytes, with more behind it
+-- an instruction of four bytes, with more after it
 steps_in : (code : List ℕ) (start k : ℕ) (bytes rest : List ℕ) (i : Instruction) (h : Hart) → difference_64 h.pc start ≡ k
     → drop k code ≡ bytes ++ rest → length bytes ≡ 4 → field (from_le_bytes w32 bytes) 0 2 ≡ 3 → of_word (from_le_bytes w32 bytes) ≡ Some i
     → Steps code start h (executed 4 i h)

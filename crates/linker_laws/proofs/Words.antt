@@ -53,7 +53,7 @@ pub half_of_bytes : (n : ℕ) (rest : List ℕ) → n < 2 ^ 16
     → from_le_bytes w16 (to_le_bytes w16 n ++ rest) ≡ n
 half_of_bytes n rest h = from_le_bytes-to_le_bytes_2 n h
 
--- what stands at o after k bytes were written there and n behind them deleted
+-- what stands at o after k bytes were written there and n after them deleted
 pub left_there : (s ys rest : List ℕ) (o k n : ℕ) → o ≤ length s → length ys ≡ k
     → drop o (deleted n (o + k) (take o s ++ ys ++ rest))
     ≡ ys ++ drop (o + k + n) (take o s ++ ys ++ rest)
@@ -67,7 +67,7 @@ left_there s ys rest o k n inside len =
     ∙ ap (drop o) (append_assoc (take o s) ys whole)
     ∙ drop_at (take o s) (ys ++ whole) o front
 
--- what a rewrite puts at o, before n bytes behind it are deleted
+-- what a rewrite puts at o, before n bytes after it are deleted
 pub rewritten_there : (s : List ℕ) (o len k n : ℕ) (bytes : List ℕ → List ℕ) → o ≤ length s
     → length (bytes (take len (drop o s))) ≡ k
     → drop o (deleted n (o + k) (rewritten (Some (replaces 0 len bytes)) s o))

@@ -43,7 +43,7 @@ wide_rex2 p small h =
     (below 256 (λ p. not (eqb (bit_and p 0xbb) 0x08) || (eqb (bit_and p 0xb3) 0 && eqb (bit_at p 3) 1)) refl p small) h) in
     (both.0, eqb-true (bit_at p 3) 1 both.1)
 
--- the `lea` behind REX, of 64 bits
+-- the `lea` after REX, of 64 bits
 record IsLea (d : List ℕ) : Type 0 where
   pub prefix : ℕ
   pub modrm : ℕ
@@ -70,7 +70,7 @@ lea_there (p ∷ rest) bytes h =
       relative = after.relative;
     }
 
--- the same behind REX2
+-- the same after REX2
 record IsLea2 (d : List ℕ) : Type 0 where
   pub prefix : ℕ
   pub modrm : ℕ
@@ -184,7 +184,7 @@ module _ (n : ℕ) (few : n < 8) (section : List ℕ) (o : ℕ) (operands : Oper
       (lea_step old (n + 4) r bits f s wide was) is
       (both_put (n + 4) r x y operands s t c alike address offset_there)
 
--- ---- the `lea` behind REX
+-- ---- the `lea` after REX
 
 pub local_exec : LeaToOffset 3 names.R_X86_64_GOTPC32_TLSDESC reg_after_rex
 local_exec section old new o operands s t c before there matches alike any was is =
@@ -230,7 +230,7 @@ initial_exec entry small section old new o operands s t c before there matches a
     (ap decode codes.1 ∙ after_rex_byte p (0x8b ∷ m ∷ is.rest) code.is_rex.is ∙ from_relative (rex_prefix p) 0x8b m is.rest code.relative))
     (ap (load 8 t) leads ∙ holds))
 
--- ---- the `lea` behind REX2
+-- ---- the `lea` after REX2
 
 pub rex2_local_exec : LeaToOffset 4 names.R_X86_64_CODE_4_GOTPC32_TLSDESC reg_after_rex2
 rex2_local_exec section old new o operands s t c before there matches alike any was is =

@@ -51,7 +51,7 @@ put_bytes = load_bytes 0x8d 0x80 ++ 0 ∷ 0 ∷ 0 ∷ 0 ∷ nop_bytes
 twenty_two : (ip : ℕ) → sum_64 (sum_64 ip 7) 15 ≡ sum_64 (sum_64 (sum_64 ip 9) 7) 6
 twenty_two ip = omega arith
 
--- behind the field of 4 bytes
+-- after the field of 4 bytes
 behind : (section d : List ℕ) (o : ℕ) → 3 ≤ o → drop (o - 3) section ≡ plain_lea_bytes ++ d
     → drop 4 (drop (o + 9) (rewritten (x86_64_rewrite kinds.TlsGdToLocalExecLarge) section o))
     ≡ nop_bytes ++ drop 22 (drop (o - 3) section)

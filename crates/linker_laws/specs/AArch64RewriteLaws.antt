@@ -246,7 +246,7 @@ LdrMadeAdr =
 -- linker and the allocator keep for themselves.
 
 -- The registers that the sequence of a descriptor leaves with no value that code may use: XT has
--- the function's address, X30 that of the instruction behind the call, and the function may change
+-- the function's address, X30 that of the instruction after the call, and the function may change
 -- others. X0 isn't one of them: it has the offset.
 abbrev pub is_scratch : ℕ → (ℕ → Bool) → ℕ → Bool
 is_scratch t changed n = if n == 0 then false else (n == t || (n == 30 || changed n))
@@ -327,7 +327,7 @@ DescriptorToInitialExec =
 
 -- ---- branches to undefined weak symbols
 
--- A branch to such a symbol goes on behind it: L + A is the address there. In its place `nop` does
+-- A branch to such a symbol goes on after it: L + A is the address there. In its place `nop` does
 -- the same, but that `bl` also writes that address to X30.
 abbrev pub BranchToNop : AArch64Relocation → (ℕ → Bool) → (ℕ → Bool) → Type 0
 BranchToNop name is_branch differing =

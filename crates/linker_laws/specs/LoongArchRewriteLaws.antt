@@ -229,7 +229,7 @@ LowHalfToOriZero =
 
 -- ---- an address by `pcaddi`
 
--- Where the second instruction is deleted, the code behind it and the symbol may be elsewhere: `x`
+-- Where the second instruction is deleted, the code after it and the symbol may be elsewhere: `x`
 -- are the operands in the old layout, and `y` those in the new one.
 abbrev pub AddressToPcaddi : Type 0
 AddressToPcaddi =
@@ -282,7 +282,7 @@ EntriesToPcaddi =
 -- ---- calls
 
 -- Each state is at the target of its layout. They are alike but for the register of the `pcaddu18i`
--- and the link register, which has the address behind the call.
+-- and the link register, which has the address after the call.
 pub record HaveCalled (link base back new_back target new_target : ℕ) (s t : State) : Type 0 where
   pub alike : AreAlikeBut (λ m. m == link || m == base) s t
   pub links : link ≢ 0 → read link s ≡ back
@@ -330,7 +330,7 @@ pub record IsLocalExec (lu12i add low : ℕ) : Type 0 where
   pub stores_other :
       StoresTheSame (action_of (low / 2 ^ 22)) (is_either (rd_of lu12i) (rd_of add)) (rd_of low)
 
--- Each state is behind its instructions.
+-- Each state is after its instructions.
 pub record HaveShortened (differing : ℕ → Bool) (at new_at : ℕ) (s t : State) : Type 0 where
   pub alike : AreAlikeBut differing s t
   pub next : s.pc ≡ at
@@ -341,7 +341,7 @@ pub record HaveShortened (differing : ℕ → Bool) (at new_at : ℕ) (s t : Sta
 -- address. What else runs between them is the same instruction in both. The number of a register
 -- that differs is known in the object's run, and is any in the new one.
 
--- The object's run has put a number in a register, and is behind its instruction. The other state
+-- The object's run has put a number in a register, and is after its instruction. The other state
 -- is that of the new run, in which the instruction is deleted.
 pub record HasPut (differing : ℕ → Bool) (n number behind : ℕ) (u t : State) : Type 0 where
   pub alike : AreAlikeBut (also n differing) u t
@@ -478,8 +478,8 @@ pub record Descriptor (call : State → Option State) (c : Changes) (o : Operand
       → u.pc ≡ loaded 8 s.memory (entry_and_addend o) → read 4 u ≡ entry_and_addend o
       → call u ≡ Some v → ReturnsOffset c (thread_offset o) u v
 
--- What differs behind the call of a function that may change c, where d differed before it: not
--- `a0`, which has the offset, but `ra`, which has the address behind the call.
+-- What differs after the call of a function that may change c, where d differed before it: not
+-- `a0`, which has the offset, but `ra`, which has the address after the call.
 abbrev pub is_scratch : Changes → Changes → ℕ → Bool
 is_scratch c d n =
     if n == 4 then false else (n == 1 || (c.registers n || d.registers n))

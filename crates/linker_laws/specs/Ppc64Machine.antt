@@ -216,7 +216,7 @@ step_prefixed f both s =
 
 -- ---- sequences
 
--- on behind some instructions
+-- on after some instructions
 abbrev pub gone_on : List ℕ → State → State
 gone_on [] s = s
 gone_on (word ∷ words) s = gone_on words (go_on s)

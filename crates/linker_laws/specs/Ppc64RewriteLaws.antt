@@ -111,7 +111,7 @@ InitialExecToLocalExec =
     (λ n. (n == rt_of (word_of addis) || n == rt_of (word_of ld)) && not (n == rt_of (word_of add)))
     (three addis_of_entry ld_of_entry add) (three blank addis_of_symbol addi_of_symbol) s
 
--- Instructions of initial-exec behind which one accesses the variable; x and y are the registers
+-- Instructions of initial-exec after which one accesses the variable; x and y are the registers
 -- that the `addis` and the `ld` write.
 pub record IsThreadAccess (test : ℕ → Bool) (o : Operands) (s : State) (addis ld indexed : List ℕ)
     : Type 0 where
@@ -312,7 +312,7 @@ pub record IsTlsCall (call : State → Option State) (c : Changes) (number : ℕ
 abbrev pub four : List ℕ → List ℕ → List ℕ → List ℕ → List ℕ
 four a b c d = word_of a ∷ word_of b ∷ word_of c ∷ word_of d ∷ []
 
--- The old sequence ends in a call, which returns to one more instruction. The new one ends behind
+-- The old sequence ends in a call, which returns to one more instruction. The new one ends after
 -- that.
 abbrev pub RunAlikeBehindCall : Formats → (State → Option State) → Changes → List ℕ → ℕ → List ℕ
     → State → Type 0
@@ -489,7 +489,7 @@ NearArgumentToInitialExec =
     → Leaves f (only (rt_of (word_of addi))) (one ld_of_entry) s (rt_of (word_of addi))
     (CallAddsThread f o made s)
 
--- `ld rT,rX` of it in place of `addi rT,rX`, behind `addis rX,2`.
+-- `ld rT,rX` of it in place of `addi rT,rX`, after `addis rX,2`.
 abbrev pub ArgumentToInitialExec : Type 0
 ArgumentToInitialExec =
     (f : Formats) (o : Operands) (s : State) (addis addi bl ld made : List ℕ)

@@ -80,7 +80,7 @@ Execution =
     × ((executed 4 (sums (stores 1) 0 1 3 (pos 0x10)) some_hart).memory 0x110 ≡ 0x00)
     × ((executed 4 (sums (stores 1) 0 1 3 (pos 0x10)) some_hart).memory 0x111 ≡ 0x03)
     × ((executed 4 (sums (stores 1) 0 1 3 (pos 0x10)) some_hart).memory 0x112 ≡ 0x12)
-    -- `jalr` adds to the old register, clears bit 0 and links what is behind it
+    -- `jalr` adds to the old register, clears bit 0 and links what is after it
     × ((executed 4 (sums jumps 1 1 0 (pos 0x11)) some_hart).pc ≡ 0x110)
     × Leaves (sums jumps 1 1 0 (pos 0x11)) 1 0x1004
     -- `flw` sets the bits above a float

@@ -42,7 +42,7 @@ with_float rd number h = record h { floats = with_number rd number h.floats }
 abbrev pub goes_to : ℕ → Hart → Hart
 goes_to address h = record h { pc = address }
 
--- on behind an instruction of n bytes
+-- on after an instruction of n bytes
 abbrev pub goes_on : ℕ → Hart → Hart
 goes_on n h = goes_to (sum_64 h.pc n) h
 

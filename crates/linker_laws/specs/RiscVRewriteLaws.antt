@@ -60,7 +60,7 @@ after_rewrite kind section o = rewritten (riscv_rewrite kind) section o
 -- ---- calls (psABI, "Function Call Relaxation")
 
 -- Each hart is at the target of its layout. They are alike but for the link register, which has the
--- address behind the call.
+-- address after the call.
 pub record AreCalled (rd target back new_target new_back : ℕ) (a b : Hart) : Type 0 where
   pub alike : AreAlike (λ r. r == rd) a b
   pub at_target : a.pc ≡ target
@@ -114,7 +114,7 @@ pub record HaveJumped (scratch target new_target : ℕ) (a b : Hart) : Type 0 wh
   pub at_new_target : b.pc ≡ new_target
 
 -- A tail call leaves a part of the address in the register of its `auipc`; the jump that it becomes
--- does not. `n` bytes of the jump stay, and `less` are deleted behind them.
+-- does not. `n` bytes of the jump stay, and `less` are deleted after them.
 abbrev pub TailCallBecomes : RiscVRelocation → RelaxationKind → RiscVRelocation → ℕ → ℕ → Type 0
 TailCallBecomes name kind new_name n less =
     (section : List ℕ) (o : ℕ) → riscv_matches kind section o
@@ -153,7 +153,7 @@ IsLow12 x = IsWithin (Some low_12_bounds) (symbol_and_addend x)
 abbrev pub HaveOneTarget : Operands → Operands → Type 0
 HaveOneTarget x y = symbol_address x ≡ symbol_address y
 
--- The two are alike but for some registers, and behind their instructions.
+-- The two are alike but for some registers, and after their instructions.
 pub record HaveGoneOn (differs : ℕ → Bool) (at new_at : ℕ) (a b : Hart) : Type 0 where
   pub alike : AreAlike differs a b
   pub next : a.pc ≡ at
@@ -218,8 +218,8 @@ differs_after (stores f) differs rd r = differs r
 differs_after (loads_float f) differs rd r = differs r
 differs_after (stores_float f) differs rd r = differs r
 
--- where the two go on: behind their instructions, or at the target of `jalr`, with the address
--- behind it in the link register
+-- where the two go on: after their instructions, or at the target of `jalr`, with the address
+-- after it in the link register
 abbrev pub GoOn : Action → ℕ → ℕ → ℕ → ℕ → Hart → Hart → Type 0
 GoOn jumps rd target at new_at a b =
     (a.pc ≡ target) × (b.pc ≡ target)
@@ -263,7 +263,7 @@ abbrev pub StoresAnother : Action → ℕ → ℕ → Type 0
 StoresAnother (stores f) rs1 rs2 = rs2 ≢ rs1
 StoresAnother action rs1 rs2 = ⊤
 
--- A `lui` with the instruction behind it that adds its low part, and that instruction alone with x0
+-- A `lui` with the instruction after it that adds its low part, and that instruction alone with x0
 -- as its base, once the `lui` is deleted.
 abbrev pub AloneFromZero : List ℕ → ℕ → Action → Type 0
 AloneFromZero section o action =
@@ -357,7 +357,7 @@ LowPartFromThreadPointer =
     (section : List ℕ) (o : ℕ) → riscv_matches kinds.BaseToTp section o
     → IsSomeAnd (action_at section o) (FromThreadPointer section o)
 
--- `lui rA`, `add rB, rA, tp`, and an instruction over rB that `BaseToTp` is meant for, one behind
+-- `lui rA`, `add rB, rA, tp`, and an instruction over rB that `BaseToTp` is meant for, one after
 -- the other from an offset on. rA isn't the thread pointer.
 pub record IsLocalExec (section : List ℕ) (o : ℕ) : Type 0 where
   pub first : HasWord section o IsLui
@@ -484,11 +484,11 @@ pub record DescriptorOf (x : Operands) (auipc ld addi auipc_of ld_of addi_of : L
       Relocated ((riscv_relocation names.R_RISCV_TLSDESC_ADD_LO12).row) x addi addi_of
 
 -- The registers that the sequence leaves with no value that code may use: rX and rY, `t0`, which
--- has the address behind the call, and those that the function may change. `a0` has the offset.
+-- has the address after the call, and those that the function may change. `a0` has the offset.
 abbrev pub is_scratch : ℕ → ℕ → (ℕ → Bool) → ℕ → Bool
 is_scratch x y changed r = if r == a0 then false else (r == t0 || r == x || r == y || changed r)
 
--- Both go on behind their instructions.
+-- Both go on after their instructions.
 pub record HaveReturned (c : Changes) (at new_at : ℕ) (a b : Hart) : Type 0 where
   pub alike : AgreeBut c a b
   pub next : a.pc ≡ at
@@ -502,7 +502,7 @@ EndAsReturned call c original h n new k =
     (λ u w. (v : Hart) → call u ≡ Some v
     → HaveReturned c (sum_64 h.pc 16) (sum_64 k.pc (4 * n)) v w)
 
--- what may differ behind a sequence
+-- what may differ after a sequence
 abbrev pub scratch_of : List ℕ → List ℕ → Changes → Changes
 scratch_of auipc ld c =
     record c { registers = is_scratch (rd_of (word_of auipc)) (rd_of (word_of ld)) c.registers }

@@ -557,7 +557,7 @@ run_decoded others (Some d) bytes s =
     if is_branch d.instruction then None
     else others (drop d.size bytes) (execute d.instruction (sum_64 s.ip d.size) s)
 
--- the state after so many instructions, each behind the one before it; none where one is a branch
+-- the state after so many instructions, each after the one before it; none where one is a branch
 abbrev pub run : ℕ → List ℕ → State → Option State
 run zero bytes s = Some s
 run (suc n) bytes s = run_decoded (run n) (decode bytes) bytes s

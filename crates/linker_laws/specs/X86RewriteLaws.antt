@@ -128,7 +128,7 @@ ThreadOffsets =
 
 -- ---- branches
 
--- A call pushes the same return address. A jump doesn't come to the byte behind it.
+-- A call pushes the same return address. A jump doesn't come to the byte after it.
 abbrev pub Branches : Type 0
 Branches =
     DoesTheSame 2 (x86_64_originals kinds.CallIndirectToRelative) names.R_X86_64_GOTPCRELX

@@ -61,7 +61,7 @@ pub record HasThreadPointer (s : State) : Type 0 where
   pub word : load 8 s s.fs ≡ s.fs
 
 -- By the count of bytes of the call, that of the instructions after the rewrite, and the code
--- before and after it: the state when the call behind the first instruction has returned, and the
+-- before and after it: the state when the call after the first instruction has returned, and the
 -- one after those instructions, are alike. The latter write no memory.
 abbrev pub EndAlike : ℕ → ℕ → List ℕ → List ℕ → State → (ℕ → Bool) → (ℕ → ℕ)
     → (State → State → Type 0) → Type 0
@@ -71,7 +71,7 @@ EndAlike size count old new s changed returned Alike =
     WritesNothing s after
     × ((t : State) → IsTlsCall size changed returned before t → Alike t after)))
 
--- A `lea` of the GOT entry's address into rdi, whose field is so many bytes behind its first, and a
+-- A `lea` of the GOT entry's address into rdi, whose field is so many bytes after its first, and a
 -- call of so many bytes, which returns the symbol's address in this thread for the entry; and so
 -- many instructions, with a relocation.
 abbrev pub ReplacesCall : ℕ → ℕ → ℕ → RelaxationKind → X86_64Relocation → (Operands → Operands)
@@ -157,7 +157,7 @@ ReplacesModuleCall size count kind =
     (drop (o - 3) (rewritten (x86_64_rewrite kind) section o)) s changed returned
     (ReachTheSame changed image pointed))
 
--- `mov %fs:0, %rax`, with prefixes or behind a NOP
+-- `mov %fs:0, %rax`, with prefixes or after a NOP
 abbrev pub LocalDynamic : Type 0
 LocalDynamic =
     ReplacesModuleCall 5 1 kinds.TlsLdToLocalExec
@@ -264,8 +264,8 @@ pub record HasDescriptor (r : ℕ) (o : Operands) (s t : State) : Type 0 where
   pub old_is : s.register r ≡ o.got_entry
   pub new_is : t.register r ≡ thread_offset o
 
--- the register that the reg field of an instruction with an opcode of one byte names, behind REX,
--- and behind d5 and the byte of REX2
+-- the register that the reg field of an instruction with an opcode of one byte names, after REX,
+-- and after d5 and the byte of REX2
 abbrev pub reg_after_rex : List ℕ → ℕ
 reg_after_rex (p ∷ opcode ∷ m ∷ rest) = reg_of m + (rex_prefix p).reg
 reg_after_rex bytes = 0
@@ -317,7 +317,7 @@ LeaOfDescriptor =
     × LeaToOffset 4 names.R_X86_64_CODE_4_GOTPC32_TLSDESC reg_after_rex2
     × LeaToEntry 4 names.R_X86_64_CODE_4_GOTPC32_TLSDESC reg_after_rex2
 
--- What differs behind the call in state s of a descriptor's function, where c differed
+-- What differs after the call in state s of a descriptor's function, where c differed
 -- before it: not rax, which has the offset, but memory below the stack pointer and
 -- what the function may change.
 abbrev pub behind_call : Changes → State → Changes → Changes

@@ -35,7 +35,7 @@ pub fn aarch64()
 /// pointer and not by a GOT entry or a call of `__tls_get_addr`; what is left in a register by one
 /// instruction of such a sequence, in the small code model and where the argument of
 /// `__tls_get_addr` is copied; the TOC pointer at the entry of a function, by its address, and
-/// restored behind a call. The high and the low halves, the arguments of `__tls_get_addr` and its
+/// restored after a call. The high and the low halves, the arguments of `__tls_get_addr` and its
 /// calls, and each instruction of a thread-local sequence of prefixed code have a law each (from
 /// `high_half` to `sum_variable`), of two runs, whatever stands between them.
 pub fn ppc64()
@@ -45,14 +45,14 @@ pub fn ppc64()
 }
 
 /// RISC-V: a call that becomes `jal`, and a tail call that becomes `jal` or `c.j`, go to the
-/// target of their layout, and a call links the address behind it, also in another register than
+/// target of their layout, and a call links the address after it, also in another register than
 /// that of its `auipc`; `c.lui` puts in its register what `lui` does; so does `c.li` of 0 where
 /// the high part is 0, in place of a `c.lui` that can't have that; a `lui` that is deleted would
 /// put 0 there, so that x0 can be the base of the instructions that add its low part. All else
-/// that a program sees is the same, but for the register of the `auipc` of a call that doesn't
+/// that a program sees is the same, except for the register of the `auipc` of a call that doesn't
 /// link it and that of a deleted `lui`. Where the offset of a variable has 12 bits, the thread
 /// pointer is the base in place of a register that would have its number, and the instruction over
-/// it does alone what it does behind `lui` and `add`. The offset of a variable is in the
+/// it does alone what it does after `lui` and `add`. The offset of a variable is in the
 /// instructions, or in its GOT entry, in place of a descriptor; a symbol's address is computed in
 /// place of a load from the GOT.
 pub fn riscv64()

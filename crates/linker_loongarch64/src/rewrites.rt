@@ -302,7 +302,7 @@ impl RelaxationKind {
     }
 
     /// The bytes that `apply` writes: the 4 from the offset, and none for `NoOp`, `Delete` and
-    /// `DeleteAddi`. Those that are then deleted (`deleted`) may lie behind them.
+    /// `DeleteAddi`. Those that are then deleted (`deleted`) may lie after them.
     #[inline]
     pub fn window(self) -> RewriteWindow
         ensures { result ≡ window_of_rewrite (loongarch_rewrite self) }

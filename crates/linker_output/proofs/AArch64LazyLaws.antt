@@ -215,7 +215,7 @@ same_loaded m n word inside same =
 far : (d : ℕ) → 8 ≤ d → nat_lt d 8 ≡ false
 far d most = grind (arith, most)
 
--- two numbers, one behind the other
+-- two numbers, one after the other
 module _ (first second bottom : ℕ) (memory : ℕ → ℕ) (inside : bottom < 2 ^ 64) where
   abbrev inner : ℕ → ℕ
   inner = stored 8 first bottom memory

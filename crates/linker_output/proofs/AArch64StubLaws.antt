@@ -22,7 +22,7 @@ use Rattle.linker_output.specs.Tables.{field_of}
 use Rattle.linker_output.specs.AArch64Stubs.{run_stub, then_jumped, jumped, GoesTo}
 use Rattle.linker_output.specs.AArch64Stubs as stubs
 
--- BR of a register, behind two instructions that end in a state
+-- BR of a register, after two instructions that end in a state
 module _ (code : List ℕ) (x y : ℕ) (s t u : State) (first : step x s ≡ Some t) (on : t.pc ≡ sum_64 s.pc 4)
     (second : step y t ≡ Some u) (at : u.pc ≡ sum_64 s.pc 8)
     (is_x : word_of code ≡ x) (is_y : word_of (drop 4 code) ≡ y) where

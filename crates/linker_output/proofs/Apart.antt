@@ -16,7 +16,7 @@ use Rattle.linker_output.specs.Placement.{at, group_at, stub_at, stubs_in, place
 use Rattle.linker_output.specs.Inner.Placement.{IsState, ArePlaces}
 use Rattle.linker_output.proofs.Groups.{size_least}
 
--- before and behind a stub of a part are its boundary's ends
+-- before and after a stub of a part are its boundary's ends
 pub inside_in : (part : Part) (s e len : ℕ) (g : Group) (i : ℕ) → i < part_of part g → s + len * stubs_in g ≤ e → (s ≤ place_in part s e len g i) × (place_in part s e len g i + len ≤ e)
 inside_in Front s e len g i within fits = let a : i + 1 ≤ stubs_in g = omega arith in let h = mul-le-mul_left len a in (omega arith, omega arith)
 inside_in Middle s e len g i within fits = let a : g.front + i + 1 ≤ stubs_in g = omega arith in let h = mul-le-mul_left len a in (omega arith, omega arith)

@@ -1,4 +1,4 @@
--- Pieces of a lazy PLT's code that are written one behind the other.
+-- Pieces of a lazy PLT's code that are written one after the other.
 use Rattle.std.proofs.Common.{ℕ, ◌≡◌, ◌≤◌, ◌+◌, ◌++◌, ◌∙◌, List, sym, ap, arith, length, take, drop}
 use Rattle.std.proofs.lemmas.List.{take-append-le, take-append-drop, length-take-le, drop_at, append_assoc}
 

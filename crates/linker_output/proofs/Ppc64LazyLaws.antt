@@ -139,7 +139,7 @@ module _ (f : Formats) (c : Counted) where
       (run_more (λ c. c.state.pc) (step f) 0xe96b0008 0x7d8903a6 (0x4e800420 ∷ []) c10 c11 (Some c13) eleventh refl
       (run_more (λ c. c.state.pc) (step f) 0x7d8903a6 0x4e800420 [] c11 c12 (Some c13) refl refl refl)))))))))))
 
-  -- the address behind `bcl`
+  -- the address after `bcl`
   abbrev here : ℕ
   here = sum_64 (sum_64 c.state.pc 4) 4
 
@@ -208,7 +208,7 @@ at_8 n small = omega (arith, ints, small)
 at_0 : (n : ℕ) → n < 2 ^ 64 → moved n (pos 0) ≡ n
 at_0 n small = omega (arith, ints, small)
 
--- from the third instruction, by the number behind the code
+-- from the third instruction, by the number after the code
 words_are : (header number first : ℕ) → first < 2 ^ 64
     → (sum_64 header 8 + number) % 2 ^ 64 ≡ sum_64 first (cast_unsigned w64 (pos 0)) % 2 ^ 64
     → sum_64 number (sum_64 (sum_64 header 4) 4) ≡ first

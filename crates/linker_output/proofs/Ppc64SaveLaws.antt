@@ -92,7 +92,7 @@ slot_is base n less =
     wrapped_is (pos base +ℤ negsuc (8 * (32 - n) - 1)) 1 (base + (2 ^ 64 - suc (8 * (32 - n) - 1))) (omega (arith, ints))
     ∙ ap (λ m. (base + (2 ^ 64 - m)) % 2 ^ 64) few
 
--- a block of w bytes at p, and one of s bytes behind it at q
+-- a block of w bytes at p, and one of s bytes after it at q
 module _ (a p q w s : ℕ) (place : p < 2 ^ 64) (follows : 0 < s → q ≡ (p + w) % 2 ^ 64) (small : w + s ≤ 2 ^ 64)
     (memory : Memory) (first others both : ℕ → ℕ) (of_first : (d : ℕ) → d < w → both d ≡ first d)
     (of_others : (d : ℕ) → w ≤ d → d < w + s → both d ≡ others (d - w)) where

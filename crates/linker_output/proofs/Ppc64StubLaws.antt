@@ -64,7 +64,7 @@ of_machine f x k c s is a b d stepping =
     ap (λ o. stepped f o x c) is
     ∙ other_opcode (k == 31) (k == 16) (k == 19) f x c a b d ∙ ap (lifted c) stepping
 
--- the states behind the instructions, of which the pair puts v and then w in r12
+-- the states after the instructions, of which the pair puts v and then w in r12
 abbrev behind_1 : Counted → Counted
 behind_1 c = with_state (moved_from_link 0 c.state) c
 

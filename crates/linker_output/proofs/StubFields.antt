@@ -98,7 +98,7 @@ module _ (architecture : Architecture) (field : StubField) (o : Operands) (pair 
         (subst (λ b. IsCause row v b error) (from_there m pair len) (why.0))),
   )
 
--- ---- pieces that are written one behind the other
+-- ---- pieces that are written one after the other
 
 next : (front piece rest old new : List ℕ) (k : ℕ) → k ≡ length front → old ≡ front ++ rest
     → new ≡ (take k old ++ piece) ++ drop (k + length piece) old

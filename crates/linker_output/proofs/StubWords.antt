@@ -46,7 +46,7 @@ second_word (a ∷ b ∷ []) ys len = absurd (omega arith)
 second_word (a ∷ b ∷ c ∷ []) ys len = absurd (omega arith)
 second_word (a ∷ b ∷ c ∷ d ∷ xs) ys len = later_word xs ys (omega arith)
 
--- of code that is a pair and what stands behind it
+-- of code that is a pair and what stands after it
 module _ (code pair tail : List ℕ) (len : length pair ≡ 8) (is : code ≡ pair ++ tail) where
   pub first_is : word code ≡ word pair
   first_is = ap word is ∙ first_word pair tail len

@@ -39,7 +39,7 @@ module _ (code : Code) (groups : List Group) (before : List ℕ) (branch : Branc
   passed_within : passed code.boundaries.now branch.offset ≤ length code.boundaries.now
   passed_within = prefix_len-le-length (λ b. nat_le b branch.offset) code.boundaries.now
 
-  -- the place behind the first stubs of the next boundary is out of reach
+  -- the place after the first stubs of the next boundary is out of reach
   module _ (out : passed code.boundaries.now branch.offset < length code.boundaries.now
       → ¬ Reaches branch.max_backward branch.max_forward branch.offset
       (at code.boundaries.now (passed code.boundaries.now branch.offset)
@@ -48,7 +48,7 @@ module _ (code : Code) (groups : List Group) (before : List ℕ) (branch : Branc
         ≤ start_of code.boundaries.now before (passed code.boundaries.now branch.offset) + code.shape.len * (group_at groups (passed code.boundaries.now branch.offset)).front
     edge_ahead h = let above = next_above h in let far = out_ahead _ _ _ _ (omega arith) (out h) in omega arith
 
-    -- and so is all behind it
+    -- and so is all after it
     pub out_from : (to : ℕ) → passed code.boundaries.now branch.offset < length code.boundaries.now
         → start_of code.boundaries.now before (passed code.boundaries.now branch.offset) + code.shape.len * (group_at groups (passed code.boundaries.now branch.offset)).front ≤ to
         → ¬ ReachesAt code before branch to

@@ -27,7 +27,7 @@ abbrev pub pair_address : ℕ → State → ℕ
 pair_address word s =
     in_64_bits (pos (s.registers (rn_of word)) +ℤ (signed 7 (field word 15 22) *ℤ pos 8))
 
--- Both registers are stored, one behind the other, and the base becomes their address.
+-- Both registers are stored, one after the other, and the base becomes their address.
 abbrev pub pair_stored : ℕ → State → State
 pair_stored word s =
     let address = pair_address word s in

@@ -30,7 +30,7 @@ at_or_above alignment address =
     if past == 0 then address else sum_64 address (unit_of alignment - past)
 
 -- Variant II: the image ends at the thread pointer, where its alignment allows that. Variant I: the
--- image is above the thread pointer, behind the bytes that the run-time library has there.
+-- image is above the thread pointer, after the bytes that the run-time library has there.
 abbrev pub thread_pointer_at : ThreadPointer → ℕ → ℕ → ℕ → ℕ
 thread_pointer_at AboveImage image len alignment = at_or_above alignment (sum_64 image len)
 thread_pointer_at (BelowImage reserved bias) image len alignment =

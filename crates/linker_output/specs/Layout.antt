@@ -7,7 +7,7 @@ use Rattle.linker_output.specs.declared.layout.RunWord.{RunWord}
 abbrev pub unit_by : CodeUnit → ℕ → ℕ
 unit_by unit flags = if bit_and flags unit.flag == 0 then unit.len else unit.flagged_len
 
--- Functions that linkers provide, one behind the other: one or two words of each, and then the
+-- Functions that linkers provide, one after the other: one or two words of each, and then the
 -- words that all of them end with.
 pub record Run : Type 0 where
   pub prefix : List ℕ

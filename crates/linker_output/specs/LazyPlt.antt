@@ -85,7 +85,7 @@ abbrev pub RejectsPiece : Architecture → LazyPiece → LazyEntry → RelocateE
 RejectsPiece architecture piece entry error =
     LacksField architecture piece.field entry piece.code error
 
--- ---- pieces one behind the other
+-- ---- pieces one after the other
 
 abbrev pub pieces_len : List LazyPiece → ℕ
 pieces_len [] = 0
@@ -117,7 +117,7 @@ WritesPieces architecture pieces entry at before after =
 
 -- ---- a header or an entry
 
--- bytes begin with the code, and those behind it are left
+-- bytes begin with the code, and those after it are left
 abbrev pub WritesCode : Architecture → List LazyPiece → LazyEntry → List ℕ → List ℕ → Type 0
 WritesCode architecture pieces entry before after =
     (code : List ℕ) × IsCode architecture pieces entry code

@@ -23,7 +23,7 @@ use Rattle.linker_utils.specs.declared.elf.Architecture.{Architecture}
 use Rattle.linker_utils.specs.declared.elf.Architecture.TheVariants.{AArch64, RiscV, LoongArch64}
 use Rattle.linker_utils.specs.declared.elf.Architecture.TheVariants.{Ppc64, X86_64}
 
--- at most 8 bytes, and zeros behind them
+-- at most 8 bytes, and zeros after them
 abbrev pub padded : List ℕ → List ℕ
 padded code = code ++ replicate (8 - length code) 0
 

@@ -42,7 +42,7 @@ run code s = run_by (λ s. s.pc) step code s
 
 -- ---- the laws
 
--- It goes to the target, and changes only $t1, which has the address behind the jump, and $t3,
+-- It goes to the target, and changes only $t1, which has the address after the jump, and $t3,
 -- which has the target.
 pub record GoesTo (entry : LazyEntry) (target : ℕ) (s t : State) : Type 0 where
   pub pc : t.pc ≡ target
@@ -62,7 +62,7 @@ Enters =
     → IsSomeAnd (run (words 3 code) s) (GoesTo entry target s)
 
 -- It goes to the resolver, with the second word, which names the object, in $t0 and the offset of
--- the entry's word behind the first one in $t1, and changes no other registers than $t2 and $t3.
+-- the entry's word after the first one in $t1, and changes no other registers than $t2 and $t3.
 pub record Asks (index resolver object : ℕ) (s t : State) : Type 0 where
   pub pc : t.pc ≡ resolver
   pub t0 : read 12 t ≡ object
@@ -73,7 +73,7 @@ pub record Asks (index resolver object : ℕ) (s t : State) : Type 0 where
   pub memory : t.memory ≡ s.memory
 
 -- The first words have the resolver and the object, and the word of the entry, which is that with
--- an index behind the header, has the header's address.
+-- an index after the header, has the header's address.
 abbrev pub Resolves : Type 0
 Resolves =
     (entry : LazyEntry) (first : ℕ) → entry.address < 2 ^ 64 → entry.word < 2 ^ 64 → first < 2 ^ 64

@@ -229,7 +229,7 @@ pub record IsPlaced (code : Code) (placement : Placement) : Type 0 where
 -- ---- errors
 
 -- In the layout a branch reaches neither its target nor a stub of it. Nor is a boundary in reach:
--- of those ahead the place behind the first stubs, of those behind the place before the last ones.
+-- of those ahead the place after the first stubs, of those after the place before the last ones.
 pub record IsStuck (code : Code) (layout : Layout) (branch : Branch) : Type 0 where
   pub target : ¬ ReachesAt code layout.before.items branch
       (target_place code layout.before.items branch.target)

@@ -83,7 +83,7 @@ pub record Asks (index resolver object : ℕ) (c d : Counted) : Type 0 where
   pub memory : d.state.memory ≡ c.state.memory
 
 -- A call comes with the entry's address in r12, as the stub leaves it that loads the entry's word.
--- The entry is that with an index behind the header. The first words have the resolver, whose
+-- The entry is that with an index after the header. The first words have the resolver, whose
 -- address is a multiple of 4, and the object. The header's code is memory too: it loads how far the
 -- words are.
 abbrev pub Resolves : Type 0

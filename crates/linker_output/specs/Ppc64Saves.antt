@@ -36,7 +36,7 @@ abbrev pub words_from : Run → ℕ → ℕ → List ℕ
 words_from run index zero = []
 words_from run index (suc n) = word_or_0 (run_word run index) ∷ words_from run (index + 1) n
 
--- the code of the function for a register, of 14 to 31, and those behind it
+-- the code of the function for a register, of 14 to 31, and those after it
 abbrev pub code_for : Run → ℕ → List ℕ
 code_for run n = words_from run (n - 14) (32 - n + length run.tail)
 
@@ -77,7 +77,7 @@ pub record Returns (c d : Counted) : Type 0 where
   pub link : d.state.link ≡ c.state.link
   pub count : d.count ≡ c.count
 
--- Registers from n on are below the base, and the number of r0 is behind r1 if that is saved too.
+-- Registers from n on are below the base, and the number of r0 is after r1 if that is saved too.
 pub record Saves (base : ℕ) (values : State → ℕ → ℕ) (finish : State → Memory → Memory)
     (n : ℕ) (c d : Counted) : Type 0 where
   pub returns : Returns c d
@@ -114,7 +114,7 @@ pub record Restores (n : ℕ) (c d : Counted) : Type 0 where
   pub floats : (m : ℕ) → d.state.floats m ≡ c.state.floats m
   pub memory : (a : ℕ) → d.state.memory a ≡ c.state.memory a
 
--- the return address, behind r1
+-- the return address, after r1
 abbrev pub kept_address : State → ℕ
 kept_address s = loaded 8 s.memory (moved (s.registers 1) (pos 16))
 

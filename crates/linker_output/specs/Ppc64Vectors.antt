@@ -67,7 +67,7 @@ step_vectored f word v =
 abbrev pub run_vectored : Formats → List ℕ → Vectored → Option Vectored
 run_vectored f code v = run_by (λ v. v.counted.state.pc) (step_vectored f) code v
 
--- the code of the function for a register, of 20 to 31, and those behind it
+-- the code of the function for a register, of 20 to 31, and those after it
 abbrev pub vector_code : Run → ℕ → List ℕ
 vector_code run n = words_from run (2 * (n - 20)) (2 * (32 - n) + length run.tail)
 

@@ -47,7 +47,7 @@ run code h = run_by (λ h. h.pc) step code h
 
 -- ---- the laws
 
--- It goes to the target, and changes only t1, which has the address behind the jump, and t3, which
+-- It goes to the target, and changes only t1, which has the address after the jump, and t3, which
 -- has the target.
 pub record GoesTo (entry : LazyEntry) (target : ℕ) (h t : Hart) : Type 0 where
   pub pc : t.pc ≡ target
@@ -67,7 +67,7 @@ Enters =
     → IsSomeAnd (run (words 3 code) h) (GoesTo entry target h)
 
 -- It goes to the resolver, with the second word, which names the object, in t0 and the offset of
--- the entry's word behind the first one in t1, and changes no other registers than t2 and t3.
+-- the entry's word after the first one in t1, and changes no other registers than t2 and t3.
 pub record Asks (index resolver object : ℕ) (h t : Hart) : Type 0 where
   pub pc : t.pc ≡ resolver
   pub t0 : register t 5 ≡ object
@@ -78,7 +78,7 @@ pub record Asks (index resolver object : ℕ) (h t : Hart) : Type 0 where
   pub memory : t.memory ≡ h.memory
 
 -- The first words have the resolver and the object, and the word of the entry, which is that with
--- an index behind the header, has the header's address.
+-- an index after the header, has the header's address.
 abbrev pub Resolves : Type 0
 Resolves =
     (entry : LazyEntry) (first : ℕ) → entry.address < 2 ^ 64 → entry.word < 2 ^ 64 → first < 2 ^ 64

@@ -85,7 +85,7 @@ stub_target architecture symbol r =
 
 -- ---- room to restore the TOC pointer
 
--- `bl`, and behind it `nop` or `ld 2,24(1)`, which such a `nop` becomes
+-- `bl`, and after it `nop` or `ld 2,24(1)`, which such a `nop` becomes
 abbrev pub can_restore : ℕ → ℕ → Bool
 can_restore call next =
     call / 2 ^ 26 == 18 && call % 4 == 1 && (next == 0x60000000 || next == 0xe8410018)

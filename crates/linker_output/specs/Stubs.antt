@@ -18,7 +18,7 @@ use Rattle.linker_output.specs.declared.stubs.StubField.{StubField}
 use Rattle.linker_utils.specs.Architectures.{IsRow}
 use Rattle.linker_utils.specs.declared.elf.Architecture.{Architecture}
 
--- A stub's code: 8 bytes that have the fields, and what stands before and behind them.
+-- A stub's code: 8 bytes that have the fields, and what stands before and after them.
 pub record StubCode : Type 0 where
   pub head : List ℕ
   pub pair : List ℕ
@@ -123,7 +123,7 @@ IsStub architecture stub place target code =
     × WritesPair architecture stub (operands_of stub place target) pair
     × (code ≡ stub.head ++ (pair ++ stub.tail))
 
--- bytes begin with the code, and those behind it are left
+-- bytes begin with the code, and those after it are left
 abbrev pub WritesStub : Architecture → Option StubCode → ℕ → ℕ → List ℕ → List ℕ → Type 0
 WritesStub architecture None place target before after = ⊥
 WritesStub architecture (Some stub) place target before after =

@@ -79,7 +79,7 @@ abbrev pub IsOffStack : ℕ → State → Type 0
 IsOffStack word s =
     (i : ℕ) → i < 8 → 16 ≤ difference_64 (sum_64 word i) (difference_64 (s.register 4) 16)
 
--- The word of the entry has the address behind the entry's first instruction, and the second and
+-- The word of the entry has the address after the entry's first instruction, and the second and
 -- the third word aren't on the stack.
 abbrev pub Resolves : Type 0
 Resolves =

@@ -43,7 +43,7 @@ pub fn ppc64()
 }
 
 /// PowerPC64's functions that save and restore registers 14 to 31, from any of them on, in their
-/// places below r1 or r12. The return address is behind r1, where it is saved too, and nothing else
+/// places below r1 or r12. The return address is after r1, where it is saved too, and nothing else
 /// changes. The branch to the link register is defined with the laws.
 pub fn ppc64_saves()
     ensures saves { ppc64_saves.SaveRegisters }

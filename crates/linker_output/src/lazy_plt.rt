@@ -46,7 +46,7 @@ pub struct LazyField {
 /// A piece of code with at most one field.
 #[derive(Debug, Clone, Copy, PartialEq, Eq)]
 pub struct LazyPiece {
-    /// The code, in which the field is 0, and zeros behind it.
+    /// The code, in which the field is 0, and zeros after it.
     pub code: [u8; 8],
     /// How many bytes of code there are, at most 8.
     pub len: usize,
@@ -164,7 +164,7 @@ fn len_of(pieces: &[LazyPiece]) -> u64
     len_of(others).saturating_add(piece.len() as u64)
 }
 
-/// Writes pieces one behind the other.
+/// Writes pieces one after the other.
 fn write_pieces(
     architecture: Architecture,
     pieces: &[LazyPiece],
@@ -241,7 +241,7 @@ impl LazyPlt {
         len_of(self.entry)
     }
 
-    /// Writes the header that stands at an address, of the `.got.plt` at `words`. Bytes behind the
+    /// Writes the header that stands at an address, of the `.got.plt` at `words`. Bytes after the
     /// header are left, and with an error all are.
     pub fn write_header(&self, header: u64, words: u64, out: &mut [u8]) -> Result<(), StubError>
         ensures ok { OnOk result (WritesCode self.now.instructions (view_plt self.now).header
@@ -259,7 +259,7 @@ impl LazyPlt {
         write_code(self.instructions, self.header, &places, out)
     }
 
-    /// Writes an entry. Bytes behind it are left, and with an error all are.
+    /// Writes an entry. Bytes after it are left, and with an error all are.
     ///
     /// ```
     /// use linker_output::lazy_plt::{LazyEntry, LazyPlt};
@@ -286,7 +286,7 @@ impl LazyPlt {
     }
 
     /// What a word at the begin of `.got.plt` holds, by the address of `.dynamic` and that of the
-    /// header. None for an index of a word behind those.
+    /// header. None for an index of a word after those.
     pub fn header_word(&self, index: usize, dynamic: u64, header: u64) -> Option<u64>
         ensures { result ≡ word_in (view_plt self.now).header_words index dynamic header }
     {

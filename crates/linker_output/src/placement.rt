@@ -1,9 +1,9 @@
 //! Places of stubs between sections, so that each branch reaches its target or a stub of it.
 //!
 //! Offsets are input offsets of a run of sections, or their addresses before there are stubs. Stubs
-//! stand at boundaries between sections, and move all that stands behind them. Of the stubs at a
+//! stand at boundaries between sections, and move all that stands after them. Of the stubs at a
 //! boundary the first are those of branches before it that no other boundary is nearer to, the last
-//! those of such branches behind it, and those in between serve branches farther away. So a stub of
+//! those of such branches after it, and those in between serve branches farther away. So a stub of
 //! the nearest boundary stays where it is as seen from its branch, however many stubs are added.
 
 ghost use Rattle.std.specs.Prelude.{◌≡◌, ◌+◌, ◌*◌, ◌<◌, ◌≤◌, ◌^◌, ℕ, length, IfOk, IfErr, vec_len};
@@ -40,7 +40,7 @@ pub struct Branch {
 pub struct StubShape {
     /// How many bytes it has.
     pub len: u64,
-    /// The stubs at a boundary take a multiple of so many bytes, so that the sections behind them
+    /// The stubs at a boundary take a multiple of so many bytes, so that the sections after them
     /// stay aligned.
     pub unit: u64,
     /// How far below the stub its target may lie, in bytes.
@@ -56,7 +56,7 @@ pub struct Code<'a> {
     pub branches: &'a [Branch],
     /// The offsets of the targets.
     pub targets: &'a [u64],
-    /// The offsets at which stubs may stand, which ascend. What has such an offset is behind the
+    /// The offsets at which stubs may stand, which ascend. What has such an offset is after the
     /// stubs.
     pub boundaries: &'a [u64],
     /// What each stub is like.
@@ -68,7 +68,7 @@ pub struct Code<'a> {
 pub enum Part {
     /// The first ones, which are counted from the first one on.
     Front,
-    /// Those behind the first ones.
+    /// Those after the first ones.
     Middle,
     /// The last ones, which are counted from the last one down.
     Back,

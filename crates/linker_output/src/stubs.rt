@@ -41,7 +41,7 @@ pub struct StubField {
     pub range: AllowedRange,
 }
 
-/// The code of a stub: 8 bytes with the fields, and what stands before and behind these.
+/// The code of a stub: 8 bytes with the fields, and what stands before and after these.
 #[derive(Debug, Clone, Copy, PartialEq, Eq)]
 pub struct Stub {
     /// The code before the pair.
@@ -52,7 +52,7 @@ pub struct Stub {
     pub first: StubField,
     /// The second one.
     pub second: Option<StubField>,
-    /// The code behind the pair.
+    /// The code after the pair.
     pub tail: &'static [u8],
     /// The offset at which a call enters. PowerPC64's calls whose `nop` becomes `ld 2,24(1)` enter
     /// at 0, where the stub stores the TOC pointer.
@@ -173,7 +173,7 @@ impl Target {
     }
 
     /// Writes the stub of a kind that stands at an address: to the word at `target` (`Load`) or to
-    /// the address `target` (`Jump`). Bytes behind the stub are left, and with an error all are.
+    /// the address `target` (`Jump`). Bytes after the stub are left, and with an error all are.
     ///
     /// What a call changes on its way through a stub are registers that a function may change, in
     /// which no argument is: x16 and x17 of AArch64, t3 of RISC-V and LoongArch, and r0, r12 and

@@ -46,7 +46,7 @@ skip : (B : Ppc64Entry → Type 0) (e : Ppc64Entry) (es : List Ppc64Entry) (n b 
 skip B e es n b passed (inl k) = absurd (passed (k.0))
 skip B e es n b passed (inr k) = k.1
 
--- and so is one behind another that applies where it does
+-- and so is one after another that applies where it does
 trim_one : (B : Ppc64Entry → Type 0) (e f : Ppc64Entry) (n b : Ppc64Choice)
     → (B f → B e) → IsFirst B (e ∷ f ∷ []) n b → IsFirst B (e ∷ []) n b
 trim_one B e f n b p (inl k) = inl k
@@ -102,7 +102,7 @@ initial_exec_pair = λ section o p place facts a b meant f g.
     one_alike (applies section o facts) (applies section p (facts_at place facts)) (at 0 r.R_PPC64_GOT_TPREL16_HA) (at 0 r.R_PPC64_GOT_TPREL16_LO_DS) _ _ a b f g
     (λ h. (meant.1, h.1), λ h. (meant.0, h.1))
 
--- those behind one, and the choice of none
+-- those after one, and the choice of none
 abbrev behind : ℕ → Ppc64Relocation → List Ppc64Entry
 behind i name = drop (i + 1) (ppc64_entries name)
 

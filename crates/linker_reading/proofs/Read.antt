@@ -1,4 +1,4 @@
--- What is read of linked bytes at an offset that may be behind them.
+-- What is read of linked bytes at an offset that may be after them.
 use Rattle.std.proofs.Common.{◌≡◌, ◌-◌, ℕ, List, length, take, drop, min, sym, ap, ◌∙◌, ⊎_elim, arith}
 use Rattle.std.proofs.lemmas.Bool.{cases_lt}
 use Rattle.std.proofs.lemmas.List.{drop_all, take_rest}

@@ -86,7 +86,7 @@ module _ (field : FieldBits) (others : List FieldBits) (from : ℕ) (a b : List 
       (λ high. subst IsSameAt (let at_is : at ≡ i = omega (arith, h, high) in at_is) (of_byte at x y e f same))
       (cases_lt i at)
 
--- ---- the bytes before those that are deleted, and those behind
+-- ---- the bytes before those that are deleted, and those after
 
 module _ (field : FieldBits) (others : List FieldBits) (start count : ℕ) (a b : List ℕ) (inside : start ≤ length b) where
   abbrev pub IsFrontSame : Type 0

@@ -79,7 +79,7 @@ by_size row (ByteSize n) e whole v before after writes =
 pub whole_writes_field : (row : RelocationKindInfo) → IsWhole row.size row.kind → WritesField row
 whole_writes_field row whole = by_size row row.size refl whole
 
--- ---- bytes behind others
+-- ---- bytes after others
 
 pub no_gap : (i : ℕ) → kept_index 0 0 i ≡ i
 no_gap i = ap (λ b. if b then i else i + 0) (le-ltb i 0 (omega arith)) ∙ omega arith

@@ -129,7 +129,7 @@ step_below start len before after t m (inr step) below =
       | inr some ↦ below_window (step.1.1) t m (below some (step.0))
     ]
 
--- what is behind it stays
+-- what is after it stays
 pub step_above : (start len : ℕ) (before after : List ℕ) (t : ℕ)
     → IsStep start len before after → (0 < len → start + len ≤ t)
     → drop t after ≡ drop t before

@@ -235,14 +235,14 @@ abbrev pub end_at : List ℕ → List Decision → ℕ → ℕ
 end_at bytes decisions n = end_by (decision_at decisions n) (relocation_in bytes n).offset
 
 -- Those of each rewrite end before those of the next ones begin. A decision with none has no end
--- behind its start.
+-- after its start.
 abbrev pub AreApart : List ℕ → List Decision → ℕ → Type 0
 AreApart bytes decisions limit =
     (i j : ℕ) → i < j → j < limit → start_at bytes decisions i < end_at bytes decisions i
     → start_at bytes decisions j < end_at bytes decisions j
     → end_at bytes decisions i ≤ start_at bytes decisions j
 
--- where they end, with some more from a start to an end; none if they aren't behind them
+-- where they end, with some more from a start to an end; none if they aren't after them
 abbrev pub IsEndBehind : ℕ → ℕ → ℕ → Option ℕ → Type 0
 IsEndBehind start own end (Some new) =
     ((own ≤ start) × (new ≡ end)) ⊎ ((start < own) × (end ≤ start) × (new ≡ own))

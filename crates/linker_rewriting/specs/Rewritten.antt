@@ -149,7 +149,7 @@ IsLoadAt bytes n =
     is_marked_load bytes n (relocation_in bytes n).offset (relocation_in bytes n) ≡ true
 
 -- Both instructions of such a load are rewritten, or neither is. The second one's relocation is the
--- next but one, behind the first one's mark.
+-- next but one, after the first one's mark.
 abbrev pub LoadsAreWhole : Type 0
 LoadsAreWhole =
     (output : OutputFacts) (symbols : List SymbolFacts) (kept : List KeptGroups)

@@ -37,20 +37,20 @@ mark_code RiscV = Some (code_of (riscv_name riscv64.R_RISCV_RELAX))
 mark_code LoongArch64 = Some (code_of (loongarch_name loongarch64.R_LARCH_RELAX))
 mark_code architecture = None
 
--- a relocation is a mark, so many bytes behind an offset
+-- a relocation is a mark, so many bytes after an offset
 abbrev pub is_mark_of : Option ℕ → ℕ → ℕ → Option Rela → Bool
 is_mark_of None offset distance r = false
 is_mark_of (Some code) offset distance None = false
 is_mark_of (Some code) offset distance (Some r) =
     (r.offset == offset + distance) && (r.code == code)
 
--- a mark stands behind a relocation with an index
+-- a mark stands after a relocation with an index
 abbrev pub is_marked_at : Architecture → List ℕ → ℕ → Rela → Bool
 is_marked_at architecture bytes n r =
     is_mark_of (mark_code architecture) r.offset 0 (relocation_at bytes (n + 1))
 
 -- What is marked in a phase. Before addresses are known it is a call of PowerPC64's prefixed code:
--- behind the mark of a call, and at the same offset, its own relocation is R_PPC64_REL24_NOTOC.
+-- after the mark of a call, and at the same offset, its own relocation is R_PPC64_REL24_NOTOC.
 abbrev pub mark_code_in : Phase → Architecture → Option ℕ
 mark_code_in Early Ppc64 = Some (code_of (ppc64_name ppc64.R_PPC64_REL24_NOTOC))
 mark_code_in Early architecture = None
@@ -74,7 +74,7 @@ place_in aarch64.R_AARCH64_ADR_PREL_PG_HI21 = Some (PageAndOffset, 0)
 place_in aarch64.R_AARCH64_ADD_ABS_LO12_NC = Some (PageAndOffset, 1)
 place_in name = None
 
--- a relocation is so many bytes behind an offset, has a code, and is of the symbol and the addend
+-- a relocation is so many bytes after an offset, has a code, and is of the symbol and the addend
 -- of another one
 abbrev pub is_part : ℕ → ℕ → ℕ → Rela → Option Rela → Bool
 is_part code offset distance r None = false
@@ -127,7 +127,7 @@ place_in_load name = None
 abbrev pub is_loongarch_part : LoongArch64Relocation → ℕ → ℕ → Rela → Option Rela → Bool
 is_loongarch_part name = is_part (code_of (loongarch_name name))
 
--- those from an index on are of a load at an offset, each with its mark behind it
+-- those from an index on are of a load at an offset, each with its mark after it
 abbrev pub is_marked_load : List ℕ → ℕ → ℕ → Rela → Bool
 is_marked_load bytes first offset r =
     is_loongarch_part loongarch64.R_LARCH_GOT_PC_HI20 offset 0 r (relocation_at bytes first)

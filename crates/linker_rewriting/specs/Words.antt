@@ -51,7 +51,7 @@ entry_code architecture code = None
 abbrev pub word_code : ℕ
 word_code = code_of (ppc64_name ppc64.R_PPC64_ADDR64)
 
--- how far S + A is behind the start of the section of words
+-- how far S + A is after the start of the section of words
 abbrev pub offset_behind : Addresses → ℕ → ℤ → Option Symbol → Option ℕ
 offset_behind addresses start addend None = None
 offset_behind addresses start addend (Some value) =

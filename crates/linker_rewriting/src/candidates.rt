@@ -30,7 +30,7 @@ pub(crate) fn is_tls_get_addr(symbols: &[SymbolFacts], symbol: u32) -> bool
     }
 }
 
-/// Whether a relocation is that of a call of `__tls_get_addr` so many bytes behind an offset.
+/// Whether a relocation is that of a call of `__tls_get_addr` so many bytes after an offset.
 #[inline(always)]
 fn is_call(
     architecture: Architecture,
@@ -134,7 +134,7 @@ pub(crate) fn candidate_by(
 /// The rewrite of the instruction of the relocation with an index, if each other one of its group
 /// is rewritten, and the code of the relocation after it. None where there is none: `choose` has no
 /// rewrite for it, the one that it has takes a relocation along that isn't the next one or deletes
-/// bytes behind the section, or it is of a sequence whose relocations aren't all next to it.
+/// bytes after the section, or it is of a sequence whose relocations aren't all next to it.
 #[inline(always)]
 pub(crate) fn candidate(
     setting: &Setting<'_>,

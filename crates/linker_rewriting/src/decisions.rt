@@ -372,7 +372,7 @@ pub(crate) fn span_of(decision: &Decision, offset: u64) -> (u64, u64)
 }
 
 /// Where the bytes end that are rewritten or deleted up to some from a start to an end, by where
-/// those before them do. None if they aren't behind those.
+/// those before them do. None if they aren't after those.
 #[inline(always)]
 pub(crate) fn end_behind(start: u64, own: u64, end: u64) -> Option<u64>
     ensures { IsEndBehind start own end result }

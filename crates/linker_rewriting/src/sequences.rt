@@ -39,7 +39,7 @@ fn mark_code(architecture: Architecture) -> Option<u32>
     }
 }
 
-/// Whether a relocation is a mark with a code, so many bytes behind an offset.
+/// Whether a relocation is a mark with a code, so many bytes after an offset.
 #[inline(always)]
 fn is_mark_of(code: Option<u32>, offset: u64, distance: u64, relocation: Option<Rela>) -> bool
     ensures { result ≡ is_mark_of code offset distance relocation }
@@ -53,7 +53,7 @@ fn is_mark_of(code: Option<u32>, offset: u64, distance: u64, relocation: Option<
     relocation.offset.checked_sub(offset) == Some(distance) && relocation.code == code
 }
 
-/// Whether a mark stands behind a relocation with an index.
+/// Whether a mark stands after a relocation with an index.
 #[inline(always)]
 pub(crate) fn is_marked_at(
     architecture: Architecture,
@@ -69,7 +69,7 @@ pub(crate) fn is_marked_at(
 }
 
 /// The code of what is marked in a phase: before addresses are known a call of PowerPC64's prefixed
-/// code, whose own relocation stands behind its mark.
+/// code, whose own relocation stands after its mark.
 #[inline(always)]
 fn mark_code_in(phase: Phase, architecture: Architecture) -> Option<u32>
     ensures { result ≡ mark_code_in phase architecture }
@@ -83,7 +83,7 @@ fn mark_code_in(phase: Phase, architecture: Architecture) -> Option<u32>
     }
 }
 
-/// Whether what is marked in a phase stands behind a relocation with an index.
+/// Whether what is marked in a phase stands after a relocation with an index.
 #[inline(always)]
 pub(crate) fn is_marked_in(
     phase: Phase,
@@ -119,7 +119,7 @@ fn place_in(name: AArch64Relocation) -> Option<(Sequence, usize)>
     }
 }
 
-/// Whether a relocation is so many bytes behind an offset, has a code, and is of the symbol and the
+/// Whether a relocation is so many bytes after an offset, has a code, and is of the symbol and the
 /// addend of another one.
 #[inline(always)]
 fn is_part(code: u32, offset: u64, distance: u64, relocation: &Rela, part: Option<Rela>) -> bool
@@ -287,7 +287,7 @@ fn place_in_load(name: LoongArch64Relocation) -> Option<usize>
     }
 }
 
-/// Whether a relocation is so many bytes behind an offset, has a name of LoongArch, and is of the
+/// Whether a relocation is so many bytes after an offset, has a name of LoongArch, and is of the
 /// symbol and the addend of another one.
 #[inline(always)]
 fn is_loongarch_part(
@@ -303,7 +303,7 @@ fn is_loongarch_part(
 }
 
 /// Whether the relocations from an index on are those of a load from LoongArch's GOT at an offset,
-/// each with its mark behind it.
+/// each with its mark after it.
 fn is_marked_load(relocations: &[u8], first: usize, offset: u64, relocation: &Rela) -> bool
     requires { first + 3 ≤ usize.MAX }
     ensures { result ≡ is_marked_load relocations.now first offset relocation.now }

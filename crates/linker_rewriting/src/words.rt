@@ -64,7 +64,7 @@ fn word_code() -> u32
     Ppc64Relocation::R_PPC64_ADDR64.elf_code()
 }
 
-/// How far what a relocation refers to is behind the start of the section of words.
+/// How far what a relocation refers to is after the start of the section of words.
 #[inline(always)]
 fn word_offset(
     addresses: &Addresses,

@@ -395,7 +395,7 @@ run_summed runs bs run count base counted few before =
     let next : (run + 1) * runs.len ≡ run * runs.len + runs.len = omega arith in
     rw next (omega (arith, before, counted.counted run 0 few, count_between-split bs (run * runs.len) (run * runs.len + runs.len) (omega arith)))
 
--- one call less, behind the first n and among them
+-- one call less, after the first n and among them
 count_behind : (bs : List Bool) (k n : ℕ) → n ≤ k → chosen_count (take n (set bs k false)) ≡ chosen_count (take n bs)
 count_behind bs k n le = ap chosen_count (take-set-le n bs k false le)
 

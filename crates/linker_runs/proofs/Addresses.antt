@@ -55,7 +55,7 @@ keeps_need : (nops need : ℕ) (most : Option ℕ) → most ≡ None → MatchOp
 keeps_need nops need None none holds = padding_all need nops holds
 keeps_need nops need (Some most) none holds = cc
 
--- an address behind an anchor
+-- an address after an anchor
 behind_anchor : (w start o : ℕ) (item : Item) (k freed : ℕ) → IsSound item → freed ≤ offset_of item → end_of item ≤ o → HoldsAt start item freed → IsAnchor w o item
     → Multiple w (start + o - (freed + (len_of item - kept_by start item k freed)))
 behind_anchor w start o (Site site) k freed sound below past holds anchor = absurd anchor
@@ -73,7 +73,7 @@ behind_anchor w start o (Aligned alignment) k freed sound below past holds ancho
     need_fits nops need None none holds = holds
     need_fits nops need (Some most) none holds = cc
 
--- an address behind an item that frees multiples
+-- an address after an item that frees multiples
 behind_multiple : (w start o : ℕ) (item : Item) (k freed : ℕ) → IsSound item → freed ≤ offset_of item → end_of item ≤ o → FreesMultiples w o item → Multiple w (start + o - freed)
     → Multiple w (start + o - (freed + (len_of item - kept_by start item k freed)))
 behind_multiple w start o (Site site) k freed sound below past frees before =

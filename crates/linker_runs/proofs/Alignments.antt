@@ -1,4 +1,4 @@
--- The next alignment behind a relocation, by one relocation more.
+-- The next alignment after a relocation, by one relocation more.
 use Rattle.std.proofs.Common.{ℕ, ◌+◌, ◌<◌, ◌≤◌, List, inl, inr, ⊎_elim, arith}
 use Rattle.std.specs.Prelude.{◌⊎◌}
 use Rattle.std.proofs.lemmas.Bool.{cases_lt}
@@ -8,7 +8,7 @@ use Rattle.linker_runs.specs.Inner.Ahead.{IsAhead, MayBeAhead}
 use Rattle.linker_runs.specs.declared.packing.Machine.{Machine}
 use Rattle.linker_runs.specs.declared.packing.Machine.TheVariants.{RiscV64, LoongArch64}
 
--- the next alignment behind one relocation is that behind the relocation after it, or this one
+-- the next alignment after one relocation is that after the relocation after it, or this one
 pub next_on : (relocations : List Relocation) (i j : ℕ) → IsNextAlignment relocations i j → (j ≤ i + 1) ⊎ IsNextAlignment relocations (i + 1) j
 next_on relocations i j next = ⊎_elim
     (λ (behind : i + 1 < j). inr (record {

@@ -78,7 +78,7 @@ place_apart items apart offset =
 pub place_is : (start : ℕ) (items : List Item) → AreInOrder start items → (offset : ℕ) → IsPlace items offset (place_of items offset)
 place_is start items order = place_apart items order.apart
 
--- an index behind an item that ends at or below an offset, at which one ends above it, is the place
+-- an index after an item that ends at or below an offset, at which one ends above it, is the place
 pub place_unique : (items : List Item) → AreApart items → (offset p : ℕ) → p ≤ length items → (0 < p → end_of (item_at items (p - 1)) ≤ offset) → (p < length items → offset < end_of (item_at items p))
     → p ≡ place_of items offset
 place_unique items apart offset p within below above =

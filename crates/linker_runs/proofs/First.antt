@@ -73,7 +73,7 @@ module _ (start : ℕ) (items : List Item) (kept : List ℕ) (order : AreInOrder
       let apart = order.apart (i - 1) (omega arith) in
       omega arith
 
-  -- and one behind it begins at its end or above
+  -- and one after it begins at its end or above
   behind : (j : ℕ) → i < j → j < length items → end_of (item_at items i) ≤ offset_of (item_at items j)
   behind j up there =
       let h = ends_ascend start items order i (j - 1) (omega arith) (omega arith) in

@@ -89,7 +89,7 @@ module _ {A : Type 0} (f : A → Item) (IsWritten : A → Type 0) (s : Rewritten
       }
 
 -- The same, with what a walk through the relocations knows besides: the last item is that of a
--- relocation, if there is one, and elements behind those listed are as they were.
+-- relocation, if there is one, and elements after those listed are as they were.
 pub record IsWalked {A : Type 0} (f : A → Item) (IsWritten : A → Type 0) (s : Rewritten) (i g count end : ℕ) (out before : List A) (makers known : List ℕ) : Type 0 where
   pub gone : g ≤ length s.deletions
   pub listed : AreListedIn f IsWritten s i g count end out makers

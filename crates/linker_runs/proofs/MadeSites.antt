@@ -17,7 +17,7 @@ use Rattle.linker_runs.specs.Writable.{MadeSitesHaveInstructions}
 use Rattle.linker_runs.proofs.RiscVMadeSites.{riscv_site}
 use Rattle.linker_runs.proofs.LoongArchMadeSites.{loongarch_site}
 
--- what holds of each item, and of one behind them
+-- what holds of each item, and of one after them
 pub pushed : (P : Item → Type 0) (items : List Item) (item : Item) → ((j : ℕ) → j < length items → P (item_at items j)) → P item → (j : ℕ) → j < length (items ++ item ∷ []) → P (item_at (items ++ item ∷ []) j)
 pushed P items item each is j below = ⊎_elim
     (λ (first : j < length items). subst P (sym (get_or-append items (item ∷ []) no_item j first)) (each j first))

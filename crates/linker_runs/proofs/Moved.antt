@@ -31,7 +31,7 @@ module _ (items : List Item) (apart : AreApart items) (o p : ℕ) (is : p ≡ pl
   place_below : (i : ℕ) → i < p → end_of (item_at items i) ≤ o
   place_below i below = (place_apart items apart o).below i (omega arith)
 
-  -- behind the place no item begins
+  -- after the place no item begins
   pub none_past : length items ≤ p → (i : ℕ) → i < length items → ¬ BeginsAt (item_at items i) o
   none_past past i within begins = let h = place_below i (omega arith) in absurd (omega (arith, h, begins.1))
 

@@ -30,7 +30,7 @@ pub repeated_length : (word : List ℕ) (n : ℕ) → length word ≡ 4 → leng
 repeated_length word zero four = ap length (repeated_none word)
 repeated_length word (suc n) four = ap length (repeated_suc word n) ∙ length-append word (repeated word n) ∙ omega (arith, repeated_length word n four, four)
 
--- bytes put behind others that were put
+-- bytes put after others that were put
 pub put_more : (xs ys zs now new : List ℕ) (at m n : ℕ) → at ≤ length xs → length ys ≡ m → length zs ≡ n
     → now ≡ take at xs ++ ys ++ drop (at + m) xs
     → new ≡ take (at + m) now ++ zs ++ drop (at + m + n) now

@@ -56,7 +56,7 @@ IsFormed (Aligned alignment) = IsPowerOfTwo alignment.alignment
 abbrev pub ShapesFit : ℕ → ℕ → Shapes → Type 0
 ShapesFit u len shapes = (k : ℕ) → (len - shape_len shapes k) % u ≡ 0
 
--- An alignment of a run at an address: it and the address behind its nops are multiples of u. One
+-- An alignment of a run at an address: it and the address after its nops are multiples of u. One
 -- with a limit has enough nops, or no more may stay than there are; since all may go, they are a
 -- multiple of u.
 pub record AlignmentFits (u start : ℕ) (alignment : Alignment) : Type 0 where

@@ -60,7 +60,7 @@ abbrev pub call_template : List ℕ → ℕ → Template
 call_template section o =
     record { row = loongarch_row r.R_LARCH_CALL36; bytes = take 8 (drop o section) }
 
--- the `pcalau12i` at an offset, and the `addi.d` behind it
+-- the `pcalau12i` at an offset, and the `addi.d` after it
 abbrev pub high_template : List ℕ → ℕ → Template
 high_template section o =
     record { row = loongarch_row r.R_LARCH_PCALA_HI20; bytes = take 4 (drop o section) }

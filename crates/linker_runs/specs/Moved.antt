@@ -67,7 +67,7 @@ pub data BecomesCode (machine : Machine) (s : Section) (items : List Item) (p co
 
 -- ---- relocations
 
--- A relocation goes where its place goes, and keeps its symbol and addend. One behind the section's
+-- A relocation goes where its place goes, and keeps its symbol and addend. One after the section's
 -- end, where no field is, stays as it is.
 pub record IsMoved (machine : Machine) (s : Section) (items : List Item) (before after : Rela)
     : Type 0 where
@@ -80,7 +80,7 @@ pub record IsMoved (machine : Machine) (s : Section) (items : List Item) (before
   pub end_code : length s.bytes ≤ before.offset → after.code ≡ before.code
   pub outside : length s.bytes < before.offset → after.offset ≡ before.offset
 
--- each of them does, and what is behind the last whole one stays
+-- each of them does, and what is after the last whole one stays
 pub record AreMoved (machine : Machine) (s : Section) (items : List Item) (before after : List ℕ)
     : Type 0 where
   pub as_many : length after ≡ length before

@@ -80,7 +80,7 @@ gap_start s items (suc i) = end_of (item_at items i)
 abbrev pub StayWhole : List (ℕ × ℕ) → ℕ → ℕ → Type 0
 StayWhole deletions from to = rank deletions to ≡ rank deletions from + (to - from)
 
--- those before the item at an index do, and those behind the last item
+-- those before the item at an index do, and those after the last item
 abbrev pub KeepsGap : Section → List Item → ℕ → Type 0
 KeepsGap s items i = StayWhole s.deletions (gap_start s items i) (offset_of (item_at items i))
 
@@ -208,7 +208,7 @@ IsCause machine s items i error = IsApart items i × IsInside s (item_at items i
     × KeepsGap s items i × (is_fixed (item_at items i) ≡ false)
     × IsUnwritable machine s (item_at items i) error
 
--- an item isn't written, or bytes behind the last one don't stay
+-- an item isn't written, or bytes after the last one don't stay
 abbrev pub IsRejectedAt : Machine → Section → List Item → RejectedItem → Type 0
 IsRejectedAt machine s items rejected = ((rejected.index < length items)
     × IsCause machine s items rejected.index rejected.error)

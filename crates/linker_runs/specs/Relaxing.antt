@@ -10,7 +10,7 @@ use Rattle.linker_runs.specs.declared.relaxation.Alignment.{Alignment}
 use Rattle.linker_runs.specs.declared.relaxation.Item.{Item}
 use Rattle.linker_runs.specs.declared.relaxation.Item.TheVariants.{Site, Aligned}
 
--- the input offset of an item, how many bytes it has there, and the offset behind them
+-- the input offset of an item, how many bytes it has there, and the offset after them
 abbrev pub offset_of : Item → ℕ
 offset_of (Site site) = site.offset
 offset_of (Aligned alignment) = alignment.offset
@@ -165,7 +165,7 @@ abbrev pub AreApart : List Item → Type 0
 AreApart items = (i : ℕ) → i + 1 < length items
     → end_of (item_at items i) ≤ offset_of (item_at items (i + 1))
 
--- The items ascend and none reaches past the next, the address behind each is one of 64 bits, and
+-- The items ascend and none reaches past the next, the address after each is one of 64 bits, and
 -- each by itself is sound.
 pub record AreInOrder (start : ℕ) (items : List Item) : Type 0 where
   pub apart : AreApart items

@@ -20,7 +20,7 @@ no_relocation = record {
 abbrev pub relocation_at : List Relocation → ℕ → Relocation
 relocation_at relocations i = slice_index_or relocations i no_relocation
 
--- The relocation behind the one at an index has a code, and is at the same place: so a linker may
+-- The relocation after the one at an index has a code, and is at the same place: so a linker may
 -- relax what is there, if the code is that of the psABI's relocation for this.
 pub record IsMarked (code : ℕ) (relocations : List Relocation) (i : ℕ) : Type 0 where
   pub follows : i + 1 < length relocations

@@ -52,7 +52,7 @@ pub record IsRiscVAlignment (section : List ℕ) (base : ℕ) (relocation : Relo
 abbrev pub Aligns : Relocation → Type 0
 Aligns relocation = HasRiscVName r.R_RISCV_ALIGN relocation × (relocation.addend ≢ pos 0)
 
--- The next alignment behind the relocation at an index, or the end of the relocations.
+-- The next alignment after the relocation at an index, or the end of the relocations.
 pub record IsNextAlignment (relocations : List Relocation) (i j : ℕ) : Type 0 where
   pub behind : i < j
   pub within : j ≤ length relocations

@@ -72,7 +72,7 @@ pub struct Alignment {
     pub offset: u64,
     /// How many bytes of nops there are.
     pub nops: u32,
-    /// What the output address behind them is a multiple of: a power of two.
+    /// What the output address after them is a multiple of: a power of two.
     pub alignment: u64,
     /// How many bytes of nops may stay. Where more are needed, none stay.
     pub max_skip: Option<u64>,

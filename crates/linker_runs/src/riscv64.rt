@@ -78,7 +78,7 @@ fn aligns(relocation: &Relocation) -> bool
     has_name(relocation, RiscVRelocation::R_RISCV_ALIGN) && relocation.addend != 0
 }
 
-/// The index of the next alignment behind the relocation at an index, or how many relocations there
+/// The index of the next alignment after the relocation at an index, or how many relocations there
 /// are.
 pub(crate) fn next_alignment<R: AsRelocation>(relocations: &[R], index: usize) -> usize
     requires { index < length relocations.now }

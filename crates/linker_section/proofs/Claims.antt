@@ -64,7 +64,7 @@ own_continued architecture bytes section k row field h kind is =
     let own : continues row.kind kind ≡ true = subst (λ x. continues x kind ≡ true) (sym h.kind_is) is in
     (h.window_is (first_is_none row.kind kind row.size own), own)
 
--- what is behind an earlier field is behind the new one, or they compose
+-- what is after an earlier field is after the new one, or they compose
 earlier_composes : (architecture : Architecture) (bytes section : List ℕ) (IsSeen : ℕ → Type 0)
     (last : Field) (k : ℕ) (row : RelocationKindInfo) (field : Field)
     → AreClaimed architecture bytes section IsSeen last

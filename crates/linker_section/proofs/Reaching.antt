@@ -130,7 +130,7 @@ front_first architecture addresses bytes symbols before memory =
       within = omega arith;
     }
 
--- behind a value that is written quickly
+-- after a value that is written quickly
 pub front_quickly : (architecture : Architecture) (addresses : Addresses) (bytes : List ℕ)
     (symbols : List Symbol) (before now memory : List ℕ) (i : ℕ) (last : Field) (step : Step)
     (next : ℕ × Option HighPart) → step.index ≤ i
@@ -161,7 +161,7 @@ front_kept architecture addresses bytes symbols before now after memory other i 
       within = front.within;
     }
 
--- behind a step
+-- after a step
 pub front_slowly : (architecture : Architecture) (addresses : Addresses) (bytes : List ℕ)
     (symbols : List Symbol) (before now memory : List ℕ) (step : Step)
     → Reached architecture addresses bytes symbols None before now memory step.index step.last

@@ -16,7 +16,7 @@ use Rattle.linker_elf.specs.declared.elf.RelocationKindInfo.{RelocationKindInfo}
 
 -- ---- one word
 
--- what is behind the 8 bytes is as before
+-- what is after the 8 bytes is as before
 pub put_back : (place word : ℕ) (before after : List ℕ)
     → drop (place + 8) after ≡ drop (place + 8) before → length after ≡ length before
     → IsSavedAt place before word → with_word place word after ≡ take place after ++ drop place before

@@ -161,7 +161,7 @@ claimed_after architecture bytes before now k last field row order after offset 
           (omega (arith, after, offset)) is)
     ]
 
--- the next field ends at or behind the last
+-- the next field ends at or after the last
 pub record IsBehind (field last next : Field) : Type 0 where
   pub end : last.offset + last.len ≤ next.offset + next.len
   pub own : field.offset + field.len ≤ next.offset + next.len ⊎ (field.len ≡ 0)
@@ -206,7 +206,7 @@ pub written_alone : (row : RelocationKindInfo) (v : ℤ) (offset : ℕ) (before 
 written_alone row v offset before after written =
     bytes_alone row.size row.kind (takes row written.written.accepted.supported)
 
--- ---- bytes behind a write
+-- ---- bytes after a write
 
 plus_none : (o w : ℕ) → w ≡ 0 → o + w ≡ o
 plus_none o w none = omega (arith, none)

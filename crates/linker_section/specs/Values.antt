@@ -64,7 +64,7 @@ abbrev pub is_of_got : Architecture → ℕ → Bool
 is_of_got architectures.X86_64 code = code == 26 || code == 29
 is_of_got architecture code = false
 
--- The local entry point of a function behind its global one: bits 5 to 7 of `st_other` say the
+-- The local entry point of a function after its global one: bits 5 to 7 of `st_other` say the
 -- logarithm of the distance, from 4 bytes on (64-Bit ELF V2 ABI, "Symbol Values").
 abbrev pub local_entry : ℕ → ℕ
 local_entry other = if nat_lt (other / 32) 2 then 0 else 2 ^ (other / 32)

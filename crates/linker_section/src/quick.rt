@@ -284,7 +284,7 @@ fn new_high(offset: u64, value: i64) -> HighPart
     HighPart { offset, value }
 }
 
-/// The last high part behind a relocation among those of its section, with the
+/// The last high part after a relocation among those of its section, with the
 /// value that `quick_value` returns. Only the contract uses `_relocations`,
 /// `_symbols`, `_addresses` and `_row`.
 #[inline(always)]

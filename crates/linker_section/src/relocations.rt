@@ -55,7 +55,7 @@ pub(crate) fn relocation_of(entry: &[u8]) -> Rela
     }
 }
 
-/// How many relocations there are in the bytes of a section of relocations. Bytes behind the last
+/// How many relocations there are in the bytes of a section of relocations. Bytes after the last
 /// whole one count for nothing.
 ///
 /// ```

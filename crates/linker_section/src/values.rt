@@ -34,7 +34,7 @@ pub enum ValueError {
     NoEntry,
     /// It is a low part of RISC-V, and no high part is at the label that its symbol is.
     NoHighPart,
-    /// `R_RISCV_ALIGN` or `R_LARCH_ALIGN`: what is behind its nops isn't aligned, since the section
+    /// `R_RISCV_ALIGN` or `R_LARCH_ALIGN`: what is after its nops isn't aligned, since the section
     /// wasn't packed. Only of `relocate_section`.
     NotAligned,
     /// `R_PPC64_REL24` of a function that may return with another TOC pointer (the high three bits
@@ -109,7 +109,7 @@ fn is_of_got(architecture: Architecture, code: u32) -> bool
     matches!(architecture, Architecture::X86_64) && (code == 26 || code == 29)
 }
 
-/// How far behind a function's global entry point its local one is.
+/// How far after a function's global entry point its local one is.
 #[inline(always)]
 pub(crate) fn local_entry(other: u8) -> u64
     ensures { result ≡ local_entry other }

@@ -41,7 +41,7 @@ placed_stub layout j =
       target = (stub_at layout.stubs.items j).target;
     }
 
--- an array begins with the stubs of a layout, and what stands behind them is left
+-- an array begins with the stubs of a layout, and what stands after them is left
 pub record AreStubs (layout : Layout) (before after : List PlacedStub) : Type 0 where
   pub same_length : length after ≡ length before
   pub stubs : (j : ℕ) → j < length layout.stubs.items

@@ -1,5 +1,5 @@
 //! The numbers in immediates; what stands in the fields of linked relocations, and the addresses
-//! behind it.
+//! after it.
 
 ghost use Rattle.std.specs.Prelude.{◌≡◌, Option, Some, IfOk, IfErr, IfSome, IfNone};
 ghost use Rattle.linker_elf.specs.declared.elf.RelocationKindInfo.{RelocationKindInfo};

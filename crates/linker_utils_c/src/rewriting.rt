@@ -310,7 +310,7 @@ pub(crate) fn put_error(error: RewritingError, faulty: &mut usize) -> u32
 
 /// Rewrites the instructions of a section of code before addresses are known, and turns its
 /// relocations into those after it, as `rewrite_section` of `linker_rewriting`. What became of each
-/// relocation is in `decisions`, whose elements behind those of the relocations are unchanged.
+/// relocation is in `decisions`, whose elements after those of the relocations are unchanged.
 ///
 /// The first that applies of `UnknownArchitecture`; `ShortMemory`, where there are fewer decisions
 /// than relocations; and why it can't rewrite the relocation at `faulty`: `NotSurveyed` or
@@ -467,7 +467,7 @@ pub extern "C" fn linker_utils_survey_address_loads_nonnull(
 /// Has the instructions of a section of code compute the addresses that they load from words of an
 /// object's section of addresses, and turns their relocations into those after it, as
 /// `rewrite_address_loads` of `linker_rewriting`. What became of each relocation is in `decisions`,
-/// whose elements behind those of the relocations are unchanged. The types of loads are those of
+/// whose elements after those of the relocations are unchanged. The types of loads are those of
 /// which `linker_utils_entry_relocation` says another one.
 ///
 /// The first that applies of `UnknownArchitecture`; `FactsContradict`, of the symbol at `faulty`;

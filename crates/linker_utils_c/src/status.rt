@@ -74,7 +74,7 @@ pub enum Status {
     MalformedRelocation,
     /// The item begins below the end of the item before it.
     ItemsOverlap,
-    /// The address behind the item, or behind the section, is above 2^64 - 1.
+    /// The address after the item, or after the section, is above 2^64 - 1.
     EndsTooHigh,
     /// The site has more than two short shapes.
     TooManyShapes,
@@ -93,7 +93,7 @@ pub enum Status {
     /// The alignment is not a multiple of the run's granularity, and may keep other nops in other
     /// layouts.
     AlignmentBelowGranularity,
-    /// The address behind the nops is not a multiple of the run's granularity, and the alignment
+    /// The address after the nops is not a multiple of the run's granularity, and the alignment
     /// may keep other nops in other layouts.
     UnevenEnd,
     /// The alignment has a limit, and there are fewer nops than it less the granularity, and fewer
@@ -107,7 +107,7 @@ pub enum Status {
     HoldsNoValue,
     /// No bits are known, or some above bit 63, or there are more bits than are known.
     BadFieldValue,
-    /// No address is behind the relocation's value, or it is that of a page and known from below
+    /// No address is after the relocation's value, or it is that of a page and known from below
     /// bit 12.
     NoAddress,
     /// The low half does not have all bits below those of the high half, without rounding.
@@ -129,7 +129,7 @@ pub enum Status {
     LeavesOtherBytes,
     /// The alignment has no limit, and in some layout more nops may be needed than there are.
     MayBeMisaligned,
-    /// Bytes before the item, or behind the last one, are deleted that are of no item.
+    /// Bytes before the item, or after the last one, are deleted that are of no item.
     DeletedOutside,
     /// The relocation's symbol, or that of its high part, is not in the table.
     NoSymbol,
@@ -156,7 +156,7 @@ pub enum Status {
     UnknownPhase,
     /// No stub may serve the relocation: it is not that of a branch, or has no known meaning.
     NotABranch,
-    /// A stub has to store the TOC pointer, and nothing behind the branch restores it.
+    /// A stub has to store the TOC pointer, and nothing after the branch restores it.
     NoRoom,
     /// A stub has no bytes, or the unit of stubs is 0.
     StubWithoutLength,

@@ -399,7 +399,7 @@ x86_64_skipped kinds.TlsLdToLocalExec64 = Some 6
 x86_64_skipped kinds.TlsGdToInitialExec = Some 8
 x86_64_skipped kind = None
 
--- `n` bytes after its first field a sequence has another one, behind the byte of an opcode
+-- `n` bytes after its first field a sequence has another one, after the byte of an opcode
 abbrev pub HasFieldAt : ℕ → Original → Type 0
 HasFieldAt n r =
     (opcode : ℕ) × (rest : List (ℕ × ℕ))

@@ -664,7 +664,7 @@ impl RelaxationKind {
     }
 
     /// The bytes that `apply` writes; none for `NoOp`. The field whose value is written afterwards
-    /// lies behind them, as the last 4 of the 16 bytes of a general-dynamic sequence; but
+    /// lies after them, as the last 4 of the 16 bytes of a general-dynamic sequence; but
     /// `JmpIndirectToRelative` and `TlsGdToLocalExecLarge` write 0 to their field.
     #[inline]
     pub fn window(self) -> RewriteWindow

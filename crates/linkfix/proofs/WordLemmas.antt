@@ -31,7 +31,7 @@ words_of-end = refl
 
 -- ---- the first word
 
--- a line with nothing behind its spaces has no word
+-- a line with nothing after its spaces has no word
 pub words_of-none : (line : List ℕ) → after_spaces line ≡ [] → words_of line ≡ []
 words_of-none [] h = words_of-end
 words_of-none (c ∷ cs) h =
@@ -49,7 +49,7 @@ words_of-word c (d ∷ ds) letter =
       | inr next ↦ words_of-letter c (d ∷ ds) letter ∙ rw (words_of-word d ds next) (rw (letter, next) (simp one-add))
     ]
 
--- the first word goes up to the next space, and the other words stand behind it
+-- the first word goes up to the next space, and the other words stand after it
 pub words_of-first : (line : List ℕ) → 0 < length (after_spaces line)
     → words_of line ≡ front_word (after_spaces line) ∷ words_of (after_word (after_spaces line))
 words_of-first [] h = absurd (omega arith)

@@ -114,7 +114,7 @@ RejectsLine line state error =
     × ((command : Command) → ¬ IsWrittenAs command (words_of line)))
     ⊎ ((command : Command) × IsWrittenAs command (words_of line) × Rejects command state error)
 
--- the first line of the input is a section, the lines behind it up to the rest are executed, and
+-- the first line of the input is a section, the lines after it up to the rest are executed, and
 -- this is printed
 abbrev pub RunsTo : List ℕ → List ℕ → SectionState → List ℕ → Type 0
 RunsTo input rest after printed = (before : SectionState)
@@ -123,11 +123,11 @@ RunsTo input rest after printed = (before : SectionState)
     × (lines : List (List ℕ)) × BeginWithLines lines (drop_through 10 input) rest
     × ExecutesLines lines before after printed
 
--- all lines behind the section are executed, and this is printed
+-- all lines after the section are executed, and this is printed
 abbrev pub ExecutesInput : List ℕ → List ℕ → Type 0
 ExecutesInput input printed = (after : SectionState) × RunsTo input [] after printed
 
--- the run ends with this error: the first line is no section, or one behind it is rejected; or it
+-- the run ends with this error: the first line is no section, or one after it is rejected; or it
 -- runs out of memory. What is printed before is the output of the lines before.
 abbrev pub EndsWith : List ℕ → List ℕ → ReportedError → Type 0
 EndsWith input printed error =

@@ -446,7 +446,7 @@ fn put_symbol(
 }
 
 /// Writes the run with an index of functions that linkers provide: their names without the number
-/// behind it to the beginning of `prefix`, its length to `prefix_used`, and the numbers. The first
+/// after it to the beginning of `prefix`, its length to `prefix_used`, and the numbers. The first
 /// that applies of `UnknownArchitecture`; `NotProvided`, of an index that is too large; `TooShort`.
 pub fn linker_utils_provided_run_nonnull(
     machine: u16,

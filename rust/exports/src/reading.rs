@@ -1,7 +1,7 @@
 // SPDX-License-Identifier: MIT OR Apache-2.0
 // Made by tools/erase of crates/linker_utils_c/src/reading.rt.
 //! The numbers in immediates; what stands in the fields of linked relocations, and the addresses
-//! behind it.
+//! after it.
 
 use crate::forms::form_of;
 use crate::relocate::OperandNumbers;

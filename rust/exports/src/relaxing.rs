@@ -18,7 +18,7 @@ pub struct ItemNumbers {
     pub offset: u64,
     /// The input offset that a site has to reach. Of an alignment it means nothing.
     pub target: u64,
-    /// What the output address behind an alignment is a multiple of: a power of two. Of a site it
+    /// What the output address after an alignment is a multiple of: a power of two. Of a site it
     /// means nothing.
     pub alignment: u64,
     /// How many bytes of nops of an alignment with a limit may stay. Where more are needed, none
@@ -142,7 +142,7 @@ pub fn linker_utils_standard_shapes(number: u32, shapes: &mut Shapes) -> u32 {
 
 /// Whether `linker_utils_relax` accepts the items of a run that begins at the address `start`. The
 /// status is else that of the first fault of the first faulty item, whose index is `faulty`, in the
-/// order of the statuses from `ItemsOverlap` on, with `Misaligned` behind `UnevenShape` and
+/// order of the statuses from `ItemsOverlap` on, with `Misaligned` after `UnevenShape` and
 /// `MayBeMisaligned` as the last; those from `UnevenShape` on count only where no item has one of
 /// those before.
 pub fn linker_utils_items_relaxable_nonnull(
@@ -224,7 +224,7 @@ pub fn linker_utils_run_deltas_nonnull(
     Status::Success.number()
 }
 
-/// The delta of an item of which so many bytes stay, behind deletions of so many bytes.
+/// The delta of an item of which so many bytes stay, after deletions of so many bytes.
 #[inline(always)]
 fn delta_of(item: &ItemNumbers, stay: u64, before: u64) -> RelaxDelta {
     let bytes_deleted = item.len - stay as u32;

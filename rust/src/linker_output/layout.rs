@@ -51,12 +51,12 @@ pub struct RunWord {
 }
 
 /// Functions that compilers call and linkers provide, which save or restore registers: one run of
-/// code, whose function with a number n begins 4 * `spacing` * (n - `first`) bytes behind the run's
+/// code, whose function with a number n begins 4 * `spacing` * (n - `first`) bytes after the run's
 /// start. They take registers that stubs change, so that branches have to reach them directly: a
 /// linker may place a run more than once.
 #[derive(Debug, Clone, Copy, PartialEq, Eq)]
 pub struct ProvidedRun {
-    /// The functions' names without the number, which stands behind it in decimal.
+    /// The functions' names without the number, which stands after it in decimal.
     pub prefix: &'static str,
     /// The least number.
     pub first: u32,
@@ -66,9 +66,9 @@ pub struct ProvidedRun {
     pub word: u32,
     /// What each further function's first instruction has more than the one before it.
     pub step: u32,
-    /// The second instruction of each function, where the next function begins behind that.
+    /// The second instruction of each function, where the next function begins after that.
     pub second: Option<RunWord>,
-    /// The instructions behind all these.
+    /// The instructions after all these.
     pub tail: &'static [u32],
 }
 
@@ -102,7 +102,7 @@ impl ProvidedRun {
     ///
     /// let runs = Target::of(Architecture::Ppc64).runs;
     /// let save = runs.iter().find(|run| run.prefix == "_savegpr0_").unwrap();
-    /// // `std 31,-8(1)` of `_savegpr0_31`, and behind it `std 0,16(1)` and `blr`
+    /// // `std 31,-8(1)` of `_savegpr0_31`, and after it `std 0,16(1)` and `blr`
     /// let index = u64::from(31 - save.first);
     /// assert_eq!(save.word_at(index), Some(0xfbe1_fff8));
     /// assert_eq!(save.word_at(index + 1), Some(0xf801_0010));

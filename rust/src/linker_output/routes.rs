@@ -24,7 +24,7 @@ pub enum Route {
         kind: StubKind,
         /// At which offset the branch enters the stub. Where that is 0 and `Stub::entry` isn't, the
         /// stub stores PowerPC64's TOC pointer, and `ld 2,24(1)` has to be in place of a `nop`
-        /// behind the branch.
+        /// after the branch.
         entry: u64,
         /// What `Target::write_stub` takes as the target.
         target: u64,
@@ -39,7 +39,7 @@ pub enum RouteError {
     NotABranch,
     /// The relocation has no value.
     Value(ValueError),
-    /// A stub has to store PowerPC64's TOC pointer, and behind the branch is neither a `nop` nor
+    /// A stub has to store PowerPC64's TOC pointer, and after the branch is neither a `nop` nor
     /// `ld 2,24(1)`, or it is no `bl`.
     NoRoom,
     /// It has to go by a stub of the kind `Jump`, of which the description has none.
@@ -98,14 +98,14 @@ fn lacks_toc(architecture: Architecture, code: u32, symbol: &Symbol) -> bool {
     has_no_toc(architecture, code) && (is_entered(symbol) && 1 < symbol.other / 32)
 }
 
-/// How far behind a function's global entry point its local one is.
+/// How far after a function's global entry point its local one is.
 #[inline(always)]
 fn local_entry(other: u8) -> u64 {
     let logarithm = other / 32;
     if logarithm < 2 { 0 } else { 1 << logarithm }
 }
 
-/// How far behind a function's global entry point a stub goes.
+/// How far after a function's global entry point a stub goes.
 #[inline(always)]
 fn behind_global(architecture: Architecture, code: u32, symbol: &Symbol) -> u64 {
     if has_toc(architecture, code) {
@@ -241,7 +241,7 @@ impl Target {
         }
     }
 
-    /// The route of a branch, by whether there is room behind it, and why it can't be written.
+    /// The route of a branch, by whether there is room after it, and why it can't be written.
     #[inline(always)]
     fn route_by(
         &self,

@@ -106,7 +106,7 @@ pub(crate) fn has_bytes(section: &[u8], offset: u64, len: u64) -> bool {
     offset <= section_len && len <= section_len - offset
 }
 
-/// Whether the relocation behind the one at an index has a code and is at the same place.
+/// Whether the relocation after the one at an index has a code and is at the same place.
 #[inline(always)]
 pub(crate) fn is_marked<R: AsRelocation>(relocations: &[R], index: usize, code: u32) -> bool {
     if index + 1 >= relocations.len() {
@@ -136,7 +136,7 @@ fn is_formed(machine: Machine, section: &[u8], relocation: &Relocation) -> bool 
 }
 
 /// The index of the first relocation that isn't what the psABI allows: one that lies
-/// behind the section's end, one of a call where less than eight bytes are there
+/// after the section's end, one of a call where less than eight bytes are there
 /// (`R_RISCV_CALL`, `R_RISCV_CALL_PLT`, `R_LARCH_CALL36`), or one of an alignment whose
 /// nops the addend doesn't tell.
 ///
@@ -157,7 +157,7 @@ pub fn first_malformed<R: AsRelocation>(
     None
 }
 
-/// What a walk that stands at a relocation has to know of those behind it: on RISC-V the index of
+/// What a walk that stands at a relocation has to know of those after it: on RISC-V the index of
 /// the next alignment. `known` is what it knew before.
 #[inline(always)]
 fn ahead<R: AsRelocation>(machine: Machine, relocations: &[R], index: usize, known: usize) -> usize {
@@ -216,7 +216,7 @@ pub struct SectionItems {
 ///
 /// **LoongArch.** Where `R_LARCH_RELAX` is the next relocation, at the same offset, and the target
 /// is in the run, `R_LARCH_CALL36` makes a `CALL36` if the bytes are `pcaddu18i` and `jirl` of one
-/// register and the `jirl` links `ra` or none. `R_LARCH_PCALA_HI20` makes a `PCALA` if behind its
+/// register and the `jirl` links `ra` or none. `R_LARCH_PCALA_HI20` makes a `PCALA` if after its
 /// `R_LARCH_RELAX` are `R_LARCH_PCALA_LO12` of the next instruction, with the same target, and an
 /// `R_LARCH_RELAX` there, and the bytes are `pcalau12i` and `addi.d` of one register.
 ///

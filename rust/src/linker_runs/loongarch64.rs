@@ -107,7 +107,7 @@ fn is_call36<R: AsRelocation>(section: &[u8], relocations: &[R], index: usize) -
         && is_call(section, relocation_at(relocations, index).offset)
 }
 
-/// Whether the low part of an address is two relocations behind the high part.
+/// Whether the low part of an address is two relocations after the high part.
 #[inline]
 fn has_low_part<R: AsRelocation>(relocations: &[R], index: usize) -> bool {
     let high = relocation_at(relocations, index);

@@ -45,7 +45,7 @@ pub enum ItemError {
     /// It doesn't lie in the section.
     OutOfSection,
     /// Bytes between the item before it, or the section's begin, and it are deleted, so that an
-    /// item is missing. The index is that behind the last item where bytes between that and the
+    /// item is missing. The index is that after the last item where bytes between that and the
     /// section's end are.
     DeletedOutside,
     /// So many bytes of it stay, but they aren't its first ones.
@@ -79,7 +79,7 @@ pub(crate) enum Piece {
     Code(Code),
 }
 
-/// Whether the item at an index begins at or above a position behind the one before it.
+/// Whether the item at an index begins at or above a position after the one before it.
 #[inline(always)]
 fn is_apart(index: usize, behind: &Position, item: &Item) -> bool {
     index == 0 || behind.input_offset <= item.offset()
@@ -405,8 +405,8 @@ pub fn has_its_instructions(machine: Machine, section: &[u8], base: u64, item: &
 /// `R_RISCV_CALL`, `R_LARCH_B26` in place of `R_LARCH_CALL36`, and `R_LARCH_PCREL20_S2` in place of
 /// `R_LARCH_PCALA_HI20`. So `relocate_section` writes its value, and an output can keep it. The
 /// others at such a site's begin, those of alignments among the items, and those whose byte is
-/// deleted, as `R_LARCH_PCALA_LO12`, have the type 0. Any other keeps its type. One behind the
-/// section's end stays as it is, and so do bytes behind the last whole relocation.
+/// deleted, as `R_LARCH_PCALA_LO12`, have the type 0. Any other keeps its type. One after the
+/// section's end stays as it is, and so do bytes after the last whole relocation.
 ///
 /// Requires an output of `packed_run_len` bytes. The deltas are as `SectionRelaxDeltas::deltas`
 /// lists them (`DeltaSlice::has_valid_deltas`). With others the call is safe, but what it writes

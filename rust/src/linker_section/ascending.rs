@@ -97,7 +97,7 @@ fn last_field(architecture: Architecture, relocations: &[u8], index: usize, step
     }
 }
 
-/// The same as `write_one`, of the relocation behind those that were written quickly since a step.
+/// The same as `write_one`, of the relocation after those that were written quickly since a step.
 /// None where it is before the last field.
 #[inline(never)]
 fn write_slowly(

@@ -26,7 +26,7 @@ pub struct Symbol {
     pub module_entry: u64,
     /// That of the class `Descriptor`.
     pub descriptor: u64,
-    /// The addend of these four entries: they are of S + `entry_addend`. 0 but for AArch64 and
+    /// The addend of these four entries: they are of S + `entry_addend`. 0 except for AArch64 and
     /// PowerPC64, where a relocation may require an entry of S + A. A linker with entries of a
     /// symbol for other addends has a further symbol in the table for each.
     pub entry_addend: i64,

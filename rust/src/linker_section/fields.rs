@@ -83,7 +83,7 @@ fn continues(first: RelocationKind, second: RelocationKind) -> bool {
 }
 
 impl Field {
-    /// Whether a field at the same offset or behind has no byte of this one, or its relocation
+    /// Whether a field at the same offset or after has no byte of this one, or its relocation
     /// continues with this one's number.
     #[inline(always)]
     pub(crate) fn is_clear_of(&self, last: &Field) -> bool {

@@ -94,7 +94,7 @@ const SIGNED_32: (i64, i64) = (-0x8000_0000, 0x8000_0000);
 
 const UNSIGNED_12: (i64, i64) = (0, 0x1000);
 
-/// The conditions of entries, by the names that the definition has for them. Behind some stands how
+/// The conditions of entries, by the names that the definition has for them. After some stands how
 /// many bytes before the first instruction is.
 macro_rules! when {
     // by `pcaddi` alone

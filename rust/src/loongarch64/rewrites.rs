@@ -248,7 +248,7 @@ impl RelaxationKind {
     }
 
     /// The bytes that `apply` writes: the 4 from the offset, and none for `NoOp`, `Delete` and
-    /// `DeleteAddi`. Those that are then deleted (`deleted`) may lie behind them.
+    /// `DeleteAddi`. Those that are then deleted (`deleted`) may lie after them.
     #[must_use]
     #[inline]
     pub fn window(self) -> RewriteWindow {

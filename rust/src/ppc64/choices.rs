@@ -92,7 +92,7 @@ macro_rules! when {
         conditions!(EXECUTABLE + RELAXABLE + GROUP_FITS)
     };
     // the address in place of the distance from a function's entry, by the `addis` and by the
-    // `addi` behind it, which have the addends 0 and 4
+    // `addi` after it, which have the addends 0 and 4
     (to_address $addend:literal) => {
         conditions!(
             BOUND + FIXED_ADDRESS + GROUP_FITS,
@@ -189,13 +189,13 @@ impl ChosenByTable for RelaxationKind {
 ///
 /// At `R_PPC64_TLSGD` and `R_PPC64_TLSLD` the fact `is_relaxable` says that the call, whose own
 /// relocation is the next one, has `R_PPC64_REL24_NOTOC`. Such a call is of prefixed code, which
-/// has the address complete before it. Behind one with `R_PPC64_REL24` stands a `nop`, in whose
-/// place the address is completed. The bytes don't distinguish them: a `nop` behind a call of
+/// has the address complete before it. After one with `R_PPC64_REL24` stands a `nop`, in whose
+/// place the address is completed. The bytes don't distinguish them: a `nop` after a call of
 /// prefixed code may align the next instruction.
 ///
 /// The sequence of `R_PPC64_REL16_HA` and `R_PPC64_REL16_LO` is the pair at the entry of a function
 /// that computes the TOC pointer from the function's address, which register 12 has there (the
-/// same, "Function Prologue"): the second stands 4 bytes behind the first. A linker sets
+/// same, "Function Prologue"): the second stands 4 bytes after the first. A linker sets
 /// `group_fits` only where both are there, with the same symbol.
 ///
 /// That of `R_PPC64_TPREL16_HA`, `R_PPC64_TPREL16_LO` and `R_PPC64_TPREL16_LO_DS` is all of these

@@ -66,7 +66,7 @@ pub enum RelaxationKind {
     KeepAddis,
     /// Turns `addis 2,12`, at the entry of a function, into `lis 2,0`.
     AddisToLis,
-    /// Writes `addi 2,2,0` behind that. The addend is then 0.
+    /// Writes `addi 2,2,0` after that. The addend is then 0.
     AddiBehindLis,
     /// Writes `nop` in place of `addis rT,13`.
     AddisThreadToNop,

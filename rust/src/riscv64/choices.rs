@@ -48,7 +48,7 @@ impl ChosenKind for RelaxationKind {
     }
 }
 
-/// The conditions of entries, by the names that the definition has for them. Behind some a further
+/// The conditions of entries, by the names that the definition has for them. After some a further
 /// fact stands that has to hold.
 macro_rules! when {
     // a `jal` reaches the symbol

@@ -274,7 +274,7 @@ impl RelaxationKind {
 
     /// The bytes that `apply` writes, which begin at the offset: none for `NoOp`, `Hi20Delete` and
     /// `Delete`, 2 for `Hi20ToCLui`, `TailToCJ` and `CLuiToCLi`, and 4 for the others. Those that
-    /// are then deleted (`deleted`) may lie behind them.
+    /// are then deleted (`deleted`) may lie after them.
     #[must_use]
     #[inline]
     pub fn window(self) -> RewriteWindow {

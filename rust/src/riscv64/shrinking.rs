@@ -61,7 +61,7 @@ fn count_between<A: AsChoice>(answer: &[A], from: usize, to: usize) -> usize {
 const RUNS: usize = 1024;
 
 /// How many calls are chosen in each run of `len` calls, from the first call on. The run in which
-/// the calls end is shorter, and those behind it are empty.
+/// the calls end is shorter, and those after it are empty.
 struct Runs {
     len: usize,
     counts: [usize; RUNS],

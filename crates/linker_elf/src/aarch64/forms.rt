@@ -238,7 +238,7 @@ impl AArch64Instruction {
 /// What other modules use of a form.
 impl AArch64Instruction {
     /// The bits of an instruction that a write of the form may change: of `Movnz` also those of the
-    /// opcode but for the size of the register.
+    /// opcode except for the size of the register.
     #[inline]
     pub fn field_mask(self) -> u64
         ensures { result ≡ aarch64_mask self }

@@ -222,7 +222,7 @@ pub trait ChosenByTable: ChosenKind {
         !Self::choose(name, section, offset, &facts).is_unchanged(name)
     }
 
-    // a relocation that has entries has some behind the opcode of x86-64's `mov`
+    // a relocation that has entries has some after the opcode of x86-64's `mov`
     ghost sampled: { AreSampled Self.ChosenKind.tables.entries };
 }
 
@@ -496,7 +496,7 @@ macro_rules! originals {
     };
 }
 
-/// A table: of each entry the rewrite, the instructions behind `at`, the relocation after it, and
+/// A table: of each entry the rewrite, the instructions after `at`, the relocation after it, and
 /// the name that the macro `$when` has for the conditions.
 #[macro_export]
 macro_rules! table_of {
@@ -517,7 +517,7 @@ macro_rules! table_of {
     };
 }
 
-/// What the table of a name is used for, behind other arms, if any: in an arm for each name, and
+/// What the table of a name is used for, after other arms, if any: in an arm for each name, and
 /// there of a constant table. The macro `$when` has the conditions.
 #[macro_export]
 macro_rules! by_table {

@@ -174,7 +174,7 @@ fn put<K: Copy, R: Copy>(
     choices[index] = choice;
 }
 
-/// The choices of entries, and behind these another.
+/// The choices of entries, and after these another.
 #[inline(always)]
 fn choices_of<O, K: Copy, R: Copy>(
     entries: &'static [ChoiceEntry<O, K, R>],
@@ -256,7 +256,7 @@ fn first_at<N: RecognisedName>(
 /// Which rewrites, and relocations after them, a linker may have made at the relocation with a
 /// name, whose offset in the original bytes is given: those after which the original bytes differ
 /// from the linked ones only in the field of the relocation after it and in `others`. They have
-/// their places in the table of `choose`, behind which is `NoOp` and the same name. A choice that
+/// their places in the table of `choose`, after which is `NoOp` and the same name. A choice that
 /// is listed twice has the first one, so that none is returned twice.
 ///
 /// - Both windows may begin before the relocation, at the same place. The original one has at most

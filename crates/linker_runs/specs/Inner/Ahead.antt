@@ -1,4 +1,4 @@
--- What a walk through relocations knows of those behind the one where it stands.
+-- What a walk through relocations knows of those after the one where it stands.
 use Rattle.std.specs.Prelude.{ℕ, ◌≤◌, ◌⊎◌, List, ⊤}
 use Rattle.linker_runs.specs.RiscVItems.{IsNextAlignment}
 use Rattle.linker_runs.specs.declared.items.Relocation.{Relocation}

@@ -131,7 +131,7 @@ fn word_at(section: &[u8], offset: u64) -> [u8; 4]
     word
 }
 
-/// Two words, one behind the other.
+/// Two words, one after the other.
 #[inline(always)]
 fn joined(first: [u8; 4], second: [u8; 4]) -> [u8; 8]
     ensures { result ≡ first ++ second }

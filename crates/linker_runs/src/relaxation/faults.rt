@@ -22,7 +22,7 @@ use crate::shapes::loongarch64::CALL36;
 pub enum Fault {
     /// It begins below the end of the item before it.
     Overlaps,
-    /// The address behind it is above 2^64 - 1.
+    /// The address after it is above 2^64 - 1.
     TooHigh,
     /// It has more than two short shapes.
     TooManyShapes,
@@ -44,7 +44,7 @@ pub enum Fault {
     Misaligned,
     /// The alignment isn't a multiple of u, nor still.
     AlignmentBelowGranularity,
-    /// The address behind the nops isn't a multiple of u, and the alignment isn't still.
+    /// The address after the nops isn't a multiple of u, and the alignment isn't still.
     UnevenEnd,
     /// It has a limit, and there are fewer nops than the alignment less u, and fewer than may stay.
     TooFewNops,
@@ -264,12 +264,12 @@ fn first_fault<I: AsItem>(items: &ItemList<'_, I>, start: u64) -> Option<ItemFau
 
 /// Whether `relax` and `relax_into` accept a run at an address.
 ///
-/// The items ascend, none reaches past the next, and the address behind the last is below 2^64. No
+/// The items ascend, none reaches past the next, and the address after the last is below 2^64. No
 /// shape of a site keeps more bytes than the site has, and each keeps fewer than the next. Each
 /// short one reaches its own offset and no farther than the next short one; its granularity is a
 /// power of two and a multiple of the next one's. With u the greatest granularity of all short
 /// shapes each shape frees a multiple of u, and each alignment, a power of two, and the address
-/// behind its nops are multiples of u; but an alignment may also divide u, have no limit and have
+/// after its nops are multiples of u; but an alignment may also divide u, have no limit and have
 /// the nops that its input address needs, and beside these a multiple of u. No target is strictly
 /// inside the bytes that an item may lose; that of a site without short shapes isn't required. That
 /// of an `R_LARCH_CALL36` is a multiple of 4 bytes away.

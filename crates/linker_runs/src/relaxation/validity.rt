@@ -211,7 +211,7 @@ impl Item {
         }
     }
 
-    /// Whether it aligns an offset behind it to a multiple of a number in every layout.
+    /// Whether it aligns an offset after it to a multiple of a number in every layout.
     #[inline]
     fn is_anchor(&self, number: u64, offset: u64) -> bool
         requires number { 0 < number }
@@ -228,7 +228,7 @@ impl Item {
         }
     }
 
-    /// Whether it frees only multiples of a number that divides the address of an offset behind it.
+    /// Whether it frees only multiples of a number that divides the address of an offset after it.
     #[inline]
     fn frees_multiples(&self, number: u64, offset: u64) -> bool
         requires number { 0 < number }

@@ -13,7 +13,7 @@ use Rattle.linker_utils.specs.declared.elf.Architecture.{Architecture}
 abbrev pub continues_at : Field → Field → Bool
 continues_at field last = field.len == last.len && continues last.kind field.kind
 
--- a field at the same offset or behind
+-- a field at the same offset or after
 abbrev pub is_clear_of : Field → Field → Bool
 is_clear_of field last =
     nat_le last.len (field.offset - last.offset)

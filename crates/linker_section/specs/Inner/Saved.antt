@@ -26,7 +26,7 @@ with_word offset word section =
     ++ (take (length section - offset) (to_le_bytes w64 word) ++ drop (offset + 8) section)
     else section
 
--- from where on the bytes are saved: a pair's second has those behind the 8 of its first
+-- from where on the bytes are saved: a pair's second has those after the 8 of its first
 abbrev pub saved_place : Option RelocationKindInfo → ℕ → ℕ
 saved_place None offset = offset
 saved_place (Some row) offset = if ends_pair row.size row.kind then sum_64 offset 8 else offset

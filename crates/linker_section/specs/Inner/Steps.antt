@@ -41,7 +41,7 @@ IsLimit architecture bytes section (Some limit) =
     AreApart architecture bytes section limit
     × (limit < length bytes / 24 → IsOverlapped architecture bytes section limit)
 
--- the relocation behind an index is the second of a pair at the same offset
+-- the relocation after an index is the second of a pair at the same offset
 pub record IsSecond (architecture : Architecture) (bytes : List ℕ) (i : ℕ) : Type 0 where
   pub within : i + 1 < length bytes / 24
   pub same_offset : offset_at bytes (i + 1) ≡ offset_at bytes i
@@ -67,7 +67,7 @@ IsPairOutcome architecture addresses bytes symbols i before after (Ok u) =
 IsPairOutcome architecture addresses bytes symbols i before after (Err error) =
     (after ≡ before) × IsPairCause architecture addresses bytes symbols i before error
 
--- relocations below an index are apart, and what is behind the last field is unchanged
+-- relocations below an index are apart, and what is after the last field is unchanged
 pub record Ascends (architecture : Architecture) (bytes before now : List ℕ) (k : ℕ)
     (last : Field) : Type 0 where
   pub apart : AreApart architecture bytes before k

@@ -197,7 +197,7 @@ impl AArch64Instruction {
 /// What other modules use of a form.
 impl AArch64Instruction {
     /// The bits of an instruction that a write of the form may change: of `Movnz` also those of the
-    /// opcode but for the size of the register.
+    /// opcode except for the size of the register.
     #[doc(hidden)]
     #[must_use]
     #[inline]

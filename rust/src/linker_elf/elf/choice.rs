@@ -48,7 +48,7 @@ pub struct LinkFacts {
     /// Field Values").
     pub may_change_toc: bool,
     /// Each relocation of the sequence that this one is part of can be rewritten: `fits` of the
-    /// architecture is true of all of them, with the same facts but for `place`. Where the
+    /// architecture is true of all of them, with the same facts except for `place`. Where the
     /// instructions of a sequence may be apart, none of them is rewritten without it.
     ///
     /// At `R_X86_64_TLSGD` and `R_X86_64_TLSLD` it says that a relocation whose type

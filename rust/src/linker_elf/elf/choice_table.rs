@@ -437,7 +437,7 @@ macro_rules! originals {
     };
 }
 
-/// A table: of each entry the rewrite, the instructions behind `at`, the relocation after it, and
+/// A table: of each entry the rewrite, the instructions after `at`, the relocation after it, and
 /// the name that the macro `$when` has for the conditions.
 macro_rules! table_of {
     ($when:ident [$(
@@ -457,7 +457,7 @@ macro_rules! table_of {
     };
 }
 
-/// What the table of a name is used for, behind other arms, if any: in an arm for each name, and
+/// What the table of a name is used for, after other arms, if any: in an arm for each name, and
 /// there of a constant table. The macro `$when` has the conditions.
 macro_rules! by_table {
     (

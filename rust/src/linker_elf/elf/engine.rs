@@ -37,7 +37,7 @@ pub(crate) struct Encoding {
     pub(crate) flag: u64,
 }
 
-/// What is read without a sign, and what each form is but for what `form!` says of it.
+/// What is read without a sign, and what each form is except for what `form!` says of it.
 pub(crate) const UNSIGNED: Encoding = Encoding {
     window: Window::Four,
     bits: BitRange { start: 0, end: 0 },

@@ -100,7 +100,7 @@ fn is_cut<L: AsDeletion>(base: u64, deleted: &[L], index: usize, item: &Item) ->
     base + start < item.offset() + item.len()
 }
 
-/// Lists the item of the relocation at an index behind the deletions that begin at or below it.
+/// Lists the item of the relocation at an index after the deletions that begin at or below it.
 /// None where it overlaps one of them or of the items before it.
 #[inline]
 fn list_item<L: AsDeletion, I: AsItem>(

@@ -38,7 +38,7 @@ fn lay_out_cautiously<I: AsItem>(
 }
 
 /// Gives the site at an index its next shape if it is out of reach, and returns how many bytes
-/// fewer it then frees. What `freed` has behind the index is `more` above what the choice frees.
+/// fewer it then frees. What `freed` has after the index is `more` above what the choice frees.
 fn lengthen_at<I: AsItem>(
     items: &ItemList<'_, I>,
     start: u64,

@@ -137,7 +137,7 @@ address_by literals o s both made p is_made adrp1 add1 adr2 first d1 leads b2 =
     (step_adr y n t (decodes_adr y adr.opcode adr.top) rd named))
     (alike_once n _ _ (adr_address y t) s (d.value_is ∙ sym value))
 
--- The page is near, where `adr` at the place, or behind it, reaches the address.
+-- The page is near, where `adr` at the place, or after it, reaches the address.
 abbrev AreNear : Operands → ℕ → Type 0
 AreNear o q =
     (v w : ℤ)

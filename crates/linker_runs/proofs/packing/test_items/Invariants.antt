@@ -7,7 +7,7 @@ use Rattle.linker_runs.specs.Packing.{section_of, gap_start}
 use Rattle.linker_runs.specs.Inner.Packing.{AreReady}
 use Rattle.linker_runs.proofs.packing.test_items.Given as goal
 
--- the items so far lie in the section and can be written, and the walk stands behind them
+-- the items so far lie in the section and can be written, and the walk stands after them
 abbrev pub invariant-loop-index : goal.invariant-loop-index
 invariant-loop-index g l = record {
   inside : (i : ℕ) → i < l.index → end_of (item_at l.items i) ≤ l.base + length l.section;

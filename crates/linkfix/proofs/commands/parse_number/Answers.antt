@@ -4,7 +4,7 @@ use Rattle.std.specs.Char.{digit_value}
 use Rattle.linkfix.proofs.Digits.{digits_value_after-grows}
 use Rattle.linkfix.proofs.commands.parse_number.Goals as goal
 
--- the number is too great with the next digit, and the digits behind it make it no smaller
+-- the number is too great with the next digit, and the digits after it make it no smaller
 pub returns-then-value-digit : goal.returns-then-value-digit
 returns-then-value-digit c =
     let word = c.args.word.now in

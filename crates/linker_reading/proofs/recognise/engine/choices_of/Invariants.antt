@@ -3,7 +3,7 @@ use Rattle.linker_reading.specs.Inner.Found.{choices_in}
 use Rattle.linker_elf.specs.Choices.{choice}
 use Rattle.linker_reading.proofs.recognise.engine.choices_of.Given as goal
 
--- those of the entries so far, and behind them the other one
+-- those of the entries so far, and after them the other one
 abbrev pub invariant-loop-index : goal.invariant-loop-index
 invariant-loop-index g l =
     l.choices ≡ choices_in (take l.index l.entries) (choice l.fn.kind l.fn.relocation) ++ replicate (5 - l.index) (choice l.fn.kind l.fn.relocation)

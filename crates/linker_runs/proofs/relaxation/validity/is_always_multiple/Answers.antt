@@ -5,7 +5,7 @@ use Rattle.linker_runs.specs.Choosing.{IsAnchor, FreesMultiples, IsAlwaysMultipl
 use Rattle.linker_runs.proofs.Addresses.{ends_by}
 use Rattle.linker_runs.proofs.relaxation.validity.is_always_multiple.Goals as goal
 
--- what the item so far behind tells
+-- what the item so far after tells
 last_of : (w start o : ℕ) (items : List Item) (n b : ℕ) → b < n
     → IsAlwaysMultiple w start o items (suc (n - 1 - b)) ↔ IsAlwaysMultiple w start o items (n - b)
 last_of w start o items n b below =
