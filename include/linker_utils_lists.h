@@ -58,7 +58,7 @@
            "The relocation is not one that the psABI allows there.") \
     STATUS(ITEMS_OVERLAP, 34, "The item begins below the end of the item before it.") \
     STATUS(ENDS_TOO_HIGH, 35, \
-           "The address behind the item, or behind the section, is above 2^64 - 1.") \
+           "The address after the item, or after the section, is above 2^64 - 1.") \
     STATUS(TOO_MANY_SHAPES, 36, "The site has more than two short shapes.") \
     STATUS(SHAPE_TOO_LONG, 37, "A shape keeps more bytes than the site has.") \
     STATUS(SHAPES_NOT_ASCENDING, 38, \
@@ -76,7 +76,7 @@
            "The alignment is not a multiple of the run's granularity, and may keep other nops " \
            "in other layouts.") \
     STATUS(UNEVEN_END, 44, \
-           "The address behind the nops is not a multiple of the run's granularity, and the " \
+           "The address after the nops is not a multiple of the run's granularity, and the " \
            "alignment may keep other nops in other layouts.") \
     STATUS(TOO_FEW_NOPS, 45, \
            "The alignment has a limit, and there are fewer nops than it less the granularity, " \
@@ -89,7 +89,7 @@
     STATUS(BAD_FIELD_VALUE, 49, \
            "No bits are known, or some above bit 63, or there are more bits than are known.") \
     STATUS(NO_ADDRESS, 50, \
-           "No address is behind the relocation's value, or it is that of a page and known from " \
+           "The relocation's value has no address, or the address is a page's and known from " \
            "below bit 12.") \
     STATUS(NOT_HALVES, 51, \
            "The low half does not have all bits below those of the high half, without rounding.") \
@@ -108,7 +108,7 @@
            "The alignment has no limit, and in some layout more nops may be needed than there " \
            "are.") \
     STATUS(DELETED_OUTSIDE, 60, \
-           "Bytes before the item, or behind the last one, are deleted that are of no item.") \
+           "Bytes before the item, or after the last one, are deleted that are of no item.") \
     STATUS(NO_SYMBOL, 61, \
            "The relocation's symbol, or that of its high part, is not in the table.") \
     STATUS(NO_ENTRY, 62, \
@@ -136,7 +136,7 @@
     STATUS(NOT_A_BRANCH, 72, \
            "No stub may serve the relocation: it is not that of a branch, or has no known meaning.") \
     STATUS(NO_ROOM, 73, \
-           "A stub has to store the TOC pointer, and nothing behind the branch restores it.") \
+           "A stub has to store the TOC pointer, and nothing after the branch restores it.") \
     STATUS(STUB_WITHOUT_LENGTH, 74, "A stub has no bytes, or the unit of stubs is 0.") \
     STATUS(NO_TARGET, 75, "The index of the branch's target is not in the table.") \
     STATUS(CODE_TOO_LONG, 76, \

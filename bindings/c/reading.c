@@ -6,7 +6,7 @@
 
 #include "linker_utils.h"
 
-/* What is known of the address after the relocation of a word at a place. */
+/* What is known of the address that the relocation of a word at a place leads to. */
 static struct linker_utils_field_value address_at(uint16_t machine, uint32_t r_type, uint64_t place,
                                                   uint32_t word) {
     const uint8_t bytes[4] = {(uint8_t)word, (uint8_t)(word >> 8), (uint8_t)(word >> 16),

@@ -69,7 +69,7 @@ impl Display for PlaceError {
             PlaceError::OutOfMemory => f.write_str("out of memory"),
             PlaceError::NoLength => f.write_str("a stub has no bytes, or the unit is 0"),
             PlaceError::NotAscending(index) => {
-                write!(f, "the boundary behind that at index {index} is below it")
+                write!(f, "the boundary after that at index {index} is below it")
             }
             PlaceError::NoTarget(index) => {
                 write!(f, "the target of the branch at index {index} is not in the table")
@@ -302,7 +302,7 @@ impl Display for Fault {
     fn fmt(&self, f: &mut Formatter<'_>) -> Result {
         f.write_str(match self {
             Fault::Overlaps => "the item begins below the end of the item before it",
-            Fault::TooHigh => "the address behind the item is above 2^64 - 1",
+            Fault::TooHigh => "the address after the item is above 2^64 - 1",
             Fault::TooManyShapes => "the site has more than two short shapes",
             Fault::ShapeTooLong => "a shape keeps more bytes than the site has",
             Fault::ShapesNotAscending => "a short shape keeps no fewer bytes than the next shape",
@@ -324,7 +324,7 @@ impl Display for Fault {
                  nops in other layouts"
             }
             Fault::UnevenEnd => {
-                "the address behind the nops is not a multiple of the run's granularity, and the \
+                "the address after the nops is not a multiple of the run's granularity, and the \
                  alignment may keep other nops in other layouts"
             }
             Fault::TooFewNops => {

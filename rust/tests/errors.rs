@@ -193,9 +193,9 @@ fn errors_of_runs_are_printed() {
         let said = status(name);
         assert_eq!(texts(found), ["the item at index 3 is faulty", said.as_str()]);
     }
-    let high = "the address behind the item is above 2^64 - 1";
+    let high = "the address after the item is above 2^64 - 1";
     assert_eq!(texts(Fault::TooHigh), [high]);
-    assert_eq!(high.replace("item", "item, or behind the section,"), status("ENDS_TOO_HIGH"));
+    assert_eq!(high.replace("item", "item, or after the section,"), status("ENDS_TOO_HIGH"));
 }
 
 /// What a reader returns, with the text of its error, and how many bytes it leaves.

@@ -123,7 +123,7 @@ static uint32_t any_relocation_type(void) {
 
 /* ---- The allocations of the archive. */
 
-#define BLOCKS 8
+#define BLOCKS 16
 #define BLOCK_LEN ((size_t)1 << 18)
 
 void *__wrap_malloc(size_t size);

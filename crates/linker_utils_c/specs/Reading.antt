@@ -1,5 +1,5 @@
 -- The number in the immediate of an instruction, what stands in the field of a relocation that is
--- named by numbers, and the address after it.
+-- named by numbers, and the address that it leads to.
 use Rattle.std.specs.Prelude.{◌≡◌, ℕ, ℤ, List, length, nat_lt, Bool, true, false, Option, None}
 use Rattle.std.specs.Prelude.{Some}
 use Rattle.linker_elf.specs.Relocate.{window_len}

@@ -106,8 +106,8 @@ pub enum Status {
     HoldsNoValue,
     /// No bits are known, or some above bit 63, or there are more bits than are known.
     BadFieldValue,
-    /// No address is after the relocation's value, or it is that of a page and known from below
-    /// bit 12.
+    /// The relocation's value has no address, or the address is a page's and known from below bit
+    /// 12.
     NoAddress,
     /// The low half does not have all bits below those of the high half, without rounding.
     NotHalves,
