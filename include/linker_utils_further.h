@@ -235,7 +235,7 @@ uint32_t linker_utils_entry_relocation(uint16_t machine, uint32_t r_type, uint32
  * word at the address that it refers to, whichever its symbol. `symbols` and `values` are those of
  * `linker_utils_survey_placed_section`. Where an architecture has no such section nothing is noted.
  * It takes a search in log n steps for each load. LINKER_UTILS_UNKNOWN_ARCHITECTURE;
- * LINKER_UTILS_FACTS_CONTRADICT, also of the symbol of a word. */
+ * LINKER_UTILS_FACTS_CONTRADICT. */
 static inline uint32_t linker_utils_survey_address_loads(
     uint16_t machine, const struct linker_utils_output_facts *output,
     const struct linker_utils_symbol_facts *symbols, size_t symbols_len,

@@ -11,7 +11,7 @@ use Rattle.linker_elf.specs.declared.elf.choice.Choice.{Choice}
 use Rattle.linker_elf.specs.declared.ppc64.relocations.Ppc64Relocation.TheVariants as ppc64
 use Rattle.linker_rewriting.specs.Candidates.{IsCandidateWith}
 use Rattle.linker_rewriting.specs.Decisions.{decision_at, start_by, end_by, start_at, end_at}
-use Rattle.linker_rewriting.specs.Agreement.{Agree, IsContradiction}
+use Rattle.linker_rewriting.specs.Decisions.{IsRejectedFirst}
 use Rattle.linker_rewriting.specs.Facts.{Setting, address_in, link_facts}
 use Rattle.linker_rewriting.specs.Labels.{IsHighFrom}
 use Rattle.linker_rewriting.specs.Rewritten.{IsRewritten}
@@ -22,7 +22,6 @@ use Rattle.linker_rewriting.specs.declared.decisions.RewritingError.TheVariants.
 use Rattle.linker_rewriting.specs.declared.decisions.RewritingError.TheVariants.{NotSurveyed}
 use Rattle.linker_rewriting.specs.declared.decisions.RewritingError.TheVariants.{Overlaps}
 use Rattle.linker_rewriting.specs.declared.decisions.RewritingError.TheVariants.{Contradiction}
-use Rattle.linker_rewriting.specs.declared.facts.SymbolFacts.{SymbolFacts}
 use Rattle.linker_rewriting.specs.declared.decisions.Subject.{Subject}
 use Rattle.linker_section.specs.Relocations.{relocation_in}
 use Rattle.linker_section.specs.Values.{IsAscending}
@@ -213,24 +212,12 @@ AreLoadsRejected s start words kept bytes section decisions (Overlaps n) =
     × (length bytes / 24 ≤ length decisions)
 AreLoadsRejected s start words kept bytes section decisions (Contradiction symbol) = ⊥
 
--- the tables of symbols agree about the symbols of a section's relocations and of those of words
-abbrev pub DoLoadsAgree : List SymbolFacts → List Symbol → List ℕ → List ℕ → Type 0
-DoLoadsAgree facts symbols words bytes = Agree facts symbols bytes × Agree facts symbols words
-
--- the first symbol about which they contradict each other, of the section before those of words
-abbrev pub IsContradictionOfLoads : List SymbolFacts → List Symbol → List ℕ → List ℕ → ℕ → Type 0
-IsContradictionOfLoads facts symbols words bytes symbol =
-    IsContradiction facts symbols bytes symbol
-    ⊎ (Agree facts symbols bytes × IsContradiction facts symbols words symbol)
-
--- they contradict each other, or they agree and there is another error
+-- the tables of symbols contradict each other, or they agree and there is another error
 abbrev pub AreLoadsRejectedFirst : Setting → ℕ → List ℕ → List Bool → List ℕ → List ℕ
     → List Decision → RewritingError → Type 0
-AreLoadsRejectedFirst s start words kept bytes section decisions (Contradiction symbol) =
-    IsContradictionOfLoads s.symbols s.values words bytes symbol
-AreLoadsRejectedFirst s start words kept bytes section decisions error =
-    DoLoadsAgree s.symbols s.values words bytes
-    × AreLoadsRejected s start words kept bytes section decisions error
+AreLoadsRejectedFirst s start words kept bytes section decisions =
+    IsRejectedFirst s.symbols s.values bytes
+    (AreLoadsRejected s start words kept bytes section decisions)
 
 -- an error that a section wasn't surveyed comes only where what it keeps isn't all noted
 abbrev pub MeansWordsUnsurveyed : Setting → ℕ → List ℕ → List ℕ → List ℕ → List Bool

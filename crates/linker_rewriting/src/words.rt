@@ -3,8 +3,9 @@
 //! compute its address: all that load it, or none.
 
 ghost use Rattle.std.specs.Prelude.{◌≡◌, ◌⊎◌, ◌↔◌, ◌+◌, ◌<◌, ◌≤◌, ◌/◌, ℕ, length, map, take};
-ghost use Rattle.std.specs.Prelude.{drop, IfSome, IfErr, OnOk, OnErr, All, true, MatchOption};
+ghost use Rattle.std.specs.Prelude.{drop, IfSome, IfErr, OnOk, OnErr, All, true};
 ghost use Rattle.linker_base.specs.Rewrite.{CanRewrite};
+ghost use Rattle.linker_rewriting.specs.Agreement.{Agree, IsContradiction};
 ghost use Rattle.linker_rewriting.specs.Candidates.{deletes_within};
 ghost use Rattle.linker_rewriting.specs.Decisions.{CanBeMade, AllCanBeMade, AreApart};
 ghost use Rattle.linker_rewriting.specs.Facts.{setting};
@@ -15,7 +16,6 @@ ghost use Rattle.linker_rewriting.specs.Words.{entry_code, word_code, word_offse
 ghost use Rattle.linker_rewriting.specs.Words.{IsLoad, IsLoadCandidate, word_stays, IsKeepingWord};
 ghost use Rattle.linker_rewriting.specs.Words.{AreLoadsSurveyed, IsLoadDecided, AreLoadsDecided};
 ghost use Rattle.linker_rewriting.specs.Words.{AreLoadsRejected, MeansWordsUnsurveyed};
-ghost use Rattle.linker_rewriting.specs.Words.{DoLoadsAgree, IsContradictionOfLoads};
 ghost use Rattle.linker_rewriting.specs.Words.{AreLoadsRejectedFirst};
 ghost use Rattle.linker_rewriting.specs.Words.{WordsAreWhole};
 ghost use Rattle.linker_section.specs.Relocations.{relocation_in};
@@ -212,24 +212,6 @@ fn keeping_word(
     }
 }
 
-/// The index of the symbol of the first relocation of a section or, where there is none, of the
-/// section of words, about which two tables contradict each other.
-#[inline(always)]
-fn contradiction_of_loads(
-    symbols: &[SymbolFacts],
-    values: &[Symbol],
-    words: &[u8],
-    relocations: &[u8],
-) -> Option<usize>
-    ensures { MatchOption result (DoLoadsAgree symbols.now values.now words.now relocations.now)
-        (IsContradictionOfLoads symbols.now values.now words.now relocations.now) }
-{
-    match contradiction(symbols, values, relocations) {
-        Some(symbol) => Some(symbol),
-        None => contradiction(symbols, values, words),
-    }
-}
-
 /// Notes which words of an object's section of addresses stay, since a relocation of this section
 /// of code is of an instruction that loads one and can't compute its address: it is none that the
 /// rewrite is meant for, the address may be of another file or in another place each time, or it is
@@ -247,8 +229,8 @@ fn contradiction_of_loads(
 /// # Errors
 ///
 /// `kept` is as before. `symbols` and `values` contradict each other about the symbol of a
-/// relocation of the section or, where there is none, of a word, as `RewritingError::Contradiction`
-/// says: the index of the first such symbol.
+/// relocation of the section, as `RewritingError::Contradiction` says: the index of the first such
+/// symbol. Those of words are compared by the call that writes the words' values by both tables.
 ///
 /// ```
 /// use linker_rewriting::facts::{OutputFacts, SymbolFacts};
@@ -295,12 +277,12 @@ pub fn survey_address_loads(
         output.now symbols.now addresses.now values.now) words_start words.now relocations.now
         section.now kept.old kept.new (length relocations.now / 24)) }
     ensures agree { OnOk result
-        (DoLoadsAgree symbols.now values.now words.now relocations.now) }
+        (Agree symbols.now values.now relocations.now) }
     ensures contradiction { IfErr result
-        (IsContradictionOfLoads symbols.now values.now words.now relocations.now) }
+        (IsContradiction symbols.now values.now relocations.now) }
     ensures unchanged { OnErr result (kept.new ≡ kept.old) }
 {
-    if let Some(symbol) = contradiction_of_loads(symbols, values, words, relocations) {
+    if let Some(symbol) = contradiction(symbols, values, relocations) {
         return Err(symbol);
     }
     let setting = Setting {
@@ -498,7 +480,7 @@ pub fn rewrite_address_loads<D: AsDecision>(
     decisions: &mut [D],
 ) -> Result<(), RewritingError>
     ensures agree { OnOk result
-        (DoLoadsAgree symbols.now values.now words.now relocations.old) }
+        (Agree symbols.now values.now relocations.old) }
     ensures decided { OnOk result (AreLoadsDecided (setting architecture Phase.Distances output.now
         symbols.now addresses.now values.now) words_start words.now kept.now relocations.old
         section.old (map D.decision decisions.new) (length relocations.old / 24)) }
@@ -526,7 +508,7 @@ pub fn rewrite_address_loads<D: AsDecision>(
     ensures section { OnErr result (section.new ≡ section.old) }
     ensures entries { OnErr result (relocations.new ≡ relocations.old) }
 {
-    if let Some(symbol) = contradiction_of_loads(symbols, values, words, relocations) {
+    if let Some(symbol) = contradiction(symbols, values, relocations) {
         return Err(RewritingError::Contradiction(symbol));
     }
     let setting = Setting {

@@ -1,10 +1,10 @@
 -- Loads of addresses from words of a section, rewritten in one call, in the numbers that C sees.
 use Rattle.std.specs.Prelude.{◌≡◌, ◌⊎◌, ℕ, ◌/◌, Bool, List, length, take, drop, All}
+use Rattle.linker_rewriting.specs.Agreement.{Agree}
 use Rattle.linker_rewriting.specs.Decisions.{AreApart}
 use Rattle.linker_rewriting.specs.Facts.{Setting}
 use Rattle.linker_rewriting.specs.Rewritten.{AreRelocationsAfter, AreDone, OthersStay}
 use Rattle.linker_rewriting.specs.Words.{AreLoadsDecided, AreLoadsRejectedFirst, WordsAreWhole}
-use Rattle.linker_rewriting.specs.Words.{DoLoadsAgree}
 use Rattle.linker_rewriting.specs.declared.decisions.Decision.{Decision}
 use Rattle.linker_utils_c.specs.Rewriting.{decisions_in, IsWrittenDecision, IsErrorReturned}
 use Rattle.linker_utils_c.specs.Status.{code}
@@ -27,7 +27,7 @@ AreLoadsReturned s start words kept bytes bytes_after section section_after old 
     old_faulty faulty status =
     (drop (length bytes / 24) new ≡ drop (length bytes / 24) old)
     × (((status ≡ code Success) × (faulty ≡ old_faulty)
-    × DoLoadsAgree s.symbols s.values words bytes
+    × Agree s.symbols s.values bytes
     × AreLoadsRewrittenAs s start words kept bytes bytes_after section section_after
     (decisions_in new)
     × All IsWrittenDecision (take (length bytes / 24) new))

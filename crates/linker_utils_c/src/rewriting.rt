@@ -7,8 +7,7 @@ ghost use Rattle.linker_rewriting.specs.Agreement.{Agree, IsContradiction};
 ghost use Rattle.linker_rewriting.specs.Facts.{early, setting};
 ghost use Rattle.linker_rewriting.specs.Groups.{has_rewrites};
 ghost use Rattle.linker_rewriting.specs.Surveys.{IsSurveyed, IsSurveyedIn};
-ghost use Rattle.linker_rewriting.specs.Words.{AreLoadsSurveyed, entry_code, DoLoadsAgree};
-ghost use Rattle.linker_rewriting.specs.Words.{IsContradictionOfLoads};
+ghost use Rattle.linker_rewriting.specs.Words.{AreLoadsSurveyed, entry_code};
 ghost use Rattle.linker_utils.specs.Architectures.{relaxation_architecture};
 ghost use Rattle.linker_utils.specs.Machines.{architecture_of, machine_of};
 ghost use Rattle.linker_utils_c.specs.AddressLoads.{AreLoadsReturned};
@@ -441,9 +440,8 @@ pub extern "C" fn linker_utils_survey_address_loads_nonnull(
         IsSurveyReturned (AreLoadsSurveyed (setting architecture Phase.Distances output.now
         symbols.now addresses.now values.now) words_start words.now relocations.now section.now
         kept.old kept.new (length relocations.now / 24)
-        × DoLoadsAgree symbols.now values.now words.now relocations.now)
-        ((symbol : ℕ) × IsContradictionOfLoads symbols.now values.now words.now relocations.now
-        symbol) (kept.new ≡ kept.old) result) }
+        × Agree symbols.now values.now relocations.now)
+        ((symbol : ℕ) × IsContradiction symbols.now values.now relocations.now symbol) (kept.new ≡ kept.old) result) }
     ensures unknown { IfNone (architecture_of machine)
         ((result ≡ code Status.UnknownArchitecture) × (kept.new ≡ kept.old)) }
 {

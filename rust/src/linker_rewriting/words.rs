@@ -166,21 +166,6 @@ fn keeping_word(
     }
 }
 
-/// The index of the symbol of the first relocation of a section or, where there is none, of the
-/// section of words, about which two tables contradict each other.
-#[inline(always)]
-fn contradiction_of_loads(
-    symbols: &[SymbolFacts],
-    values: &[Symbol],
-    words: &[u8],
-    relocations: &[u8],
-) -> Option<usize> {
-    match contradiction(symbols, values, relocations) {
-        Some(symbol) => Some(symbol),
-        None => contradiction(symbols, values, words),
-    }
-}
-
 /// Notes which words of an object's section of addresses stay, since a relocation of this section
 /// of code is of an instruction that loads one and can't compute its address: it is none that the
 /// rewrite is meant for, the address may be of another file or in another place each time, or it is
@@ -198,8 +183,8 @@ fn contradiction_of_loads(
 /// # Errors
 ///
 /// `kept` is as before. `symbols` and `values` contradict each other about the symbol of a
-/// relocation of the section or, where there is none, of a word, as `RewritingError::Contradiction`
-/// says: the index of the first such symbol.
+/// relocation of the section, as `RewritingError::Contradiction` says: the index of the first such
+/// symbol. Those of words are compared by the call that writes the words' values by both tables.
 ///
 /// ```
 /// use linker_utils::rewriting::{OutputFacts, SymbolFacts};
@@ -242,7 +227,7 @@ pub fn survey_address_loads(
     section: &[u8],
     kept: &mut [bool],
 ) -> Result<(), usize> {
-    if let Some(symbol) = contradiction_of_loads(symbols, values, words, relocations) {
+    if let Some(symbol) = contradiction(symbols, values, relocations) {
         return Err(symbol);
     }
     let setting = Setting {
@@ -418,7 +403,7 @@ pub fn rewrite_address_loads<D: AsDecision>(
     section: &mut [u8],
     decisions: &mut [D],
 ) -> Result<(), RewritingError> {
-    if let Some(symbol) = contradiction_of_loads(symbols, values, words, relocations) {
+    if let Some(symbol) = contradiction(symbols, values, relocations) {
         return Err(RewritingError::Contradiction(symbol));
     }
     let setting = Setting {
