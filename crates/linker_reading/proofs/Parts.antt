@@ -9,7 +9,7 @@ none_taken : (n : ℕ) (l : List ℕ) → l ≡ [] → take n l ≡ []
 none_taken n l e = take_all n l (let none : length l ≡ 0 = ap length e in omega (arith, none)) ∙ e
 
 -- the part of bytes from b on, below e, by places that are in them
-pub part_is : (b e : ℕ) (s : List ℕ)
+part_is : (b e : ℕ) (s : List ℕ)
     → take (max (min e (length s)) (min b (length s)) - min b (length s)) (drop (min b (length s)) s) ≡ take (e - b) (drop b s)
 part_is b e s = ⊎_elim
     (λ inside.
@@ -28,6 +28,12 @@ part_is b e s = ⊎_elim
     let second : drop b s ≡ [] = drop_all b s outside in
     none_taken (max (min e (length s)) (min b (length s)) - min b (length s)) (drop (min b (length s)) s) first ∙ sym (none_taken (e - b) (drop b s) second))
     (cases_lt b (length s))
+
+pub part_by : (b e from low to : ℕ) (s : List ℕ) → from ≡ min b (length s) → low ≡ min e (length s) → to ≡ max low from
+    → take (to - from) (drop from s) ≡ take (e - b) (drop b s)
+part_by b e from low to s begins ends is =
+    ap (λ k. take (k - from) (drop from s)) (is ∙ ap (λ k. max k from) ends)
+    ∙ ap (λ k. take (max (min e (length s)) k - k) (drop k s)) begins ∙ part_is b e s
 
 module _ {K R : Type 0} (it : Recogniser K R) (name : R) (s : List ℕ) (o : ℕ) where
   -- all bytes have each

@@ -3,7 +3,8 @@
 ghost use Rattle.std.specs.Prelude.{◌≡◌, ◌≤◌, ◌<◌, ◌↔◌, IsTrue, Some, Option, length};
 ghost use Rattle.std.specs.Prelude.{slice_get, take};
 ghost use Rattle.linker_base.specs.Rewrite.{CanRewrite, offset_after, addend_after};
-ghost use Rattle.linker_reading.specs.Recognised.{IsOneOf, choices_at};
+ghost use Rattle.linker_reading.specs.Recognised.{HasField, IsOneOf, choices_at};
+ghost use Rattle.linker_reading.specs.Inner.Found.{AreThere};
 ghost use Rattle.linker_reading.specs.Windows.{IsThere, HasEach, IsLeastWindow, IsDestination};
 ghost use Rattle.linker_reading.specs.Windows.{is_of_symbol, is_local_entry, local_entry_of};
 ghost use Rattle.linker_reading.specs.Windows.{entry_distance, symbol_of};
@@ -12,7 +13,7 @@ ghost use Rattle.linker_utils.specs.Architectures.{IsRow, relaxation_rewrite};
 
 use crate::fields::FieldValue;
 use crate::recognise::{
-    CANDIDATES, Choices, MAX_WINDOW, Recognised, RecognisedName, deleted_at, field_at,
+    CANDIDATES, Choices, MAX_WINDOW, Recognised, RecognisedName, deleted_at, put,
 };
 use crate::solving::{Reference, solve, terms_of};
 use linker_base::rewrite::RewriteWindow;
@@ -51,32 +52,33 @@ fn is_listed<N: RecognisedName>(choices: &Choices<N::Kind, N>, choice: Choice<N:
     false
 }
 
-/// Whether a choice is one of those that are listed for bytes, its rewrite is meant for what is at
-/// the offset, and all is there that `recognise` compares.
-fn is_there<N: RecognisedName>(
-    listed: &Choices<N::Kind, N>,
-    choice: Choice<N::Kind, N>,
-    bytes: &[u8],
-    offset: u64,
-) -> bool
-    requires count { listed.now.1 ≤ 6 }
-    requires few { length bytes.now ≤ 64 }
-    ensures { (name : N) → take listed.now.1 listed.now.0 ≡ choices_at N.how name bytes.now offset
+/// Whether the window of a row, if there is one, lies in bytes.
+fn has_field(row: &Option<Row>, at: u64, bytes: &[u8]) -> bool
+    ensures { IsTrue result ↔ HasField row.now at bytes.now }
+{
+    match row {
+        Some(row) => at.saturating_add(row.window() as u64) <= bytes.len() as u64,
+        None => true,
+    }
+}
+
+/// Whether the rewrite of a choice that is listed for bytes is meant for what is at the offset, and
+/// all is there that `recognise` compares.
+fn is_there<N: RecognisedName>(choice: Choice<N::Kind, N>, bytes: &[u8], offset: u64) -> bool
+    requires { length bytes.now ≤ 64 }
+    ensures { (name : N) → IsOneOf choice (choices_at N.how name bytes.now offset)
         → IsTrue result ↔ IsThere N.how name bytes.now offset choice }
 {
     let kind = N::relaxation(choice.kind);
     if !kind.matches(bytes, offset) {
         return false;
     }
-    let (at, _) = place_after(kind, bytes, offset, 0);
-    if field_at(&choice.relocation.find_row(), at, bytes).is_none() {
-        return false;
-    }
     let (start, count) = deleted_at(kind.deleted(), offset);
     if start.saturating_add(count) > bytes.len() as u64 {
         return false;
     }
-    is_listed(listed, choice)
+    let (at, _) = place_after(kind, bytes, offset, 0);
+    has_field(&choice.relocation.find_row(), at, bytes)
 }
 
 /// The choice at an index.
@@ -90,17 +92,39 @@ fn choice_at<N: RecognisedName>(
     choices[index]
 }
 
+/// The choices that are there in bytes.
+pub(crate) fn those_there<N: RecognisedName>(
+    name: N,
+    bytes: &[u8],
+    offset: u64,
+) -> Choices<N::Kind, N>
+    requires { length bytes.now ≤ 64 }
+    ensures count { result.1 ≤ 6 }
+    ensures those { AreThere N.how name bytes.now offset (take result.1 result.0) }
+{
+    let (mut choices, count) = name.listed(bytes, offset);
+    let mut kept = 0;
+    for index in 0..count {
+        let choice = choice_at(&choices, index);
+        if is_there(choice, bytes, offset) {
+            put(&mut choices, kept, choice);
+            kept += 1;
+        }
+    }
+    (choices, kept)
+}
+
 /// Whether each choice that is there is so in the bytes from `begin` to `end`, too.
 fn has_each<N: RecognisedName>(
     name: N,
-    choices: &Choices<N::Kind, N>,
+    there: &Choices<N::Kind, N>,
     original: &[u8],
     offset: u64,
     begin: u64,
     end: u64,
 ) -> bool
-    requires count { choices.now.1 ≤ 6 }
-    requires listed { take choices.now.1 choices.now.0 ≡ choices_at N.how name original.now offset }
+    requires count { there.now.1 ≤ 6 }
+    requires those { AreThere N.how name original.now offset (take there.now.1 there.now.0) }
     requires few { length original.now ≤ 64 }
     requires begins { begin ≤ offset }
     ensures { IsTrue result ↔ HasEach N.how name original.now offset begin end }
@@ -109,10 +133,14 @@ fn has_each<N: RecognisedName>(
     let from = begin.min(len);
     let part = &original[from as usize..end.min(len).max(from) as usize];
     let at = offset - begin;
+    for index in 0..there.1 {
+        if !is_there(choice_at(&there.0, index), part, at) {
+            return false;
+        }
+    }
     let listed = name.listed(part, at);
-    for index in 0..choices.1 {
-        let choice = choice_at(&choices.0, index);
-        if is_there(choices, choice, original, offset) && !is_there(&listed, choice, part, at) {
+    for index in 0..there.1 {
+        if !is_listed(&listed, choice_at(&there.0, index)) {
             return false;
         }
     }
@@ -123,21 +151,21 @@ fn has_each<N: RecognisedName>(
 /// there that is there in all bytes.
 pub(crate) fn least_window<N: RecognisedName>(
     name: N,
-    choices: &Choices<N::Kind, N>,
+    there: &Choices<N::Kind, N>,
     original: &[u8],
     offset: u64,
 ) -> RewriteWindow
-    requires count { choices.now.1 ≤ 6 }
-    requires listed { take choices.now.1 choices.now.0 ≡ choices_at N.how name original.now offset }
+    requires count { there.now.1 ≤ 6 }
+    requires those { AreThere N.how name original.now offset (take there.now.1 there.now.0) }
     requires few { length original.now ≤ 64 }
     ensures { IsLeastWindow N.how name original.now offset result }
 {
     let len = original.len() as u64;
     let (mut begin, mut end) = (offset, offset);
-    while begin > 0 && !has_each(name, choices, original, offset, begin, len) {
+    while begin > 0 && !has_each(name, there, original, offset, begin, len) {
         begin -= 1;
     }
-    while end < len && !has_each(name, choices, original, offset, begin, end) {
+    while end < len && !has_each(name, there, original, offset, begin, end) {
         end += 1;
     }
     RewriteWindow {

@@ -8,7 +8,7 @@ mod engine;
 pub mod fields;
 mod recognisers;
 
-pub(crate) use self::engine::{deleted_at, field_at};
+pub(crate) use self::engine::{deleted_at, put};
 pub use self::engine::{
     CANDIDATES, Choices, MAX_WINDOW, Recognised, RecognisedName, recognise, recognise_chosen,
 };

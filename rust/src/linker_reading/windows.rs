@@ -4,7 +4,7 @@
 
 use crate::linker_reading::fields::FieldValue;
 use crate::linker_reading::recognise::{
-    CANDIDATES, Choices, MAX_WINDOW, Recognised, RecognisedName, deleted_at, field_at,
+    CANDIDATES, Choices, MAX_WINDOW, Recognised, RecognisedName, deleted_at, put,
 };
 use crate::linker_reading::solving::{Reference, solve, terms_of};
 use crate::linker_base::rewrite::RewriteWindow;
@@ -35,27 +35,27 @@ fn is_listed<N: RecognisedName>(choices: &Choices<N::Kind, N>, choice: Choice<N:
     false
 }
 
-/// Whether a choice is one of those that are listed for bytes, its rewrite is meant for what is at
-/// the offset, and all is there that `recognise` compares.
-fn is_there<N: RecognisedName>(
-    listed: &Choices<N::Kind, N>,
-    choice: Choice<N::Kind, N>,
-    bytes: &[u8],
-    offset: u64,
-) -> bool {
+/// Whether the window of a row, if there is one, lies in bytes.
+fn has_field(row: &Option<Row>, at: u64, bytes: &[u8]) -> bool {
+    match row {
+        Some(row) => at.saturating_add(row.window() as u64) <= bytes.len() as u64,
+        None => true,
+    }
+}
+
+/// Whether the rewrite of a choice that is listed for bytes is meant for what is at the offset, and
+/// all is there that `recognise` compares.
+fn is_there<N: RecognisedName>(choice: Choice<N::Kind, N>, bytes: &[u8], offset: u64) -> bool {
     let kind = N::relaxation(choice.kind);
     if !kind.matches(bytes, offset) {
-        return false;
-    }
-    let (at, _) = place_after(kind, bytes, offset, 0);
-    if field_at(&choice.relocation.find_row(), at, bytes).is_none() {
         return false;
     }
     let (start, count) = deleted_at(kind.deleted(), offset);
     if start.saturating_add(count) > bytes.len() as u64 {
         return false;
     }
-    is_listed(listed, choice)
+    let (at, _) = place_after(kind, bytes, offset, 0);
+    has_field(&choice.relocation.find_row(), at, bytes)
 }
 
 /// The choice at an index.
@@ -67,10 +67,28 @@ fn choice_at<N: RecognisedName>(
     choices[index]
 }
 
+/// The choices that are there in bytes.
+pub(crate) fn those_there<N: RecognisedName>(
+    name: N,
+    bytes: &[u8],
+    offset: u64,
+) -> Choices<N::Kind, N> {
+    let (mut choices, count) = name.listed(bytes, offset);
+    let mut kept = 0;
+    for index in 0..count {
+        let choice = choice_at(&choices, index);
+        if is_there(choice, bytes, offset) {
+            put(&mut choices, kept, choice);
+            kept += 1;
+        }
+    }
+    (choices, kept)
+}
+
 /// Whether each choice that is there is so in the bytes from `begin` to `end`, too.
 fn has_each<N: RecognisedName>(
     name: N,
-    choices: &Choices<N::Kind, N>,
+    there: &Choices<N::Kind, N>,
     original: &[u8],
     offset: u64,
     begin: u64,
@@ -80,10 +98,14 @@ fn has_each<N: RecognisedName>(
     let from = begin.min(len);
     let part = &original[from as usize..end.min(len).max(from) as usize];
     let at = offset - begin;
+    for index in 0..there.1 {
+        if !is_there(choice_at(&there.0, index), part, at) {
+            return false;
+        }
+    }
     let listed = name.listed(part, at);
-    for index in 0..choices.1 {
-        let choice = choice_at(&choices.0, index);
-        if is_there(choices, choice, original, offset) && !is_there(&listed, choice, part, at) {
+    for index in 0..there.1 {
+        if !is_listed(&listed, choice_at(&there.0, index)) {
             return false;
         }
     }
@@ -94,16 +116,16 @@ fn has_each<N: RecognisedName>(
 /// there that is there in all bytes.
 pub(crate) fn least_window<N: RecognisedName>(
     name: N,
-    choices: &Choices<N::Kind, N>,
+    there: &Choices<N::Kind, N>,
     original: &[u8],
     offset: u64,
 ) -> RewriteWindow {
     let len = original.len() as u64;
     let (mut begin, mut end) = (offset, offset);
-    while begin > 0 && !has_each(name, choices, original, offset, begin, len) {
+    while begin > 0 && !has_each(name, there, original, offset, begin, len) {
         begin -= 1;
     }
-    while end < len && !has_each(name, choices, original, offset, begin, end) {
+    while end < len && !has_each(name, there, original, offset, begin, end) {
         end += 1;
     }
     RewriteWindow {

@@ -1,10 +1,11 @@
 -- What was found of the first choices of a table.
-use Rattle.std.specs.Prelude.{◌≡◌, ◌<◌, ℕ, List, [], ◌∷◌, Option, None, Some, length, slice_get}
+use Rattle.std.specs.Prelude.{◌≡◌, ◌↔◌, ◌<◌, ℕ, List, [], ◌∷◌, Option, None, Some, length, slice_get}
 use Rattle.std.specs.Prelude.{slice_index_or}
 use Rattle.linker_elf.specs.Choices.{choice}
 use Rattle.linker_elf.specs.declared.elf.choice.Choice.{Choice}
 use Rattle.linker_elf.specs.declared.elf.choice_table.ChoiceEntry.{ChoiceEntry}
-use Rattle.linker_reading.specs.Recognised.{Recogniser, IsMade, IsFirstPlace}
+use Rattle.linker_reading.specs.Recognised.{Recogniser, IsMade, IsOneOf, IsFirstPlace}
+use Rattle.linker_reading.specs.Windows.{IsThere}
 use Rattle.linker_reading.specs.declared.recognise.engine.Recognised.{Recognised}
 use Rattle.linker_reading.specs.declared.recognise.fields.FieldBits.{FieldBits}
 use Rattle.linker_utils.specs.Architectures.{relaxation_matches}
@@ -39,3 +40,8 @@ pub record AreFoundOfFirst {A B : Type 0} (of : B → A) (IsSo : B → Type 0) (
   pub so : (i : ℕ) (b : B) → slice_index_or found i None ≡ Some b → IsSo b
   pub all : (i : ℕ) (b : B) → i < n → slice_get choices i ≡ Some (of b) → IsSo b
       → (j : ℕ) × (slice_index_or found j None ≡ Some b)
+
+-- They are those that are there in bytes.
+abbrev pub AreThere : {K R : Type 0} → Recogniser K R → R → List ℕ → ℕ → List (Choice K R) → Type 0
+AreThere {K} {R} it name bytes o choices =
+    (c : Choice K R) → IsOneOf c choices ↔ IsThere it name bytes o c

@@ -142,6 +142,7 @@ pub fn window_of(
     ensures { IsWindowOf architecture code original.now offset result }
 {
     of_name!(architecture, code, name => {
-        windows::least_window(name, &name.listed(original, offset), original, offset)
+        let there = windows::those_there(name, original, offset);
+        windows::least_window(name, &there, original, offset)
     })
 }

@@ -52,7 +52,7 @@ pub struct Recognised<K, R> {
 /// row has no bits.
 #[inline(always)]
 #[tactic(auto, using(crate::proofs::Same::in_none))]
-pub(crate) fn field_at(row: &Option<Row>, at: u64, bytes: &[u8]) -> Option<FieldBits>
+fn field_at(row: &Option<Row>, at: u64, bytes: &[u8]) -> Option<FieldBits>
     ensures some { IfSome result (λ field. HasField row.now at bytes.now
         × ((i j : ℕ) → is_in field i j ≡ is_in_field row.now at bytes.now i j)) }
     ensures none { IfNone result (HasField row.now at bytes.now → ⊥) }
@@ -163,7 +163,7 @@ pub trait RecognisedName: RelocationName + PartialEq + 'static {
 
 /// Sets the choice at an index. Beside the entries the prover finds no bound for the array's bytes.
 #[inline(always)]
-fn put<K: Copy, R: Copy>(
+pub(crate) fn put<K: Copy, R: Copy>(
     choices: &mut [Choice<K, R>; CANDIDATES],
     index: usize,
     choice: Choice<K, R>,

@@ -145,6 +145,7 @@ pub fn window_of(
 ) -> RewriteWindow {
     debug_assert!(original.len() <= 64);
     of_name!(architecture, code, name => {
-        windows::least_window(name, &name.listed(original, offset), original, offset)
+        let there = windows::those_there(name, original, offset);
+        windows::least_window(name, &there, original, offset)
     })
 }

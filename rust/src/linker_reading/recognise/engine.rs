@@ -38,7 +38,7 @@ pub struct Recognised<K, R> {
 /// The bits of a relocation's field at an offset, if its window is there. A relocation without a
 /// row has no bits.
 #[inline(always)]
-pub(crate) fn field_at(row: &Option<Row>, at: u64, bytes: &[u8]) -> Option<FieldBits> {
+fn field_at(row: &Option<Row>, at: u64, bytes: &[u8]) -> Option<FieldBits> {
     match row {
         Some(row) => FieldBits::of_row(row, at, bytes).ok(),
         None => Some(FieldBits { offset: 0, bits: 0 }),
@@ -128,7 +128,7 @@ pub trait RecognisedName: RelocationName + PartialEq + 'static {
 
 /// Sets the choice at an index. Beside the entries the prover finds no bound for the array's bytes.
 #[inline(always)]
-fn put<K: Copy, R: Copy>(
+pub(crate) fn put<K: Copy, R: Copy>(
     choices: &mut [Choice<K, R>; CANDIDATES],
     index: usize,
     choice: Choice<K, R>,
