@@ -46,9 +46,6 @@ loaded_of word s = loaded 8 s.memory (sum_of word s)
 pub step_load : (x n : ℕ) (s : State) → decode x ≡ sums (loads 8) → rd_of x ≡ n → n ≢ 0 → step x s ≡ Some (set n (loaded_of x s) s)
 step_load x n s is rd named = ap (λ c. execute c x s) is ∙ written n (rd_of x) _ s rd named
 
-pub step_or : (x n : ℕ) (s : State) → decode x ≡ ori → rd_of x ≡ n → n ≢ 0 → step x s ≡ Some (set n (ored x s) s)
-step_or x n s is rd named = ap (λ c. execute c x s) is ∙ written n (rd_of x) _ s rd named
-
 -- what is read of the register that was written
 pub read_back : (n v r : ℕ) (s : State) → r ≡ n → n ≢ 0 → read r (set n v s) ≡ v
 read_back n v r s same named =
@@ -136,13 +133,3 @@ high_cases f low small below =
           ∙ (let m : (k * 2 ^ 12 + low) % 2 ^ 64 ≡ k * 2 ^ 12 + low = omega arith in m) in
           ap (λ v. bit_or v low) first ∙ or_shifted k 12 low below ∙ sym both
     ]
-
-pub ored_is : (x y n : ℕ) (s : State) → rj_of y ≡ n → n ≢ 0
-    → ored y (set n (high_part x) s) ≡ wrapped ((signed 20 (field x 5 25) *ℤ pos 4096) +ℤ pos (field y 10 22))
-ored_is x y n s rj named =
-    ap (λ v. bit_or v (field y 10 22)) (read_back n (high_part x) (rj_of y) s rj named)
-    ∙ high_cases (field x 5 25) (field y 10 22) (omega arith) (omega arith)
-
--- from `zero`
-pub ored_zero : (y : ℕ) (s : State) → rj_of y ≡ 0 → ored y s ≡ field y 10 22
-ored_zero y s rj = ap (λ r. bit_or (read r s) (field y 10 22)) rj ∙ or_shifted 0 12 (field y 10 22) (omega arith) ∙ omega arith

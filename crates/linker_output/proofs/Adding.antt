@@ -46,9 +46,6 @@ level_new Front s = refl
 level_new Middle s = refl
 level_new Back s = refl
 
-no_group : Group
-no_group = record { front = 0; middle = 0; back = 0 }
-
 -- a stub that there was is as it was
 old_stub : (stubs new : List StubAt) (s : StubAt) (j : ℕ) → new ≡ stubs ++ (s ∷ []) → j < length stubs → stub_at new j ≡ stub_at stubs j
 old_stub stubs new s j is within = rw is (get_or-append stubs (s ∷ []) _ j within)

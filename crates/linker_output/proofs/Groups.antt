@@ -27,9 +27,6 @@ pub bytes_none : (shape : StubShape) (groups : List Group) → bytes_before shap
 unfolding bytes_before
 bytes_none shape groups = refl
 
-none_group : Group
-none_group = record { front = 0; middle = 0; back = 0 }
-
 pub bytes_most : (shape : StubShape) (groups : List Group) (k : ℕ) → 0 < shape.unit → k ≤ length groups → bytes_before shape groups k ≤ shape.unit * k + shape.len * sum_by stubs_in (take k groups)
 unfolding bytes_before
 bytes_most shape groups zero h within = omega arith

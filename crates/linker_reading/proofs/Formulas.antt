@@ -128,10 +128,6 @@ of_kind kinds.PltRelGotBase row o t r h =
     known_terms row o (record { reference = PltEntry; origin = Got }) t (formula kinds.PltRelGotBase row o) h refl
 of_kind kind row o t r h = cc
 
--- the size that a row has
-abbrev HasSize : RelocationKindInfo → RelocationSize → Type 0
-HasSize row size = row.size ≡ size
-
 no_terms : (b : Bool) (x : Option Terms) (t : Terms) → (if b then None else x) ≡ Some t → b ≡ false
 no_terms true x t h = cc
 no_terms false x t h = refl

@@ -119,12 +119,6 @@ not_true : (t : Bool) → not t ≡ true → t ≡ false
 not_true true h = cc
 not_true false h = refl
 
-pub leaves_short : (b : ℤ × ℤ) (f : FieldValue) → leaves_one b f ≡ true → f.known.end < 64
-leaves_short b f h =
-    ltb-true f.known.end 64 (and_parts (ltb f.known.end 64)
-    (not (ltb (2 ^ f.known.end) (difference_64 (cast_unsigned w64 b.1) (cast_unsigned w64 b.0)))
-    && eqb (least_sum b f % 2 ^ f.known.start) 0) h).0
-
 pub reach_leaves : (min max : ℤ) (f : FieldValue) → FitsSigned w64 min → FitsSigned w64 max
     → f.known.start < f.known.end → leaves_one (min, max) f ≡ true
     → (v : ℤ) → FitsSigned w64 v → IsWithin (Some (min, max)) v → IsOfValue f v

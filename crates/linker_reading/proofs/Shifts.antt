@@ -156,9 +156,3 @@ page_bits x c s e above =
     sym (ap (bit_at (sum_64 (x - x % 4096) c)) place) ∙ sym (bit_at_shr (sum_64 (x - x % 4096) c) 12 (w - 12))
     ∙ ap (λ y. bit_at y (w - 12)) same ∙ bit_at_shr (sum_64 x (c - c % 4096)) 12 (w - 12)
     ∙ ap (bit_at (sum_64 x (c - c % 4096))) place)
-
--- a number of which all bits are known
-pub all_bits : (n b r : ℕ) → n < 2 ^ 64 → r < 2 ^ 64 → field (sum_64 n r) 0 64 ≡ b
-    → (b + (2 ^ 64 - r)) % 2 ^ 64 ≡ n
-all_bits n b r small rounding e =
-    let sum : (n + r) % 2 ^ 64 ≡ b = sym (low_sum n r 64 (omega arith)) ∙ e in omega arith

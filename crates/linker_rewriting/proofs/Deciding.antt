@@ -63,19 +63,6 @@ pub record AreDecidedTo (s : Setting) (kept : List KeptGroups) (bytes section : 
   pub ends : EndsAt start_by end_by bytes decisions end k
   pub notes : AreLabelsNoted s bytes section decisions k
 
-pub none_decided : (s : Setting) (kept : List KeptGroups) (bytes section : List ℕ)
-    (decisions : List Decision) → AreLabelsNoted s bytes section decisions 0
-    → AreDecidedTo s kept bytes section decisions 0 false 0
-none_decided s kept bytes section decisions notes =
-    record {
-      notes = notes;
-      decided = λ n less. absurd (omega arith);
-      made = λ n less. absurd (omega arith);
-      apart = λ i j ij less. absurd (omega arith);
-      taken_is = refl;
-      ends = none_ends start_by end_by bytes decisions;
-    }
-
 -- the decisions below an index are the same
 abbrev pub AreSame : List Decision → List Decision → ℕ → Type 0
 AreSame old new k = (n : ℕ) → n < k → decision_at new n ≡ decision_at old n

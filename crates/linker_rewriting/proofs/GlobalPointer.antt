@@ -38,15 +38,6 @@ that_symbol s gp bytes section n None w keeping is = absurd is
 that_symbol s gp bytes section n (Some symbol) w keeping is =
     subst (λ x. IsKeepingSymbol s gp bytes section n (relocation_in bytes n) (Some x)) (sym is) keeping
 
-pub no_symbols : (s : Setting) (gp : ℕ) (bytes section : List ℕ) (before : List Bool)
-    → AreSymbolsSurveyed s gp bytes section before before 0
-no_symbols s gp bytes section before =
-    record {
-      noted = λ n less. absurd (omega (arith, less));
-      stayed = λ w stays. stays;
-      caused = λ w stays. inl stays;
-    }
-
 pub more_symbols : (s : Setting) (gp : ℕ) (bytes section : List ℕ) (before mid after : List Bool)
     (k : ℕ) (symbol : Option ℕ) → AreSymbolsSurveyed s gp bytes section before mid k
     → IsKeepingSymbol s gp bytes section k (relocation_in bytes k) symbol
@@ -253,14 +244,6 @@ pub record AreTurned (F : ℕ → Rela → Rela) (first now : List ℕ) (limit k
   pub below : (n : ℕ) → n < k → relocation_in now n ≡ F n (relocation_in first n)
   pub above : (n : ℕ) → k ≤ n → n < limit → relocation_in now n ≡ relocation_in first n
   pub same_len : length now ≡ length first
-
-pub turned_none : (F : ℕ → Rela → Rela) (first : List ℕ) (limit : ℕ) → AreTurned F first first limit 0
-turned_none F first limit =
-    record {
-      below = λ n less. absurd (omega (arith, less));
-      above = λ n from less. refl;
-      same_len = refl;
-    }
 
 pub turned_next : (F : ℕ → Rela → Rela) (first before after : List ℕ) (limit k : ℕ) (r turned : Rela)
     → AreTurned F first before limit k → k < limit → r ≡ relocation_in before k

@@ -105,64 +105,8 @@ one_kept table group symbol old less is g s =
           )
     ]
 
-pub both_kept : (a b c : List KeptGroups) (P Q R : Group → ℕ → Type 0) → AreKeptToo a b P
-    → AreKeptToo b c Q → ((g : Group) (s : ℕ) → (P g s ⊎ Q g s) ↔ R g s) → AreKeptToo a c R
-both_kept a b c P Q R first second same g s = (
-  λ h. elim ((second g s).0 h) [
-    | inl in_b ↦ elim ((first g s).0 in_b) [
-      | inl in_a ↦ inl in_a
-      | inr p ↦ inr ((same g s).0 (inl p))
-    ]
-    | inr q ↦ inr ((same g s).0 (inr q))
-  ],
-  λ either. elim either [
-    | inl in_a ↦ (second g s).1 (inl ((first g s).1 (inl in_a)))
-    | inr r ↦ elim ((same g s).1 r) [
-      | inl p ↦ (second g s).1 (inl ((first g s).1 (inr p)))
-      | inr q ↦ (second g s).1 (inr q)
-    ]
-  ],
-)
-
-pub nothing_kept : (table : List KeptGroups) (P : Group → ℕ → Type 0)
-    → ((g : Group) (s : ℕ) → P g s → ⊥) → AreKeptToo table table P
-nothing_kept table P none g s = (
-  λ h. inl h,
-  λ either. elim either [ inl h ↦ h | inr p ↦ absurd (none g s p) ],
-)
-
 abbrev pub IsEither : (Group → ℕ → Type 0) → (Group → ℕ → Type 0) → Group → ℕ → Type 0
 IsEither P Q g s = P g s ⊎ Q g s
-
-pub three_are_threads : (g : Group) (s : ℕ)
-    → (IsEither (IsGroup InitialExec 0) (IsGroup GeneralDynamic 0) g s ⊎ IsGroup LocalDynamic 0 g s)
-    ↔ IsOfThreads true g s
-three_are_threads InitialExec s = (
-  λ h. (refl, tt, elim h [ inl e ↦ elim e [ inl p ↦ p.1 | inr p ↦ p.1 ] | inr p ↦ p.1 ]),
-  λ h. inl (inl (refl, h.2)),
-)
-three_are_threads GeneralDynamic s = (
-  λ h. (refl, tt, elim h [ inl e ↦ elim e [ inl p ↦ p.1 | inr p ↦ p.1 ] | inr p ↦ p.1 ]),
-  λ h. inl (inr (refl, h.2)),
-)
-three_are_threads LocalDynamic s = (
-  λ h. (refl, tt, elim h [ inl e ↦ elim e [ inl p ↦ p.1 | inr p ↦ p.1 ] | inr p ↦ p.1 ]),
-  λ h. inr (refl, h.2),
-)
-three_are_threads Descriptor s = (
-  λ h. absurd (elim h [
-    | inl e ↦ elim e [ inl p ↦ let q : Descriptor ≡ InitialExec = p.0 in cc | inr p ↦ let q : Descriptor ≡ GeneralDynamic = p.0 in cc ]
-    | inr p ↦ let q : Descriptor ≡ LocalDynamic = p.0 in cc
-  ]),
-  λ h. absurd (h.1),
-)
-three_are_threads GotLoad s = (
-  λ h. absurd (elim h [
-    | inl e ↦ elim e [ inl p ↦ let q : GotLoad ≡ InitialExec = p.0 in cc | inr p ↦ let q : GotLoad ≡ GeneralDynamic = p.0 in cc ]
-    | inr p ↦ let q : GotLoad ≡ LocalDynamic = p.0 in cc
-  ]),
-  λ h. absurd (h.1),
-)
 
 get_is : {X : Type 0} (xs : List X) (i : ℕ) (d : X) → i < length xs
     → slice_get xs i ≡ Some (get_or xs i d)

@@ -262,10 +262,6 @@ pub unlabelled_lacks : (s : Setting) (bytes section : List ℕ) (n : ℕ) (r : R
 unlabelled_lacks s bytes section n r isnt_in high lacks =
     isnt (one_in_label s.architecture s.phase r.code true false (lacks.0) isnt_in)
 
-pub lone_lacks : (s : Setting) (bytes section : List ℕ) (n : ℕ) (r : Rela)
-    → IsHighIn s bytes r None → IsLacking s bytes section n r None
-lone_lacks s bytes section n r none high lacks = not_none s bytes r high (lacks.1) none
-
 pub rewritten_lacks : (s : Setting) (bytes section : List ℕ) (n : ℕ) (r : Rela) (high : ℕ)
     (x : Choice Relaxation ℕ) → IsHighIn s bytes r (Some high)
     → IsLabelCandidate s bytes section n r high (Some x) → IsLacking s bytes section n r None
@@ -275,15 +271,6 @@ rewritten_lacks s bytes section n r high x is some other lacks =
     (subst (λ h. IsLabelCandidate s bytes section n r h None) same (lacks.2))
 
 -- ---- notes at high parts
-
-pub none_noted : (s : Setting) (bytes section : List ℕ) (decisions : List Decision)
-    → ((n : ℕ) → n < length bytes / 24 → decision_at decisions n ≡ Kept)
-    → AreHighsNoted s bytes section decisions 0
-none_noted s bytes section decisions clear =
-    record {
-      sound = λ high less is. isnt (sym is ∙ ap is_note (clear high less));
-      complete = λ high has. let less = has.1 in absurd (omega (arith, less));
-    }
 
 pub same_noted : (s : Setting) (bytes section : List ℕ) (decisions : List Decision) (k : ℕ)
     → AreHighsNoted s bytes section decisions k
@@ -341,15 +328,6 @@ pub record AreCopied (s : Setting) (bytes section : List ℕ) (first now : List 
       → IsLabelNote s bytes section (relocation_in bytes n) (is_note (decision_at now n))
   pub highs : (n high : ℕ) → IsHighIn s bytes (relocation_in bytes n) (Some high)
       → decision_at now high ≡ decision_at first high
-
-pub none_copied : (s : Setting) (bytes section : List ℕ) (first : List Decision)
-    → AreCopied s bytes section first first 0
-none_copied s bytes section first =
-    record {
-      same_len = refl;
-      done = λ n less. absurd (omega (arith, less));
-      highs = λ n high is. refl;
-    }
 
 pub same_copied : (s : Setting) (bytes section : List ℕ) (first now : List Decision) (k : ℕ)
     → AreCopied s bytes section first now k
@@ -432,21 +410,6 @@ more_copied s bytes section first now k note copied within ascending noted is =
     length_set [] n x = refl
     length_set (y ∷ ys) zero x = refl
     length_set (y ∷ ys) (suc n) x = ap suc (length_set ys n x)
-
-pub all_copied : (s : Setting) (bytes section : List ℕ) (first now : List Decision) (k : ℕ)
-    → AreCopied s bytes section first now k → length bytes / 24 ≤ k
-    → AreLabelsNoted s bytes section now 0
-all_copied s bytes section first now k copied all n from less in_label =
-    copied.done n (omega (arith, less, all)) in_label
-
--- in a section whose relocations don't ascend all stay
-pub none_ascend : (s : Setting) (bytes section : List ℕ) (decisions : List Decision)
-    → (IsAscending bytes → ⊥)
-    → ((n : ℕ) → n < length bytes / 24 → decision_at decisions n ≡ TakenAlong)
-    → AreLabelsNoted s bytes section decisions 0
-none_ascend s bytes section decisions unsorted all n from less in_label =
-    subst (λ d. IsLabelNote s bytes section (relocation_in bytes n) (is_note d)) (sym (all n less))
-    (inl unsorted)
 
 -- ---- architectures without labels
 

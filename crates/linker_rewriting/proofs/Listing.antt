@@ -16,11 +16,6 @@ pub record AreListed (bytes : List ℕ) (decisions : List Decision) (old now : L
   pub within : len ≤ length now
   pub same_len : length now ≡ length old
 
-pub none_listed : (bytes : List ℕ) (decisions : List Decision) (old : List (ℕ × ℕ))
-    → AreListed bytes decisions old old 0 0
-none_listed bytes decisions old =
-    record { listed = refl; within = omega arith; same_len = refl }
-
 deletions_next : (bytes : List ℕ) (decisions : List Decision) (k : ℕ)
     → deletions_by bytes decisions (k + 1)
     ≡ deletions_by bytes decisions k

@@ -18,17 +18,6 @@ pub record AreLoadsDecidedTo (s : Setting) (start : ℕ) (words : List ℕ) (kep
   pub apart : AreApart bytes decisions k
   pub ends : EndsAt start_by end_by bytes decisions end k
 
-pub no_loads : (s : Setting) (start : ℕ) (words : List ℕ) (kept : List Bool)
-    (bytes section : List ℕ) (decisions : List Decision)
-    → AreLoadsDecidedTo s start words kept bytes section decisions 0 0
-no_loads s start words kept bytes section decisions =
-    record {
-      decided = λ n less. absurd (omega (arith, less));
-      made = λ n less. absurd (omega (arith, less));
-      apart = λ i j ij less. absurd (omega (arith, less));
-      ends = none_ends start_by end_by bytes decisions;
-    }
-
 pub more_loads : (s : Setting) (start : ℕ) (words : List ℕ) (kept : List Bool)
     (bytes section : List ℕ) (old : List Decision) (end grown k : ℕ) (d : Decision)
     → AreLoadsDecidedTo s start words kept bytes section old end k

@@ -163,19 +163,6 @@ pub record AreMade (decisions : List Decision) (entries entries_now section sect
   pub same_len : length section_now ≡ length section
   pub same_entries_len : length entries_now ≡ length entries
 
-pub none_made : (decisions : List Decision) (entries section : List ℕ) (limit : ℕ)
-    → AreMade decisions entries entries section section limit 0
-none_made decisions entries section limit =
-    record {
-      changed = λ n less. absurd (omega arith);
-      left = λ n le less. refl;
-      done = λ n less. absurd (omega arith);
-      ahead = λ n le less some. refl;
-      others = λ at outside. refl;
-      same_len = refl;
-      same_entries_len = refl;
-    }
-
 pub more_made : (decisions : List Decision) (entries old new section before after : List ℕ)
     (limit k : ℕ) → AreMade decisions entries old section before limit k → k < limit
     → AllCanBeMade entries section decisions limit → AreWindowsApart entries decisions limit

@@ -25,20 +25,6 @@ none_taken : (decisions : List Decision) (limit : ℕ) → AreKept decisions lim
 none_taken decisions limit are zero less = refl
 none_taken decisions limit are (suc n) less = ap takes_next (are n (omega (arith, less)))
 
-pub all_decided : (s : Setting) (kept : List KeptGroups) (bytes section : List ℕ)
-    (decisions : List Decision) (limit : ℕ) → AreUnlisted s.architecture s.phase bytes limit
-    → AreKept decisions limit → AreDecidedIn s kept bytes section decisions limit
-all_decided s kept bytes section decisions limit unlisted are n less =
-    subst (λ t. IsDecidedAfter s kept bytes section n t (decision_at decisions n))
-    (sym (none_taken decisions limit are n less))
-    (subst (λ d. IsDecidedAfter s kept bytes section n false d) (sym (are n less))
-    (Unlisted, unlisted n less, refl))
-
-pub all_can : (bytes section : List ℕ) (decisions : List Decision) (limit : ℕ)
-    → AreKept decisions limit → AllCanBeMade bytes section decisions limit
-all_can bytes section decisions limit are n less =
-    subst (λ d. CanBeMade d section (relocation_in bytes n).offset) (sym (are n less)) tt
-
 pub all_apart : (bytes : List ℕ) (decisions : List Decision) (limit : ℕ) → AreKept decisions limit
     → AreApart bytes decisions limit
 all_apart bytes decisions limit are i j ij less some_i some_j =
@@ -52,11 +38,6 @@ pub same_relocations : (bytes : List ℕ) (decisions : List Decision) (limit : �
     → AreKept decisions limit → AreRelocationsAfter decisions bytes bytes limit
 same_relocations bytes decisions limit are n less =
     sym (ap (λ d. relocation_after d (relocation_in bytes n)) (are n less))
-
-pub nothing_done : (bytes section : List ℕ) (decisions : List Decision) (limit : ℕ)
-    → AreKept decisions limit → AreDone bytes decisions section section limit
-nothing_done bytes section decisions limit are n less =
-    subst (λ d. IsDone d (relocation_in bytes n).offset section section) (sym (are n less)) tt
 
 pub none_deleted : (bytes : List ℕ) (decisions : List Decision) (limit : ℕ)
     → AreKept decisions limit → deletions_by bytes decisions limit ≡ []

@@ -29,15 +29,6 @@ that_word s start words bytes section n None w keeping is = absurd is
 that_word s start words bytes section n (Some word) w keeping is =
     subst (λ x. IsKeepingWord s start words bytes section n (relocation_in bytes n) (Some x)) (sym is) keeping
 
-pub no_words : (s : Setting) (start : ℕ) (words bytes section : List ℕ) (before : List Bool)
-    → AreLoadsSurveyed s start words bytes section before before 0
-no_words s start words bytes section before =
-    record {
-      noted = λ n less. absurd (omega (arith, less));
-      stayed = λ w stays. stays;
-      caused = λ w stays. inl stays;
-    }
-
 pub more_words : (s : Setting) (start : ℕ) (words bytes section : List ℕ) (before mid after : List Bool)
     (k : ℕ) (word : Option ℕ) → AreLoadsSurveyed s start words bytes section before mid k
     → IsKeepingWord s start words bytes section k (relocation_in bytes k) word

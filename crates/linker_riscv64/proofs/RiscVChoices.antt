@@ -18,9 +18,6 @@ use Rattle.linker_riscv64.specs.declared.rewrites.RelaxationKind.TheVariants as 
 
 -- ---- the code's table
 
-abbrev CodeEntry : Type 0
-CodeEntry = ChoiceEntry AskedFor RelaxationKind RiscVRelocation
-
 pub same : (P : Type 0) → P ↔ P
 same P = (λ h. h, λ h. h)
 

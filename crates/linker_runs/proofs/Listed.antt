@@ -34,12 +34,6 @@ drop_same_from xs ys n m below same =
 
 -- ---- the item that a relocation makes
 
--- it has bytes, and ends in the section
-pub made_within : (machine : Machine) (section : List ℕ) (base : ℕ) (relocations : List Relocation) (i : ℕ) (item : Item) → IsFormed machine section (relocation_at relocations i) → Makes machine section base relocations i item
-    → (offset_of item < end_of item) × (end_of item ≤ base + length section)
-made_within RiscV64 section base relocations i item formed makes = riscv_within section base relocations i item formed makes
-made_within LoongArch64 section base relocations i item formed makes = loongarch_within section base relocations i item makes
-
 -- ---- what is listed
 
 module _ (M : ℕ → Item → Type 0) (base n : ℕ) (deletions : List (ℕ × ℕ)) where

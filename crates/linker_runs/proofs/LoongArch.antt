@@ -107,10 +107,6 @@ module _ (section : List ℕ) (o place target : ℕ) (written : List ℕ) (branc
 
 -- ---- what is accepted and rejected
 
-pub kind_is_site : (section : List ℕ) (o : ℕ) (kind : Kind) → IsKindAt section o kind → IsSiteAt section o
-kind_is_site section o Call here = inl here
-kind_is_site section o Address here = inr here
-
 accepted_site : (section : List ℕ) (o kept place target : ℕ) → LoongArchAccepts section o kept place target → IsSiteAt section o
 accepted_site section o kept place target (short_call here len reached) = inl here
 accepted_site section o kept place target (long_call here len reached) = inl here

@@ -94,11 +94,6 @@ gap_below s items (suc i) apart inside =
     let h = apart (omega arith) in
     omega arith
 
--- and those after the last one
-pub end_below : (machine : Machine) (s : Section) (items : List Item) (n : ℕ) → AreReady machine s items n → gap_start s items n ≤ s.base + length s.bytes
-end_below machine s items zero ready = omega arith
-end_below machine s items (suc i) ready = (ready i (omega arith)).inside.1
-
 -- ---- bytes put over others
 
 module _ (xs ys : List ℕ) (at : ℕ) (room : at + length ys ≤ length xs) where

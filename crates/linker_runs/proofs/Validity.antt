@@ -287,7 +287,3 @@ pub first_of_run : (start : ℕ) (items : List Item) (found : Option ItemFault) 
     → MatchOption found (AreItems start items) (IsFirstFault start items)
 first_of_run start items None sound run = all_items start items sound run
 first_of_run start items (Some found) sound first = run_first start items found sound first
-
--- a run with a fault can't be relaxed
-pub not_items : (start : ℕ) (items : List Item) (found : ItemFault) → IsFirstFault start items found → ¬ AreItems start items
-not_items start items found first are = first.first.here (all_met start items are found.index first.within found.fault)

@@ -51,12 +51,6 @@ not_clear field last order clear =
 
 -- ---- one more field
 
-pub some_len : (architecture : Architecture) (bytes section : List ℕ) (k : ℕ)
-    (row : RelocationKindInfo) (field : Field) → HasField architecture bytes section k row field
-    → 0 < field.len
-some_len architecture bytes section k row field h =
-    let s = h.is_field.some in let e = h.end_is in let o = h.offset_is in omega (arith, s, e, o)
-
 own_continued : (architecture : Architecture) (bytes section : List ℕ) (k : ℕ)
     (row : RelocationKindInfo) (field : Field) → HasField architecture bytes section k row field
     → IsContinued row field
@@ -388,19 +382,6 @@ pair_below k =
     }
 
 -- ---- two fields
-
--- the relocation of another index is the second of a pair whose first is at an index
-pub pair_composes : (architecture : Architecture) (bytes : List ℕ) (i j : ℕ)
-    (row other : RelocationKindInfo) → j ≡ i + 1 → BeginsPair architecture bytes i
-    → IsRow architecture (relocation_in bytes i).code (Some row)
-    → IsRow architecture (relocation_in bytes j).code (Some other) → Composes bytes i row j other
-pair_composes architecture bytes i j row other next pair is_row is_other =
-    let one : pair.row ≡ row = one_info architecture _ pair.row row pair.is_row is_row in
-    let two : pair.other ≡ other = one_info architecture _ pair.other other pair.is_other
-    (subst (λ x. IsRow architecture (relocation_in bytes x).code (Some other)) next is_other) in
-    of_pair (sym pair.same_offset ∙ ap (offset_at bytes) (sym next)) next
-    (subst (λ x. begins_pair x.size x.kind ≡ true) one pair.begins)
-    (subst (λ x. ends_pair x.size x.kind ≡ true) two pair.ends)
 
 pub pair_begins : (architecture : Architecture) (bytes : List ℕ) (i j : ℕ)
     (row other : RelocationKindInfo) → offset_at bytes i ≡ offset_at bytes j → j ≡ i + 1

@@ -57,9 +57,6 @@ same_sum a b v m some same =
     let rest : x.rest ≡ y.rest = ap unsigned_abs (sym x.rest_is ∙ (same ∙ y.rest_is)) in
     sum_rest a v m some x z ∙ (ap (λ n. pos ((n + z.rest) % m)) rest ∙ sym (sum_rest b v m some y z))
 
-minus_is : (a v : ℤ) → a -ℤ v ≡ a +ℤ neg_ℤ v
-minus_is a v = refl
-
 pub same_difference : (a b v : ℤ) (m : ℕ) → 0 < m
     → int_rem_euclid a (pos m) ≡ int_rem_euclid b (pos m)
     → int_rem_euclid (a -ℤ v) (pos m) ≡ int_rem_euclid (b -ℤ v) (pos m)

@@ -167,16 +167,6 @@ bytes_taken n o bytes small i =
           let e = get_or_past (take n (drop o bytes)) i 0 (omega (arith, l, m, past)) in omega (arith, e)
     ]
 
-pub saved_whole : (offset word : ℕ) (section : List ℕ) → AreBytes section
-    → 8 ≤ length section - offset → word ≡ from_le_bytes w64 (take 8 (drop offset section))
-    → IsSavedAt offset section word
-saved_whole offset word section small room is =
-    let bytes = take 8 (drop offset section) in
-    let d = length-drop offset section in
-    let l = length-take-le 8 (drop offset section) (omega (arith, d, room)) in
-    ap (take (length section - offset)) (le_bytes_8 bytes word l (bytes_taken 8 offset section small) is)
-    ∙ take_all (length section - offset) bytes (omega (arith, l, room))
-
 zero_at : (i : ℕ) → get_or {A = ℕ} (replicate 8 0) i 0 ≡ 0
 zero_at i =
     let zeros : List ℕ = replicate 8 0 in

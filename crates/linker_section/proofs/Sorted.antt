@@ -244,20 +244,6 @@ swept_overlapped architecture bytes section order count p index last field row i
 
 -- ---- all places
 
-pub swept_none : (architecture : Architecture) (bytes section order : List ℕ) (count : ℕ)
-    (last : Field) → last.offset ≡ 0 → last.len ≡ 0
-    → AreSwept architecture bytes section order count 0 0 last
-swept_none architecture bytes section order count last offset len =
-    record {
-      apart = λ i j row other seen. let below = seen.2 in absurd (omega (arith, below));
-      claimed = record {
-        is_last = λ some. absurd (omega (arith, some, len));
-        others = λ i row seen. let below = seen.2 in absurd (omega (arith, below));
-      };
-      is_last = λ some. absurd (omega (arith, some, len));
-      ascending = λ q from under. omega (arith, offset);
-    }
-
 pub swept_all : (architecture : Architecture) (bytes section order : List ℕ)
     (count p index : ℕ) (last : Field) → IsOrder bytes order → count ≤ length bytes / 24
     → length order ≤ p → AreSwept architecture bytes section order count p index last

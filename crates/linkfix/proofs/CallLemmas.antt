@@ -172,12 +172,6 @@ far_by_next (e ∷ es) site next rest apart are = elim (cases_lt e.0 (site - 3))
       )
 ]
 
--- a call that is far from all and still rejected fails with some cause
-pub call_fails : (site target : ℕ) (state : SectionState) (error : ReportedError) → All (IsFarFrom site) state.calls → Rejects (Call site target) state error
-    → (cause : CallError) × (error ≡ CallFailed cause) × CallFailsWith cause state.section.items state.deltas site target
-call_fails site target state error far (inl bad) = absurd (bad.1 far)
-call_fails site target state error far (inr fails) = (fails.1, fails.2, fails.3)
-
 -- each error of `relax_call` is for its cause
 pub call_errors : (section : List ℕ) (ds : List (ℕ × ℕ)) (site target : ℕ) (result : Result (Unit {0}) CallError)
     → ((result ≡ Err OutOfSection) ↔ CallFailsWith OutOfSection section ds site target)
