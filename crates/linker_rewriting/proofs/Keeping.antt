@@ -105,9 +105,6 @@ one_kept table group symbol old less is g s =
           )
     ]
 
-abbrev pub IsEither : (Group → ℕ → Type 0) → (Group → ℕ → Type 0) → Group → ℕ → Type 0
-IsEither P Q g s = P g s ⊎ Q g s
-
 get_is : {X : Type 0} (xs : List X) (i : ℕ) (d : X) → i < length xs
     → slice_get xs i ≡ Some (get_or xs i d)
 get_is xs i d less = get_there xs i (get_or xs i d) d less refl

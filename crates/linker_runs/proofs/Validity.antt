@@ -65,17 +65,6 @@ item_formed (Site site) met = record {
 }
 item_formed (Aligned alignment) met = met BadAlignment
 
--- and the reverse
-item_meets : (item : Item) → IsSound item → IsFormed item → (fault : Fault) → ItemMeets item fault
-item_meets (Site site) sound formed TooManyShapes = sound.0
-item_meets (Site site) sound formed ShapeTooLong = (sound.1, sound.2)
-item_meets (Site site) sound formed ShapesNotAscending = formed.ascending
-item_meets (Site site) sound formed BadGranularity = (formed.powers, formed.units)
-item_meets (Site site) sound formed BadReach = (formed.ahead, formed.reaches)
-item_meets (Site site) sound formed other = tt
-item_meets (Aligned alignment) sound formed BadAlignment = formed
-item_meets (Aligned alignment) sound formed other = tt
-
 -- what an item meets by its place aside
 pub own_item : (start : ℕ) (items : List Item) (i : ℕ) → ((fault : Fault) → OwnMeets start items i fault) → (fault : Fault) → ItemMeets (item_at items i) fault
 own_item start items i met Overlaps = by_place (item_at items i)
@@ -93,15 +82,6 @@ own_item start items i met other = met other
 pub own_formed : (start : ℕ) (items : List Item) → AreSound start items → (i : ℕ) → i < length items → IsFormed (item_at items i)
 own_formed start items sound i within = item_formed (item_at items i) (own_item start items i (sound i within))
 
-own_meets : (start : ℕ) (items : List Item) → AreItems start items → AreSound start items
-own_meets start items are i within Overlaps = λ some.
-    let z : i - 1 + 1 ≡ i = omega arith in
-    let a = ap (λ n. offset_of (item_at items n)) z in
-    let h = are.in_order.apart (i - 1) (omega arith) in
-    omega arith
-own_meets start items are i within TooHigh = are.in_order.ends i within
-own_meets start items are i within other = item_meets (item_at items i) (are.in_order.sound i within) (are.formed i within) other
-
 pub in_order : (start : ℕ) (items : List Item) → AreSound start items → AreInOrder start items
 in_order start items sound = record {
   apart = λ i within.
@@ -118,14 +98,6 @@ limited : (u power nops : ℕ) (most : Option ℕ) → MatchOption most ⊤ (λ 
     → MatchOption most ⊤ (λ most. (nops % u ≡ 0) × ((power ≤ nops + u) ⊎ (most ≤ nops)))
 limited u power nops None many even = tt
 limited u power nops (Some most) many even = (even, many)
-
-many_nops : (u power nops : ℕ) (most : Option ℕ) → MatchOption most ⊤ (λ most. (nops % u ≡ 0) × ((power ≤ nops + u) ⊎ (most ≤ nops))) → MatchOption most ⊤ (λ most. (power ≤ nops + u) ⊎ (most ≤ nops))
-many_nops u power nops None fits = tt
-many_nops u power nops (Some most) fits = fits.1
-
-even_nops : (u power nops : ℕ) (most : Option ℕ) → MatchOption most ⊤ (λ most. (nops % u ≡ 0) × ((power ≤ nops + u) ⊎ (most ≤ nops))) → MatchOption most ⊤ (λ most. nops % u ≡ 0)
-even_nops u power nops None fits = tt
-even_nops u power nops (Some most) fits = fits.0
 
 alignment_fits : (u start : ℕ) (alignment : Alignment) → ((fault : Fault) → AlignmentMeets u start alignment fault) → AlignmentFits u start alignment ⊎ IsStill u start alignment
 alignment_fits u start alignment met = ⊎_elim
@@ -159,22 +131,6 @@ still_meets u start alignment still UnevenEnd = inr still
 still_meets u start alignment still TooFewNops = (no_limit u alignment.alignment alignment.nops alignment.max_skip still.unlimited).0
 still_meets u start alignment still UnevenNops = (no_limit u alignment.alignment alignment.nops alignment.max_skip still.unlimited).1
 still_meets u start alignment still other = tt
-
-fits_meets : (u start : ℕ) (alignment : Alignment) → AlignmentFits u start alignment → (fault : Fault) → AlignmentMeets u start alignment fault
-fits_meets u start alignment fit AlignmentBelowGranularity = inl fit.power
-fits_meets u start alignment fit UnevenEnd = inl fit.behind
-fits_meets u start alignment fit TooFewNops = many_nops u alignment.alignment alignment.nops alignment.max_skip fit.limited
-fits_meets u start alignment fit UnevenNops = even_nops u alignment.alignment alignment.nops alignment.max_skip fit.limited
-fits_meets u start alignment fit other = tt
-
-unit_meets : (u start : ℕ) (item : Item) → ItemFits u start item → IsInWords item → (fault : Fault) → UnitMeets u start item fault
-unit_meets u start (Site site) fit words UnevenShape = fit
-unit_meets u start (Site site) fit words Misaligned = words
-unit_meets u start (Site site) fit words other = tt
-unit_meets u start (Aligned alignment) fit words fault = ⊎_elim
-    (λ (fits : AlignmentFits u start alignment). fits_meets u start alignment fits fault)
-    (λ (still : IsStill u start alignment). still_meets u start alignment still fault)
-    fit
 
 no_target : (u start : ℕ) (item : Item) → UnitMeets u start item TargetInside
 no_target u start (Site site) = tt
@@ -248,14 +204,6 @@ all_items start items sound run = record {
   clear = λ i j within there. run i within TargetInside j there;
   enough = λ i within. run i within MayBeMisaligned;
 }
-
-run_meets : (start : ℕ) (items : List Item) → AreItems start items → (i : ℕ) → i < length items → (fault : Fault) → RunMeets (run_granularity items) start items i fault
-run_meets start items are i within TargetInside = λ j there. are.clear i j within there
-run_meets start items are i within MayBeMisaligned = are.enough i within
-run_meets start items are i within other = unit_meets (run_granularity items) start (item_at items i) (are.fit i within) (are.in_words i within) other
-
-pub all_met : (start : ℕ) (items : List Item) → AreItems start items → (i : ℕ) → i < length items → (fault : Fault) → Meets start items i fault
-all_met start items are i within fault = (own_meets start items are i within fault, λ _. run_meets start items are i within fault)
 
 -- the first faults of both kinds are the first of all
 pub own_first : (start : ℕ) (items : List Item) (found : ItemFault) → IsFirstAt (OwnMeets start items) (length items) found → IsFirstFault start items found

@@ -156,17 +156,6 @@ restores_pair architecture bytes memory n word next now after before row other r
 abbrev pub AreBytes : List ℕ → Type 0
 AreBytes bytes = (i : ℕ) → get_or bytes i 0 < 256
 
-min-le : (m n : ℕ) → min m n ≤ m
-min-le m n = search rules
-
-pub bytes_taken : (n o : ℕ) (bytes : List ℕ) → AreBytes bytes → AreBytes (take n (drop o bytes))
-bytes_taken n o bytes small i =
-    elim (cases_lt i n) [
-      | inl below ↦ let s = small (o + i) in let e = get_or-take n (drop o bytes) i 0 below ∙ get_or-drop o bytes i 0 in omega (arith, s, e)
-      | inr past ↦ let l = length-take n (drop o bytes) in let m = min-le n (length (drop o bytes)) in
-          let e = get_or_past (take n (drop o bytes)) i 0 (omega (arith, l, m, past)) in omega (arith, e)
-    ]
-
 zero_at : (i : ℕ) → get_or {A = ℕ} (replicate 8 0) i 0 ≡ 0
 zero_at i =
     let zeros : List ℕ = replicate 8 0 in
