@@ -1,19 +1,14 @@
 -- Steps of LoongArch's instructions.
-use Rattle.std.proofs.Common.{◌≡◌, ◌≢◌, ℕ, ◌+◌, ◌-◌, ◌*◌, ◌%◌, ◌^◌, ◌<◌, Bool, true, false, refl, sym, ◌∙◌, ap}
-use Rattle.std.proofs.Common.{subst, arith, List, [], ◌∷◌, eqb, cond, ℤ, pos, ◌+ℤ◌, ◌*ℤ◌, Some, inl, inr}
+use Rattle.std.proofs.Common.{◌≡◌, ◌≢◌, ℕ, ◌+◌, ◌-◌, Bool, true, false, refl, sym, ◌∙◌, ap}
+use Rattle.std.proofs.Common.{subst, List, [], ◌∷◌, eqb, cond, ℤ, pos, ◌+ℤ◌, Some}
 use Rattle.std.proofs.Common.{None}
 use Rattle.std.specs.Prelude.{IsSomeAnd}
-use Rattle.std.specs.Int.RustNames.{bit_or}
 use Rattle.std.proofs.lemmas.Bool.{eq-eqb, ne_eqb, cond-true, cond-false}
-use Rattle.std.proofs.lemmas.Int.{ints}
-use Rattle.std.proofs.lemmas.Nat.{or_shifted}
 use Rattle.linker_base.specs.Bits.{field, signed}
-use Rattle.linker_base.proofs.Pairs.{signed_cases}
 use Rattle.linker_loongarch64.specs.LoongArchRewrites.{rd_of, rj_of}
-use Rattle.linker_laws.proofs.Sums.{lifted_is}
 use Rattle.linker_laws.specs.Machine.{wrapped, loaded}
-use Rattle.linker_laws.specs.LoongArchMachine.{State, step, run, decode, read, write, with_register, go_on, next_pc, continue, execute, EndSo, AreAlikeBut, pcalau_12, pcadd_2, lu12i_w, sums, adds, loads, ori, page_address, near_address, high_part, sum_of, ored}
-use Rattle.linker_laws.proofs.AArch64Steps.{address_is, in_two_steps}
+use Rattle.linker_laws.specs.LoongArchMachine.{State, step, run, decode, read, write, with_register, go_on, next_pc, continue, execute, EndSo, AreAlikeBut, pcalau_12, pcadd_2, lu12i_w, sums, adds, loads, page_address, near_address, high_part, sum_of}
+use Rattle.linker_laws.proofs.AArch64Steps.{in_two_steps}
 
 -- ---- one instruction
 

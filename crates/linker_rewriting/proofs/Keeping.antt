@@ -1,7 +1,7 @@
 -- Groups that stay, noted in a table.
-use Rattle.std.proofs.Common.{◌≡◌, ◌≢◌, ℕ, zero, suc, ◌≤◌, ◌<◌, ◌⊎◌, inl, inr, ◌∙◌, ◌↔◌, List, [], ◌∷◌, length, ap, sym, subst, arith, refl, IsTrue, None, Some, get_or, rules, slice_get, slice_set, true}
+use Rattle.std.proofs.Common.{◌≡◌, ◌≢◌, ℕ, zero, suc, ◌≤◌, ◌<◌, ◌⊎◌, inl, inr, ◌∙◌, ◌↔◌, List, [], ◌∷◌, length, ap, sym, subst, arith, refl, IsTrue, None, Some, get_or, rules, slice_get, slice_set}
 use Rattle.linker_rewriting.specs.Groups.{keeps, with_kept, kept_by}
-use Rattle.linker_rewriting.specs.Surveys.{AreKeptToo, IsGroup, IsOfThreads}
+use Rattle.linker_rewriting.specs.Surveys.{AreKeptToo, IsGroup}
 use Rattle.linker_rewriting.specs.declared.groups.Group.{Group}
 use Rattle.linker_rewriting.specs.declared.groups.Group.TheVariants.{InitialExec, GeneralDynamic, LocalDynamic, Descriptor, GotLoad}
 use Rattle.linker_rewriting.specs.declared.groups.KeptGroups.{KeptGroups}

@@ -1,7 +1,7 @@
 -- Decisions of loads from words, relocation by relocation.
 use Rattle.std.proofs.Common.{◌≡◌, ℕ, ◌+◌, ◌<◌, inl, inr, List, length, sym, subst, arith, Bool, None, slice_set}
 use Rattle.std.proofs.lemmas.List.{get_or-set_same, get_or-set_other}
-use Rattle.linker_rewriting.proofs.Deciding.{AreSame, EndsAt, IsGrown, IsReached, bound_at, none_ends, apart_more, ends_more}
+use Rattle.linker_rewriting.proofs.Deciding.{AreSame, EndsAt, IsGrown, IsReached, bound_at, apart_more, ends_more}
 use Rattle.linker_rewriting.specs.Decisions.{CanBeMade, AllCanBeMade, AreApart, IsEndBehind, decision_at, start_by, end_by}
 use Rattle.linker_rewriting.specs.Facts.{Setting}
 use Rattle.linker_rewriting.specs.Words.{AreLoadsDecided, IsLoadDecision, IsLoadOverlapping}

@@ -1,17 +1,16 @@
 -- Sections that stay as they are in a phase, and runs of relocations that keep no group.
 use Rattle.std.proofs.Common.{◌≡◌, ℕ, zero, suc, ◌+◌, ◌-◌, ◌≤◌, ◌<◌, ◌∙◌, List, [], ◌++◌, ap, sym, subst, arith, refl, false}
 use Rattle.linker_rewriting.proofs.Surveying.{one_left}
-use Rattle.linker_rewriting.specs.Decisions.{CanBeMade, AllCanBeMade, AreApart, AreDecidedIn, IsDecidedAfter, decision_at, is_taken, takes_next, start_by, end_by, deleted_of, deletion_by, deletions_by}
-use Rattle.linker_rewriting.specs.Facts.{Setting, setting}
+use Rattle.linker_rewriting.specs.Decisions.{AreApart, is_taken, takes_next, start_by, end_by, deleted_of, deletion_by, deletions_by}
+use Rattle.linker_rewriting.specs.Facts.{setting}
 use Rattle.linker_rewriting.specs.Inner.Codes.{KeepsNone}
-use Rattle.linker_rewriting.specs.Inner.Left.{AreUnlisted, AreKept}
-use Rattle.linker_rewriting.specs.Rewritten.{relocation_after, IsDone, AreDone, AreRelocationsAfter}
+use Rattle.linker_rewriting.specs.Inner.Left.{AreKept}
+use Rattle.linker_rewriting.specs.Rewritten.{relocation_after, AreRelocationsAfter}
 use Rattle.linker_rewriting.specs.Surveys.{IsSurveyedIn}
 use Rattle.linker_rewriting.specs.declared.decisions.Decision.{Decision}
 use Rattle.linker_rewriting.specs.declared.facts.OutputFacts.{OutputFacts}
 use Rattle.linker_rewriting.specs.declared.facts.SymbolFacts.{SymbolFacts}
 use Rattle.linker_rewriting.specs.declared.groups.KeptGroups.{KeptGroups}
-use Rattle.linker_rewriting.specs.declared.groups.Scope.TheVariants.{Unlisted}
 use Rattle.linker_rewriting.specs.declared.phases.Phase.{Phase}
 use Rattle.linker_section.specs.Relocations.{relocation_in}
 use Rattle.linker_section.specs.declared.facts.Addresses.{Addresses}

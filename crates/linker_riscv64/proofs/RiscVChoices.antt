@@ -6,13 +6,11 @@ use Rattle.linker_base.specs.Rewrite.{CanRewrite}
 use Rattle.linker_elf.specs.Choices.{IsFirst, choice}
 use Rattle.linker_elf.specs.Value.{sum_64}
 use Rattle.linker_elf.specs.declared.elf.choice.LinkFacts.{LinkFacts}
-use Rattle.linker_elf.specs.declared.elf.choice_table.ChoiceEntry.{ChoiceEntry}
 use Rattle.linker_elf.specs.declared.riscv64.relocations.RiscVRelocation.{RiscVRelocation}
 use Rattle.linker_elf.specs.declared.riscv64.relocations.RiscVRelocation.TheVariants as r
 use Rattle.linker_riscv64.specs.RiscVRewrites.{RiscVEntry, RiscVChoice, AppliesToRiscV, IsAskedFor, IsRiscVChoice, riscv_entries}
 use Rattle.linker_riscv64.specs.RiscVRewrites.{riscv_matches}
 use Rattle.linker_riscv64.specs.RiscVRewrites.{riscv_rewrite, FitsClui}
-use Rattle.linker_riscv64.specs.declared.choices.AskedFor.{AskedFor}
 use Rattle.linker_riscv64.specs.declared.rewrites.RelaxationKind.{RelaxationKind}
 use Rattle.linker_riscv64.specs.declared.rewrites.RelaxationKind.TheVariants as kinds
 

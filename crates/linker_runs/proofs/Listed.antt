@@ -6,16 +6,10 @@ use Rattle.std.proofs.lemmas.List.Elements.{All-nil}
 use Rattle.linker_riscv64.proofs.Shrunk.{written_more}
 use Rattle.linker_runs.specs.declared.relaxation.Item.{Item}
 use Rattle.linker_runs.specs.declared.relaxation.Item.TheVariants.{Site, Aligned}
-use Rattle.linker_runs.specs.declared.items.Relocation.{Relocation}
-use Rattle.linker_runs.specs.declared.packing.Machine.{Machine}
-use Rattle.linker_runs.specs.declared.packing.Machine.TheVariants.{RiscV64, LoongArch64}
 use Rattle.linker_runs.specs.Relaxing.{offset_of, end_of}
-use Rattle.linker_runs.specs.Relocations.{relocation_at}
-use Rattle.linker_runs.specs.SectionItems.{Makes, IsFormed}
+use Rattle.linker_runs.specs.SectionItems.{Makes}
 use Rattle.linker_runs.specs.RewrittenItems.{AreListed, IsDeleted, ArePlaced, deleted_at, deleted_end}
 use Rattle.linker_runs.specs.RewrittenItems.AreListed.{none, left_out, made, deleted}
-use Rattle.linker_runs.proofs.RiscVItems.{riscv_within}
-use Rattle.linker_runs.proofs.LoongArchItems.{loongarch_within}
 use Rattle.linker_runs.specs.Inner.Listed.{Rewritten, AreListedIn}
 
 -- where a deletion is

@@ -11,7 +11,7 @@ use Rattle.linker_runs.specs.declared.relaxation.faults.ItemFault.{ItemFault}
 use Rattle.linker_runs.specs.Relaxing.{offset_of, end_of, target_of, item_at, place_of, IsSound, AreInOrder}
 use Rattle.linker_runs.specs.Choosing.{least_len, run_granularity, IsFormed, ItemFits, AlignmentFits, IsStill, AreItems, IsInWords, IsClear, HasItsNops}
 use Rattle.linker_runs.specs.declared.relaxation.Alignment.{Alignment}
-use Rattle.linker_runs.specs.Faults.{number_of, ItemMeets, OwnMeets, AlignmentMeets, UnitMeets, RunMeets, AreSound, Meets, IsFirstOf, IsFirstAt, IsFirstFault}
+use Rattle.linker_runs.specs.Faults.{number_of, ItemMeets, OwnMeets, AlignmentMeets, UnitMeets, RunMeets, AreSound, IsFirstOf, IsFirstAt, IsFirstFault}
 use Rattle.linker_runs.specs.Inner.Validity.{IsClearRun}
 use Rattle.linker_runs.proofs.Choices.{place_is}
 

@@ -1,7 +1,7 @@
 -- Bytes that are kept, put back.
-use Rattle.std.proofs.Common.{◌≡◌, ℕ, suc, zero, ◌+◌, ◌-◌, ◌<◌, ◌≤◌, List, ◌++◌, length, take, drop, set, leb, true, false, min, get_or, replicate, ap₂, refl, ap, sym, subst, ◌∙◌, rules, inl, inr, arith, Option, Some}
+use Rattle.std.proofs.Common.{◌≡◌, ℕ, suc, zero, ◌+◌, ◌-◌, ◌<◌, ◌≤◌, List, ◌++◌, length, take, drop, set, leb, true, false, min, get_or, replicate, ap₂, refl, ap, sym, subst, ◌∙◌, inl, inr, arith, Option, Some}
 use Rattle.std.proofs.lemmas.Bool.{cond-true, cond-false, cases_lt, le-leb, lt-leb}
-use Rattle.std.proofs.lemmas.List.{take_at, drop_at, drop-drop, take-take, take_all, drop_all, take-append-drop, append-nil, length-take-le, length-append, length-drop, take-append-le, get_or-set_same, get_or-set_other, get_or-take, get_or-drop, get_or_past, get_or_append_left, get_or-append_right, get_or-replicate, length-replicate, length-take, length-set}
+use Rattle.std.proofs.lemmas.List.{take_at, drop_at, drop-drop, take-take, take_all, drop_all, take-append-drop, append-nil, length-take-le, length-append, length-drop, take-append-le, get_or-set_same, get_or-set_other, get_or-drop, get_or_past, get_or_append_left, get_or-append_right, get_or-replicate, length-replicate, length-set}
 use Rattle.std.proofs.lemmas.Nat.{le_bytes_8}
 use Rattle.std.proofs.Math.Nat.{min-eq_left, min-eq_right}
 use Rattle.std.specs.Int.{w64, to_le_bytes, from_le_bytes}

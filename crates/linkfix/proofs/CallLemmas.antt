@@ -17,11 +17,7 @@ use Rattle.linker_utils.specs.Packing.{AreApart, IsApart}
 use Rattle.linker_utils.specs.CallError.TheVariants.{OutOfSection, SiteDeleted, OddDistance, TooFar}
 use Rattle.linker_utils.specs.CallError.{CallError}
 use Rattle.linkfix.specs.AcceptedCalls.{AreBySite, IsFarFrom, placed}
-use Rattle.linkfix.specs.Execution.{CallFailsWith, Rejects}
-use Rattle.linkfix.specs.declared.commands.Command.TheVariants.{Call}
-use Rattle.linkfix.specs.declared.program.ReportedError.{ReportedError}
-use Rattle.linkfix.specs.declared.program.ReportedError.TheVariants.{Call as CallFailed}
-use Rattle.linkfix.specs.declared.program.SectionState.{SectionState}
+use Rattle.linkfix.specs.Execution.{CallFailsWith}
 
 -- ---- calls by site
 
