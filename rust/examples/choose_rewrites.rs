@@ -4,6 +4,7 @@
 
 use linker_utils::elf::{Architecture, InstructionRewrite, LinkFacts, Operands};
 use linker_utils::relaxation::RelocationModifier;
+use linker_utils::x86_64::X86_64Relocation::*;
 
 struct Relocation {
     offset: u64,
@@ -25,12 +26,12 @@ fn main() {
     let mut section = vec![0x48, 0x8b, 0x05, 0, 0, 0, 0];
     // data16 lea t@tlsgd(%rip), %rdi; data16 data16 rex64 call __tls_get_addr@PLT
     section.extend([0x66, 0x48, 0x8d, 0x3d, 0, 0, 0, 0, 0x66, 0x66, 0x48, 0xe8, 0, 0, 0, 0]);
-    // R_X86_64_REX_GOTPCRELX, R_X86_64_TLSGD, R_X86_64_PLT32
     let relocations = [
-        Relocation { offset: 3, code: 42, addend: -4, symbol: "x" },
-        Relocation { offset: 11, code: 19, addend: -4, symbol: "t" },
-        Relocation { offset: 19, code: 4, addend: -4, symbol: "__tls_get_addr" },
-    ];
+        (3, R_X86_64_REX_GOTPCRELX, "x"),
+        (11, R_X86_64_TLSGD, "t"),
+        (19, R_X86_64_PLT32, "__tls_get_addr"),
+    ]
+    .map(|(offset, name, symbol)| Relocation { offset, code: name.elf_code(), addend: -4, symbol });
 
     let mut skipped = Vec::new();
     for Relocation { offset, code, addend, symbol } in &relocations {

@@ -4,6 +4,7 @@
 use linker_utils::elf::{Architecture, Operands};
 use linker_utils::recognise::architecture::{destination_of, recognise, window_of};
 use linker_utils::recognise::{FieldBits, field_bits};
+use linker_utils::x86_64::X86_64Relocation::*;
 
 /// What stands in a linked section, which is at an address, for the first of some relocations of the object's:
 /// an offset, a type and an addend each.
@@ -32,9 +33,11 @@ fn main() {
     let one = [0x48, 0x8d, 5, 9, 0x30, 0, 0, 0xe9, 0xf4, 0xf, 0, 0, 0x90, 0xd5, 0x48, 0x8d, 5, 0xfb, 0x2f, 0, 0];
     let mov = [0xc7, 0xc0, 0x10, 0x50, 0x40, 0];
     let other = [&[0x48], &mov[..], &[0xe9, 0xf4, 0xf, 0, 0, 0x90, 0xd5, 0x18], &mov].concat();
-    for (at, code, differ) in [(3, 42, true), (9, 41, false), (17, 43, true)] {
+    let relocations =
+        [(3, R_X86_64_REX_GOTPCRELX, true), (9, R_X86_64_GOTPCRELX, false), (17, R_X86_64_CODE_4_GOTPCRELX, true)];
+    for (at, name, differ) in relocations {
         let [a, b] = [(0x401000, &one[..]), (0x402000, &other[..])]
-            .map(|linked| made(Architecture::X86_64, &object, linked, &[(at, code, -4)]));
+            .map(|linked| made(Architecture::X86_64, &object, linked, &[(at, name.elf_code(), -4)]));
         println!("{at}: {a:?}, {b:?}");
         assert_eq!(a[0].split(" to ").next() != b[0].split(" to ").next(), differ);
     }

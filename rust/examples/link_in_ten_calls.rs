@@ -1,11 +1,13 @@
 // SPDX-License-Identifier: MIT OR Apache-2.0
 //! Links a section. No line of `link` names an architecture, and the same lines link any of the five.
 
+use linker_utils::aarch64::AArch64Relocation::*;
 use linker_utils::elf::Architecture;
 use linker_utils::output::{Target, entry_words, static_words};
 use linker_utils::rewriting::{Decision, KeptGroups, OutputFacts, Phase, SymbolFacts};
 use linker_utils::rewriting::{rewrite_placed_section, rewrite_section, survey, survey_placed_section};
 use linker_utils::section::{Addresses, EntryClass, Symbol, memory_len, needs, relocate_section, relocation_at};
+use linker_utils::x86_64::X86_64Relocation::*;
 
 /// Where the linker puts the code, the GOT and the TLS image.
 const PLACES: [u64; 3] = [0x401000, 0x403000, 0x403008];
@@ -75,14 +77,20 @@ fn main() {
     let facts = [SymbolFacts { is_local: true, ..SymbolFacts::default() }; 4];
     let symbols = [(0, false), (0x401000, false), (0x402000, false), (0x403008, true)]
         .map(|(address, is_thread_local)| Symbol { address, is_thread_local, ..Symbol::default() });
-    let rela = |rows: &[[u64; 4]]| -> Vec<u8> {
-        let words = rows.iter().flat_map(|&[at, symbol, code, addend]| [at, symbol << 32 | code, addend]);
+    let rela = |rows: &[(u64, u64, u32, i64)]| -> Vec<u8> {
+        let words = rows.iter().flat_map(|&(at, symbol, code, addend)| {
+            [at, symbol << 32 | u64::from(code), addend as u64]
+        });
         words.flat_map(u64::to_le_bytes).collect()
     };
     // mov x@GOTPCREL(%rip), %rax; mov t@gottpoff(%rip), %rcx; cmp %rax, x@GOTPCREL(%rip); call _start
     let mut code = *b"\x48\x8b\x05\0\0\0\0\x48\x8b\x0d\0\0\0\0\x48\x39\x05\0\0\0\0\xe8\0\0\0\0";
-    let back = -4i64 as u64;
-    let mut rows = rela(&[[3, 2, 42, back], [10, 3, 22, back], [17, 2, 9, back], [22, 1, 4, back]]);
+    let mut rows = rela(&[
+        (3, 2, R_X86_64_REX_GOTPCRELX.elf_code(), -4),
+        (10, 3, R_X86_64_GOTTPOFF.elf_code(), -4),
+        (17, 2, R_X86_64_GOTPCREL.elf_code(), -4),
+        (22, 1, R_X86_64_PLT32.elf_code(), -4),
+    ]);
     let words = link(Architecture::X86_64, &mut code, &mut rows, &facts, &mut symbols.clone());
     // as ld.lld: lea x(%rip), %rax; mov $-8, %rcx; cmp %rax, 0x403000(%rip); call _start
     assert_eq!(words, [0x402000]);
@@ -93,8 +101,13 @@ fn main() {
     // adrp x0, :got:x; ldr x0, [x0, :got_lo12:x]; adrp x1, :gottprel:t; ldr x1, [x1, :gottprel_lo12:t];
     // bl _start
     let mut code = *b"\0\0\0\x90\0\0\x40\xf9\x01\0\0\x90\x21\0\x40\xf9\0\0\0\x94";
-    let mut rows =
-        rela(&[[0, 2, 311, 0], [4, 2, 312, 0], [8, 3, 541, 0], [12, 3, 542, 0], [16, 1, 283, 0]]);
+    let mut rows = rela(&[
+        (0, 2, R_AARCH64_ADR_GOT_PAGE.elf_code(), 0),
+        (4, 2, R_AARCH64_LD64_GOT_LO12_NC.elf_code(), 0),
+        (8, 3, R_AARCH64_TLSIE_ADR_GOTTPREL_PAGE21.elf_code(), 0),
+        (12, 3, R_AARCH64_TLSIE_LD64_GOTTPREL_LO12_NC.elf_code(), 0),
+        (16, 1, R_AARCH64_CALL26.elf_code(), 0),
+    ]);
     link(Architecture::AArch64, &mut code, &mut rows, &facts, &mut symbols.clone());
     // as ld.lld: nop; adr x0, x; movz x1, #0, lsl #16; movk x1, #16; bl _start
     assert_eq!(code, *b"\x1f\x20\x03\xd5\xe0\x7f\0\x10\x01\0\xa0\xd2\x01\x02\x80\xf2\xfc\xff\xff\x97");

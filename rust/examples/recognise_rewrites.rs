@@ -5,6 +5,7 @@
 use linker_utils::elf::{Architecture, InstructionRewrite, Operands};
 use linker_utils::reading::solve;
 use linker_utils::recognise::architecture::recognise;
+use linker_utils::x86_64::X86_64Relocation::*;
 
 fn main() {
     // mov x@GOTPCREL(%rip), %rax twice, with R_X86_64_REX_GOTPCRELX at 3 and 10, and
@@ -20,11 +21,13 @@ fn main() {
     let (architecture, address, addend) = (Architecture::X86_64, 0x401000, -4);
 
     // the window of a relocation is its instruction, in both
-    for (window, offset, code, wanted) in
-        [(0..7, 3, 42, 0x404010), (7..14, 3, 42, 0x404010), (14..20, 2, 41, 0x402000)]
-    {
+    for (window, offset, name, wanted) in [
+        (0..7, 3, R_X86_64_REX_GOTPCRELX, 0x404010),
+        (7..14, 3, R_X86_64_REX_GOTPCRELX, 0x404010),
+        (14..20, 2, R_X86_64_GOTPCRELX, 0x402000),
+    ] {
         let (before, after) = (&object[window.clone()], &linked[window.clone()]);
-        let found = recognise(architecture, code, before, offset, &[], after);
+        let found = recognise(architecture, name.elf_code(), before, offset, &[], after);
         let made = found.into_iter().flatten().next().expect("a rewrite, or none");
         // the addend of the relocation after the rewrite
         let (mut bytes, mut at, mut addend) = (before.to_vec(), offset, addend);

@@ -3,15 +3,18 @@
 //! among them.
 
 use linker_utils::elf::Architecture;
+use linker_utils::riscv64::RiscVRelocation::*;
 use linker_utils::section::{Addresses, Symbol, memory_len, relocate_section};
 
 fn main() {
     // jal ra, f; the number 0 in two bytes; a word of 8 bytes
     let mut section = [0xef, 0, 0, 0, 0x80, 0, 0, 0, 0, 0, 0, 0, 0, 0];
     let symbols = [0, 0x402000, 0x402345].map(|address| Symbol { address, ..Symbol::default() });
-    // r_offset, r_sym, r_type and r_addend: R_RISCV_JAL, SET_ULEB128, SUB_ULEB128 and 64
-    let rows = [(0, 1, 17, 0), (4, 2, 60, 0), (4, 1, 61, 0), (6, 2, 2, -5i64)];
-    let rela = rows.map(|(at, symbol, code, addend)| [at, symbol << 32 | code, addend as u64]);
+    // r_offset, r_sym, r_type and r_addend
+    let jal = (0, 1, R_RISCV_JAL, 0);
+    let pair = [(4, 2, R_RISCV_SET_ULEB128, 0), (4, 1, R_RISCV_SUB_ULEB128, 0)];
+    let rows = [jal, pair[0], pair[1], (6, 2, R_RISCV_64, -5i64)];
+    let rela = rows.map(|(at, symbol, name, addend)| [at, symbol << 32 | u64::from(name.elf_code()), addend as u64]);
     let rela = rela.as_flattened().iter().flat_map(|word: &u64| word.to_le_bytes()).collect::<Vec<_>>();
     let addresses = Addresses { section: 0x401000, ..Addresses::default() };
     let mut memory = vec![0; memory_len(&rela)];

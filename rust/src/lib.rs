@@ -6,6 +6,7 @@
 #![doc = include_str!("../doc/lib.md")]
 
 #![no_std]
+#![cfg_attr(docsrs, feature(doc_cfg))]
 #![forbid(unsafe_code)]
 #![allow(non_camel_case_types, reason = "a relocation has the name that its psABI gives it")]
 #![allow(unused_imports, unused_variables, reason = "some are there for contracts alone")]
@@ -34,6 +35,19 @@ mod traits;
 
 #[doc(hidden)]
 pub use crate::linker_elf::elf::choice_table;
+
+#[cfg(any(doc, doctest))]
+pub mod link_in_ten_calls {
+    #![doc = include_str!("../doc/link_in_ten_calls.md")]
+    use crate::output::{LazyPlt, Target, static_words};
+    use crate::placement::place_stubs;
+    use crate::rewriting::{
+        keep_facts, relocate_rewritten_section, rewrite_placed_section, rewrite_section, survey,
+        survey_placed_section,
+    };
+    use crate::runs::{items::rewritten_items_into, packing::pack_run, relaxation::relax};
+    use crate::section::{memory_len, needs, relocate_section};
+}
 
 pub mod runs {
     #![doc = include_str!("../doc/runs.md")]
