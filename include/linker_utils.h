@@ -148,7 +148,7 @@ struct linker_utils_operands {
     uint64_t tls_base;
     bool has_got_entry; /* there is such an entry */
     bool has_plt_entry; /* else L is S, but PowerPC64's PLT16_* and PLT_PCREL34* have none */
-    bool has_tls_base;
+    bool has_tls_base; /* the output has a TLS segment */
 };
 
 /* The operands S, A and P, and zeros: there is nothing else. */
@@ -466,6 +466,7 @@ struct linker_utils_addresses {
     uint64_t thread_origin;
     uint64_t module_origin;
     uint64_t module_entry; /* of the output's LINKER_UTILS_ENTRY_MODULE; 0 if there is none */
+    bool has_tls; /* the output has a TLS segment, so that there are the two origins */
 };
 
 /* The value of the relocation at an index, into `value`: that of `linker_utils_value`, with the
@@ -476,13 +477,14 @@ struct linker_utils_addresses {
  *   its own addend isn't read.
  * - A branch to an undefined weak symbol goes to the next instruction on AArch64, and on RISC-V and
  *   PowerPC64 to itself. What else is relative to the place is then 0 on AArch64. The offset of
- *   such a thread-local symbol is the addend.
+ *   such a thread-local symbol is the addend, also without a TLS segment.
  * - Each of a pair at a ULEB128 number, and of R_RISCV_ADD32 and its like, has a value of its own.
  *
  * LINKER_UTILS_UNKNOWN_ARCHITECTURE; LINKER_UTILS_TOO_SHORT where there is no relocation at the
  * index; LINKER_UTILS_UNKNOWN_RELOCATION; LINKER_UTILS_NO_VALUE; LINKER_UTILS_NO_SYMBOL where the
  * index of its symbol, or of its high part's, isn't below `symbols_len`; LINKER_UTILS_NO_HIGH_PART;
- * LINKER_UTILS_NO_ENTRY. O(1), and of a low part O(log n) for n relocations. */
+ * LINKER_UTILS_NO_ENTRY; LINKER_UTILS_NO_TLS_BASE. O(1), and of a low part O(log n) for n
+ * relocations. */
 static inline uint32_t linker_utils_value_at(
     uint16_t machine, const struct linker_utils_addresses *addresses, const void *relocations,
     size_t relocations_len, const struct linker_utils_symbol *symbols, size_t symbols_len,

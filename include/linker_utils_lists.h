@@ -158,8 +158,8 @@
            "The facts and the values of a symbol contradict each other: it is local, and undefined " \
            "and weak, or `other` is not the same.") \
     STATUS(NO_TLS_BASE, 84, \
-           "The value counts from the origin of thread-local offsets, and `has_tls_base` is not " \
-           "set.")
+           "The value counts from an origin of thread-local offsets, and the output has no TLS " \
+           "segment.")
 
 enum linker_utils_status {
 #define LINKER_UTILS_STATUS(name, number, text) LINKER_UTILS_##name = number,

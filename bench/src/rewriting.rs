@@ -252,6 +252,7 @@ const PLACED: Addresses = Addresses {
     thread_origin: 0x60_0000,
     module_origin: 0,
     module_entry: 0,
+    has_tls: true,
 };
 
 const LAST_PHASE: u32 = 3;

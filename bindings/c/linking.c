@@ -55,7 +55,7 @@ static int link_section(uint16_t machine, uint8_t *code, size_t len, Elf64_Rela 
     }
     /* 7 and 8: rewrites by addresses */
     struct linker_utils_addresses at = {places[0], base.base, origins.thread_pointer,
-                                        origins.module_block, 0};
+                                        origins.module_block, 0, true};
     for (uint32_t phase = LINKER_UTILS_PHASE_THREAD_OFFSETS; phase <= LINKER_UTILS_PHASE_DISTANCES;
          phase++) {
         memset(kept, 0, sizeof kept);

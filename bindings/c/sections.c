@@ -28,7 +28,7 @@ int main(void) {
     symbols[1].address_entry = 0x413008;
     symbols[2].address = 0x401000;
     symbols[3].address = 0x402000;
-    const struct linker_utils_addresses addresses = {0x401000, 0x413000, 0, 0, 0};
+    const struct linker_utils_addresses addresses = {0x401000, 0x413000, 0, 0, 0, false};
     uint64_t memory[6];
     if (linker_utils_relocate_memory(relas, 3) > 6) return 1;
     for (int step = 0; step < 2; step++) {

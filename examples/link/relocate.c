@@ -87,7 +87,8 @@ struct linker_utils_addresses addresses_of(const struct section *s) {
     return (struct linker_utils_addresses){
         .section = s->output->address + s->offset, .got_base = known_got.base,
         .thread_origin = tls.origins.thread_pointer, .module_origin = tls.origins.module_block,
-        .module_entry = module.entries ? address_of(got, module.entries->offset) : 0};
+        .module_entry = module.entries ? address_of(got, module.entries->offset) : 0,
+        .has_tls = tls.len > 0};
 }
 
 /* Adds the value of a relocation to a ULEB128 number, or subtracts it, modulo what its bytes hold,

@@ -55,6 +55,7 @@ fn link(
         thread_origin: origins.thread_pointer,
         module_origin: origins.module_block,
         module_entry: 0,
+        has_tls: true,
     };
     for phase in [Phase::ThreadOffsets, Phase::GotLoads, Phase::Distances] {
         let mut kept = vec![KeptGroups::default(); facts.len()];

@@ -369,6 +369,10 @@ impl Display for section::ValueError {
                 "the relocation requires an entry of the GOT, and there is none of its class with \
                  its addend"
             }
+            section::ValueError::NoTlsBase => {
+                "the value counts from an origin of thread-local offsets, and the output has no \
+                 TLS segment"
+            }
             section::ValueError::NoHighPart => {
                 "no high part is at the label that the symbol of the relocation is"
             }

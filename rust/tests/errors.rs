@@ -246,6 +246,7 @@ fn errors_of_sections_are_printed() {
     for (error, name) in [
         (RelocationError::Value(section::ValueError::NoSymbol), "NO_SYMBOL"),
         (RelocationError::Value(section::ValueError::NoEntry), "NO_ENTRY"),
+        (RelocationError::Value(section::ValueError::NoTlsBase), "NO_TLS_BASE"),
         (RelocationError::Value(section::ValueError::NoHighPart), "NO_HIGH_PART"),
         (RelocationError::Value(section::ValueError::NotAligned), "NOT_ALIGNED"),
         (RelocationError::Value(section::ValueError::NeedsStub), "NEEDS_STUB"),

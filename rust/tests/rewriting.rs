@@ -1041,6 +1041,7 @@ fn thread_offset(symbol: u32) -> Section {
 fn short_thread_offsets_of_riscv_lose_their_high_part() {
     let addresses = Addresses {
         thread_origin: 0x1000,
+        has_tls: true,
         ..Addresses::default()
     };
     let near = values(0x1008, 0x17ff);
@@ -1102,6 +1103,7 @@ fn short_thread_offsets_of_loongarch_lose_their_high_part() {
     }
     let addresses = Addresses {
         thread_origin: 0x1000,
+        has_tls: true,
         ..Addresses::default()
     };
     let values = values(0x1008, 0);
@@ -1124,6 +1126,7 @@ fn short_thread_offsets_of_loongarch_lose_their_high_part() {
 fn stores_of_their_own_base_keep_its_high_part() {
     let addresses = Addresses {
         thread_origin: 0x8000,
+        has_tls: true,
         ..Addresses::default()
     };
     let values = values(0x8008, 0);
@@ -1178,6 +1181,7 @@ fn stores_of_their_own_base_keep_the_high_part_of_ppc64() {
     };
     let addresses = Addresses {
         thread_origin: 0x8000,
+        has_tls: true,
         ..Addresses::default()
     };
     let values = values(0x1008, 0);
@@ -1197,6 +1201,7 @@ fn short_thread_offsets_of_ppc64_lose_their_high_part() {
     };
     let addresses = Addresses {
         thread_origin: 0x8000,
+        has_tls: true,
         ..Addresses::default()
     };
     let values = values(0x1008, 0);
@@ -1247,6 +1252,7 @@ fn two_phases_rewrite_what_general_dynamic_of_ppc64_became() {
     );
     let addresses = Addresses {
         thread_origin: 0x8000,
+        has_tls: true,
         ..Addresses::default()
     };
     let values = values(0x1008, 0);
@@ -1274,6 +1280,7 @@ fn deletions_need_room() {
     let section = thread_offset(1);
     let addresses = Addresses {
         thread_origin: 0x1000,
+        has_tls: true,
         ..Addresses::default()
     };
     for (room, expected) in [(1, Err(RewritingError::TooShort)), (2, Ok(2))] {
@@ -1334,6 +1341,7 @@ fn decisions_and_deletions_may_be_the_callers_own() {
     let section = thread_offset(1);
     let addresses = Addresses {
         thread_origin: 0x1000,
+        has_tls: true,
         ..Addresses::default()
     };
     let mut entries = bytes_of(&section.relocations);
@@ -1551,6 +1559,7 @@ fn descriptors_of_riscv_become_offsets() {
     };
     let addresses = Addresses {
         thread_origin: 0x1000,
+        has_tls: true,
         ..Addresses::default()
     };
     let mark = [rela(0, 51, 0, 0)];
@@ -1698,6 +1707,7 @@ const CODE: Addresses = Addresses {
     thread_origin: 0,
     module_origin: 0,
     module_entry: 0,
+    has_tls: false,
 };
 
 /// Two words: of `symbol` with an addend of 8, and of symbol 3.

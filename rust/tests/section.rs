@@ -18,6 +18,7 @@ const ADDRESSES: Addresses = Addresses {
     thread_origin: 0x50_0100,
     module_origin: 0x50_0000,
     module_entry: 0x48_0100,
+    has_tls: true,
 };
 
 const SYMBOL: Symbol = Symbol {
@@ -452,6 +453,63 @@ fn undefined_weak_symbols_are_where_linkers_put_them() {
             "{name}"
         );
     }
+}
+
+/// `x` in an output without a TLS segment, at offset 4 from it. Where `x` is in `.data` and `STT_TLS`,
+/// ld.lld 19 says that there is no `SHF_TLS` section. Where it is weak and nothing defines it, ld.lld
+/// and GNU ld 2.40 write 4 for `R_X86_64_TPOFF32`.
+#[test]
+fn offsets_without_a_tls_segment_are_errors() {
+    let without = Addresses {
+        has_tls: false,
+        ..ADDRESSES
+    };
+    let of = |architecture, code, addresses, symbols: &[Symbol]| {
+        value(architecture, addresses, &[], symbols, &rela(0, code, 1, 4))
+    };
+    let variable = Symbol {
+        address: 0x50_0140,
+        is_thread_local: true,
+        ..SYMBOL
+    };
+    let weak = Symbol {
+        is_undefined_weak: true,
+        ..variable
+    };
+    for (architecture, name, code, offset) in [
+        (X86_64, "R_X86_64_TPOFF32", 23, 0x44),
+        (X86_64, "R_X86_64_TPOFF64", 18, 0x44),
+        (X86_64, "R_X86_64_DTPOFF32", 21, 0x144),
+        (X86_64, "R_X86_64_DTPOFF64", 17, 0x144),
+        (AArch64, "R_AARCH64_TLSLE_ADD_TPREL_LO12", 550, 0x44),
+        (AArch64, "R_AARCH64_TLSLD_ADD_DTPREL_LO12", 529, 0x144),
+        (RiscV, "R_RISCV_TPREL_LO12_I", 30, 0x44),
+        (LoongArch64, "R_LARCH_TLS_LE_LO12", 84, 0x44),
+        (LoongArch64, "R_LARCH_TLS_DTPREL64", 9, 0x144),
+        (Ppc64, "R_PPC64_TPREL16", 69, 0x44),
+        (Ppc64, "R_PPC64_DTPREL16", 74, 0x144),
+    ] {
+        let of = |addresses, symbols: &[Symbol]| of(architecture, code, addresses, symbols);
+        let symbols = [SYMBOL, variable];
+        assert_eq!(of(&ADDRESSES, &symbols), Ok(Some(offset)), "{name}");
+        assert_eq!(of(&without, &symbols), Err(ValueError::NoTlsBase), "{name}");
+        assert_eq!(of(&without, &symbols[..1]), Err(ValueError::NoSymbol), "{name}");
+        assert_eq!(of(&without, &[SYMBOL, weak]), Ok(Some(4)), "{name}");
+    }
+    // R_X86_64_GOTTPOFF takes the entry, and origins of 0 are there
+    assert_eq!(of(X86_64, 22, &without, &[SYMBOL, variable]), Ok(Some(0x7_f024)));
+    let at_0 = Addresses {
+        thread_origin: 0,
+        ..ADDRESSES
+    };
+    assert_eq!(of(X86_64, 23, &at_0, &[SYMBOL, variable]), Ok(Some(0x50_0144)));
+    // R_X86_64_PC32, which is written, and R_X86_64_DTPOFF32
+    let relocations = bytes_of(&[rela(0, 2, 1, 0), rela(4, 21, 1, 0)]);
+    let error = RelocationError::Value(ValueError::NoTlsBase);
+    assert_eq!(
+        relocate_section(X86_64, &without, &relocations, &[SYMBOL, variable], &mut [0; 8]),
+        Err(SectionError { index: 1, error })
+    );
 }
 
 #[test]

@@ -428,7 +428,8 @@ static struct given damaged(const struct input *input, size_t places) {
     struct given it = {.len = input->len, .relocations_len = input->relocations_len,
                        .symbols_len = input->symbols_len, .machine = input->machine,
                        .addresses = {.section = input->start, .got_base = GOT, .thread_origin = START,
-                                     .module_origin = START, .module_entry = GOT}};
+                                     .module_origin = START, .module_entry = GOT,
+                                     .has_tls = !places || below(8)}};
     bool cuts = places && below(8) == 0;
     if (cuts) it.len = below(it.len + 1);
     if (cuts && below(2)) it.relocations_len = below(it.relocations_len + 1);

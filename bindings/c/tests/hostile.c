@@ -814,13 +814,13 @@ static struct buffer *addresses(void) {
     *at = (struct linker_utils_addresses){
         .section = is_wild ? any_address : 0x11000, .got_base = is_wild ? any_address : 0x12000,
         .thread_origin = is_wild ? any_address : 0x11000, .module_origin = 0x11000,
-        .module_entry = once_in(2) ? 0 : 0x12040};
+        .module_entry = once_in(2) ? 0 : 0x12040, .has_tls = !once_in(4)};
     return buffer;
 }
 
 #define SYMBOLS(buffer) (buffer)->given, LEN(buffer, struct linker_utils_symbol)
 #define RELAS(buffer) (buffer)->given, (buffer)->len / 24
-#define NO_VALUE_AT NO_RELOCATION OR(NO_SYMBOL) OR(NO_ENTRY) OR(NO_HIGH_PART)
+#define NO_VALUE_AT NO_RELOCATION OR(NO_SYMBOL) OR(NO_ENTRY) OR(NO_TLS_BASE) OR(NO_HIGH_PART)
 
 static void call_value_at(void) {
     uint16_t machine = any_machine();

@@ -370,6 +370,7 @@ pub struct Addresses {
     pub thread_origin: u64,
     pub module_origin: u64,
     pub module_entry: u64,
+    pub has_tls: bool,
 }
 
 /// An entry of the GOT that a relocation requires, of S + `addend`.

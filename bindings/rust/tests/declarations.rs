@@ -854,7 +854,7 @@ fn the_structs_are_those_of_the_library() {
             entry_addend, other, is_thread_local, is_undefined_weak,
         }
         "linker_utils_addresses": Addresses {
-            section, got_base, thread_origin, module_origin, module_entry,
+            section, got_base, thread_origin, module_origin, module_entry, has_tls,
         }
         "linker_utils_symbol_facts": SymbolFacts {
             is_local, is_ifunc, is_absolute, is_undefined_weak, is_tls_get_addr, other,

@@ -156,7 +156,7 @@ fn a_short_offset_from_the_thread_pointer_needs_one_instruction() {
     for (address, is_short) in [(0x1008, true), (0x1800, false)] {
         let mut values = [Symbol::default(); 4];
         values[1] = Symbol { address, is_thread_local: true, ..Symbol::default() };
-        let addresses = Addresses { thread_origin: 0x1000, ..Addresses::default() };
+        let addresses = Addresses { thread_origin: 0x1000, has_tls: true, ..Addresses::default() };
         let placed = Placed {
             output: &EXECUTABLE,
             symbols: &symbols,

@@ -32,6 +32,7 @@ const ADDRESSES: Addresses = Addresses {
     thread_origin: 0x411000,
     module_origin: 0x411000,
     module_entry: 0,
+    has_tls: true,
 };
 
 /// The words of a section after its relocations.
@@ -113,6 +114,22 @@ fn low_parts_take_their_high_part() {
     assert_eq!(words(RISCV, &relocations, &symbols[..3], &code), error(Status::NoSymbol, 2));
     // the call is cut, and what is before it isn't written
     assert_eq!(words(RISCV, &relocations, &symbols, &code[..3]), error(Status::TooShort, 2));
+}
+
+#[test]
+fn offsets_count_from_a_tls_segment() {
+    // R_X86_64_TPOFF32 and R_X86_64_DTPOFF32, 0x10 bytes into the image
+    let relocations = relas(&[(0, 23, 1, 0), (4, 21, 1, 0)]);
+    let symbols = [Symbol::default(), Symbol { is_thread_local: true, ..at(0x411010) }];
+    assert_eq!(words(X86_64, &relocations, &symbols, &[0, 0]), Ok(vec![0x10, 0x10]));
+    let without = Addresses { has_tls: false, ..ADDRESSES };
+    for index in 0..2 {
+        let value = value_at(X86_64, &without, &relocations, &symbols, index);
+        assert_eq!(value, Err(Status::NoTlsBase));
+    }
+    let (mut section, mut memory) = ([0; 8], [0; 2]);
+    let done = relocate_section(X86_64, &without, &relocations, &symbols, &mut section, &mut memory);
+    assert_eq!(done, Err(ArrayError { status: Status::NoTlsBase, index: Some(0) }));
 }
 
 #[test]

@@ -1,6 +1,6 @@
 -- Rows of whole bytes whose value replaces what is there, and what a section's relocation of such a row
 -- leaves in its field.
-use Rattle.std.proofs.Common.{◌≡◌, ℕ, zero, suc, ℤ, pos, ◌*◌, ◌%◌, ◌^◌, ◌<◌, ◌≤◌, List, drop, true, false, eqb, ltb, cond, refl, sym, ap, subst, ◌∙◌, inl, inr, arith, Option, Some, None, Ok, Err, Result, IsSomeAnd}
+use Rattle.std.proofs.Common.{◌≡◌, ℕ, zero, suc, ℤ, pos, ◌*◌, ◌%◌, ◌^◌, ◌<◌, ◌≤◌, List, drop, true, false, eqb, ltb, cond, refl, sym, ap, subst, ◌∙◌, inl, inr, arith, Option, Some, None, Ok, Err, Result, IsSomeAnd, Bool}
 use Rattle.std.proofs.lemmas.Bool.{cases_eq, cases_lt, cases_Bool, cond-true, cond-false, eq-eqb, eqb-true, lt-ltb, le-ltb}
 use Rattle.std.specs.Prelude.{⊤}
 use Rattle.std.specs.Int.{w64, cast_unsigned, int_rem_euclid}
@@ -14,12 +14,13 @@ use Rattle.linker_elf.specs.declared.elf.value.Operands.{Operands}
 use Rattle.linker_section.proofs.Rows.{one_row, one_info}
 use Rattle.linker_section.specs.Fields.{field_len, is_of_pair}
 use Rattle.linker_section.specs.Sections.{IsRowValue}
-use Rattle.linker_section.specs.Values.{IsValueIn, IsValueBy, has_value, names_label, offset_at, operands_of, value_by}
+use Rattle.linker_section.specs.Values.{IsValueIn, IsValueBy, has_value, names_label, offset_at, lacks_origin, operands_of, value_by}
 use Rattle.linker_section.specs.WrittenFields.{Found, composed, composed_by, composed_with, HoldsNumber}
 use Rattle.linker_section.specs.declared.facts.Addresses.{Addresses}
 use Rattle.linker_section.specs.declared.facts.Symbol.{Symbol}
 use Rattle.linker_section.specs.declared.relocations.Rela.{Rela}
 use Rattle.linker_section.specs.declared.values.ValueError.{ValueError}
+use Rattle.linker_section.specs.declared.values.ValueError.TheVariants.{NoTlsBase}
 use Rattle.linker_utils.specs.Architectures.{IsRow}
 use Rattle.linker_utils.specs.declared.elf.Architecture.{Architecture}
 
@@ -130,16 +131,18 @@ module _ (architecture : Architecture) (addresses : Addresses) (bytes : List ℕ
     (unlabelled : names_label row.size row.kind ≡ false) where
   of_operands : (result : Result (Option ℤ) ValueError)
       → IsValueIn architecture addresses bytes symbols r (Some row) result
-      → result ≡ value_by row (operands_of architecture addresses symbols row r)
+      → result ≡ value_by (lacks_origin addresses symbols row r) row (operands_of architecture addresses symbols row r)
   of_operands result is =
       subst (λ labels. IsValueBy labels architecture addresses bytes symbols row r result) unlabelled is
-      ∙ cond-true (has_value row.kind) (value_by row (operands_of architecture addresses symbols row r))
+      ∙ cond-true (has_value row.kind)
+      (value_by (lacks_origin addresses symbols row r) row (operands_of architecture addresses symbols row r))
       (Ok None) valued
 
   no_error : (value : Option ℤ) (error : ValueError)
       → operands_of architecture addresses symbols row r ≡ Err error
-      → Ok value ≡ value_by row (operands_of architecture addresses symbols row r) → ⊥
-  no_error value error is same = let e : Ok value ≡ Err error = same ∙ ap (value_by row) is in cc
+      → Ok value ≡ value_by (lacks_origin addresses symbols row r) row (operands_of architecture addresses symbols row r) → ⊥
+  no_error value error is same =
+      let e : Ok value ≡ Err error = same ∙ ap (value_by (lacks_origin addresses symbols row r) row) is in cc
 
   -- it has what its formula takes
   pub are_there : (found : Option (RelocationKindInfo × ℤ))
@@ -163,12 +166,17 @@ module _ (architecture : Architecture) (addresses : Addresses) (bytes : List ℕ
     (unlabelled : names_label row.size row.kind ≡ false)
     (taken : operands_of architecture addresses symbols row r ≡ Ok operands)
     (some : IsSomeAnd (value_of row operands) (λ _. ⊤)) where
-  by_row : (result : Result (Option ℤ) ValueError)
-      → IsValueIn architecture addresses bytes symbols r (Some row) result
-      → result ≡ Ok (value_of row operands)
-  by_row result is =
-      of_operands architecture addresses bytes symbols r row is_row valued unlabelled result is
-      ∙ ap (value_by row) taken
+  of_value : (lacks : Bool) (value : Option ℤ) → Ok value ≡ value_by lacks row (Ok operands)
+      → Ok value ≡ Ok (value_of row operands)
+  of_value true value same = absurd (let e : Ok value ≡ Err NoTlsBase = same in cc)
+  of_value false value same = same
+
+  by_row : (value : Option ℤ) → IsValueIn architecture addresses bytes symbols r (Some row) (Ok value)
+      → Ok value ≡ Ok (value_of row operands)
+  by_row value is =
+      of_value (lacks_origin addresses symbols row r) value
+      (of_operands architecture addresses bytes symbols r row is_row valued unlabelled (Ok value) is
+      ∙ ap (value_by (lacks_origin addresses symbols row r) row) taken)
 
   abbrev of_ok : Result (Option ℤ) ValueError → Option ℤ
   of_ok (Ok found) = found
@@ -184,7 +192,7 @@ module _ (architecture : Architecture) (addresses : Addresses) (bytes : List ℕ
   found_is (Some one) has =
       let same : one.0 ≡ row = one_info architecture r.code (one.0) row has.is_row is_row in
       let value : Ok (Some (one.1)) ≡ Ok (value_of row operands) =
-      by_row (Ok (Some (one.1)))
+      by_row (Some (one.1))
       (subst (λ x. IsValueIn architecture addresses bytes symbols r (Some x) (Ok (Some (one.1)))) same has.is_value) in
       record {
         value = one.1;
@@ -194,6 +202,6 @@ module _ (architecture : Architecture) (addresses : Addresses) (bytes : List ℕ
   found_is None marked =
       let same = one_row architecture r.code (marked.0) (Some row) (marked.1) is_row in
       let value : Ok None ≡ Ok (value_of row operands) =
-      by_row (Ok None)
+      by_row None
       (subst (λ x. IsValueIn architecture addresses bytes symbols r x (Ok None)) same (marked.2)) in
       absurd (some_is_not (value_of row operands) some (ap of_ok value))

@@ -25,7 +25,7 @@ use Rattle.linker_section.specs.Fields.{IsField, field_end, field_len}
 use Rattle.linker_section.specs.Needed.{entry_of}
 use Rattle.linker_section.specs.Relocations.{relocation_in}
 use Rattle.linker_section.specs.Sections.{IsInNoField, IsRowValue}
-use Rattle.linker_section.specs.Values.{IsValueBy, IsValueIn, entry_address, entry_in, has_value, is_there, value_by, offset_at, operands_by, operands_in, operands_of, operands_with}
+use Rattle.linker_section.specs.Values.{IsValueBy, IsValueIn, entry_address, entry_in, has_value, is_there, lacks_origin, value_by, offset_at, operands_by, operands_in, operands_of, operands_with}
 use Rattle.linker_section.specs.declared.facts.Addresses.{Addresses}
 use Rattle.linker_section.specs.declared.facts.Symbol.{Symbol}
 use Rattle.linker_section.specs.declared.needed.Entry.{Entry}
@@ -133,24 +133,29 @@ module _ (l : Linked) (r : Rela) (row : RelocationKindInfo) (n : ℕ) (of : IsOf
     (only : IsRowOf l.setting.architecture r.code row) where
   by_row : (result : Result (Option ℤ) ValueError)
       → IsValueIn l.setting.architecture l.addresses l.relocations_last l.symbols r (Some row) result
-      → result ≡ value_by row (operands_of l.setting.architecture l.addresses l.symbols row r)
+      → result ≡ value_by (lacks_origin l.addresses l.symbols row r) row
+      (operands_of l.setting.architecture l.addresses l.symbols row r)
   by_row result is =
       subst (λ labels. IsValueBy labels l.setting.architecture l.addresses l.relocations_last l.symbols row r result) of.unlabelled is
-      ∙ cond-true (has_value row.kind) (value_by row (operands_of l.setting.architecture l.addresses l.symbols row r)) (Ok None) of.valued
+      ∙ cond-true (has_value row.kind)
+      (value_by (lacks_origin l.addresses l.symbols row r) row (operands_of l.setting.architecture l.addresses l.symbols row r))
+      (Ok None) of.valued
 
   has_operands : (found : Option (RelocationKindInfo × ℤ))
       → IsRowValue l.setting.architecture l.addresses l.relocations_last l.symbols r (Ok found)
       → (error : ValueError) → operands_of l.setting.architecture l.addresses l.symbols row r ≡ Err error → ⊥
   has_operands (Some one) has error fails =
-      let value : Ok (Some (one.1)) ≡ value_by row (operands_of l.setting.architecture l.addresses l.symbols row r) =
+      let value : Ok (Some (one.1))
+      ≡ value_by (lacks_origin l.addresses l.symbols row r) row (operands_of l.setting.architecture l.addresses l.symbols row r) =
       by_row (Ok (Some (one.1)))
       (subst (λ x. IsValueIn l.setting.architecture l.addresses l.relocations_last l.symbols r x (Ok (Some (one.1)))) (only (Some (one.0)) has.is_row) has.is_value) in
-      absurd (let e : Ok (Some (one.1)) ≡ Err error = value ∙ ap (value_by row) fails in cc)
+      absurd (let e : Ok (Some (one.1)) ≡ Err error = value ∙ ap (value_by (lacks_origin l.addresses l.symbols row r) row) fails in cc)
   has_operands None marked error fails =
-      let value : Ok None ≡ value_by row (operands_of l.setting.architecture l.addresses l.symbols row r) =
+      let value : Ok None
+      ≡ value_by (lacks_origin l.addresses l.symbols row r) row (operands_of l.setting.architecture l.addresses l.symbols row r) =
       by_row (Ok None)
       (subst (λ x. IsValueIn l.setting.architecture l.addresses l.relocations_last l.symbols r x (Ok None)) (only (marked.0) (marked.1)) (marked.2)) in
-      absurd (let e : Ok None ≡ Err error = value ∙ ap (value_by row) fails in cc)
+      absurd (let e : Ok None ≡ Err error = value ∙ ap (value_by (lacks_origin l.addresses l.symbols row r) row) fails in cc)
 
 -- the entry that its formula has is there
 pub entry_is_there : (l : Linked) → IsLinked l → (i : ℕ) → i < count l → (n : ℕ)

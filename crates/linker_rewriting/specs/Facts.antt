@@ -135,7 +135,14 @@ setting architecture phase output symbols addresses values =
 
 abbrev pub no_addresses : Addresses
 no_addresses =
-    record { section = 0; got_base = 0; thread_origin = 0; module_origin = 0; module_entry = 0 }
+    record {
+      section = 0;
+      got_base = 0;
+      thread_origin = 0;
+      module_origin = 0;
+      module_entry = 0;
+      has_tls = false;
+    }
 
 abbrev pub early : Architecture → OutputFacts → List SymbolFacts → Setting
 early architecture output symbols = setting architecture Early output symbols no_addresses []

@@ -52,6 +52,7 @@ pub(crate) const NO_ADDRESSES: Addresses = Addresses {
     thread_origin: 0,
     module_origin: 0,
     module_entry: 0,
+    has_tls: false,
 };
 
 /// Whether a symbol's address is a number, wherever the output is loaded.

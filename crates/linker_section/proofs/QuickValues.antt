@@ -1,9 +1,10 @@
 -- Values that are found by the numbers of codes.
-use Rattle.std.proofs.Common.{◌≡◌, ℕ, ℤ, ◌<◌, ◌/◌, Bool, true, false, true≢false, eqb, List, length, Option, Some, None, Result, Ok, Err, refl, sym, ap, subst, ◌∙◌}
-use Rattle.std.specs.Prelude.{IfSome}
+use Rattle.std.proofs.Common.{◌≡◌, ℕ, ℤ, ◌<◌, ◌/◌, Bool, true, false, true≢false, eqb, not, ◌&&◌, List, length, Option, Some, None, Result, Ok, Err, refl, sym, ap, subst, ◌∙◌}
+use Rattle.std.specs.Prelude.{IfSome, slice_get}
 use Rattle.std.proofs.lemmas.Bool.{cond-true, ltb-true, lt-ltb, or_left, or_right}
 use Rattle.linker_elf.specs.Relocate.{window_len}
 use Rattle.linker_elf.specs.Value.{difference_64, value_of}
+use Rattle.linker_elf.specs.declared.elf.RelocationKind.{RelocationKind}
 use Rattle.linker_elf.specs.declared.elf.RelocationKind.TheVariants as kinds
 use Rattle.linker_elf.specs.declared.elf.RelocationKindInfo.{RelocationKindInfo}
 use Rattle.linker_elf.specs.declared.elf.value.Operands.{Operands}
@@ -12,7 +13,7 @@ use Rattle.linker_section.specs.Fields.{is_of_pair}
 use Rattle.linker_section.specs.Inner.Codes.{When, SaysWay, is_plain, is_high, is_low, is_quick}
 use Rattle.linker_section.specs.Inner.Quick.{IsPlainValue, IsQuickValue, IsHighValue, HasHighValue}
 use Rattle.linker_section.specs.Relocations.{relocation_in}
-use Rattle.linker_section.specs.Values.{has_value, names_label, is_high_part, operands_of, value_by, own_value, low_by, low_value, low_operands, offset_at, IsHighPart, IsHighPartAt, IsValueBy, IsLowValue}
+use Rattle.linker_section.specs.Values.{has_value, names_label, is_high_part, is_offset, is_defined, lacks_origin, operands_of, value_by, own_value, low_by, low_value, low_operands, offset_at, IsHighPart, IsHighPartAt, IsValueBy, IsLowValue}
 use Rattle.linker_section.specs.declared.facts.Addresses.{Addresses}
 use Rattle.linker_section.specs.declared.facts.Symbol.{Symbol}
 use Rattle.linker_section.specs.declared.quick.HighPart.{HighPart}
@@ -23,6 +24,12 @@ use Rattle.linker_utils.specs.declared.elf.Architecture.{Architecture}
 
 pub when_true : {A : Type 0} (test : Bool) (x y : A) → When test x y → test ≡ true → x ≡ y
 when_true test x y is holds = sym (cond-true test x y holds) ∙ is
+
+-- ---- no offset of a thread-local symbol
+
+not_tp_off : (kind : RelocationKind) → is_offset kind ≡ false → is_tp_off kind ≡ false
+not_tp_off kinds.TpOff isnt = isnt
+not_tp_off _ isnt = refl
 
 -- ---- a plain relocation
 
@@ -45,8 +52,13 @@ plain_quick architecture addresses bytes symbols r row number v is_row way plain
     let quick : is_quick number ≡ true = or_left (is_plain number) (is_low number) plain in
     let valued = when_true (is_quick number) (has_value row.kind) true way.has_value quick in
     let label = when_true (is_plain number) (names_label row.size row.kind) false way.unlabelled plain in
+    let offset = when_true (is_quick number) (is_offset row.kind) false way.unthreaded quick in
+    let there : lacks_origin addresses symbols row r ≡ false =
+    ap (λ b. b && (not addresses.has_tls && is_defined (slice_get symbols r.symbol))) offset in
     let own : Ok (Some v) ≡ own_value architecture addresses symbols row r =
-    sym (cond-true (has_value row.kind) _ (Ok None) valued ∙ (ap (value_by row) value.found ∙ ap Ok value.value_is)) in
+    sym (cond-true (has_value row.kind) _ (Ok None) valued
+    ∙ (ap (λ b. value_by b row (operands_of architecture addresses symbols row r)) there
+    ∙ (ap (value_by false row) value.found ∙ ap Ok value.value_is))) in
     record {
       has = record {
         is_row = is_row;
@@ -57,7 +69,7 @@ plain_quick architecture addresses bytes symbols r row number v is_row way plain
       valued = valued;
       single = when_true (is_quick number) (is_of_pair row) false way.single quick;
       some = ltb-true 0 (window_len row) (when_true (is_quick number) _ true way.some quick);
-      unthreaded = when_true (is_quick number) (is_tp_off row.kind) false way.unthreaded quick;
+      unthreaded = not_tp_off row.kind offset;
     }
 
 -- ---- a low part of RISC-V
@@ -94,7 +106,7 @@ low_quick architecture addresses bytes symbols r row number v high is_row way lo
       valued = when_true (is_quick number) (has_value row.kind) true way.has_value quick;
       single = when_true (is_quick number) (is_of_pair row) false way.single quick;
       some = ltb-true 0 (window_len row) (when_true (is_quick number) _ true way.some quick);
-      unthreaded = when_true (is_quick number) (is_tp_off row.kind) false way.unthreaded quick;
+      unthreaded = not_tp_off row.kind (when_true (is_quick number) (is_offset row.kind) false way.unthreaded quick);
     }
 
 -- ---- a high part of RISC-V
@@ -107,12 +119,13 @@ abbrev IsSomeInt : Option ℤ → Type 0
 IsSomeInt None = ⊥
 IsSomeInt (Some v) = Unit
 
-operands_found : (row : RelocationKindInfo) (v : ℤ) (operands : Result Operands ValueError)
-    → value_by row operands ≡ Ok (Some v)
+operands_found : (lacks : Bool) (row : RelocationKindInfo) (v : ℤ) (operands : Result Operands ValueError)
+    → value_by lacks row operands ≡ Ok (Some v)
     → (found : Operands) × (operands ≡ Ok found) × (value_of row found ≡ Some v)
 unfolding value_or_none
-operands_found row v (Ok found) is = (found, refl, ap value_or_none is)
-operands_found row v (Err error) is = absurd (subst (λ x. IsSomeInt x) (sym (ap value_or_none is)) tt)
+operands_found true row v (Ok found) is = absurd (subst (λ x. IsSomeInt x) (sym (ap value_or_none is)) tt)
+operands_found false row v (Ok found) is = (found, refl, ap value_or_none is)
+operands_found lacks row v (Err error) is = absurd (subst (λ x. IsSomeInt x) (sym (ap value_or_none is)) tt)
 
 pub high_is : (architecture : Architecture) (addresses : Addresses) (bytes : List ℕ)
     (symbols : List Symbol) (i : ℕ) (row : RelocationKindInfo) (number offset : ℕ) (v : ℤ)
@@ -126,7 +139,7 @@ high_is architecture addresses bytes symbols i row number offset v there same wa
     let label = when_true (is_plain number) (names_label row.size row.kind) false way.unlabelled plain in
     let own : Ok (Some v) ≡ own_value architecture addresses symbols row r =
     subst (λ b. IsValueBy b architecture addresses bytes symbols row r (Ok (Some v))) label value.has.is_value in
-    let found = operands_found row v (operands_of architecture addresses symbols row r)
+    let found = operands_found (lacks_origin addresses symbols row r) row v (operands_of architecture addresses symbols row r)
     (sym (own ∙ cond-true (has_value row.kind) _ (Ok None) value.valued)) in
     record {
       r = r;

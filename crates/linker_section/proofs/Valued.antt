@@ -9,7 +9,7 @@ use Rattle.linker_elf.specs.declared.elf.RelocationSize.{RelocationSize}
 use Rattle.linker_elf.specs.declared.elf.value.Operands.{Operands}
 use Rattle.linker_section.proofs.Rows.{one_row}
 use Rattle.linker_section.specs.Sections.{HasValue, IsMark}
-use Rattle.linker_section.specs.Values.{has_value, names_label, own_value, value_by, low_by, low_value, operands_of, IsValueBy, IsLowValue, IsValueIn, IsValue}
+use Rattle.linker_section.specs.Values.{has_value, names_label, lacks_origin, own_value, value_by, low_by, low_value, operands_of, IsValueBy, IsLowValue, IsValueIn, IsValue}
 use Rattle.linker_section.specs.declared.facts.Addresses.{Addresses}
 use Rattle.linker_section.specs.declared.facts.Symbol.{Symbol}
 use Rattle.linker_section.specs.declared.relocations.Rela.{Rela}
@@ -64,10 +64,11 @@ value_none row o is =
       | inr has ↦ has
     ]) is
 
-by_none : (row : RelocationKindInfo) (operands : Result Operands ValueError)
-    → IsNoValue (value_by row operands) → has_value row.kind ≡ false
-by_none row (Ok o) is = value_none row o is
-by_none row (Err error) is = absurd is
+by_none : (lacks : Bool) (row : RelocationKindInfo) (operands : Result Operands ValueError)
+    → IsNoValue (value_by lacks row operands) → has_value row.kind ≡ false
+by_none true row (Ok o) is = absurd is
+by_none false row (Ok o) is = value_none row o is
+by_none lacks row (Err error) is = absurd is
 
 low_by_none : (row high : RelocationKindInfo) (operands : Result Operands ValueError)
     → IsNoValue (low_by row high operands) → has_value row.kind ≡ false
@@ -94,7 +95,7 @@ own_none : (architecture : Architecture) (addresses : Addresses) (symbols : List
     → has_value row.kind ≡ false
 own_none architecture addresses symbols row r is =
     elim (cases_Bool (has_value row.kind)) [
-      | inl has ↦ by_none row (operands_of architecture addresses symbols row r)
+      | inl has ↦ by_none (lacks_origin addresses symbols row r) row (operands_of architecture addresses symbols row r)
           (subst (λ x. IsNoValue x) (is ∙ cond-true (has_value row.kind) _ _ has) tt)
       | inr has ↦ has
     ]

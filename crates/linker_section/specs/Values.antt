@@ -26,6 +26,7 @@ use Rattle.linker_section.specs.declared.relocations.Rela.{Rela}
 use Rattle.linker_section.specs.declared.values.ValueError.{ValueError}
 use Rattle.linker_section.specs.declared.values.ValueError.TheVariants.{UnknownType, NoSymbol}
 use Rattle.linker_section.specs.declared.values.ValueError.TheVariants.{NoEntry, NoHighPart}
+use Rattle.linker_section.specs.declared.values.ValueError.TheVariants.{NoTlsBase}
 use Rattle.linker_utils.specs.Architectures.{IsRow}
 use Rattle.linker_utils.specs.declared.elf.Architecture.{Architecture}
 use Rattle.linker_utils.specs.declared.elf.Architecture.TheVariants as architectures
@@ -167,15 +168,29 @@ has_value kinds.Alignment = false
 has_value kinds.TlsDescCall = false
 has_value kind = true
 
-abbrev pub value_by : RelocationKindInfo → Result Operands ValueError → Result (Option ℤ) ValueError
-value_by row (Ok operands) = Ok (value_of row operands)
-value_by row (Err error) = Err error
+abbrev pub is_defined : Option Symbol → Bool
+is_defined None = false
+is_defined (Some symbol) = not symbol.is_undefined_weak
+
+-- The formula counts from an origin, and the output has no TLS segment. The offset of an undefined
+-- weak symbol is 0 also then.
+abbrev pub lacks_origin : Addresses → List Symbol → RelocationKindInfo → Rela → Bool
+lacks_origin addresses symbols row r =
+    is_offset row.kind && (not addresses.has_tls && is_defined (slice_get symbols r.symbol))
+
+abbrev pub value_by : Bool → RelocationKindInfo → Result Operands ValueError
+    → Result (Option ℤ) ValueError
+value_by lacks row (Err error) = Err error
+value_by true row (Ok operands) = Err NoTlsBase
+value_by false row (Ok operands) = Ok (value_of row operands)
 
 -- the value by the psABI's formula, and none of a relocation without one, whatever its symbol
 abbrev pub own_value : Architecture → Addresses → List Symbol → RelocationKindInfo → Rela
     → Result (Option ℤ) ValueError
 own_value architecture addresses symbols row r =
-    if has_value row.kind then value_by row (operands_of architecture addresses symbols row r)
+    if has_value row.kind then
+    value_by (lacks_origin addresses symbols row r) row
+    (operands_of architecture addresses symbols row r)
     else Ok None
 
 -- ---- values of RISC-V's low parts

@@ -46,11 +46,13 @@ pub struct Addresses {
     pub got_base: u64,
     /// Where the thread pointer points to, as an address in the TLS segment's image: what offsets
     /// from the thread pointer count from. It goes by the segment's alignment, as
-    /// `linker_output::description::Target::origins` says.
+    /// `linker_output::description::Target::origins` says. Read only where `has_tls` holds.
     pub thread_origin: u64,
     /// What offsets in the module's TLS block count from: the image's address, aligned or not; plus
-    /// 0x8000 on PowerPC64, and plus 0x800 on RISC-V.
+    /// 0x8000 on PowerPC64, and plus 0x800 on RISC-V. Read only where `has_tls` holds.
     pub module_origin: u64,
     /// The address of the output's entry of the class `Module`; 0 if there is none.
     pub module_entry: u64,
+    /// Whether the output has a TLS segment, so that the two origins are there. Each may be 0.
+    pub has_tls: bool,
 }

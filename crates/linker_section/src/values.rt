@@ -1,6 +1,6 @@
 //! The value of a relocation, by what a linker knows of symbols and of the output.
 
-ghost use Rattle.std.specs.Prelude.{◌≡◌, ◌<◌, ◌/◌, length, Some, IfNone, IfSome};
+ghost use Rattle.std.specs.Prelude.{◌≡◌, ◌<◌, ◌/◌, length, Some, IfNone, IfSome, slice_get};
 ghost use Rattle.linker_section.specs.Inner.Codes.{SaysNeeds};
 ghost use Rattle.linker_section.specs.Needed.{entry_of, may_use_stub};
 ghost use Rattle.linker_section.specs.Relocations.{relocation_in};
@@ -9,6 +9,7 @@ ghost use Rattle.linker_section.specs.Values.{is_of_got, local_entry, is_ppc64_b
 ghost use Rattle.linker_section.specs.Values.{is_relative, is_offset, weak_address, origin_of};
 ghost use Rattle.linker_section.specs.Values.{defined_or_weak, target_of, operands_with};
 ghost use Rattle.linker_section.specs.Values.{operands_by, operands_of, has_value, own_value};
+ghost use Rattle.linker_section.specs.Values.{is_defined, lacks_origin};
 ghost use Rattle.linker_section.specs.Values.{names_label, is_auipc, is_high_kind, is_high_part};
 ghost use Rattle.linker_section.specs.Values.{IsHighPart, IsHighPartAt, IsNoHighPart, low_operands};
 ghost use Rattle.linker_section.specs.Values.{low_value, IsValueBy, IsValue};
@@ -32,6 +33,9 @@ pub enum ValueError {
     NoSymbol,
     /// It requires an entry of the GOT, and there is none of its class with its addend.
     NoEntry,
+    /// It is an offset of a thread-local symbol, and the output has no TLS segment, from whose
+    /// origins it would count.
+    NoTlsBase,
     /// It is a low part of RISC-V, and no high part is at the label that its symbol is.
     NoHighPart,
     /// `R_RISCV_ALIGN` or `R_LARCH_ALIGN`: what is after its nops isn't aligned, since the section
@@ -371,6 +375,30 @@ pub(crate) fn has_value(kind: RelocationKind) -> bool
     )
 }
 
+/// Whether there is a symbol, and it isn't an undefined weak one.
+#[inline(always)]
+fn is_defined(symbols: &[Symbol], index: u32) -> bool
+    ensures { result ≡ is_defined (slice_get symbols.now index) }
+{
+    match symbols.get(index as usize) {
+        Some(symbol) => !symbol.is_undefined_weak,
+        None => false,
+    }
+}
+
+/// Whether the formula counts from an origin, and the output has no TLS segment.
+#[inline(always)]
+fn lacks_origin(
+    addresses: &Addresses,
+    symbols: &[Symbol],
+    info: &RelocationKindInfo,
+    relocation: &Rela,
+) -> bool
+    ensures { result ≡ lacks_origin addresses.now symbols.now info.now relocation.now }
+{
+    is_offset(info.kind) && !addresses.has_tls && is_defined(symbols, relocation.symbol)
+}
+
 /// The value of a relocation that stands alone.
 #[inline(always)]
 fn own_value(
@@ -388,7 +416,13 @@ fn own_value(
         return Ok(None);
     }
     match operands_of(architecture, addresses, symbols, number, info, relocation) {
-        Ok(operands) => Ok(info.value(&operands)),
+        Ok(operands) => {
+            if lacks_origin(addresses, symbols, info, relocation) {
+                Err(ValueError::NoTlsBase)
+            } else {
+                Ok(info.value(&operands))
+            }
+        }
         Err(error) => Err(error),
     }
 }
@@ -599,13 +633,13 @@ pub(crate) fn value_of(
 ///   addend isn't read.
 /// - A branch to an undefined weak symbol goes to the next instruction on AArch64, and on RISC-V
 ///   and PowerPC64 to itself. What else is relative to the place is then 0 on AArch64. The offset
-///   of such a thread-local symbol is the addend.
+///   of such a thread-local symbol is the addend, also without a TLS segment.
 /// - Each of a pair at a ULEB128 number, and of `R_RISCV_ADD32` and its like, has a value of its
 ///   own.
 ///
 /// # Errors
 ///
-/// `UnknownType`, `NoSymbol`, `NoEntry` and `NoHighPart`, as `ValueError` says.
+/// `UnknownType`, `NoSymbol`, `NoEntry`, `NoTlsBase` and `NoHighPart`, as `ValueError` says.
 ///
 /// ```
 /// use linker_section::facts::{Addresses, Symbol};

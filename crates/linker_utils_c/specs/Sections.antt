@@ -28,6 +28,7 @@ use Rattle.linker_utils_c.specs.declared.status.Status.{Status}
 use Rattle.linker_utils_c.specs.declared.status.Status.TheVariants.{Success, UnknownRelocation}
 use Rattle.linker_utils_c.specs.declared.status.Status.TheVariants.{TooShort, NoValue, NoSymbol}
 use Rattle.linker_utils_c.specs.declared.status.Status.TheVariants.{NoEntry, NoHighPart}
+use Rattle.linker_utils_c.specs.declared.status.Status.TheVariants.{NoTlsBase}
 use Rattle.linker_utils_c.specs.declared.status.Status.TheVariants.{ShortMemory}
 use Rattle.linker_utils_c.specs.declared.status.Status.TheVariants as statuses
 
@@ -76,6 +77,7 @@ abbrev pub value_status : ValueError → Status
 value_status value_errors.UnknownType = UnknownRelocation
 value_status value_errors.NoSymbol = NoSymbol
 value_status value_errors.NoEntry = NoEntry
+value_status value_errors.NoTlsBase = NoTlsBase
 value_status value_errors.NoHighPart = NoHighPart
 value_status value_errors.NotAligned = statuses.NotAligned
 value_status value_errors.NeedsStub = statuses.NeedsStub

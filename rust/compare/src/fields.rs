@@ -19,7 +19,7 @@ fields! {
     Symbol: address, size, stub, address_entry, thread_entry, module_entry, descriptor,
     entry_addend, other, is_thread_local, is_undefined_weak,
 }
-fields! { Addresses: section, got_base, thread_origin, module_origin, module_entry, }
+fields! { Addresses: section, got_base, thread_origin, module_origin, module_entry, has_tls, }
 fields! {
     SymbolFacts: is_local, is_ifunc, is_absolute, is_undefined_weak, is_tls_get_addr, other,
 }

@@ -92,6 +92,7 @@ pub(crate) fn value_status_of(error: ValueError) -> Status {
         ValueError::UnknownType => Status::UnknownRelocation,
         ValueError::NoSymbol => Status::NoSymbol,
         ValueError::NoEntry => Status::NoEntry,
+        ValueError::NoTlsBase => Status::NoTlsBase,
         ValueError::NoHighPart => Status::NoHighPart,
         ValueError::NotAligned => Status::NotAligned,
         ValueError::NeedsStub => Status::NeedsStub,
@@ -101,7 +102,7 @@ pub(crate) fn value_status_of(error: ValueError) -> Status {
 
 /// The value of the relocation at an index of a section's relocations, as `value`. The first that
 /// applies of `UnknownArchitecture`; `TooShort`, where there is none at the index;
-/// `UnknownRelocation`; `NoSymbol`; `NoHighPart`; `NoEntry`; `NoValue`.
+/// `UnknownRelocation`; `NoSymbol`; `NoHighPart`; `NoEntry`; `NoTlsBase`; `NoValue`.
 pub fn linker_utils_value_at_nonnull(
     machine: u16,
     addresses: &Addresses,

@@ -180,7 +180,7 @@ pub enum Status {
     /// The facts and the values of a symbol contradict each other: it is local, and undefined and
     /// weak, or `other` is not the same.
     FactsContradict,
-    /// The value counts from the origin of thread-local offsets, and `has_tls_base` is not set.
+    /// The value counts from an origin of thread-local offsets, and the output has no TLS segment.
     NoTlsBase,
 }
 

@@ -56,6 +56,7 @@ impl Layout {
             thread_origin: self.origins.thread_pointer,
             module_origin: self.origins.module_block,
             module_entry: self.module_entry,
+            has_tls: self.image_len > 0,
         }
     }
 

@@ -20,6 +20,9 @@ pub enum ValueError {
     NoSymbol,
     /// It requires an entry of the GOT, and there is none of its class with its addend.
     NoEntry,
+    /// It is an offset of a thread-local symbol, and the output has no TLS segment, from whose
+    /// origins it would count.
+    NoTlsBase,
     /// It is a low part of RISC-V, and no high part is at the label that its symbol is.
     NoHighPart,
     /// `R_RISCV_ALIGN` or `R_LARCH_ALIGN`: what is after its nops isn't aligned, since the section
@@ -309,6 +312,26 @@ pub(crate) fn has_value(kind: RelocationKind) -> bool {
     )
 }
 
+/// Whether there is a symbol, and it isn't an undefined weak one.
+#[inline(always)]
+fn is_defined(symbols: &[Symbol], index: u32) -> bool {
+    match symbols.get(index as usize) {
+        Some(symbol) => !symbol.is_undefined_weak,
+        None => false,
+    }
+}
+
+/// Whether the formula counts from an origin, and the output has no TLS segment.
+#[inline(always)]
+fn lacks_origin(
+    addresses: &Addresses,
+    symbols: &[Symbol],
+    info: &RelocationKindInfo,
+    relocation: &Rela,
+) -> bool {
+    is_offset(info.kind) && !addresses.has_tls && is_defined(symbols, relocation.symbol)
+}
+
 /// The value of a relocation that stands alone.
 #[inline(always)]
 fn own_value(
@@ -323,7 +346,13 @@ fn own_value(
         return Ok(None);
     }
     match operands_of(architecture, addresses, symbols, number, info, relocation) {
-        Ok(operands) => Ok(info.value(&operands)),
+        Ok(operands) => {
+            if lacks_origin(addresses, symbols, info, relocation) {
+                Err(ValueError::NoTlsBase)
+            } else {
+                Ok(info.value(&operands))
+            }
+        }
         Err(error) => Err(error),
     }
 }
@@ -506,13 +535,13 @@ pub(crate) fn value_of(
 ///   addend isn't read.
 /// - A branch to an undefined weak symbol goes to the next instruction on AArch64, and on RISC-V
 ///   and PowerPC64 to itself. What else is relative to the place is then 0 on AArch64. The offset
-///   of such a thread-local symbol is the addend.
+///   of such a thread-local symbol is the addend, also without a TLS segment.
 /// - Each of a pair at a ULEB128 number, and of `R_RISCV_ADD32` and its like, has a value of its
 ///   own.
 ///
 /// # Errors
 ///
-/// `UnknownType`, `NoSymbol`, `NoEntry` and `NoHighPart`, as `ValueError` says.
+/// `UnknownType`, `NoSymbol`, `NoEntry`, `NoTlsBase` and `NoHighPart`, as `ValueError` says.
 ///
 /// ```
 /// use linker_utils::section::{Addresses, Symbol};

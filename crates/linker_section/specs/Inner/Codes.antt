@@ -8,11 +8,11 @@ use Rattle.linker_elf.specs.Value.{sum_64, difference_64, value_of}
 use Rattle.linker_elf.specs.declared.elf.RelocationKind.TheVariants as kinds
 use Rattle.linker_elf.specs.declared.elf.RelocationKindInfo.{RelocationKindInfo}
 use Rattle.linker_elf.specs.declared.elf.value.Operands.{Operands}
-use Rattle.linker_section.specs.Conditions.{is_tp_off, shows_length}
+use Rattle.linker_section.specs.Conditions.{shows_length}
 use Rattle.linker_section.specs.Fields.{is_of_pair}
 use Rattle.linker_section.specs.Needed.{loads_plt_word, needs_of, needs_in}
 use Rattle.linker_section.specs.Values.{has_value, names_label, is_of_got, is_ppc64_branch}
-use Rattle.linker_section.specs.Values.{origin_of, is_high_part, low_operands}
+use Rattle.linker_section.specs.Values.{is_offset, origin_of, is_high_part, low_operands}
 use Rattle.linker_section.specs.declared.facts.Addresses.{Addresses}
 use Rattle.linker_section.specs.declared.needed.Entry.{Entry}
 use Rattle.linker_section.specs.declared.needed.EntryClass.{EntryClass}
@@ -112,8 +112,8 @@ pub record SaysWay (architecture : Architecture) (code number : ℕ) (row : Relo
   pub some : When (is_quick number) (nat_lt 0 (window_len row)) true
   pub shown : shows_lengths architecture ≡ false → (there : List ℕ)
       → shows_length row.size there ≡ true
-  -- which isn't an offset from the thread pointer
-  pub unthreaded : When (is_quick number) (is_tp_off row.kind) false
+  -- which isn't an offset of a thread-local symbol
+  pub unthreaded : When (is_quick number) (is_offset row.kind) false
   -- of a plain one the operands are those that most have
   pub unlabelled : When (is_plain number) (names_label row.size row.kind) false
   pub of_symbol : When (is_plain number) (is_of_got architecture code) false

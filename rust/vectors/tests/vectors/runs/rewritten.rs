@@ -51,7 +51,7 @@ fn without_thread_offsets(
     let output = OutputFacts { is_executable: true, is_fixed: true, has_near_symbols: true };
     let facts = [SymbolFacts { is_local: true, ..SymbolFacts::default() }; 4];
     let addresses =
-        Addresses { section: START + BASE, thread_origin: 0x20000, ..Addresses::default() };
+        Addresses { section: START + BASE, thread_origin: 0x20000, has_tls: true, ..Addresses::default() };
     let values = [Symbol { address: 0x20000, is_thread_local: true, ..Symbol::default() }; 4];
     let (mut section, mut rela) = (section.to_vec(), table(entries));
     let mut kept = [KeptGroups::default(); 4];
@@ -145,7 +145,7 @@ fn expect(
     assert_eq!(left, types);
     // values leave these bytes, and follow a symbol that is elsewhere
     let addresses =
-        Addresses { section: START + BASE, thread_origin: 0x20000, ..Addresses::default() };
+        Addresses { section: START + BASE, thread_origin: 0x20000, has_tls: true, ..Addresses::default() };
     let mut symbols = [Symbol { address: 0x20000, is_thread_local: true, ..Symbol::default() }; 4];
     let f = START + DeltaSlice::new(deltas).input_to_output_offset(BASE + f);
     symbols[2] = Symbol { address: f, ..Symbol::default() };
