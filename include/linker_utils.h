@@ -461,10 +461,9 @@ struct linker_utils_symbol {
 struct linker_utils_addresses {
     uint64_t section; /* of the section's first byte, from which `r_offset` counts */
     uint64_t got_base; /* GOT, as in `struct linker_utils_operands` */
-    /* The thread pointer as an address in the TLS segment's image, and the origin of offsets in the
-     * module's TLS block, as `tls_base` of `struct linker_utils_operands` says. */
-    uint64_t thread_origin;
-    uint64_t module_origin;
+    /* Addresses in the TLS segment's image: see `tls_base` in `struct linker_utils_operands`. */
+    uint64_t thread_origin; /* the thread pointer's */
+    uint64_t module_origin; /* the origin of offsets in the module's TLS block */
     uint64_t module_entry; /* of the output's LINKER_UTILS_ENTRY_MODULE; 0 if there is none */
     bool has_tls; /* the output has a TLS segment, so that there are the two origins */
 };
@@ -483,8 +482,7 @@ struct linker_utils_addresses {
  * LINKER_UTILS_UNKNOWN_ARCHITECTURE; LINKER_UTILS_TOO_SHORT where there is no relocation at the
  * index; LINKER_UTILS_UNKNOWN_RELOCATION; LINKER_UTILS_NO_VALUE; LINKER_UTILS_NO_SYMBOL where the
  * index of its symbol, or of its high part's, isn't below `symbols_len`; LINKER_UTILS_NO_HIGH_PART;
- * LINKER_UTILS_NO_ENTRY; LINKER_UTILS_NO_TLS_BASE. O(1), and of a low part O(log n) for n
- * relocations. */
+ * LINKER_UTILS_NO_ENTRY; LINKER_UTILS_NO_TLS_BASE. O(1); a low part of n relocations O(log n). */
 static inline uint32_t linker_utils_value_at(
     uint16_t machine, const struct linker_utils_addresses *addresses, const void *relocations,
     size_t relocations_len, const struct linker_utils_symbol *symbols, size_t symbols_len,
