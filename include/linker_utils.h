@@ -597,14 +597,16 @@ static inline uint32_t linker_utils_survey(
  * of code of the object, with the same facts. What became of each relocation is in `decisions`,
  * which has an element for each relocation, and need not be initialised; further elements are
  * unchanged. A relocation of a symbol that isn't in the array isn't rewritten. O(n) for n
- * relocations. It doesn't allocate.
+ * relocations that ascend; each one that is out of order adds O(n) at most. It doesn't allocate.
  *
  * LINKER_UTILS_UNKNOWN_ARCHITECTURE; LINKER_UTILS_SHORT_MEMORY where there are fewer decisions than
- * relocations. Else the status is that of the first relocation that it doesn't accept, `faulty`:
+ * relocations. Else the status is that of the relocation `faulty`, the first that it doesn't accept:
  * LINKER_UTILS_NOT_SURVEYED; LINKER_UTILS_OVERLAPS where the bytes of its rewrite overlap those of
  * one before it, or lie below them. So the relocations of instructions that can be rewritten have
- * to ascend by offset. With any status except LINKER_UTILS_OK the section and its relocations are
- * unchanged. Decisions before `faulty` are made then, and later ones aren't specified. */
+ * to ascend by offset. Where there is none, LINKER_UTILS_OVERLAPS is also that of the first whose
+ * field has a byte that another's rewrite writes or deletes, which doesn't take it along. With any
+ * status except LINKER_UTILS_OK the section and its relocations are unchanged. Decisions before
+ * `faulty` are made then, and later ones aren't specified. */
 static inline uint32_t linker_utils_rewrite_section(
     uint16_t machine, const struct linker_utils_output_facts *output,
     const struct linker_utils_symbol_facts *symbols, size_t symbols_len,

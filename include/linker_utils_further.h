@@ -293,7 +293,8 @@ static inline uint32_t linker_utils_survey_global_pointer(
  * What sets x3 has to be without marks, as the C libraries have it. `decisions` needs an element
  * for each relocation, and `deleted` one for each high part. The statuses, and what an error
  * leaves, are those of `linker_utils_rewrite_placed_section`. LINKER_UTILS_OVERLAPS is returned
- * where two instructions that go or get another base share a byte. */
+ * where two instructions that go or get another base share a byte, or a relocation's field has a
+ * byte of one that goes. */
 static inline uint32_t linker_utils_rewrite_global_pointer(
     uint16_t machine, const struct linker_utils_output_facts *output,
     const struct linker_utils_symbol_facts *symbols, size_t symbols_len,

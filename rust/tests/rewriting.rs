@@ -671,6 +671,102 @@ fn error_of(section: &Section, kept: &[KeptGroups], room: usize) -> RewritingErr
     error
 }
 
+/// mov x@GOTPCREL(%rip), %rax at each offset, a `nop` before each, and others' relocations after the
+/// index `at` of theirs, as many as there are.
+fn loads_among(count: u64, at: usize, others: &[Rela]) -> Section {
+    let load = [0x90, 0x48, 0x8b, 0x05, 0, 0, 0, 0];
+    let mut relocations: Vec<Rela> = (0..count).map(|n| rela(8 * n + 4, 42, 1, -4)).collect();
+    relocations.splice(at..at, others.iter().copied());
+    Section {
+        bytes: load.repeat(count as usize),
+        relocations,
+    }
+}
+
+/// Whether one of `len` bytes from an offset on is the opcode of a load, which becomes that of `lea`.
+fn is_opcode(index: u64, offset: u64, len: u64) -> bool {
+    offset < 8 * index + 3 && 8 * index + 2 < offset + len
+}
+
+fn rewritten_alone(section: &Section) -> (Result<(), RewritingError>, Vec<Decision>) {
+    let mut entries = bytes_of(&section.relocations);
+    let (before, mut bytes) = (entries.clone(), section.bytes.clone());
+    let mut decisions = vec![Decision::Kept; section.relocations.len()];
+    let result = rewrite_section(
+        X86_64,
+        &EXECUTABLE,
+        &symbols(),
+        &[KeptGroups::default(); 5],
+        &mut entries,
+        &mut bytes,
+        &mut decisions,
+    );
+    assert!(result.is_ok() || (entries == before && bytes == section.bytes));
+    (result, decisions)
+}
+
+// GNU as 2.40 makes such an object of `.reloc`, and GNU ld and ld.lld 19 link it without an error:
+// of y = 0x90 at the opcode they make 48 90 c0 .. and 48 81 d0 .., whose programs end by a signal
+#[test]
+fn a_field_in_the_window_of_a_rewrite_is_an_error() {
+    // R_X86_64_8, 16, 32 and 64 of symbol 3, whose first byte is at each offset
+    for (code, len) in [(14, 1), (12, 2), (10, 4), (1, 8)] {
+        for offset in 0..24 {
+            for at in 0..=3 {
+                let section = loads_among(3, at, &[rela(offset, code, 3, 0)]);
+                let (made, decisions) = rewritten_alone(&section);
+                let is_covered = (0..3).any(|n| is_opcode(n, offset, len));
+                let expected = if is_covered { Err(RewritingError::Overlaps(at)) } else { Ok(()) };
+                assert_eq!(made, expected, "{section:x?}");
+                assert_eq!(decisions[at], Decision::Kept);
+                let made = decisions.iter().filter(|it| **it != Decision::Kept).count();
+                assert_eq!(made, 3);
+            }
+        }
+    }
+}
+
+/// Which of the relocations of `loads_among` has a field in the bytes of a rewrite, the first.
+fn first_covered(section: &Section) -> Option<usize> {
+    let len = |code| [(14, 1), (12, 2), (10, 4), (1, 8)].iter().find(|it| it.0 == code).map(|it| it.1);
+    section.relocations.iter().position(|it| {
+        len(it.code).is_some_and(|len| {
+            (0..section.bytes.len() as u64 / 8)
+                .any(|n| is_opcode(n, it.offset, len))
+        })
+    })
+}
+
+#[test]
+fn fields_among_rewrites_are_found_in_any_order() {
+    let mut state = 1u64;
+    let mut next = |below: u64| {
+        state = state.wrapping_mul(6_364_136_223_846_793_005).wrapping_add(1);
+        (state >> 33) % below
+    };
+    let mut found = [0; 2];
+    for _ in 0..20_000 {
+        let count = 1 + next(6);
+        let mut section = loads_among(count, 0, &[]);
+        for _ in 0..next(8) {
+            // R_X86_64_8, 16, 32 and 64, mostly in the nops, and NONE and GNU_VTINHERIT, without a field
+            let offset = if next(8) == 0 { next(8 * count) } else { 8 * next(count + 1) };
+            let code = [14, 14, 12, 10, 1, 0][next(6) as usize];
+            let at = next(section.relocations.len() as u64 + 1) as usize;
+            section.relocations.insert(at, rela(offset, code, 3, 0));
+        }
+        let (made, decisions) = rewritten_alone(&section);
+        let covered = first_covered(&section);
+        assert_eq!(made.err(), covered.map(RewritingError::Overlaps), "{section:x?}");
+        found[usize::from(covered.is_some())] += 1;
+        for (it, decision) in section.relocations.iter().zip(&decisions) {
+            assert_eq!(matches!(decision, Decision::Rewritten(_)), it.code == 42);
+            assert_eq!(*decision == Decision::Kept, it.code != 42);
+        }
+    }
+    assert!(found.iter().all(|it| *it > 1000), "{found:?}");
+}
+
 #[test]
 fn on_errors_nothing_is_changed() {
     // mov x@GOTPCREL(%rip), %rax, and what follows
@@ -1034,6 +1130,40 @@ fn thread_offset(symbol: u32) -> Section {
     Section {
         bytes: words(&[0x0000_0537, 0x0045_0533, 0x0005_2583, 0x00b5_2023]),
         relocations,
+    }
+}
+
+#[test]
+fn a_field_in_what_is_deleted_is_an_error() {
+    let with = |at: usize, offset: u64| {
+        let mut section = thread_offset(1);
+        section.relocations.insert(at, rela(offset, 1, 3, 0));
+        let mut entries = bytes_of(&section.relocations);
+        let result = rewrite_placed_section(
+            RiscV,
+            Phase::ThreadOffsets,
+            &EXECUTABLE,
+            &symbols(),
+            &Addresses {
+                thread_origin: 0x1000,
+                ..Addresses::default()
+            },
+            &values(0x1008, 0),
+            &[KeptGroups::default(); 5],
+            &mut entries,
+            &mut section.bytes,
+            &mut [Decision::Kept; 9],
+            &mut [(0, 0); 9],
+        );
+        assert!(result.is_ok() || entries == bytes_of(&section.relocations));
+        result
+    };
+    // R_RISCV_32, of which a byte is in the lui, the add, the load or the store, and after these
+    for at in (0..=8).step_by(2) {
+        for offset in 0..16 {
+            assert_eq!(with(at, offset), Err(RewritingError::Overlaps(at)));
+        }
+        assert_eq!(with(at, 16), Ok(2));
     }
 }
 
@@ -2049,7 +2179,7 @@ fn parts_near_the_global_pointer_are_apart() {
     let code = [0x37, 0x05, 0x83, 0xa5, 0x05, 0];
     let parts = [(0, 26, 1, true), (2, 27, 1, true)];
     assert_eq!(rewritten(&code, &parts), Err(RewritingError::Overlaps(2)));
-    // the second lui stays where it isn't near the global pointer
+    // nor does the lui go where the lw stays, whose symbol isn't near the global pointer
     let parts = [(0, 26, 1, true), (2, 27, 0, false)];
     let symbols_stay = [true, false, false, false];
     let mut entries = marked(&parts);
@@ -2066,7 +2196,7 @@ fn parts_near_the_global_pointer_are_apart() {
         &mut [Decision::Kept; 8],
         &mut [(0, 0); 4],
     );
-    assert_eq!(made, Ok(1));
+    assert_eq!(made, Err(RewritingError::Overlaps(2)));
 }
 
 #[test]

@@ -6,9 +6,9 @@ use Rattle.linker_rewriting.proofs.LabelGroups.{one_high_from}
 use Rattle.linker_rewriting.proofs.WordsNoted.{AreWordsKeptToo, stays_on, stays_now}
 use Rattle.linker_rewriting.proofs.Deciding.{AreSame, EndsAt, IsGrown, IsReached, bound_at, none_ends, apart_more, ends_more}
 use Rattle.std.proofs.lemmas.Bool.{leb-true}
-use Rattle.linker_rewriting.specs.Decisions.{CanBeMade, IsEndBehind, decision_at}
+use Rattle.linker_rewriting.specs.Decisions.{AreApart, CanBeMade, IsEndBehind, decision_at, start_by, end_by, start_at, end_at}
 use Rattle.linker_rewriting.specs.Facts.{Setting}
-use Rattle.linker_rewriting.specs.GlobalPointer.{relative_high, IsLabelled, IsSubject, IsMemberBy, IsMember, part_of, is_reached, is_expected, fits, kept_by, IsKeepingSymbol, IsSymbolNoted, AreSymbolsSurveyed, part_decision, decided_by, IsPartDecided, ArePartsDecided, ArePartsApart, IsPartOverlapping, part_end, ArePartsRejected, MeansSymbolsUnsurveyed, ArePartsWhole, ArePartsWholeAcross, low_code, base_of, is_placed_by, is_placed, based_section, section_based}
+use Rattle.linker_rewriting.specs.GlobalPointer.{relative_high, IsLabelled, IsSubject, IsMemberBy, IsMember, part_of, is_reached, is_expected, fits, kept_by, IsKeepingSymbol, IsSymbolNoted, AreSymbolsSurveyed, part_decision, decided_by, IsPartDecided, ArePartsDecided, ArePartsApart, IsPartOverlapping, part_end, part_end_at, ArePartsRejected, MeansSymbolsUnsurveyed, ArePartsWhole, ArePartsWholeAcross, low_code, base_of, is_placed_by, is_placed, based_section, section_based}
 use Rattle.linker_rewriting.specs.Inner.Words.{IsThatWord}
 use Rattle.linker_rewriting.specs.Agreement.{Agree}
 use Rattle.linker_rewriting.specs.Decisions.{IsRejectedFirst}
@@ -198,6 +198,54 @@ more_apart bytes old end grown k d before within grow =
       ends = ends_more part_start part_end bytes old new k end grown d same here before.ends grow;
     }
 
+before_start : (a b c d : ℕ) → a ≤ b → b ≤ c → d ≡ c → a ≤ d
+before_start a b c d first second same = omega arith
+
+some_decision : (x y : Decision) → Some x ≡ Some y → x ≡ y
+some_decision x y is = cc
+
+-- the bytes that a part deletes are its instruction's
+abbrev IsOfPart : ℕ → Decision → Type 0
+IsOfPart o d =
+    start_by d o < end_by d o → (o < part_end d o) × (end_by d o ≤ part_end d o) × (start_by d o ≡ o)
+
+kept_bytes : (o : ℕ) → IsOfPart o Kept
+kept_bytes o some = absurd (omega (arith, some))
+
+part_bytes : (part : Part) (subject : Rela) (o : ℕ) → IsOfPart o (part_decision part subject)
+part_bytes (High opcode) subject o some = (omega arith, omega arith, omega arith)
+part_bytes (Low code) subject o some = absurd (omega (arith, some))
+part_bytes (Labelled code) subject o some = absurd (omega (arith, some))
+
+decided_bytes : (stays fit : Bool) (made d : Decision) (o : ℕ)
+    → Some d ≡ (if stays then Some Kept else (if fit then Some made else None))
+    → IsOfPart o made → IsOfPart o d
+decided_bytes true fit made d o is of =
+    subst (IsOfPart o) (sym (some_decision d Kept is)) (kept_bytes o)
+decided_bytes false true made d o is of = subst (IsOfPart o) (sym (some_decision d made is)) of
+decided_bytes false false made d o is of = absurd (let e : Some d ≡ None = is in cc)
+
+member_bytes : (s : Setting) (gp : ℕ) (a : Bool) (kept : List Bool) (bytes section : List ℕ) (n : ℕ)
+    (r : Rela) (member : Option (Part × Rela)) (d : Decision)
+    → Some d ≡ decided_by s gp a kept bytes section n r member → IsOfPart r.offset d
+member_bytes s gp a kept bytes section n r None d is =
+    subst (IsOfPart r.offset) (sym (some_decision d Kept is)) (kept_bytes r.offset)
+member_bytes s gp a kept bytes section n r (Some member) d is =
+    decided_bytes (word_stays kept (member.1).symbol) (fits s gp a bytes section n r member)
+    (part_decision (member.0) (member.1)) d r.offset is (part_bytes (member.0) (member.1) r.offset)
+
+pub bytes_apart : (s : Setting) (gp : ℕ) (kept : List Bool) (bytes section : List ℕ)
+    (decisions : List Decision) (limit : ℕ)
+    → ArePartsDecided s gp kept bytes section decisions limit → ArePartsApart bytes decisions limit
+    → AreApart bytes decisions limit
+bytes_apart s gp kept bytes section decisions limit decided apart i j ij less some_i some_j =
+    let one = decided i (omega (arith, ij, less)) in
+    let two = decided j less in
+    let a = member_bytes s gp one.ascends kept bytes section i (relocation_in bytes i) one.member (decision_at decisions i) one.decided some_i in
+    let b = member_bytes s gp two.ascends kept bytes section j (relocation_in bytes j) two.member (decision_at decisions j) two.decided some_j in
+    before_start (end_at bytes decisions i) (part_end_at bytes decisions i) (relocation_in bytes j).offset (start_at bytes decisions j)
+    (a.1) (apart i j ij less (a.0) (b.0)) (b.2)
+
 overlapping_one : (s : Setting) (gp : ℕ) (kept : List Bool) (bytes section : List ℕ)
     (decisions : List Decision) (end k : ℕ) (d : Decision)
     → IsPartDecided s gp kept bytes section k (relocation_in bytes k) (Some d)
@@ -260,9 +308,6 @@ turned_next F first before after limit k r turned are less r_is turned_is set ot
     }
 
 -- ---- whole symbols
-
-some_decision : (x y : Decision) → Some x ≡ Some y → x ≡ y
-some_decision x y is = cc
 
 not_stayed : (stays fit : Bool) (made d : Decision)
     → Some d ≡ (if stays then Some Kept else (if fit then Some made else None))

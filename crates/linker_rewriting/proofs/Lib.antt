@@ -12,6 +12,7 @@ pub mod Making
 pub mod Noted
 pub mod Order
 pub mod PhaseTables
+pub mod Places
 pub mod Surveying
 pub mod Unique
 pub mod Untouched

@@ -2,11 +2,12 @@
 use Rattle.std.specs.Prelude.{◌≡◌, ℕ, zero, suc, ◌+◌, ◌-◌, ◌<◌, ◌≤◌, ◌/◌, ◌⊎◌, ◌++◌, max, Bool}
 use Rattle.std.specs.Prelude.{true}
 use Rattle.std.specs.Prelude.{false, IsTrue, ◌↔◌, List, [], ◌∷◌, length, get_or, Option, Some, None}
-use Rattle.std.specs.Prelude.{is_some}
+use Rattle.std.specs.Prelude.{is_some, ◌≢◌}
 use Rattle.linker_base.specs.Rewrite.{CanRewrite}
 use Rattle.linker_base.specs.RewriteWindow.{window_of_rewrite}
 use Rattle.linker_base.specs.declared.rewrite.DeletedBytes.{DeletedBytes}
 use Rattle.linker_base.specs.declared.rewrite.RewriteWindow.{RewriteWindow}
+use Rattle.linker_elf.specs.declared.elf.RelocationKindInfo.{RelocationKindInfo}
 use Rattle.linker_elf.specs.declared.elf.choice.Choice.{Choice}
 use Rattle.linker_rewriting.specs.Agreement.{Agree, IsContradiction}
 use Rattle.linker_rewriting.specs.Candidates.{IsCandidate, deletes_within}
@@ -31,7 +32,9 @@ use Rattle.linker_rewriting.specs.declared.groups.Scope.TheVariants.{Unlisted, A
 use Rattle.linker_rewriting.specs.declared.groups.Scope.TheVariants.{Ahead, Matched, Labelled}
 use Rattle.linker_rewriting.specs.declared.phases.Phase.{Phase}
 use Rattle.linker_rewriting.specs.declared.phases.Phase.TheVariants.{ThreadOffsets}
+use Rattle.linker_section.specs.Fields.{IsField, field_end}
 use Rattle.linker_section.specs.Relocations.{relocation_in, relocation_at}
+use Rattle.linker_section.specs.Values.{offset_at}
 use Rattle.linker_section.specs.declared.facts.Symbol.{Symbol}
 use Rattle.linker_section.specs.declared.relocations.Rela.{Rela}
 use Rattle.linker_utils.specs.Architectures.{relaxation_rewrite, relaxation_skipped}
@@ -260,6 +263,35 @@ deletions_by bytes decisions (suc n) =
     deletions_by bytes decisions n
     ++ deletion_by (relocation_in bytes n).offset (deleted_of (decision_at decisions n))
 
+-- ---- relocations in the bytes of others
+
+-- The field of a relocation that no rewrite takes along has a byte that the rewrite of another one,
+-- with an index below a limit, writes or deletes.
+pub record IsCovered (architecture : Architecture) (bytes section : List ℕ)
+    (decisions : List Decision) (limit n : ℕ) : Type 0 where
+  pub row : RelocationKindInfo
+  pub is_field : IsField architecture bytes section n row
+  pub untaken : decision_at decisions n ≢ TakenAlong
+  pub by : ℕ
+  pub within : by < limit
+  pub other : by ≢ n
+  pub writes : start_at bytes decisions by < end_at bytes decisions by
+  pub begins : offset_at bytes n < end_at bytes decisions by
+  pub ends : start_at bytes decisions by < field_end bytes section n row
+
+-- none has
+abbrev pub AreClear : Architecture → List ℕ → List ℕ → List Decision → ℕ → Type 0
+AreClear architecture bytes section decisions limit =
+    (n : ℕ) → n < limit → ¬ IsCovered architecture bytes section decisions limit n
+
+-- the first that has, if any
+abbrev pub IsFirstCovered : Architecture → List ℕ → List ℕ → List Decision → ℕ → Option ℕ → Type 0
+IsFirstCovered architecture bytes section decisions limit None =
+    AreClear architecture bytes section decisions limit
+IsFirstCovered architecture bytes section decisions limit (Some n) =
+    (n < limit) × IsCovered architecture bytes section decisions limit n
+    × ((i : ℕ) → i < n → ¬ IsCovered architecture bytes section decisions limit i)
+
 -- ---- errors
 
 -- the rewrite of the relocation with an index would write or delete bytes at or below those of one
@@ -285,9 +317,12 @@ IsRejectedIn s kept bytes section decisions (NotSurveyed n) =
     × IsNotSurveyed s kept bytes section n (relocation_in bytes n)
     × (length bytes / 24 ≤ length decisions)
 IsRejectedIn s kept bytes section decisions (Overlaps n) =
-    (n < length bytes / 24) × AreDecidedIn s kept bytes section decisions n
+    ((n < length bytes / 24) × AreDecidedIn s kept bytes section decisions n
     × IsOverlapping s kept bytes section decisions n
-    × (length bytes / 24 ≤ length decisions)
+    × (length bytes / 24 ≤ length decisions))
+    ⊎ (AreDecidedIn s kept bytes section decisions (length bytes / 24)
+    × IsFirstCovered s.architecture bytes section decisions (length bytes / 24) (Some n)
+    × (length bytes / 24 ≤ length decisions))
 IsRejectedIn s kept bytes section decisions (Contradiction symbol) = ⊥
 
 -- before addresses are known

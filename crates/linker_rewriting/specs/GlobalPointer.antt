@@ -15,6 +15,7 @@ use Rattle.linker_riscv64.specs.RiscVCalls.{word_at}
 use Rattle.linker_riscv64.specs.RiscVRewrites.{opcode_of, funct3_of, rd_of, adds_low12, with_rs1}
 use Rattle.linker_riscv64.specs.RiscVRewrites.{rewrites_word, rs1_of, stores_base}
 use Rattle.linker_riscv64.specs.declared.rewrites.RelaxationKind.TheVariants as kinds
+use Rattle.linker_rewriting.specs.Decisions.{IsFirstCovered}
 use Rattle.linker_rewriting.specs.Decisions.{decision_at, deletions_by}
 use Rattle.linker_rewriting.specs.Facts.{Setting, address_in}
 use Rattle.linker_rewriting.specs.Labels.{IsHighFrom, offset_of_label, is_beyond}
@@ -339,9 +340,12 @@ ArePartsRejected s gp kept bytes section decisions room (NotSurveyed n) =
     × IsPartDecided s gp kept bytes section n (relocation_in bytes n) None
     × (length bytes / 24 ≤ length decisions)
 ArePartsRejected s gp kept bytes section decisions room (Overlaps n) =
-    (n < length bytes / 24) × ArePartsDecided s gp kept bytes section decisions n
+    ((n < length bytes / 24) × ArePartsDecided s gp kept bytes section decisions n
     × IsPartOverlapping s gp kept bytes section decisions n
-    × (length bytes / 24 ≤ length decisions)
+    × (length bytes / 24 ≤ length decisions))
+    ⊎ (ArePartsDecided s gp kept bytes section decisions (length bytes / 24)
+    × IsFirstCovered s.architecture bytes section decisions (length bytes / 24) (Some n)
+    × (length bytes / 24 ≤ length decisions))
 ArePartsRejected s gp kept bytes section decisions room (Contradiction symbol) = ⊥
 
 -- an error that a section wasn't surveyed comes only where what it keeps isn't all noted

@@ -1,5 +1,6 @@
 pub mod Calls
 pub mod Codes
 pub mod Left
+pub mod Places
 pub mod Settings
 pub mod Words

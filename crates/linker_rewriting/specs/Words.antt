@@ -10,6 +10,7 @@ use Rattle.linker_elf.specs.Value.{sum_64, difference_64}
 use Rattle.linker_elf.specs.declared.elf.choice.Choice.{Choice}
 use Rattle.linker_elf.specs.declared.ppc64.relocations.Ppc64Relocation.TheVariants as ppc64
 use Rattle.linker_rewriting.specs.Candidates.{IsCandidateWith}
+use Rattle.linker_rewriting.specs.Decisions.{IsFirstCovered}
 use Rattle.linker_rewriting.specs.Decisions.{decision_at, start_by, end_by, start_at, end_at}
 use Rattle.linker_rewriting.specs.Decisions.{IsRejectedFirst}
 use Rattle.linker_rewriting.specs.Facts.{Setting, address_in, link_facts}
@@ -207,9 +208,12 @@ AreLoadsRejected s start words kept bytes section decisions (NotSurveyed n) =
     × IsLoadNotSurveyed s start words kept bytes section n (relocation_in bytes n)
     × (length bytes / 24 ≤ length decisions)
 AreLoadsRejected s start words kept bytes section decisions (Overlaps n) =
-    (n < length bytes / 24) × AreLoadsDecided s start words kept bytes section decisions n
+    ((n < length bytes / 24) × AreLoadsDecided s start words kept bytes section decisions n
     × IsLoadOverlapping s start words kept bytes section decisions n
-    × (length bytes / 24 ≤ length decisions)
+    × (length bytes / 24 ≤ length decisions))
+    ⊎ (AreLoadsDecided s start words kept bytes section decisions (length bytes / 24)
+    × IsFirstCovered s.architecture bytes section decisions (length bytes / 24) (Some n)
+    × (length bytes / 24 ≤ length decisions))
 AreLoadsRejected s start words kept bytes section decisions (Contradiction symbol) = ⊥
 
 -- the tables of symbols contradict each other, or they agree and there is another error

@@ -6,7 +6,7 @@ ghost use Rattle.linker_rewriting.specs.declared.decisions.Decision.{Decision as
 ghost use Rattle.linker_section.specs.Relocations.{relocation_in, relocation_at};
 ghost use Rattle.linker_rewriting.specs.Decisions.{takes_next, window_of, IsDecision, CanBeMade};
 ghost use Rattle.linker_rewriting.specs.Decisions.{deleted_of, deleted_end, start_by, end_by};
-ghost use Rattle.linker_rewriting.specs.Decisions.{AreDecidedIn, AreApart, AllCanBeMade};
+ghost use Rattle.linker_rewriting.specs.Decisions.{AreDecidedIn, AreApart, AreClear, AllCanBeMade};
 ghost use Rattle.linker_rewriting.specs.Decisions.{IsDecisionAfter, IsEndBehind, IsRejectedIn};
 ghost use Rattle.linker_rewriting.specs.Decisions.{IsRewrittenAt, label_decision, IsLabelDecision};
 ghost use Rattle.linker_rewriting.specs.Inner.Settings.{setting_of};
@@ -18,6 +18,7 @@ ghost use Rattle.linker_rewriting.specs.Labels.{IsInLabel, IsLabelNote};
 use crate::calls::keeps_call;
 use crate::candidates::candidate;
 use crate::codes::{bit_of, is_listed, lists_any, table_of};
+use crate::covered::first_covered;
 use crate::facts::{OutputFacts, Setting, SymbolFacts};
 use crate::groups::{KeptGroups, Scope, group_stays, scope_in};
 use crate::labels::{high_of, is_note, label_candidate, note_labels, set_all};
@@ -115,7 +116,8 @@ pub enum RewritingError {
     /// section was surveyed with other facts, or not at all.
     NotSurveyed(usize),
     /// Bytes that would be rewritten or deleted at the relocation with this index are also
-    /// rewritten or deleted at one before it, or lie below such bytes.
+    /// rewritten or deleted at one before it, or lie below such bytes; or its field, where no
+    /// rewrite takes it along, has a byte that the rewrite at another one writes or deletes.
     Overlaps(usize),
     /// The tables of facts and of addresses contradict each other about the symbol with this index:
     /// it is local, and undefined and weak, or `other` isn't the same in both. That a thread-local
@@ -386,9 +388,8 @@ pub(crate) fn end_behind(start: u64, own: u64, end: u64) -> Option<u64>
     Some(own)
 }
 
-/// Decides what becomes of each relocation of a section and of its instruction, in the caller's
-/// memory. Nothing is rewritten. False if all stay as they are by their codes.
-pub(crate) fn decide_section<D: AsDecision>(
+/// The same as `decide_section`, but relocations may be in the bytes of others.
+fn decide_each<D: AsDecision>(
     setting: &Setting<'_>,
     kept: &[KeptGroups],
     relocations: &[u8],
@@ -461,4 +462,41 @@ pub(crate) fn decide_section<D: AsDecision>(
         decisions[index] = D::from_decision(decision);
     }
     Ok(true)
+}
+
+/// Decides what becomes of each relocation of a section and of its instruction, in the caller's
+/// memory. Nothing is rewritten. False if all stay as they are by their codes.
+pub(crate) fn decide_section<D: AsDecision>(
+    setting: &Setting<'_>,
+    kept: &[KeptGroups],
+    relocations: &[u8],
+    section: &[u8],
+    decisions: &mut [D],
+) -> Result<bool, RewritingError>
+    ensures enough { OnOk result (length relocations.now / 24 ≤ length decisions.old) }
+    ensures decided { OnOk result (AreDecidedIn (setting_of setting.now) kept.now relocations.now
+        section.now (map D.decision decisions.new) (length relocations.now / 24)) }
+    ensures left { IfOk result (λ changes. changes ≡ false
+        → AreKept (map D.decision decisions.new) (length relocations.now / 24)) }
+    ensures made { OnOk result (AllCanBeMade relocations.now section.now
+        (map D.decision decisions.new) (length relocations.now / 24)) }
+    ensures apart { OnOk result (AreApart relocations.now (map D.decision decisions.new)
+        (length relocations.now / 24)) }
+    ensures clear { OnOk result (AreClear setting.now.architecture relocations.now section.now
+        (map D.decision decisions.new) (length relocations.now / 24)) }
+    ensures form { OnOk result
+        (All D.is_written (take (length relocations.now / 24) decisions.new)) }
+    ensures others_stay { drop (length relocations.now / 24) decisions.new
+        ≡ drop (length relocations.now / 24) decisions.old }
+    ensures rejected { IfErr result (IsRejectedIn (setting_of setting.now) kept.now relocations.now
+        section.now (map D.decision decisions.new)) }
+{
+    let changes = decide_each(setting, kept, relocations, section, decisions)?;
+    if !changes {
+        return Ok(false);
+    }
+    match first_covered(setting.architecture, relocations, section, decisions) {
+        Some(index) => Err(RewritingError::Overlaps(index)),
+        None => Ok(true),
+    }
 }

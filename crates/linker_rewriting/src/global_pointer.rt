@@ -6,6 +6,7 @@ ghost use Rattle.std.specs.Prelude.{IfSome, IfErr, IfOk, OnOk, OnErr, All, IsTru
 ghost use Rattle.std.specs.Prelude.{◌&&◌, ◌==◌, true, MatchOption};
 ghost use Rattle.std.specs.Int.{w32, from_le_bytes};
 ghost use Rattle.linker_rewriting.specs.Agreement.{Agree, IsContradiction};
+ghost use Rattle.linker_rewriting.specs.Decisions.{AreClear};
 ghost use Rattle.linker_rewriting.specs.Decisions.{CanBeMade, AllCanBeMade, deletions_by};
 ghost use Rattle.linker_rewriting.specs.Decisions.{IsRejectedFirst};
 ghost use Rattle.linker_rewriting.specs.Facts.{setting};
@@ -33,6 +34,7 @@ ghost use Rattle.linker_section.specs.Relocations.{relocation_in};
 ghost use Rattle.linker_section.specs.Values.{IsAscending};
 
 use crate::agreement::contradiction;
+use crate::covered::first_covered;
 use crate::decisions::{AsDecision, Decision, FromDeletion, RewritingError, end_behind};
 use crate::facts::{OutputFacts, Setting, SymbolFacts, address_in};
 use crate::labels::{high_at, is_beyond};
@@ -593,8 +595,8 @@ fn part_end(decision: &Decision, offset: u64) -> u64
     }
 }
 
-/// Decides what becomes of each relocation of a section, in the caller's memory.
-fn decide_parts<D: AsDecision>(
+/// The same as `decide_parts`, but relocations may be in the bytes of others.
+fn decide_each_part<D: AsDecision>(
     setting: &Setting<'_>,
     gp: u64,
     kept: &[bool],
@@ -644,6 +646,38 @@ fn decide_parts<D: AsDecision>(
         decisions[index] = D::from_decision(decision);
     }
     Ok(())
+}
+
+/// Decides what becomes of each relocation of a section, in the caller's memory.
+fn decide_parts<D: AsDecision>(
+    setting: &Setting<'_>,
+    gp: u64,
+    kept: &[bool],
+    relocations: &[u8],
+    section: &[u8],
+    decisions: &mut [D],
+) -> Result<(), RewritingError>
+    ensures enough { OnOk result (length relocations.now / 24 ≤ length decisions.old) }
+    ensures decided { OnOk result (ArePartsDecided (setting_of setting.now) gp kept.now
+        relocations.now section.now (map D.decision decisions.new) (length relocations.now / 24)) }
+    ensures made { OnOk result (AllCanBeMade relocations.now section.now
+        (map D.decision decisions.new) (length relocations.now / 24)) }
+    ensures apart { OnOk result (ArePartsApart relocations.now (map D.decision decisions.new)
+        (length relocations.now / 24)) }
+    ensures clear { OnOk result (AreClear setting.now.architecture relocations.now section.now
+        (map D.decision decisions.new) (length relocations.now / 24)) }
+    ensures form { OnOk result
+        (All D.is_written (take (length relocations.now / 24) decisions.new)) }
+    ensures others_stay { drop (length relocations.now / 24) decisions.new
+        ≡ drop (length relocations.now / 24) decisions.old }
+    ensures rejected { IfErr result (λ e. (room : ℕ) → ArePartsRejected (setting_of setting.now) gp
+        kept.now relocations.now section.now (map D.decision decisions.new) room e) }
+{
+    decide_each_part(setting, gp, kept, relocations, section, decisions)?;
+    match first_covered(setting.architecture, relocations, section, decisions) {
+        Some(index) => Err(RewritingError::Overlaps(index)),
+        None => Ok(()),
+    }
 }
 
 /// A relocation after what became of it, where no bytes are rewritten.
@@ -707,7 +741,8 @@ fn turn_all<D: AsDecision>(decisions: &[D], relocations: &mut [u8])
 /// `deleted` has less room than there are deletions. `NotSurveyed`: a relocation of a symbol that
 /// doesn't stay can't be rewritten; it never comes where the section was surveyed into the table
 /// with the same facts. `Overlaps`: the instruction of the relocation with the index overlaps one
-/// of a relocation before it that is rewritten too.
+/// of a relocation before it that is rewritten too; where none do, its field is the first that has a
+/// byte of another one's `lui` or `auipc` that goes.
 ///
 /// ```
 /// use linker_rewriting::decisions::Decision;
@@ -763,6 +798,8 @@ pub fn rewrite_global_pointer<D: AsDecision, L: FromDeletion>(
         (map D.decision decisions.new) (length relocations.old / 24)) }
     ensures apart { OnOk result (ArePartsApart relocations.old (map D.decision decisions.new)
         (length relocations.old / 24)) }
+    ensures clear { OnOk result (AreClear architecture relocations.old section.now
+        (map D.decision decisions.new) (length relocations.old / 24)) }
     ensures relocations { OnOk result (AreRelocationsBy (map D.decision decisions.new)
         relocations.old relocations.new (length relocations.old / 24)) }
     ensures listed { IfOk result (λ len. take len (map L.deletion deleted.new)

@@ -6,6 +6,7 @@ mod agreement;
 mod calls;
 pub mod candidates;
 mod codes;
+mod covered;
 pub mod decisions;
 pub mod facts;
 pub mod global_pointer;

@@ -4,6 +4,7 @@ ghost use Rattle.std.specs.Prelude.{◌≡◌, ◌<◌, ◌≤◌, ◌/◌, ℕ,
 ghost use Rattle.std.specs.Prelude.{IfNone, OnOk, OnErr, All, map, drop, false};
 ghost use Rattle.linker_section.specs.Relocations.{relocation_in};
 ghost use Rattle.linker_rewriting.specs.Agreement.{Agree};
+ghost use Rattle.linker_rewriting.specs.Decisions.{AreClear};
 ghost use Rattle.linker_rewriting.specs.Decisions.{CanBeMade, AllCanBeMade, AreDecided, AreApart};
 ghost use Rattle.linker_rewriting.specs.Decisions.{AreDecidedIn, IsRejected, IsRejectedPlaced};
 ghost use Rattle.linker_rewriting.specs.Decisions.{decision_at, deleted_of, deleted_end};
@@ -130,7 +131,9 @@ fn make_changes<D: AsDecision>(
 /// `decisions`. `NotSurveyed`: a relocation of a group that doesn't stay has no rewrite; it never
 /// comes where the section was surveyed into the table with the same facts. `Overlaps`: the bytes
 /// of two rewrites overlap, or those of the second lie below those of the first, so the relocations
-/// of instructions that can be rewritten have to ascend by offset.
+/// of instructions that can be rewritten have to ascend by offset. Where no other error is, it is of
+/// the first relocation whose field has a byte that the rewrite of another one changes, and which
+/// that rewrite doesn't take along. All other relocations may be in any order.
 ///
 /// ```
 /// use linker_rewriting::decisions::Decision;
@@ -179,6 +182,8 @@ pub fn rewrite_section<D: AsDecision>(
         (map D.decision decisions.new) (length relocations.old / 24)) }
     ensures apart { OnOk result (AreApart relocations.old (map D.decision decisions.new)
         (length relocations.old / 24)) }
+    ensures clear { OnOk result (AreClear architecture relocations.old section.old
+        (map D.decision decisions.new) (length relocations.old / 24)) }
     ensures relocations { OnOk result (AreRelocationsAfter (map D.decision decisions.new)
         relocations.old relocations.new (length relocations.old / 24)) }
     ensures done { OnOk result (AreDone relocations.old (map D.decision decisions.new) section.old
@@ -370,6 +375,8 @@ pub fn rewrite_placed_section<D: AsDecision, L: FromDeletion>(
         (map D.decision decisions.new) (length relocations.old / 24)) }
     ensures apart { OnOk result (AreApart relocations.old (map D.decision decisions.new)
         (length relocations.old / 24)) }
+    ensures clear { OnOk result (AreClear architecture relocations.old section.old
+        (map D.decision decisions.new) (length relocations.old / 24)) }
     ensures within { OnOk result (AllCanBeMade relocations.old section.old
         (map D.decision decisions.new) (length relocations.old / 24)) }
     ensures relocations { OnOk result (AreRelocationsAfter (map D.decision decisions.new)

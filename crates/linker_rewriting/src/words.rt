@@ -7,6 +7,7 @@ ghost use Rattle.std.specs.Prelude.{drop, IfSome, IfErr, OnOk, OnErr, All, true}
 ghost use Rattle.linker_base.specs.Rewrite.{CanRewrite};
 ghost use Rattle.linker_rewriting.specs.Agreement.{Agree, IsContradiction};
 ghost use Rattle.linker_rewriting.specs.Candidates.{deletes_within};
+ghost use Rattle.linker_rewriting.specs.Decisions.{AreClear};
 ghost use Rattle.linker_rewriting.specs.Decisions.{CanBeMade, AllCanBeMade, AreApart};
 ghost use Rattle.linker_rewriting.specs.Facts.{setting};
 ghost use Rattle.linker_rewriting.specs.Inner.Settings.{setting_of};
@@ -23,6 +24,7 @@ ghost use Rattle.linker_utils.specs.Architectures.{relaxation_rewrite, relaxatio
 
 use crate::agreement::contradiction;
 use crate::candidates::candidate_by;
+use crate::covered::first_covered;
 use crate::decisions::{AsDecision, Decision, RewritingError, Subject, end_behind, span_of};
 use crate::facts::{OutputFacts, Setting, SymbolFacts, address_in, link_facts};
 use crate::labels::high_at;
@@ -359,9 +361,8 @@ fn decide_load(
     }
 }
 
-/// Decides what becomes of each relocation of a section and of its instruction, in the caller's
-/// memory. Nothing is rewritten.
-fn decide_loads<D: AsDecision>(
+/// The same as `decide_loads`, but relocations may be in the bytes of others.
+fn decide_each_load<D: AsDecision>(
     setting: &Setting<'_>,
     start: u64,
     words: &[u8],
@@ -413,6 +414,40 @@ fn decide_loads<D: AsDecision>(
     Ok(())
 }
 
+/// Decides what becomes of each relocation of a section and of its instruction, in the caller's
+/// memory. Nothing is rewritten.
+fn decide_loads<D: AsDecision>(
+    setting: &Setting<'_>,
+    start: u64,
+    words: &[u8],
+    kept: &[bool],
+    relocations: &[u8],
+    section: &[u8],
+    decisions: &mut [D],
+) -> Result<(), RewritingError>
+    ensures enough { OnOk result (length relocations.now / 24 ≤ length decisions.old) }
+    ensures decided { OnOk result (AreLoadsDecided (setting_of setting.now) start words.now kept.now
+        relocations.now section.now (map D.decision decisions.new) (length relocations.now / 24)) }
+    ensures made { OnOk result (AllCanBeMade relocations.now section.now
+        (map D.decision decisions.new) (length relocations.now / 24)) }
+    ensures apart { OnOk result (AreApart relocations.now (map D.decision decisions.new)
+        (length relocations.now / 24)) }
+    ensures clear { OnOk result (AreClear setting.now.architecture relocations.now section.now
+        (map D.decision decisions.new) (length relocations.now / 24)) }
+    ensures form { OnOk result
+        (All D.is_written (take (length relocations.now / 24) decisions.new)) }
+    ensures others_stay { drop (length relocations.now / 24) decisions.new
+        ≡ drop (length relocations.now / 24) decisions.old }
+    ensures rejected { IfErr result (AreLoadsRejected (setting_of setting.now) start words.now
+        kept.now relocations.now section.now (map D.decision decisions.new)) }
+{
+    decide_each_load(setting, start, words, kept, relocations, section, decisions)?;
+    match first_covered(setting.architecture, relocations, section, decisions) {
+        Some(index) => Err(RewritingError::Overlaps(index)),
+        None => Ok(()),
+    }
+}
+
 /// Has the instructions of a section of code compute the addresses that they load from the words of
 /// an object's section of addresses, and turns their relocations into those after it, once
 /// addresses are known. They are then of the symbol and the addend of the word's relocation
@@ -428,8 +463,9 @@ fn decide_loads<D: AsDecision>(
 /// The section and its relocations are as before. `TooShort`: there are more relocations than
 /// `decisions`. `NotSurveyed`: a load of a word that doesn't stay can't be rewritten; it never
 /// comes where the section was surveyed into the table with the same facts. `Overlaps`: the bytes
-/// of two rewrites overlap, or those of the second lie below those of the first. Before these
-/// `Contradiction`, as in `survey_address_loads`.
+/// of two rewrites overlap, or those of the second lie below those of the first; where none do, the
+/// field of the relocation with the index, the first such, has a byte that the rewrite of another
+/// one writes. Before these `Contradiction`, as in `survey_address_loads`.
 ///
 /// ```
 /// use linker_rewriting::decisions::Decision;
@@ -489,6 +525,8 @@ pub fn rewrite_address_loads<D: AsDecision>(
         (map D.decision decisions.new) (length relocations.old / 24)) }
     ensures apart { OnOk result (AreApart relocations.old (map D.decision decisions.new)
         (length relocations.old / 24)) }
+    ensures clear { OnOk result (AreClear architecture relocations.old section.old
+        (map D.decision decisions.new) (length relocations.old / 24)) }
     ensures relocations { OnOk result (AreRelocationsAfter (map D.decision decisions.new)
         relocations.old relocations.new (length relocations.old / 24)) }
     ensures done { OnOk result (AreDone relocations.old (map D.decision decisions.new) section.old

@@ -1,6 +1,7 @@
--- Rows whose values compose are of whole bytes.
-use Rattle.std.proofs.Common.{◌≡◌, ℕ, Bool, true, false, refl, sym, ap, ◌∙◌, Option, Some, None, not, subst, inl, inr, ◌||◌}
-use Rattle.std.proofs.lemmas.Bool.{not-true, or_cases}
+-- Rows whose values compose are of whole bytes, and fields have at most ten.
+use Rattle.std.proofs.Common.{◌≡◌, ℕ, ◌+◌, ◌≤◌, List, [], ◌∷◌, length, take, drop, Bool, true, false, refl, sym, ap, ◌∙◌, Option, Some, None, not, nat_le, nat_lt, subst, inl, inr, arith, ◌||◌}
+use Rattle.std.proofs.lemmas.Bool.{cases_Bool, leb-true, not-true, or_cases}
+use Rattle.std.proofs.lemmas.List.{length-take}
 use Rattle.linker_base.specs.declared.bit_misc.BitRange.{BitRange}
 use Rattle.linker_elf.specs.declared.elf.RelocationInstruction.{RelocationInstruction}
 use Rattle.linker_elf.specs.AArch64Relocations.{aarch64_name, aarch64_row}
@@ -27,8 +28,8 @@ use Rattle.linker_elf.specs.declared.x86_64.relocations.X86_64Relocation.{X86_64
 use Rattle.linker_elf.specs.declared.x86_64.relocations.X86_64Relocation.TheVariants as x86_64_names
 use Rattle.linker_section.proofs.Composing.{no}
 use Rattle.linker_section.proofs.Numbers.{is_word6}
-use Rattle.linker_section.specs.Fields.{changes_number, changes_bits, continues}
-use Rattle.linker_section.specs.Values.{has_value, is_auipc}
+use Rattle.linker_section.specs.Fields.{changes_number, changes_bits, continues, IsField, field_len, is_of_pair, uleb_len}
+use Rattle.linker_section.specs.Values.{has_value, is_auipc, offset_at}
 use Rattle.linker_utils.specs.Architectures.{IsOf, IsRow}
 use Rattle.linker_utils.specs.declared.elf.Architecture.{Architecture}
 use Rattle.linker_utils.specs.declared.elf.Architecture.TheVariants.{AArch64, RiscV, LoongArch64}
@@ -174,6 +175,65 @@ valued RiscV code row is = test_of riscv_name (λ name. (riscv_relocation name).
 valued LoongArch64 code row is = test_of loongarch_name loongarch_row code row is_valued_row valued_loongarch is
 valued Ppc64 code row is = test_of ppc64_name ppc64_row code row is_valued_row valued_ppc64 is
 valued X86_64 code row is = test_of x86_64_name x86_64_row code row is_valued_row valued_x86_64 is
+
+-- and none is longer than 8 bytes
+abbrev is_short_row : Option RelocationKindInfo → Bool
+is_short_row None = true
+is_short_row (Some row) = nat_le (window_len row) 8
+
+short_aarch64 : (name : AArch64Relocation) → is_short_row (aarch64_row name) ≡ true
+short_aarch64 (aarch64_names.Other code) = refl
+short_aarch64 _ = refl
+
+short_riscv : (name : RiscVRelocation) → is_short_row ((riscv_relocation name).row) ≡ true
+short_riscv (riscv_names.Other code) = refl
+short_riscv _ = refl
+
+short_loongarch : (name : LoongArch64Relocation) → is_short_row (loongarch_row name) ≡ true
+short_loongarch (loongarch_names.Other code) = refl
+short_loongarch _ = refl
+
+short_ppc64 : (name : Ppc64Relocation) → is_short_row (ppc64_row name) ≡ true
+short_ppc64 (ppc64_names.Other code) = refl
+short_ppc64 _ = refl
+
+short_x86_64 : (name : X86_64Relocation) → is_short_row (x86_64_row name) ≡ true
+short_x86_64 (x86_64_names.Other code) = refl
+short_x86_64 _ = refl
+
+short : (architecture : Architecture) (code : ℕ) (row : Option RelocationKindInfo)
+    → IsRow architecture code row → is_short_row row ≡ true
+short AArch64 code row is = test_of aarch64_name aarch64_row code row is_short_row short_aarch64 is
+short RiscV code row is = test_of riscv_name (λ name. (riscv_relocation name).row) code row is_short_row short_riscv is
+short LoongArch64 code row is = test_of loongarch_name loongarch_row code row is_short_row short_loongarch is
+short Ppc64 code row is = test_of ppc64_name ppc64_row code row is_short_row short_ppc64 is
+short X86_64 code row is = test_of x86_64_name x86_64_row code row is_short_row short_x86_64 is
+
+uleb_short : (bytes : List ℕ) → uleb_len bytes ≤ length bytes
+uleb_short [] = omega arith
+uleb_short (byte ∷ rest) =
+    let e = uleb_short rest in
+    elim (cases_Bool (nat_lt byte 0x80)) [
+      | inl is ↦ rw is (omega arith)
+      | inr is ↦ rw is (omega (arith, e))
+    ]
+
+-- a field has at most ten bytes
+pub field_short : (architecture : Architecture) (bytes section : List ℕ) (i : ℕ)
+    (row : RelocationKindInfo) → IsField architecture bytes section i row
+    → field_len row (drop (offset_at bytes i) section) ≤ 10
+field_short architecture bytes section i row is_field =
+    let here = drop (offset_at bytes i) section in
+    let s = leb-true (window_len row) 8 (short architecture _ (Some row) is_field.is_row) in
+    let u = uleb_short (take 10 here) in
+    let t = length-take 10 here in
+    elim (cases_Bool (has_value row.kind)) [
+      | inr isnt ↦ rw isnt (omega arith)
+      | inl is ↦ elim (cases_Bool (is_of_pair row)) [
+        | inl pair ↦ rw (is, pair) (omega (arith, u, t))
+        | inr alone ↦ rw (is, alone) (omega (arith, s))
+      ]
+    ]
 
 -- a size of whole bytes, as many as a field of another has
 size_of : (size : RelocationSize) (kind : RelocationKind) (n : ℕ) → is_sized size kind ≡ true

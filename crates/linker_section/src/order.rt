@@ -129,7 +129,7 @@ fn are_apart(
 }
 
 /// The field of the relocation at an index, if it has one.
-fn field_in(
+pub(crate) fn field_in(
     architecture: Architecture,
     relocations: &[u8],
     section: &[u8],

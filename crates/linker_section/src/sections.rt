@@ -4,7 +4,7 @@ ghost use Rattle.std.specs.Prelude.{◌≡◌, ◌≤◌, ◌<◌, ◌+◌, ◌/
 ghost use Rattle.std.specs.Prelude.{IfNone, OnOk, IsOk, take, true, ◌↔◌, Some, None};
 ghost use Rattle.linker_base.specs.Uleb.{Uleb};
 ghost use Rattle.linker_section.specs.Conditions.{HasLength, HoldsOffset};
-ghost use Rattle.linker_section.specs.Fields.{uleb_len, begins_pair};
+ghost use Rattle.linker_section.specs.Fields.{uleb_len, begins_pair, IsField, field_len};
 ghost use Rattle.linker_section.specs.Relocations.{relocation_in};
 ghost use Rattle.linker_section.specs.Sections.{IsWrittenAt, IsRowValue, IsNumberOfPair};
 ghost use Rattle.linker_section.specs.Sections.{IsNumberWrittenAt, AreAllRelocated};
@@ -23,7 +23,7 @@ use crate::codes::number_of;
 use crate::conditions::{has_length, has_offset, is_filled, is_in_reach, lacks_stub};
 use crate::facts::{Addresses, Symbol};
 use crate::fields::{Field, begins_pair, ends_pair, is_of_pair, uleb_len};
-use crate::order::first_overlap;
+use crate::order::{field_in, first_overlap};
 use crate::relocations::{Rela, is_ascending, relocation_in, relocations_len};
 use crate::saved::{restore, word_at};
 use crate::values::{ValueError, value_of};
@@ -193,6 +193,28 @@ pub(crate) fn field_at(row: &Row, offset: u64, section: &[u8]) -> Field
         offset,
         len,
         kind: info.kind,
+    }
+}
+
+/// How many bytes of a section the relocation at an index writes, of at most ten: those of its row,
+/// or as many as the ULEB128 number has that it is at. None are of a relocation whose code has no
+/// row, or that has no value, as marks.
+pub fn field_len(
+    architecture: Architecture,
+    relocations: &[u8],
+    section: &[u8],
+    index: usize,
+) -> usize
+    requires { index < length relocations.now / 24 }
+    ensures len { (row : RelocationKindInfo)
+        → IsField architecture relocations.now section.now index row
+        → result ≡ field_len row (drop (offset_at relocations.now index) section.now) }
+    ensures some { 0 < result → (row : RelocationKindInfo)
+        × IsField architecture relocations.now section.now index row }
+{
+    match field_in(architecture, relocations, section, index) {
+        Some(field) => field.len,
+        None => 0,
     }
 }
 

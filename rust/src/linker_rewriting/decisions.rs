@@ -5,6 +5,7 @@
 use crate::linker_rewriting::calls::keeps_call;
 use crate::linker_rewriting::candidates::candidate;
 use crate::linker_rewriting::codes::{bit_of, is_listed, lists_any, table_of};
+use crate::linker_rewriting::covered::first_covered;
 use crate::linker_rewriting::facts::{OutputFacts, Setting, SymbolFacts};
 use crate::linker_rewriting::groups::{KeptGroups, Scope, group_stays, scope_in};
 use crate::linker_rewriting::labels::{high_of, is_note, label_candidate, note_labels, set_all};
@@ -89,7 +90,8 @@ pub enum RewritingError {
     /// section was surveyed with other facts, or not at all.
     NotSurveyed(usize),
     /// Bytes that would be rewritten or deleted at the relocation with this index are also
-    /// rewritten or deleted at one before it, or lie below such bytes.
+    /// rewritten or deleted at one before it, or lie below such bytes; or its field, where no
+    /// rewrite takes it along, has a byte that the rewrite at another one writes or deletes.
     Overlaps(usize),
     /// The tables of facts and of addresses contradict each other about the symbol with this index:
     /// it is local, and undefined and weak, or `other` isn't the same in both. That a thread-local
@@ -307,9 +309,8 @@ pub(crate) fn end_behind(start: u64, own: u64, end: u64) -> Option<u64> {
     Some(own)
 }
 
-/// Decides what becomes of each relocation of a section and of its instruction, in the caller's
-/// memory. Nothing is rewritten. False if all stay as they are by their codes.
-pub(crate) fn decide_section<D: AsDecision>(
+/// The same as `decide_section`, but relocations may be in the bytes of others.
+fn decide_each<D: AsDecision>(
     setting: &Setting<'_>,
     kept: &[KeptGroups],
     relocations: &[u8],
@@ -366,4 +367,23 @@ pub(crate) fn decide_section<D: AsDecision>(
         decisions[index] = D::from_decision(decision);
     }
     Ok(true)
+}
+
+/// Decides what becomes of each relocation of a section and of its instruction, in the caller's
+/// memory. Nothing is rewritten. False if all stay as they are by their codes.
+pub(crate) fn decide_section<D: AsDecision>(
+    setting: &Setting<'_>,
+    kept: &[KeptGroups],
+    relocations: &[u8],
+    section: &[u8],
+    decisions: &mut [D],
+) -> Result<bool, RewritingError> {
+    let changes = decide_each(setting, kept, relocations, section, decisions)?;
+    if !changes {
+        return Ok(false);
+    }
+    match first_covered(setting.architecture, relocations, section, decisions) {
+        Some(index) => Err(RewritingError::Overlaps(index)),
+        None => Ok(true),
+    }
 }

@@ -4,6 +4,7 @@
 //! `auipc`: each low part takes x3 or x0 as its base, all of a symbol or none.
 
 use crate::linker_rewriting::agreement::contradiction;
+use crate::linker_rewriting::covered::first_covered;
 use crate::linker_rewriting::decisions::{AsDecision, Decision, FromDeletion, RewritingError, end_behind};
 use crate::linker_rewriting::facts::{OutputFacts, Setting, SymbolFacts, address_in};
 use crate::linker_rewriting::labels::{high_at, is_beyond};
@@ -479,8 +480,8 @@ fn part_end(decision: &Decision, offset: u64) -> u64 {
     }
 }
 
-/// Decides what becomes of each relocation of a section, in the caller's memory.
-fn decide_parts<D: AsDecision>(
+/// The same as `decide_parts`, but relocations may be in the bytes of others.
+fn decide_each_part<D: AsDecision>(
     setting: &Setting<'_>,
     gp: u64,
     kept: &[bool],
@@ -516,6 +517,22 @@ fn decide_parts<D: AsDecision>(
         decisions[index] = D::from_decision(decision);
     }
     Ok(())
+}
+
+/// Decides what becomes of each relocation of a section, in the caller's memory.
+fn decide_parts<D: AsDecision>(
+    setting: &Setting<'_>,
+    gp: u64,
+    kept: &[bool],
+    relocations: &[u8],
+    section: &[u8],
+    decisions: &mut [D],
+) -> Result<(), RewritingError> {
+    decide_each_part(setting, gp, kept, relocations, section, decisions)?;
+    match first_covered(setting.architecture, relocations, section, decisions) {
+        Some(index) => Err(RewritingError::Overlaps(index)),
+        None => Ok(()),
+    }
 }
 
 /// A relocation after what became of it, where no bytes are rewritten.
@@ -573,7 +590,8 @@ fn turn_all<D: AsDecision>(decisions: &[D], relocations: &mut [u8]) {
 /// `deleted` has less room than there are deletions. `NotSurveyed`: a relocation of a symbol that
 /// doesn't stay can't be rewritten; it never comes where the section was surveyed into the table
 /// with the same facts. `Overlaps`: the instruction of the relocation with the index overlaps one
-/// of a relocation before it that is rewritten too.
+/// of a relocation before it that is rewritten too; where none do, its field is the first that has a
+/// byte of another one's `lui` or `auipc` that goes.
 ///
 /// ```
 /// use linker_utils::rewriting::Decision;

@@ -87,7 +87,9 @@ fn make_changes<D: AsDecision>(
 /// `decisions`. `NotSurveyed`: a relocation of a group that doesn't stay has no rewrite; it never
 /// comes where the section was surveyed into the table with the same facts. `Overlaps`: the bytes
 /// of two rewrites overlap, or those of the second lie below those of the first, so the relocations
-/// of instructions that can be rewritten have to ascend by offset.
+/// of instructions that can be rewritten have to ascend by offset. Where no other error is, it is of
+/// the first relocation whose field has a byte that the rewrite of another one changes, and which
+/// that rewrite doesn't take along. All other relocations may be in any order.
 ///
 /// ```
 /// use linker_utils::rewriting::Decision;

@@ -6,6 +6,7 @@
 
 use crate::linker_rewriting::agreement::contradiction;
 use crate::linker_rewriting::candidates::candidate_by;
+use crate::linker_rewriting::covered::first_covered;
 use crate::linker_rewriting::decisions::{AsDecision, Decision, RewritingError, Subject, end_behind, span_of};
 use crate::linker_rewriting::facts::{OutputFacts, Setting, SymbolFacts, address_in, link_facts};
 use crate::linker_rewriting::labels::high_at;
@@ -297,9 +298,8 @@ fn decide_load(
     }
 }
 
-/// Decides what becomes of each relocation of a section and of its instruction, in the caller's
-/// memory. Nothing is rewritten.
-fn decide_loads<D: AsDecision>(
+/// The same as `decide_loads`, but relocations may be in the bytes of others.
+fn decide_each_load<D: AsDecision>(
     setting: &Setting<'_>,
     start: u64,
     words: &[u8],
@@ -337,6 +337,24 @@ fn decide_loads<D: AsDecision>(
     Ok(())
 }
 
+/// Decides what becomes of each relocation of a section and of its instruction, in the caller's
+/// memory. Nothing is rewritten.
+fn decide_loads<D: AsDecision>(
+    setting: &Setting<'_>,
+    start: u64,
+    words: &[u8],
+    kept: &[bool],
+    relocations: &[u8],
+    section: &[u8],
+    decisions: &mut [D],
+) -> Result<(), RewritingError> {
+    decide_each_load(setting, start, words, kept, relocations, section, decisions)?;
+    match first_covered(setting.architecture, relocations, section, decisions) {
+        Some(index) => Err(RewritingError::Overlaps(index)),
+        None => Ok(()),
+    }
+}
+
 /// Has the instructions of a section of code compute the addresses that they load from the words of
 /// an object's section of addresses, and turns their relocations into those after it, once
 /// addresses are known. They are then of the symbol and the addend of the word's relocation
@@ -352,8 +370,9 @@ fn decide_loads<D: AsDecision>(
 /// The section and its relocations are as before. `TooShort`: there are more relocations than
 /// `decisions`. `NotSurveyed`: a load of a word that doesn't stay can't be rewritten; it never
 /// comes where the section was surveyed into the table with the same facts. `Overlaps`: the bytes
-/// of two rewrites overlap, or those of the second lie below those of the first. Before these
-/// `Contradiction`, as in `survey_address_loads`.
+/// of two rewrites overlap, or those of the second lie below those of the first; where none do, the
+/// field of the relocation with the index, the first such, has a byte that the rewrite of another
+/// one writes. Before these `Contradiction`, as in `survey_address_loads`.
 ///
 /// ```
 /// use linker_utils::rewriting::Decision;

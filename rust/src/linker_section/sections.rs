@@ -7,7 +7,7 @@ use crate::linker_section::codes::number_of;
 use crate::linker_section::conditions::{has_length, has_offset, is_filled, is_in_reach, lacks_stub};
 use crate::linker_section::facts::{Addresses, Symbol};
 use crate::linker_section::fields::{Field, begins_pair, ends_pair, is_of_pair, uleb_len};
-use crate::linker_section::order::first_overlap;
+use crate::linker_section::order::{field_in, first_overlap};
 use crate::linker_section::relocations::{Rela, is_ascending, relocation_in, relocations_len};
 use crate::linker_section::saved::{restore, word_at};
 use crate::linker_section::values::{ValueError, value_of};
@@ -156,6 +156,28 @@ pub(crate) fn field_at(row: &Row, offset: u64, section: &[u8]) -> Field {
         offset,
         len,
         kind: info.kind,
+    }
+}
+
+/// How many bytes of a section the relocation at an index writes, of at most ten: those of its row,
+/// or as many as the ULEB128 number has that it is at. None are of a relocation whose code has no
+/// row, or that has no value, as marks.
+///
+/// # Requires
+///
+/// - `index < memory_len(relocations)`
+#[must_use]
+#[cfg_attr(debug_assertions, track_caller)]
+pub fn field_len(
+    architecture: Architecture,
+    relocations: &[u8],
+    section: &[u8],
+    index: usize,
+) -> usize {
+    debug_assert!(index < memory_len(relocations));
+    match field_in(architecture, relocations, section, index) {
+        Some(field) => field.len,
+        None => 0,
     }
 }
 

@@ -2,7 +2,7 @@ use Rattle.std.proofs.Common.{◌≡◌, ◌/◌, length, map, take, drop}
 use Rattle.std.specs.Prelude.{All}
 use Rattle.linker_rewriting.specs.Inner.Settings.{setting_of}
 use Rattle.linker_rewriting.proofs.LoadsDecided.{AreLoadsDecidedTo}
-use Rattle.linker_rewriting.proofs.words.decide_loads.Given as goal
+use Rattle.linker_rewriting.proofs.words.decide_each_load.Given as goal
 
 abbrev pub invariant-loop-index : goal.invariant-loop-index
 invariant-loop-index g l = record {

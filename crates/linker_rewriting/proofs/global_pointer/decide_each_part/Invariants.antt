@@ -4,7 +4,7 @@ use Rattle.linker_rewriting.proofs.GlobalPointer.{ArePartsApartTo}
 use Rattle.linker_rewriting.specs.Decisions.{AllCanBeMade}
 use Rattle.linker_rewriting.specs.Inner.Settings.{setting_of}
 use Rattle.linker_rewriting.specs.GlobalPointer.{ArePartsDecided}
-use Rattle.linker_rewriting.proofs.global_pointer.decide_parts.Given as goal
+use Rattle.linker_rewriting.proofs.global_pointer.decide_each_part.Given as goal
 
 abbrev pub invariant-loop-index : goal.invariant-loop-index
 invariant-loop-index g l = record {

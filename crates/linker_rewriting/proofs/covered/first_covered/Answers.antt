@@ -1,0 +1,104 @@
+use Rattle.std.proofs.Common.{◌≡◌, ◌<◌, ◌≤◌, ◌/◌, length, map, ap, subst, arith}
+use Rattle.linker_rewriting.proofs.Places.{are_bounded, at_most, clear_at, covered_at}
+use Rattle.linker_rewriting.specs.Decisions.{IsCovered, end_at}
+use Rattle.linker_rewriting.specs.Inner.Places.{IsPlaceBeside}
+use Rattle.linker_section.specs.Values.{offset_at}
+use Rattle.linker_rewriting.proofs.covered.first_covered.Goals as goal
+use borrow.Author.Count.{below_more}
+
+pub loop-index-preserved-then-not-reaches : goal.loop-index-preserved-then-not-reaches
+loop-index-preserved-then-not-reaches g c =
+    let a = c.args in
+    let k = c.loop-index.index in
+    let bytes = a.relocations.now in
+    let ds = map g.D.AsDecision.decision a.decisions.now in
+    let limit = length bytes / 24 in
+    let place = c.loop-index.place in
+    let is = c.loop-index.invariant.place in
+    record {
+      clear = below_more (λ n. IsCovered a.architecture bytes a.section.now ds limit n → ⊥) k
+          c.loop-index.invariant.clear
+          (clear_at a.architecture bytes a.section.now ds limit k place.at place.above
+          (λ m before _ some. at_most (end_at bytes ds m) place.below c.relocation_in-offset.result.offset (offset_at bytes k)
+          (is.below m before some) c.if-place-offset.true (ap (λ r. r.offset) c.relocation_in-offset.ensures))
+          is.above (λ _ row is_field. c.reaches.ensures.no c.if-not-reaches.true row is_field));
+      place = is;
+    }
+
+pub loop-index-preserved-then-is_taken : goal.loop-index-preserved-then-is_taken
+loop-index-preserved-then-is_taken g c =
+    let a = c.args in
+    let ds = map g.D.AsDecision.decision a.decisions.now in
+    record {
+      clear = below_more (λ n. IsCovered a.architecture a.relocations.now a.section.now ds (length a.relocations.now / 24) n → ⊥) c.loop-index.index
+          c.loop-index.invariant.clear (λ covered. covered.untaken (c.is_taken.ensures.yes c.if-is_taken.true));
+      place = c.loop-index.invariant.place;
+    }
+
+pub place_beside-place-requires-clause-bounded : goal.place_beside-place-requires-clause-bounded
+place_beside-place-requires-clause-bounded g c =
+    let a = c.args in
+    are_bounded a.relocations.now a.section.now (map g.D.AsDecision.decision a.decisions.now)
+    (length a.relocations.now / 24) (omega arith) c.requires.made
+
+pub loop-index-preserved-then-place-count : goal.loop-index-preserved-then-place-count
+loop-index-preserved-then-place-count g c =
+    let a = c.args in
+    let k = c.loop-index.index in
+    let bytes = a.relocations.now in
+    let ds = map g.D.AsDecision.decision a.decisions.now in
+    let limit = length bytes / 24 in
+    let place = c.place_beside-place.result in
+    let beside = subst (λ r. IsPlaceBeside bytes ds limit k r.offset place) c.relocation_in-offset.ensures c.place_beside-place.ensures in
+    let end = c.if-place-count.true in
+    let e = c.relocations_len-count.ensures in
+    record {
+      clear = below_more (λ n. IsCovered a.architecture bytes a.section.now ds limit n → ⊥) k
+          c.loop-index.invariant.clear
+          (clear_at a.architecture bytes a.section.now ds limit k place.at place.above beside.passed beside.is_place.above
+          (λ less _ _. absurd (omega (arith, less, end, e))));
+      place = beside.is_place;
+    }
+
+pub returns-then-is_covered : goal.returns-then-is_covered
+returns-then-is_covered g c =
+    let a = c.args in
+    let k = c.loop-index.index in
+    let bytes = a.relocations.now in
+    let ds = map g.D.AsDecision.decision a.decisions.now in
+    let limit = length bytes / 24 in
+    let place = c.place_beside-place.result in
+    let beside = subst (λ r. IsPlaceBeside bytes ds limit k r.offset place) c.relocation_in-offset.ensures c.place_beside-place.ensures in
+    let e = c.relocations_len-count.ensures in
+    let t = c.loop-index-test.true in
+    let w = beside.is_place.within in
+    let over = c.if-place-count.false in
+    let covered = c.reaches-is_covered.ensures.yes c.if-is_covered.true in (
+      omega (arith, t, e),
+      covered_at a.architecture bytes a.section.now ds limit k place (covered.0) beside (omega (arith, w, over, e))
+          (c.is_taken.ensures.no c.if-is_taken.false) (covered.1) (covered.2),
+      c.loop-index.invariant.clear,
+    )
+
+pub loop-index-preserved : goal.loop-index-preserved
+loop-index-preserved g c =
+    let a = c.args in
+    let k = c.loop-index.index in
+    let bytes = a.relocations.now in
+    let ds = map g.D.AsDecision.decision a.decisions.now in
+    let limit = length bytes / 24 in
+    let place = c.place_beside-place.result in
+    let beside = subst (λ r. IsPlaceBeside bytes ds limit k r.offset place) c.relocation_in-offset.ensures c.place_beside-place.ensures in
+    record {
+      clear = below_more (λ n. IsCovered a.architecture bytes a.section.now ds limit n → ⊥) k
+          c.loop-index.invariant.clear
+          (clear_at a.architecture bytes a.section.now ds limit k place.at place.above beside.passed beside.is_place.above
+          (λ _ row is_field. c.reaches-is_covered.ensures.no c.if-is_covered.false row is_field));
+      place = beside.is_place;
+    }
+
+pub returns : goal.returns
+returns g c n less =
+    let t = c.loop-index-test.false in
+    let e = c.relocations_len-count.ensures in
+    c.loop-index.invariant.clear n (omega (arith, t, e, less))

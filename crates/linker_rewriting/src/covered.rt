@@ -1,0 +1,228 @@
+//! Relocations that no rewrite takes along, in the bytes that one writes or deletes.
+
+ghost use Rattle.std.specs.Prelude.{◌≡◌, ◌≢◌, ◌<◌, ◌≤◌, ◌/◌, length, map, true, false};
+ghost use Rattle.linker_elf.specs.declared.elf.RelocationKindInfo.{RelocationKindInfo};
+ghost use Rattle.linker_rewriting.specs.Decisions.{AllCanBeMade, AreApart, IsFirstCovered};
+ghost use Rattle.linker_rewriting.specs.Decisions.{decision_at, start_at, end_at};
+ghost use Rattle.linker_rewriting.specs.Inner.Places.{IsBounded, AreBounded, AreBelow, IsPlace};
+ghost use Rattle.linker_rewriting.specs.Inner.Places.{IsPlaceBeside};
+ghost use Rattle.linker_section.specs.Fields.{IsField, field_end};
+
+use crate::decisions::{AsDecision, Decision, span_of};
+use crate::relocations::relocation_in;
+use linker_section::relocations::relocations_len;
+use linker_section::sections::field_len;
+use linker_utils::elf::Architecture;
+
+/// The most bytes of a field.
+const LONGEST: u64 = 10;
+
+/// A place among decisions of which some write or delete bytes.
+#[derive(Clone, Copy)]
+struct Place {
+    /// The index of the first decision after it.
+    at: usize,
+    /// Where the bytes of those before it end, or after that.
+    below: u64,
+    /// Where the bytes of those after it begin, or before that.
+    above: u64,
+}
+
+/// Where the bytes begin and end that the decision with an index writes or deletes.
+#[inline(always)]
+fn span_at<D: AsDecision>(relocations: &[u8], decisions: &[D], index: usize) -> (u64, u64)
+    requires within { index < length relocations.now / 24 }
+    requires enough { length relocations.now / 24 ≤ length decisions.now }
+    requires bounded { IsBounded relocations.now (map D.decision decisions.now) index }
+    ensures { result ≡ (start_at relocations.now (map D.decision decisions.now) index,
+        end_at relocations.now (map D.decision decisions.now) index) }
+{
+    span_of(
+        &decisions[index].as_decision(),
+        relocation_in(relocations, index).offset,
+    )
+}
+
+/// An index that is no more than another, below which all bytes end at or below an offset.
+fn place_before<D: AsDecision>(
+    relocations: &[u8],
+    decisions: &[D],
+    offset: u64,
+    from: usize,
+) -> usize
+    requires within { from ≤ length relocations.now / 24 }
+    requires enough { length relocations.now / 24 ≤ length decisions.now }
+    requires bounded { AreBounded relocations.now (map D.decision decisions.now)
+        (length relocations.now / 24) }
+    requires apart { AreApart relocations.now (map D.decision decisions.now)
+        (length relocations.now / 24) }
+    ensures within { result ≤ from }
+    ensures below { AreBelow relocations.now (map D.decision decisions.now) result offset }
+{
+    let mut at = from;
+    while at > 0 {
+        let (start, end) = span_at(relocations, decisions, at - 1);
+        if start < end && end <= offset {
+            return at;
+        }
+        at -= 1;
+    }
+    0
+}
+
+/// The place, from an index on, before the first bytes that end after an offset, beside those of
+/// the decision with another index. Those before it end at or below that offset, and `below`.
+fn place_from<D: AsDecision>(
+    relocations: &[u8],
+    decisions: &[D],
+    index: usize,
+    offset: u64,
+    from: usize,
+    below: u64,
+) -> Place
+    requires within { from ≤ length relocations.now / 24 }
+    requires enough { length relocations.now / 24 ≤ length decisions.now }
+    requires bounded { AreBounded relocations.now (map D.decision decisions.now)
+        (length relocations.now / 24) }
+    requires apart { AreApart relocations.now (map D.decision decisions.now)
+        (length relocations.now / 24) }
+    requires below { AreBelow relocations.now (map D.decision decisions.now) from below }
+    requires low { below ≤ offset }
+    ensures { IsPlaceBeside relocations.now (map D.decision decisions.now)
+        (length relocations.now / 24) index offset result }
+{
+    let len = relocations_len(relocations);
+    let mut below = below;
+    for at in from..len {
+        let (start, end) = span_at(relocations, decisions, at);
+        if end <= start {
+            continue;
+        }
+        if at == index {
+            below = end;
+            continue;
+        }
+        if offset < end {
+            return Place {
+                at,
+                below,
+                above: start,
+            };
+        }
+        below = end;
+    }
+    Place {
+        at: len,
+        below,
+        above: u64::MAX,
+    }
+}
+
+/// The same, from any place on. What is before it is passed again only where it ends after the
+/// offset.
+#[inline(always)]
+fn place_beside<D: AsDecision>(
+    relocations: &[u8],
+    decisions: &[D],
+    index: usize,
+    offset: u64,
+    place: Place,
+) -> Place
+    requires enough { length relocations.now / 24 ≤ length decisions.now }
+    requires bounded { AreBounded relocations.now (map D.decision decisions.now)
+        (length relocations.now / 24) }
+    requires apart { AreApart relocations.now (map D.decision decisions.now)
+        (length relocations.now / 24) }
+    requires place { IsPlace relocations.now (map D.decision decisions.now)
+        (length relocations.now / 24) place }
+    ensures { IsPlaceBeside relocations.now (map D.decision decisions.now)
+        (length relocations.now / 24) index offset result }
+{
+    if place.below <= offset {
+        return place_from(relocations, decisions, index, offset, place.at, place.below);
+    }
+    let from = place_before(relocations, decisions, offset, place.at);
+    place_from(relocations, decisions, index, offset, from, offset)
+}
+
+/// Whether the field of the relocation at an index ends after a start.
+#[inline(always)]
+fn reaches(
+    architecture: Architecture,
+    relocations: &[u8],
+    section: &[u8],
+    index: usize,
+    start: u64,
+) -> bool
+    requires { index < length relocations.now / 24 }
+    ensures no { result ≡ false → (row : RelocationKindInfo)
+        → IsField architecture relocations.now section.now index row
+        → field_end relocations.now section.now index row ≤ start }
+    ensures yes { result ≡ true → (row : RelocationKindInfo)
+        × IsField architecture relocations.now section.now index row
+        × (start < field_end relocations.now section.now index row) }
+{
+    let distance = start.saturating_sub(relocation_in(relocations, index).offset);
+    if distance >= LONGEST {
+        return false;
+    }
+    distance < field_len(architecture, relocations, section, index) as u64
+}
+
+/// Whether a rewrite takes along the relocation with an index.
+#[inline(always)]
+fn is_taken<D: AsDecision>(decisions: &[D], index: usize) -> bool
+    requires { index < length decisions.now }
+    ensures yes { result ≡ true
+        → decision_at (map D.decision decisions.now) index ≡ Decision.TakenAlong }
+    ensures no { result ≡ false
+        → decision_at (map D.decision decisions.now) index ≢ Decision.TakenAlong }
+{
+    matches!(decisions[index].as_decision(), Decision::TakenAlong)
+}
+
+/// The first relocation that no rewrite takes along and whose field has a byte that the decision of
+/// another one writes or deletes. The bytes of decisions ascend, and where relocations do too each
+/// decision is passed once. Else those are passed again that are between the place of a relocation
+/// and the place of the one before it.
+pub(crate) fn first_covered<D: AsDecision>(
+    architecture: Architecture,
+    relocations: &[u8],
+    section: &[u8],
+    decisions: &[D],
+) -> Option<usize>
+    requires enough { length relocations.now / 24 ≤ length decisions.now }
+    requires made { AllCanBeMade relocations.now section.now (map D.decision decisions.now)
+        (length relocations.now / 24) }
+    requires apart { AreApart relocations.now (map D.decision decisions.now)
+        (length relocations.now / 24) }
+    ensures { IsFirstCovered architecture relocations.now section.now
+        (map D.decision decisions.now) (length relocations.now / 24) result }
+{
+    let count = relocations_len(relocations);
+    let mut place = Place {
+        at: 0,
+        below: 0,
+        above: 0,
+    };
+    for index in 0..count {
+        let offset = relocation_in(relocations, index).offset;
+        if place.below <= offset
+            && !reaches(architecture, relocations, section, index, place.above)
+        {
+            continue;
+        }
+        if is_taken(decisions, index) {
+            continue;
+        }
+        place = place_beside(relocations, decisions, index, offset, place);
+        if place.at == count {
+            continue;
+        }
+        let is_covered = reaches(architecture, relocations, section, index, place.above);
+        if is_covered {
+            return Some(index);
+        }
+    }
+    None
+}

@@ -1,0 +1,164 @@
+// SPDX-License-Identifier: MIT OR Apache-2.0
+// Made by tools/erase of crates/linker_rewriting/src/covered.rt.
+//! Relocations that no rewrite takes along, in the bytes that one writes or deletes.
+
+use crate::linker_rewriting::decisions::{AsDecision, Decision, span_of};
+use crate::linker_rewriting::relocations::relocation_in;
+use crate::linker_section::relocations::relocations_len;
+use crate::linker_section::sections::field_len;
+use crate::elf::Architecture;
+
+/// The most bytes of a field.
+const LONGEST: u64 = 10;
+
+/// A place among decisions of which some write or delete bytes.
+#[derive(Clone, Copy)]
+struct Place {
+    /// The index of the first decision after it.
+    at: usize,
+    /// Where the bytes of those before it end, or after that.
+    below: u64,
+    /// Where the bytes of those after it begin, or before that.
+    above: u64,
+}
+
+/// Where the bytes begin and end that the decision with an index writes or deletes.
+#[inline(always)]
+fn span_at<D: AsDecision>(relocations: &[u8], decisions: &[D], index: usize) -> (u64, u64) {
+    span_of(
+        &decisions[index].as_decision(),
+        relocation_in(relocations, index).offset,
+    )
+}
+
+/// An index that is no more than another, below which all bytes end at or below an offset.
+fn place_before<D: AsDecision>(
+    relocations: &[u8],
+    decisions: &[D],
+    offset: u64,
+    from: usize,
+) -> usize {
+    let mut at = from;
+    while at > 0 {
+        let (start, end) = span_at(relocations, decisions, at - 1);
+        if start < end && end <= offset {
+            return at;
+        }
+        at -= 1;
+    }
+    0
+}
+
+/// The place, from an index on, before the first bytes that end after an offset, beside those of
+/// the decision with another index. Those before it end at or below that offset, and `below`.
+fn place_from<D: AsDecision>(
+    relocations: &[u8],
+    decisions: &[D],
+    index: usize,
+    offset: u64,
+    from: usize,
+    below: u64,
+) -> Place {
+    let len = relocations_len(relocations);
+    let mut below = below;
+    for at in from..len {
+        let (start, end) = span_at(relocations, decisions, at);
+        if end <= start {
+            continue;
+        }
+        if at == index {
+            below = end;
+            continue;
+        }
+        if offset < end {
+            return Place {
+                at,
+                below,
+                above: start,
+            };
+        }
+        below = end;
+    }
+    Place {
+        at: len,
+        below,
+        above: u64::MAX,
+    }
+}
+
+/// The same, from any place on. What is before it is passed again only where it ends after the
+/// offset.
+#[inline(always)]
+fn place_beside<D: AsDecision>(
+    relocations: &[u8],
+    decisions: &[D],
+    index: usize,
+    offset: u64,
+    place: Place,
+) -> Place {
+    if place.below <= offset {
+        return place_from(relocations, decisions, index, offset, place.at, place.below);
+    }
+    let from = place_before(relocations, decisions, offset, place.at);
+    place_from(relocations, decisions, index, offset, from, offset)
+}
+
+/// Whether the field of the relocation at an index ends after a start.
+#[inline(always)]
+fn reaches(
+    architecture: Architecture,
+    relocations: &[u8],
+    section: &[u8],
+    index: usize,
+    start: u64,
+) -> bool {
+    let distance = start.saturating_sub(relocation_in(relocations, index).offset);
+    if distance >= LONGEST {
+        return false;
+    }
+    distance < field_len(architecture, relocations, section, index) as u64
+}
+
+/// Whether a rewrite takes along the relocation with an index.
+#[inline(always)]
+fn is_taken<D: AsDecision>(decisions: &[D], index: usize) -> bool {
+    matches!(decisions[index].as_decision(), Decision::TakenAlong)
+}
+
+/// The first relocation that no rewrite takes along and whose field has a byte that the decision of
+/// another one writes or deletes. The bytes of decisions ascend, and where relocations do too each
+/// decision is passed once. Else those are passed again that are between the place of a relocation
+/// and the place of the one before it.
+pub(crate) fn first_covered<D: AsDecision>(
+    architecture: Architecture,
+    relocations: &[u8],
+    section: &[u8],
+    decisions: &[D],
+) -> Option<usize> {
+    let count = relocations_len(relocations);
+    let mut place = Place {
+        at: 0,
+        below: 0,
+        above: 0,
+    };
+    for index in 0..count {
+        let offset = relocation_in(relocations, index).offset;
+        if place.below <= offset
+            && !reaches(architecture, relocations, section, index, place.above)
+        {
+            continue;
+        }
+        if is_taken(decisions, index) {
+            continue;
+        }
+        place = place_beside(relocations, decisions, index, offset, place);
+        if place.at == count {
+            continue;
+        }
+        let is_covered = reaches(architecture, relocations, section, index, place.above);
+        if is_covered {
+            return Some(index);
+        }
+    }
+    None
+}
