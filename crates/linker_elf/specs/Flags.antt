@@ -1,17 +1,8 @@
 -- What a relocation requires of a linker before addresses are known, and how its value is found, as
--- one number, in terms of its row's kind and size. `linker_section` proves of each row that these are
--- what its `Needed` and `Values` say.
---
--- Bits 0 to 2 are the class of the entry of the GOT: the number of an `EntryClass` of
--- `linker_section`, 5 for no entry, and 6 for `ModuleOffset` where the symbol is thread-local and
--- `Address` where it isn't. Bit 3 is set where the entry's addend is the relocation's, and without an
--- entry where a stub is made only for a symbol that the output doesn't define. Bit 4 is set where the
--- value goes into a branch, bit 5 where a stub may serve, bit 6 of a word of 8 bytes with S + A, and
--- bit 7 where the value depends on the load address. Bits 8 and 9 are the way to the value: 1 where
--- its formula has the address of the symbol or of its stub, of its entry, or what offsets in the
--- module's TLS block count from; 2 of such a high part of RISC-V, 3 of its low parts, 0 of any other.
+-- one number, by its row's kind and size. `linker_section` proves of each row that its flags say what
+-- `Needed` and `Values` there do.
 use Rattle.std.specs.Prelude.{ℕ, ◌+◌, ◌*◌, ◌==◌, ◌||◌, nat_lt, if◌then◌else◌, Option, Some, None}
-use Rattle.linker_elf.specs.Entries.{is_branch, is_of_high_part}
+use Rattle.linker_elf.specs.Entries.{is_branch}
 use Rattle.linker_elf.specs.Inner.Entries.{names_got_entry, names_plt_entry}
 use Rattle.linker_elf.specs.declared.aarch64.forms.AArch64Instruction.TheVariants.{TstBr, Bcond}
 use Rattle.linker_elf.specs.declared.elf.RelocationInstruction.TheVariants.{RiscV, Ppc64}
@@ -112,6 +103,14 @@ way_of (BitMasking bits (RiscV UType)) kinds.GotTpOff = 512
 way_of (BitMasking bits (RiscV UType)) kinds.TlsGd = 512
 way_of size kind = 256
 
+-- Bits 0 to 2 are the class of the entry of the GOT: the number of an `EntryClass`, 5 for no entry,
+-- and 6 for `ModuleOffset` where the symbol is thread-local and `Address` where it isn't. Bit 3 is
+-- set where the entry's addend is the relocation's, and without an entry where a stub is made only
+-- for a symbol that the output doesn't define. Bit 4 is set where the value goes into a branch, bit 5
+-- where a stub may serve, bit 6 of a word of 8 bytes with S + A, and bit 7 where the value depends on
+-- the load address. Bits 8 and 9 are the way to the value: 1 where its formula has the address of the
+-- symbol or of its stub, of its entry, or what offsets in the module's TLS block count from, 2 of
+-- such a high part of RISC-V, 3 of its low parts, and 0 of any other.
 abbrev pub flags_of : RelocationKindInfo → ℕ
 flags_of row =
     entry_of row.size row.kind + bound_of row.size + target_of row.size row.kind
