@@ -76,6 +76,12 @@ macro_rules! row_of {
     };
 }
 
+macro_rules! row_flags_of {
+    ($module:ident $names:ident $of:ident ($code:expr)) => {
+        crate::linker_elf::$module::row_flags($names::from_elf($code))
+    };
+}
+
 macro_rules! text_of {
     ($module:ident $names:ident $of:ident ($code:expr)) => {
         match $names::from_elf($code) {
@@ -281,6 +287,14 @@ impl Architecture {
     #[inline(always)]
     pub const fn row(self, code: u32) -> Option<Row> {
         by_architecture!(self, row_of(code))
+    }
+
+    /// What the relocation with a code requires of a linker and how its value is found, in bits that
+    /// `linker_section` reads. 7 of a code without a row.
+    #[must_use]
+    #[inline(always)]
+    pub const fn row_flags(self, code: u32) -> u16 {
+        by_architecture!(self, row_flags_of(code))
     }
 
     /// The name of a relocation in its psABI, as "R_AARCH64_CALL26", of at most 64 bytes. None of a

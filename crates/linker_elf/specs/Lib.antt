@@ -7,6 +7,7 @@ pub mod Choices
 pub mod Elf
 pub mod ElfNames
 pub mod Entries
+pub mod Flags
 pub mod Forms
 pub mod Inner
 pub mod LoongArch

@@ -12,7 +12,6 @@ pub mod Local
 pub mod Numbers
 pub mod QuickValues
 pub mod Reaching
-pub mod RowNames
 pub mod Rows
 pub mod Saving
 pub mod Sized

@@ -2,12 +2,13 @@
 
 ghost use Rattle.std.specs.Prelude.{◌≡◌, ◌%◌, Option};
 ghost use Rattle.linker_elf.specs.declared.elf.RelocationKindInfo.{RelocationKindInfo};
-ghost use Rattle.linker_section.specs.Inner.Codes.{class_by, entry_by, requirements_by};
+ghost use Rattle.linker_section.specs.Inner.Codes.{class_by, entry_by, needs_by};
+ghost use Rattle.linker_section.specs.Inner.Codes.{requirements_by};
 ghost use Rattle.linker_section.specs.Needed.{class_of_kind, may_use_stub};
 ghost use Rattle.linker_section.specs.Needed.{loads_plt_word, needs_in};
 ghost use Rattle.linker_utils.specs.Architectures.{IsRow};
 
-use crate::codes::{NO_ROW, number_of};
+use crate::codes::NO_ROW;
 use linker_utils::elf::{Architecture, RelocationInstruction, RelocationKind, RelocationSize};
 
 /// What an entry of the GOT holds.
@@ -148,7 +149,7 @@ pub(crate) fn entry_by(number: u16, addend: i64, is_thread_local: bool) -> Optio
     }
 }
 
-/// What the number of a code says.
+/// What the number of a code with a row says.
 #[inline(always)]
 fn requirements_by(number: u16, addend: i64, is_thread_local: bool) -> Requirements
     ensures { result ≡ requirements_by number addend is_thread_local }
@@ -160,6 +161,18 @@ fn requirements_by(number: u16, addend: i64, is_thread_local: bool) -> Requireme
         stub_only_if_undefined: number % 16 == 13,
         is_word: number / 64 % 2 == 1,
         depends_on_load: number / 128 % 2 == 1,
+    }
+}
+
+/// The same of any code.
+#[inline(always)]
+fn needs_by(number: u16, addend: i64, is_thread_local: bool) -> Option<Requirements>
+    ensures { result ≡ needs_by number addend is_thread_local }
+{
+    if number == NO_ROW {
+        None
+    } else {
+        Some(requirements_by(number, addend, is_thread_local))
     }
 }
 
@@ -191,10 +204,5 @@ pub fn needs(
     ensures { (row : Option RelocationKindInfo) × IsRow architecture code row
         × (result ≡ needs_in row addend is_thread_local) }
 {
-    let number = number_of(architecture, code);
-    if number == NO_ROW {
-        None
-    } else {
-        Some(requirements_by(number, addend, is_thread_local))
-    }
+    needs_by(architecture.row_flags(code), addend, is_thread_local)
 }

@@ -107,7 +107,7 @@ pub(crate) fn entry_address(
 
 /// Whether the formula has the GOT's address in place of the symbol's.
 #[inline(always)]
-fn is_of_got(architecture: Architecture, code: u32) -> bool
+pub(crate) fn is_of_got(architecture: Architecture, code: u32) -> bool
     ensures { result ≡ is_of_got architecture code }
 {
     matches!(architecture, Architecture::X86_64) && (code == 26 || code == 29)

@@ -2,7 +2,7 @@
 // Made by tools/erase of crates/linker_section/src/needed.rt.
 //! What a relocation requires of a linker before addresses are known.
 
-use crate::linker_section::codes::{NO_ROW, number_of};
+use crate::linker_section::codes::NO_ROW;
 use crate::elf::{Architecture, RelocationInstruction, RelocationKind, RelocationSize};
 
 /// What an entry of the GOT holds.
@@ -133,7 +133,7 @@ pub(crate) fn entry_by(number: u16, addend: i64, is_thread_local: bool) -> Optio
     }
 }
 
-/// What the number of a code says.
+/// What the number of a code with a row says.
 #[inline(always)]
 fn requirements_by(number: u16, addend: i64, is_thread_local: bool) -> Requirements {
     Requirements {
@@ -143,6 +143,16 @@ fn requirements_by(number: u16, addend: i64, is_thread_local: bool) -> Requireme
         stub_only_if_undefined: number % 16 == 13,
         is_word: number / 64 % 2 == 1,
         depends_on_load: number / 128 % 2 == 1,
+    }
+}
+
+/// The same of any code.
+#[inline(always)]
+fn needs_by(number: u16, addend: i64, is_thread_local: bool) -> Option<Requirements> {
+    if number == NO_ROW {
+        None
+    } else {
+        Some(requirements_by(number, addend, is_thread_local))
     }
 }
 
@@ -172,10 +182,5 @@ pub fn needs(
     addend: i64,
     is_thread_local: bool,
 ) -> Option<Requirements> {
-    let number = number_of(architecture, code);
-    if number == NO_ROW {
-        None
-    } else {
-        Some(requirements_by(number, addend, is_thread_local))
-    }
+    needs_by(architecture.row_flags(code), addend, is_thread_local)
 }

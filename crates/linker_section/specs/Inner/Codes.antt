@@ -1,7 +1,7 @@
 -- What the number of a relocation's code says: what the relocation requires, and how its value is
--- found.
+-- found. `Flags` of `linker_elf` explains its bits.
 use Rattle.std.specs.Prelude.{◌≡◌, ℕ, ℤ, pos, ◌/◌, ◌%◌, ◌==◌, ◌&&◌, ◌||◌, nat_lt, if◌then◌else◌}
-use Rattle.std.specs.Prelude.{Bool, true, false, List, length, slice_index, Option, Some, None, ⊤}
+use Rattle.std.specs.Prelude.{Bool, true, false, List, Option, Some, None, ⊤}
 use Rattle.std.specs.Int.{w64, cast_signed, cast_unsigned}
 use Rattle.linker_elf.specs.Relocate.{window_len}
 use Rattle.linker_elf.specs.Value.{sum_64, difference_64, value_of}
@@ -24,9 +24,9 @@ use Rattle.linker_utils.specs.Architectures.{IsRow}
 use Rattle.linker_utils.specs.declared.elf.Architecture.{Architecture}
 use Rattle.linker_utils.specs.declared.elf.Architecture.TheVariants as architectures
 
--- the number at a code, and that of a code without a row past the end
-abbrev pub number_in : List ℕ → ℕ → ℕ
-number_in table code = if nat_lt code (length table) then slice_index table code else 7
+-- the number of a code: its flags, without a way where the formula has the GOT's address
+abbrev pub number_by : Architecture → ℕ → ℕ → ℕ
+number_by architecture code flags = if is_of_got architecture code then flags % 256 else flags
 
 -- the class with a number; 6 is LoongArch's low half, of an address or of two words for TLS
 abbrev pub class_by : ℕ → Bool → Option EntryClass

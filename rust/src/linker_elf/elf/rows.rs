@@ -346,6 +346,23 @@ macro_rules! text_of_name {
     };
 }
 
+/// The flags of a name's row; 7 without a row.
+macro_rules! flags_of_name {
+    (
+        ($names:ident, $value:expr)
+        $(below $end:literal {
+            $($low:literal $low_name:ident => Some($low_make:ident!($($low_row:tt)*)),)*
+        })*
+        { $($number:literal $name:ident => Some($make:ident!($($row:tt)*)),)* }
+    ) => {
+        match $value {
+            $($($names::$low_name => $crate::linker_elf::elf::rows::flags!($low_make $($low_row)*),)*)*
+            $($names::$name => $crate::linker_elf::elf::rows::flags!($make $($row)*),)*
+            $names::Other(_) => 7,
+        }
+    };
+}
+
 /// The table of rows, by the names' indices. The last entry is that of `Other`.
 macro_rules! table {
     (
@@ -527,6 +544,108 @@ macro_rules! window {
     (($start:literal .. $end:literal $architecture:ident :: $form:ident)) => { 4 };
 }
 
+/// The flags of a row, `flags_of` of `specs/`, by its kind and size.
+macro_rules! flags {
+    (row $kind:ident, $size:tt, $($field:tt)*) => {
+        $crate::linker_elf::elf::rows::flag!(entry $kind, $size) + $crate::linker_elf::elf::rows::flag!(rest $kind, $size)
+    };
+    (pair $kind:ident, $end:literal, $form:ident $(, $($field:tt)*)?) => {
+        $crate::linker_elf::elf::rows::flags!(row $kind, (0..$end RiscV::$form), any)
+    };
+}
+
+/// The low bits of the flags, of the entry of the GOT, and the rest.
+macro_rules! flag {
+    (entry $kind:ident, ($start:literal .. $end:literal RiscV :: IType)) => { 5 };
+    (entry PltRelGotBase, ($start:literal .. $end:literal Ppc64 :: $form:ident)) => { 8 };
+    (entry PltRelative, ($start:literal .. $end:literal Ppc64 :: $form:ident)) => { 8 };
+    (entry $kind:ident, ($start:literal .. $end:literal AArch64 :: $form:ident)) => {
+        $crate::linker_elf::elf::rows::flag!(class $kind with_addend)
+    };
+    (entry $kind:ident, ($start:literal .. $end:literal Ppc64 :: $form:ident)) => {
+        $crate::linker_elf::elf::rows::flag!(class $kind with_addend)
+    };
+    (entry $kind:ident, ($start:literal .. $end:literal LoongArch64 :: $form:ident)) => {
+        $crate::linker_elf::elf::rows::flag!(class $kind low_halves)
+    };
+    (entry $kind:ident, $size:tt) => { $crate::linker_elf::elf::rows::flag!(class $kind plain) };
+    (class GotRelative $of:ident) => { $crate::linker_elf::elf::rows::flag!($of Address) };
+    (class GotRelativeLoongArch64 $of:ident) => { $crate::linker_elf::elf::rows::flag!($of Address) };
+    (class GotRelGotBase $of:ident) => { $crate::linker_elf::elf::rows::flag!($of Address) };
+    (class Got $of:ident) => { $crate::linker_elf::elf::rows::flag!($of Address) };
+    (class GotTpOff $of:ident) => { $crate::linker_elf::elf::rows::flag!($of ThreadOffset) };
+    (class GotTpOffGot $of:ident) => { $crate::linker_elf::elf::rows::flag!($of ThreadOffset) };
+    (class GotTpOffGotBase $of:ident) => { $crate::linker_elf::elf::rows::flag!($of ThreadOffset) };
+    (class GotTpOffLoongArch64 $of:ident) => { $crate::linker_elf::elf::rows::flag!($of ThreadOffset) };
+    (class TlsGd $of:ident) => { $crate::linker_elf::elf::rows::flag!($of ModuleOffset) };
+    (class TlsGdGot $of:ident) => { $crate::linker_elf::elf::rows::flag!($of ModuleOffset) };
+    (class TlsGdGotBase $of:ident) => { $crate::linker_elf::elf::rows::flag!($of ModuleOffset) };
+    (class TlsLd $of:ident) => { $crate::linker_elf::elf::rows::flag!($of Module) };
+    (class TlsLdGot $of:ident) => { $crate::linker_elf::elf::rows::flag!($of Module) };
+    (class TlsLdGotBase $of:ident) => { $crate::linker_elf::elf::rows::flag!($of Module) };
+    (class TlsDesc $of:ident) => { $crate::linker_elf::elf::rows::flag!($of Descriptor) };
+    (class TlsDescGot $of:ident) => { $crate::linker_elf::elf::rows::flag!($of Descriptor) };
+    (class TlsDescGotBase $of:ident) => { $crate::linker_elf::elf::rows::flag!($of Descriptor) };
+    (class TlsDescLoongArch64 $of:ident) => { $crate::linker_elf::elf::rows::flag!($of Descriptor) };
+    (class $kind:ident $of:ident) => { 5 };
+    (plain Address) => { 0 };
+    (plain ThreadOffset) => { 1 };
+    (plain ModuleOffset) => { 2 };
+    (plain Module) => { 3 };
+    (plain Descriptor) => { 4 };
+    (with_addend Module) => { 3 };
+    (with_addend Address) => { 8 };
+    (with_addend ThreadOffset) => { 9 };
+    (with_addend ModuleOffset) => { 10 };
+    (with_addend Descriptor) => { 12 };
+    (low_halves Address) => { 6 };
+    (low_halves $class:ident) => { $crate::linker_elf::elf::rows::flag!(plain $class) };
+    (rest $kind:ident, (0 bytes)) => { 0 };
+    (rest TpOff, $size:tt) => { 0 };
+    (rest DtpOff, $size:tt) => { 0 };
+    (rest PairSubtractionULEB128RiscV, $size:tt) => { 0 };
+    (rest PairSubtractionULEB128LoongArch, $size:tt) => { 0 };
+    (rest RelativeRiscVLow12, $size:tt) => { 0x300 };
+    (rest TlsDesc, ($start:literal .. $end:literal RiscV :: IType)) => { 0 };
+    (rest Relative, ($start:literal .. $end:literal RiscV :: UType)) => { 0x200 };
+    (rest GotRelative, ($start:literal .. $end:literal RiscV :: UType)) => { 0x200 };
+    (rest GotTpOff, ($start:literal .. $end:literal RiscV :: UType)) => { 0x200 };
+    (rest TlsGd, ($start:literal .. $end:literal RiscV :: UType)) => { 0x200 };
+    (rest Absolute, ($start:literal .. $end:literal RiscV :: IType)) => { 0x100 };
+    (rest Absolute, ($start:literal .. $end:literal RiscV :: SType)) => { 0x100 };
+    (rest $kind:ident, ($start:literal .. $end:literal AArch64 :: TstBr)) => { 0x138 };
+    (rest $kind:ident, ($start:literal .. $end:literal AArch64 :: Bcond)) => { 0x138 };
+    (rest $kind:ident, ($start:literal .. $end:literal RiscV :: BType)) => { 0x138 };
+    (rest $kind:ident, ($start:literal .. $end:literal RiscV :: JType)) => { 0x138 };
+    (rest $kind:ident, ($start:literal .. $end:literal RiscV :: CbType)) => { 0x138 };
+    (rest $kind:ident, ($start:literal .. $end:literal RiscV :: CjType)) => { 0x138 };
+    (rest Absolute, ($start:literal .. $end:literal Ppc64 :: Branch14)) => { 0x1b0 };
+    (rest Absolute, ($start:literal .. $end:literal Ppc64 :: Branch24)) => { 0x1b0 };
+    (rest $kind:ident, ($start:literal .. $end:literal AArch64 :: JumpCall)) => { 0x130 };
+    (rest $kind:ident, ($start:literal .. $end:literal RiscV :: UiType)) => { 0x130 };
+    (rest $kind:ident, ($start:literal .. $end:literal Ppc64 :: Branch14)) => { 0x130 };
+    (rest $kind:ident, ($start:literal .. $end:literal Ppc64 :: Branch24)) => { 0x130 };
+    (rest $kind:ident, ($start:literal .. $end:literal LoongArch64 :: Branch21)) => { 0x130 };
+    (rest $kind:ident, ($start:literal .. $end:literal LoongArch64 :: Branch26)) => { 0x130 };
+    (rest $kind:ident, ($start:literal .. $end:literal LoongArch64 :: Call30)) => { 0x130 };
+    (rest $kind:ident, ($start:literal .. $end:literal LoongArch64 :: Call36)) => { 0x130 };
+    (rest $kind:ident, (2 .. 18 LoongArch64 :: Shift10)) => { 0x130 };
+    (rest PltRelGotBase, ($start:literal .. $end:literal Ppc64 :: $form:ident)) => { 0 };
+    (rest PltRelative, ($start:literal .. $end:literal Ppc64 :: $form:ident)) => { 0 };
+    (rest PltRelGotBase, $size:tt) => { 0x120 };
+    (rest PltRelative, $size:tt) => { 0x120 };
+    (rest Absolute, (8 bytes)) => { 0x1c0 };
+    (rest $kind:ident, ($start:literal .. 12 $architecture:ident :: $form:ident)) => { 0x100 };
+    (rest Absolute, $size:tt) => { 0x180 };
+    (rest AbsoluteLowPart, $size:tt) => { 0x180 };
+    (rest Got, $size:tt) => { 0x180 };
+    (rest TlsGdGot, $size:tt) => { 0x180 };
+    (rest TlsLdGot, $size:tt) => { 0x180 };
+    (rest GotTpOffGot, $size:tt) => { 0x180 };
+    (rest TlsDescGot, $size:tt) => { 0x180 };
+    (rest $kind:ident, $size:tt) => { 0x100 };
+}
+
 /// Which addresses of a row are cut to their pages of 4 KiB.
 macro_rules! mask {
     () => { None };
@@ -642,6 +761,9 @@ macro_rules! row {
 }
 
 pub(crate) use code_of_name;
+pub(crate) use flag;
+pub(crate) use flags;
+pub(crate) use flags_of_name;
 pub(crate) use index_of_name;
 pub(crate) use insn;
 pub(crate) use is_own;
