@@ -1,0 +1,11 @@
+# SPDX-License-Identifier: MIT OR Apache-2.0
+"""Answers `--help` of the script that runs, and rejects wrong arguments, by usage.sh."""
+import subprocess
+import sys
+from pathlib import Path
+
+if Path(sys.argv[0]).is_file():
+    status = subprocess.run(["bash", "-c", '. "$1" "${@:2}"; exit 100', sys.argv[0],
+                             Path(__file__).with_name("usage.sh"), *sys.argv[1:]]).returncode
+    if status != 100:
+        sys.exit(status)
