@@ -5,7 +5,8 @@ import sys
 from pathlib import Path
 
 if Path(sys.argv[0]).is_file():
-    status = subprocess.run(["bash", "-c", '. "$1" "${@:2}"; exit 100', sys.argv[0],
-                             Path(__file__).with_name("usage.sh"), *sys.argv[1:]]).returncode
+    check = ["bash", "-c", 'check=$1; shift; . "$check"; exit 100', sys.argv[0]]
+    check += [Path(__file__).with_name("usage.sh"), *sys.argv[1:]]
+    status = subprocess.run(check).returncode
     if status != 100:
         sys.exit(status)

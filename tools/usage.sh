@@ -79,7 +79,7 @@ usage_check() {
             if [ ${#usages[@]} -gt 0 ] && [[ $start == '['* ]]; then
                 usages[-1]+=" $start"
             elif [[ ${start%% *} == ?(*/)"${0##*/}"?('"""') && $line == @(usage: |       )* ]]; then
-                usages+=("$start")
+                usages+=("${start%'"""'}")
             fi
             [[ $language != *python* || $line != *'"""' ]] || break
         done
@@ -94,7 +94,6 @@ usage_check() {
     done
     [ ${#usages[@]} -gt 0 ] || return 0
     for line in "${usages[@]}"; do
-        line=${line%'"""'}
         ! usage_allows "${line%%  *}" "$@" || return 0
     done
     line=$(printf '       %s\n' "${usages[@]}")
