@@ -22,6 +22,9 @@ from concurrent.futures import FIRST_COMPLETED, ThreadPoolExecutor
 from concurrent.futures import wait as wait_for
 from pathlib import Path
 
+sys.dont_write_bytecode = True
+import usage
+
 ROOT = Path(__file__).resolve().parent.parent
 KIT = Path(shutil.which("rt")).resolve().parent.parent
 

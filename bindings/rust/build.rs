@@ -1,8 +1,8 @@
 // SPDX-License-Identifier: MIT OR Apache-2.0
 //! Links the static library: `liblinker_utils.a` in the folder that `LINKER_UTILS_FOLDER` names, as
 //! `../archive` prints that of the proved one, or else in the one that `../library` prints, which
-//! makes it where it is stale. Writes the header's constants for `src/names.rs`: those of the
-//! installed header beside that folder, or else of the repository's.
+//! makes it where it is stale. Writes the header's constants for `src/names.rs`: those of the first
+//! `include/linker_utils.h` in the folders above that one, or else of the repository's.
 
 use std::path::Path;
 use std::process::Command;
@@ -27,16 +27,12 @@ fn main() {
     println!("cargo:rustc-link-search=native={folder}");
     println!("cargo:rustc-link-lib=static=linker_utils");
 
-    let installed = format!("{folder}/../include");
-    let is_installed = Path::new(&installed).join("linker_utils.h").exists();
-    let include = if is_installed {
-        &installed
-    } else {
-        "../../include"
-    };
+    let mut above = Path::new(folder).ancestors().map(|it| it.join("include"));
+    let include = above.find(|it| it.join("linker_utils.h").exists());
+    let include = include.unwrap_or_else(|| "../../include".into());
     let headers = ["_lists", "", "_further"].map(|name| {
-        let header = format!("{include}/linker_utils{name}.h");
-        println!("cargo:rerun-if-changed={header}");
+        let header = include.join(format!("linker_utils{name}.h"));
+        println!("cargo:rerun-if-changed={}", header.display());
         fs::read_to_string(header).expect("the header is there")
     });
     let header = headers.concat();

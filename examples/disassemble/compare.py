@@ -16,6 +16,7 @@ from pathlib import Path
 
 sys.dont_write_bytecode = True
 sys.path.insert(0, str(Path(__file__).resolve().parents[2] / "tools"))
+import usage
 from disassembly import LOADS, MACHINES, instruction_of, signed
 from elf_file import ElfFile, is_archive, is_elf, members
 

@@ -172,11 +172,19 @@ fn assemble(machine: Architecture, source: &str, address: u64) -> Result<Vec<Vec
     Ok(code)
 }
 
-fn run() -> Result<(), String> {
-    let usage = "usage: assemble MACHINE ADDRESS < SOURCE";
+const HELP: &str = "\
+usage: assemble MACHINE ADDRESS < SOURCE
+       assemble --help | --version
+status: 0, 1 after an error, or 2 after wrong arguments";
+
+/// A status, and what is printed on standard error with it.
+type Failure = (u8, String);
+
+fn run() -> Result<(), Failure> {
+    let usage = || (2, HELP.to_string());
     let arguments: Vec<String> = std::env::args().skip(1).collect();
     let said = match arguments.first().map(|first| &first[..]) {
-        Some("--help") => Some(usage),
+        Some("--help") => Some(HELP),
         Some("--version") => Some(concat!("assemble ", env!("CARGO_PKG_VERSION"))),
         _ => None,
     };
@@ -184,12 +192,13 @@ fn run() -> Result<(), String> {
         println!("{said}");
         return Ok(());
     }
-    let [machine, address] = &arguments[..] else { return Err(usage.into()) };
-    let machine = Architecture::from_machine(machine.parse().map_err(|_| usage)?).ok_or(usage)?;
-    let address = u64::from_str_radix(address.trim_start_matches("0x"), 16).map_err(|_| usage)?;
+    let [machine, address] = &arguments[..] else { return Err(usage()) };
+    let machine = machine.parse().ok().and_then(Architecture::from_machine).ok_or_else(usage)?;
+    let address = address.trim_start_matches("0x");
+    let address = u64::from_str_radix(address, 16).map_err(|_| usage())?;
     let mut source = String::new();
-    std::io::stdin().read_to_string(&mut source).map_err(|error| error.to_string())?;
-    for bytes in assemble(machine, &source, address)? {
+    std::io::stdin().read_to_string(&mut source).map_err(|error| (1, error.to_string()))?;
+    for bytes in assemble(machine, &source, address).map_err(|error| (1, error))? {
         println!("{}", bytes.iter().map(|byte| format!("{byte:02x}")).collect::<String>());
     }
     Ok(())
@@ -198,9 +207,9 @@ fn run() -> Result<(), String> {
 fn main() -> std::process::ExitCode {
     match run() {
         Ok(()) => 0.into(),
-        Err(error) => {
+        Err((status, error)) => {
             eprintln!("{error}");
-            1.into()
+            status.into()
         }
     }
 }

@@ -12,8 +12,11 @@ near, and what isn't aligned stays, is asserted.
 
 usage: tests/shorter.py NAME ARCHITECTURE LINKED OBJECT.."""
 import sys
+from pathlib import Path
 
 sys.dont_write_bytecode = True
+sys.path.insert(0, str(Path(__file__).resolve().parents[3] / "tools"))
+import usage
 from objects import CODE, Object
 
 NAMES = {110: "R_LARCH_CALL36", 71: "R_LARCH_PCALA_HI20", 72: "R_LARCH_PCALA_LO12",

@@ -224,22 +224,26 @@ fn print(path: &str, out: &mut impl Write) -> Result<(), Failure> {
     Ok(())
 }
 
+const HELP: &str = "\
+usage: disassemble FILE..
+       disassemble --help | --version
+status: 0, 1 after an error, or 2 after wrong arguments";
+
 fn main() -> ExitCode {
-    let usage = "usage: disassemble FILE..";
     match std::env::args().nth(1).as_deref() {
-        None => {
-            eprintln!("{usage}");
-            return ExitCode::FAILURE;
-        }
         Some("--help") => {
-            println!("{usage}");
+            println!("{HELP}");
             return ExitCode::SUCCESS;
         }
         Some("--version") => {
             println!(concat!("disassemble ", env!("CARGO_PKG_VERSION")));
             return ExitCode::SUCCESS;
         }
-        _ => {}
+        Some(file) if !file.starts_with("--") => {}
+        _ => {
+            eprintln!("{HELP}");
+            return ExitCode::from(2);
+        }
     }
     let mut out = BufWriter::new(io::stdout().lock());
     for path in std::env::args().skip(1) {
