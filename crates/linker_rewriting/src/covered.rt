@@ -34,8 +34,10 @@ fn span_at<D: AsDecision>(relocations: &[u8], decisions: &[D], index: usize) -> 
     requires within { index < length relocations.now / 24 }
     requires enough { length relocations.now / 24 ≤ length decisions.now }
     requires bounded { IsBounded relocations.now (map D.decision decisions.now) index }
-    ensures { result ≡ (start_at relocations.now (map D.decision decisions.now) index,
-        end_at relocations.now (map D.decision decisions.now) index) }
+    ensures { result ≡ (
+      start_at relocations.now (map D.decision decisions.now) index,
+      end_at relocations.now (map D.decision decisions.now) index,
+    ) }
 {
     span_of(
         &decisions[index].as_decision(),

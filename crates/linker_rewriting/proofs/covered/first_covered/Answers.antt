@@ -24,7 +24,7 @@ returns-then-first-count g c n less covered =
     let within = covered.within in
     let writes = covered.writes in
     let last = c.place_from-first.ensures.passed covered.by (omega (arith, within, end, e))
-        (λ same. absurd (omega (arith, within, e, same))) writes in
+    (λ same. absurd (omega (arith, within, e, same))) writes in
     no_end (start_at a.relocations.now ds covered.by) (end_at a.relocations.now ds covered.by) writes last
 
 pub loop-index-preserved-then-not-reaches : goal.loop-index-preserved-then-not-reaches
