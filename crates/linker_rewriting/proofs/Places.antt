@@ -3,11 +3,11 @@ use Rattle.std.proofs.Common.{◌≡◌, ◌≢◌, ℕ, ◌+◌, ◌-◌, ◌<�
 use Rattle.std.proofs.lemmas.Bool.{cases_lt}
 use Rattle.linker_elf.specs.declared.elf.RelocationKindInfo.{RelocationKindInfo}
 use Rattle.linker_rewriting.proofs.Deciding.{ends_within}
-use Rattle.linker_rewriting.specs.Decisions.{AllCanBeMade, AreApart, IsCovered, decision_at, start_at, end_at}
+use Rattle.linker_rewriting.specs.Decisions.{AllCanBeMade, AreApart, IsCovered, decision_at, start_by, end_by, start_at, end_at}
 use Rattle.linker_rewriting.specs.Inner.Places.{IsWindow, AreBounded, AreBelow, AreAbove, IsPlace, IsPlaceBeside}
 use Rattle.linker_rewriting.specs.declared.covered.Place.{Place}
 use Rattle.linker_rewriting.specs.declared.decisions.Decision.{Decision}
-use Rattle.linker_rewriting.specs.declared.decisions.Decision.TheVariants.{TakenAlong}
+use Rattle.linker_rewriting.specs.declared.decisions.Decision.TheVariants.{Kept, TakenAlong}
 use Rattle.linker_section.specs.Fields.{IsField, field_end}
 use Rattle.linker_section.specs.Values.{offset_at}
 use Rattle.linker_utils.specs.declared.elf.Architecture.{Architecture}
@@ -29,6 +29,13 @@ pub are_bounded : (bytes section : List ℕ) (decisions : List Decision) (limit 
     → AreBounded bytes decisions limit
 are_bounded bytes section decisions limit long made n less low =
     ends_within (decision_at decisions n) section (offset_at bytes n) 0xffffffffffffffff low long (made n less)
+
+pub no_window : (bytes : List ℕ) (decisions : List Decision) (n : ℕ)
+    → decision_at decisions n ≡ Kept → IsWindow bytes decisions n → ⊥
+no_window bytes decisions n kept some =
+    let o = offset_at bytes n in
+    let none = subst (λ d. start_by d o < end_by d o) kept some in
+    omega (arith, none)
 
 -- those before some bytes end below them
 pub below_window : (bytes : List ℕ) (decisions : List Decision) (limit at end : ℕ)

@@ -34,13 +34,25 @@ fn span_at<D: AsDecision>(relocations: &[u8], decisions: &[D], index: usize) -> 
     requires within { index < length relocations.now / 24 }
     requires enough { length relocations.now / 24 ≤ length decisions.now }
     requires bounded { IsBounded relocations.now (map D.decision decisions.now) index }
-    ensures { result ≡ (start_at relocations.now (map D.decision decisions.now) index,
-        end_at relocations.now (map D.decision decisions.now) index) }
+    ensures { result ≡ (
+      start_at relocations.now (map D.decision decisions.now) index,
+      end_at relocations.now (map D.decision decisions.now) index,
+    ) }
 {
     span_of(
         &decisions[index].as_decision(),
         relocation_in(relocations, index).offset,
     )
+}
+
+/// Whether the relocation with an index stays as it is, and so does its instruction.
+#[inline(always)]
+fn is_kept<D: AsDecision>(decisions: &[D], index: usize) -> bool
+    requires { index < length decisions.now }
+    ensures { result ≡ true
+        → decision_at (map D.decision decisions.now) index ≡ Decision.Kept }
+{
+    matches!(decisions[index].as_decision(), Decision::Kept)
 }
 
 /// An index that is no more than another, below which all bytes end at or below an offset.
@@ -94,6 +106,9 @@ fn place_from<D: AsDecision>(
     let len = relocations_len(relocations);
     let mut below = below;
     for at in from..len {
+        if is_kept(decisions, at) {
+            continue;
+        }
         let (start, end) = span_at(relocations, decisions, at);
         if end <= start {
             continue;
@@ -200,11 +215,11 @@ pub(crate) fn first_covered<D: AsDecision>(
         (map D.decision decisions.now) (length relocations.now / 24) result }
 {
     let count = relocations_len(relocations);
-    let mut place = Place {
-        at: 0,
-        below: 0,
-        above: 0,
-    };
+    let first = place_from(relocations, decisions, count, 0, 0, 0);
+    if first.at == count {
+        return None;
+    }
+    let mut place = first;
     for index in 0..count {
         let offset = relocation_in(relocations, index).offset;
         if place.below <= offset

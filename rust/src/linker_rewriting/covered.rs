@@ -31,6 +31,12 @@ fn span_at<D: AsDecision>(relocations: &[u8], decisions: &[D], index: usize) -> 
     )
 }
 
+/// Whether the relocation with an index stays as it is, and so does its instruction.
+#[inline(always)]
+fn is_kept<D: AsDecision>(decisions: &[D], index: usize) -> bool {
+    matches!(decisions[index].as_decision(), Decision::Kept)
+}
+
 /// An index that is no more than another, below which all bytes end at or below an offset.
 fn place_before<D: AsDecision>(
     relocations: &[u8],
@@ -62,6 +68,9 @@ fn place_from<D: AsDecision>(
     let len = relocations_len(relocations);
     let mut below = below;
     for at in from..len {
+        if is_kept(decisions, at) {
+            continue;
+        }
         let (start, end) = span_at(relocations, decisions, at);
         if end <= start {
             continue;
@@ -136,11 +145,11 @@ pub(crate) fn first_covered<D: AsDecision>(
     decisions: &[D],
 ) -> Option<usize> {
     let count = relocations_len(relocations);
-    let mut place = Place {
-        at: 0,
-        below: 0,
-        above: 0,
-    };
+    let first = place_from(relocations, decisions, count, 0, 0, 0);
+    if first.at == count {
+        return None;
+    }
+    let mut place = first;
     for index in 0..count {
         let offset = relocation_in(relocations, index).offset;
         if place.below <= offset

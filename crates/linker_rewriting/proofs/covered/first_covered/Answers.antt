@@ -1,10 +1,31 @@
-use Rattle.std.proofs.Common.{◌≡◌, ◌<◌, ◌≤◌, ◌/◌, length, map, ap, subst, arith}
+use Rattle.std.proofs.Common.{◌≡◌, ℕ, ◌<◌, ◌≤◌, ◌/◌, length, map, ap, subst, arith}
 use Rattle.linker_rewriting.proofs.Places.{are_bounded, at_most, clear_at, covered_at}
-use Rattle.linker_rewriting.specs.Decisions.{IsCovered, end_at}
+use Rattle.linker_rewriting.specs.Decisions.{IsCovered, start_at, end_at}
 use Rattle.linker_rewriting.specs.Inner.Places.{IsPlaceBeside}
 use Rattle.linker_section.specs.Values.{offset_at}
 use Rattle.linker_rewriting.proofs.covered.first_covered.Goals as goal
 use borrow.Author.Count.{below_more}
+
+no_end : (start end : ℕ) → start < end → end ≤ 0 → ⊥
+no_end start end some none = omega arith
+
+pub place_from-first-requires-clause-bounded : goal.place_from-first-requires-clause-bounded
+place_from-first-requires-clause-bounded g c =
+    let a = c.args in
+    are_bounded a.relocations.now a.section.now (map g.D.AsDecision.decision a.decisions.now)
+    (length a.relocations.now / 24) (omega arith) c.requires.made
+
+pub returns-then-first-count : goal.returns-then-first-count
+returns-then-first-count g c n less covered =
+    let a = c.args in
+    let ds = map g.D.AsDecision.decision a.decisions.now in
+    let e = c.relocations_len-count.ensures in
+    let end = c.if-first-count.true in
+    let within = covered.within in
+    let writes = covered.writes in
+    let last = c.place_from-first.ensures.passed covered.by (omega (arith, within, end, e))
+    (λ same. absurd (omega (arith, within, e, same))) writes in
+    no_end (start_at a.relocations.now ds covered.by) (end_at a.relocations.now ds covered.by) writes last
 
 pub loop-index-preserved-then-not-reaches : goal.loop-index-preserved-then-not-reaches
 loop-index-preserved-then-not-reaches g c =

@@ -1,9 +1,41 @@
-use Rattle.std.proofs.Common.{◌≢◌, ◌+◌, ◌<◌, ◌≤◌, ◌/◌, length, map, ap, sym, subst, arith}
-use Rattle.linker_rewriting.proofs.Places.{above_window, below_window, no_more}
-use Rattle.linker_rewriting.specs.Decisions.{end_at}
+use Rattle.std.proofs.Common.{◌≢◌, ℕ, ◌+◌, ◌<◌, ◌≤◌, ◌/◌, length, map, ap, sym, subst, arith}
+use Rattle.linker_rewriting.proofs.Places.{above_window, below_window, no_more, no_window}
+use Rattle.linker_rewriting.specs.Decisions.{start_at, end_at}
 use Rattle.linker_rewriting.specs.Inner.Places.{IsWindow, AreAbove}
 use Rattle.linker_rewriting.proofs.covered.place_from.Goals as goal
 use borrow.Author.Count.{below_more}
+
+pub loop-at-preserved-then-is_kept : goal.loop-at-preserved-then-is_kept
+loop-at-preserved-then-is_kept g c =
+    let a = c.args in
+    let k = c.loop-at.at in
+    let bytes = a.relocations.now in
+    let ds = map g.D.AsDecision.decision a.decisions.now in
+    let none : IsWindow bytes ds k → ⊥ = no_window bytes ds k (c.is_kept.ensures c.if-is_kept.true) in
+    record {
+      below = below_more (λ n. IsWindow bytes ds n → end_at bytes ds n ≤ c.loop-at.below) k
+          c.loop-at.invariant.below (λ some. absurd (none some));
+      passed = below_more (λ n. n ≢ a.index → IsWindow bytes ds n → end_at bytes ds n ≤ a.offset) k
+          c.loop-at.invariant.passed (λ _ some. absurd (none some));
+    }
+
+no_bytes : (start end : ℕ) → end ≤ start → start < end → ⊥
+no_bytes start end none some = omega arith
+
+pub loop-at-preserved-then-end-start : goal.loop-at-preserved-then-end-start
+loop-at-preserved-then-end-start g c =
+    let a = c.args in
+    let k = c.loop-at.at in
+    let bytes = a.relocations.now in
+    let ds = map g.D.AsDecision.decision a.decisions.now in
+    let none : IsWindow bytes ds k → ⊥ =
+    no_bytes (start_at bytes ds k) (end_at bytes ds k) (subst (λ x. x.1 ≤ x.0) c.span_at-start.ensures c.if-end-start.true) in
+    record {
+      below = below_more (λ n. IsWindow bytes ds n → end_at bytes ds n ≤ c.loop-at.below) k
+          c.loop-at.invariant.below (λ some. absurd (none some));
+      passed = below_more (λ n. n ≢ a.index → IsWindow bytes ds n → end_at bytes ds n ≤ a.offset) k
+          c.loop-at.invariant.passed (λ _ some. absurd (none some));
+    }
 
 pub loop-at-preserved-then-at-index : goal.loop-at-preserved-then-at-index
 loop-at-preserved-then-at-index g c =
