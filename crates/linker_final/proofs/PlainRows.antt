@@ -166,21 +166,21 @@ module _ (architecture : Architecture) (addresses : Addresses) (bytes : List ℕ
     (unlabelled : names_label row.size row.kind ≡ false)
     (taken : operands_of architecture addresses symbols row r ≡ Ok operands)
     (some : IsSomeAnd (value_of row operands) (λ _. ⊤)) where
+  abbrev of_ok : Result (Option ℤ) ValueError → Option ℤ
+  of_ok (Ok found) = found
+  of_ok (Err error) = None
+
   of_value : (lacks : Bool) (value : Option ℤ) → Ok value ≡ value_by lacks row (Ok operands)
-      → Ok value ≡ Ok (value_of row operands)
+      → value ≡ value_of row operands
   of_value true value same = absurd (let e : Ok value ≡ Err NoTlsBase = same in cc)
-  of_value false value same = same
+  of_value false value same = ap of_ok same
 
   by_row : (value : Option ℤ) → IsValueIn architecture addresses bytes symbols r (Some row) (Ok value)
-      → Ok value ≡ Ok (value_of row operands)
+      → value ≡ value_of row operands
   by_row value is =
       of_value (lacks_origin addresses symbols row r) value
       (of_operands architecture addresses bytes symbols r row is_row valued unlabelled (Ok value) is
       ∙ ap (value_by (lacks_origin addresses symbols row r) row) taken)
-
-  abbrev of_ok : Result (Option ℤ) ValueError → Option ℤ
-  of_ok (Ok found) = found
-  of_ok (Err error) = None
 
   some_is_not : (value : Option ℤ) → IsSomeAnd value (λ _. ⊤) → None ≡ value → ⊥
   some_is_not None nothing is = nothing
@@ -191,17 +191,17 @@ module _ (architecture : Architecture) (addresses : Addresses) (bytes : List ℕ
       → IsFoundOf row operands found
   found_is (Some one) has =
       let same : one.0 ≡ row = one_info architecture r.code (one.0) row has.is_row is_row in
-      let value : Ok (Some (one.1)) ≡ Ok (value_of row operands) =
+      let value : Some (one.1) ≡ value_of row operands =
       by_row (Some (one.1))
       (subst (λ x. IsValueIn architecture addresses bytes symbols r (Some x) (Ok (Some (one.1)))) same has.is_value) in
       record {
         value = one.1;
         is = ap (λ x. Some (x, one.1)) same;
-        value_is = sym (ap of_ok value);
+        value_is = sym value;
       }
   found_is None marked =
       let same = one_row architecture r.code (marked.0) (Some row) (marked.1) is_row in
-      let value : Ok None ≡ Ok (value_of row operands) =
+      let value : None ≡ value_of row operands =
       by_row None
       (subst (λ x. IsValueIn architecture addresses bytes symbols r x (Ok None)) same (marked.2)) in
-      absurd (some_is_not (value_of row operands) some (ap of_ok value))
+      absurd (some_is_not (value_of row operands) some value)
