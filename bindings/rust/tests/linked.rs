@@ -264,7 +264,7 @@ fn words_of_got_entries_are_those_of_lld() {
 #[test]
 fn words_are_those_of_gnu_ld() {
     let rows = rows::<11>(include_str!("data/gnu.txt"));
-    assert_eq!(rows.len(), 35);
+    assert_eq!(rows.len(), 37);
     for [machine, r_type, name, addresses @ .., before, after] in rows {
         let [place, symbol, got_entry, plt_entry, got_base, tls_base] = addresses.map(address);
         let architecture = architecture_of(machine);

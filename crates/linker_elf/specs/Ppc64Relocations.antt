@@ -233,6 +233,8 @@ ppc64_relocation r.R_PPC64_GOT_TLSLD_PCREL34 =
     with_own_row 149 (codes "R_PPC64_GOT_TLSLD_PCREL34") (prefixed_row TlsLd)
 ppc64_relocation r.R_PPC64_GOT_TPREL_PCREL34 =
     with_own_row 150 (codes "R_PPC64_GOT_TPREL_PCREL34") (prefixed_row GotTpOff)
+ppc64_relocation r.R_PPC64_REL16 =
+    with_own_row 249 (codes "R_PPC64_REL16") (signed_row 16 (bytes_row Relative 2))
 ppc64_relocation r.R_PPC64_REL16_LO = with_row 250 (codes "R_PPC64_REL16_LO") (low_row Relative)
 ppc64_relocation r.R_PPC64_REL16_HI = with_own_row 251 (codes "R_PPC64_REL16_HI") (high_row Relative)
 ppc64_relocation r.R_PPC64_REL16_HA =

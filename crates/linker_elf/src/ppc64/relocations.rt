@@ -119,6 +119,7 @@ pub enum Ppc64Relocation {
     R_PPC64_GOT_TLSGD_PCREL34,
     R_PPC64_GOT_TLSLD_PCREL34,
     R_PPC64_GOT_TPREL_PCREL34,
+    R_PPC64_REL16,
     R_PPC64_REL16_LO,
     R_PPC64_REL16_HI,
     R_PPC64_REL16_HA,
@@ -308,6 +309,7 @@ macro_rules! relocations {
                     Some(row!(TlsLd, (0..34 Ppc64::Prefixed), signed 34, origin: own)),
                 150 R_PPC64_GOT_TPREL_PCREL34 =>
                     Some(row!(GotTpOff, (0..34 Ppc64::Prefixed), signed 34, origin: own)),
+                249 R_PPC64_REL16 => Some(row!(Relative, (2 bytes), signed 16, origin: own)),
                 250 R_PPC64_REL16_LO => Some(row!(Relative, (0..16 Ppc64::D), any)),
                 251 R_PPC64_REL16_HI =>
                     Some(row!(Relative, (16..32 Ppc64::D), any reach signed 32, origin: own)),
@@ -415,11 +417,11 @@ impl RelocationName for Ppc64Relocation {
 /// What a relocation means, as `row` says, or `None` for those that the crate `linker-utils` has no
 /// row for: `R_PPC64_NONE`, absolute addresses (`R_PPC64_ADDR24`, `R_PPC64_ADDR14` and the
 /// `R_PPC64_ADDR16` with what follows it), the parts of 64 bits (`_HIGH`, `_HIGHER`, `_HIGHEST` and
-/// those with an A), `R_PPC64_TOC16`, `R_PPC64_TOC16_HI`, `R_PPC64_TOC16_DS`, `R_PPC64_REL16_HI`,
-/// `R_PPC64_REL24_NOTOC`, the GOT and PLT entries (`R_PPC64_GOT16` and `R_PPC64_PLT16` with what
-/// follows), marks (`R_PPC64_ENTRY`, `R_PPC64_PLTSEQ`, `R_PPC64_PLTCALL`, their `_NOTOC`, and
-/// `R_PPC64_PCREL_OPT`), and all prefixed instructions (`R_PPC64_D34`, `R_PPC64_PCREL34` and their
-/// like).
+/// those with an A), `R_PPC64_TOC16`, `R_PPC64_TOC16_HI`, `R_PPC64_TOC16_DS`, `R_PPC64_REL16`,
+/// `R_PPC64_REL16_HI`, `R_PPC64_REL24_NOTOC`, the GOT and PLT entries (`R_PPC64_GOT16` and
+/// `R_PPC64_PLT16` with what follows), marks (`R_PPC64_ENTRY`, `R_PPC64_PLTSEQ`, `R_PPC64_PLTCALL`,
+/// their `_NOTOC`, and `R_PPC64_PCREL_OPT`), and all prefixed instructions (`R_PPC64_D34`,
+/// `R_PPC64_PCREL34` and their like).
 #[inline(always)]
 pub fn relocation_type_from_raw(name: Ppc64Relocation) -> Option<RelocationKindInfo>
     ensures row { result ≡ raw_row (ppc64_relocation name) }
