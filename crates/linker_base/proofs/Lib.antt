@@ -1,5 +1,4 @@
 pub mod Apart
-pub mod Batches
 pub mod Bits
 pub mod ConsecutiveBits
 pub mod Copied

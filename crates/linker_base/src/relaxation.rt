@@ -28,7 +28,7 @@ pub use cursor::RelaxCursor;
 pub use delta_slice::DeltaSlice;
 pub(crate) use delta_slice::rank_past;
 pub use map::RelaxDeltaMap;
-use merge::{all_pairs, append, copy_deletions, count_pairs, insert_ascending, sorted};
+use merge::{all_pairs, append, copy_deletions, count_pairs, insert_ascending, insert_sorted};
 use overlap::{are_valid, can_batches_be_merged, can_be_merged};
 pub use overlap::{AsDeletion, first_invalid};
 
@@ -140,8 +140,8 @@ impl SectionRelaxDeltas {
             return insert_ascending(deltas, heads, additional);
         }
         deltas.reserve(additional.len())?;
-        let pairs = sorted(copy_deletions(*deltas.allocator(), additional)?);
-        insert_ascending(deltas, heads, &pairs)
+        let pairs = copy_deletions(*deltas.allocator(), additional)?;
+        insert_sorted(deltas, heads, pairs)
     }
 
     /// Whether the pairs may be merged: their ends are at most `u64::MAX`, and of any two
@@ -178,8 +178,8 @@ impl SectionRelaxDeltas {
             return Ok(());
         }
         deltas.reserve(count)?;
-        let pairs = sorted(all_pairs(*deltas.allocator(), batches)?);
-        insert_ascending(deltas, heads, &pairs)
+        let pairs = all_pairs(*deltas.allocator(), batches)?;
+        insert_sorted(deltas, heads, pairs)
     }
 
     /// Whether all batches together may be merged, as `is_mergeable` says of their pairs.
