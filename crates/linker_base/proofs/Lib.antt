@@ -1,4 +1,5 @@
 pub mod Apart
+pub mod Batches
 pub mod Bits
 pub mod ConsecutiveBits
 pub mod Copied

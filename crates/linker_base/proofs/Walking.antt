@@ -96,16 +96,6 @@ step_back_stays ds valid passed i within back = elim (cases_lt passed (begun_bel
       rw (get_or-take passed ds k d low) (parted.0 k d (omega arith) (omega arith))))
 ]
 
--- so a query is a step back after it where it was before it
-pub ahead_kept : (ds : List (ℕ × ℕ)) → IsValid ds → (before passed i : ℕ) → before ≤ length ds → passed ≡ max before (begun_below ds i) → All (λ d. d.0 < i) (take passed ds) ↔ All (λ d. d.0 < i) (take before ds)
-ahead_kept ds valid before passed i within is = (
-  λ all k d inside.
-      let low : k < before = omega (arith, length-take before ds) in
-      let lower : k < passed = omega (arith, is) in
-      rw (get_or-take before ds k d low) (rw (get_or-take passed ds k d lower) at (all k d (omega (arith, length-take passed ds, lower, low)))),
-  λ ahead. begun_later ds valid passed i i (is ∙ begun_ahead ds valid before i within ahead) (omega arith),
-)
-
 -- the bytes that are passed end at the end of the last deletion or below
 pub walked_below_end : (ds : List (ℕ × ℕ)) → IsValid ds → (reached : Reached) → reached.passed ≤ length ds → IsWalked ds reached → reached.deleted ≤ reached.end
 walked_below_end ds valid reached within walked = elim (cases_lt 0 reached.passed) [

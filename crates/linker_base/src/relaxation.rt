@@ -28,7 +28,7 @@ pub use cursor::RelaxCursor;
 pub use delta_slice::DeltaSlice;
 pub(crate) use delta_slice::rank_past;
 pub use map::RelaxDeltaMap;
-use merge::{all_pairs, append, copy_deletions, count_pairs, insert_ascending, insert_sorted};
+use merge::{all_pairs, append, copy_deletions, count_pairs, insert_ascending, sorted};
 use overlap::{are_valid, can_batches_be_merged, can_be_merged};
 pub use overlap::{AsDeletion, first_invalid};
 
@@ -140,8 +140,8 @@ impl SectionRelaxDeltas {
             return insert_ascending(deltas, heads, additional);
         }
         deltas.reserve(additional.len())?;
-        let pairs = copy_deletions(*deltas.allocator(), additional)?;
-        insert_sorted(deltas, heads, pairs)
+        let pairs = sorted(copy_deletions(*deltas.allocator(), additional)?);
+        insert_ascending(deltas, heads, &pairs)
     }
 
     /// Whether the pairs may be merged: their ends are at most `u64::MAX`, and of any two
@@ -149,8 +149,8 @@ impl SectionRelaxDeltas {
     ///
     /// It doesn't allocate. For k pairs and n deltas the work is O(k log n + k) where the pairs
     /// ascend or descend, as a pass over a section makes them, and else O(k log n + p k log k) for
-    /// p parts of the pairs: runs of 1,024 or more that ascend or that descend, and where no such
-    /// run begins 1,024 pairs, which are sorted on the stack, in 16 KB.
+    /// p parts of the pairs: runs of 1,024 or more that ascend, and where no such run begins 1,024
+    /// pairs, which are sorted on the stack, in 16 KB.
     pub fn is_mergeable(&self, additional: &[(u64, u32)]) -> bool
         ensures { IsTrue result ↔ AreDisjoint (self.now ++ additional.now) }
     {
@@ -178,8 +178,8 @@ impl SectionRelaxDeltas {
             return Ok(());
         }
         deltas.reserve(count)?;
-        let pairs = all_pairs(*deltas.allocator(), batches)?;
-        insert_sorted(deltas, heads, pairs)
+        let pairs = sorted(all_pairs(*deltas.allocator(), batches)?);
+        insert_ascending(deltas, heads, &pairs)
     }
 
     /// Whether all batches together may be merged, as `is_mergeable` says of their pairs.

@@ -245,7 +245,7 @@ pub fn output_to_input_counted<K: Looks>(looks: &mut K, output_offset: u64) -> u
     // What it ensures is that the list is valid.
     let _len = looks.len();
     match count_passing(looks, Test::IsPlacedUpTo(output_offset)).checked_sub(1) {
-        Some(last) => output_offset.wrapping_add(looks.delta(last).cumulative_deleted),
+        Some(last) => output_offset + looks.delta(last).cumulative_deleted,
         None => output_offset,
     }
 }

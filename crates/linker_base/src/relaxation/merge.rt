@@ -54,7 +54,7 @@ pub(super) fn copy_deletions<D: AsDeletion>(
 }
 
 // The pairs in order.
-fn sorted(pairs: Vec<(u64, u32)>) -> Vec<(u64, u32)>
+pub(super) fn sorted(pairs: Vec<(u64, u32)>) -> Vec<(u64, u32)>
     requires { AreDisjoint pairs.items }
     ensures { IsSortedUnion pairs.items result.items }
 {
@@ -63,22 +63,6 @@ fn sorted(pairs: Vec<(u64, u32)>) -> Vec<(u64, u32)>
         sorted.sort_unstable_by_key(|pair| pair.0);
     }
     sorted
-}
-
-// Adds pairs in any order, as `insert_ascending` does.
-pub(super) fn insert_sorted(
-    deltas: &mut Vec<RelaxDelta>,
-    heads: &mut Vec<BlockHead>,
-    pairs: Vec<(u64, u32)>,
-) -> Result<(), OutOfMemory>
-    requires sound { IsSound deltas.old.items heads.old.items }
-    requires disjoint { AreDisjoint (map deletion_of deltas.old.items ++ pairs.items) }
-    ensures sound { IsSound deltas.new.items heads.new.items }
-    ensures ok { OnOk result (IsSortedUnion (map deletion_of deltas.old.items ++ pairs.items)
-        (map deletion_of deltas.new.items)) }
-    ensures err { OnErr result (deltas.new.items ≡ deltas.old.items) }
-{
-    insert_ascending(deltas, heads, &sorted(pairs))
 }
 
 // Adds pairs that ascend, and writes the heads from the first block on that changes. Both grow

@@ -40,8 +40,8 @@ impl<'a> RelaxCursor<'a> {
         debug_assert!(self.can_translate(input_offset));
         self.reached = pass(self.deltas, self.reached, input_offset);
         // A step back passes none.
-        if self.is_ahead(input_offset) {
-            return input_offset.max(self.reached.end) - self.reached.deleted;
+        if input_offset < self.reached.end && self.is_ahead(input_offset) {
+            return self.reached.end - self.reached.deleted;
         }
         input_offset - self.reached.deleted
     }

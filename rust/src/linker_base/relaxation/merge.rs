@@ -41,21 +41,12 @@ pub(super) fn copy_deletions<D: AsDeletion>(
 }
 
 // The pairs in order.
-fn sorted(pairs: Vec<(u64, u32)>) -> Vec<(u64, u32)> {
+pub(super) fn sorted(pairs: Vec<(u64, u32)>) -> Vec<(u64, u32)> {
     let mut sorted = pairs;
     if !are_valid(&sorted) {
         sorted.sort_unstable_by_key(|pair| pair.0);
     }
     sorted
-}
-
-// Adds pairs in any order, as `insert_ascending` does.
-pub(super) fn insert_sorted(
-    deltas: &mut Vec<RelaxDelta>,
-    heads: &mut Vec<BlockHead>,
-    pairs: Vec<(u64, u32)>,
-) -> Result<(), OutOfMemory> {
-    insert_ascending(deltas, heads, &sorted(pairs))
 }
 
 // Adds pairs that ascend, and writes the heads from the first block on that changes. Both grow

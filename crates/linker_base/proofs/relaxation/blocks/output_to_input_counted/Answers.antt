@@ -1,4 +1,4 @@
-use Rattle.std.proofs.Common.{◌≡◌, ◌+◌, ◌%◌, ◌^◌, ◌≤◌, length, map, take, arith}
+use Rattle.std.proofs.Common.{◌≡◌, ◌+◌, ◌<◌, length, map, take, arith}
 use Rattle.std.proofs.lemmas.List.{length-map}
 use Rattle.linker_base.specs.Deletions.{bytes_of}
 use Rattle.linker_base.specs.Deltas.{deletion_of}
@@ -8,23 +8,34 @@ use Rattle.linker_base.proofs.Search.{blank, list_heads_agree, same_listed, plac
 use Rattle.linker_base.proofs.relaxation.blocks.output_to_input_counted.Goals as goal
 
 -- the bytes up to the last deletion that is passed
-pub returns-in-Some-clause-input : goal.returns-in-Some-clause-input
-returns-in-Some-clause-input g c =
+pub overflow_add-result : goal.overflow_add-result
+overflow_add-result g c =
     let deltas = g.K.Looks.listed c.args.looks.now in
-    let ds = map deletion_of deltas in
     let s = list_subject deltas in
     let listed = c.len-len.ensures.valid in
     let last = c.in-Some.last in
-    let passed = c.count_passing.result in
-    let count : passed ≡ last + 1 = omega (arith, c.in-Some.ensures.0, c.in-Some.ensures.1) in
-    let within : passed ≤ length ds = omega (arith, length-map deltas deletion_of, c.count_passing.ensures.within) in
+    let count : c.count_passing.result ≡ last + 1 = omega (arith, c.in-Some.ensures.0, c.in-Some.ensures.1) in
+    let within : last < length deltas = omega (arith, c.count_passing.ensures.within) in
     let point = c.count_passing.ensures.point (places_partitioned s listed c.args.output_offset) (list_heads_agree deltas (IsPlacedUpTo c.args.output_offset)) in
-    let placed = placed_from_point s listed c.args.output_offset passed c.count_passing.ensures.within point in
+    let placed = placed_from_point s listed c.args.output_offset c.count_passing.result c.count_passing.ensures.within point in
     let read = rw (same_listed c.count_passing.ensures.probes) at (c.delta.ensures.delta blank) in
-    let sum : c.delta.result.cumulative_deleted ≡ bytes_of (take passed ds) = rw (read, count) (listed.listing.sums last blank (omega (arith, count, c.count_passing.ensures.within))) in
-    let fits = (fits_from_search ds listed.valid c.args.output_offset passed within placed).0 c.requires.fits in
-    let whole : (c.args.output_offset + c.delta.result.cumulative_deleted) % 2 ^ 64 ≡ c.args.output_offset + bytes_of (take passed ds) = omega (arith, sum, fits) in
-    rw whole (selected_from_search ds listed.valid c.args.output_offset passed within placed)
+    let sum : c.delta.result.cumulative_deleted ≡ bytes_of (take c.count_passing.result (map deletion_of deltas)) = rw (read, count) (listed.listing.sums last blank within) in
+    let low = (fits_from_search (map deletion_of deltas) listed.valid c.args.output_offset c.count_passing.result (omega (arith, length-map deltas deletion_of, c.count_passing.ensures.within)) placed).0 c.requires.fits in
+    record { fits = omega (arith, low, sum) }
+
+pub returns-in-Some-clause-input : goal.returns-in-Some-clause-input
+returns-in-Some-clause-input g c =
+    let deltas = g.K.Looks.listed c.args.looks.now in
+    let s = list_subject deltas in
+    let listed = c.len-len.ensures.valid in
+    let last = c.in-Some.last in
+    let count : c.count_passing.result ≡ last + 1 = omega (arith, c.in-Some.ensures.0, c.in-Some.ensures.1) in
+    let within : last < length deltas = omega (arith, c.count_passing.ensures.within) in
+    let point = c.count_passing.ensures.point (places_partitioned s listed c.args.output_offset) (list_heads_agree deltas (IsPlacedUpTo c.args.output_offset)) in
+    let placed = placed_from_point s listed c.args.output_offset c.count_passing.result c.count_passing.ensures.within point in
+    let read = rw (same_listed c.count_passing.ensures.probes) at (c.delta.ensures.delta blank) in
+    let sum : c.delta.result.cumulative_deleted ≡ bytes_of (take c.count_passing.result (map deletion_of deltas)) = rw (read, count) (listed.listing.sums last blank within) in
+    rw sum (selected_from_search (map deletion_of deltas) listed.valid c.args.output_offset c.count_passing.result (omega (arith, length-map deltas deletion_of, c.count_passing.ensures.within)) placed)
 
 pub returns-in-None-clause-input : goal.returns-in-None-clause-input
 returns-in-None-clause-input g c =
