@@ -310,6 +310,7 @@ fn valid_len<D: AsDeletion>(deletions: &[D]) -> usize
 }
 
 // Whether the deletions, in any order, make a valid list once sorted.
+#[tactic(auto, using(crate::proofs::Apart::beside_nothing))]
 fn are_disjoint<D: AsDeletion>(deletions: &[D]) -> bool
     ensures { IsTrue result ↔ AreDisjoint (map D.deletion deletions.now) }
 {

@@ -1,11 +1,8 @@
-use Rattle.std.proofs.Common.{map, refl, sym, ◌∙◌}
+use Rattle.std.proofs.Common.{map, sym, ◌∙◌}
 use Rattle.std.proofs.lemmas.Bool.{false≢true}
 use Rattle.linker_base.specs.Deltas.{deletion_of}
 use Rattle.linker_base.proofs.Merging.{merged_by, disjoint_back}
 use Rattle.linker_base.proofs.relaxation.overlap.can_be_merged.Goals as goal
-
-pub returns-then-rise_together : goal.returns-then-rise_together
-returns-then-rise_together g c valid = (λ _. (c.rise_together.ensures.0 c.if-rise_together.true).disjoint, λ _. refl)
 
 pub returns-then-are_disjoint : goal.returns-then-are_disjoint
 returns-then-are_disjoint g c valid = merged_by (map deletion_of c.args.deltas.now) (map g.D.AsDeletion.deletion c.args.additional.now) c.are_beside.result valid (c.are_disjoint.ensures.0 c.if-are_disjoint.true) (c.are_beside.ensures valid)
