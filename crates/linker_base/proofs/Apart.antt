@@ -1,19 +1,22 @@
 -- Deletions in any order, tested part by part: each part against all that comes after it.
-use Rattle.std.proofs.Common.{◌≡◌, ℕ, ◌+◌, ◌-◌, ◌<◌, ◌≤◌, List, [], ◌++◌, length, get_or, take, drop, true, false, Bool, refl, sym, ap, ◌∙◌, inl, inr, arith}
-use Rattle.std.specs.Bool.{beq, then_some}
-use Rattle.std.specs.Prelude.{◌↔◌, not, IsTrue, MatchOption, All, AllPairs, IsPermutation}
+use Rattle.std.proofs.Common.{◌≡◌, ℕ, zero, suc, ◌+◌, ◌-◌, ◌<◌, ◌≤◌, List, [], ◌∷◌, ◌++◌, length, map, get_or, take, drop, true, false, Bool, refl, sym, ap, ◌∙◌, inl, inr, arith}
+use Rattle.std.specs.Bool.{MatchBool, then_some}
+use Rattle.std.specs.Prelude.{◌↔◌, IsTrue, MatchOption, All, IsPermutation}
+use Rattle.std.specs.List.{AllWithin, HoldsAt}
+use Rattle.std.specs.List.Sorted.{IsPartitionPoint, IsPartitionedBy}
 use Rattle.std.specs.Global.{Vec}
-use Rattle.std.proofs.lemmas.Bool.{cases_lt, cases_order, false≢true}
-use Rattle.std.proofs.lemmas.List.{take-append-drop, take_more, get_or-take, get_or_default, length-take, drop_more}
-use Rattle.std.proofs.lemmas.List.Elements.{All-append, All-push}
-use Rattle.std.proofs.lemmas.List.Quantifiers.{all_pairs_push}
+use Rattle.std.proofs.lemmas.Bool.{cases_lt, cases_order, false≢true, false_from_ne_true}
+use Rattle.std.proofs.lemmas.Bool.Decides.{nat_tests}
+use Rattle.std.proofs.lemmas.List.{take-append-drop, get_or_default, get_or-map, length-map, drop_more, take_more, append-nil}
+use Rattle.std.proofs.lemmas.List.Concat.{flat_map-append}
+use Rattle.std.proofs.lemmas.List.Elements.{All-append, All-head, All-tail, All-cons, All-map, All-from_all_within}
 use Rattle.std.proofs.lemmas.List.Sorted.{All-permutation}
 use Rattle.linker_base.specs.Deletions.{IsBefore, DoNotOverlap, EndFits, AreDisjoint, IsValid}
 use Rattle.linker_base.specs.Deltas.{pairs_of}
-use Rattle.linker_base.specs.Inner.Listed.{Goes, GoOneWay, AreApart, AreDisjointBeside, AreFirstDisjoint}
+use Rattle.linker_base.specs.Inner.Listed.{AreApart, AreDisjointBeside, AreFirstDisjoint}
 use Rattle.linker_base.proofs.Listed.{All-front, All-back}
 use Rattle.linker_base.proofs.Merging.{disjoint_joined, disjoint_back, disjoint_across}
-use Rattle.linker_base.proofs.Unions.{disjoint_left, disjoint_from_valid}
+use Rattle.linker_base.proofs.Unions.{is_before, disjoint_left, disjoint_from_valid}
 
 -- ---- parts of a list
 
@@ -63,85 +66,96 @@ pub first_if : (b : Bool) (ds others : List (ℕ × ℕ)) (n : ℕ) → 0 < n �
 first_if true ds others n some within tells = record { some = some; within = within; first = tells.0 refl }
 first_if false ds others n some within tells = λ all. false≢true (tells.1 (beside_take ds others n all))
 
--- ---- lists that go one way
+-- ---- deletions that descend
 
-pub disjoint_from_one_way : (falls : Bool) (ds : List (ℕ × ℕ)) → GoOneWay falls ds → AreDisjoint ds
-disjoint_from_one_way true ds run = record { apart = λ i j d lt within. inr (run.order i j d lt within); ends = run.ends }
-disjoint_from_one_way false ds run = record { apart = λ i j d lt within. inl (run.order i j d lt within); ends = run.ends }
+-- each lies below the one before it, and so below all before it
+fallen : (ds : List (ℕ × ℕ)) → ((k : ℕ) → k + 1 < length ds → IsBefore (get_or ds (k + 1) (0, 0)) (get_or ds k (0, 0))) → (i n : ℕ) → i + suc n < length ds → IsBefore (get_or ds (i + suc n) (0, 0)) (get_or ds i (0, 0))
+fallen ds falling i zero within = let one : i + 1 ≡ i + suc zero = omega arith in rw one at (falling i (omega arith))
+fallen ds falling i (suc n) within =
+    let one : i + suc n + 1 ≡ i + suc (suc n) = omega arith in
+    let last = rw one at (falling (i + suc n) (omega arith)) in
+    let rest = fallen ds falling i n (omega arith) in
+    (omega (arith, last.0, rest.0), omega (arith, last.1, rest.0))
 
--- one more that lies below the last
-pub falling_more : (ds : List (ℕ × ℕ)) (k : ℕ) → 0 < k → k < length ds → GoOneWay true (take k ds) → IsBefore (get_or ds k (0, 0)) (get_or ds (k - 1) (0, 0)) → GoOneWay true (take (k + 1) ds)
-falling_more ds k some within run below = rw (take_more ds k (0, 0) within) (record {
-  order = all_pairs_push (Goes true) (take k ds) here run.order under;
-  ends = All-push EndFits (take k ds) here run.ends (let last = under (k - 1) (0, 0) (omega (arith, long)) in let fits = run.ends (k - 1) (0, 0) (omega (arith, long)) in omega (arith, last.0, last.1, fits));
-})
+pub disjoint_from_falling : (ds : List (ℕ × ℕ)) → ((k : ℕ) → k + 1 < length ds → IsBefore (get_or ds (k + 1) (0, 0)) (get_or ds k (0, 0))) → EndFits (get_or ds 0 (0, 0)) → AreDisjoint ds
+disjoint_from_falling ds falling fits = record {
+  apart = λ i j d lt within.
+      let up : i + suc (j - i - 1) ≡ j = omega arith in
+      let first : i < length ds = omega arith in
+      inr (rw (get_or_default ds i d (0, 0) first, get_or_default ds j d (0, 0) within) (rw up at (fallen ds falling i (j - i - 1) (omega arith))));
+  ends = λ k d within. rw (get_or_default ds k d (0, 0) within) (elim (cases_lt 0 k) [
+    | inl some ↦
+        let up : 0 + suc (k - 1) ≡ k = omega arith in
+        let last = rw up at (fallen ds falling 0 (k - 1) (omega arith)) in
+        omega (arith, last.0, last.1, fits)
+    | inr none ↦ let first : k ≡ 0 = omega arith in rw first fits
+  ]);
+}
+
+-- ---- one beside a valid list
+
+pub test_is : (r : Bool) (a b : ℕ × ℕ) → IsTrue r ↔ IsBefore a b → r ≡ is_before a b
+test_is true a b tells = let below = tells.0 refl in grind (arith, nat_tests, below.0, below.1)
+test_is false a b tells = sym (false_from_ne_true (is_before a b) (λ holds. false≢true (tells.1 (grind (arith, nat_tests, holds), grind (arith, nat_tests, holds)))))
+
+-- those below a pair come first
+pub below_first : {X : Type 0} (f : X → ℕ × ℕ) (xs : List X) (pair : ℕ × ℕ) → IsValid (map f xs) → IsPartitionedBy (λ x. is_before (f x) pair) xs
+below_first f xs pair valid i j d le within passes = elim (cases_order i j) [
+  | inl same ↦ rw same passes
+  | inr (inl lower) ↦
+      let inside : j < length (map f xs) = omega (arith, length-map xs f) in
+      let step = rw (get_or-map f xs i d (0, 0) (omega arith), get_or-map f xs j d (0, 0) within) at (valid.ascending i j (0, 0) lower inside) in
+      grind (arith, nat_tests, step.0, step.1, passes)
+  | inr (inr higher) ↦ absurd (omega arith)
+]
+
+-- and the next one decides
+pub beside_by_next : {X : Type 0} (f : X → ℕ × ℕ) (xs : List X) (pair : ℕ × ℕ) (k : ℕ) → IsValid (map f xs) → IsPartitionPoint (λ x. is_before (f x) pair ≡ true) (λ x. is_before (f x) pair ≡ false) xs k
+    → (k < length xs → IsBefore pair (get_or (map f xs) k (0, 0))) ↔ All (λ d. DoNotOverlap d pair) (map f xs)
+beside_by_next {X = X} f [] pair k valid parted = (λ next j d within. absurd (omega arith), λ free inside. absurd (omega arith))
+beside_by_next {X = X} f (x ∷ rest) pair k valid parted = (into, out)
   where
-    here : ℕ × ℕ
-    here = get_or ds k (0, 0)
+    xs : List X
+    xs = x ∷ rest
 
-    long : length (take k ds) ≡ k
-    long = omega (arith, length-take k ds)
+    into : (k < length xs → IsBefore pair (get_or (map f xs) k (0, 0))) → All (λ d. DoNotOverlap d pair) (map f xs)
+    into next j d within =
+        let inside : j < length xs = omega (arith, length-map xs f) in
+        elim (cases_order j k) [
+          | inl same ↦ inr (rw (same, get_or_default (map f xs) k d (0, 0) (omega arith)) (next (omega arith)))
+          | inr (inl lower) ↦
+              let here = parted.0 j x (omega arith) lower in
+              inl (rw (get_or-map f xs j x d inside) (grind (arith, nat_tests, here), grind (arith, nat_tests, here)))
+          | inr (inr higher) ↦
+              let step = valid.ascending k j d higher within in
+              let first = rw (get_or_default (map f xs) k (0, 0) d (omega arith)) at (next (omega arith)) in
+              inr (omega (arith, step.0, first.0), omega (arith, step.0, first.1))
+        ]
 
-    lower : k - 1 < k
-    lower = omega arith
-
-    under : (j : ℕ) (d : ℕ × ℕ) → j < length (take k ds) → IsBefore here (get_or (take k ds) j d)
-    under j d low = elim (cases_lt j (k - 1)) [
-      | inl earlier ↦
-          let step : IsBefore (get_or (take k ds) (k - 1) d) (get_or (take k ds) j d) = run.order j (k - 1) d earlier (omega (arith, long)) in
-          let inside : k - 1 < length ds = omega arith in
-          let last = rw (get_or-take k ds (k - 1) d lower, get_or_default ds (k - 1) d (0, 0) inside) at step in
-          (omega (arith, below.0, last.0), omega (arith, below.1, last.0))
-      | inr at_end ↦
-          let same : j ≡ k - 1 = omega (arith, long) in
-          let inside : k - 1 < length ds = omega arith in
-          rw (same, get_or-take k ds (k - 1) d lower, get_or_default ds (k - 1) d (0, 0) inside) below
+    out : All (λ d. DoNotOverlap d pair) (map f xs) → k < length xs → IsBefore pair (get_or (map f xs) k (0, 0))
+    out free inside = elim (free k (0, 0) (omega (arith, inside, length-map xs f))) [
+      | inl before ↦
+          let below = rw (get_or-map f xs k x (0, 0) inside) at before in
+          let here = parted.1 k x (omega arith) inside in
+          absurd (grind (arith, nat_tests, here, below.0, below.1))
+      | inr after ↦ after
     ]
 
--- what lies below one of an ascending list lies below all after it, and so on
-before_trans : (a b c : ℕ × ℕ) → IsBefore a b → IsBefore b c → IsBefore a c
-before_trans a b c one two = (omega (arith, one.0, two.0), omega (arith, one.1, two.0))
+-- ---- what a test of each tells
 
-equal_from_beq : (x y : Bool) → beq x y ≡ true → x ≡ y
-equal_from_beq true true e = refl
-equal_from_beq true false e = sym e
-equal_from_beq false true e = e
-equal_from_beq false false e = refl
+pub all_tell : {X Y : Type 0} (b : Bool) (P : Y → Type 0) (f : X → Y) (xs : List X) → MatchBool b (AllWithin (λ x. P (f x)) xs 0 (length xs)) ((k : ℕ) × (k < length xs) × HoldsAt (λ x. P (f x) → ⊥) xs k) → IsTrue b ↔ All P (map f xs)
+all_tell true P f xs all = (λ _. All-map P f xs (All-from_all_within (λ x. P (f x)) xs all), λ _. refl)
+all_tell false P f [] (k, within, denied) = absurd (omega arith)
+all_tell false P f (x ∷ xs) (k, within, denied) = (λ none. absurd (false≢true none), λ all. absurd (denied x (rw (get_or-map f (x ∷ xs) k x (f x) within) at (all k (f x) (omega (arith, within, length-map (x ∷ xs) f))))))
 
-other_from_beq : (x y : Bool) → beq x y ≡ false → x ≡ not y
-other_from_beq true true e = e
-other_from_beq true false e = refl
-other_from_beq false true e = refl
-other_from_beq false false e = sym e
-
--- what a search leaves behind: the deletions on the far side of one that lies below the pair or above it
-pub past_here : (falls is_below : Bool) (ds : List (ℕ × ℕ)) (m : ℕ) (pair : ℕ × ℕ) → AllPairs (Goes falls) ds → m < length ds → beq is_below falls ≡ true
-    → (is_below ≡ true → IsBefore (get_or ds m (0, 0)) pair) → (is_below ≡ false → IsBefore pair (get_or ds m (0, 0)))
-    → (k : ℕ) (d : ℕ × ℕ) → m ≤ k → k < length ds → DoNotOverlap (get_or ds k d) pair
-past_here true is_below ds m pair order within agree below above k d from inside = elim (cases_order m k) [
-  | inl here ↦ inl (rw (← here, get_or_default ds m d (0, 0) within) (below (equal_from_beq is_below true agree)))
-  | inr (inl lower) ↦ inl (before_trans (get_or ds k d) (get_or ds m d) pair (order m k d lower inside) (rw (get_or_default ds m d (0, 0) within) (below (equal_from_beq is_below true agree))))
-  | inr (inr higher) ↦ absurd (omega arith)
-]
-past_here false is_below ds m pair order within agree below above k d from inside = elim (cases_order m k) [
-  | inl here ↦ inr (rw (← here, get_or_default ds m d (0, 0) within) (above (equal_from_beq is_below false agree)))
-  | inr (inl lower) ↦ inr (before_trans pair (get_or ds m d) (get_or ds k d) (rw (get_or_default ds m d (0, 0) within) (above (equal_from_beq is_below false agree))) (order m k d lower inside))
-  | inr (inr higher) ↦ absurd (omega arith)
-]
-
-pub up_to_here : (falls is_below : Bool) (ds : List (ℕ × ℕ)) (m : ℕ) (pair : ℕ × ℕ) → AllPairs (Goes falls) ds → m < length ds → beq is_below falls ≡ false
-    → (is_below ≡ true → IsBefore (get_or ds m (0, 0)) pair) → (is_below ≡ false → IsBefore pair (get_or ds m (0, 0)))
-    → (k : ℕ) (d : ℕ × ℕ) → k ≤ m → DoNotOverlap (get_or ds k d) pair
-up_to_here true is_below ds m pair order within differ below above k d upto = elim (cases_order k m) [
-  | inl here ↦ inr (rw (here, get_or_default ds m d (0, 0) within) (above (other_from_beq is_below true differ)))
-  | inr (inl lower) ↦ inr (before_trans pair (get_or ds m d) (get_or ds k d) (rw (get_or_default ds m d (0, 0) within) (above (other_from_beq is_below true differ))) (order k m d lower within))
-  | inr (inr higher) ↦ absurd (omega arith)
-]
-up_to_here false is_below ds m pair order within differ below above k d upto = elim (cases_order k m) [
-  | inl here ↦ inl (rw (here, get_or_default ds m d (0, 0) within) (below (other_from_beq is_below false differ)))
-  | inr (inl lower) ↦ inl (before_trans (get_or ds k d) (get_or ds m d) pair (order k m d lower within) (rw (get_or_default ds m d (0, 0) within) (below (other_from_beq is_below false differ))))
-  | inr (inr higher) ↦ absurd (omega arith)
-]
+-- what holds of all pairs of each batch holds of the pairs of all
+pub all_batches : (P : ℕ × ℕ → Type 0) (batches : List (Vec (ℕ × ℕ))) → All (All P) (map (λ (b : Vec (ℕ × ℕ)). b.items) batches) ↔ All P (pairs_of batches)
+all_batches P [] = (λ _ k d within. absurd (omega arith), λ _ k d within. absurd (omega arith))
+all_batches P (b ∷ bs) =
+    let rest = all_batches P bs in (
+      λ all. All-append P b.items (pairs_of bs) (All-head (All P) _ _ all) (rest.0 (All-tail (All P) _ _ all)),
+      λ all. All-cons (All P) _ _ (All-front P b.items (pairs_of bs) all) (rest.1 (All-back P b.items (pairs_of bs) all)),
+    )
 
 -- ---- the same deletions in another order
 
@@ -154,3 +168,12 @@ apart_permutation_left xs ys others same apart j e within = All-permutation (λ 
 pub pairs_from : (batches : List (Vec (ℕ × ℕ))) (i : ℕ) (batch : Vec (ℕ × ℕ)) → i < length batches → batch ≡ get_or batches i batch → pairs_of (drop i batches) ≡ batch.items ++ pairs_of (drop (i + 1) batches)
 pairs_from batches i batch within is =
     ap pairs_of (drop_more batches i batch within) ∙ ap (λ (b : Vec (ℕ × ℕ)). b.items ++ pairs_of (drop (i + 1) batches)) (sym is)
+
+-- one more batch
+pub pairs_more : (batches : List (Vec (ℕ × ℕ))) (i : ℕ) (batch : Vec (ℕ × ℕ)) → i < length batches → batch ≡ get_or batches i batch → pairs_of (take (i + 1) batches) ≡ pairs_of (take i batches) ++ batch.items
+pairs_more batches i batch within is =
+    ap pairs_of (take_more batches i batch within) ∙ flat_map-append (λ (b : Vec (ℕ × ℕ)). b.items) (take i batches) (get_or batches i batch ∷ []) ∙ ap (λ ps. pairs_of (take i batches) ++ ps) (append-nil (get_or batches i batch).items ∙ ap (λ (b : Vec (ℕ × ℕ)). b.items) (sym is))
+
+-- the pairs of the first batches stand in front
+pub pairs_front : (batches : List (Vec (ℕ × ℕ))) (i : ℕ) → pairs_of (take i batches) ++ pairs_of (drop i batches) ≡ pairs_of batches
+pairs_front batches i = sym (flat_map-append (λ (b : Vec (ℕ × ℕ)). b.items) (take i batches) (drop i batches)) ∙ ap pairs_of (take-append-drop i batches)

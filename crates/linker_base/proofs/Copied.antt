@@ -10,6 +10,7 @@ use Rattle.linker_base.specs.Deltas.{deletion_of}
 use Rattle.linker_base.specs.Listed.{AreValidDeltas}
 use Rattle.linker_base.specs.declared.relaxation.RelaxDelta.{RelaxDelta}
 use Rattle.linker_base.specs.Inner.Packing.{AreBegun, no_delta, IsRunStart, IsFirstRun, IsFilledTo, IsFilled, IsCopied}
+use Rattle.linker_base.proofs.OutputOffsets.{none_covers}
 use Rattle.linker_base.proofs.Rank.{rank_kept, rank_gone, rank-mono, rank_all_kept}
 
 -- ---- bytes put over others
@@ -36,21 +37,11 @@ module _ (xs ys : List ℕ) (at n : ℕ) (room : at + length ys ≤ length xs) (
 -- ---- positions that are kept, and others
 
 -- a position that a deletion holds is not kept
-gone_at : (ds : List (ℕ × ℕ)) (p k : ℕ) (d : ℕ × ℕ) → k < length ds → get_or ds k d ≡ d → d.0 ≤ p → p < d.0 + d.1 → is_kept ds p ≡ true → ⊥
+pub gone_at : (ds : List (ℕ × ℕ)) (p k : ℕ) (d : ℕ × ℕ) → k < length ds → get_or ds k d ≡ d → d.0 ≤ p → p < d.0 + d.1 → is_kept ds p ≡ true → ⊥
 gone_at ds p k d l at low high kept =
     let held : covers d p ≡ true = and_from (leb d.0 p) (ltb p (d.0 + d.1)) (le-leb d.0 p low) (lt-ltb p (d.0 + d.1) high) in
     let some : list_any (λ e. covers e p) ds ≡ true = list_any_at (λ e. covers e p) ds k d l (ap (λ e. covers e p) at ∙ held) in
     both_ways (is_kept ds p) (ap not some) kept
-
-none_covers : (ds : List (ℕ × ℕ)) (p : ℕ) → ((j : ℕ) (d : ℕ × ℕ) → j < length ds → (get_or ds j d).0 ≤ p → (get_or ds j d).0 + (get_or ds j d).1 ≤ p) → list_any (λ d. covers d p) ds ≡ false
-none_covers [] p past = refl
-none_covers (d ∷ ds) p past =
-    let first : d.0 ≤ p → d.0 + d.1 ≤ p = past 0 d (omega arith) in
-    let rest = none_covers ds p (λ j e within. past (suc j) e (omega arith)) in
-    elim (cases_lt p d.0) [
-      | inl below ↦ rw rest (grind (arith, nat_tests))
-      | inr from ↦ let end : d.0 + d.1 ≤ p = first from in rw rest (grind (arith, nat_tests))
-    ]
 
 -- a position in the run from an offset up to the next deletion is kept
 pub run_kept : (ds : List (ℕ × ℕ)) (k from p : ℕ) → IsRunStart ds k from → from ≤ p → ((j : ℕ) (d : ℕ × ℕ) → k ≤ j → j < length ds → p < (get_or ds j d).0) → is_kept ds p ≡ true

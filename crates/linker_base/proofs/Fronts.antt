@@ -13,7 +13,8 @@ use Rattle.linker_base.specs.Deltas.{deletion_of, RecordsDeletions}
 use Rattle.linker_base.specs.Listed.{AreValidDeltas, AreValidTogether}
 use Rattle.linker_base.specs.Inner.Listed.{IsLower}
 use Rattle.linker_base.proofs.Listed.{RecordsDeletions-push}
-use Rattle.linker_base.proofs.Merges.{disjoint_fit, rise-append}
+use Rattle.linker_base.proofs.Merges.{rise-append}
+use Rattle.linker_base.proofs.OutputOffsets.{disjoint_fit}
 use Rattle.linker_base.proofs.Unions.{disjoint_permutation, union_from_sort}
 
 -- deltas that list the first i deletions and the first j additional ones, merged

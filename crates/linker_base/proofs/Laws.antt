@@ -5,26 +5,20 @@ use Rattle.std.specs.List.{list_any, AllWithin}
 use Rattle.std.proofs.lemmas.Bool.{cases_lt, cases_Bool, not-true, false_from_ne_true, both_ways, or_right}
 use Rattle.std.proofs.lemmas.Bool.Decides.{nat_tests}
 use Rattle.std.proofs.lemmas.List.Elements.{All-head, All-tail}
+use Rattle.std.proofs.lemmas.List.Folds.{list_any_at}
 use Rattle.std.proofs.lemmas.List.Sums.{sum_by-cons}
 use Rattle.std.proofs.lemmas.List.Sorted.{IsPermutation-append_left, IsPermutation-append_right, IsPermutation-append_comm}
 use Rattle.std.proofs.lemmas.List.{append_assoc, take_all, get_or-take, length-take}
 use Rattle.linker_base.specs.Walk.{walk_to, IsAhead}
 use Rattle.linker_base.specs.Deletions.{begun_below, IsBefore, covers, is_kept, IsInsideDeletion, rank, IsSelected}
 use Rattle.linker_base.specs.Laws.{InAfterOutReturns, OutAfterInIsFirstKept, OutAfterInReturnsKept, MergeOrderIsFree, AreTranslations, CursorGivesRanks, MergesShortenDistances}
+use Rattle.linker_base.proofs.Copied.{gone_at}
 use Rattle.linker_base.proofs.Rank.{all_pairs_tail, rank_kept, rank_gone, rank-mono, selected_once}
 use Rattle.linker_base.proofs.Unions.{disjoint_permutation, disjoint_from_union, disjoint_left, union_once, union_of_merges, union_swapped}
 
--- where a listed deletion holds a position, some deletion does
-held_somewhere : (ds : List (ℕ × ℕ)) (k p : ℕ) (d : ℕ × ℕ) → k < length ds → covers (get_or ds k d) p ≡ true → list_any (λ e. covers e p) ds ≡ true
-held_somewhere [] k p d within held = absurd (omega arith)
-held_somewhere (e ∷ ds) zero p d within held = rw held refl
-held_somewhere (e ∷ ds) (suc k) p d within held = let rest = held_somewhere ds k p d (omega arith) held in or_right (covers e p) (list_any (λ e. covers e p) ds) rest
-
 -- a kept position isn't strictly inside a deletion
 kept_outside : (ds : List (ℕ × ℕ)) (p : ℕ) → is_kept ds p ≡ true → IsInsideDeletion ds p → ⊥
-kept_outside ds p kept (k, d, within, at, (below, above)) =
-    let held : covers (get_or ds k d) p ≡ true = rw at (grind (arith, nat_tests)) in
-    both_ways _ (not-true _ kept) (held_somewhere ds k p d within held)
+kept_outside ds p kept (k, d, within, at, (below, above)) = gone_at ds p k d within at (omega arith) above kept
 
 pub in_after_out : InAfterOutReturns
 in_after_out ds y p selected = (kept_outside ds p selected.kept, selected.ranked)
@@ -145,7 +139,7 @@ kept_by_fewer ds more p held kept = ap not (free ds held)
     free [] held = refl
     free (d ∷ ds) held =
         let first = All-head (Contains more) d ds held in
-        let none : covers d p ≡ false = false_from_ne_true (covers d p) (λ here. both_ways _ (not-true _ kept) (held_somewhere more first.0 p d first.1 (rw first.2 here))) in
+        let none : covers d p ≡ false = false_from_ne_true (covers d p) (λ here. both_ways _ (not-true _ kept) (list_any_at (λ e. covers e p) more first.0 d first.1 (rw first.2 here))) in
         rw none (free ds (All-tail (Contains more) d ds held))
 
 -- as one offset rises, the rank over more deletions rises no more than that over fewer

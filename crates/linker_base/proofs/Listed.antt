@@ -13,10 +13,10 @@ use Rattle.linker_base.specs.Listed.{IsFirstInvalid}
 use Rattle.linker_base.proofs.OutputOffsets.{bytes_of-take_fit}
 
 -- what holds of all of a list holds of each of its two parts
-pub All-front : (P : ℕ × ℕ → Type 0) (xs ys : List (ℕ × ℕ)) → All P (xs ++ ys) → All P xs
+pub All-front : {X : Type 0} (P : X → Type 0) (xs ys : List X) → All P (xs ++ ys) → All P xs
 All-front P xs ys all k d within = rw (← get_or_append_left xs ys d k within) (all k d (omega (arith, length-append xs ys)))
 
-pub All-back : (P : ℕ × ℕ → Type 0) (xs ys : List (ℕ × ℕ)) → All P (xs ++ ys) → All P ys
+pub All-back : {X : Type 0} (P : X → Type 0) (xs ys : List X) → All P (xs ++ ys) → All P ys
 All-back P xs ys all k d within = rw (← get_or-append-add xs ys k d) (all (length xs + k) d (omega (arith, length-append xs ys)))
 
 -- R holds between all of two lists, one after the other, where it does in each and from each of the first to each of the second
@@ -77,17 +77,11 @@ IsValid-push ds d valid fits last = record {
           rw here (last e (omega arith))
     ]
 
--- both parts of a valid list are valid
+-- the first part of a valid list is valid
 pub IsValid-front : (xs ys : List (ℕ × ℕ)) → IsValid (xs ++ ys) → IsValid xs
 IsValid-front xs ys valid = record {
   ascending = λ i j d lt within. let lower : i < length xs = omega arith in rw (← get_or_append_left xs ys d i lower, ← get_or_append_left xs ys d j within) (valid.ascending i j d lt (omega (arith, length-append xs ys)));
   ends = All-front EndFits xs ys valid.ends;
-}
-
-pub IsValid-back : (xs ys : List (ℕ × ℕ)) → IsValid (xs ++ ys) → IsValid ys
-IsValid-back xs ys valid = record {
-  ascending = λ i j d lt within. rw (← get_or-append-add xs ys i d, ← get_or-append-add xs ys j d) (valid.ascending (length xs + i) (length xs + j) d (omega arith) (omega (arith, length-append xs ys)));
-  ends = All-back EndFits xs ys valid.ends;
 }
 
 pub IsValid-take : (ds : List (ℕ × ℕ)) (k : ℕ) → IsValid ds → IsValid (take k ds)

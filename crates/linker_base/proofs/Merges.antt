@@ -1,6 +1,6 @@
 -- A merge of two ascending lists, from the back.
 use Rattle.std.proofs.Common.{◌≡◌, ℕ, zero, suc, ◌+◌, ◌-◌, ◌<◌, ◌≤◌, List, ◌∷◌, ◌++◌, length, map, get_or, set, take, drop, refl, sym, ap, ◌∙◌, inl, inr, arith}
-use Rattle.std.specs.Prelude.{◌^◌, All, IsPermutation}
+use Rattle.std.specs.Prelude.{All, IsPermutation}
 use Rattle.std.specs.List.Sorted.{IsNonDecreasingBy}
 use Rattle.std.proofs.lemmas.Bool.{cases_lt, cases_order}
 use Rattle.std.proofs.lemmas.List.{append_assoc, take-append-drop, take-append-le, take-take, take-map, take_all, take-set-le, drop_more, drop-set, get_or-take, get_or_default, get_or_append_left, get_or-append_right, map-append, length-append, length-map, length-set, length-take}
@@ -12,19 +12,8 @@ use Rattle.linker_base.specs.declared.relaxation.RelaxDelta.{RelaxDelta}
 use Rattle.linker_base.specs.Deletions.{AreDisjoint, IsValid, IsSortedUnion, bytes_of}
 use Rattle.linker_base.specs.Deltas.{deletion_of}
 use Rattle.linker_base.specs.Listed.{AreValidDeltas}
-use Rattle.linker_base.proofs.OutputOffsets.{AreParted, rank-parted}
 use Rattle.linker_base.proofs.Search.{deletion_at}
 use Rattle.linker_base.proofs.Unions.{union_from_sort}
-
--- the bytes of disjoint deletions fit 64 bits
-pub disjoint_fit : (ds : List (ℕ × ℕ)) → AreDisjoint ds → bytes_of ds < 2 ^ 64
-disjoint_fit ds disjoint =
-    let parted : AreParted ds (length ds) (2 ^ 64 - 1) = record {
-      passed = λ j d from below. omega (arith, disjoint.ends j d below);
-      ahead = λ j d from below. absurd (omega arith);
-    } in
-    let whole : take (length ds) ds ≡ ds = take_all (length ds) ds (omega arith) in
-    omega (arith, rw whole at (rank-parted ds (length ds) (2 ^ 64 - 1) disjoint.apart parted))
 
 -- the offsets of a valid list rise
 pub valid_rises : (ds : List (ℕ × ℕ)) → IsValid ds → IsNonDecreasingBy (λ d. d.0) ds

@@ -1,13 +1,14 @@
 -- Where a list of deletions parts at an offset or at an output offset, and what is gone before it.
-use Rattle.std.proofs.Common.{◌≡◌, ℕ, zero, suc, ◌+◌, ◌<◌, ◌≤◌, true, false, List, [], ◌∷◌, length, get_or, take, refl, ap, ⊎_elim, add-one, arith}
+use Rattle.std.proofs.Common.{◌≡◌, ℕ, zero, suc, ◌+◌, ◌-◌, ◌<◌, ◌≤◌, true, false, List, [], ◌∷◌, length, get_or, take, refl, ap, inl, inr, ⊎_elim, add-one, arith}
 use Rattle.std.specs.Prelude.{◌^◌, not, AllPairs}
 use Rattle.std.specs.List.{list_any, AllWithin}
 use Rattle.std.proofs.lemmas.Bool.{cases_lt}
 use Rattle.std.proofs.lemmas.Bool.Decides.{nat_tests}
-use Rattle.std.proofs.lemmas.List.{take_all}
+use Rattle.std.proofs.lemmas.List.{take_all, take-take}
 use Rattle.std.proofs.lemmas.List.Sums.{sum_by-cons, sum_by_more, sum_by-take-le}
-use Rattle.linker_base.specs.Deletions.{IsBefore, DoNotOverlap, IsValid, bytes_of, covers, is_kept, rank, IsSelected}
+use Rattle.linker_base.specs.Deletions.{IsBefore, DoNotOverlap, AreDisjoint, IsValid, bytes_of, covers, is_kept, rank, IsSelected}
 use Rattle.linker_base.proofs.Rank.{removed_by, removed, rank-removed}
+use Rattle.linker_base.proofs.Unions.{disjoint_from_valid}
 
 -- deletions that end at or below an offset, and then such that begin at or above it
 pub record AreParted (ds : List (ℕ × ℕ)) (k i : ℕ) : Type 0 where
@@ -43,27 +44,25 @@ rank-parted ds k i apart parted = omega (arith, rank-removed ds i apart, removed
 
 -- the bytes of the first deletions don't fall as more are taken
 pub bytes_of-take_rise : (ds : List (ℕ × ℕ)) (j k : ℕ) → j ≤ k → bytes_of (take j ds) ≤ bytes_of (take k ds)
-bytes_of-take_rise ds zero k le = omega arith
-bytes_of-take_rise [] (suc j) (suc k) le = omega arith
-bytes_of-take_rise (d ∷ ds) (suc j) zero le = absurd (omega arith)
-bytes_of-take_rise [] (suc j) zero le = absurd (omega arith)
-bytes_of-take_rise (d ∷ ds) (suc j) (suc k) le =
-    omega (arith, sum_by-cons (λ (e : ℕ × ℕ). e.1) d (take j ds), sum_by-cons (λ (e : ℕ × ℕ). e.1) d (take k ds), bytes_of-take_rise ds j k (omega arith))
+bytes_of-take_rise ds j k le = rw (take-take j k ds le) at (sum_by-take-le (λ (e : ℕ × ℕ). e.1) (take k ds) j)
 
--- no deletion holds a position that parts the list, if those ahead begin above it
+-- no deletion holds a position where each that begins at it or below ends there or below
+pub none_covers : (ds : List (ℕ × ℕ)) (p : ℕ) → ((j : ℕ) (d : ℕ × ℕ) → j < length ds → (get_or ds j d).0 ≤ p → (get_or ds j d).0 + (get_or ds j d).1 ≤ p) → list_any (λ d. covers d p) ds ≡ false
+none_covers [] p past = refl
+none_covers (d ∷ ds) p past =
+    let first : d.0 ≤ p → d.0 + d.1 ≤ p = past 0 d (omega arith) in
+    let rest = none_covers ds p (λ j e within. past (suc j) e (omega arith)) in
+    elim (cases_lt p d.0) [
+      | inl below ↦ rw rest (grind (arith, nat_tests))
+      | inr from ↦ let end : d.0 + d.1 ≤ p = first from in rw rest (grind (arith, nat_tests))
+    ]
+
+-- nor one that parts the list, if those ahead begin above it
 kept-parted : (ds : List (ℕ × ℕ)) (k p : ℕ) → AreParted ds k (suc p) → AllWithin (λ d. d.0 + d.1 ≤ p) ds 0 k → is_kept ds p ≡ true
-kept-parted ds k p parted passed = ap not (free ds k parted passed)
-  where
-    free : (ds : List (ℕ × ℕ)) (k : ℕ) → AreParted ds k (suc p) → AllWithin (λ d. d.0 + d.1 ≤ p) ds 0 k → list_any (λ d. covers d p) ds ≡ false
-    free [] k parted passed = refl
-    free (d ∷ ds) zero parted passed =
-        let first : suc p ≤ d.0 = parted.ahead 0 d (omega arith) (omega arith) in
-        let rest = free ds zero (parted_from_start d ds (suc p) parted) (λ j e from below. absurd (omega arith)) in
-        rw rest (grind (arith, nat_tests))
-    free (d ∷ ds) (suc k) parted passed =
-        let first : d.0 + d.1 ≤ p = passed 0 d (omega arith) (omega arith) in
-        let rest = free ds k (parted_tail d ds k (suc p) parted) (λ j e from below. passed (suc j) e (omega arith) (omega arith)) in
-        rw rest (grind (arith, nat_tests))
+kept-parted ds k p parted passed = ap not (none_covers ds p (λ j d within begun. elim (cases_lt j k) [
+  | inl low ↦ passed j d (omega arith) low
+  | inr from ↦ absurd (omega (arith, begun, parted.ahead j d from within))
+]))
 
 -- where the output offsets part the list at k, the first k deletions are the bytes to add
 pub selected-output : (ds : List (ℕ × ℕ)) (k y : ℕ) → AllPairs DoNotOverlap ds → k ≤ length ds
@@ -101,17 +100,19 @@ bytes_between ds i (suc j) d ascending le within =
 pub bytes-le-offset : (ds : List (ℕ × ℕ)) (j : ℕ) (d : ℕ × ℕ) → AllPairs IsBefore ds → j < length ds → bytes_of (take j ds) ≤ (get_or ds j d).0
 bytes-le-offset ds j d ascending within = omega (arith, bytes_between ds 0 j d ascending (omega arith) within)
 
--- all bytes of a valid list fit below the end of its last deletion, and so 64 bits
-pub bytes_fit : (ds : List (ℕ × ℕ)) → IsValid ds → bytes_of ds < 2 ^ 64
-bytes_fit [] valid = omega arith
-bytes_fit (d ∷ ds) valid =
-    let last = length ds in
-    let end : (get_or (d ∷ ds) last d).0 + (get_or (d ∷ ds) last d).1 < 2 ^ 64 = valid.ends last d (omega arith) in
-    let before = bytes-le-offset (d ∷ ds) last d valid.ascending (omega arith) in
-    let more = sum_by_more (λ (e : ℕ × ℕ). e.1) (d ∷ ds) last d (omega arith) in
-    let whole : take (last + 1) (d ∷ ds) ≡ d ∷ ds = take_all (last + 1) (d ∷ ds) (omega arith) in
-    omega (arith, rw whole at more)
+-- the bytes of disjoint deletions fit 64 bits
+pub disjoint_fit : (ds : List (ℕ × ℕ)) → AreDisjoint ds → bytes_of ds < 2 ^ 64
+disjoint_fit ds disjoint =
+    let parted : AreParted ds (length ds) (2 ^ 64 - 1) = record {
+      passed = λ j d from below. omega (arith, disjoint.ends j d below);
+      ahead = λ j d from below. absurd (omega arith);
+    } in
+    let whole : take (length ds) ds ≡ ds = take_all (length ds) ds (omega arith) in
+    omega (arith, rw whole at (rank-parted ds (length ds) (2 ^ 64 - 1) disjoint.apart parted))
 
--- an offset of a valid list is at most the end of its last deletion: the bytes below any offset fit too
+-- and so do those of a valid list, and of the first of it
+pub bytes_fit : (ds : List (ℕ × ℕ)) → IsValid ds → bytes_of ds < 2 ^ 64
+bytes_fit ds valid = disjoint_fit ds (disjoint_from_valid ds valid)
+
 pub bytes_of-take_fit : (ds : List (ℕ × ℕ)) (k : ℕ) → IsValid ds → bytes_of (take k ds) < 2 ^ 64
 bytes_of-take_fit ds k valid = omega (arith, bytes_fit ds valid, sum_by-take-le (λ (e : ℕ × ℕ). e.1) ds k)

@@ -4,13 +4,14 @@ use Rattle.std.specs.Int.{w64, cast_unsigned, bit_at, int_rem_euclid}
 use Rattle.std.specs.List.{All}
 use Rattle.std.proofs.lemmas.Bool.{cases_lt, cond_both, cond-true, cond-false, lt-ltb, lt-leb, le-ltb, ltb-true, ltb-false, and_parts}
 use Rattle.std.proofs.lemmas.Int.{ints, int_rem_euclid_is}
-use Rattle.std.proofs.lemmas.List.Elements.{All-nil, All-cons, All-head, All-tail, All-append}
+use Rattle.std.proofs.lemmas.List.Elements.{All-append}
 use Rattle.std.proofs.lemmas.List.Sums.{sum_by-cons}
 use Rattle.std.proofs.lemmas.Nat.Bits.{same_from_bits, bit_at-zero}
 use Rattle.linker_base.specs.Bits.{signed}
 use Rattle.linker_base.specs.Form.{Mark, replaced, ored, cleared, ImmediateBit, BitsWritten, placed_bit, bit_for, place_sum, worth}
 use Rattle.linker_base.proofs.Fields.{bit_at_mod, bit_at_mod_above}
 use Rattle.linker_base.proofs.Immediates.{has_value_fills, values_apart_fills, place_sum_below}
+use Rattle.linker_base.proofs.Listed.{All-front, All-back}
 use Rattle.linker_base.proofs.Parts.{unchanged, is_cleared, all_cleared, cleared_kept, ored_from, ored_kept}
 use Rattle.linker_base.proofs.Places.{bit_at-place_sum, value_bit_none, sums}
 use Rattle.linker_base.proofs.Rounded.{IsSoundPart, part_kept}
@@ -35,12 +36,10 @@ added x y a b e f = cc
 -- ---- both parts of what is written
 
 pub all_left : {X : Type 0} (P : X → Type 0) (xs ys : List X) → All P (xs ++ ys) → All P xs
-all_left P [] ys h = All-nil P
-all_left P (x ∷ xs) ys h = All-cons P x xs (All-head P x (xs ++ ys) h) (all_left P xs ys (All-tail P x (xs ++ ys) h))
+all_left P xs ys all = All-front P xs ys all
 
 pub all_right : {X : Type 0} (P : X → Type 0) (xs ys : List X) → All P (xs ++ ys) → All P ys
-all_right P [] ys h = h
-all_right P (x ∷ xs) ys h = all_right P xs ys (All-tail P x (xs ++ ys) h)
+all_right P xs ys all = All-back P xs ys all
 
 -- the bits below a part's own are 0
 pub part_aligned : (low n r : ℕ) (ps : List ImmediateBit) (x : ℕ) → IsSoundPart low n r ps
@@ -67,8 +66,8 @@ parts_restored a b r c d s high low v before after high_sound low_sound laid hig
     let Placed : ImmediateBit → Type 0 = λ p. bit_at after p.insn_bit ≡ placed_bit p.mark (bit_for p v) (bit_at before p.insn_bit) in
     unchanged (high ++ low) v before after laid
     (All-append (λ (p : ImmediateBit). bit_at after p.insn_bit ≡ bit_at before p.insn_bit) high low
-    (part_kept a b r high v before after high_sound high_same (all_left Placed high low laid.placed))
-    (part_kept c d s low v before after low_sound low_same (all_right Placed high low laid.placed)))
+    (part_kept a b r high v before after high_sound high_same (All-front Placed high low laid.placed))
+    (part_kept c d s low v before after low_sound low_same (All-back Placed high low laid.placed)))
 
 -- ---- a high part of 20 bits and a signed low part of 12
 
@@ -149,7 +148,7 @@ part_restored n held others v before after sound wide same stay laid =
     unchanged (held ++ others) v before after laid
     (All-append (λ (p : ImmediateBit). bit_at after p.insn_bit ≡ bit_at before p.insn_bit) held others
     (part_kept 0 n 0 held v before after sound (whole ∙ same)
-    (all_left (λ (p : ImmediateBit). bit_at after p.insn_bit ≡ placed_bit p.mark (bit_for p v) (bit_at before p.insn_bit)) held others laid.placed))
+    (All-front (λ (p : ImmediateBit). bit_at after p.insn_bit ≡ placed_bit p.mark (bit_for p v) (bit_at before p.insn_bit)) held others laid.placed))
     stay)
 
 -- 12 bits are read of 16, of which the highest four are only ORed
@@ -159,7 +158,7 @@ low_restored held others v before after sound high wide e laid =
     let below = part_below 0 12 0 held before sound in
     part_restored 12 held others v before after sound wide (omega arith)
     (ored_kept 12 others v before after (omega arith) wide high
-    (all_right (λ (p : ImmediateBit). bit_at after p.insn_bit ≡ placed_bit p.mark (bit_for p v) (bit_at before p.insn_bit)) held others laid.placed))
+    (All-back (λ (p : ImmediateBit). bit_at after p.insn_bit ≡ placed_bit p.mark (bit_for p v) (bit_at before p.insn_bit)) held others laid.placed))
     laid
 
 cleared_worth : (m : Mark) (k b : ℕ) → is_cleared m ≡ true → worth m k b ≡ 0
@@ -185,5 +184,5 @@ clear_restored held others v before after sound clear none wide e laid =
     let sum : place_sum (held ++ others) before ≡ place_sum held before = sums held others before ∙ ap (λ y. place_sum held before + y) (cleared_sum others before clear) ∙ omega arith in
     part_restored 20 held others v before after sound wide (omega arith)
     (cleared_kept others v before after clear none
-    (all_right (λ (p : ImmediateBit). bit_at after p.insn_bit ≡ placed_bit p.mark (bit_for p v) (bit_at before p.insn_bit)) held others laid.placed))
+    (All-back (λ (p : ImmediateBit). bit_at after p.insn_bit ≡ placed_bit p.mark (bit_for p v) (bit_at before p.insn_bit)) held others laid.placed))
     laid

@@ -16,6 +16,21 @@ use Rattle.linker_base.proofs.Unions.{disjoint_permutation, disjoint_from_valid}
 abbrev pub LieBelow : ℕ → List (ℕ × ℕ) → Type 0
 LieBelow next ds = All (λ d. (d.0 < next) × (d.0 + d.1 ≤ next)) ds
 
+-- a valid list of them
+pub record IsBelow (next : ℕ) (ds : List (ℕ × ℕ)) : Type 0 where
+  pub valid : IsValid ds
+  pub below : LieBelow next ds
+
+rise : (next after : ℕ) (ds : List (ℕ × ℕ)) → next ≤ after → LieBelow next ds → LieBelow after ds
+rise next after ds le below k e low = let here = below k e low in (omega (arith, here.0), omega (arith, here.1))
+
+-- one more that fits, from that offset on
+pub below_push : (ds : List (ℕ × ℕ)) (d : ℕ × ℕ) (next after : ℕ) → IsBelow next ds → next ≤ d.0 → EndFits d → after ≡ d.0 + max d.1 1 → IsBelow after (ds ++ d ∷ [])
+below_push ds d next after first begins fits is = record {
+  valid = IsValid-push ds d first.valid fits (λ e some. let last = first.below (length ds - 1) e (omega arith) in (omega (arith, last.0, begins), omega (arith, last.1, begins)));
+  below = All-push (λ e. (e.0 < after) × (e.0 + e.1 ≤ after)) ds d (rise next after ds (omega (arith, begins, is)) first.below) (omega (arith, is), omega (arith, is));
+}
+
 -- what was passed of both lists is valid and lies below `next`, and what comes next can follow
 pub record AreWalked (ds ps : List (ℕ × ℕ)) (i j next : ℕ) : Type 0 where
   pub valid : AreValidTogether (take i ds) (take j ps)
@@ -45,14 +60,14 @@ walked_more : (ds ps : List (ℕ × ℕ)) (i j next after : ℕ) → AreWalked d
     → next ≤ (get_or ds i (0, 0)).0 → EndFits (get_or ds i (0, 0)) → after ≡ (get_or ds i (0, 0)).0 + max (get_or ds i (0, 0)).1 1 → AreWalked ds ps (i + 1) j after
 walked_more ds ps i j next after walked within first begins fits is = record {
   valid = record {
-    old = old;
+    old = old.valid;
     added = walked.valid.added;
-    disjoint = disjoint_joined (take (i + 1) ds) (take j ps) (disjoint_from_valid (take (i + 1) ds) old) (disjoint_from_valid (take j ps) walked.valid.added) (λ k e low. rw more (All-push (λ x. DoNotOverlap x (get_or (take j ps) k e)) (take i ds) d
+    disjoint = disjoint_joined (take (i + 1) ds) (take j ps) (disjoint_from_valid (take (i + 1) ds) old.valid) (disjoint_from_valid (take j ps) walked.valid.added) (λ k e low. rw more (All-push (λ x. DoNotOverlap x (get_or (take j ps) k e)) (take i ds) d
         (disjoint_across (take i ds) (take j ps) walked.valid.disjoint k e low)
         (let below = walked.added_below k e low in inr (omega (arith, below.0, begins), omega (arith, below.1, begins)))));
   };
-  old_below = rw more (All-push (λ e. (e.0 < after) × (e.0 + e.1 ≤ after)) (take i ds) d (rise (take i ds) walked.old_below) (omega (arith, is), omega (arith, is)));
-  added_below = rise (take j ps) walked.added_below;
+  old_below = old.below;
+  added_below = rise next after (take j ps) (omega (arith, begins, is)) walked.added_below;
   old_follows = λ valid some. let step = valid.old.ascending i (i + 1) (0, 0) (omega arith) some in omega (arith, step.0, step.1, is);
   added_follows = λ valid some. elim (disjoint_across ds ps valid.disjoint j (0, 0) some i (0, 0) within) [
     | inl before ↦ omega (arith, before.0, before.1, is)
@@ -66,11 +81,8 @@ walked_more ds ps i j next after walked within first begins fits is = record {
     more : take (i + 1) ds ≡ take i ds ++ d ∷ []
     more = take_more ds i (0, 0) within
 
-    old : IsValid (take (i + 1) ds)
-    old = rw more (IsValid-push (take i ds) d walked.valid.old fits (λ e some. let last = walked.old_below (length (take i ds) - 1) e (omega arith) in (omega (arith, last.0, begins), omega (arith, last.1, begins))))
-
-    rise : (es : List (ℕ × ℕ)) → LieBelow next es → LieBelow after es
-    rise es below k e low = let here = below k e low in (omega (arith, here.0, begins, is), omega (arith, here.1, begins, is))
+    old : IsBelow after (take (i + 1) ds)
+    old = rw more (below_push (take i ds) d next after (record { valid = walked.valid.old; below = walked.old_below }) begins fits is)
 
 -- one more of either list
 pub walked_step : (ds ps : List (ℕ × ℕ)) (i j next after : ℕ) (d : ℕ × ℕ) (is_old : Bool) (p t : ℕ) → AreWalked ds ps i j next → IsLower ds ps i j d is_old

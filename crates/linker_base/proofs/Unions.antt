@@ -12,7 +12,7 @@ use Rattle.linker_base.specs.Deletions.{IsBefore, DoNotOverlap, EndFits, AreDisj
 use Rattle.linker_base.proofs.Rank.{all_pairs_tail, all_pairs_head}
 
 -- the test of IsBefore, and of two deletions of which none is before the other
-abbrev is_before : ℕ × ℕ → ℕ × ℕ → Bool
+abbrev pub is_before : ℕ × ℕ → ℕ × ℕ → Bool
 is_before a b = nat_lt a.0 b.0 && nat_le (a.0 + a.1) b.0
 
 abbrev touch : ℕ × ℕ → ℕ × ℕ → Bool

@@ -132,8 +132,8 @@ impl SectionRelaxDeltas {
     ///
     /// It doesn't allocate. For k pairs and n deltas the work is O(k log n + k) where the pairs
     /// ascend or descend, as a pass over a section makes them, and else O(k log n + p k log k) for
-    /// p parts of the pairs: runs of 1,024 or more that ascend or that descend, and where no such
-    /// run begins 1,024 pairs, which are sorted on the stack, in 16 KB.
+    /// p parts of the pairs: runs of 1,024 or more that ascend, and where no such run begins 1,024
+    /// pairs, which are sorted on the stack, in 16 KB.
     #[must_use]
     pub fn is_mergeable(&self, additional: &[(u64, u32)]) -> bool {
         can_be_merged(&self.deltas, additional)

@@ -1,11 +1,11 @@
 -- What holds of the fields of deltas and of a cursor, and of what searches and tests in them find.
 use Rattle.std.specs.Prelude.{◌≡◌, ℕ, ◌+◌, ◌-◌, ◌<◌, ◌≤◌, List, length, map, take, slice_index_or}
-use Rattle.std.specs.Prelude.{All, AllPairs, Any, Bool, true}
+use Rattle.std.specs.Prelude.{All, Any, Bool, true}
 use Rattle.std.specs.Prelude.{false, ◌++◌, drop}
 use Rattle.linker_base.specs.declared.relaxation.RelaxDelta.{RelaxDelta}
 use Rattle.linker_base.specs.declared.relaxation.blocks.BlockHead.{BlockHead}
 use Rattle.linker_base.specs.declared.relaxation.walk.Reached.{Reached}
-use Rattle.linker_base.specs.Deletions.{IsBefore, DoNotOverlap, EndFits, AreDisjoint, IsValid}
+use Rattle.linker_base.specs.Deletions.{DoNotOverlap, AreDisjoint, IsValid}
 use Rattle.linker_base.specs.Deletions.{bytes_of}
 use Rattle.linker_base.specs.Deltas.{deletion_of}
 use Rattle.linker_base.specs.Blocks.{AreHeads}
@@ -32,22 +32,12 @@ pub record IsRun (from next : ℕ) (deletions : List (ℕ × ℕ)) : Type 0 wher
   pub end : All (λ d. (d.0 < next) × (d.0 + d.1 ≤ next)) deletions
   pub least : (i : ℕ) → from ≤ i → All (λ d. (d.0 < i) × (d.0 + d.1 ≤ i)) deletions → next ≤ i
 
--- of two deletions in order the second lies below the first, or above it
-abbrev pub Goes : Bool → ℕ × ℕ → ℕ × ℕ → Type 0
-Goes true a b = IsBefore b a
-Goes false a b = IsBefore a b
-
 -- the lower of the next deletions of both lists is the first list's, or the second's
 abbrev pub IsLower : List (ℕ × ℕ) → List (ℕ × ℕ) → ℕ → ℕ → ℕ × ℕ → Bool → Type 0
 IsLower ds ps i j d true = (i < length ds) × (d ≡ slice_index_or ds i (0, 0))
     × (j < length ps → d.0 ≤ (slice_index_or ps j (0, 0)).0)
 IsLower ds ps i j d false = (j < length ps) × (d ≡ slice_index_or ps j (0, 0))
     × (i < length ds → d.0 ≤ (slice_index_or ds i (0, 0)).0)
-
--- deletions that fit, and all descend or all ascend
-pub record GoOneWay (falls : Bool) (deletions : List (ℕ × ℕ)) : Type 0 where
-  pub order : AllPairs (Goes falls) deletions
-  pub ends : All EndFits deletions
 
 -- none of the first list overlaps one of the second
 abbrev pub AreApart : List (ℕ × ℕ) → List (ℕ × ℕ) → Type 0

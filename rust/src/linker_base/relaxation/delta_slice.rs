@@ -266,8 +266,8 @@ impl<'a> DeltaSlice<'a> {
     ///
     /// It doesn't allocate. For k deletions and n deltas the work is O(k log n + k) where the
     /// deletions ascend or descend, as a pass over a section makes them, and else O(k log n + p k
-    /// log k) for p parts of them: runs of 1,024 or more that ascend or that descend, and where no
-    /// such run begins 1,024 deletions, which are sorted on the stack, in 16 KB.
+    /// log k) for p parts of them: runs of 1,024 or more that ascend, and where no such run begins
+    /// 1,024 deletions, which are sorted on the stack, in 16 KB.
     #[must_use]
     pub fn can_merge<D: AsDeletion>(&self, additional: &[D]) -> bool {
         overlap::can_be_merged(self.deltas(), additional)

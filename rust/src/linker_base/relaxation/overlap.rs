@@ -2,8 +2,8 @@
 // Made by tools/erase of crates/linker_base/src/relaxation/overlap.rt.
 //! Tests of lists of deletions. None allocates but those that sort a copy.
 //!
-//! Deletions in any order are tested in parts: each part is one that ascends or descends, or a few
-//! that are sorted on the stack, and a search in it finds what it overlaps.
+//! Deletions in any order are tested in parts: each part is one that ascends, or a few that are
+//! sorted on the stack, and a search in it finds what it overlaps.
 
 use alloc::vec::Vec;
 use super::RelaxDelta;
@@ -131,10 +131,7 @@ pub(super) fn can_be_merged_sorted<D: AsDeletion>(
     deltas: &[RelaxDelta],
     additional: &[D],
 ) -> bool {
-    if additional.len() > SORTED_LEN
-        && !are_valid(additional)
-        && falling_len(additional) < additional.len()
-    {
+    if additional.len() > SORTED_LEN && !are_valid(additional) && !falls(additional) {
         if let Ok(pairs) = copy_deletions(additional) {
             return can_pairs_be_merged(deltas, pairs);
         }
@@ -150,9 +147,12 @@ fn inner_or_middle(number: usize, low: usize, high: usize) -> usize {
     low + (high - low) / 2
 }
 
-// Whether the deletions are disjoint, and none overlaps a delta.
+// Whether the deletions are disjoint, and none overlaps a delta. Many that ascend are met in a walk.
 pub(super) fn can_be_merged<D: AsDeletion>(deltas: &[RelaxDelta], additional: &[D]) -> bool {
-    are_disjoint_beside(additional, &[]) && are_beside_deltas(deltas, additional)
+    if additional.len() > deltas.len() / 16 && rise_together(deltas, additional) {
+        return true;
+    }
+    are_disjoint(additional) && are_beside(deltas, additional)
 }
 
 // Whether both are valid lists, and no deletion of one overlaps one of the other. A few among many
@@ -233,25 +233,53 @@ fn valid_len<D: AsDeletion>(deletions: &[D]) -> usize {
     first_invalid(deletions).unwrap_or(deletions.len())
 }
 
-// How many of the first deletions descend; each of them fits.
-fn falling_len<D: AsDeletion>(deletions: &[D]) -> usize {
-    if deletions.is_empty() || !end_fits(pair_at(deletions, 0)) {
-        return 0;
+// Whether the deletions, in any order, make a valid list once sorted.
+fn are_disjoint<D: AsDeletion>(deletions: &[D]) -> bool {
+    falls(deletions) || are_disjoint_beside(deletions, &[])
+}
+
+// Whether there are deletions, they descend, and each of them fits.
+fn falls<D: AsDeletion>(deletions: &[D]) -> bool {
+    if deletions.is_empty() {
+        return false;
     }
     let mut at = 1;
     while at < deletions.len() && is_before(pair_at(deletions, at), pair_at(deletions, at - 1)) {
         at += 1;
     }
-    at
+    at == deletions.len() && end_fits(pair_at(deletions, 0))
 }
 
-// Whether the deletion overlaps none of the deltas: the nearest two decide.
-fn is_beside_deltas(deltas: &[RelaxDelta], deletion: (u64, u32)) -> bool {
-    let below = DeltaSlice::new(deltas).count_below(deletion.0);
-    if below > 0 && !is_before(pair_at(deltas, below - 1), deletion) {
-        return false;
-    }
-    below == deltas.len() || is_before(deletion, pair_at(deltas, below))
+// Whether the deletion overlaps none of a valid list: the first that isn't below it decides.
+fn is_beside<R: AsDeletion>(list: &[R], deletion: (u64, u32)) -> bool {
+    let below = list.partition_point(|other| is_before(other.as_deletion(), deletion));
+    below == list.len() || is_before(deletion, pair_at(list, below))
+}
+
+// Whether no other deletion overlaps one of a valid list.
+fn are_beside<R: AsDeletion, D: AsDeletion>(list: &[R], others: &[D]) -> bool {
+    others
+        .iter()
+        .all(|other| is_beside(list, other.as_deletion()))
+}
+
+// Whether no other deletion, and no pair of the batches, overlaps one of a valid list.
+fn are_apart<R: AsDeletion, D: AsDeletion>(
+    list: &[R],
+    others: &[D],
+    batches: &[Vec<(u64, u32)>],
+) -> bool {
+    are_beside(list, others) && are_beside_batches(list, batches)
+}
+
+// Whether no pair of the batch overlaps one of a valid list.
+fn is_batch_beside<R: AsDeletion>(list: &[R], batch: &Vec<(u64, u32)>) -> bool {
+    are_beside(list, batch.as_slice())
+}
+
+// Whether no pair of the batches overlaps one of a valid list.
+fn are_beside_batches<R: AsDeletion>(list: &[R], batches: &[Vec<(u64, u32)>]) -> bool {
+    batches.iter().all(|batch| is_batch_beside(list, batch))
 }
 
 // Whether the pairs of all batches, in any order, make a valid list once sorted. Pairs that
@@ -280,33 +308,19 @@ fn are_disjoint_beside<D: AsDeletion>(deletions: &[D], batches: &[Vec<(u64, u32)
     true
 }
 
-// How many of the first deletions were tested: they are disjoint, and none overlaps a later one or
-// a pair of the batches. None where some deletion overlaps another or a pair, or doesn't fit.
-fn first_disjoint<D: AsDeletion>(deletions: &[D], batches: &[Vec<(u64, u32)>]) -> Option<usize> {
-    let rising = valid_len(deletions);
-    if rising >= SORTED_LEN || rising == deletions.len() {
-        return is_run_apart(deletions, rising, false, batches).then_some(rising);
-    }
-    let falling = falling_len(deletions);
-    if falling >= SORTED_LEN || falling == deletions.len() {
-        return is_run_apart(deletions, falling, true, batches).then_some(falling);
-    }
-    let count = deletions.len().min(SORTED_LEN);
-    are_sorted_apart(deletions, count, batches).then_some(count)
-}
-
 // How many deletions the stack has room for, in 16 KB.
 const SORTED_LEN: usize = 1024;
 
-// Whether none of the first deletions, which fit and go one way, overlaps a later one or a pair of
-// the batches.
-fn is_run_apart<D: AsDeletion>(
-    deletions: &[D],
-    count: usize,
-    falls: bool,
-    batches: &[Vec<(u64, u32)>],
-) -> bool {
-    are_apart(&deletions[..count], falls, &deletions[count..], batches)
+// How many of the first deletions were tested: they are disjoint, and none overlaps a later one or
+// a pair of the batches. None where some deletion overlaps another or a pair, or doesn't fit.
+// A long run that ascends is tested as it is, and else a part is sorted.
+fn first_disjoint<D: AsDeletion>(deletions: &[D], batches: &[Vec<(u64, u32)>]) -> Option<usize> {
+    let rising = valid_len(deletions);
+    let count = deletions.len().min(SORTED_LEN);
+    if rising < count {
+        return are_sorted_apart(deletions, count, batches).then_some(count);
+    }
+    are_apart(&deletions[..rising], &deletions[rising..], batches).then_some(rising)
 }
 
 // Whether the first deletions are disjoint, and none overlaps a later one or a pair of the batches.
@@ -320,10 +334,7 @@ fn are_sorted_apart<D: AsDeletion>(
     let sorted = &mut room[..count];
     copy_first(deletions, count, sorted);
     sorted.sort_unstable_by_key(|pair| pair.0);
-    if !are_valid(sorted) {
-        return false;
-    }
-    are_apart(sorted, false, &deletions[count..], batches)
+    are_valid(sorted) && are_apart(sorted, &deletions[count..], batches)
 }
 
 // Writes the first deletions.
@@ -333,102 +344,16 @@ fn copy_first<D: AsDeletion>(deletions: &[D], count: usize, pairs: &mut [(u64, u
     }
 }
 
-// Whether none of the deletions, which go one way, overlaps one of the others or a pair of the
-// batches.
-fn are_apart<R: AsDeletion, D: AsDeletion>(
-    run: &[R],
-    falls: bool,
-    others: &[D],
-    batches: &[Vec<(u64, u32)>],
-) -> bool {
-    are_beside_run(run, falls, others) && are_beside_run_batches(run, falls, batches)
-}
-
-// Whether none of the others overlaps one of the deletions, which go one way.
-fn are_beside_run<R: AsDeletion, D: AsDeletion>(run: &[R], falls: bool, others: &[D]) -> bool {
-    for at in 0..others.len() {
-        if !is_beside_run(run, falls, pair_at(others, at)) {
-            return false;
-        }
-    }
-    true
-}
-
-// Whether no pair of the batches overlaps one of the deletions, which go one way.
-fn are_beside_run_batches<R: AsDeletion>(
-    run: &[R],
-    falls: bool,
-    batches: &[Vec<(u64, u32)>],
-) -> bool {
-    for batch in batches {
-        if !are_beside_run(run, falls, batch.as_slice()) {
-            return false;
-        }
-    }
-    true
-}
-
-// Whether the deletion overlaps none of those, which go one way: a search that ends at the first
-// that it overlaps.
-fn is_beside_run<R: AsDeletion>(run: &[R], falls: bool, deletion: (u64, u32)) -> bool {
-    let (mut low, mut high) = (0, run.len());
-    while low < high {
-        let middle = low + (high - low) / 2;
-        let other = pair_at(run, middle);
-        let is_below = is_before(other, deletion);
-        if !is_below && !is_before(deletion, other) {
-            return false;
-        }
-        if is_below == falls {
-            high = middle;
-        } else {
-            low = middle + 1;
-        }
-    }
-    true
-}
-
 // Whether the batches make a valid list, one after the other.
 fn are_ascending(batches: &[Vec<(u64, u32)>]) -> bool {
     let mut next = 0;
     for batch in batches {
-        match next_after(next, batch.as_slice()) {
-            Some(after) => next = after,
-            None => return false,
-        }
-    }
-    true
-}
-
-// The lowest offset that may follow the pairs, where they are a valid list that begins at `from`
-// or above. It may be one past the 64 bits of an offset.
-fn next_after(from: u128, pairs: &[(u64, u32)]) -> Option<u128> {
-    let mut next = from;
-    for &pair in pairs {
-        let begin = u128::from(pair.0);
-        if begin < next || !end_fits(pair) {
-            return None;
-        }
-        next = begin + u128::from(pair.1).max(1);
-    }
-    Some(next)
-}
-
-// Whether no pair of the batches overlaps a delta.
-fn are_beside_deltas_batches(deltas: &[RelaxDelta], batches: &[Vec<(u64, u32)>]) -> bool {
-    for batch in batches {
-        if !are_beside_deltas(deltas, batch) {
-            return false;
-        }
-    }
-    true
-}
-
-// Whether none of the deletions overlaps a delta.
-fn are_beside_deltas<D: AsDeletion>(deltas: &[RelaxDelta], deletions: &[D]) -> bool {
-    for at in 0..deletions.len() {
-        if !is_beside_deltas(deltas, pair_at(deletions, at)) {
-            return false;
+        for &pair in batch {
+            let begin = u128::from(pair.0);
+            if begin < next || !end_fits(pair) {
+                return false;
+            }
+            next = begin + u128::from(pair.1).max(1);
         }
     }
     true
@@ -446,5 +371,5 @@ fn can_pairs_be_merged(deltas: &[RelaxDelta], pairs: Vec<(u64, u32)>) -> bool {
 
 // Whether the pairs of all batches are disjoint, and none overlaps a delta.
 pub(super) fn can_batches_be_merged(deltas: &[RelaxDelta], batches: &[Vec<(u64, u32)>]) -> bool {
-    are_disjoint_batches(batches) && are_beside_deltas_batches(deltas, batches)
+    are_disjoint_batches(batches) && are_beside_batches(deltas, batches)
 }

@@ -4,7 +4,8 @@ use Rattle.std.proofs.lemmas.List.{length-map, length-take, take_all}
 use Rattle.std.proofs.lemmas.List.Sums.{sum_by-append}
 use Rattle.linker_base.specs.Deletions.{bytes_of}
 use Rattle.linker_base.specs.Deltas.{deletion_of}
-use Rattle.linker_base.proofs.Merges.{disjoint_fit, merging_end, merging_old, merging_left, merging_last, spends_old, spends_left}
+use Rattle.linker_base.proofs.OutputOffsets.{disjoint_fit}
+use Rattle.linker_base.proofs.Merges.{merging_end, merging_old, merging_left, merging_last, spends_old, spends_left}
 use Rattle.linker_base.proofs.Search.{blank}
 use Rattle.linker_base.proofs.relaxation.merge.merge_in_place.Goals as goal
 use Rattle.linker_base.proofs.relaxation.merge.merge_in_place.Goals.{then-is_old, else-is_old, then-loop-old-test+else-input_offset-merged, else-loop-old-test}

@@ -7,20 +7,16 @@ use Rattle.linker_base.specs.Deltas.{pairs_of}
 use Rattle.linker_base.proofs.Listed.{All-front, All-back}
 use Rattle.linker_base.proofs.relaxation.overlap.are_apart.Goals as goal
 
-pub returns-then-are_beside_run : goal.returns-then-are_beside_run
-returns-then-are_beside_run g c =
-    let run = map g.R.AsDeletion.deletion c.args.run.now in
+pub returns-then-are_beside : goal.returns-then-are_beside
+returns-then-are_beside g c valid =
     let others = map g.D.AsDeletion.deletion c.args.others.now in
     let pairs = pairs_of c.args.batches.now in (
-      λ holds. All-append (λ pair. All (λ d. DoNotOverlap d pair) run) others pairs (c.are_beside_run.ensures.0 c.if-are_beside_run.true) (c.are_beside_run_batches.ensures.0 holds),
-      λ all. c.are_beside_run_batches.ensures.1 (All-back (λ pair. All (λ d. DoNotOverlap d pair) run) others pairs all),
+      λ holds. All-append (λ pair. All (λ d. DoNotOverlap d pair) (map g.R.AsDeletion.deletion c.args.list.now)) others pairs ((c.are_beside.ensures valid).0 c.if-are_beside.true) ((c.are_beside_batches.ensures valid).0 holds),
+      λ all. (c.are_beside_batches.ensures valid).1 (All-back (λ pair. All (λ d. DoNotOverlap d pair) (map g.R.AsDeletion.deletion c.args.list.now)) others pairs all),
     )
 
-pub returns-else-are_beside_run : goal.returns-else-are_beside_run
-returns-else-are_beside_run g c =
-    let run = map g.R.AsDeletion.deletion c.args.run.now in
-    let others = map g.D.AsDeletion.deletion c.args.others.now in
-    let pairs = pairs_of c.args.batches.now in (
-      λ holds. absurd (false≢true (sym c.if-are_beside_run.false ∙ holds)),
-      λ all. c.are_beside_run.ensures.1 (All-front (λ pair. All (λ d. DoNotOverlap d pair) run) others pairs all),
-    )
+pub returns-else-are_beside : goal.returns-else-are_beside
+returns-else-are_beside g c valid = (
+  λ holds. absurd (false≢true (sym c.if-are_beside.false ∙ holds)),
+  λ all. (c.are_beside.ensures valid).1 (All-front (λ pair. All (λ d. DoNotOverlap d pair) (map g.R.AsDeletion.deletion c.args.list.now)) (map g.D.AsDeletion.deletion c.args.others.now) (pairs_of c.args.batches.now) all),
+)

@@ -1,30 +1,24 @@
-use Rattle.std.proofs.Common.{◌+◌, ◌++◌, take, drop, refl, arith}
-use Rattle.std.proofs.lemmas.Bool.{false≢true}
-use Rattle.linker_base.specs.Deletions.{IsValid}
+use Rattle.std.proofs.Common.{◌≡◌, ◌++◌, ◌∷◌, [], ◌∙◌, get_or, take, arith}
+use Rattle.std.proofs.lemmas.List.{take_more, take_all, append_assoc, append-nil}
 use Rattle.linker_base.specs.Deltas.{pairs_of}
-use Rattle.linker_base.proofs.Batches.{pairs_more, pairs_front, pairs_all, IsRun-append, run_goes_on_after}
-use Rattle.linker_base.proofs.Listed.{IsValid-front, IsValid-back}
+use Rattle.linker_base.proofs.Apart.{pairs_more}
+use Rattle.linker_base.proofs.Together.{below_push}
 use Rattle.linker_base.proofs.relaxation.overlap.are_ascending.Goals as goal
 
--- the batch goes on where the ones before it end
+pub loop-pair-init : goal.loop-pair-init
+loop-pair-init c = rw (append-nil (pairs_of (take c.loop-batch.batch-index c.args.batches.now))) c.loop-batch.invariant
+
+pub loop-pair-preserved : goal.loop-pair-preserved
+loop-pair-preserved c =
+    let before = pairs_of (take c.loop-batch.batch-index c.args.batches.now) in
+    let items = c.deref-pair-items.result.now in
+    let k = c.loop-pair.pair-index in
+    rw (take_more items k (0, 0) c.loop-pair-test.true, ← append_assoc before (take k items) (get_or items k (0, 0) ∷ [])) (below_push (before ++ take k items) (get_or items k (0, 0)) c.loop-pair.next _ c.loop-pair.invariant (omega arith) (c.end_fits.ensures.0 c.if-not-end_fits.false) (omega arith))
+
 pub loop-batch-preserved : goal.loop-batch-preserved
 loop-batch-preserved c =
-    let batches = c.args.batches.now in
-    let i = c.loop-batch.batch-index in
-    let batch = c.batch-item.result in
-    rw (pairs_more batches i batch c.loop-batch-test.true c.batch-item.is) (IsRun-append 0 c.loop-batch.next c.in-Some.after (pairs_of (take i batches)) batch.items c.loop-batch.invariant (rw c.as_slice.ensures.value at c.in-Some.ensures))
-
--- a batch that is no valid list, or goes on too low, denies it
-pub returns-in-None : goal.returns-in-None
-returns-in-None c =
-    let batches = c.args.batches.now in
-    let i = c.loop-batch.batch-index in
-    let batch = c.batch-item.result in (
-      λ none. absurd (false≢true none),
-      λ valid.
-          let joined : IsValid (pairs_of (take i batches) ++ batch.items) = rw (pairs_more batches i batch c.loop-batch-test.true c.batch-item.is) at (IsValid-front (pairs_of (take (i + 1) batches)) (pairs_of (drop (i + 1) batches)) (rw (pairs_front batches (i + 1)) valid)) in
-          absurd ((rw c.as_slice.ensures.value at c.in-None.ensures) (IsValid-back (pairs_of (take i batches)) batch.items joined, run_goes_on_after 0 c.loop-batch.next (pairs_of (take i batches)) batch.items c.loop-batch.invariant joined (λ k d within. omega arith))),
-    )
+    let whole : take c.loop-pair.pair-index c.deref-pair-items.result.now ≡ c.batch-item.result.items = take_all c.loop-pair.pair-index c.deref-pair-items.result.now c.loop-pair-test.false ∙ c.deref-pair-items.ensures.value in
+    rw (pairs_more c.args.batches.now c.loop-batch.batch-index c.batch-item.result c.loop-batch-test.true c.batch-item.is) (rw whole at c.loop-pair.invariant)
 
 pub returns : goal.returns
-returns c = (λ _. rw (pairs_all c.args.batches.now c.loop-batch.batch-index c.loop-batch-test.false) at c.loop-batch.invariant.valid, λ _. refl)
+returns c _ = rw (take_all c.loop-batch.batch-index c.args.batches.now c.loop-batch-test.false) at c.loop-batch.invariant.valid

@@ -5,11 +5,13 @@ use Rattle.std.proofs.lemmas.List.{map-id, drop_all, take_rest}
 use Rattle.linker_base.specs.Deletions.{AreDisjoint}
 use Rattle.linker_base.specs.Deltas.{pairs_of}
 use Rattle.linker_base.specs.Inner.Listed.{AreDisjointBeside}
-use Rattle.linker_base.proofs.Apart.{beside_none, pairs_from}
-use Rattle.linker_base.proofs.Batches.{pairs_front}
+use Rattle.linker_base.proofs.Apart.{beside_none, pairs_from, pairs_front}
 use Rattle.linker_base.proofs.Merging.{disjoint_joined, disjoint_back, disjoint_across}
-use Rattle.linker_base.proofs.Unions.{disjoint_left}
+use Rattle.linker_base.proofs.Unions.{disjoint_left, disjoint_from_valid}
 use Rattle.linker_base.proofs.relaxation.overlap.are_disjoint_batches.Goals as goal
+
+pub returns-then-are_ascending : goal.returns-then-are_ascending
+returns-then-are_ascending c = (λ _. disjoint_from_valid _ (c.are_ascending.ensures c.if-are_ascending.true), λ _. refl)
 
 -- a batch that isn't disjoint, or touches a later one, denies it
 pub returns-then-not-are_disjoint_beside : goal.returns-then-not-are_disjoint_beside

@@ -12,17 +12,17 @@ use Rattle.linker_base.proofs.Unions.{disjoint_permutation, disjoint_from_valid,
 use Rattle.linker_base.proofs.relaxation.overlap.are_sorted_apart.Goals as goal
 
 -- the copy that isn't valid once sorted denies it
-pub returns-then-not-are_valid : goal.returns-then-not-are_valid
-returns-then-not-are_valid g c =
+pub returns-else-are_valid : goal.returns-else-are_valid
+returns-else-are_valid g c =
     let first = take c.args.count (map g.D.AsDeletion.deletion c.args.deletions.now) in
     let sorted = c.sort_unstable_by_key.new.self in
     let same : IsPermutation first sorted = rw c.copy_first.ensures at c.sort_unstable_by_key.ensures.permutation in
     let rise : IsNonDecreasingBy (λ d. d.0) sorted = IsNonDecreasingBy-from_sort_by_key (λ d. d.0) sorted c.sort_unstable_by_key.ensures.sorted (λ a r f called. search rules) in
     let valid : IsTrue c.are_valid.result ↔ IsValid sorted = subst (λ ps. IsTrue c.are_valid.result ↔ IsValid ps) (map-id sorted) c.are_valid.ensures in
-    (λ none. absurd (false≢true none), λ all. sym c.if-not-are_valid.true ∙ valid.1 (valid_from_disjoint sorted (disjoint_permutation first sorted same all.disjoint) rise))
+    (λ none. absurd (false≢true (sym c.if-are_valid.false ∙ none)), λ all. valid.1 (valid_from_disjoint sorted (disjoint_permutation first sorted same all.disjoint) rise))
 
-pub returns : goal.returns
-returns g c =
+pub returns-then-are_valid : goal.returns-then-are_valid
+returns-then-are_valid g c =
     let f = g.D.AsDeletion.deletion in
     let xs = c.args.deletions.now in
     let n = c.args.count in
@@ -31,8 +31,9 @@ returns g c =
     let sorted = c.sort_unstable_by_key.new.self in
     let same : IsPermutation first sorted = rw c.copy_first.ensures at c.sort_unstable_by_key.ensures.permutation in
     let back = IsPermutation-sym first sorted same in
-    let valid : IsValid sorted = subst IsValid (map-id sorted) (c.are_valid.ensures.0 c.if-not-are_valid.false) in
-    let apart : IsTrue c.are_apart.result ↔ AreApart sorted others = subst (λ ps. IsTrue c.are_apart.result ↔ AreApart ps others) (map-id sorted) (rw (drop-map f n xs, ← take_rest xs n) c.are_apart.ensures) in (
+    let listed = c.are_valid.ensures.0 c.if-are_valid.true in
+    let valid : IsValid sorted = subst IsValid (map-id sorted) listed in
+    let apart : IsTrue c.are_apart.result ↔ AreApart sorted others = subst (λ ps. IsTrue c.are_apart.result ↔ AreApart ps others) (map-id sorted) (rw (drop-map f n xs, ← take_rest xs n) (c.are_apart.ensures listed)) in (
       λ holds. record { disjoint = disjoint_permutation sorted first back (disjoint_from_valid sorted valid); apart = apart_permutation_left sorted first others back (apart.0 holds) },
       λ all. apart.1 (apart_permutation_left first sorted others same all.apart),
     )

@@ -1,0 +1,16 @@
+use Rattle.std.proofs.Common.{ℕ, map, rules}
+use Rattle.std.specs.Prelude.{All}
+use Rattle.std.specs.Global.{Vec}
+use Rattle.std.proofs.lemmas.Iterator.{cases_from_all, YieldsList-from_slice}
+use borrow.Author.Tests.{tests}
+use Rattle.linker_base.specs.Deletions.{DoNotOverlap}
+use Rattle.linker_base.specs.Inner.Listed.{AreApart}
+use Rattle.linker_base.proofs.Apart.{all_tell, all_batches}
+use Rattle.linker_base.proofs.relaxation.overlap.are_beside_batches.Goals as goal
+
+pub returns : goal.returns
+returns g c valid =
+    let ds = map g.R.AsDeletion.deletion c.args.list.now in
+    let each = all_tell c.all.result (AreApart ds) (λ (b : Vec (ℕ × ℕ)). b.items) c.args.batches.now (cases_from_all _ _ _ (λ b. AreApart ds b.items) (λ b. AreApart ds b.items → ⊥) c.all.ensures.ran (YieldsList-from_slice c.args.batches.now cc) (λ x q k. search (rules, tests)) (λ x q k. search (rules, tests))) in
+    let all = all_batches (λ pair. All (λ d. DoNotOverlap d pair) ds) c.args.batches.now in
+    (λ holds. all.0 (each.0 holds), λ free. each.1 (all.1 free))

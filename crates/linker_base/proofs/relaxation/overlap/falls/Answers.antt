@@ -1,0 +1,10 @@
+use Rattle.std.proofs.Common.{map, arith}
+use Rattle.std.proofs.lemmas.List.{length-map}
+use Rattle.linker_base.proofs.Apart.{disjoint_from_falling}
+use Rattle.linker_base.proofs.relaxation.overlap.falls.Goals as goal
+
+pub returns-then-at-deletions : goal.returns-then-at-deletions
+returns-then-at-deletions g c fits =
+    let f = g.D.AsDeletion.deletion in
+    let xs = c.args.deletions.now in
+    disjoint_from_falling (map f xs) (λ k low. c.loop-at.invariant.falling k (omega (arith, low, length-map xs f, c.if-at-deletions.true))) (rw (← c.pair_at-then-at-deletions.ensures) (c.end_fits.ensures.0 fits))
