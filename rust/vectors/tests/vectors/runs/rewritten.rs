@@ -50,8 +50,12 @@ fn without_thread_offsets(
 ) -> (Vec<u8>, Vec<u8>, Vec<(u64, u32)>) {
     let output = OutputFacts { is_executable: true, is_fixed: true, has_near_symbols: true };
     let facts = [SymbolFacts { is_local: true, ..SymbolFacts::default() }; 4];
-    let addresses =
-        Addresses { section: START + BASE, thread_origin: 0x20000, has_tls: true, ..Addresses::default() };
+    let addresses = Addresses {
+        section: START + BASE,
+        thread_origin: 0x20000,
+        has_tls: true,
+        ..Addresses::default()
+    };
     let values = [Symbol { address: 0x20000, is_thread_local: true, ..Symbol::default() }; 4];
     let (mut section, mut rela) = (section.to_vec(), table(entries));
     let mut kept = [KeptGroups::default(); 4];
@@ -144,8 +148,12 @@ fn expect(
         .collect();
     assert_eq!(left, types);
     // values leave these bytes, and follow a symbol that is elsewhere
-    let addresses =
-        Addresses { section: START + BASE, thread_origin: 0x20000, has_tls: true, ..Addresses::default() };
+    let addresses = Addresses {
+        section: START + BASE,
+        thread_origin: 0x20000,
+        has_tls: true,
+        ..Addresses::default()
+    };
     let mut symbols = [Symbol { address: 0x20000, is_thread_local: true, ..Symbol::default() }; 4];
     let f = START + DeltaSlice::new(deltas).input_to_output_offset(BASE + f);
     symbols[2] = Symbol { address: f, ..Symbol::default() };
