@@ -1,8 +1,7 @@
 -- The bytes of a section that stay are copied run by run. The section begins at a base.
-use Rattle.std.proofs.Common.{◌≡◌, ℕ, zero, suc, ◌+◌, ◌-◌, ◌<◌, ◌≤◌, ◌^◌, true, false, not, ltb, leb, List, [], ◌∷◌, ◌++◌, length, get_or, take, drop, min, max, map, refl, sym, subst, ◌∙◌, ap, arith, inl, inr, add-zero, add-suc}
+use Rattle.std.proofs.Common.{◌≡◌, ℕ, zero, suc, ◌+◌, ◌-◌, ◌<◌, ◌≤◌, ◌^◌, true, false, not, ltb, leb, List, ◌++◌, length, get_or, take, drop, min, max, map, refl, sym, subst, ◌∙◌, ap, arith, inl, inr, add-zero, add-suc}
 use Rattle.std.specs.List.{list_any}
 use Rattle.std.proofs.lemmas.Bool.{cases_Bool, cases_lt, both_ways, and_from, le-leb, lt-ltb}
-use Rattle.std.proofs.lemmas.Bool.Decides.{nat_tests}
 use Rattle.std.proofs.lemmas.List.Folds.{list_any_at}
 use Rattle.std.proofs.lemmas.List.{length-take, length-append, length-drop, get_or-take, get_or-drop, get_or_append_left, get_or-append_right, get_or_default, get_or-map, length-map, take_all}
 use Rattle.linker_base.specs.Deletions.{IsValid, covers, is_kept, rank}

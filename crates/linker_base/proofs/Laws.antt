@@ -2,7 +2,7 @@
 use Rattle.std.proofs.Common.{◌≡◌, ℕ, zero, suc, ◌+◌, ◌<◌, ◌≤◌, true, false, cond, List, [], ◌∷◌, ◌++◌, length, map, get_or, take, refl, ap, inl, inr, ⊎_elim, arith}
 use Rattle.std.specs.Prelude.{max, not, nat_lt, All, AllPairs, Contains, IsPermutation}
 use Rattle.std.specs.List.{list_any, AllWithin}
-use Rattle.std.proofs.lemmas.Bool.{cases_lt, cases_Bool, not-true, false_from_ne_true, both_ways, or_right}
+use Rattle.std.proofs.lemmas.Bool.{cases_lt, cases_Bool, not-true, false_from_ne_true, both_ways}
 use Rattle.std.proofs.lemmas.Bool.Decides.{nat_tests}
 use Rattle.std.proofs.lemmas.List.Elements.{All-head, All-tail}
 use Rattle.std.proofs.lemmas.List.Folds.{list_any_at}

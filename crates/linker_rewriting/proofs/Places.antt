@@ -4,7 +4,7 @@ use Rattle.std.proofs.lemmas.Bool.{cases_lt}
 use Rattle.linker_elf.specs.declared.elf.RelocationKindInfo.{RelocationKindInfo}
 use Rattle.linker_rewriting.proofs.Deciding.{ends_within}
 use Rattle.linker_rewriting.specs.Decisions.{AllCanBeMade, AreApart, IsCovered, decision_at, start_by, end_by, start_at, end_at}
-use Rattle.linker_rewriting.specs.Inner.Places.{IsWindow, AreBounded, AreBelow, AreAbove, IsPlace, IsPlaceBeside}
+use Rattle.linker_rewriting.specs.Inner.Places.{IsWindow, AreBounded, AreBelow, AreAbove, IsPlaceBeside}
 use Rattle.linker_rewriting.specs.declared.covered.Place.{Place}
 use Rattle.linker_rewriting.specs.declared.decisions.Decision.{Decision}
 use Rattle.linker_rewriting.specs.declared.decisions.Decision.TheVariants.{Kept, TakenAlong}

@@ -1,5 +1,5 @@
 -- Rows whose values compose are of whole bytes, and fields have at most ten.
-use Rattle.std.proofs.Common.{◌≡◌, ℕ, ◌+◌, ◌≤◌, List, [], ◌∷◌, length, take, drop, Bool, true, false, refl, sym, ap, ◌∙◌, Option, Some, None, not, nat_le, nat_lt, subst, inl, inr, arith, ◌||◌}
+use Rattle.std.proofs.Common.{◌≡◌, ℕ, ◌≤◌, List, [], ◌∷◌, length, take, drop, Bool, true, false, refl, sym, ap, ◌∙◌, Option, Some, None, not, nat_le, nat_lt, subst, inl, inr, arith, ◌||◌}
 use Rattle.std.proofs.lemmas.Bool.{cases_Bool, leb-true, not-true, or_cases}
 use Rattle.std.proofs.lemmas.List.{length-take}
 use Rattle.linker_base.specs.declared.bit_misc.BitRange.{BitRange}

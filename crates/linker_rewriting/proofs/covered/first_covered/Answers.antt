@@ -1,4 +1,4 @@
-use Rattle.std.proofs.Common.{◌≡◌, ℕ, ◌<◌, ◌≤◌, ◌/◌, length, map, ap, subst, arith}
+use Rattle.std.proofs.Common.{ℕ, ◌<◌, ◌≤◌, ◌/◌, length, map, ap, subst, arith}
 use Rattle.linker_rewriting.proofs.Places.{are_bounded, at_most, clear_at, covered_at}
 use Rattle.linker_rewriting.specs.Decisions.{IsCovered, start_at, end_at}
 use Rattle.linker_rewriting.specs.Inner.Places.{IsPlaceBeside}

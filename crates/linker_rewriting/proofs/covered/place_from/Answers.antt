@@ -1,4 +1,4 @@
-use Rattle.std.proofs.Common.{◌≢◌, ℕ, ◌+◌, ◌<◌, ◌≤◌, ◌/◌, length, map, ap, sym, subst, arith}
+use Rattle.std.proofs.Common.{◌≢◌, ℕ, ◌<◌, ◌≤◌, ◌/◌, length, map, ap, sym, subst, arith}
 use Rattle.linker_rewriting.proofs.Places.{above_window, below_window, no_more, no_window}
 use Rattle.linker_rewriting.specs.Decisions.{start_at, end_at}
 use Rattle.linker_rewriting.specs.Inner.Places.{IsWindow, AreAbove}

@@ -1,4 +1,4 @@
-use Rattle.std.proofs.Common.{◌≢◌, ℕ, ◌<◌, ◌≤◌, ◌/◌, length, map}
+use Rattle.std.proofs.Common.{◌≢◌, ℕ, ◌<◌, ◌≤◌, map}
 use Rattle.linker_rewriting.specs.Decisions.{end_at}
 use Rattle.linker_rewriting.specs.Inner.Places.{IsWindow, AreBelow}
 use Rattle.linker_rewriting.proofs.covered.place_from.Given as goal
