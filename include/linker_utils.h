@@ -600,7 +600,7 @@ static inline uint32_t linker_utils_survey(
  * relocations that ascend; each one that is out of order adds O(n) at most. It doesn't allocate.
  *
  * LINKER_UTILS_UNKNOWN_ARCHITECTURE; LINKER_UTILS_SHORT_MEMORY where there are fewer decisions than
- * relocations. Else the status is that of the relocation `faulty`, the first that it doesn't accept:
+ * relocations. Else the status is that of the first relocation that it doesn't accept, `faulty`:
  * LINKER_UTILS_NOT_SURVEYED; LINKER_UTILS_OVERLAPS where the bytes of its rewrite overlap those of
  * one before it, or lie below them. So the relocations of instructions that can be rewritten have
  * to ascend by offset. Where there is none, LINKER_UTILS_OVERLAPS is also that of the first whose

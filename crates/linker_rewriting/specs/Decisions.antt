@@ -279,7 +279,8 @@ pub record IsCovered (architecture : Architecture) (bytes section : List ℕ)
   pub begins : offset_at bytes n < end_at bytes decisions by
   pub ends : start_at bytes decisions by < field_end bytes section n row
 
--- none has
+-- No field of a relocation that no rewrite takes along has a byte that the rewrite of another one
+-- writes or deletes.
 abbrev pub AreClear : Architecture → List ℕ → List ℕ → List Decision → ℕ → Type 0
 AreClear architecture bytes section decisions limit =
     (n : ℕ) → n < limit → ¬ IsCovered architecture bytes section decisions limit n
