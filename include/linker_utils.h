@@ -602,8 +602,8 @@ static inline uint32_t linker_utils_survey(
  * LINKER_UTILS_UNKNOWN_ARCHITECTURE; LINKER_UTILS_SHORT_MEMORY where there are fewer decisions than
  * relocations. Else the status is that of the first relocation that it doesn't accept, `faulty`:
  * LINKER_UTILS_NOT_SURVEYED; LINKER_UTILS_OVERLAPS where the bytes of its rewrite overlap or lie
- * below those of one before it, so that rewritten instructions ascend. After these it is that of the
- * first that isn't taken along and has its field in the bytes of a rewrite. With an error the
+ * below those of one before it, so that rewritten instructions ascend. After these it is that of
+ * the first that isn't taken along and has its field in the bytes of a rewrite. With an error the
  * section and its relocations are unchanged, and decisions from `faulty` on aren't specified. */
 static inline uint32_t linker_utils_rewrite_section(
     uint16_t machine, const struct linker_utils_output_facts *output,
