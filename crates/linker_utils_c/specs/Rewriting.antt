@@ -51,6 +51,12 @@ phase_of number =
 
 -- ---- decisions
 
+abbrev pub fate_number : Decision → ℕ
+fate_number Kept = 0
+fate_number (Rewritten chosen) = 1
+fate_number TakenAlong = 2
+fate_number (Redirected chosen subject) = 3
+
 -- one that rewrites nothing
 abbrev pub of_fate : ℕ → DecisionNumbers
 of_fate fate = record {
