@@ -1,7 +1,7 @@
 -- Loads of addresses from words of a section, rewritten in one call, in the numbers that C sees.
 use Rattle.std.specs.Prelude.{◌≡◌, ◌⊎◌, ℕ, ◌/◌, Bool, List, length, take, drop, All}
 use Rattle.linker_rewriting.specs.Agreement.{Agree}
-use Rattle.linker_rewriting.specs.Decisions.{AreApart}
+use Rattle.linker_rewriting.specs.Decisions.{AreApart, AreClear}
 use Rattle.linker_rewriting.specs.Facts.{Setting}
 use Rattle.linker_rewriting.specs.Rewritten.{AreRelocationsAfter, AreDone, OthersStay}
 use Rattle.linker_rewriting.specs.Words.{AreLoadsDecided, AreLoadsRejectedFirst, WordsAreWhole}
@@ -17,6 +17,7 @@ pub record AreLoadsRewrittenAs (s : Setting) (start : ℕ) (words : List ℕ) (k
   pub decided : AreLoadsDecided s start words kept bytes section decisions (length bytes / 24)
   pub whole : WordsAreWhole s start words bytes decisions (length bytes / 24)
   pub apart : AreApart bytes decisions (length bytes / 24)
+  pub clear : AreClear s.architecture bytes section decisions (length bytes / 24)
   pub relocations : AreRelocationsAfter decisions bytes bytes_after (length bytes / 24)
   pub done : AreDone bytes decisions section section_after (length bytes / 24)
   pub others : OthersStay bytes decisions section section_after (length bytes / 24)

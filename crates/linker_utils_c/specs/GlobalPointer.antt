@@ -1,7 +1,7 @@
 -- Addresses near the global pointer, in the numbers that C sees.
 use Rattle.std.specs.Prelude.{◌≡◌, ◌⊎◌, ℕ, ◌<◌, ◌/◌, List, Bool, true, length, take, drop, All}
 use Rattle.linker_rewriting.specs.Agreement.{Agree}
-use Rattle.linker_rewriting.specs.Decisions.{IsRejectedFirst}
+use Rattle.linker_rewriting.specs.Decisions.{AreClear, IsRejectedFirst}
 use Rattle.linker_rewriting.specs.Facts.{Setting}
 use Rattle.linker_rewriting.specs.GlobalPointer.{ArePartsDecided, ArePartsWhole, AreRelocationsBy}
 use Rattle.linker_rewriting.specs.GlobalPointer.{ArePartsRejected, AreBased, section_based}
@@ -22,6 +22,7 @@ pub record ArePartsRewrittenAs (s : Setting) (gp : ℕ) (kept : List Bool)
     (bytes bytes_after section : List ℕ) (decisions : List Decision) : Type 0 where
   pub decided : ArePartsDecided s gp kept bytes section decisions (length bytes / 24)
   pub whole : ArePartsWhole s bytes decisions (length bytes / 24)
+  pub clear : AreClear s.architecture bytes section decisions (length bytes / 24)
   pub relocations : AreRelocationsBy decisions bytes bytes_after (length bytes / 24)
 
 abbrev pub ArePartsReturned : Setting → ℕ → List Bool → List ℕ → List ℕ → List ℕ

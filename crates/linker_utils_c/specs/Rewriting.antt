@@ -4,8 +4,8 @@ use Rattle.std.specs.Prelude.{take, drop, pos}
 use Rattle.std.specs.Prelude.{All, Option, Some, None}
 use Rattle.linker_elf.specs.declared.elf.choice.Choice.{Choice}
 use Rattle.linker_rewriting.specs.Agreement.{Agree}
-use Rattle.linker_rewriting.specs.Decisions.{AreDecidedIn, AreApart, AllCanBeMade, deletions_by}
-use Rattle.linker_rewriting.specs.Decisions.{IsRejectedIn, IsRejectedPlaced}
+use Rattle.linker_rewriting.specs.Decisions.{AreDecidedIn, AreApart, AreClear, AllCanBeMade}
+use Rattle.linker_rewriting.specs.Decisions.{IsRejectedIn, IsRejectedPlaced, deletions_by}
 use Rattle.linker_rewriting.specs.Facts.{Setting}
 use Rattle.linker_rewriting.specs.Rewritten.{AreRelocationsAfter, AreDone, OthersStay}
 use Rattle.linker_rewriting.specs.Rewritten.{GroupsAreWholeIn}
@@ -127,6 +127,7 @@ pub record IsRewrittenAs (s : Setting) (kept : List KeptGroups) (bytes bytes_aft
   pub decided : AreDecidedIn s kept bytes section decisions (length bytes / 24)
   pub groups : GroupsAreWholeIn s.architecture s.phase bytes decisions (length bytes / 24)
   pub apart : AreApart bytes decisions (length bytes / 24)
+  pub clear : AreClear s.architecture bytes section decisions (length bytes / 24)
   pub relocations : AreRelocationsAfter decisions bytes bytes_after (length bytes / 24)
   pub done : AreDone bytes decisions section section_after (length bytes / 24)
   pub others : OthersStay bytes decisions section section_after (length bytes / 24)
