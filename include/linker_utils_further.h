@@ -1197,8 +1197,9 @@ static inline uint32_t linker_utils_pack_run(
  * LINKER_UTILS_BAD_FIELD_VALUE where `value` isn't one that the library returns: no bits are known,
  * or some above bit 63, or `bits` has others. LINKER_UTILS_NO_ADDRESS of a relocation without a
  * value or without bytes, and of one that is computed from a size, adds or subtracts, or is at a
- * ULEB128 number. LINKER_UTILS_NO_ADDRESS too of LoongArch's upper halves of 64-bit addresses, and
- * where the formula takes the page of the address and `value` is known from below bit 12. */
+ * ULEB128 number. LINKER_UTILS_NO_ADDRESS too of an offset of a TLS symbol without `has_tls_base`.
+ * LINKER_UTILS_NO_ADDRESS too of LoongArch's upper halves of 64-bit addresses, and where the formula
+ * takes the page of the address and `value` is known from below bit 12. */
 uint32_t linker_utils_solve(uint16_t machine, uint32_t r_type,
                             const struct linker_utils_field_value *value,
                             const struct linker_utils_operands *operands, uint32_t *reference,

@@ -141,6 +141,8 @@ fn operands(site: &Site) -> Operands {
         place: site.offset,
         got_entry: 0x9_0000,
         plt_entry: symbol,
+        has_got_entry: true,
+        has_plt_entry: true,
         ..Operands::default()
     }
 }
@@ -163,8 +165,8 @@ fn of_c(operands: &Operands) -> sathunne::Operands {
         place: operands.place,
         got_entry: operands.got_entry,
         plt_entry: operands.plt_entry,
-        has_got_entry: true,
-        has_plt_entry: true,
+        has_got_entry: operands.has_got_entry,
+        has_plt_entry: operands.has_plt_entry,
         ..sathunne::Operands::default()
     }
 }
@@ -236,7 +238,7 @@ fn by_crate(machine: u16, sites: &[Site], section: &mut [u8], chooses: bool) -> 
         let Some(row) = architecture.row(r_type) else {
             return false;
         };
-        let Some(value) = row.value(&of) else {
+        let Ok(value) = row.value(&of) else {
             return false;
         };
         row.write(value, &mut section[offset as usize..]).is_ok()

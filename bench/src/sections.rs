@@ -108,6 +108,9 @@ fn input(
         let mut of = Operands {
             got_entry: symbols[symbol].address_entry,
             got_base: addresses.got_base,
+            has_got_entry: true,
+            has_plt_entry: true,
+            has_tls_base: true,
             ..Operands::new(address, addend, START + offset as u64)
         };
         match (machine, name) {
@@ -227,9 +230,9 @@ fn by_exports(input: &Input) -> Side<'_> {
         plt_entry: of.plt_entry,
         symbol_size: of.symbol_size,
         tls_base: of.tls_base,
-        has_got_entry: true,
-        has_plt_entry: true,
-        has_tls_base: true,
+        has_got_entry: of.has_got_entry,
+        has_plt_entry: of.has_plt_entry,
+        has_tls_base: of.has_tls_base,
     };
     let operands: Vec<_> = input
         .operands

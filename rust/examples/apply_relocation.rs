@@ -4,7 +4,7 @@
 
 use linker_utils::aarch64::AArch64Relocation::{self, *};
 use linker_utils::aarch64::row;
-use linker_utils::elf::{Operands, RelocateError};
+use linker_utils::elf::{FormulaError, Operands, RelocateError};
 
 /// Computes the value of a relocation, and writes it to a field. `AArch64Relocation::from_elf` names the
 /// one with an ELF type.
@@ -14,8 +14,12 @@ fn apply(
     field: &mut [u8],
 ) -> Result<(), RelocateError> {
     let row = row(relocation).expect("a type that the library knows");
-    // a relocation without a value, as R_AARCH64_NONE, writes nothing
-    let Some(value) = row.value(operands) else { return Ok(()) };
+    let value = match row.value(operands) {
+        Ok(value) => value,
+        // a relocation without a value, as R_AARCH64_NONE, writes nothing
+        Err(FormulaError::NoValue) => return Ok(()),
+        Err(lacking) => panic!("{lacking}"),
+    };
     row.write(value, field)?;
     println!("{}: value {value:#x}", relocation.name());
     Ok(())

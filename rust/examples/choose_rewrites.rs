@@ -40,7 +40,7 @@ fn main() {
         }
         let address = if *symbol == "t" { THREAD_LOCAL } else { VARIABLE };
         let mut operands = Operands::new(address, *addend, SECTION + offset);
-        operands.tls_base = THREAD_POINTER;
+        (operands.tls_base, operands.has_tls_base) = (THREAD_POINTER, true);
         // a position-independent executable that defines both
         let facts = LinkFacts {
             is_local: true,

@@ -38,7 +38,7 @@ fn assemble<'a>(
             _ => Operands::new(symbol, 0, place),
         };
         high.insert(place, operands);
-        let value = row.value(&operands).ok_or(format!("{label}: the relocation has no value"))?;
+        let value = row.value(&operands).map_err(|error| format!("{label}: {error}"))?;
         let written = row.write(value, &mut code[at..]);
         written.map_err(|error| format!("{place:#x}: {label}: {}", WriteError::new(&row.info(), value, error)))?;
     }

@@ -1,7 +1,7 @@
 // SPDX-License-Identifier: MIT OR Apache-2.0
 //! What the library's errors print, and which error is the cause of another.
 
-use crate::elf::{RelocateError, Uleb128PairError, WriteError};
+use crate::elf::{FormulaError, RelocateError, Uleb128PairError, WriteError};
 use crate::output::{RouteError, StubError};
 use crate::placement::PlaceError;
 use crate::relaxation::{OutOfMemory, PackError, RejectedCall, SectionRelaxDeltas};
@@ -14,6 +14,23 @@ use crate::section::{self, RelocationError, SectionError};
 use crate::utils::Uleb128Error;
 use core::error::Error;
 use core::fmt::{Display, Formatter, Result};
+
+impl Display for FormulaError {
+    fn fmt(&self, f: &mut Formatter<'_>) -> Result {
+        f.write_str(match self {
+            FormulaError::NoEntry => {
+                "the relocation requires an entry of the GOT or a word with the function's \
+                 address, and there is none"
+            }
+            FormulaError::NoTlsBase => {
+                "the value counts from an origin of thread-local offsets, and there is none"
+            }
+            FormulaError::NoValue => "the relocation has no value",
+        })
+    }
+}
+
+impl Error for FormulaError {}
 
 impl Display for RelocateError {
     fn fmt(&self, f: &mut Formatter<'_>) -> Result {

@@ -2382,7 +2382,7 @@ static void call_destination(void) {
     struct linker_utils_operands *operands = filled(given);
     *operands = (struct linker_utils_operands){
         .addend = (int64_t)any_number(), .place = any_number(), .got_base = any_number(),
-        .tls_base = any_number()};
+        .tls_base = any_number(), .has_tls_base = once_in(2)};
     struct linker_utils_destination *found = output(sizeof *found);
     uint32_t status = CALL(destination, machine, made->given, original->given, original->len, offset,
                            given->given, (uint8_t)any(), found);

@@ -251,7 +251,6 @@ fn element(kind: &str) -> String {
     match kind.trim() {
         "RelaxDelta" => "Delta".to_string(),
         "RelocationNumbers" => "RelocationInfo".to_string(),
-        "OperandNumbers" => "Operands".to_string(),
         "LinkFactNumbers" => "LinkFacts".to_string(),
         "ChoiceNumbers" => "Choice".to_string(),
         "ItemNumbers" => "Item".to_string(),
@@ -916,7 +915,7 @@ fn the_structs_are_those_of_the_library() {
         ("linker_utils_block_head", "BlockHead"),
         ("linker_utils_delta", "RelaxDelta"),
         ("linker_utils_relocation_info", "RelocationNumbers"),
-        ("linker_utils_operands", "OperandNumbers"),
+        ("linker_utils_operands", "Operands"),
         ("linker_utils_link_facts", "LinkFactNumbers"),
         ("linker_utils_choice", "ChoiceNumbers"),
         ("linker_utils_window_bounds", "RewriteWindow"),

@@ -5,7 +5,7 @@ use Rattle.std.specs.Int.{w64, cast_unsigned, cast_signed, bit_at}
 use Rattle.std.proofs.lemmas.Int.{of_z-to_z}
 use Rattle.linker_elf.specs.Entries.{with_got_entry, with_plt_entry, Ignores, DependsOn}
 use Rattle.linker_elf.specs.Entries.{is_of_high_part, is_branch, IsGotAnswer, IsPltAnswer}
-use Rattle.linker_elf.specs.Inner.Entries.{names_got_entry, names_plt_entry}
+use Rattle.linker_elf.specs.Value.{names_got_entry, names_plt_entry}
 use Rattle.linker_elf.specs.LoongArch.{page, high_distance, high_correction}
 use Rattle.linker_elf.specs.Value.{sum_64, difference_64, page_if, entry_addend, bias_number}
 use Rattle.linker_elf.specs.Value.{masks_entry, entry_term, plt_term, relative_term, formula}

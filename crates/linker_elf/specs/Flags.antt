@@ -3,7 +3,7 @@
 -- `Needed` and `Values` there do.
 use Rattle.std.specs.Prelude.{ℕ, ◌+◌, ◌*◌, ◌==◌, ◌||◌, nat_lt, if◌then◌else◌, Option, Some, None}
 use Rattle.linker_elf.specs.Entries.{is_branch}
-use Rattle.linker_elf.specs.Inner.Entries.{names_got_entry, names_plt_entry}
+use Rattle.linker_elf.specs.Value.{names_got_entry, names_plt_entry}
 use Rattle.linker_elf.specs.declared.aarch64.forms.AArch64Instruction.TheVariants.{TstBr, Bcond}
 use Rattle.linker_elf.specs.declared.elf.RelocationInstruction.TheVariants.{RiscV, Ppc64}
 use Rattle.linker_elf.specs.declared.elf.RelocationInstruction.TheVariants.{LoongArch64, AArch64}

@@ -3,7 +3,7 @@
 -- "Relocation Types" of the LoongArch ELF psABI, "Relocation Types" of the 64-bit ELF V2 ABI for
 -- Power, "Relocation Types" of the x86-64 psABI). Addresses are modulo 2 ^ 64.
 use Rattle.std.specs.Prelude.{ℕ, ◌+◌, ◌-◌, ◌%◌, ◌^◌, ◌==◌, if◌then◌else◌, Bool, true, false, Option}
-use Rattle.std.specs.Prelude.{Some, None, ℤ}
+use Rattle.std.specs.Prelude.{Some, None, ℤ, Result, Ok, Err, not, ◌&&◌, ◌||◌}
 use Rattle.std.specs.Int.{w64, cast_signed, cast_unsigned}
 use Rattle.linker_elf.specs.LoongArch.{page, high_distance}
 use Rattle.linker_elf.specs.declared.elf.PageMask.{PageMask}
@@ -16,6 +16,9 @@ use Rattle.linker_elf.specs.declared.elf.RelocationKind.TheVariants as kinds
 use Rattle.linker_elf.specs.declared.elf.RelocationKindInfo.{RelocationKindInfo}
 use Rattle.linker_elf.specs.declared.elf.RelocationSize.{RelocationSize}
 use Rattle.linker_elf.specs.declared.elf.RelocationSize.TheVariants.{ByteSize, BitMasking}
+use Rattle.linker_elf.specs.declared.elf.value.FormulaError.{FormulaError}
+use Rattle.linker_elf.specs.declared.elf.value.FormulaError.TheVariants.{NoEntry, NoTlsBase}
+use Rattle.linker_elf.specs.declared.elf.value.FormulaError.TheVariants.{NoValue}
 use Rattle.linker_elf.specs.declared.elf.value.Operands.{Operands}
 
 -- a + b and a - b, modulo 2 ^ 64
@@ -168,3 +171,74 @@ read_signed (Some n) = Some (cast_signed w64 n)
 -- the value, read in two's complement
 abbrev pub value_of : RelocationKindInfo → Operands → Option ℤ
 value_of row o = read_signed (formula row.kind row o)
+
+-- ---- what a formula reads
+
+-- whether a formula names an entry of the GOT, or of the PLT
+abbrev pub names_got_entry : RelocationKind → Bool
+names_got_entry kinds.GotRelative = true
+names_got_entry kinds.GotRelativeLoongArch64 = true
+names_got_entry kinds.GotRelGotBase = true
+names_got_entry kinds.Got = true
+names_got_entry kinds.TlsGd = true
+names_got_entry kinds.TlsGdGot = true
+names_got_entry kinds.TlsGdGotBase = true
+names_got_entry kinds.TlsLd = true
+names_got_entry kinds.TlsLdGot = true
+names_got_entry kinds.TlsLdGotBase = true
+names_got_entry kinds.GotTpOff = true
+names_got_entry kinds.GotTpOffGot = true
+names_got_entry kinds.GotTpOffGotBase = true
+names_got_entry kinds.GotTpOffLoongArch64 = true
+names_got_entry kinds.TlsDesc = true
+names_got_entry kinds.TlsDescGot = true
+names_got_entry kinds.TlsDescGotBase = true
+names_got_entry kinds.TlsDescLoongArch64 = true
+names_got_entry kind = false
+
+abbrev pub names_plt_entry : RelocationKind → Bool
+names_plt_entry kinds.PltRelGotBase = true
+names_plt_entry kinds.PltRelative = true
+names_plt_entry kind = false
+
+-- the value is an offset of a thread-local symbol
+abbrev pub is_offset : RelocationKind → Bool
+is_offset kinds.TpOff = true
+is_offset kinds.DtpOff = true
+is_offset kind = false
+
+-- PowerPC64's calls that load the function's address themselves: L is the word that holds it
+-- (64-Bit ELF V2 ABI, "Relocation Types")
+abbrev pub loads_plt_word : RelocationSize → RelocationKind → Bool
+loads_plt_word (BitMasking bits (Ppc64 insn)) kind = names_plt_entry kind
+loads_plt_word size kind = false
+
+-- ---- what there is of it
+
+-- L is S where there is no entry of the PLT
+abbrev pub completed : Operands → Operands
+completed o = record o { plt_entry = if o.has_plt_entry then o.plt_entry else o.symbol }
+
+-- the formula has an entry of the GOT, or the word that PowerPC64's calls load themselves, and
+-- there is none
+abbrev pub lacks_entry : RelocationKindInfo → Operands → Bool
+lacks_entry row o =
+    (names_got_entry row.kind && not o.has_got_entry)
+    || (loads_plt_word row.size row.kind && not o.has_plt_entry)
+
+-- it has the origin of thread-local offsets, and there is none
+abbrev pub lacks_tls_base : RelocationKindInfo → Operands → Bool
+lacks_tls_base row o = is_offset row.kind && not o.has_tls_base
+
+abbrev pub lacks : RelocationKindInfo → Operands → Bool
+lacks row o = lacks_entry row o || lacks_tls_base row o
+
+abbrev pub or_no_value : Option ℤ → Result ℤ FormulaError
+or_no_value None = Err NoValue
+or_no_value (Some v) = Ok v
+
+-- the value of what there is, or why there is none
+abbrev pub value_given : RelocationKindInfo → Operands → Result ℤ FormulaError
+value_given row o =
+    if lacks_entry row o then Err NoEntry
+    else (if lacks_tls_base row o then Err NoTlsBase else or_no_value (value_of row (completed o)))

@@ -37,7 +37,7 @@ pub use numbers::RelocationNumbers;
 pub use relocate::RelocateError;
 pub use rows::Row;
 use std::marker::Model;
-pub use value::Operands;
+pub use value::{FormulaError, Operands};
 
 /// 2 KiB: half a page.
 pub const SIZE_2KB: u64 = 0x800;

@@ -64,6 +64,9 @@ placed addresses value r =
       plt_entry = 0;
       symbol_size = 0;
       tls_base = addresses.thread_origin;
+      has_got_entry = false;
+      has_plt_entry = false;
+      has_tls_base = addresses.has_tls;
     }
 
 module _ (output : OutputFacts) (addresses : Addresses) (values : List Symbol) (r : Rela)

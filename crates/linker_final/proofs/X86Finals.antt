@@ -23,7 +23,7 @@ use Rattle.linker_final.specs.X86Final.{GotOperand, got_operand, DoesTheSame, Go
 use Rattle.linker_laws.specs.X86RewriteLaws.{IsRelocated, IsBefore, Laws}
 use Rattle.linker_rewriting.specs.Decisions.{decision_at}
 use Rattle.linker_rewriting.specs.declared.decisions.Decision.TheVariants.{Rewritten}
-use Rattle.linker_section.specs.Needed.{loads_plt_word}
+use Rattle.linker_elf.specs.Value.{loads_plt_word}
 use Rattle.linker_section.specs.Relocations.{relocation_in}
 use Rattle.linker_section.specs.Values.{operands_with, operands_in, is_of_got}
 use Rattle.linker_section.specs.declared.facts.Addresses.{Addresses}

@@ -15,7 +15,8 @@ use Rattle.linker_elf.specs.declared.x86_64.relocations.X86_64Relocation.{X86_64
 use Rattle.linker_elf.specs.declared.x86_64.relocations.X86_64Relocation.TheVariants as names
 use Rattle.linker_final.proofs.PlainRows.{IsPlain}
 use Rattle.linker_section.specs.Values.{operands_by, operands_with, entry_address, target_of, is_of_got}
-use Rattle.linker_section.specs.Needed.{entry_of, loads_plt_word}
+use Rattle.linker_elf.specs.Value.{loads_plt_word}
+use Rattle.linker_section.specs.Needed.{entry_of}
 use Rattle.linker_section.specs.declared.facts.Addresses.{Addresses}
 use Rattle.linker_section.specs.declared.facts.Symbol.{Symbol}
 use Rattle.linker_section.specs.declared.relocations.Rela.{Rela}

@@ -1,6 +1,6 @@
 -- What the definitions say of instructions in sequence, by their words as one number: the first
 -- word is bits 0 to 31.
-use Rattle.std.specs.Prelude.{ℕ, ◌+◌, ◌*◌, ◌++◌, ℤ, pos}
+use Rattle.std.specs.Prelude.{ℕ, ◌+◌, ◌*◌, ◌++◌, ℤ, pos, false}
 use Rattle.std.specs.Int.{w64, to_le_bytes}
 use Rattle.std.specs.Option.{unwrap_or}
 use Rattle.linker_base.specs.Bits.{field}
@@ -32,6 +32,9 @@ at pc =
       plt_entry = 0;
       symbol_size = 0;
       tls_base = 0;
+      has_got_entry = false;
+      has_plt_entry = false;
+      has_tls_base = false;
     }
 
 -- `adrp` and `add`; the pc is bits 64 to 127

@@ -1,7 +1,7 @@
 -- A lazy PLT: pieces of code, whose fields have the values of relocations, and what its words hold.
 use Rattle.std.specs.Prelude.{◌≡◌, ◌≤◌, ◌<◌, ◌+◌, ◌-◌, ◌++◌, ◌⊎◌, ◌^◌, ℕ, List, [], ◌∷◌, length}
 use Rattle.std.specs.Prelude.{take, drop, min}
-use Rattle.std.specs.Prelude.{Option, Some, None, slice_get}
+use Rattle.std.specs.Prelude.{Option, Some, None, slice_get, true, false}
 use Rattle.linker_elf.specs.Value.{sum_64}
 use Rattle.linker_elf.specs.declared.elf.relocate.RelocateError.{RelocateError}
 use Rattle.linker_elf.specs.declared.elf.value.Operands.{Operands}
@@ -63,6 +63,9 @@ operands_at field entry =
       plt_entry = target;
       symbol_size = 0;
       tls_base = origin;
+      has_got_entry = true;
+      has_plt_entry = false;
+      has_tls_base = true;
     }
 
 abbrev pub HasField : Architecture → Option LazyField → LazyEntry → List ℕ → List ℕ → Type 0

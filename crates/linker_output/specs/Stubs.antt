@@ -1,7 +1,7 @@
 -- Stubs: the fields of their code have the values of relocations.
 use Rattle.std.specs.Prelude.{◌≡◌, ◌≤◌, ◌<◌, ◌+◌, ◌++◌, ◌⊎◌, ℕ, ℤ, List, length, take, drop, min}
 use Rattle.std.specs.Prelude.{◌^◌, ◌-◌}
-use Rattle.std.specs.Prelude.{Option, Some, None}
+use Rattle.std.specs.Prelude.{Option, Some, None, true, false}
 use Rattle.linker_elf.specs.Applied.{IsApplied}
 use Rattle.linker_elf.specs.Relocate.{IsCause}
 use Rattle.linker_elf.specs.Value.{sum_64, value_of}
@@ -50,6 +50,9 @@ operands_of stub place target =
       plt_entry = target;
       symbol_size = 0;
       tls_base = 0;
+      has_got_entry = true;
+      has_plt_entry = false;
+      has_tls_base = false;
     }
 
 -- ---- a field

@@ -128,6 +128,8 @@ impl LazyField {
             got_entry: target,
             got_base: origin,
             tls_base: origin,
+            has_got_entry: true,
+            has_tls_base: true,
             ..Operands::new(target, self.addend, origin)
         }
     }

@@ -104,9 +104,15 @@ Solves t row f operands s =
     (o : Operands) (v : ℤ) → HaveSameBase operands o → value_of row o ≡ Some v
     → IsOf s (address t.reference row.size o) ↔ IsOfValue f v
 
+-- what is taken off is there
+abbrev pub has_base : Origin → Operands → Bool
+has_base Tls o = o.has_tls_base
+has_base origin o = true
+
 -- The bits of a page aren't known from below bit 12.
-abbrev pub is_solvable : Terms → RelocationKindInfo → FieldValue → Bool
-is_solvable t row f = not (is_paged t.reference row.mask && nat_lt f.known.start 12)
+abbrev pub is_solvable : Terms → RelocationKindInfo → FieldValue → Operands → Bool
+is_solvable t row f o =
+    has_base t.origin o && not (is_paged t.reference row.mask && nat_lt f.known.start 12)
 
 -- What is added to the address before its bits are taken. It is nothing where bit 0 is known, and
 -- else the bias, and the value's rounding less the base, of which a row of pages takes the page.
@@ -119,7 +125,7 @@ rounding_solved t row f o =
 -- s is known of the address, by the same bits as of the value.
 pub record IsSolution (t : Terms) (row : RelocationKindInfo) (f : FieldValue) (o : Operands)
     (s : FieldValue) : Type 0 where
-  pub solvable : is_solvable t row f ≡ true
+  pub solvable : is_solvable t row f o ≡ true
   pub known : s.known ≡ f.known
   pub rounding : s.rounding ≡ rounding_solved t row f o
   pub solves : Solves t row f o s
@@ -127,7 +133,7 @@ pub record IsSolution (t : Terms) (row : RelocationKindInfo) (f : FieldValue) (o
 abbrev pub IsSolvedBy : Option Terms → RelocationKindInfo → FieldValue → Operands
     → Option FieldValue → Type 0
 IsSolvedBy None row f o solution = solution ≡ None
-IsSolvedBy (Some t) row f o None = is_solvable t row f ≡ false
+IsSolvedBy (Some t) row f o None = is_solvable t row f o ≡ false
 IsSolvedBy (Some t) row f o (Some s) = IsSolution t row f o s
 
 abbrev pub IsSolved : RelocationKindInfo → FieldValue → Operands → Option FieldValue → Type 0

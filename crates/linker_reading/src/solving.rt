@@ -4,7 +4,7 @@ ghost use Rattle.std.specs.Prelude.{◌≡◌, ◌↔◌, ◌==◌, if◌then◌
 ghost use Rattle.linker_elf.specs.Value.{bias_number, page_if};
 ghost use Rattle.linker_reading.specs.Fields.{IsProper, IsOf};
 ghost use Rattle.linker_reading.specs.Solving.{terms, terms_of_kind, terms_of, is_paged};
-ghost use Rattle.linker_reading.specs.Solving.{base, IsSolved, IsJoined};
+ghost use Rattle.linker_reading.specs.Solving.{base, has_base, IsSolved, IsJoined};
 
 use crate::fields::{FieldValue, bits_of, power_of_two};
 use linker_base::bit_misc::BitRange;
@@ -115,6 +115,16 @@ fn page_if(masked: bool, address: u64) -> u64
     }
 }
 
+/// Whether there is what a formula takes off the address.
+fn has_base(origin: Origin, operands: &Operands) -> bool
+    ensures { result ≡ has_base origin operands.now }
+{
+    match origin {
+        Origin::Zero | Origin::Place | Origin::Got => true,
+        Origin::Tls => operands.has_tls_base,
+    }
+}
+
 /// What a row's formula takes off the address.
 fn base(origin: Origin, row: &RelocationKindInfo, operands: &Operands) -> u64
     ensures { result ≡ base origin row.now operands.now }
@@ -186,8 +196,8 @@ fn without_rounding(field: FieldValue) -> FieldValue
 /// takes the page of the address, bits 12 and up are known, and the page of that rest counts: of
 /// what `read` returns, the rounding is the bias less the page of the place or of the GOT.
 ///
-/// `None` of rows without an inverse, as `terms_of` says; and of a row of pages if `field` begins
-/// below bit 12.
+/// `None` of rows without an inverse, as `terms_of` says; of an offset of a TLS symbol where there
+/// is no `tls_base`; and of a row of pages if `field` begins below bit 12.
 pub fn solve(
     row: &RelocationKindInfo,
     field: &FieldValue,
@@ -199,6 +209,9 @@ pub fn solve(
 {
     match terms_of(row.kind, row.size) {
         Some(terms) => {
+            if !has_base(terms.origin, operands) {
+                return None;
+            }
             let base = base(terms.origin, row, operands);
             let bias = bias_or_zero(row.bias);
             let rest = field.rounding.wrapping_sub(base);

@@ -57,6 +57,9 @@ facts_of output symbol addend marked =
         plt_entry = 0;
         symbol_size = 0;
         tls_base = 0;
+        has_got_entry = false;
+        has_plt_entry = false;
+        has_tls_base = false;
       };
     }
 
@@ -106,6 +109,9 @@ placed_facts phase output addresses symbol value offset addend marked =
         plt_entry = 0;
         symbol_size = 0;
         tls_base = addresses.thread_origin;
+        has_got_entry = false;
+        has_plt_entry = false;
+        has_tls_base = addresses.has_tls;
       };
     }
 

@@ -1,5 +1,5 @@
 -- Instructions, and the relocations that are applied to them.
-use Rattle.std.specs.Prelude.{ℕ, List, Option, IsSomeAnd, pos}
+use Rattle.std.specs.Prelude.{ℕ, List, Option, IsSomeAnd, pos, false}
 use Rattle.linker_elf.specs.declared.elf.RelocationKindInfo.{RelocationKindInfo}
 use Rattle.linker_elf.specs.declared.elf.value.Operands.{Operands}
 use Rattle.linker_elf.specs.Applied.{IsApplied, IsRejected}
@@ -21,6 +21,9 @@ operands_of place target =
       plt_entry = target;
       symbol_size = 0;
       tls_base = 0;
+      has_got_entry = false;
+      has_plt_entry = false;
+      has_tls_base = false;
     }
 
 -- its bytes with the relocation applied at the place

@@ -3,6 +3,7 @@
 use Rattle.std.specs.Prelude.{ℤ, pos, Bool, true, false, not, ◌&&◌, ◌||◌, ◌==◌, nat_lt}
 use Rattle.std.specs.Prelude.{Option, Some, None, if◌then◌else◌}
 use Rattle.linker_elf.specs.Entries.{is_branch}
+use Rattle.linker_elf.specs.Value.{loads_plt_word, names_plt_entry}
 use Rattle.linker_elf.specs.declared.elf.RelocationInstruction.TheVariants.{RiscV, Ppc64}
 use Rattle.linker_elf.specs.declared.elf.RelocationInstruction.TheVariants.{LoongArch64, AArch64}
 use Rattle.linker_elf.specs.declared.elf.RelocationKind.{RelocationKind}
@@ -45,18 +46,6 @@ class_of_kind kinds.TlsDescGotBase = Some Descriptor
 class_of_kind kinds.TlsDescLoongArch64 = Some Descriptor
 class_of_kind kind = None
 
--- the formula has L
-abbrev pub has_plt_entry : RelocationKind → Bool
-has_plt_entry kinds.PltRelative = true
-has_plt_entry kinds.PltRelGotBase = true
-has_plt_entry kind = false
-
--- PowerPC64's calls that load the function's address themselves: L is the word that holds it
--- (64-Bit ELF V2 ABI, "Relocation Types")
-abbrev pub loads_plt_word : RelocationSize → RelocationKind → Bool
-loads_plt_word (BitMasking bits (Ppc64 insn)) kind = has_plt_entry kind
-loads_plt_word size kind = false
-
 -- LoongArch's low halves of an address in the GOT are also those of an entry of general-dynamic or
 -- local-dynamic TLS (LoongArch ELF psABI, "Relocation Types")
 abbrev pub loongarch_class : Option EntryClass → Bool → Option EntryClass
@@ -98,7 +87,8 @@ entry_of row addend is_thread_local =
 -- ---- branches and words
 
 abbrev pub may_use_stub : RelocationSize → RelocationKind → Bool
-may_use_stub size kind = is_branch size || (has_plt_entry kind && not (loads_plt_word size kind))
+may_use_stub size kind =
+    is_branch size || (names_plt_entry kind && not (loads_plt_word size kind))
 
 -- Branches that go to the output's own definition, also where another file may replace it, as GNU
 -- ld and mold have it: those of AArch64 for which its psABI has no veneer (ELF for the Arm 64-bit

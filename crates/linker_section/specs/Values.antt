@@ -4,7 +4,7 @@ use Rattle.std.specs.Prelude.{◌&&◌, ◌||◌, ◌==◌, not, nat_lt, List, l
 use Rattle.std.specs.Prelude.{Some, None, if◌then◌else◌, slice_get, Result, Ok, Err, is_some}
 use Rattle.std.specs.Ordering.{int_eq}
 use Rattle.linker_elf.specs.Entries.{is_branch, is_of_high_part}
-use Rattle.linker_elf.specs.Value.{sum_64, difference_64, value_of}
+use Rattle.linker_elf.specs.Value.{sum_64, difference_64, value_of, is_offset, loads_plt_word}
 use Rattle.linker_elf.specs.declared.elf.RelocationInstruction.TheVariants.{RiscV, Ppc64}
 use Rattle.linker_elf.specs.declared.elf.RelocationKind.{RelocationKind}
 use Rattle.linker_elf.specs.declared.elf.RelocationKind.TheVariants as kinds
@@ -13,7 +13,7 @@ use Rattle.linker_elf.specs.declared.elf.RelocationSize.{RelocationSize}
 use Rattle.linker_elf.specs.declared.elf.RelocationSize.TheVariants.{BitMasking}
 use Rattle.linker_elf.specs.declared.elf.value.Operands.{Operands}
 use Rattle.linker_elf.specs.declared.riscv64.forms.RiscVInstruction.TheVariants.{UType}
-use Rattle.linker_section.specs.Needed.{class_of_kind, entry_of, loads_plt_word, may_use_stub}
+use Rattle.linker_section.specs.Needed.{class_of_kind, entry_of, may_use_stub}
 use Rattle.linker_section.specs.Relocations.{relocation_in, relocation_at}
 use Rattle.linker_section.specs.declared.facts.Addresses.{Addresses}
 use Rattle.linker_section.specs.declared.facts.Symbol.{Symbol}
@@ -86,11 +86,6 @@ is_relative kinds.Relative = true
 is_relative kinds.PltRelative = true
 is_relative kind = false
 
-abbrev pub is_offset : RelocationKind → Bool
-is_offset kinds.TpOff = true
-is_offset kinds.DtpOff = true
-is_offset kind = false
-
 -- What an undefined weak symbol counts for. AArch64's branches go to the next instruction, and what
 -- else is relative to the place is 0 (ELF for the Arm 64-bit Architecture, "Weak References").
 -- Branches of RISC-V and PowerPC64 go to themselves, as linkers make them: their psABIs say
@@ -139,6 +134,9 @@ operands_with architecture addresses row symbol r entry =
       plt_entry = if loads then entry else target;
       symbol_size = symbol.size;
       tls_base = origin_of addresses row.kind;
+      has_got_entry = true;
+      has_plt_entry = true;
+      has_tls_base = addresses.has_tls;
     }
 
 -- what the formula of a relocation with a row takes, or why there is nothing to take

@@ -5,11 +5,11 @@ ghost use Rattle.linker_elf.specs.declared.elf.RelocationKindInfo.{RelocationKin
 ghost use Rattle.linker_section.specs.Inner.Codes.{class_by, entry_by, needs_by};
 ghost use Rattle.linker_section.specs.Inner.Codes.{requirements_by};
 ghost use Rattle.linker_section.specs.Needed.{class_of_kind, may_use_stub};
-ghost use Rattle.linker_section.specs.Needed.{loads_plt_word, needs_in};
+ghost use Rattle.linker_section.specs.Needed.{needs_in};
 ghost use Rattle.linker_utils.specs.Architectures.{IsRow};
 
 use crate::codes::NO_ROW;
-use linker_utils::elf::{Architecture, RelocationInstruction, RelocationKind, RelocationSize};
+use linker_utils::elf::{Architecture, RelocationKind, RelocationSize};
 
 /// What an entry of the GOT holds.
 #[derive(Debug, Clone, Copy, PartialEq, Eq)]
@@ -89,23 +89,6 @@ pub(crate) fn class_of_kind(kind: RelocationKind) -> Option<EntryClass>
     }
 }
 
-/// Whether it is one of PowerPC64's calls that load the function's address themselves.
-#[inline(always)]
-pub(crate) fn loads_plt_word(size: RelocationSize, kind: RelocationKind) -> bool
-    ensures { result ≡ loads_plt_word size kind }
-{
-    matches!(
-        size,
-        RelocationSize::BitMasking {
-            insn: RelocationInstruction::Ppc64(_),
-            ..
-        }
-    ) && matches!(
-        kind,
-        RelocationKind::PltRelGotBase | RelocationKind::PltRelative
-    )
-}
-
 /// Whether a stub may serve as the target.
 #[inline(always)]
 pub(crate) fn may_use_stub(size: RelocationSize, kind: RelocationKind) -> bool
@@ -115,7 +98,7 @@ pub(crate) fn may_use_stub(size: RelocationSize, kind: RelocationKind) -> bool
         || (matches!(
             kind,
             RelocationKind::PltRelGotBase | RelocationKind::PltRelative
-        ) && !loads_plt_word(size, kind))
+        ) && !size.loads_plt_word(kind))
 }
 
 /// The class that the low three bits of a code's number are.

@@ -146,6 +146,9 @@ fn plain_operands(
         plt_entry: target,
         symbol_size: symbol.size,
         tls_base: addresses.module_origin,
+        has_got_entry: true,
+        has_plt_entry: true,
+        has_tls_base: addresses.has_tls,
     }
 }
 
@@ -180,7 +183,7 @@ fn plain_value(
         relocation,
         entry,
     );
-    row.value(&operands)
+    row.formula_value(&operands)
 }
 
 /// The value of a low part, if it is that of a high part.

@@ -6,7 +6,7 @@ ghost use Rattle.linker_section.specs.Needed.{entry_of, may_use_stub};
 ghost use Rattle.linker_section.specs.Relocations.{relocation_in};
 ghost use Rattle.linker_section.specs.Values.{entry_in, has_addend, is_there, entry_address};
 ghost use Rattle.linker_section.specs.Values.{is_of_got, local_entry, is_ppc64_branch, address_of};
-ghost use Rattle.linker_section.specs.Values.{is_relative, is_offset, weak_address, origin_of};
+ghost use Rattle.linker_section.specs.Values.{is_relative, weak_address, origin_of};
 ghost use Rattle.linker_section.specs.Values.{defined_or_weak, target_of, operands_with};
 ghost use Rattle.linker_section.specs.Values.{operands_by, operands_of, has_value, own_value};
 ghost use Rattle.linker_section.specs.Values.{is_defined, lacks_origin};
@@ -17,7 +17,7 @@ ghost use Rattle.linker_utils.specs.Architectures.{IsRow};
 
 use crate::codes::number_of;
 use crate::facts::{Addresses, Symbol};
-use crate::needed::{Entry, EntryClass, class_of_kind, entry_by, loads_plt_word, may_use_stub};
+use crate::needed::{Entry, EntryClass, class_of_kind, entry_by, may_use_stub};
 use crate::relocations::{Rela, first_from, offset_at, relocation_in, relocations_len};
 use linker_utils::elf::{
     Architecture, Operands, RelocationInstruction, RelocationKind, RelocationKindInfo,
@@ -156,14 +156,6 @@ fn is_relative(kind: RelocationKind) -> bool
     matches!(kind, RelocationKind::Relative | RelocationKind::PltRelative)
 }
 
-/// Whether the value is an offset of a thread-local symbol.
-#[inline(always)]
-fn is_offset(kind: RelocationKind) -> bool
-    ensures { result ≡ is_offset kind }
-{
-    matches!(kind, RelocationKind::TpOff | RelocationKind::DtpOff)
-}
-
 /// What an undefined weak symbol counts for.
 #[inline(always)]
 fn weak_address(architecture: Architecture, info: &RelocationKindInfo, place: u64) -> u64
@@ -215,7 +207,7 @@ fn defined_or_weak(
 {
     if !symbol.is_undefined_weak {
         address_of(info, symbol)
-    } else if is_offset(info.kind) {
+    } else if info.kind.is_offset() {
         origin_of(addresses, info.kind)
     } else {
         weak_address(architecture, info, place)
@@ -269,7 +261,7 @@ fn operands_with(
 {
     let place = addresses.section.wrapping_add(relocation.offset);
     let target = target_of(architecture, addresses, number, info, symbol, place);
-    let loads = loads_plt_word(info.size, info.kind);
+    let loads = info.size.loads_plt_word(info.kind);
     Operands {
         symbol: if is_of_got(architecture, relocation.code) {
             addresses.got_base
@@ -283,6 +275,9 @@ fn operands_with(
         plt_entry: if loads { entry } else { target },
         symbol_size: symbol.size,
         tls_base: origin_of(addresses, info.kind),
+        has_got_entry: true,
+        has_plt_entry: true,
+        has_tls_base: addresses.has_tls,
     }
 }
 
@@ -396,7 +391,7 @@ fn lacks_origin(
 ) -> bool
     ensures { result ≡ lacks_origin addresses.now symbols.now info.now relocation.now }
 {
-    is_offset(info.kind) && !addresses.has_tls && is_defined(symbols, relocation.symbol)
+    info.kind.is_offset() && !addresses.has_tls && is_defined(symbols, relocation.symbol)
 }
 
 /// The value of a relocation that stands alone.
@@ -420,7 +415,7 @@ fn own_value(
             if lacks_origin(addresses, symbols, info, relocation) {
                 Err(ValueError::NoTlsBase)
             } else {
-                Ok(info.value(&operands))
+                Ok(info.formula_value(&operands))
             }
         }
         Err(error) => Err(error),
@@ -589,7 +584,7 @@ fn low_value(
     };
     let number = number_of(architecture, relocation.code);
     match operands_of(architecture, addresses, symbols, number, &high, &relocation) {
-        Ok(operands) => Ok(info.value(&low_operands(&high, operands))),
+        Ok(operands) => Ok(info.formula_value(&low_operands(&high, operands))),
         Err(error) => Err(error),
     }
 }

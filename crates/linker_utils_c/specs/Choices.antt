@@ -9,11 +9,11 @@ use Rattle.linker_utils.specs.declared.elf.Architecture.{Architecture}
 use Rattle.linker_elf.specs.declared.elf.choice.Choice.{Choice}
 use Rattle.linker_elf.specs.declared.elf.choice.LinkFacts.{LinkFacts}
 use Rattle.linker_elf.specs.declared.elf.choice.OtherRelocation.{OtherRelocation}
+use Rattle.linker_elf.specs.Value.{completed}
 use Rattle.linker_base.specs.declared.rewrite.DeletedBytes.{DeletedBytes}
 use Rattle.linker_utils_c.specs.declared.choices.ChoiceNumbers.{ChoiceNumbers}
 use Rattle.linker_utils_c.specs.declared.choices.LinkFactNumbers.{LinkFactNumbers}
 use Rattle.linker_utils_c.specs.declared.status.Status.{Status}
-use Rattle.linker_utils_c.specs.Relocate.{operands_of}
 use Rattle.linker_utils_c.specs.Rewrites.{modifier_number, named_rewrite}
 
 -- a number that isn't 0 is true
@@ -38,7 +38,7 @@ facts_of facts =
       may_change_toc = is_set facts.may_change_toc;
       group_fits = is_set facts.group_fits;
       has_addresses = is_set facts.has_addresses;
-      operands = operands_of facts.operands;
+      operands = completed facts.operands;
     }
 
 -- the bytes to be deleted; 0 of them where there are none

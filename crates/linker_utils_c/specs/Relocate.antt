@@ -1,14 +1,13 @@
 -- The value, the reach and the write of a relocation that is named by numbers.
 use Rattle.std.specs.Prelude.{◌≡◌, ◌≢◌, ℕ, ◌<◌, ◌≤◌, List, [], ◌∷◌, ◌++◌, length, take, drop}
 use Rattle.std.specs.Prelude.{slice_index_or, Option, None, Some, Result, Ok, Err, ℤ, pos}
-use Rattle.std.specs.Prelude.{Bool, ◌&&◌, ◌||◌, not, is_some, if◌then◌else◌}
 use Rattle.linker_base.specs.Uleb.{IsUlebWritten, IsUlebCause}
 use Rattle.linker_base.specs.declared.utils.Uleb128Error.{Uleb128Error}
 use Rattle.linker_base.specs.declared.utils.Uleb128Error.TheVariants as uleb_errors
 use Rattle.linker_utils.specs.Architectures.{IsRow}
 use Rattle.linker_elf.specs.Reach.{reach_of}
 use Rattle.linker_elf.specs.Relocate.{WritesRow, RejectsValue}
-use Rattle.linker_elf.specs.Value.{value_of}
+use Rattle.linker_elf.specs.Value.{value_given}
 use Rattle.linker_utils.specs.Uleb128.{IsPairOutcome}
 use Rattle.linker_utils.specs.declared.elf.Architecture.{Architecture}
 use Rattle.linker_utils.specs.declared.elf.Uleb128PairError.{Uleb128PairError}
@@ -18,11 +17,10 @@ use Rattle.linker_elf.specs.declared.elf.Uleb128Role.{Uleb128Role}
 use Rattle.linker_elf.specs.declared.elf.Uleb128Role.TheVariants as roles
 use Rattle.linker_elf.specs.declared.elf.relocate.RelocateError.{RelocateError}
 use Rattle.linker_elf.specs.declared.elf.relocate.RelocateError.TheVariants as errors
+use Rattle.linker_elf.specs.declared.elf.value.FormulaError.{FormulaError}
+use Rattle.linker_elf.specs.declared.elf.value.FormulaError.TheVariants as formula_errors
 use Rattle.linker_elf.specs.declared.elf.value.Operands.{Operands}
-use Rattle.linker_section.specs.Needed.{class_of_kind, loads_plt_word}
-use Rattle.linker_section.specs.Values.{is_offset}
 use Rattle.linker_utils_c.specs.Status.{code}
-use Rattle.linker_utils_c.specs.declared.relocate.OperandNumbers.{OperandNumbers}
 use Rattle.linker_utils_c.specs.declared.relocate.Reach.{Reach}
 use Rattle.linker_utils_c.specs.declared.relocate.Relocation.{Relocation}
 use Rattle.linker_utils_c.specs.declared.status.Status.{Status}
@@ -33,54 +31,21 @@ use Rattle.linker_utils_c.specs.declared.status.Status.TheVariants.{Unsupported,
 use Rattle.linker_utils_c.specs.declared.status.Status.TheVariants.{Uleb128Ended, DoesNotFit}
 use Rattle.linker_utils_c.specs.declared.status.Status.TheVariants.{Uleb128TooLarge}
 
--- ---- what the value is computed from
-
--- L is S where there is no entry of the PLT
-abbrev pub operands_of : OperandNumbers → Operands
-operands_of given =
-    record {
-      symbol = given.symbol;
-      addend = given.addend;
-      place = given.place;
-      got_entry = given.got_entry;
-      got_base = given.got_base;
-      plt_entry = if given.has_plt_entry then given.plt_entry else given.symbol;
-      symbol_size = given.symbol_size;
-      tls_base = given.tls_base;
-    }
-
--- the formula has an entry of the GOT, or the word that PowerPC64's calls load themselves, and there
--- is none
-abbrev pub lacks_entry : RelocationKindInfo → OperandNumbers → Bool
-lacks_entry row given =
-    (is_some (class_of_kind row.kind) && not given.has_got_entry)
-    || (loads_plt_word row.size row.kind && not given.has_plt_entry)
-
--- it has the origin of thread-local offsets, and there is none
-abbrev pub lacks_tls_base : RelocationKindInfo → OperandNumbers → Bool
-lacks_tls_base row given = is_offset row.kind && not given.has_tls_base
-
--- why there is no value, of a relocation that has one
-abbrev pub lacking : RelocationKindInfo → OperandNumbers → Option Status
-lacking row given =
-    if lacks_entry row given then Some NoEntry
-    else (if lacks_tls_base row given then Some NoTlsBase else None)
-
 -- ---- the value
 
-abbrev pub IsValue : Option ℤ → ℕ → ℤ → ℤ → Type 0
-IsValue None status old new = (status ≡ code NoValue) × (new ≡ old)
-IsValue (Some v) status old new = (status ≡ code Success) × (new ≡ v)
+abbrev pub value_status : FormulaError → Status
+value_status formula_errors.NoEntry = NoEntry
+value_status formula_errors.NoTlsBase = NoTlsBase
+value_status formula_errors.NoValue = NoValue
 
-abbrev pub IsValueBy : Option Status → RelocationKindInfo → OperandNumbers → ℕ → ℤ → ℤ → Type 0
-IsValueBy (Some reason) row given status old new = (status ≡ code reason) × (new ≡ old)
-IsValueBy None row given status old new = IsValue (value_of row (operands_of given)) status old new
+abbrev pub IsValue : Result ℤ FormulaError → ℕ → ℤ → ℤ → Type 0
+IsValue (Err error) status old new = (status ≡ code (value_status error)) × (new ≡ old)
+IsValue (Ok v) status old new = (status ≡ code Success) × (new ≡ v)
 
 -- the status and the value by the relocation's row, if it has one
-abbrev pub IsValueOf : Option RelocationKindInfo → OperandNumbers → ℕ → ℤ → ℤ → Type 0
+abbrev pub IsValueOf : Option RelocationKindInfo → Operands → ℕ → ℤ → ℤ → Type 0
 IsValueOf None given status old new = (status ≡ code UnknownRelocation) × (new ≡ old)
-IsValueOf (Some row) given status old new =
-    IsValueBy (lacking row given) row given status old new
+IsValueOf (Some row) given status old new = IsValue (value_given row given) status old new
 
 -- ---- the reach
 

@@ -9,12 +9,11 @@ ghost use Rattle.linker_elf.specs.declared.elf.choice.Choice.{Choice};
 ghost use Rattle.linker_utils_c.specs.Choices.{facts_of, IsChoiceInNumbers, IsUnchanged};
 ghost use Rattle.linker_utils_c.specs.Status.{code};
 
-use crate::relocate::OperandNumbers;
 use crate::rewrites::number_of;
 use crate::status::Status;
 use linker_utils::aarch64::{self, AArch64Relocation};
 use linker_utils::architecture::Relaxation;
-use linker_utils::elf::{Architecture, Choice, InstructionRewrite, LinkFacts};
+use linker_utils::elf::{Architecture, Choice, InstructionRewrite, LinkFacts, Operands};
 use linker_utils::loongarch64::{self, LoongArch64Relocation};
 use linker_utils::ppc64::{self, Ppc64Relocation};
 use linker_utils::riscv64::{self, RiscVRelocation};
@@ -40,7 +39,7 @@ pub struct LinkFactNumbers {
     pub may_change_toc: u8,
     pub has_addresses: u8,
     pub group_fits: u8,
-    pub operands: OperandNumbers,
+    pub operands: Operands,
 }
 
 /// A choice in numbers.
@@ -90,7 +89,7 @@ impl LinkFactNumbers {
             may_change_toc: self.may_change_toc != 0,
             group_fits: self.group_fits != 0,
             has_addresses: self.has_addresses != 0,
-            operands: self.operands.operands(),
+            operands: self.operands.completed(),
         }
     }
 }

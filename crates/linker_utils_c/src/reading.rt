@@ -9,11 +9,9 @@ ghost use Rattle.linker_utils_c.specs.Reading.{field_of, reference_number, IsVal
 ghost use Rattle.linker_utils_c.specs.Reading.{IsAddress, IsRowSolved, IsValueSolved};
 ghost use Rattle.linker_utils_c.specs.Forms.{named_form};
 ghost use Rattle.linker_utils_c.specs.Reading.{IsWhole, AreHalvesJoined, IsOperandReturned};
-ghost use Rattle.linker_utils_c.specs.Relocate.{operands_of};
 ghost use Rattle.linker_utils_c.specs.Status.{code};
 
 use crate::forms::form_of;
-use crate::relocate::OperandNumbers;
 use crate::status::Status;
 use linker_reading::fields::FieldValue;
 use linker_reading::operands::operand;
@@ -200,19 +198,20 @@ fn solve_row(
 /// `solve` of `linker_reading` returns it, and into `reference` which address it is: 0 that of the
 /// symbol, 1 that of the GOT entry, 2 that of the PLT entry. Of the operands only the place, the
 /// GOT's address and the base of TLS are read. The first that applies of `UnknownArchitecture`;
-/// `UnknownRelocation`; `BadFieldValue`; `NoAddress`.
+/// `UnknownRelocation`; `BadFieldValue`; `NoAddress`, also where the base of TLS is read and there
+/// is none.
 #[unsafe(no_mangle)]
 pub extern "C" fn linker_utils_solve(
     machine: u16,
     r_type: u32,
     value: &FieldValueNumbers,
-    operands: &OperandNumbers,
+    operands: &Operands,
     reference: &mut u32,
     address: &mut FieldValueNumbers,
 ) -> u32
     ensures known { IfSome (architecture_of machine)
         (λ architecture. (meaning : Option RelocationKindInfo) × IsRow architecture r_type meaning
-        × IsValueSolved meaning (field_of value.now) (operands_of operands.now) reference.old
+        × IsValueSolved meaning (field_of value.now) operands.now reference.old
         reference.new address.old address.new result) }
     ensures unknown { IfNone (architecture_of machine)
         ((result ≡ code Status.UnknownArchitecture) × (reference.new ≡ reference.old)
@@ -222,7 +221,7 @@ pub extern "C" fn linker_utils_solve(
         return Status::UnknownArchitecture.number();
     };
     match architecture.row(r_type) {
-        Some(meaning) => solve_row(&meaning, value, &operands.operands(), reference, address),
+        Some(meaning) => solve_row(&meaning, value, operands, reference, address),
         None => Status::UnknownRelocation.number(),
     }
 }

@@ -12,12 +12,10 @@ ghost use Rattle.linker_utils_c.specs.Recognising.{IsMadeInNumbers, AreWritten, 
 ghost use Rattle.linker_utils_c.specs.Recognising.{IsChosenInNumbers, IsRecognised, IsWindowGiven};
 ghost use Rattle.linker_utils_c.specs.Recognising.{IsDestinationInNumbers, IsDestinationPut};
 ghost use Rattle.linker_utils_c.specs.Recognising.{IsDestinationOf, IsDestinationReturned};
-ghost use Rattle.linker_utils_c.specs.Relocate.{operands_of};
 ghost use Rattle.linker_utils_c.specs.Status.{code};
 
 use crate::choices::{ChoiceNumbers, LinkFactNumbers, in_numbers};
 use crate::reading::{FieldValueNumbers, reference_number};
-use crate::relocate::OperandNumbers;
 use crate::status::Status;
 use linker_reading::fields::FieldValue;
 use linker_reading::recognise::architecture::{
@@ -382,13 +380,13 @@ pub extern "C" fn linker_utils_destination_nonnull(
     made: &RecognisedNumbers,
     original: &[u8],
     offset: u64,
-    operands: &OperandNumbers,
+    operands: &Operands,
     st_other: u8,
     destination: &mut DestinationNumbers,
 ) -> u32
     ensures known { IfSome (architecture_of machine) (λ architecture.
         IsDestinationReturned architecture made.now original.now offset
-        (operands_of operands.now) st_other destination.old destination.new result) }
+        operands.now st_other destination.old destination.new result) }
     ensures unknown { IfNone (architecture_of machine) ((result ≡ code Status.UnknownArchitecture)
         × (destination.new ≡ destination.old)) }
 {
@@ -398,13 +396,12 @@ pub extern "C" fn linker_utils_destination_nonnull(
     if original.len() > MAX_WINDOW {
         return Status::WindowTooLong.number();
     }
-    let operands = operands.operands();
     put_destination_of(
         architecture,
         made,
         original,
         offset,
-        &operands,
+        operands,
         st_other,
         destination,
     )

@@ -1,126 +1,30 @@
 //! Relocations: their values, their reach, and writing them.
 
-ghost use Rattle.std.specs.Prelude.{◌≡◌, IfSome, IfNone, Option, is_some};
+ghost use Rattle.std.specs.Prelude.{◌≡◌, IfSome, IfNone, Option};
 ghost use Rattle.linker_elf.specs.declared.elf.Uleb128Role.{Uleb128Role};
 ghost use Rattle.linker_elf.specs.declared.elf.RelocationKindInfo.{RelocationKindInfo};
-ghost use Rattle.linker_section.specs.Needed.{class_of_kind, loads_plt_word};
 ghost use Rattle.linker_utils.specs.Architectures.{IsRow, IsRole};
 ghost use Rattle.linker_utils.specs.Machines.{architecture_of};
 ghost use Rattle.linker_utils_c.specs.Relocate.{AreRelocatedOrRejected, IsReachOf, IsRelocated};
 ghost use Rattle.linker_utils_c.specs.Relocate.{IsRelocatedAt, IsUlebReturned, IsValueOf};
 ghost use Rattle.linker_utils_c.specs.Relocate.{role_number, uleb_status, write_status};
-ghost use Rattle.linker_utils_c.specs.Relocate.{IsPairReturned, operands_of, lacking};
+ghost use Rattle.linker_utils_c.specs.Relocate.{IsPairReturned, value_status};
 ghost use Rattle.linker_utils_c.specs.Status.{code};
 
 use crate::status::Status;
 use linker_utils::elf::{
-    Architecture, Operands, RelocateError, RelocationInstruction, RelocationKind,
-    RelocationKindInfo, RelocationSize, Uleb128PairError, Uleb128Role,
+    Architecture, FormulaError, Operands, RelocateError, Uleb128PairError, Uleb128Role,
 };
 use linker_utils::utils::{self, Uleb128Error};
 
-/// What the value of a relocation is computed from, by what there is of it.
-#[repr(C)]
-#[derive(Clone, Copy)]
-pub struct OperandNumbers {
-    pub symbol: u64,
-    pub addend: i64,
-    pub place: u64,
-    pub got_entry: u64,
-    pub got_base: u64,
-    pub plt_entry: u64,
-    pub symbol_size: u64,
-    pub tls_base: u64,
-    /// Whether there is `got_entry`.
-    pub has_got_entry: bool,
-    /// Whether there is `plt_entry`; else L is S.
-    pub has_plt_entry: bool,
-    /// Whether there is `tls_base`.
-    pub has_tls_base: bool,
-}
-
-impl OperandNumbers {
-    /// The operands of the formula, where it has none that there isn't.
-    #[inline(always)]
-    pub(crate) fn operands(&self) -> Operands
-        ensures { result ≡ operands_of self.now }
-    {
-        Operands {
-            symbol: self.symbol,
-            addend: self.addend,
-            place: self.place,
-            got_entry: self.got_entry,
-            got_base: self.got_base,
-            plt_entry: if self.has_plt_entry {
-                self.plt_entry
-            } else {
-                self.symbol
-            },
-            symbol_size: self.symbol_size,
-            tls_base: self.tls_base,
-        }
-    }
-}
-
-/// Whether the formula has an entry of the GOT.
 #[inline(always)]
-fn has_entry(kind: RelocationKind) -> bool
-    ensures { result ≡ is_some (class_of_kind kind) }
+fn value_status(error: FormulaError) -> Status
+    ensures { result ≡ value_status error }
 {
-    matches!(
-        kind,
-        RelocationKind::GotRelative
-            | RelocationKind::GotRelativeLoongArch64
-            | RelocationKind::GotRelGotBase
-            | RelocationKind::Got
-            | RelocationKind::TlsGd
-            | RelocationKind::TlsGdGot
-            | RelocationKind::TlsGdGotBase
-            | RelocationKind::TlsLd
-            | RelocationKind::TlsLdGot
-            | RelocationKind::TlsLdGotBase
-            | RelocationKind::GotTpOff
-            | RelocationKind::GotTpOffGot
-            | RelocationKind::GotTpOffGotBase
-            | RelocationKind::GotTpOffLoongArch64
-            | RelocationKind::TlsDesc
-            | RelocationKind::TlsDescGot
-            | RelocationKind::TlsDescGotBase
-            | RelocationKind::TlsDescLoongArch64
-    )
-}
-
-/// Whether it is one of PowerPC64's calls that load the function's address themselves.
-#[inline(always)]
-fn loads_plt_word(size: RelocationSize, kind: RelocationKind) -> bool
-    ensures { result ≡ loads_plt_word size kind }
-{
-    matches!(
-        size,
-        RelocationSize::BitMasking {
-            insn: RelocationInstruction::Ppc64(_),
-            ..
-        }
-    ) && matches!(
-        kind,
-        RelocationKind::PltRelGotBase | RelocationKind::PltRelative
-    )
-}
-
-/// What the formula has and there isn't: the first that applies of `NoEntry`; `NoTlsBase`.
-#[inline(always)]
-fn lacking(info: &RelocationKindInfo, given: &OperandNumbers) -> Option<Status>
-    ensures { result ≡ lacking info.now given.now }
-{
-    let is_offset = matches!(info.kind, RelocationKind::DtpOff | RelocationKind::TpOff);
-    if (has_entry(info.kind) && !given.has_got_entry)
-        || (loads_plt_word(info.size, info.kind) && !given.has_plt_entry)
-    {
-        Some(Status::NoEntry)
-    } else if is_offset && !given.has_tls_base {
-        Some(Status::NoTlsBase)
-    } else {
-        None
+    match error {
+        FormulaError::NoEntry => Status::NoEntry,
+        FormulaError::NoTlsBase => Status::NoTlsBase,
+        FormulaError::NoValue => Status::NoValue,
     }
 }
 
@@ -130,7 +34,7 @@ fn lacking(info: &RelocationKindInfo, given: &OperandNumbers) -> Option<Status>
 pub extern "C" fn linker_utils_value(
     machine: u16,
     r_type: u32,
-    operands: &OperandNumbers,
+    operands: &Operands,
     value: &mut i64,
 ) -> u32
     ensures known { IfSome (architecture_of machine)
@@ -144,18 +48,13 @@ pub extern "C" fn linker_utils_value(
         return Status::UnknownArchitecture.number();
     };
     match architecture.row(r_type) {
-        Some(meaning) => {
-            if let Some(status) = lacking(&meaning.info(), operands) {
-                return status.number();
+        Some(meaning) => match meaning.value(operands) {
+            Ok(number) => {
+                *value = number;
+                Status::Success.number()
             }
-            match meaning.value(&operands.operands()) {
-                Some(number) => {
-                    *value = number;
-                    Status::Success.number()
-                }
-                None => Status::NoValue.number(),
-            }
-        }
+            Err(error) => value_status(error).number(),
+        },
         None => Status::UnknownRelocation.number(),
     }
 }

@@ -362,7 +362,7 @@ impl Field {
     }
 
     pub fn leads(&self, operands: &Operands) -> bool {
-        self.row.value(operands).is_some_and(|value| self.value.is_of(value as u64))
+        self.row.value(operands).is_ok_and(|value| self.value.is_of(value as u64))
     }
 
     /// The symbol's address, and from which bit on and up to which its bits are known.

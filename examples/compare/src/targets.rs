@@ -127,6 +127,9 @@ impl<'a> Side<'a> {
             place: field.place,
             got_base: self.linked.got_base.unwrap_or(0),
             symbol_size: symbol.size,
+            has_got_entry: true,
+            has_plt_entry: true,
+            has_tls_base: true,
             ..Operands::default()
         };
         (operands, field.row.kind() == RelocationKind::RelativeRiscVLow12)

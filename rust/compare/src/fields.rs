@@ -30,7 +30,10 @@ fields! { Origins: thread_pointer, module_block, }
 fields! { LazyEntry: address, word, header, index, }
 fields! { Branch: offset, target, max_backward, max_forward, }
 fields! { StubShape: len, unit, max_backward, max_forward, }
-fields! { Operands: symbol, addend, place, got_entry, got_base, plt_entry, symbol_size, tls_base, }
+fields! {
+    Operands: symbol, addend, place, got_entry, got_base, plt_entry, symbol_size, tls_base,
+    has_got_entry, has_plt_entry, has_tls_base,
+}
 fields! {
     RelocationNumbers: kind, form, mask, machine, is_bits, byte_size, first_bit, end_bit,
     has_range, thunkable, implicit_addend, min, max, alignment, bias,

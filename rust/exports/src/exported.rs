@@ -19,13 +19,13 @@ use crate::reading::FieldValueNumbers;
 use crate::recognising::DestinationNumbers;
 use crate::recognising::RecognisedNumbers;
 use crate::relaxing::ItemNumbers;
-use crate::relocate::OperandNumbers;
 use crate::relocate::Reach;
 use crate::relocate::Relocation;
 use crate::rewriting::DecisionNumbers;
 use crate::routes::RouteNumbers;
 use crate::section_items::Rela;
 use crate::sections::RequirementNumbers;
+use linker_utils::elf::Operands;
 use linker_utils::elf::RelocationNumbers;
 use linker_utils::elf::RewriteWindow;
 use linker_utils::output::LazyEntry;
@@ -1351,7 +1351,7 @@ unsafe extern "C" fn linker_utils_solve(
     machine: u16,
     r_type: u32,
     value: *const FieldValueNumbers,
-    operands: *const OperandNumbers,
+    operands: *const Operands,
     reference: *mut u32,
     address: *mut FieldValueNumbers,
 ) -> u32 {
@@ -1510,7 +1510,7 @@ unsafe extern "C" fn linker_utils_destination_nonnull(
     original: *const u8,
     original_len: usize,
     offset: u64,
-    operands: *const OperandNumbers,
+    operands: *const Operands,
     st_other: u8,
     destination: *mut DestinationNumbers,
 ) -> u32 {
@@ -1613,7 +1613,7 @@ unsafe extern "C" fn linker_utils_run_deltas_nonnull(
 unsafe extern "C" fn linker_utils_value(
     machine: u16,
     r_type: u32,
-    operands: *const OperandNumbers,
+    operands: *const Operands,
     value: *mut i64,
 ) -> u32 {
     // SAFETY: the arguments are as the head of the header says.

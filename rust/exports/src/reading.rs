@@ -4,7 +4,6 @@
 //! after it.
 
 use crate::forms::form_of;
-use crate::relocate::OperandNumbers;
 use crate::status::Status;
 use linker_utils::reading::FieldValue;
 use linker_utils::reading::operand;
@@ -163,12 +162,13 @@ fn solve_row(
 /// `solve` of `linker_reading` returns it, and into `reference` which address it is: 0 that of the
 /// symbol, 1 that of the GOT entry, 2 that of the PLT entry. Of the operands only the place, the
 /// GOT's address and the base of TLS are read. The first that applies of `UnknownArchitecture`;
-/// `UnknownRelocation`; `BadFieldValue`; `NoAddress`.
+/// `UnknownRelocation`; `BadFieldValue`; `NoAddress`, also where the base of TLS is read and there
+/// is none.
 pub fn linker_utils_solve(
     machine: u16,
     r_type: u32,
     value: &FieldValueNumbers,
-    operands: &OperandNumbers,
+    operands: &Operands,
     reference: &mut u32,
     address: &mut FieldValueNumbers,
 ) -> u32 {
@@ -176,7 +176,7 @@ pub fn linker_utils_solve(
         return Status::UnknownArchitecture.number();
     };
     match architecture.row(r_type) {
-        Some(meaning) => solve_row(&meaning, value, &operands.operands(), reference, address),
+        Some(meaning) => solve_row(&meaning, value, operands, reference, address),
         None => Status::UnknownRelocation.number(),
     }
 }

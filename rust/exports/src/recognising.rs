@@ -4,7 +4,6 @@
 
 use crate::choices::{ChoiceNumbers, LinkFactNumbers, in_numbers};
 use crate::reading::{FieldValueNumbers, reference_number};
-use crate::relocate::OperandNumbers;
 use crate::status::Status;
 use linker_utils::reading::FieldValue;
 use linker_utils::recognise::architecture::{
@@ -312,7 +311,7 @@ pub fn linker_utils_destination_nonnull(
     made: &RecognisedNumbers,
     original: &[u8],
     offset: u64,
-    operands: &OperandNumbers,
+    operands: &Operands,
     st_other: u8,
     destination: &mut DestinationNumbers,
 ) -> u32 {
@@ -322,13 +321,12 @@ pub fn linker_utils_destination_nonnull(
     if original.len() > MAX_WINDOW {
         return Status::WindowTooLong.number();
     }
-    let operands = operands.operands();
     put_destination_of(
         architecture,
         made,
         original,
         offset,
-        &operands,
+        operands,
         st_other,
         destination,
     )

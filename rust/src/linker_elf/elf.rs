@@ -25,7 +25,7 @@ pub use crate::linker_base::rewrite::RewriteWindow;
 pub use numbers::RelocationNumbers;
 pub use relocate::RelocateError;
 pub use rows::Row;
-pub use value::Operands;
+pub use value::{FormulaError, Operands};
 
 /// 2 KiB: half a page.
 pub const SIZE_2KB: u64 = 0x800;

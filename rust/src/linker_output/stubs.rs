@@ -90,6 +90,7 @@ fn operands_of(stub: &Stub, place: u64, target: u64) -> Operands {
     Operands {
         got_entry: target,
         got_base: origin,
+        has_got_entry: true,
         ..Operands::new(target, stub.addend, origin)
     }
 }
@@ -104,7 +105,7 @@ pub(crate) fn write_field(
     let Some(row) = architecture.row(field.relocation) else {
         return Err(RelocateError::Unsupported);
     };
-    let Some(value) = row.value(operands) else {
+    let Some(value) = row.formula_value(operands) else {
         return Err(RelocateError::Unsupported);
     };
     if !field.range.contains(value) {

@@ -104,6 +104,14 @@ fn page_if(masked: bool, address: u64) -> u64 {
     }
 }
 
+/// Whether there is what a formula takes off the address.
+fn has_base(origin: Origin, operands: &Operands) -> bool {
+    match origin {
+        Origin::Zero | Origin::Place | Origin::Got => true,
+        Origin::Tls => operands.has_tls_base,
+    }
+}
+
 /// What a row's formula takes off the address.
 fn base(origin: Origin, row: &RelocationKindInfo, operands: &Operands) -> u64 {
     match origin {
@@ -163,8 +171,8 @@ fn without_rounding(field: FieldValue) -> FieldValue {
 /// takes the page of the address, bits 12 and up are known, and the page of that rest counts: of
 /// what `read` returns, the rounding is the bias less the page of the place or of the GOT.
 ///
-/// `None` of rows without an inverse, as `terms_of` says; and of a row of pages if `field` begins
-/// below bit 12.
+/// `None` of rows without an inverse, as `terms_of` says; of an offset of a TLS symbol where there
+/// is no `tls_base`; and of a row of pages if `field` begins below bit 12.
 ///
 /// # Requires
 ///
@@ -179,6 +187,9 @@ pub fn solve(
     debug_assert!(field.is_proper());
     match terms_of(row.kind, row.size) {
         Some(terms) => {
+            if !has_base(terms.origin, operands) {
+                return None;
+            }
             let base = base(terms.origin, row, operands);
             let bias = bias_or_zero(row.bias);
             let rest = field.rounding.wrapping_sub(base);

@@ -99,6 +99,9 @@ pub(crate) fn facts_of(
             plt_entry: 0,
             symbol_size: 0,
             tls_base: 0,
+            has_got_entry: false,
+            has_plt_entry: false,
+            has_tls_base: false,
         },
     }
 }
@@ -183,6 +186,9 @@ fn placed_facts(
             plt_entry: 0,
             symbol_size: 0,
             tls_base: addresses.thread_origin,
+            has_got_entry: false,
+            has_plt_entry: false,
+            has_tls_base: addresses.has_tls,
         },
     }
 }

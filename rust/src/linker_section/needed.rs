@@ -3,7 +3,7 @@
 //! What a relocation requires of a linker before addresses are known.
 
 use crate::linker_section::codes::NO_ROW;
-use crate::elf::{Architecture, RelocationInstruction, RelocationKind, RelocationSize};
+use crate::elf::{Architecture, RelocationKind, RelocationSize};
 
 /// What an entry of the GOT holds.
 #[derive(Debug, Clone, Copy, PartialEq, Eq)]
@@ -81,21 +81,6 @@ pub(crate) fn class_of_kind(kind: RelocationKind) -> Option<EntryClass> {
     }
 }
 
-/// Whether it is one of PowerPC64's calls that load the function's address themselves.
-#[inline(always)]
-pub(crate) fn loads_plt_word(size: RelocationSize, kind: RelocationKind) -> bool {
-    matches!(
-        size,
-        RelocationSize::BitMasking {
-            insn: RelocationInstruction::Ppc64(_),
-            ..
-        }
-    ) && matches!(
-        kind,
-        RelocationKind::PltRelGotBase | RelocationKind::PltRelative
-    )
-}
-
 /// Whether a stub may serve as the target.
 #[inline(always)]
 pub(crate) fn may_use_stub(size: RelocationSize, kind: RelocationKind) -> bool {
@@ -103,7 +88,7 @@ pub(crate) fn may_use_stub(size: RelocationSize, kind: RelocationKind) -> bool {
         || (matches!(
             kind,
             RelocationKind::PltRelGotBase | RelocationKind::PltRelative
-        ) && !loads_plt_word(size, kind))
+        ) && !size.loads_plt_word(kind))
 }
 
 /// The class that the low three bits of a code's number are.

@@ -4,7 +4,7 @@
 
 use crate::linker_section::codes::number_of;
 use crate::linker_section::facts::{Addresses, Symbol};
-use crate::linker_section::needed::{Entry, EntryClass, class_of_kind, entry_by, loads_plt_word, may_use_stub};
+use crate::linker_section::needed::{Entry, EntryClass, class_of_kind, entry_by, may_use_stub};
 use crate::linker_section::relocations::{Rela, first_from, offset_at, relocation_in, relocations_len};
 use crate::elf::{
     Architecture, Operands, RelocationInstruction, RelocationKind, RelocationKindInfo,
@@ -125,12 +125,6 @@ fn is_relative(kind: RelocationKind) -> bool {
     matches!(kind, RelocationKind::Relative | RelocationKind::PltRelative)
 }
 
-/// Whether the value is an offset of a thread-local symbol.
-#[inline(always)]
-fn is_offset(kind: RelocationKind) -> bool {
-    matches!(kind, RelocationKind::TpOff | RelocationKind::DtpOff)
-}
-
 /// What an undefined weak symbol counts for.
 #[inline(always)]
 fn weak_address(architecture: Architecture, info: &RelocationKindInfo, place: u64) -> u64 {
@@ -176,7 +170,7 @@ fn defined_or_weak(
 ) -> u64 {
     if !symbol.is_undefined_weak {
         address_of(info, symbol)
-    } else if is_offset(info.kind) {
+    } else if info.kind.is_offset() {
         origin_of(addresses, info.kind)
     } else {
         weak_address(architecture, info, place)
@@ -220,7 +214,7 @@ fn operands_with(
 ) -> Operands {
     let place = addresses.section.wrapping_add(relocation.offset);
     let target = target_of(architecture, addresses, number, info, symbol, place);
-    let loads = loads_plt_word(info.size, info.kind);
+    let loads = info.size.loads_plt_word(info.kind);
     Operands {
         symbol: if is_of_got(architecture, relocation.code) {
             addresses.got_base
@@ -234,6 +228,9 @@ fn operands_with(
         plt_entry: if loads { entry } else { target },
         symbol_size: symbol.size,
         tls_base: origin_of(addresses, info.kind),
+        has_got_entry: true,
+        has_plt_entry: true,
+        has_tls_base: addresses.has_tls,
     }
 }
 
@@ -329,7 +326,7 @@ fn lacks_origin(
     info: &RelocationKindInfo,
     relocation: &Rela,
 ) -> bool {
-    is_offset(info.kind) && !addresses.has_tls && is_defined(symbols, relocation.symbol)
+    info.kind.is_offset() && !addresses.has_tls && is_defined(symbols, relocation.symbol)
 }
 
 /// The value of a relocation that stands alone.
@@ -350,7 +347,7 @@ fn own_value(
             if lacks_origin(addresses, symbols, info, relocation) {
                 Err(ValueError::NoTlsBase)
             } else {
-                Ok(info.value(&operands))
+                Ok(info.formula_value(&operands))
             }
         }
         Err(error) => Err(error),
@@ -495,7 +492,7 @@ fn low_value(
     };
     let number = number_of(architecture, relocation.code);
     match operands_of(architecture, addresses, symbols, number, &high, &relocation) {
-        Ok(operands) => Ok(info.value(&low_operands(&high, operands))),
+        Ok(operands) => Ok(info.formula_value(&low_operands(&high, operands))),
         Err(error) => Err(error),
     }
 }

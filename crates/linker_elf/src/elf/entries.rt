@@ -2,7 +2,7 @@
 
 ghost use Rattle.std.specs.Prelude.{◌≡◌};
 ghost use Rattle.linker_elf.specs.Entries.{is_of_high_part, is_branch, IsGotAnswer, IsPltAnswer};
-ghost use Rattle.linker_elf.specs.Inner.Entries.{names_got_entry, names_plt_entry};
+ghost use Rattle.linker_elf.specs.Value.{names_got_entry, names_plt_entry};
 
 use crate::elf::{
     RelocationInstruction, RelocationKind, RelocationKindInfo, RelocationSize, RiscVInstruction,
@@ -10,7 +10,7 @@ use crate::elf::{
 
 /// Whether the formula names the address of a GOT entry.
 #[inline(always)]
-fn names_got_entry(kind: RelocationKind) -> bool
+pub(crate) fn names_got_entry(kind: RelocationKind) -> bool
     ensures { result ≡ names_got_entry kind }
 {
     matches!(
@@ -38,7 +38,7 @@ fn names_got_entry(kind: RelocationKind) -> bool
 
 /// Whether the formula names the address of a PLT entry.
 #[inline(always)]
-fn names_plt_entry(kind: RelocationKind) -> bool
+pub(crate) fn names_plt_entry(kind: RelocationKind) -> bool
     ensures { result ≡ names_plt_entry kind }
 {
     matches!(

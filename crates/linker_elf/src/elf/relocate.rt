@@ -5,6 +5,7 @@ ghost use Rattle.std.specs.Prelude.{true, false, length, drop};
 ghost use Rattle.std.specs.Int.{byte_len, from_le_bytes};
 ghost use Rattle.linker_base.specs.Form.{window_of, Fits};
 ghost use Rattle.linker_elf.specs.Applied.{IsApplied, IsRejected};
+ghost use Rattle.linker_elf.specs.Value.{completed, lacks};
 ghost use Rattle.linker_elf.specs.AArch64.{aarch64_form};
 ghost use Rattle.linker_elf.specs.Elf.{relocation_form};
 ghost use Rattle.linker_elf.specs.Relocate.{number_of_bytes, low_bytes, number_written};
@@ -498,14 +499,28 @@ impl RelocationKindInfo {
         Ok(())
     }
 
-    /// Computes the relocation's value from a linker's numbers and writes it. Returns true if it
-    /// has a value and `write` accepts it, and else writes nothing.
+    /// Computes the relocation's value from a linker's numbers and writes it. Returns true if
+    /// `value` has no error and `write` accepts the value, and else writes nothing.
     pub fn apply(&self, operands: &Operands, dest: &mut [u8]) -> bool
+        ensures applied { result ≡ true → (lacks self.now operands.now ≡ false)
+            × IsApplied self.now (completed operands.now) dest.old dest.new }
+        ensures rejected { result ≡ false → lacks self.now operands.now ≡ false
+            → IsRejected self.now (completed operands.now) dest.old }
+        ensures unchanged { result ≡ false → dest.new ≡ dest.old }
+    {
+        if self.lacks(operands) {
+            return false;
+        }
+        self.apply_formula(&operands.completed(), dest)
+    }
+
+    /// The same with what `formula_value` computes.
+    pub fn apply_formula(&self, operands: &Operands, dest: &mut [u8]) -> bool
         ensures applied { result ≡ true → IsApplied self.now operands.now dest.old dest.new }
         ensures rejected { result ≡ false → IsRejected self.now operands.now dest.old }
         ensures unchanged { result ≡ false → dest.new ≡ dest.old }
     {
-        match self.value(operands) {
+        match self.formula_value(operands) {
             Some(value) => self.write(value, dest).is_ok(),
             None => false,
         }

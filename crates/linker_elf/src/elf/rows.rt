@@ -1,7 +1,7 @@
 //! Rows of the relocation tables, and the macros that make them from each architecture's list.
 
 ghost use Rattle.std.specs.Prelude.{◌≡◌, ◌-◌, ◌<◌, ◌≤◌, ◌↔◌, IfErr, IfSome, IsTrue, OnOk};
-ghost use Rattle.std.specs.Prelude.{length, true};
+ghost use Rattle.std.specs.Prelude.{length, true, false};
 ghost use Rattle.linker_elf.specs.Agrees.{RowFits};
 ghost use Rattle.linker_elf.specs.Entries.{IsGotAnswer, IsPltAnswer};
 ghost use Rattle.linker_elf.specs.Relocate.{Reaches, IsInReach};
@@ -10,7 +10,7 @@ ghost use Rattle.linker_elf.specs.Reach.{reach_of};
 ghost use Rattle.linker_elf.specs.Relocate.{WritesRow, RejectsValue, window_len, is_supported};
 ghost use Rattle.linker_elf.specs.Relocate.{IsAligned, IsWritten};
 ghost use Rattle.linker_elf.specs.Elf.{IsWithin};
-ghost use Rattle.linker_elf.specs.Value.{value_of};
+ghost use Rattle.linker_elf.specs.Value.{value_of, value_given, completed, lacks};
 ghost use Rattle.linker_elf.specs.Inner.RowTables.{info_in, info_of, raw_info_in, IsSound};
 ghost use Rattle.linker_elf.specs.Inner.RowTables.{tests_of, takes_all, is_unit};
 
@@ -18,8 +18,8 @@ use crate::elf::relocate::{
     is_encoded, write_aarch64, write_bits, write_bytes, write_field, write_number,
 };
 use crate::elf::{
-    AllowedRange, Bias, Operands, PageMask, RelocateError, RelocationInstruction, RelocationKind,
-    RelocationKindInfo, RelocationNumbers, RelocationSize,
+    AllowedRange, Bias, FormulaError, Operands, PageMask, RelocateError, RelocationInstruction,
+    RelocationKind, RelocationKindInfo, RelocationNumbers, RelocationSize,
 };
 use std::marker::Model;
 
@@ -197,22 +197,39 @@ impl Row {
         self.info().reach()
     }
 
-    /// The relocation's value, as `RelocationKindInfo::value` says.
+    /// The relocation's value, as `RelocationKindInfo::value` says, with its errors.
     #[inline(always)]
-    pub fn value(&self, operands: &Operands) -> Option<i64>
-        ensures { result ≡ value_of self.now operands.now }
+    pub fn value(&self, operands: &Operands) -> Result<i64, FormulaError>
+        ensures { result ≡ value_given self.now operands.now }
     {
         self.info().value(operands)
     }
 
+    /// What `value` computes, of operands that are all read as they are.
+    #[inline(always)]
+    pub fn formula_value(&self, operands: &Operands) -> Option<i64>
+        ensures { result ≡ value_of self.now operands.now }
+    {
+        self.info().formula_value(operands)
+    }
+
     /// Whether the relocation has a value that can be written: one within `reach`, and a multiple
     /// of the row's alignment. Those that only the reserved immediate 0 of a `c.lui` would hold,
-    /// from -0x800 up, below 0x800, can't be.
+    /// from -0x800 up, below 0x800, can't be. False where `value` returns an error.
     #[inline(always)]
     pub fn reaches(&self, operands: &Operands) -> bool
+        ensures { IsTrue result ↔ ((lacks self.now operands.now ≡ false)
+            × Reaches self.now (completed operands.now)) }
+    {
+        !self.info().lacks(operands) && self.formula_reaches(&operands.completed())
+    }
+
+    /// The same of `formula_value`.
+    #[inline(always)]
+    pub fn formula_reaches(&self, operands: &Operands) -> bool
         ensures { IsTrue result ↔ Reaches self.now operands.now }
     {
-        match self.value(operands) {
+        match self.formula_value(operands) {
             Some(value) => self.info().is_in_reach(&self.entry.tests, value),
             None => false,
         }

@@ -1,18 +1,22 @@
 //! The value of a relocation, from the addresses that a linker knows.
 
-ghost use Rattle.std.specs.Prelude.{◌≡◌};
+ghost use Rattle.std.specs.Prelude.{◌≡◌, false};
 ghost use Rattle.linker_elf.specs.Value.{page_if, bias_number, entry_addend, sequence_pc};
 ghost use Rattle.linker_elf.specs.Value.{symbol_term, entry_term, plt_term, size_term};
 ghost use Rattle.linker_elf.specs.Value.{place_term, got_term, relative_term, formula, value_of};
+ghost use Rattle.linker_elf.specs.Value.{completed, lacks, lacks_entry, lacks_tls_base};
+ghost use Rattle.linker_elf.specs.Value.{is_offset, loads_plt_word, value_given};
 
+use crate::elf::entries::{names_got_entry, names_plt_entry};
 use crate::elf::{
     Bias, PAGE_MASK_4KB, PageMask, RelocationInstruction, RelocationKind, RelocationKindInfo,
     RelocationSize,
 };
 use crate::loongarch64::highest_relocation_with_bias;
 
-/// What the value of a relocation is computed from. All but the addend are addresses or sizes in
-/// bytes. A value is computed modulo 2^64. What the relocation's formula doesn't name isn't read.
+/// What the value of a relocation is computed from. All but the addend and the flags are addresses
+/// or sizes in bytes. A value is computed modulo 2^64. What the relocation's formula doesn't name
+/// isn't read. Where it names an entry or an origin that there isn't, by its flag, it has no value.
 #[repr(C)]
 #[derive(Debug, Default, Clone, Copy, PartialEq, Eq)]
 pub struct Operands {
@@ -35,8 +39,9 @@ pub struct Operands {
     /// The address that offsets from the GOT count from: that of `_GLOBAL_OFFSET_TABLE_`, and on
     /// PowerPC64 that of `.TOC.`, which is the GOT's address plus 0x8000.
     pub got_base: u64,
-    /// L: the address of the symbol's PLT entry, or S where it has none, as `new` sets it. Calls
-    /// read it: 0 here isn't S.
+    /// L: the address of the symbol's PLT entry. Without one L is S. Of the calls of PowerPC64 that
+    /// load the function's address themselves, as `R_PPC64_PLT16_LO_DS`, it is that of the word
+    /// that holds it. `choose` reads this field as it is: it has to be S where there is no entry.
     pub plt_entry: u64,
     /// Z: the symbol's size.
     pub symbol_size: u64,
@@ -47,11 +52,28 @@ pub struct Operands {
     /// end rounded up. For an offset in the module's TLS block it is the image's address, aligned
     /// or not; plus 0x8000 on PowerPC64, and plus 0x800 on RISC-V.
     pub tls_base: u64,
+    /// Whether there is `got_entry`.
+    pub has_got_entry: bool,
+    /// Whether there is `plt_entry`.
+    pub has_plt_entry: bool,
+    /// Whether there is `tls_base`.
+    pub has_tls_base: bool,
+}
+
+/// Why a relocation's formula has no value.
+#[derive(Debug, Clone, Copy, PartialEq, Eq)]
+pub enum FormulaError {
+    /// It has the address of an entry of the GOT, or of the word that PowerPC64's calls load, and
+    /// there is none.
+    NoEntry,
+    /// It counts from the origin of offsets of TLS symbols, and there is none.
+    NoTlsBase,
+    /// The relocation has no formula: its kind is `None`, `Alignment` or `TlsDescCall`.
+    NoValue,
 }
 
 impl Operands {
-    /// Those of a symbol without a PLT entry, for which L is S: S, A and P, and zeros. A symbol
-    /// with one has its address in `plt_entry`.
+    /// S, A and P, of a symbol without any entry: L is S, and the other addresses are 0.
     ///
     /// ```
     /// use linker_utils::elf::Operands;
@@ -60,7 +82,7 @@ impl Operands {
     /// // call f, whose field is at 0x401131, with f at 0x401200
     /// let operands = Operands::new(0x401200, -4, 0x401131);
     /// let row = row(X86_64Relocation::R_X86_64_PLT32).unwrap();
-    /// assert_eq!(row.value(&operands), Some(0xcb));
+    /// assert_eq!(row.value(&operands), Ok(0xcb));
     /// ```
     pub fn new(symbol: u64, addend: i64, place: u64) -> Operands
         ensures { result ≡ record {
@@ -72,6 +94,9 @@ impl Operands {
           plt_entry = symbol;
           symbol_size = 0;
           tls_base = 0;
+          has_got_entry = false;
+          has_plt_entry = false;
+          has_tls_base = false;
         } }
     {
         Operands {
@@ -81,6 +106,46 @@ impl Operands {
             plt_entry: symbol,
             ..Operands::default()
         }
+    }
+
+    /// The same, with S as L where there is no entry of the PLT.
+    #[inline(always)]
+    pub fn completed(&self) -> Operands
+        ensures { result ≡ completed self.now }
+    {
+        let plt_entry = if self.has_plt_entry {
+            self.plt_entry
+        } else {
+            self.symbol
+        };
+        Operands { plt_entry, ..*self }
+    }
+}
+
+impl RelocationSize {
+    /// Whether it is that of PowerPC64's calls that load the function's address themselves, of a
+    /// kind.
+    #[inline(always)]
+    pub fn loads_plt_word(self, kind: RelocationKind) -> bool
+        ensures { result ≡ loads_plt_word self kind }
+    {
+        matches!(
+            self,
+            RelocationSize::BitMasking {
+                insn: RelocationInstruction::Ppc64(_),
+                ..
+            }
+        ) && names_plt_entry(kind)
+    }
+}
+
+impl RelocationKind {
+    /// Whether the value is an offset of a thread-local symbol.
+    #[inline(always)]
+    pub fn is_offset(self) -> bool
+        ensures { result ≡ is_offset self }
+    {
+        matches!(self, RelocationKind::TpOff | RelocationKind::DtpOff)
     }
 }
 
@@ -285,9 +350,46 @@ impl RelocationKindInfo {
         }
     }
 
+    /// What `value` computes, of operands that are all read as they are. None of a kind without a
+    /// value.
+    #[inline(always)]
+    pub fn formula_value(&self, operands: &Operands) -> Option<i64>
+        ensures { result ≡ value_of self.now operands.now }
+    {
+        match self.value_modulo(operands) {
+            Some(value) => Some(value.cast_signed()),
+            None => None,
+        }
+    }
+
+    /// Whether the formula has an entry that there isn't.
+    #[inline(always)]
+    fn lacks_entry(&self, operands: &Operands) -> bool
+        ensures { result ≡ lacks_entry self.now operands.now }
+    {
+        (names_got_entry(self.kind) && !operands.has_got_entry)
+            || (self.size.loads_plt_word(self.kind) && !operands.has_plt_entry)
+    }
+
+    /// Whether it counts from an origin that there isn't.
+    #[inline(always)]
+    fn lacks_tls_base(&self, operands: &Operands) -> bool
+        ensures { result ≡ lacks_tls_base self.now operands.now }
+    {
+        self.kind.is_offset() && !operands.has_tls_base
+    }
+
+    /// Either.
+    #[inline(always)]
+    pub(crate) fn lacks(&self, operands: &Operands) -> bool
+        ensures { result ≡ lacks self.now operands.now }
+    {
+        self.lacks_entry(operands) || self.lacks_tls_base(operands)
+    }
+
     /// The relocation's value: the formula of its kind, with the bias added first and the page mask
-    /// applied after that, modulo 2^64 and read in two's complement. `None` of a kind without a
-    /// value: `None`, `Alignment` and `TlsDescCall`.
+    /// applied after that, modulo 2^64 and read in two's complement. The first that applies of
+    /// `NoEntry`, `NoTlsBase` and `NoValue`.
     ///
     /// Of LoongArch's high halves it is `highest_relocation_with_bias` of the symbol or the GOT
     /// entry. The place is that of the relocated instruction, which is the third of the sequence of
@@ -297,12 +399,18 @@ impl RelocationKindInfo {
     /// That of the first, `R_RISCV_SET_ULEB128` or `R_LARCH_ADD_ULEB128`, is S + A, though its row
     /// is of kind `Relative`.
     #[inline(always)]
-    pub fn value(&self, operands: &Operands) -> Option<i64>
-        ensures { result ≡ value_of self.now operands.now }
+    pub fn value(&self, operands: &Operands) -> Result<i64, FormulaError>
+        ensures { result ≡ value_given self.now operands.now }
     {
-        match self.value_modulo(operands) {
-            Some(value) => Some(value.cast_signed()),
-            None => None,
+        if self.lacks_entry(operands) {
+            Err(FormulaError::NoEntry)
+        } else if self.lacks_tls_base(operands) {
+            Err(FormulaError::NoTlsBase)
+        } else {
+            match self.formula_value(&operands.completed()) {
+                Some(value) => Ok(value),
+                None => Err(FormulaError::NoValue),
+            }
         }
     }
 }

@@ -113,7 +113,7 @@ fn are_pages_near(row: &RelocationKindInfo, place: u64, target: u64) -> bool
     requires { loongarch_raw_row LoongArch64Relocation.R_LARCH_PCALA_HI20 ≡ Some row.now }
     ensures { IsTrue result ↔ ArePagesNear place target }
 {
-    match row.value(&operands_of(place, target)) {
+    match row.formula_value(&operands_of(place, target)) {
         Some(distance) => AllowedRange::from_bit_size(32, Sign::Signed).contains(distance),
         None => false,
     }
@@ -155,12 +155,12 @@ fn address_of(section: &[u8], offset: u64, place: u64, target: u64) -> Option<[u
         return None;
     }
     let mut high = word_at(section, offset);
-    if !row.apply(&operands_of(place, target), &mut high) {
+    if !row.apply_formula(&operands_of(place, target), &mut high) {
         return None;
     }
     let row = row_of(LoongArch64Relocation::R_LARCH_PCALA_LO12);
     let mut low = word_at(section, offset + 4);
-    if !row.apply(&operands_of(place.wrapping_add(4), target), &mut low) {
+    if !row.apply_formula(&operands_of(place.wrapping_add(4), target), &mut low) {
         return None;
     }
     Some(joined(high, low))

@@ -4,15 +4,15 @@ use Rattle.std.specs.Prelude.{◌≡◌, ℕ, ℤ, pos, ◌/◌, ◌%◌, ◌==�
 use Rattle.std.specs.Prelude.{Bool, true, false, List, Option, Some, None, ⊤}
 use Rattle.std.specs.Int.{w64, cast_signed, cast_unsigned}
 use Rattle.linker_elf.specs.Relocate.{window_len}
-use Rattle.linker_elf.specs.Value.{sum_64, difference_64, value_of}
+use Rattle.linker_elf.specs.Value.{sum_64, difference_64, value_of, is_offset, loads_plt_word}
 use Rattle.linker_elf.specs.declared.elf.RelocationKind.TheVariants as kinds
 use Rattle.linker_elf.specs.declared.elf.RelocationKindInfo.{RelocationKindInfo}
 use Rattle.linker_elf.specs.declared.elf.value.Operands.{Operands}
 use Rattle.linker_section.specs.Conditions.{shows_length}
 use Rattle.linker_section.specs.Fields.{is_of_pair}
-use Rattle.linker_section.specs.Needed.{loads_plt_word, needs_of, needs_in}
+use Rattle.linker_section.specs.Needed.{needs_of, needs_in}
 use Rattle.linker_section.specs.Values.{has_value, names_label, is_of_got, is_ppc64_branch}
-use Rattle.linker_section.specs.Values.{is_offset, origin_of, is_high_part, low_operands}
+use Rattle.linker_section.specs.Values.{origin_of, is_high_part, low_operands}
 use Rattle.linker_section.specs.declared.facts.Addresses.{Addresses}
 use Rattle.linker_section.specs.declared.needed.Entry.{Entry}
 use Rattle.linker_section.specs.declared.needed.EntryClass.{EntryClass}

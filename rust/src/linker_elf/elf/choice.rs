@@ -180,7 +180,7 @@ impl LinkFacts {
 fn reaches(row: Option<Row>, after: &Operands, back: u64) -> bool {
     let place = after.place.wrapping_sub(back);
     match row {
-        Some(row) => row.reaches(&Operands { place, ..*after }),
+        Some(row) => row.formula_reaches(&Operands { place, ..*after }),
         None => false,
     }
 }
@@ -189,7 +189,7 @@ fn reaches(row: Option<Row>, after: &Operands, back: u64) -> bool {
 fn value_is_within(row: Option<Row>, bounds: (i64, i64), operands: &Operands, back: u64) -> bool {
     let place = operands.place.wrapping_sub(back);
     let value = match row {
-        Some(row) => row.value(&Operands { place, ..*operands }),
+        Some(row) => row.formula_value(&Operands { place, ..*operands }),
         None => None,
     };
     match value {

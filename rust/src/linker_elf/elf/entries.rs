@@ -8,7 +8,7 @@ use crate::linker_elf::elf::{
 
 /// Whether the formula names the address of a GOT entry.
 #[inline(always)]
-fn names_got_entry(kind: RelocationKind) -> bool {
+pub(crate) fn names_got_entry(kind: RelocationKind) -> bool {
     matches!(
         kind,
         RelocationKind::GotRelative
@@ -34,7 +34,7 @@ fn names_got_entry(kind: RelocationKind) -> bool {
 
 /// Whether the formula names the address of a PLT entry.
 #[inline(always)]
-fn names_plt_entry(kind: RelocationKind) -> bool {
+pub(crate) fn names_plt_entry(kind: RelocationKind) -> bool {
     matches!(
         kind,
         RelocationKind::PltRelGotBase | RelocationKind::PltRelative

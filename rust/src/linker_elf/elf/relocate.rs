@@ -415,11 +415,20 @@ impl RelocationKindInfo {
         Ok(())
     }
 
-    /// Computes the relocation's value from a linker's numbers and writes it. Returns true if it
-    /// has a value and `write` accepts it, and else writes nothing.
-    #[inline(always)]
+    /// Computes the relocation's value from a linker's numbers and writes it. Returns true if
+    /// `value` has no error and `write` accepts the value, and else writes nothing.
     pub fn apply(&self, operands: &Operands, dest: &mut [u8]) -> bool {
-        match self.value(operands) {
+        if self.lacks(operands) {
+            return false;
+        }
+        self.apply_formula(&operands.completed(), dest)
+    }
+
+    /// The same with what `formula_value` computes.
+    #[doc(hidden)]
+    #[inline(always)]
+    pub fn apply_formula(&self, operands: &Operands, dest: &mut [u8]) -> bool {
+        match self.formula_value(operands) {
             Some(value) => self.write(value, dest).is_ok(),
             None => false,
         }

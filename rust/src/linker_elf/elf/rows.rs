@@ -6,8 +6,8 @@ use crate::linker_elf::elf::relocate::{
     is_encoded, write_aarch64, write_bits, write_bytes, write_field, write_number,
 };
 use crate::linker_elf::elf::{
-    AllowedRange, Bias, Operands, PageMask, RelocateError, RelocationInstruction, RelocationKind,
-    RelocationKindInfo, RelocationNumbers, RelocationSize,
+    AllowedRange, Bias, FormulaError, Operands, PageMask, RelocateError, RelocationInstruction,
+    RelocationKind, RelocationKindInfo, RelocationNumbers, RelocationSize,
 };
 
 /// An entry of a table: a row, the row in numbers, and what a write of it tests. Its range,
@@ -154,20 +154,35 @@ impl Row {
         self.info().reach()
     }
 
-    /// The relocation's value, as `RelocationKindInfo::value` says.
+    /// The relocation's value, as `RelocationKindInfo::value` says, with its errors.
+    #[inline(always)]
+    pub fn value(&self, operands: &Operands) -> Result<i64, FormulaError> {
+        self.info().value(operands)
+    }
+
+    /// What `value` computes, of operands that are all read as they are.
+    #[doc(hidden)]
     #[must_use]
     #[inline(always)]
-    pub fn value(&self, operands: &Operands) -> Option<i64> {
-        self.info().value(operands)
+    pub fn formula_value(&self, operands: &Operands) -> Option<i64> {
+        self.info().formula_value(operands)
     }
 
     /// Whether the relocation has a value that can be written: one within `reach`, and a multiple
     /// of the row's alignment. Those that only the reserved immediate 0 of a `c.lui` would hold,
-    /// from -0x800 up, below 0x800, can't be.
+    /// from -0x800 up, below 0x800, can't be. False where `value` returns an error.
     #[must_use]
     #[inline(always)]
     pub fn reaches(&self, operands: &Operands) -> bool {
-        match self.value(operands) {
+        !self.info().lacks(operands) && self.formula_reaches(&operands.completed())
+    }
+
+    /// The same of `formula_value`.
+    #[doc(hidden)]
+    #[must_use]
+    #[inline(always)]
+    pub fn formula_reaches(&self, operands: &Operands) -> bool {
+        match self.formula_value(operands) {
             Some(value) => self.info().is_in_reach(&self.entry.tests, value),
             None => false,
         }

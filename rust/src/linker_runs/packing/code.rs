@@ -47,7 +47,7 @@ pub(crate) fn relocated(template: Template, place: u64, target: u64) -> Option<C
     match template.code {
         Code::Half(bytes) => {
             let mut bytes = bytes;
-            if template.row.apply(&operands, &mut bytes) {
+            if template.row.apply_formula(&operands, &mut bytes) {
                 Some(Code::Half(bytes))
             } else {
                 None
@@ -55,7 +55,7 @@ pub(crate) fn relocated(template: Template, place: u64, target: u64) -> Option<C
         }
         Code::Word(bytes) => {
             let mut bytes = bytes;
-            if template.row.apply(&operands, &mut bytes) {
+            if template.row.apply_formula(&operands, &mut bytes) {
                 Some(Code::Word(bytes))
             } else {
                 None
@@ -63,7 +63,7 @@ pub(crate) fn relocated(template: Template, place: u64, target: u64) -> Option<C
         }
         Code::Pair(bytes) => {
             let mut bytes = bytes;
-            if template.row.apply(&operands, &mut bytes) {
+            if template.row.apply_formula(&operands, &mut bytes) {
                 Some(Code::Pair(bytes))
             } else {
                 None

@@ -7,10 +7,10 @@ use Rattle.linker_utils.specs.Architectures.{IsRow}
 
 pub returns-then-not-contains-clause-err : goal.returns-then-not-contains-clause-err
 returns-then-not-contains-clause-err c =
-    let v = cast_signed w64 (cast_unsigned w64 c.in-Some-value.value) in
-    let same : v ≡ c.in-Some-value.value = search rules in
+    let v = cast_signed w64 (cast_unsigned w64 c.in-Some-formula_value.value) in
+    let same : v ≡ c.in-Some-formula_value.value = search rules in
     let found : value_of c.in-Some.row c.args.operands.now ≡ Some v =
-    sym c.in-Some-value.ensures ∙ ap Some (sym same) in (
+    sym c.in-Some-formula_value.ensures ∙ ap Some (sym same) in (
       Some c.in-Some.row,
       subst (λ row. IsRow c.args.architecture c.args.field.relocation row) c.in-Some.is c.row.ensures,
       not_allowed c.args.field.range c.in-Some.row _ v _ found
@@ -19,10 +19,10 @@ returns-then-not-contains-clause-err c =
 
 pub returns-clause-ok : goal.returns-clause-ok
 returns-clause-ok c =
-    let v = cast_signed w64 (cast_unsigned w64 c.in-Some-value.value) in
-    let same : v ≡ c.in-Some-value.value = search rules in
+    let v = cast_signed w64 (cast_unsigned w64 c.in-Some-formula_value.value) in
+    let same : v ≡ c.in-Some-formula_value.value = search rules in
     let found : value_of c.in-Some.row c.args.operands.now ≡ Some v =
-    sym c.in-Some-value.ensures ∙ ap Some (sym same) in
+    sym c.in-Some-formula_value.ensures ∙ ap Some (sym same) in
     field_written c.args.architecture c.args.field c.args.operands.now c.args.pair.now
     c.write.new.dest c.in-Some.row v c.min.result c.min.ensures (search rules)
     (subst (λ row. IsRow c.args.architecture c.args.field.relocation row) c.in-Some.is c.row.ensures)
@@ -30,10 +30,10 @@ returns-clause-ok c =
 
 pub returns-clause-err : goal.returns-clause-err
 returns-clause-err c =
-    let v = cast_signed w64 (cast_unsigned w64 c.in-Some-value.value) in
-    let same : v ≡ c.in-Some-value.value = search rules in
+    let v = cast_signed w64 (cast_unsigned w64 c.in-Some-formula_value.value) in
+    let same : v ≡ c.in-Some-formula_value.value = search rules in
     let found : value_of c.in-Some.row c.args.operands.now ≡ Some v =
-    sym c.in-Some-value.ensures ∙ ap Some (sym same) in
+    sym c.in-Some-formula_value.ensures ∙ ap Some (sym same) in
     field_rejected c.args.architecture c.args.field c.args.operands.now c.args.pair.now
     c.write.new.dest c.in-Some.row v c.min.result c.min.ensures (search rules)
     (subst (λ row. IsRow c.args.architecture c.args.field.relocation row) c.in-Some.is c.row.ensures)

@@ -3,7 +3,7 @@ use Rattle.std.specs.Prelude.{not, ◌&&◌, ◌==◌, nat_lt, if◌then◌else�
 use Rattle.linker_base.specs.Bits.{field}
 use Rattle.linker_elf.specs.Value.{page_if, difference_64, sum_64, bias_number}
 use Rattle.linker_reading.specs.Fields.{IsOf}
-use Rattle.linker_reading.specs.Solving.{is_paged, is_solvable, terms_of, base}
+use Rattle.linker_reading.specs.Solving.{is_paged, is_solvable, terms_of, base, has_base}
 use Rattle.linker_reading.proofs.Formulas.{solves, rounding_after, known_above}
 use Rattle.linker_reading.proofs.solving.solve.Goals.{else-paged-via-then-paged+else-field-lt12, else-paged-via-else-paged}
 use Rattle.linker_reading.proofs.solving.solve.Goals as goal
@@ -31,13 +31,17 @@ returns-else-paged-clause-solved c =
     ≡ rounding_after t row f.rounding o =
     ap (λ b. sum_64 b c.page_if.result) c.bias_or_zero-bias.ensures
     ∙ ap (sum_64 (bias_number row.bias)) rest in
-    let solvable : is_solvable t row f ≡ true =
+    let there : has_base t.origin o ≡ true =
+    sym c.has_base.ensures ∙ c.if-not-has_base.false in
+    let known : not (p && nat_lt f.known.start 12) ≡ true =
     elim c.else-paged.branch [
       | else-paged-via-then-paged+else-field-lt12 w ↦ known_above p f.known.start w.if-field-lt12.false
       | else-paged-via-else-paged w ↦
           ap (λ b. not (b && nat_lt f.known.start 12))
           (sym c.is_paged-paged.ensures ∙ w.if-paged.false)
     ] in
+    let solvable : is_solvable t row f o ≡ true =
+    ap (λ b. b && not (p && nat_lt f.known.start 12)) there ∙ known in
     rw is (record {
       solvable = solvable;
       known = c.without_rounding.ensures.known;

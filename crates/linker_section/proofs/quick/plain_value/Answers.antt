@@ -26,4 +26,4 @@ returns c =
     ap (operands_in a.architecture a.addresses.now row r) there
     ∙ (ap (operands_by a.architecture a.addresses.now row r symbol) entry
     ∙ ap Ok (sym c.plain_operands-operands.ensures)) in
-    plain_some a.architecture a.addresses.now a.symbols.now row r operands c.value.result found (sym c.value.ensures)
+    plain_some a.architecture a.addresses.now a.symbols.now row r operands c.formula_value.result found (sym c.formula_value.ensures)

@@ -71,8 +71,8 @@ fn is_made(
         return false;
     };
     match row.value(&facts.operands) {
-        Some(value) => row.write(value, &mut section[at as usize..]).is_ok(),
-        None => true,
+        Ok(value) => row.write(value, &mut section[at as usize..]).is_ok(),
+        Err(_) => true,
     }
 }
 
@@ -174,7 +174,7 @@ fn values_are_written_before_rewrites_or_after_them() {
                     Write(index) => {
                         let at = pair[index].0;
                         let row = row(names[index]).expect("a row");
-                        if let Some(value) = row.value(&next(&facts, at).operands) {
+                        if let Ok(value) = row.value(&next(&facts, at).operands) {
                             let written = row.write(value, &mut section[at as usize..]);
                             assert!(written.is_ok(), "{order:?}");
                         }
@@ -245,6 +245,7 @@ fn entry_loads_become_moves_as_by_linkers() {
         let facts = own(Operands {
             symbol: 0x2000 + high * 0x1_0000 + low,
             tls_base: 0x2000,
+            has_tls_base: true,
             ..Operands::default()
         });
         let facts = LinkFacts { group_fits: true, ..facts };
@@ -275,7 +276,8 @@ fn halves_made<const N: usize>(mut words: [u32; N], halves: &[(u64, bool)]) -> (
         bytes.copy_from_slice(&word.to_le_bytes());
     }
     // the variable is 0x12350 bytes behind the thread pointer
-    let facts = own(Operands { symbol: 0x1_4350, tls_base: 0x2000, ..Operands::default() });
+    let operands = Operands { tls_base: 0x2000, has_tls_base: true, ..Operands::default() };
+    let facts = own(Operands { symbol: 0x1_4350, ..operands });
     let named = |is_high: bool| match is_high {
         true => AArch64Relocation::R_AARCH64_TLSIE_ADR_GOTTPREL_PAGE21,
         false => AArch64Relocation::R_AARCH64_TLSIE_LD64_GOTTPREL_LO12_NC,
@@ -336,11 +338,17 @@ fn descriptor_made(facts: &LinkFacts) -> Option<[u8; 16]> {
 
 #[test]
 fn descriptors_become_offsets_as_by_linkers() {
-    let local = own(Operands { symbol: 0x1_2000, tls_base: 0x2000, ..Operands::default() });
+    let operands = Operands { tls_base: 0x2000, has_tls_base: true, ..Operands::default() };
+    let local = own(Operands { symbol: 0x1_2000, ..operands });
     assert_eq!(descriptor_made(&local), Some(LOCAL_EXEC), "local-exec");
     let initial = LinkFacts {
         is_local: false,
-        ..own(Operands { got_entry: 0x3_2828, place: 0x1_0358, ..Operands::default() })
+        ..own(Operands {
+            got_entry: 0x3_2828,
+            has_got_entry: true,
+            place: 0x1_0358,
+            ..Operands::default()
+        })
     };
     assert_eq!(descriptor_made(&initial), Some(INITIAL_EXEC), "initial-exec");
     let mut section = DESCRIPTOR;

@@ -52,7 +52,7 @@ fn rewritten(name: Name, words: [u32; 4], at: u64, facts: &LinkFacts) -> (Kind, 
     let (mut offset, mut addend) = (at, 0);
     chosen.kind.apply(&mut section, &mut offset, &mut addend);
     let row = row(chosen.relocation).expect("a row");
-    if let Some(value) = row.value(&operands) {
+    if let Ok(value) = row.value(&operands) {
         assert!(row.write(value, &mut section[at as usize..]).is_ok());
     }
     (chosen.kind, u32_from_slice(&section[at as usize..]))
@@ -72,6 +72,8 @@ fn facts_of(symbol: u64, tls_base: u64, is_relaxable: bool) -> LinkFacts {
             plt_entry: symbol,
             got_entry: 0x1_2001_0020,
             tls_base,
+            has_got_entry: true,
+            has_tls_base: true,
             place: 0x1_2000_0100,
             ..Operands::default()
         },
@@ -149,7 +151,8 @@ fn near_entries_are_made_by_pcaddi() {
         (Name::R_LARCH_TLS_LD_PC_HI20, local, 0x21c, 0x1_fff0, 0x180f_eea5),
     ];
     for (high, words, place, got_entry, want) in table {
-        let operands = Operands { place, got_entry, ..Operands::default() };
+        let operands =
+            Operands { place, got_entry, has_got_entry: true, ..Operands::default() };
         let facts = LinkFacts {
             is_relaxable: true,
             has_addresses: true,
@@ -216,7 +219,7 @@ fn group_made<const N: usize>(
         let (mut offset, mut addend) = (at, 0);
         choice.kind.apply(&mut section, &mut offset, &mut addend);
         let row = row(choice.relocation).expect("a row");
-        if let (true, Some(value)) = (group_fits, row.value(&here.operands)) {
+        if let (true, Ok(value)) = (group_fits, row.value(&here.operands)) {
             assert!(row.write(value, &mut section[at as usize..]).is_ok());
         }
     }

@@ -24,6 +24,9 @@ fn own() -> LinkFacts {
             got_base: 0x1001_8000,
             plt_entry: 0x1001_0018,
             tls_base: 0x1001_7000,
+            has_got_entry: true,
+            has_plt_entry: true,
+            has_tls_base: true,
             ..Operands::default()
         },
         ..LinkFacts::default()
@@ -56,7 +59,7 @@ fn linked(
     chosen.kind.apply(&mut section[..], &mut offset, &mut addend);
     assert!(offset <= 4);
     let row = row(chosen.relocation).expect("a row");
-    if let Some(value) = row.value(&facts.operands) {
+    if let Ok(value) = row.value(&facts.operands) {
         assert!(row.write(value, &mut section[offset as usize..]).is_ok());
     }
     let [a, b, c, d, e, f, g, h] = section;
@@ -595,6 +598,8 @@ fn words_match_linkers() {
                 got_entry: 0x1004_0008,
                 got_base: 0x1004_8000,
                 tls_base: if is_in_module { 0x1002_8000 } else { 0x1002_7000 },
+                has_got_entry: true,
+                has_tls_base: true,
                 ..Operands::default()
             },
             ..LinkFacts::default()

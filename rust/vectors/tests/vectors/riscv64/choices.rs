@@ -37,7 +37,7 @@ fn link(
 fn write(name: RiscVRelocation, section: &mut [u8; 8], at: u64, operands: &Operands) {
     assert!(at <= 8);
     let row = row(name).expect("a row");
-    if let Some(value) = row.value(operands) {
+    if let Ok(value) = row.value(operands) {
         assert!(row.write(value, &mut section[at as usize..]).is_ok());
     }
 }
@@ -180,7 +180,9 @@ fn facts_in(symbol: u64, place: u64, is_local: bool, is_relaxable: bool) -> Link
             symbol,
             place,
             got_entry: ENTRY,
+            has_got_entry: true,
             tls_base: IMAGE,
+            has_tls_base: true,
             ..Operands::default()
         },
         ..LinkFacts::default()

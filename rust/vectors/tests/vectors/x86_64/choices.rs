@@ -23,7 +23,14 @@ fn is_of_sequence(name: X86_64Relocation) -> bool {
 /// What a linker knows that makes a rewrite of a field, after which it writes a number there.
 fn facts_of(name: X86_64Relocation, kind: RelaxationKind, number: u32) -> LinkFacts {
     let number = i64::from(number as i32) as u64;
-    let operands = Operands { addend: -4, place: PLACE, tls_base: 0x8000, ..Operands::default() };
+    let operands = Operands {
+        addend: -4,
+        place: PLACE,
+        tls_base: 0x8000,
+        has_got_entry: true,
+        has_tls_base: true,
+        ..Operands::default()
+    };
     let group_fits = is_of_sequence(name);
     let facts = LinkFacts { has_addresses: true, group_fits, ..LinkFacts::default() };
     match kind {
@@ -85,7 +92,7 @@ fn link(
     let place = facts.operands.place.wrapping_add(at).wrapping_sub(offset);
     let operands = Operands { place, addend, ..facts.operands };
     if let Some(row) = row(choice.relocation)
-        && let Some(value) = row.value(&operands)
+        && let Ok(value) = row.value(&operands)
         && at <= section.len() as u64
     {
         let _ = row.write(value, &mut section[at as usize..]);
