@@ -4,7 +4,7 @@ use Rattle.std.specs.List.{sum_by}
 use Rattle.std.proofs.lemmas.Result.{IfOk-weaker}
 use Rattle.linker_output.specs.declared.placement.State.{State}
 use Rattle.linker_output.specs.Placement.{branch_at}
-use Rattle.linker_output.specs.Inner.Placement.{IsOutBehind, level, way_at}
+use Rattle.linker_output.specs.Inner.Placement.{IsLeft, IsOutBehind, level, way_at}
 use Rattle.linker_output.proofs.placement.State.go_near.Goals as goal
 
 pub returns-clause-higher : goal.returns-clause-higher
@@ -31,3 +31,8 @@ pub go_back-requires-clause-higher : goal.go_back-requires-clause-higher
 go_back-requires-clause-higher c =
     let same : c.go_ahead.new.self ≡ c.args.self.now = c.in_ok-went.ensures.same c.if-went.false in
     subst (λ (s : State). level (way_at s.ways.items c.args.index) < 2) (sym same) c.requires.higher
+
+pub go_back-requires-clause-left : goal.go_back-requires-clause-left
+go_back-requires-clause-left c =
+    let same : c.go_ahead.new.self ≡ c.args.self.now = c.in_ok-went.ensures.same c.if-went.false in
+    subst (λ s. IsLeft c.args.code.now s (branch_at c.args.code.now.branches.now c.args.index)) (sym same) c.requires.left

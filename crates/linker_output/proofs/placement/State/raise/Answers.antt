@@ -4,7 +4,7 @@ use Rattle.std.specs.List.{sum_by}
 use Rattle.std.proofs.lemmas.Result.{IfOk-weaker}
 use Rattle.linker_output.specs.declared.placement.State.{State}
 use Rattle.linker_output.specs.Placement.{branch_at}
-use Rattle.linker_output.specs.Inner.Placement.{IsOut, level, way_at}
+use Rattle.linker_output.specs.Inner.Placement.{IsLeft, IsOut, level, way_at}
 use Rattle.linker_output.proofs.placement.State.raise.Goals as goal
 
 pub returns-clause-higher : goal.returns-clause-higher
@@ -29,3 +29,8 @@ pub go_near-requires-clause-higher : goal.go_near-requires-clause-higher
 go_near-requires-clause-higher c =
     let same : c.go_far.new.self ≡ c.args.self.now = c.in_ok-went.ensures.same c.if-went.false in
     subst (λ (s : State). level (way_at s.ways.items c.args.index) < 2) (sym same) c.requires.higher
+
+pub go_near-requires-clause-left : goal.go_near-requires-clause-left
+go_near-requires-clause-left c =
+    let same : c.go_far.new.self ≡ c.args.self.now = c.in_ok-went.ensures.same c.if-went.false in
+    subst (λ s. IsLeft c.args.code.now s (branch_at c.args.code.now.branches.now c.args.index)) (sym same) (c.in_ok-went.ensures.left c.if-went.false)
