@@ -68,8 +68,8 @@ pub(crate) static TARGET: Target = Target {
             0x0f, 0, 0, 0x1a, // pcalau12i $t3, 0
             0xef, 1, 0xc0, 0x28, // ld.d $t3, $t3, 0
         ],
-        first: field!(0, 75, -0x8000_0000, 0x8000_0000),
-        second: Some(field!(4, 76)),
+        first: field!(0, (R_LARCH_GOT_PC_HI20, signed 32)),
+        second: Some(field!(4, R_LARCH_GOT_PC_LO12)),
         tail: &[
             0xe0, 1, 0, 0x4c, // jirl $zero, $t3, 0
         ],
@@ -83,7 +83,7 @@ pub(crate) static TARGET: Target = Target {
             0x0f, 0, 0, 0x1e, // pcaddu18i $t3, 0
             0xe0, 1, 0, 0x4c, // jirl $zero, $t3, 0
         ],
-        first: field!(0, 110),
+        first: field!(0, R_LARCH_CALL36),
         second: None,
         tail: &[],
         entry: 0,

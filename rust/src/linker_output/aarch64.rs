@@ -60,8 +60,8 @@ pub(crate) static TARGET: Target = Target {
             0x10, 0, 0, 0x90, // adrp x16, 0
             0x11, 2, 0x40, 0xf9, // ldr x17, [x16]
         ],
-        first: field!(0, 275),
-        second: Some(field!(4, 286)),
+        first: field!(0, R_AARCH64_ADR_PREL_PG_HI21),
+        second: Some(field!(4, R_AARCH64_LDST64_ABS_LO12_NC)),
         tail: &[
             0x20, 2, 0x1f, 0xd6, // br x17
         ],
@@ -75,8 +75,8 @@ pub(crate) static TARGET: Target = Target {
             0x10, 0, 0, 0x90, // adrp x16, 0
             0x10, 2, 0, 0x91, // add x16, x16, 0
         ],
-        first: field!(0, 275),
-        second: Some(field!(4, 277)),
+        first: field!(0, R_AARCH64_ADR_PREL_PG_HI21),
+        second: Some(field!(4, R_AARCH64_ADD_ABS_LO12_NC)),
         tail: &[
             0, 2, 0x1f, 0xd6, // br x16
         ],
