@@ -17,6 +17,7 @@ use Rattle.linker_output.specs.Tables.{field_of, field_of_32, code_of_words}
 use Rattle.linker_output.specs.declared.lazy_plt.LazyPiece.{LazyPiece}
 use Rattle.linker_output.specs.declared.lazy_plt.LazyTarget.{LazyTarget}
 use Rattle.linker_output.specs.declared.lazy_plt.LazyTarget.TheVariants.{Word, Header, Index}
+use Rattle.linker_output.specs.declared.lazy_plt.LazyWord.{LazyWord}
 use Rattle.linker_output.specs.declared.lazy_plt.LazyWord.TheVariants as word
 use Rattle.linker_output.specs.declared.stubs.StubField.{StubField}
 use Rattle.linker_utils.specs.declared.elf.Architecture.{Architecture}
@@ -38,6 +39,18 @@ with_field code field target origin addend =
       len = length code;
       field =
           Some (record { field = field; target = target; origin = origin; addend = addend });
+    }
+
+abbrev pub plt_of : Architecture → ℕ → List LazyPiece → List LazyPiece → List LazyWord → LazyWord
+    → PltCode
+plt_of instructions alignment header entry header_words own =
+    record {
+      instructions = instructions;
+      alignment = alignment;
+      header = header;
+      entry = entry;
+      header_words = header_words;
+      word = own;
     }
 
 -- of instructions of 4 bytes
@@ -77,14 +90,8 @@ aarch64_entry =
 
 abbrev pub aarch64_lazy_plt : PltCode
 aarch64_lazy_plt =
-    record {
-      instructions = AArch64;
-      alignment = 16;
-      header = aarch64_header;
-      entry = aarch64_entry;
-      header_words = word.Zero ∷ word.Zero ∷ word.Zero ∷ [];
-      word = word.Header;
-    }
+    plt_of AArch64 16 aarch64_header aarch64_entry (word.Zero ∷ word.Zero ∷ word.Zero ∷ [])
+    word.Header
 
 abbrev pub loongarch_high : StubField
 loongarch_high = field_of_32 0 (loongarch_name loongarch.R_LARCH_TLS_LE_HI20_R)
@@ -110,14 +117,8 @@ loongarch_entry =
 
 abbrev pub loongarch_lazy_plt : PltCode
 loongarch_lazy_plt =
-    record {
-      instructions = LoongArch64;
-      alignment = 16;
-      header = loongarch_header;
-      entry = loongarch_entry;
-      header_words = word.Zero ∷ word.Zero ∷ [];
-      word = word.Header;
-    }
+    plt_of LoongArch64 16 loongarch_header loongarch_entry (word.Zero ∷ word.Zero ∷ [])
+    word.Header
 
 abbrev pub ppc64_header : List LazyPiece
 ppc64_header =
@@ -139,14 +140,8 @@ ppc64_entry =
 
 abbrev pub ppc64_lazy_plt : PltCode
 ppc64_lazy_plt =
-    record {
-      instructions = Ppc64;
-      alignment = 4;
-      header = ppc64_header;
-      entry = ppc64_entry;
-      header_words = word.Zero ∷ word.Zero ∷ [];
-      word = word.Entry 0;
-    }
+    plt_of Ppc64 4 ppc64_header ppc64_entry (word.Zero ∷ word.Zero ∷ [])
+    (word.Entry 0)
 
 abbrev pub riscv_high : StubField
 riscv_high = field_of 0 (riscv_name riscv.R_RISCV_PCREL_HI20)
@@ -172,14 +167,8 @@ riscv_entry =
 
 abbrev pub riscv_lazy_plt : PltCode
 riscv_lazy_plt =
-    record {
-      instructions = RiscV;
-      alignment = 16;
-      header = riscv_header;
-      entry = riscv_entry;
-      header_words = word.Zero ∷ word.Zero ∷ [];
-      word = word.Header;
-    }
+    plt_of RiscV 16 riscv_header riscv_entry (word.Zero ∷ word.Zero ∷ [])
+    word.Header
 
 abbrev pub x86_64_header : List LazyPiece
 x86_64_header =
@@ -206,14 +195,8 @@ x86_64_entry =
 
 abbrev pub x86_64_lazy_plt : PltCode
 x86_64_lazy_plt =
-    record {
-      instructions = X86_64;
-      alignment = 16;
-      header = x86_64_header;
-      entry = x86_64_entry;
-      header_words = word.Dynamic ∷ word.Zero ∷ word.Zero ∷ [];
-      word = word.Entry 6;
-    }
+    plt_of X86_64 16 x86_64_header x86_64_entry (word.Dynamic ∷ word.Zero ∷ word.Zero ∷ [])
+    (word.Entry 6)
 
 abbrev pub lazy_plt_of : Architecture → PltCode
 lazy_plt_of AArch64 = aarch64_lazy_plt

@@ -228,6 +228,7 @@ pub record IsPlacement (code : Code) (placement : Placement) : Type 0 where
 abbrev pub HasAllUsed : Placement → Type 0
 HasAllUsed placement = AreUsed placement.stubs.items (length placement.layout.stubs.items)
 
+-- Each branch and each stub reaches where it goes, and a branch goes by each stub.
 abbrev pub IsPlaced : Code → Placement → Type 0
 IsPlaced code placement = IsPlacement code placement × HasAllUsed placement
 
@@ -257,8 +258,8 @@ IsNextTo code offset boundary = (boundary ≡ passed code.boundaries.now offset)
 abbrev pub IsFirst : List StubAt → ℕ → Type 0
 IsFirst stubs j = (k : ℕ) → k < j → (stub_at stubs k).target ≢ (stub_at stubs j).target
 
--- A stub is far ahead of a branch, or a branch next to it goes by it. Of the first stub of a target
--- that branch has no boundary far ahead.
+-- Each stub is far ahead of a branch, or a branch next to it goes by it. Of the first stub of a
+-- target that branch has no boundary far ahead.
 abbrev pub IsShared : Code → Placement → Type 0
 IsShared code placement = (j : ℕ) → j < length placement.layout.stubs.items
     → ((i : ℕ) × IsFarFrom code (stub_at placement.layout.stubs.items j) i)
@@ -268,7 +269,8 @@ IsShared code placement = (j : ℕ) → j < length placement.layout.stubs.items
     (stub_at placement.layout.stubs.items j).boundary
     × (IsFirst placement.layout.stubs.items j → HasNoFar code (branch_at code.branches.now i)))
 
--- Stubs are shared, unless by sharing there is one that no branch goes by.
+-- Stubs stand far ahead of branches, which share them, or next to one where no boundary is far
+-- ahead; unless stubs placed so have one that no branch goes by.
 abbrev pub SharesStubs : Code → Placement → Type 0
 SharesStubs code placement = IsShared code placement
     ⊎ ((shared : Placement) × IsPlacement code shared × IsShared code shared × ¬ HasAllUsed shared)

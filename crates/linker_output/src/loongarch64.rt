@@ -4,7 +4,7 @@ use crate::description::Target;
 use crate::dynamic::{DynamicType, DynamicTypes, named};
 use crate::flags::FlagRules;
 use crate::got::{GotLayout, ThreadPointer};
-use crate::layout::{CodeUnit, Interpreter};
+use crate::layout::{Interpreter, WORDS};
 use crate::stubs::{Stub, StubField, field};
 use linker_utils::elf::{AllowedRange, Architecture};
 
@@ -33,11 +33,7 @@ pub(crate) static TARGET: Target = Target {
     },
     address_section: None,
     page: 0x10000,
-    code_unit: CodeUnit {
-        len: 4,
-        flag: 0,
-        flagged_len: 4,
-    },
+    code_unit: WORDS,
     filler: [0, 0, 0x2a, 0],
     flags: FlagRules {
         same: 0xc7,

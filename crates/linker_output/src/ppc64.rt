@@ -6,7 +6,7 @@ use crate::description::Target;
 use crate::dynamic::{DynamicType, DynamicTypes, named};
 use crate::flags::FlagRules;
 use crate::got::{GotHeader, GotLayout, ThreadPointer};
-use crate::layout::{CodeUnit, Interpreter, ProvidedRun, ProvidedSymbol, RunWord, SymbolPlace};
+use crate::layout::{Interpreter, ProvidedRun, ProvidedSymbol, RunWord, SymbolPlace, WORDS};
 use crate::stubs::{Stub, StubField, field};
 use linker_utils::elf::{AllowedRange, Architecture};
 
@@ -122,11 +122,7 @@ pub(crate) static TARGET: Target = Target {
         ],
     }),
     page: 0x10000,
-    code_unit: CodeUnit {
-        len: 4,
-        flag: 0,
-        flagged_len: 4,
-    },
+    code_unit: WORDS,
     filler: [0x8, 0, 0xe0, 0x7f],
     flags: FlagRules {
         same: 0,

@@ -6,7 +6,7 @@ use crate::linker_output::description::Target;
 use crate::linker_output::dynamic::{DynamicType, DynamicTypes, named};
 use crate::linker_output::flags::FlagRules;
 use crate::linker_output::got::{GotLayout, ThreadPointer};
-use crate::linker_output::layout::{CodeUnit, Interpreter};
+use crate::linker_output::layout::{Interpreter, WORDS};
 use crate::linker_output::stubs::{Stub, StubField, field};
 use crate::elf::{AllowedRange, Architecture};
 
@@ -35,11 +35,7 @@ pub(crate) static TARGET: Target = Target {
     },
     address_section: None,
     page: 0x10000,
-    code_unit: CodeUnit {
-        len: 4,
-        flag: 0,
-        flagged_len: 4,
-    },
+    code_unit: WORDS,
     filler: [0, 0, 0, 0],
     flags: FlagRules {
         same: 0,

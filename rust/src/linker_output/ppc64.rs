@@ -8,7 +8,7 @@ use crate::linker_output::description::Target;
 use crate::linker_output::dynamic::{DynamicType, DynamicTypes, named};
 use crate::linker_output::flags::FlagRules;
 use crate::linker_output::got::{GotHeader, GotLayout, ThreadPointer};
-use crate::linker_output::layout::{CodeUnit, Interpreter, ProvidedRun, ProvidedSymbol, RunWord, SymbolPlace};
+use crate::linker_output::layout::{Interpreter, ProvidedRun, ProvidedSymbol, RunWord, SymbolPlace, WORDS};
 use crate::linker_output::stubs::{Stub, StubField, field};
 use crate::elf::{AllowedRange, Architecture};
 
@@ -124,11 +124,7 @@ pub(crate) static TARGET: Target = Target {
         ],
     }),
     page: 0x10000,
-    code_unit: CodeUnit {
-        len: 4,
-        flag: 0,
-        flagged_len: 4,
-    },
+    code_unit: WORDS,
     filler: [0x8, 0, 0xe0, 0x7f],
     flags: FlagRules {
         same: 0,
