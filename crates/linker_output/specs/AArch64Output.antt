@@ -4,7 +4,7 @@
 use Rattle.std.specs.Prelude.{codes, [], None, Some, ◌∷◌}
 use Rattle.linker_elf.specs.AArch64Relocations.{aarch64_name}
 use Rattle.linker_elf.specs.declared.aarch64.relocations.AArch64Relocation.TheVariants as r
-use Rattle.linker_output.specs.Tables.{field_of, kind, units_of, no_flags, only}
+use Rattle.linker_output.specs.Tables.{field_of, kind, kind_of, units_of, no_flags, only}
 use Rattle.linker_output.specs.Tables.{four, plain_stub}
 use Rattle.linker_output.specs.View.{Description}
 use Rattle.linker_output.specs.declared.got.ThreadPointer.TheVariants.{BelowImage}
@@ -15,7 +15,7 @@ aarch64_output =
     record {
       dynamic =
           record {
-            word = kind 257 (codes "R_AARCH64_ABS64");
+            word = kind_of (aarch64_name r.R_AARCH64_ABS64);
             relative = kind 1027 (codes "R_AARCH64_RELATIVE");
             glob_dat = kind 1025 (codes "R_AARCH64_GLOB_DAT");
             jump_slot = kind 1026 (codes "R_AARCH64_JUMP_SLOT");

@@ -3,7 +3,7 @@
 use Rattle.std.specs.Prelude.{codes, [], ◌∷◌, None, Some, ℕ, ◌+◌}
 use Rattle.linker_elf.specs.LoongArchRelocations.{loongarch_name}
 use Rattle.linker_elf.specs.declared.loongarch64.relocations.LoongArch64Relocation.TheVariants as r
-use Rattle.linker_output.specs.Tables.{field_of, field_of_32, kind, units_of, path}
+use Rattle.linker_output.specs.Tables.{field_of, field_of_32, kind, kind_of, units_of, path}
 use Rattle.linker_output.specs.Tables.{four, plain_stub}
 use Rattle.linker_output.specs.View.{Description}
 use Rattle.linker_output.specs.declared.got.ThreadPointer.TheVariants.{BelowImage}
@@ -30,14 +30,14 @@ loongarch_output =
     record {
       dynamic =
           record {
-            word = kind 2 (codes "R_LARCH_64");
+            word = kind_of (loongarch_name r.R_LARCH_64);
             relative = kind 3 (codes "R_LARCH_RELATIVE");
-            glob_dat = kind 2 (codes "R_LARCH_64");
+            glob_dat = kind_of (loongarch_name r.R_LARCH_64);
             jump_slot = kind 5 (codes "R_LARCH_JUMP_SLOT");
             copy = kind 4 (codes "R_LARCH_COPY");
             irelative = kind 12 (codes "R_LARCH_IRELATIVE");
             module_number = kind 7 (codes "R_LARCH_TLS_DTPMOD64");
-            module_offset = kind 9 (codes "R_LARCH_TLS_DTPREL64");
+            module_offset = kind_of (loongarch_name r.R_LARCH_TLS_DTPREL64);
             thread_offset = kind 11 (codes "R_LARCH_TLS_TPREL64");
             descriptor = Some (kind 14 (codes "R_LARCH_TLS_DESC64"));
           };

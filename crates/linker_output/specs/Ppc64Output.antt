@@ -6,8 +6,8 @@ use Rattle.linker_elf.specs.Ppc64Relocations.{ppc64_name}
 use Rattle.linker_elf.specs.declared.ppc64.relocations.Ppc64Relocation.TheVariants as r
 use Rattle.linker_output.specs.Layout.{Run}
 use Rattle.linker_output.specs.Stubs.{StubCode}
-use Rattle.linker_output.specs.Tables.{field_of, code_of_words, kind, units_of, symbol, only, four}
-use Rattle.linker_output.specs.Tables.{load_of}
+use Rattle.linker_output.specs.Tables.{field_of, code_of_words, kind, kind_of, units_of, symbol, only}
+use Rattle.linker_output.specs.Tables.{four, load_of}
 use Rattle.linker_output.specs.View.{Description}
 use Rattle.linker_output.specs.declared.got.ThreadPointer.TheVariants.{BelowImage}
 use Rattle.linker_output.specs.declared.got.GotHeader.TheVariants.{Base}
@@ -87,15 +87,15 @@ ppc64_output =
     record {
       dynamic =
           record {
-            word = kind 38 (codes "R_PPC64_ADDR64");
+            word = kind_of (ppc64_name r.R_PPC64_ADDR64);
             relative = kind 22 (codes "R_PPC64_RELATIVE");
             glob_dat = kind 20 (codes "R_PPC64_GLOB_DAT");
             jump_slot = kind 21 (codes "R_PPC64_JMP_SLOT");
             copy = kind 19 (codes "R_PPC64_COPY");
             irelative = kind 248 (codes "R_PPC64_IRELATIVE");
             module_number = kind 68 (codes "R_PPC64_DTPMOD64");
-            module_offset = kind 78 (codes "R_PPC64_DTPREL64");
-            thread_offset = kind 73 (codes "R_PPC64_TPREL64");
+            module_offset = kind_of (ppc64_name r.R_PPC64_DTPREL64);
+            thread_offset = kind_of (ppc64_name r.R_PPC64_TPREL64);
             descriptor = None;
           };
       thread_pointer = BelowImage 0 0x7000;

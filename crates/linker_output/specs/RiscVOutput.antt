@@ -3,7 +3,7 @@
 use Rattle.std.specs.Prelude.{codes, [], ◌∷◌, Some, ℕ, ◌+◌, None}
 use Rattle.linker_elf.specs.RiscVRelocations.{riscv_name}
 use Rattle.linker_elf.specs.declared.riscv64.relocations.RiscVRelocation.TheVariants as r
-use Rattle.linker_output.specs.Tables.{field_of, kind, symbol, path, four, plain_stub}
+use Rattle.linker_output.specs.Tables.{field_of, kind, kind_of, symbol, path, four, plain_stub}
 use Rattle.linker_output.specs.View.{Description}
 use Rattle.linker_output.specs.declared.got.ThreadPointer.TheVariants.{BelowImage}
 use Rattle.linker_output.specs.declared.got.GotHeader.TheVariants.{Dynamic}
@@ -34,9 +34,9 @@ riscv_output =
     record {
       dynamic =
           record {
-            word = kind 2 (codes "R_RISCV_64");
+            word = kind_of (riscv_name r.R_RISCV_64);
             relative = kind 3 (codes "R_RISCV_RELATIVE");
-            glob_dat = kind 2 (codes "R_RISCV_64");
+            glob_dat = kind_of (riscv_name r.R_RISCV_64);
             jump_slot = kind 5 (codes "R_RISCV_JUMP_SLOT");
             copy = kind 4 (codes "R_RISCV_COPY");
             irelative = kind 58 (codes "R_RISCV_IRELATIVE");

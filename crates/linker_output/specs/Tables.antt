@@ -2,7 +2,7 @@
 use Rattle.std.specs.Prelude.{ℕ, List, [], ◌∷◌, ◌++◌, Option, Some, None, pos}
 use Rattle.std.specs.Int.{w32, to_le_bytes}
 use Rattle.linker_elf.specs.Elf.{bit_bounds}
-use Rattle.linker_elf.specs.ElfNames.{ElfName, code_of}
+use Rattle.linker_elf.specs.ElfNames.{ElfName, code_of, text_of}
 use Rattle.linker_elf.specs.declared.elf.Sign.TheVariants.{Signed}
 use Rattle.linker_output.specs.Dynamic.{DynamicKind}
 use Rattle.linker_output.specs.Layout.{Path}
@@ -16,6 +16,9 @@ use Rattle.linker_output.specs.declared.stubs.StubField.{StubField}
 
 abbrev pub kind : ℕ → List ℕ → DynamicKind
 kind code name = record { code = code; name = name }
+
+abbrev pub kind_of : ElfName → DynamicKind
+kind_of name = kind (code_of name) (text_of name)
 
 -- instructions of so many bytes, whatever `e_flags` is
 abbrev pub units_of : ℕ → CodeUnit
