@@ -10,7 +10,7 @@ use crate::linker_output::layout::{
     CodeUnit, Interpreter, ProvidedRun, ProvidedSymbol, SymbolPlace,
 };
 use crate::linker_output::lazy_plt::{LazyField, LazyPiece, LazyPlt, LazyTarget, LazyWord};
-use crate::linker_output::stubs::{Stub, StubField, field};
+use crate::linker_output::stubs::{Stub, StubField};
 
 /// The description.
 pub(crate) static TARGET: Target = Target {
@@ -85,8 +85,8 @@ pub(crate) static TARGET: Target = Target {
             0x0e, 0, 0, 0x90, // adrp x14, 0
             0xcf, 1, 0x40, 0xf9, // ldr x15, [x14]
         ],
-        first: field!(0, 20),
-        second: Some(field!(4, 62)),
+        first: field(0, 20),
+        second: Some(field(4, 62)),
         tail: &[
             0xe0, 1, 0x1f, 0xd6, // br x15
             0x20, 0, 0x20, 0xd4, // brk 1
@@ -101,8 +101,8 @@ pub(crate) static TARGET: Target = Target {
             0x0e, 0, 0, 0x90, // adrp x14, 0
             0xce, 1, 0, 0x91, // add x14, x14, 0
         ],
-        first: field!(0, 20),
-        second: Some(field!(4, 24)),
+        first: field(0, 20),
+        second: Some(field(4, 24)),
         tail: &[
             0xc0, 1, 0x1f, 0xd6, // br x14
             0x20, 0, 0x20, 0xd4, // brk 1
@@ -112,6 +112,15 @@ pub(crate) static TARGET: Target = Target {
         addend: 0,
     }),
 };
+
+/// A field at an offset, with the value of a relocation.
+const fn field(offset: usize, relocation: u32) -> StubField {
+    StubField {
+        offset,
+        relocation,
+        range: AllowedRange { bounds: None },
+    }
+}
 
 /// An instruction with a field, whose value is computed from the word of an entry.
 const fn of_word(code: [u8; 8], field: StubField) -> LazyPiece {
@@ -137,8 +146,8 @@ pub(crate) static LAZY_PLT: LazyPlt = LazyPlt {
         field: None,
     }],
     entry: &[
-        of_word([0x0e, 0, 0, 0x90, 0, 0, 0, 0], field!(0, 20)), // adrp x14, 0
-        of_word([0xcf, 1, 0x40, 0xf9, 0, 0, 0, 0], field!(0, 62)), // ldr x15, [x14]
+        of_word([0x0e, 0, 0, 0x90, 0, 0, 0, 0], field(0, 20)), // adrp x14, 0
+        of_word([0xcf, 1, 0x40, 0xf9, 0, 0, 0, 0], field(0, 62)), // ldr x15, [x14]
         LazyPiece {
             code: [0xe0, 1, 0x1f, 0xd6, 0x20, 0, 0x20, 0xd4], // br x15, brk 1
             len: 8,

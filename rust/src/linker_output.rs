@@ -6,6 +6,7 @@
 
 mod aarch64;
 pub mod addresses;
+mod codes;
 pub mod description;
 pub mod dynamic;
 pub mod flags;

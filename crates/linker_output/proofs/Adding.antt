@@ -1,6 +1,6 @@
 -- What holds after a stub is added, or a branch goes by another stub.
 use Rattle.std.proofs.Common.{◌≡◌, ◌≢◌, ◌+◌, ◌<◌, ◌≤◌, ◌∙◌, ℕ, arith, List, [], ◌∷◌, ◌++◌, length, set, refl, ap, sym, subst, inl, inr, ⊎_elim, get_or-set_other, get_or-set_same}
-use Rattle.std.specs.Prelude.{◌⊎◌, Bool, true, false}
+use Rattle.std.specs.Prelude.{◌⊎◌, true}
 use Rattle.std.specs.List.{sum_by}
 use Rattle.std.proofs.Math.ListN.{get_or-append, length-set}
 use Rattle.std.proofs.lemmas.Bool.{cases_lt, cases_order}
@@ -16,8 +16,8 @@ use Rattle.linker_output.specs.declared.placement.State.{State}
 use Rattle.linker_output.specs.declared.placement.StubAt.{StubAt}
 use Rattle.linker_output.specs.declared.placement.Way.{Way}
 use Rattle.linker_output.specs.declared.placement.Way.TheVariants.{Direct, Far, Near}
-use Rattle.linker_output.specs.Placement.{at, group_at, branch_at, stub_at, stubs_in, AreOfTwo, HasPart, HasSpare, AreTwo, IsCode, part_of}
-use Rattle.linker_output.specs.Inner.Placement.{AreLists, HasNoneAt, HasOwner, IsState, IsWay, IsNear, IsNewNear, level, level_of, list_at, list_of, way_at, with_one, new_way}
+use Rattle.linker_output.specs.Placement.{at, group_at, branch_at, stub_at, stubs_in, AreOfTwo, HasNoFar, HasPart, HasSpare, AreTwo, IsCode, IsFar, IsFarFrom, IsFirst, part_of}
+use Rattle.linker_output.specs.Inner.Placement.{AreLists, HasNoneAt, HasOwner, IsState, IsLeft, IsNew, IsWay, IsNear, level, level_of, list_at, list_of, way_at, with_one, new_way}
 use Rattle.linker_output.proofs.Bounds.{level_most}
 
 part_grows : (p part : Part) (g : Group) → part_of p g ≤ part_of p (with_one part g)
@@ -68,19 +68,19 @@ way_kept code stubs new s branch (Near j) is h =
 
 way_new : (code : Code) (state : State) (new : List StubAt) (index boundary : ℕ) (part : Part) (s : StubAt)
     → s ≡ record { boundary = boundary; part = part; index = part_of part (group_at state.groups.items boundary); target = (branch_at code.branches.now index).target }
-    → new ≡ state.stubs.items ++ (s ∷ []) → IsNewNear code state index boundary part → IsWay code new (branch_at code.branches.now index) (new_way part (length state.stubs.items))
-way_new code state new index boundary Front s s_is is near =
+    → new ≡ state.stubs.items ++ (s ∷ []) → IsNew code state (branch_at code.branches.now index) boundary part → IsWay code new (branch_at code.branches.now index) (new_way part (length state.stubs.items))
+way_new code state new index boundary Front s s_is is place =
     let e = new_stub state.stubs.items new s is ∙ s_is in
     let l = ap length is ∙ length_push state.stubs.items s in
-    (omega arith, ap (λ t. t.target) e, subst (IsNear code (branch_at code.branches.now index)) (sym e) near)
-way_new code state new index boundary Middle s s_is is near =
+    (omega arith, ap (λ t. t.target) e, subst (IsNear code (branch_at code.branches.now index)) (sym e) place.0)
+way_new code state new index boundary Middle s s_is is place =
     let e = new_stub state.stubs.items new s is ∙ s_is in
     let l = ap length is ∙ length_push state.stubs.items s in
     (omega arith, ap (λ t. t.target) e)
-way_new code state new index boundary Back s s_is is near =
+way_new code state new index boundary Back s s_is is place =
     let e = new_stub state.stubs.items new s is ∙ s_is in
     let l = ap length is ∙ length_push state.stubs.items s in
-    (omega arith, ap (λ t. t.target) e, subst (IsNear code (branch_at code.branches.now index)) (sym e) near)
+    (omega arith, ap (λ t. t.target) e, subst (IsNear code (branch_at code.branches.now index)) (sym e) place.0)
 
 -- the lists of stubs with one more
 module _ (lists : ℕ) (stubs new : List StubAt) (s : StubAt) (heads nexts heads_new nexts_new : List ℕ) (l : ℕ)
@@ -177,30 +177,36 @@ apart_by : (stubs : List StubAt) (boundary target : ℕ) (part : Part) (i : ℕ)
     → (stub_at stubs i).boundary ≡ boundary → (stub_at stubs i).part ≡ part → (stub_at stubs i).target ≢ target
 apart_by stubs boundary target part i none within b p t = none i (record { within = within; there = record { at_boundary = b; in_part = p; of_target = t } })
 
-is_true : (b : Bool) → (b ≡ false → ⊥) → b ≡ true
-is_true true h = refl
-is_true false h = absurd (h refl)
-
 level_of_most : (part : Part) → level_of part ≤ 2
 level_of_most Front = omega arith
 level_of_most Middle = omega arith
 level_of_most Back = omega arith
 
-owned : (part : Part) (boundary target nth s i : ℕ) (share : Bool) (stub : StubAt) (way : Way) → stub.part ≡ part → way ≡ new_way part s → (share ≡ false → level_of part ≡ 2)
-    → ((stub.part ≡ Middle) × (share ≡ true)) ⊎ (way ≡ Near s)
-owned Front boundary target nth s i share stub way is new allowed = inr new
-owned Middle boundary target nth s i share stub way is new allowed = inl (is, is_true share (λ e. (let h = allowed e in absurd (omega arith))))
-owned Back boundary target nth s i share stub way is new allowed = inr new
+-- of a new stub that is its target's first one there were none
+left_first : (code : Code) (state new : State) (index : ℕ) (s : StubAt) → new.may_share ≡ state.may_share → s.target ≡ (branch_at code.branches.now index).target → new.stubs.items ≡ state.stubs.items ++ (s ∷ [])
+    → IsLeft code state (branch_at code.branches.now index) → new.may_share ≡ true → IsFirst new.stubs.items (length state.stubs.items) → HasNoFar code (branch_at code.branches.now index)
+left_first code state new index s share t is left shares first = left (sym share ∙ shares)
+    (λ j below e. first j below (ap (λ x. x.target) (old_stub state.stubs.items new.stubs.items s j is below) ∙ e ∙ sym (ap (λ x. x.target) (new_stub state.stubs.items new.stubs.items s is) ∙ t)))
+
+-- a new stub's branch
+owned : (code : Code) (state new : State) (index boundary : ℕ) (part : Part) (s : StubAt) → index < length code.branches.now → ¬ HasSpare code (branch_at code.branches.now index) → new.may_share ≡ state.may_share
+    → s.boundary ≡ boundary → s.target ≡ (branch_at code.branches.now index).target → new.stubs.items ≡ state.stubs.items ++ (s ∷ []) → way_at new.ways.items index ≡ new_way part (length state.stubs.items)
+    → IsNew code state (branch_at code.branches.now index) boundary part → HasOwner code new (length state.stubs.items)
+owned code state new index boundary Middle s within needed share b t is way place =
+    let e = new_stub state.stubs.items new.stubs.items s is in
+    inl (share ∙ place.0, (index, subst (λ x. IsFarFrom code x index) (sym e) (record { within = within; target = t; needed = needed; far = subst (IsFar code (branch_at code.branches.now index)) (sym b) place.1 })))
+owned code state new index boundary Front s within needed share b t is way place = inr (index, within, way, left_first code state new index s share t is place.1)
+owned code state new index boundary Back s within needed share b t is way place = inr (index, within, way, left_first code state new index s share t is place.1)
 
 module _ (code : Code) (state new : State) (index boundary : ℕ) (part : Part) (s : StubAt)
     (is_code : IsCode code) (is : IsState code state) (within : index < length code.branches.now) (inside : boundary < length code.boundaries.now)
-    (higher : level (way_at state.ways.items index) < level_of part) (near : IsNewNear code state index boundary part)
+    (higher : level (way_at state.ways.items index) < level_of part) (place : IsNew code state (branch_at code.branches.now index) boundary part)
     (s_is : s ≡ record { boundary = boundary; part = part; index = part_of part (group_at state.groups.items boundary); target = (branch_at code.branches.now index).target })
     (stubs_are : new.stubs.items ≡ state.stubs.items ++ (s ∷ []))
     (groups_are : new.groups.items ≡ set state.groups.items boundary (with_one part (group_at state.groups.items boundary)))
     (ways_are : new.ways.items ≡ set state.ways.items index (new_way part (length state.stubs.items)))
     (last_is : length new.last.items ≡ length state.last.items)
-    (none : HasNoneAt state.stubs.items boundary part (branch_at code.branches.now index).target) (needed : ¬ HasSpare code (branch_at code.branches.now index)) (allowed : state.may_share ≡ false → level_of part ≡ 2) (l : ℕ)
+    (none : HasNoneAt state.stubs.items boundary part (branch_at code.branches.now index).target) (needed : ¬ HasSpare code (branch_at code.branches.now index)) (l : ℕ)
     (l_is : l ≡ list_of (length code.branches.now) boundary (branch_at code.branches.now index).target) (l_within : l < length code.branches.now)
     (heads_are : new.heads.items ≡ set state.heads.items l (length state.stubs.items + 1)) (nexts_are : new.nexts.items ≡ state.nexts.items ++ (at state.heads.items l ∷ []))
     (share_is : new.may_share ≡ state.may_share) where
@@ -250,20 +256,24 @@ module _ (code : Code) (state new : State) (index boundary : ℕ) (part : Part) 
 
   owner_kept : (j : ℕ) → j < length state.stubs.items → HasOwner code state j → HasOwner code new j
   owner_kept j within owner = ⊎_elim
-      (λ (shares : ((stub_at state.stubs.items j).part ≡ Middle) × (state.may_share ≡ true)). inl (ap (λ t. t.part) (old_is j within) ∙ shares.0, share_is ∙ shares.1))
-      (λ (goes : (i : ℕ) × (i < length code.branches.now) × (way_at state.ways.items i ≡ Near j)).
+      (λ (shares : (state.may_share ≡ true) × ((i : ℕ) × IsFarFrom code (stub_at state.stubs.items j) i)).
+      inl (share_is ∙ shares.0, (shares.1.0, subst (λ t. IsFarFrom code t shares.1.0) (sym (old_is j within)) shares.1.1)))
+      (λ (goes : (i : ℕ) × (i < length code.branches.now) × (way_at state.ways.items i ≡ Near j) × (state.may_share ≡ true → IsFirst state.stubs.items j → HasNoFar code (branch_at code.branches.now i))).
       let i = goes.0 in
       let most = level_of_most part in
       let high = ap level goes.2 in
       let ne : i ≢ index = λ e. (let same : level (way_at state.ways.items i) ≡ level (way_at state.ways.items index) = ap (λ k. level (way_at state.ways.items k)) e in omega arith) in
-      inr (i, goes.1, way_other i ne ∙ goes.2))
+      inr (
+        i,
+        goes.1,
+        way_other i ne ∙ goes.2,
+        λ shares first. goes.3 (sym share_is ∙ shares)
+            (λ k below e. first k below (ap (λ t. t.target) (old_is k (omega arith)) ∙ e ∙ sym (ap (λ t. t.target) (old_is j within)))),
+      ))
       owner
 
   owner_new : HasOwner code new (length state.stubs.items)
-  owner_new = ⊎_elim
-      (λ (shares : ((stub_at new.stubs.items (length state.stubs.items)).part ≡ Middle) × (state.may_share ≡ true)). inl (shares.0, share_is ∙ shares.1))
-      (λ (goes : way_at new.ways.items index ≡ Near (length state.stubs.items)). inr (index, within, goes))
-      (owned part boundary 0 0 (length state.stubs.items) index state.may_share (stub_at new.stubs.items (length state.stubs.items)) (way_at new.ways.items index) (ap (λ t. t.part) (new_is ∙ s_is)) way_here allowed)
+  owner_new = owned code state new index boundary part s within needed share_is (ap (λ t. t.boundary) s_is) (ap (λ t. t.target) s_is) stubs_are way_here place
 
   of_two : (t : StubAt) (i : ℕ) → i < length state.stubs.items → t ≡ stub_at state.stubs.items i → AreOfTwo t s
   of_two t i within e = rw (e, s_is) (apart_by state.stubs.items boundary (branch_at code.branches.now index).target part i none within)
@@ -306,7 +316,7 @@ module _ (code : Code) (state new : State) (index boundary : ℕ) (part : Part) 
     way = λ i h. ⊎_elim
         (λ (same : i ≡ index).
         let e = way_here in
-        rw (same, e) (way_new code state new.stubs.items index boundary part s s_is stubs_are near))
+        rw (same, e) (way_new code state new.stubs.items index boundary part s s_is stubs_are place))
         (λ (apart : (i < index) ⊎ (index < i)).
         let e = way_other i (omega arith) in
         rw e (way_kept code state.stubs.items new.stubs.items s (branch_at code.branches.now i) (way_at state.ways.items i) stubs_are (is.way i h)))
@@ -355,16 +365,33 @@ module _ (code : Code) (state : State) (ways : Vec Way) (index : ℕ) (way : Way
     lists = is.lists;
     shared = is.shared;
     owners = λ j h. ⊎_elim
-        (λ (shares : ((stub_at state.stubs.items j).part ≡ Middle) × (state.may_share ≡ true)). inl shares)
-        (λ (goes : (i : ℕ) × (i < length code.branches.now) × (way_at state.ways.items i ≡ Near j)).
+        (λ (shares : (state.may_share ≡ true) × ((i : ℕ) × IsFarFrom code (stub_at state.stubs.items j) i)). inl shares)
+        (λ (goes : (i : ℕ) × (i < length code.branches.now) × (way_at state.ways.items i ≡ Near j) × (state.may_share ≡ true → IsFirst state.stubs.items j → HasNoFar code (branch_at code.branches.now i))).
         let i = goes.0 in
         let most = level_most way in
         let high = ap level goes.2 in
         let ne : i ≢ index = λ e. (let same : level (way_at state.ways.items i) ≡ level (way_at state.ways.items index) = ap (λ k. level (way_at state.ways.items k)) e in omega arith) in
-        inr (i, goes.1, taken_other i ne ∙ goes.2))
+        inr (i, goes.1, taken_other i ne ∙ goes.2, goes.3))
         (is.owners j h);
     spared = λ i h spare. ⊎_elim
         (λ (same : i ≡ index). absurd (needed (subst (λ k. HasSpare code (branch_at code.branches.now k)) same spare)))
         (λ (apart : (i < index) ⊎ (index < i)). taken_other i (omega arith) ∙ is.spared i h spare)
         (cases_order i index);
   }
+
+-- another stub was used last
+pub noted : (code : Code) (state : State) (last : Vec ℕ) → IsState code state → length last.items ≡ length state.last.items → IsState code (record state { last = last })
+noted code state last is e = record {
+  groups = is.groups;
+  ways = is.ways;
+  last = e ∙ is.last;
+  parts = is.parts;
+  two = is.two;
+  total = is.total;
+  few = is.few;
+  way = is.way;
+  lists = is.lists;
+  shared = is.shared;
+  owners = is.owners;
+  spared = is.spared;
+}

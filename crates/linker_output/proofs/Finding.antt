@@ -8,8 +8,8 @@ use Rattle.linker_output.specs.declared.placement.Part.{Part}
 use Rattle.linker_output.specs.declared.placement.Part.TheVariants.{Front, Middle, Back}
 use Rattle.linker_output.specs.declared.placement.State.{State}
 use Rattle.linker_output.specs.declared.placement.StubAt.{StubAt}
-use Rattle.linker_output.specs.Placement.{at, branch_at, group_at, part_of, passed, stub_at, IsCode}
-use Rattle.linker_output.specs.Inner.Placement.{AreLists, IsAt, IsNear, IsNearIn, IsNewNear, IsOutAhead, IsOutBehind, IsOutThere, IsState, level_of, list_at, list_of, new_stub}
+use Rattle.linker_output.specs.Placement.{at, group_at, part_of, passed, stub_at, IsCode}
+use Rattle.linker_output.specs.Inner.Placement.{AreLists, IsAt, IsNear, IsNearIn, IsNew, IsNewNear, IsOutAhead, IsOutBehind, IsOutThere, IsState, level_of, list_at, list_of, new_stub}
 use Rattle.linker_output.proofs.Near.{nearer}
 use Rattle.linker_output.proofs.Passed.{true_le, false_lt}
 use Rattle.std.specs.Prelude.{nat_le}
@@ -83,8 +83,8 @@ module _ (code : Code) (state : State) (branch : Branch)
   no_near is s within target near = none_in (stub_at state.stubs.items s).part s within (is.parts s within).boundary refl target near
 
 -- a new stub in a part next to a branch
-pub new_near : (code : Code) (state : State) (index boundary : ℕ) (part : Part) → level_of part ≡ 2
-    → IsNear code (branch_at code.branches.now index) (new_stub code state (branch_at code.branches.now index) boundary part) → IsNewNear code state index boundary part
-new_near code state index boundary Front next near = near
-new_near code state index boundary Middle next near = tt
-new_near code state index boundary Back next near = near
+pub new_near : (code : Code) (state : State) (branch : Branch) (boundary : ℕ) (part : Part) → level_of part ≡ 2
+    → IsNewNear code state branch boundary part → IsNew code state branch boundary part
+new_near code state branch boundary Front next near = near
+new_near code state branch boundary Middle next near = absurd (omega arith)
+new_near code state branch boundary Back next near = near

@@ -1,16 +1,19 @@
 -- The stubs by which branches go.
-use Rattle.std.proofs.Common.{◌≡◌, ◌<◌, ◌≤◌, ◌∙◌, ℕ, arith, List, length, refl, ap, sym, subst, ⊎_elim}
+use Rattle.std.proofs.Common.{◌≡◌, ◌<◌, ◌≤◌, ◌∙◌, ℕ, arith, List, length, refl, ap, inl, inr, sym, subst, ⊎_elim}
 use Rattle.std.specs.Prelude.{◌⊎◌, Option, None, Some, slice_index_or, true, false}
 use Rattle.std.proofs.lemmas.Bool.{false≢true}
 use Rattle.linker_output.specs.declared.placement.Branch.{Branch}
 use Rattle.linker_output.specs.declared.placement.Code.{Code}
 use Rattle.linker_output.specs.declared.placement.Layout.{Layout}
-use Rattle.linker_output.specs.declared.placement.Part.TheVariants.{Middle}
+use Rattle.linker_output.specs.declared.placement.Part.{Part}
+use Rattle.linker_output.specs.declared.placement.Part.TheVariants.{Front, Middle, Back}
+use Rattle.linker_output.specs.declared.placement.Placement.{Placement}
 use Rattle.linker_output.specs.declared.placement.State.{State}
+use Rattle.linker_output.specs.declared.placement.StubAt.{StubAt}
 use Rattle.linker_output.specs.declared.placement.Way.{Way}
 use Rattle.linker_output.specs.declared.placement.Way.TheVariants.{Direct, Far, Near}
-use Rattle.linker_output.specs.Placement.{at, branch_at, most_bytes, passed, stub_at, AllGo, AreUsed, HasSpare, IsLaidOut, ReachesAt, target_place, Goes}
-use Rattle.linker_output.specs.Inner.Placement.{AreServed, AreStubsOf, ArePlaces, IsServedBy, IsState, IsStubOf, IsWay, way_at}
+use Rattle.linker_output.specs.Placement.{at, branch_at, most_bytes, passed, stub_at, AllGo, AreUsed, HasNoFar, HasSpare, IsFarFrom, IsFirst, IsLaidOut, IsNextTo, IsShared, ReachesAt, target_place, Goes}
+use Rattle.linker_output.specs.Inner.Placement.{AreServed, AreStubsOf, ArePlaces, IsNearIn, IsServedBy, IsState, IsStubOf, IsWay, way_at}
 use Rattle.linker_output.proofs.Near.{near_reached}
 
 -- a branch with bytes to spare reaches its target
@@ -98,9 +101,39 @@ near_some code before branch way stub s e of = subst (λ w. IsStubOf code before
 pub used_all : (code : Code) (state : State) (before : List ℕ) (stubs : List (Option ℕ)) → IsState code state → state.may_share ≡ false → AreStubsOf code before state.ways.items stubs
     → AreUsed stubs (length state.stubs.items)
 used_all code state before stubs is alone of j within = ⊎_elim
-    (λ (shares : ((stub_at state.stubs.items j).part ≡ Middle) × (state.may_share ≡ true)). absurd (false≢true (sym alone ∙ shares.1)))
-    (λ (goes : (i : ℕ) × (i < length code.branches.now) × (way_at state.ways.items i ≡ Near j)).
+    (λ (far : (state.may_share ≡ true) × ((i : ℕ) × IsFarFrom code (stub_at state.stubs.items j) i)). absurd (false≢true (sym alone ∙ far.0)))
+    (λ (goes : (i : ℕ) × (i < length code.branches.now) × (way_at state.ways.items i ≡ Near j) × (state.may_share ≡ true → IsFirst state.stubs.items j → HasNoFar code (branch_at code.branches.now i))).
     let l = of.len in
     let below = goes.1 in
     (goes.0, omega arith, near_some code before (branch_at code.branches.now goes.0) (way_at state.ways.items goes.0) (slice_index_or stubs goes.0 None) j goes.2 (of.each goes.0 (omega arith))))
     (is.owners j within)
+
+next_to : (part : Part) (code : Code) (branch : Branch) (stub : StubAt) → IsNearIn part code branch stub → IsNextTo code branch.offset stub.boundary
+next_to Front code branch stub near = inl near.0
+next_to Middle code branch stub near = absurd near
+next_to Back code branch stub near = inr near.0
+
+-- where some may be
+pub shared_all : (code : Code) (state : State) (placement : Placement) (before : List ℕ) → IsState code state → state.may_share ≡ true → placement.layout.stubs ≡ state.stubs
+    → AreStubsOf code before state.ways.items placement.stubs.items → IsShared code placement
+shared_all code state placement before is shares same of j below = subst
+    (λ stubs. ((i : ℕ) × IsFarFrom code (stub_at stubs.items j) i)
+    ⊎ ((i : ℕ) × (i < length code.branches.now) × (slice_index_or placement.stubs.items i None ≡ Some j)
+    × IsNextTo code (branch_at code.branches.now i).offset (stub_at stubs.items j).boundary × (IsFirst stubs.items j → HasNoFar code (branch_at code.branches.now i))))
+    (sym same)
+    (⊎_elim
+    (λ (far : (state.may_share ≡ true) × ((i : ℕ) × IsFarFrom code (stub_at state.stubs.items j) i)). inl far.1)
+    (λ (goes : (i : ℕ) × (i < length code.branches.now) × (way_at state.ways.items i ≡ Near j) × (state.may_share ≡ true → IsFirst state.stubs.items j → HasNoFar code (branch_at code.branches.now i))).
+    let i = goes.0 in
+    let l = of.len in
+    let inside = goes.1 in
+    let stub = stub_at state.stubs.items j in
+    let way : IsWay code state.stubs.items (branch_at code.branches.now i) (Near j) = subst (IsWay code state.stubs.items (branch_at code.branches.now i)) goes.2 (is.way i inside) in
+    inr (
+      i,
+      inside,
+      near_some code before (branch_at code.branches.now i) (way_at state.ways.items i) (slice_index_or placement.stubs.items i None) j goes.2 (of.each i (omega arith)),
+      next_to stub.part code (branch_at code.branches.now i) stub way.2,
+      goes.3 shares,
+    ))
+    (is.owners j (subst (λ stubs. j < length stubs.items) same below)))

@@ -1,10 +1,13 @@
 -- Runs of words, and the words of a lazy PLT's code.
-use Rattle.std.proofs.Common.{◌≡◌, ℕ, ◌^◌, ◌<◌, ◌≤◌, suc, Bool, true, false, refl, sym, ◌∙◌, ap, arith}
+use Rattle.std.proofs.Common.{◌≡◌, ℕ, ◌+◌, ◌*◌, ◌/◌, ◌^◌, ◌<◌, ◌≤◌, suc, pos, negsuc, ◌+ℤ◌, Bool, true, false, refl, sym, ◌∙◌, ap, arith}
 use Rattle.std.proofs.Common.{List, ◌∷◌, ◌++◌, eqb, Some, None, Option, take, drop, length}
 use Rattle.std.specs.Prelude.{◌||◌}
 use Rattle.std.proofs.lemmas.Bool.{eq-eqb, cond-true}
 use Rattle.std.proofs.lemmas.List.{drop_at, take_at, length-take}
-use Rattle.linker_elf.specs.Value.{sum_64}
+use Rattle.std.proofs.lemmas.Int.{ints}
+use Rattle.linker_elf.specs.Value.{sum_64, difference_64}
+use Rattle.linker_laws.specs.Machine.{moved}
+use Rattle.linker_laws.proofs.RiscVMachine.{wrapped_is}
 use Rattle.linker_laws.specs.Schemes.{AreAddresses}
 use Rattle.linker_output.proofs.StubWords.{word, front_word}
 use Rattle.linker_output.specs.LazyPlt.{operands_at, target_at}
@@ -27,6 +30,29 @@ left_false false b e = refl
 pub right_false : (a b : Bool) → (a || b) ≡ false → b ≡ false
 right_false true b e = cc
 right_false false b e = e
+
+pub second_and_last : (a b c d : Bool) → ((a || b) || (c || d)) ≡ false → (b || d) ≡ false
+second_and_last a b c d e =
+    ap (λ v. v || d) (right_false a b (left_false (a || b) (c || d) e))
+    ∙ right_false c d (right_false (a || b) (c || d) e)
+
+-- ---- places
+
+pub twelve : (p : ℕ) → sum_64 (sum_64 (sum_64 p 4) 4) 4 ≡ sum_64 p 12
+twelve p = omega arith
+
+pub eight_on : (n : ℕ) → n < 2 ^ 64 → moved n (pos 8) ≡ sum_64 n 8
+eight_on n small = omega (arith, ints, small)
+
+-- the offset of the word, from the difference of addresses, in headers of 32 bytes
+pub offset_is : (header index address : ℕ) → header < 2 ^ 64 → index < 2 ^ 59
+    → address ≡ sum_64 header (32 + 16 * index)
+    → moved (difference_64 (sum_64 address 12) header) (negsuc 43) / 2 ^ 1 ≡ 8 * index
+offset_is header index address inside small is =
+    let distance : difference_64 (sum_64 address 12) header ≡ 44 + 16 * index = omega (arith, inside, small, is) in
+    let less : moved (44 + 16 * index) (negsuc 43) ≡ 16 * index =
+    wrapped_is (pos (44 + 16 * index) +ℤ negsuc 43) 0 (16 * index) (omega (arith, ints)) ∙ omega (arith, small) in
+    ap (λ n. moved n (negsuc 43) / 2 ^ 1) distance ∙ ap (λ n. n / 2 ^ 1) less ∙ omega arith
 
 -- ---- code that begins with a piece
 

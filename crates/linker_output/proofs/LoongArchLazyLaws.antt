@@ -1,9 +1,8 @@
 -- LoongArch's lazy PLT.
-use Rattle.std.proofs.Common.{◌≡◌, ◌≢◌, ℕ, ◌+◌, ◌*◌, ◌/◌, ◌^◌, ◌<◌, ◌≤◌, false, refl, sym, ◌∙◌, ap, subst, arith}
+use Rattle.std.proofs.Common.{◌≡◌, ◌≢◌, ℕ, ◌/◌, ◌^◌, ◌<◌, ◌≤◌, false, refl, sym, ◌∙◌, ap, subst, arith}
 use Rattle.std.proofs.Common.{List, [], ◌∷◌, ◌++◌, take, eqb, cond, Some, pos, negsuc, ◌+ℤ◌, ◌*ℤ◌}
 use Rattle.std.specs.Prelude.{◌||◌, ◌==◌, IsSomeAnd}
 use Rattle.std.proofs.lemmas.Bool.{ne_eqb, cond-true, cond-false}
-use Rattle.std.proofs.lemmas.Int.{ints}
 use Rattle.linker_base.specs.Bits.{field, signed}
 use Rattle.linker_elf.specs.LoongArchRelocations.{loongarch_name, loongarch_row}
 use Rattle.linker_elf.specs.Value.{sum_64, difference_64}
@@ -17,10 +16,9 @@ use Rattle.linker_laws.specs.LoongArchRewriteLaws.{word_of}
 use Rattle.linker_laws.specs.Machine.{wrapped, loaded}
 use Rattle.linker_laws.specs.Schemes.{IsAddress, symbol_address}
 use Rattle.linker_laws.proofs.AArch64Steps.{address_is, in_two_steps}
-use Rattle.linker_laws.proofs.RiscVMachine.{wrapped_is}
 use Rattle.linker_laws.proofs.LoongArchSteps.{set, loaded_of, step_load, step_sum, written}
 use Rattle.linker_laws.proofs.LoongArchWords.{IsHigh, IsLow, high_after, low_after, decodes_load, decodes_sum}
-use Rattle.linker_output.proofs.LazyRuns.{run_more, left_false, right_false, one_word, are_addresses_at}
+use Rattle.linker_output.proofs.LazyRuns.{run_more, left_false, right_false, second_and_last, one_word, are_addresses_at, twelve, eight_on, offset_is}
 use Rattle.linker_output.proofs.LoongArchStubLaws.{stays}
 use Rattle.linker_output.proofs.StubWords.{applies, no_addend, at_place}
 use Rattle.linker_output.specs.LazyPlt.{IsCode, operands_at, header_places}
@@ -61,9 +59,6 @@ adds_number x n m s is named =
 -- the sum of a register and the number of an instruction
 sum_at : (x n m : ℕ) (s : State) → rj_of x ≡ m → read m s ≡ n → sum_of x s ≡ wrapped (pos n +ℤ signed 12 (field x 10 22))
 sum_at x n m s rj is = ap (λ k. wrapped (pos (read k s) +ℤ signed 12 (field x 10 22))) rj ∙ ap (λ k. wrapped (pos k +ℤ signed 12 (field x 10 22))) is
-
-twelve : (p : ℕ) → sum_64 (sum_64 (sum_64 p 4) 4) 4 ≡ sum_64 p 12
-twelve p = omega arith
 
 -- another register than one that is written
 other : (n v m : ℕ) (s : State) → (m == n) ≡ false → read m (set n v s) ≡ read m s
@@ -188,15 +183,6 @@ enters_so thread entry inside below code is target small s at holds =
 
 -- ---- the header
 
-offset_is : (header index address : ℕ) → header < 2 ^ 64 → index < 2 ^ 59
-    → address ≡ sum_64 header (32 + 16 * index)
-    → wrapped (pos (difference_64 (sum_64 address 12) header) +ℤ negsuc 43) / 2 ^ 1 ≡ 8 * index
-offset_is header index address inside small is =
-    let distance : difference_64 (sum_64 address 12) header ≡ 44 + 16 * index = omega (arith, inside, small, is) in
-    let less : wrapped (pos (44 + 16 * index) +ℤ negsuc 43) ≡ 16 * index =
-    wrapped_is (pos (44 + 16 * index) +ℤ negsuc 43) 0 (16 * index) (omega (arith, ints)) ∙ omega (arith, small) in
-    ap (λ n. wrapped (pos n +ℤ negsuc 43) / 2 ^ 1) distance ∙ ap (λ n. n / 2 ^ 1) less ∙ omega arith
-
 module _ (s : State) (x y z : ℕ) where
   a1 : State
   a1 = set 14 (upper_address x s) s
@@ -287,15 +273,6 @@ module _ (s : State) (x y z : ℕ) where
       ∙ other 13 (difference_64 (read 13 a1) (read 15 a1)) n a1 not_13
       ∙ other 14 (upper_address x s) n s not_14
 
-eight_on : (n : ℕ) → n < 2 ^ 64 → wrapped (pos n +ℤ pos 8) ≡ sum_64 n 8
-eight_on n small = omega (arith, ints, small)
-
-either_two : (n : ℕ) → ((n == 12 || n == 13) || (n == 14 || n == 15)) ≡ false → (n == 13 || n == 15) ≡ false
-either_two n e =
-    let a = right_false (n == 12) (n == 13) (left_false (n == 12 || n == 13) (n == 14 || n == 15) e) in
-    let b = right_false (n == 14) (n == 15) (right_false (n == 12 || n == 13) (n == 14 || n == 15) e) in
-    ap (λ p. p || n == 15) a ∙ b
-
 pub resolves : relocation_laws.ThreadAddresses → laws.Resolves
 resolves thread entry first inside below bounded within small_index placed code is header is_header resolver object
     resolver_small s at to_header holds next =
@@ -354,7 +331,7 @@ resolves thread entry first inside below bounded within small_index placed code 
           t1_ends t x y z ∙ ap (λ n. wrapped (pos (difference_64 n (read 15 t)) +ℤ negsuc 43) / 2 ^ 1) gone.t1
           ∙ ap (λ n. wrapped (pos (difference_64 (sum_64 entry.address 12) n) +ℤ negsuc 43) / 2 ^ 1) gone.t3
           ∙ offset_is entry.header entry.index entry.address within small_index placed;
-      registers = λ n e. kept t x y z n e ∙ gone.registers n (either_two n e);
+      registers = λ n e. kept t x y z n e ∙ gone.registers n (second_and_last (n == 12) (n == 13) (n == 14) (n == 15) e);
       floats = floats_are t x y z ∙ gone.floats;
       memory = memory_is t x y z ∙ gone.memory;
     } in

@@ -1,5 +1,5 @@
 -- RISC-V's lazy PLT.
-use Rattle.std.proofs.Common.{◌≡◌, ℕ, ◌+◌, ◌-◌, ◌*◌, ◌/◌, ◌%◌, ◌^◌, ◌<◌, refl, sym, ◌∙◌, ap, subst, arith, ℤ, Some, false, ◌==◌}
+use Rattle.std.proofs.Common.{◌≡◌, ℕ, ◌-◌, ◌/◌, ◌%◌, ◌^◌, ◌<◌, refl, sym, ◌∙◌, ap, subst, arith, ℤ, Some, false, ◌==◌}
 use Rattle.std.proofs.Common.{List, [], ◌∷◌, ◌++◌, take, Option, pos, negsuc, ◌+ℤ◌}
 use Rattle.std.specs.Prelude.{◌||◌, IsSomeAnd}
 use Rattle.std.proofs.lemmas.Int.{ints}
@@ -19,8 +19,8 @@ use Rattle.linker_laws.specs.RiscVMachine.{Hart, Instruction, register, with_int
 use Rattle.linker_laws.specs.RiscVRelocationLaws.{RelativeAddresses}
 use Rattle.linker_laws.specs.RiscVRewriteLaws.{word_of}
 use Rattle.linker_laws.proofs.RiscVDescriptors.{upper_word, load_word, sum_word}
-use Rattle.linker_laws.proofs.RiscVMachine.{moved_twice, address_is, wrapped_is, other, unwritten}
-use Rattle.linker_output.proofs.LazyRuns.{run_more, left_false, right_false, one_word, are_addresses_at}
+use Rattle.linker_laws.proofs.RiscVMachine.{moved_twice, address_is, other, unwritten}
+use Rattle.linker_output.proofs.LazyRuns.{run_more, left_false, right_false, second_and_last, one_word, are_addresses_at, twelve, eight_on, offset_is}
 use Rattle.linker_output.proofs.RiscVStubLaws.{whole_number}
 use Rattle.linker_output.proofs.StubWords.{applies, no_addend, at_place}
 use Rattle.linker_output.specs.LazyPlt.{IsCode, operands_at, header_places}
@@ -58,9 +58,6 @@ ld_is = refl
 -- the same number, in steps
 no_move : (n : ℕ) → n < 2 ^ 64 → moved n (pos 0) ≡ n
 no_move n small = omega (arith, ints, small)
-
-twelve : (p : ℕ) → sum_64 (sum_64 (sum_64 p 4) 4) 4 ≡ sum_64 p 12
-twelve p = omega arith
 
 -- ---- an entry
 
@@ -195,16 +192,6 @@ enters_so relative entry inside below code is target small even h at holds =
 
 -- ---- the header
 
--- the offset of the word, from the difference of addresses
-offset_is : (header index address : ℕ) → header < 2 ^ 64 → index < 2 ^ 59
-    → address ≡ sum_64 header (32 + 16 * index)
-    → moved (difference_64 (sum_64 address 12) header) (negsuc 43) / 2 ^ 1 ≡ 8 * index
-offset_is header index address inside small is =
-    let distance : difference_64 (sum_64 address 12) header ≡ 44 + 16 * index = omega (arith, inside, small, is) in
-    let less : moved (44 + 16 * index) (negsuc 43) ≡ 16 * index =
-    wrapped_is (pos (44 + 16 * index) +ℤ negsuc 43) 0 (16 * index) (omega (arith, ints)) ∙ omega (arith, small) in
-    ap (λ n. moved n (negsuc 43) / 2 ^ 1) distance ∙ ap (λ n. n / 2 ^ 1) less ∙ omega arith
-
 module _ (t : Hart) (u i j : ℤ) where
   a1 : Hart
   a1 = executed 4 (auipc 7 u) t
@@ -286,18 +273,6 @@ module _ (t : Hart) (u i j : ℤ) where
       ∙ other 6 (difference_64 (register a1 6) (register a1 28)) a1 n not_6
       ∙ other 7 (moved t.pc u) t n not_7
 
-eight_on : (n : ℕ) → n < 2 ^ 64 → moved n (pos 8) ≡ sum_64 n 8
-eight_on n small = omega (arith, ints, small)
-
--- neither of two registers of the four
-either_two : (n : ℕ) → ((n == 5 || n == 6) || (n == 7 || n == 28)) ≡ false → (n == 6 || n == 28) ≡ false
-either_two n e =
-    let low = left_false (n == 5 || n == 6) (n == 7 || n == 28) e in
-    let high = right_false (n == 5 || n == 6) (n == 7 || n == 28) e in
-    let a = right_false (n == 5) (n == 6) low in
-    let b = right_false (n == 7) (n == 28) high in
-    ap (λ p. p || n == 28) a ∙ b
-
 pub resolves : RelativeAddresses → laws.Resolves
 resolves relative entry first inside below bounded within aligned small_index placed code is header is_header resolver object
     resolver_small resolver_even object_small h at to_header holds next =
@@ -368,7 +343,7 @@ resolves relative entry first inside below bounded within aligned small_index pl
           t1_is t u i j ∙ ap (λ n. moved (difference_64 n (register t 28)) (negsuc 43) / 2 ^ 1) gone.t1
           ∙ ap (λ n. moved (difference_64 (sum_64 entry.address 12) n) (negsuc 43) / 2 ^ 1) gone.t3
           ∙ offset_is entry.header entry.index entry.address within small_index placed;
-      integers = λ n e. kept t u i j n e ∙ gone.integers n (either_two n e);
+      integers = λ n e. kept t u i j n e ∙ gone.integers n (second_and_last (n == 5) (n == 6) (n == 7) (n == 28) e);
       floats = floats_are t u i j ∙ gone.floats;
       memory = memory_is t u i j ∙ gone.memory;
     } in

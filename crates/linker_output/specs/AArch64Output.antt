@@ -1,11 +1,11 @@
 -- AArch64: what a linker adds to an output (ELF for the Arm 64-bit Architecture, "Relocation";
 -- System V ABI for the Arm 64-bit Architecture; paths as glibc has them). ELF for the Arm 64-bit
 -- Architecture leaves 1028 and 1029 to the platform, and glibc has the module's number first.
-use Rattle.std.specs.Prelude.{codes, [], None, Some, ◌∷◌, pos}
+use Rattle.std.specs.Prelude.{codes, [], None, Some, ◌∷◌}
 use Rattle.linker_elf.specs.AArch64Relocations.{aarch64_name}
 use Rattle.linker_elf.specs.declared.aarch64.relocations.AArch64Relocation.TheVariants as r
-use Rattle.linker_output.specs.Tables.{field_of, code_of_words, kind, units_of, no_flags, only}
-use Rattle.linker_output.specs.Tables.{four}
+use Rattle.linker_output.specs.Tables.{field_of, kind, kind_of, units_of, no_flags, only}
+use Rattle.linker_output.specs.Tables.{four, plain_stub}
 use Rattle.linker_output.specs.View.{Description}
 use Rattle.linker_output.specs.declared.got.ThreadPointer.TheVariants.{BelowImage}
 use Rattle.linker_utils.specs.declared.elf.Architecture.TheVariants.{AArch64}
@@ -15,7 +15,7 @@ aarch64_output =
     record {
       dynamic =
           record {
-            word = kind 257 (codes "R_AARCH64_ABS64");
+            word = kind_of (aarch64_name r.R_AARCH64_ABS64);
             relative = kind 1027 (codes "R_AARCH64_RELATIVE");
             glob_dat = kind 1025 (codes "R_AARCH64_GLOB_DAT");
             jump_slot = kind 1026 (codes "R_AARCH64_JUMP_SLOT");
@@ -44,27 +44,11 @@ aarch64_output =
       instructions = AArch64;
       -- `adrp x16`, `ldr x17, [x16]`, `br x17`
       load_stub =
-          record {
-            head = [];
-            pair = code_of_words (0x90000010 ∷ 0xf9400211 ∷ []);
-            first = field_of 0 (aarch64_name r.R_AARCH64_ADR_PREL_PG_HI21);
-            second = Some (field_of 4 (aarch64_name r.R_AARCH64_LDST64_ABS_LO12_NC));
-            tail = code_of_words (0xd61f0220 ∷ []);
-            entry = 0;
-            origin = 0;
-            addend = pos 0;
-          };
+          plain_stub 0x90000010 0xf9400211 (field_of 0 (aarch64_name r.R_AARCH64_ADR_PREL_PG_HI21))
+          (Some (field_of 4 (aarch64_name r.R_AARCH64_LDST64_ABS_LO12_NC))) (0xd61f0220 ∷ []);
       -- `adrp x16`, `add x16, x16`, `br x16`
       jump_stub =
           Some
-          (record {
-            head = [];
-            pair = code_of_words (0x90000010 ∷ 0x91000210 ∷ []);
-            first = field_of 0 (aarch64_name r.R_AARCH64_ADR_PREL_PG_HI21);
-            second = Some (field_of 4 (aarch64_name r.R_AARCH64_ADD_ABS_LO12_NC));
-            tail = code_of_words (0xd61f0200 ∷ []);
-            entry = 0;
-            origin = 0;
-            addend = pos 0;
-          });
+          (plain_stub 0x90000010 0x91000210 (field_of 0 (aarch64_name r.R_AARCH64_ADR_PREL_PG_HI21))
+          (Some (field_of 4 (aarch64_name r.R_AARCH64_ADD_ABS_LO12_NC))) (0xd61f0200 ∷ []));
     }

@@ -17,6 +17,7 @@ use Rattle.linker_output.specs.Tables.{field_of, field_of_32, code_of_words}
 use Rattle.linker_output.specs.declared.lazy_plt.LazyPiece.{LazyPiece}
 use Rattle.linker_output.specs.declared.lazy_plt.LazyTarget.{LazyTarget}
 use Rattle.linker_output.specs.declared.lazy_plt.LazyTarget.TheVariants.{Word, Header, Index}
+use Rattle.linker_output.specs.declared.lazy_plt.LazyWord.{LazyWord}
 use Rattle.linker_output.specs.declared.lazy_plt.LazyWord.TheVariants as word
 use Rattle.linker_output.specs.declared.stubs.StubField.{StubField}
 use Rattle.linker_utils.specs.declared.elf.Architecture.{Architecture}
@@ -40,107 +41,94 @@ with_field code field target origin addend =
           Some (record { field = field; target = target; origin = origin; addend = addend });
     }
 
+abbrev pub plt_of : Architecture → ℕ → List LazyPiece → List LazyPiece → List LazyWord → LazyWord
+    → PltCode
+plt_of instructions alignment header entry header_words own =
+    record {
+      instructions = instructions;
+      alignment = alignment;
+      header = header;
+      entry = entry;
+      header_words = header_words;
+      word = own;
+    }
+
+-- of instructions of 4 bytes
+abbrev pub one : ℕ → LazyPiece
+one word = fixed (code_of_words (word ∷ []))
+
+abbrev pub two : ℕ → ℕ → LazyPiece
+two first second = fixed (code_of_words (first ∷ second ∷ []))
+
+abbrev pub one_with : ℕ → StubField → LazyTarget → ℕ → ℤ → LazyPiece
+one_with word = with_field (code_of_words (word ∷ []))
+
+abbrev pub aarch64_page : StubField
+aarch64_page = field_of 0 (aarch64_name aarch64.R_AARCH64_ADR_PREL_PG_HI21)
+
+abbrev pub aarch64_load : StubField
+aarch64_load = field_of 0 (aarch64_name aarch64.R_AARCH64_LDST64_ABS_LO12_NC)
+
+abbrev pub aarch64_add : StubField
+aarch64_add = field_of 0 (aarch64_name aarch64.R_AARCH64_ADD_ABS_LO12_NC)
+
 abbrev pub aarch64_header : List LazyPiece
 aarch64_header =
-    -- `stp x16, x30, [sp, -16]!`
-    fixed (code_of_words (0xa9bf7bf0 ∷ []))
-    -- `adrp x16, 0`
-    ∷ with_field (code_of_words (0x90000010 ∷ []))
-    (field_of 0 (aarch64_name aarch64.R_AARCH64_ADR_PREL_PG_HI21)) Word 4 (pos 16)
-    -- `ldr x17, [x16, 0]`
-    ∷ with_field (code_of_words (0xf9400211 ∷ []))
-    (field_of 0 (aarch64_name aarch64.R_AARCH64_LDST64_ABS_LO12_NC)) Word 4 (pos 16)
-    -- `add x16, x16, 0`
-    ∷ with_field (code_of_words (0x91000210 ∷ []))
-    (field_of 0 (aarch64_name aarch64.R_AARCH64_ADD_ABS_LO12_NC)) Word 4 (pos 16)
-    -- `br x17`, `nop`
-    ∷ fixed (code_of_words (0xd61f0220 ∷ 0xd503201f ∷ []))
-    -- `nop`, `nop`
-    ∷ fixed (code_of_words (0xd503201f ∷ 0xd503201f ∷ [])) ∷ []
+    one 0xa9bf7bf0  -- `stp x16, x30, [sp, -16]!`
+    ∷ one_with 0x90000010 aarch64_page Word 4 (pos 16)  -- `adrp x16, 0`
+    ∷ one_with 0xf9400211 aarch64_load Word 4 (pos 16)  -- `ldr x17, [x16, 0]`
+    ∷ one_with 0x91000210 aarch64_add Word 4 (pos 16)  -- `add x16, x16, 0`
+    ∷ two 0xd61f0220 0xd503201f  -- `br x17`, `nop`
+    ∷ two 0xd503201f 0xd503201f ∷ []  -- `nop`, `nop`
 
 abbrev pub aarch64_entry : List LazyPiece
 aarch64_entry =
-    -- `adrp x16, 0`
-    with_field (code_of_words (0x90000010 ∷ []))
-    (field_of 0 (aarch64_name aarch64.R_AARCH64_ADR_PREL_PG_HI21)) Word 0 (pos 0)
-    -- `ldr x17, [x16, 0]`
-    ∷ with_field (code_of_words (0xf9400211 ∷ []))
-    (field_of 0 (aarch64_name aarch64.R_AARCH64_LDST64_ABS_LO12_NC)) Word 0 (pos 0)
-    -- `add x16, x16, 0`
-    ∷ with_field (code_of_words (0x91000210 ∷ []))
-    (field_of 0 (aarch64_name aarch64.R_AARCH64_ADD_ABS_LO12_NC)) Word 0 (pos 0)
-    -- `br x17`
-    ∷ fixed (code_of_words (0xd61f0220 ∷ [])) ∷ []
+    one_with 0x90000010 aarch64_page Word 0 (pos 0)  -- `adrp x16, 0`
+    ∷ one_with 0xf9400211 aarch64_load Word 0 (pos 0)  -- `ldr x17, [x16, 0]`
+    ∷ one_with 0x91000210 aarch64_add Word 0 (pos 0)  -- `add x16, x16, 0`
+    ∷ one 0xd61f0220 ∷ []  -- `br x17`
 
 abbrev pub aarch64_lazy_plt : PltCode
 aarch64_lazy_plt =
-    record {
-      instructions = AArch64;
-      alignment = 16;
-      header = aarch64_header;
-      entry = aarch64_entry;
-      header_words = word.Zero ∷ word.Zero ∷ word.Zero ∷ [];
-      word = word.Header;
-    }
+    plt_of AArch64 16 aarch64_header aarch64_entry (word.Zero ∷ word.Zero ∷ word.Zero ∷ [])
+    word.Header
+
+abbrev pub loongarch_high : StubField
+loongarch_high = field_of_32 0 (loongarch_name loongarch.R_LARCH_TLS_LE_HI20_R)
+
+abbrev pub loongarch_low : StubField
+loongarch_low = field_of 0 (loongarch_name loongarch.R_LARCH_TLS_LE_LO12_R)
 
 abbrev pub loongarch_header : List LazyPiece
 loongarch_header =
-    -- `pcaddu12i $t2, 0`
-    with_field (code_of_words (0x1c00000e ∷ []))
-    (field_of_32 0 (loongarch_name loongarch.R_LARCH_TLS_LE_HI20_R)) Word 0 (pos 0)
-    -- `sub.d $t1, $t1, $t3`
-    ∷ fixed (code_of_words (0x0011bdad ∷ []))
-    -- `ld.d $t3, $t2, 0`
-    ∷ with_field (code_of_words (0x28c001cf ∷ []))
-    (field_of 0 (loongarch_name loongarch.R_LARCH_TLS_LE_LO12_R)) Word 0 (pos 0)
-    -- `addi.d $t1, $t1, -44`
-    ∷ fixed (code_of_words (0x02ff51ad ∷ []))
-    -- `addi.d $t0, $t2, 0`
-    ∷ with_field (code_of_words (0x02c001cc ∷ []))
-    (field_of 0 (loongarch_name loongarch.R_LARCH_TLS_LE_LO12_R)) Word 0 (pos 0)
-    -- `srli.d $t1, $t1, 1`, `ld.d $t0, $t0, 8`
-    ∷ fixed (code_of_words (0x004505ad ∷ 0x28c0218c ∷ []))
-    -- `jr $t3`
-    ∷ fixed (code_of_words (0x4c0001e0 ∷ [])) ∷ []
+    one_with 0x1c00000e loongarch_high Word 0 (pos 0)  -- `pcaddu12i $t2, 0`
+    ∷ one 0x0011bdad  -- `sub.d $t1, $t1, $t3`
+    ∷ one_with 0x28c001cf loongarch_low Word 0 (pos 0)  -- `ld.d $t3, $t2, 0`
+    ∷ one 0x02ff51ad  -- `addi.d $t1, $t1, -44`
+    ∷ one_with 0x02c001cc loongarch_low Word 0 (pos 0)  -- `addi.d $t0, $t2, 0`
+    ∷ two 0x004505ad 0x28c0218c  -- `srli.d $t1, $t1, 1`, `ld.d $t0, $t0, 8`
+    ∷ one 0x4c0001e0 ∷ []  -- `jr $t3`
 
 abbrev pub loongarch_entry : List LazyPiece
 loongarch_entry =
-    -- `pcaddu12i $t3, 0`
-    with_field (code_of_words (0x1c00000f ∷ []))
-    (field_of_32 0 (loongarch_name loongarch.R_LARCH_TLS_LE_HI20_R)) Word 0 (pos 0)
-    -- `ld.d $t3, $t3, 0`
-    ∷ with_field (code_of_words (0x28c001ef ∷ []))
-    (field_of 0 (loongarch_name loongarch.R_LARCH_TLS_LE_LO12_R)) Word 0 (pos 0)
-    -- `jirl $t1, $t3, 0`, `nop`
-    ∷ fixed (code_of_words (0x4c0001ed ∷ 0x03400000 ∷ [])) ∷ []
+    one_with 0x1c00000f loongarch_high Word 0 (pos 0)  -- `pcaddu12i $t3, 0`
+    ∷ one_with 0x28c001ef loongarch_low Word 0 (pos 0)  -- `ld.d $t3, $t3, 0`
+    ∷ two 0x4c0001ed 0x03400000 ∷ []  -- `jirl $t1, $t3, 0`, `nop`
 
 abbrev pub loongarch_lazy_plt : PltCode
 loongarch_lazy_plt =
-    record {
-      instructions = LoongArch64;
-      alignment = 16;
-      header = loongarch_header;
-      entry = loongarch_entry;
-      header_words = word.Zero ∷ word.Zero ∷ [];
-      word = word.Header;
-    }
+    plt_of LoongArch64 16 loongarch_header loongarch_entry (word.Zero ∷ word.Zero ∷ [])
+    word.Header
 
 abbrev pub ppc64_header : List LazyPiece
 ppc64_header =
-    -- `mflr 0`, `bcl 20, 31, .+4`
-    fixed (code_of_words (0x7c0802a6 ∷ 0x429f0005 ∷ []))
-    -- `mflr 11`, `mtlr 0`
-    ∷ fixed (code_of_words (0x7d6802a6 ∷ 0x7c0803a6 ∷ []))
-    -- `sub 12, 12, 11`, `addi 0, 12, -52`
-    ∷ fixed (code_of_words (0x7d8b6050 ∷ 0x380cffcc ∷ []))
-    -- `srdi 0, 0, 2`, `ld 12, 44(11)`
-    ∷ fixed (code_of_words (0x7800f082 ∷ 0xe98b002c ∷ []))
-    -- `add 11, 12, 11`, `ld 12, 0(11)`
-    ∷ fixed (code_of_words (0x7d6c5a14 ∷ 0xe98b0000 ∷ []))
-    -- `ld 11, 8(11)`, `mtctr 12`
-    ∷ fixed (code_of_words (0xe96b0008 ∷ 0x7d8903a6 ∷ []))
-    -- `bctr`
-    ∷ fixed (code_of_words (0x4e800420 ∷ []))
+    two 0x7c0802a6 0x429f0005  -- `mflr 0`, `bcl 20, 31, .+4`
+    ∷ two 0x7d6802a6 0x7c0803a6  -- `mflr 11`, `mtlr 0`
+    ∷ two 0x7d8b6050 0x380cffcc  -- `sub 12, 12, 11`, `addi 0, 12, -52`
+    ∷ two 0x7800f082 0xe98b002c  -- `srdi 0, 0, 2`, `ld 12, 44(11)`
+    ∷ two 0x7d6c5a14 0xe98b0000  -- `add 11, 12, 11`, `ld 12, 0(11)`
+    ∷ two 0xe96b0008 0x7d8903a6  -- `ld 11, 8(11)`, `mtctr 12`
+    ∷ one 0x4e800420  -- `bctr`
     -- how far `.plt` is above the third instruction
     ∷ with_field (0 ∷ 0 ∷ 0 ∷ 0 ∷ 0 ∷ 0 ∷ 0 ∷ 0 ∷ [])
     (field_of 0 (ppc64_name ppc64.R_PPC64_REL64)) Word 8 (pos 0) ∷ []
@@ -148,61 +136,39 @@ ppc64_header =
 abbrev pub ppc64_entry : List LazyPiece
 ppc64_entry =
     -- `b header`
-    with_field (code_of_words (0x48000000 ∷ []))
-    (field_of 0 (ppc64_name ppc64.R_PPC64_REL24)) Header 0 (pos 0) ∷ []
+    one_with 0x48000000 (field_of 0 (ppc64_name ppc64.R_PPC64_REL24)) Header 0 (pos 0) ∷ []
 
 abbrev pub ppc64_lazy_plt : PltCode
 ppc64_lazy_plt =
-    record {
-      instructions = Ppc64;
-      alignment = 4;
-      header = ppc64_header;
-      entry = ppc64_entry;
-      header_words = word.Zero ∷ word.Zero ∷ [];
-      word = word.Entry 0;
-    }
+    plt_of Ppc64 4 ppc64_header ppc64_entry (word.Zero ∷ word.Zero ∷ [])
+    (word.Entry 0)
+
+abbrev pub riscv_high : StubField
+riscv_high = field_of 0 (riscv_name riscv.R_RISCV_PCREL_HI20)
+
+abbrev pub riscv_low : StubField
+riscv_low = field_of 0 (riscv_name riscv.R_RISCV_PCREL_LO12_I)
 
 abbrev pub riscv_header : List LazyPiece
 riscv_header =
-    -- `auipc t2, 0`
-    with_field (code_of_words (0x00000397 ∷ []))
-    (field_of 0 (riscv_name riscv.R_RISCV_PCREL_HI20)) Word 0 (pos 0)
-    -- `sub t1, t1, t3`
-    ∷ fixed (code_of_words (0x41c30333 ∷ []))
-    -- `ld t3, 0(t2)`
-    ∷ with_field (code_of_words (0x0003be03 ∷ []))
-    (field_of 0 (riscv_name riscv.R_RISCV_PCREL_LO12_I)) Word 0 (pos 0)
-    -- `addi t1, t1, -44`
-    ∷ fixed (code_of_words (0xfd430313 ∷ []))
-    -- `addi t0, t2, 0`
-    ∷ with_field (code_of_words (0x00038293 ∷ []))
-    (field_of 0 (riscv_name riscv.R_RISCV_PCREL_LO12_I)) Word 0 (pos 0)
-    -- `srli t1, t1, 1`, `ld t0, 8(t0)`
-    ∷ fixed (code_of_words (0x00135313 ∷ 0x0082b283 ∷ []))
-    -- `jr t3`
-    ∷ fixed (code_of_words (0x000e0067 ∷ [])) ∷ []
+    one_with 0x00000397 riscv_high Word 0 (pos 0)  -- `auipc t2, 0`
+    ∷ one 0x41c30333  -- `sub t1, t1, t3`
+    ∷ one_with 0x0003be03 riscv_low Word 0 (pos 0)  -- `ld t3, 0(t2)`
+    ∷ one 0xfd430313  -- `addi t1, t1, -44`
+    ∷ one_with 0x00038293 riscv_low Word 0 (pos 0)  -- `addi t0, t2, 0`
+    ∷ two 0x00135313 0x0082b283  -- `srli t1, t1, 1`, `ld t0, 8(t0)`
+    ∷ one 0x000e0067 ∷ []  -- `jr t3`
 
 abbrev pub riscv_entry : List LazyPiece
 riscv_entry =
-    -- `auipc t3, 0`
-    with_field (code_of_words (0x00000e17 ∷ []))
-    (field_of 0 (riscv_name riscv.R_RISCV_PCREL_HI20)) Word 0 (pos 0)
-    -- `ld t3, 0(t3)`
-    ∷ with_field (code_of_words (0x000e3e03 ∷ []))
-    (field_of 0 (riscv_name riscv.R_RISCV_PCREL_LO12_I)) Word 0 (pos 0)
-    -- `jalr t1, t3`, `nop`
-    ∷ fixed (code_of_words (0x000e0367 ∷ 0x00000013 ∷ [])) ∷ []
+    one_with 0x00000e17 riscv_high Word 0 (pos 0)  -- `auipc t3, 0`
+    ∷ one_with 0x000e3e03 riscv_low Word 0 (pos 0)  -- `ld t3, 0(t3)`
+    ∷ two 0x000e0367 0x00000013 ∷ []  -- `jalr t1, t3`, `nop`
 
 abbrev pub riscv_lazy_plt : PltCode
 riscv_lazy_plt =
-    record {
-      instructions = RiscV;
-      alignment = 16;
-      header = riscv_header;
-      entry = riscv_entry;
-      header_words = word.Zero ∷ word.Zero ∷ [];
-      word = word.Header;
-    }
+    plt_of RiscV 16 riscv_header riscv_entry (word.Zero ∷ word.Zero ∷ [])
+    word.Header
 
 abbrev pub x86_64_header : List LazyPiece
 x86_64_header =
@@ -229,14 +195,8 @@ x86_64_entry =
 
 abbrev pub x86_64_lazy_plt : PltCode
 x86_64_lazy_plt =
-    record {
-      instructions = X86_64;
-      alignment = 16;
-      header = x86_64_header;
-      entry = x86_64_entry;
-      header_words = word.Dynamic ∷ word.Zero ∷ word.Zero ∷ [];
-      word = word.Entry 6;
-    }
+    plt_of X86_64 16 x86_64_header x86_64_entry (word.Dynamic ∷ word.Zero ∷ word.Zero ∷ [])
+    (word.Entry 6)
 
 abbrev pub lazy_plt_of : Architecture → PltCode
 lazy_plt_of AArch64 = aarch64_lazy_plt

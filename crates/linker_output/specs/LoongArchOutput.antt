@@ -1,10 +1,10 @@
 -- LoongArch, 64 bits: what a linker adds to an output (LoongArch ELF psABI, "Relocation Types";
 -- paths as glibc has them).
-use Rattle.std.specs.Prelude.{codes, [], ◌∷◌, None, Some, ℕ, ◌+◌, pos}
+use Rattle.std.specs.Prelude.{codes, [], ◌∷◌, None, Some, ℕ, ◌+◌}
 use Rattle.linker_elf.specs.LoongArchRelocations.{loongarch_name}
 use Rattle.linker_elf.specs.declared.loongarch64.relocations.LoongArch64Relocation.TheVariants as r
-use Rattle.linker_output.specs.Tables.{field_of, field_of_32, code_of_words, kind, units_of, path}
-use Rattle.linker_output.specs.Tables.{four}
+use Rattle.linker_output.specs.Tables.{field_of, field_of_32, kind, kind_of, units_of, path}
+use Rattle.linker_output.specs.Tables.{four, plain_stub}
 use Rattle.linker_output.specs.View.{Description}
 use Rattle.linker_output.specs.declared.got.ThreadPointer.TheVariants.{BelowImage}
 use Rattle.linker_utils.specs.declared.elf.Architecture.TheVariants.{LoongArch64}
@@ -30,14 +30,14 @@ loongarch_output =
     record {
       dynamic =
           record {
-            word = kind 2 (codes "R_LARCH_64");
+            word = kind_of (loongarch_name r.R_LARCH_64);
             relative = kind 3 (codes "R_LARCH_RELATIVE");
-            glob_dat = kind 2 (codes "R_LARCH_64");
+            glob_dat = kind_of (loongarch_name r.R_LARCH_64);
             jump_slot = kind 5 (codes "R_LARCH_JUMP_SLOT");
             copy = kind 4 (codes "R_LARCH_COPY");
             irelative = kind 12 (codes "R_LARCH_IRELATIVE");
             module_number = kind 7 (codes "R_LARCH_TLS_DTPMOD64");
-            module_offset = kind 9 (codes "R_LARCH_TLS_DTPREL64");
+            module_offset = kind_of (loongarch_name r.R_LARCH_TLS_DTPREL64);
             thread_offset = kind 11 (codes "R_LARCH_TLS_TPREL64");
             descriptor = Some (kind 14 (codes "R_LARCH_TLS_DESC64"));
           };
@@ -60,27 +60,11 @@ loongarch_output =
       instructions = LoongArch64;
       -- `pcalau12i $t3`, `ld.d $t3, $t3`, `jirl $zero, $t3`
       load_stub =
-          record {
-            head = [];
-            pair = code_of_words (0x1a00000f ∷ 0x28c001ef ∷ []);
-            first = field_of_32 0 (loongarch_name r.R_LARCH_GOT_PC_HI20);
-            second = Some (field_of 4 (loongarch_name r.R_LARCH_GOT_PC_LO12));
-            tail = code_of_words (0x4c0001e0 ∷ []);
-            entry = 0;
-            origin = 0;
-            addend = pos 0;
-          };
+          plain_stub 0x1a00000f 0x28c001ef (field_of_32 0 (loongarch_name r.R_LARCH_GOT_PC_HI20))
+          (Some (field_of 4 (loongarch_name r.R_LARCH_GOT_PC_LO12))) (0x4c0001e0 ∷ []);
       -- `pcaddu18i $t3`, `jirl $zero, $t3`
       jump_stub =
           Some
-          (record {
-            head = [];
-            pair = code_of_words (0x1e00000f ∷ 0x4c0001e0 ∷ []);
-            first = field_of 0 (loongarch_name r.R_LARCH_CALL36);
-            second = None;
-            tail = [];
-            entry = 0;
-            origin = 0;
-            addend = pos 0;
-          });
+          (plain_stub 0x1e00000f 0x4c0001e0 (field_of 0 (loongarch_name r.R_LARCH_CALL36))
+          None []);
     }

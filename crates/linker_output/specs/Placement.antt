@@ -1,6 +1,6 @@
 -- Places of stubs between sections.
-use Rattle.std.specs.Prelude.{◌≡◌, ◌≢◌, ◌≤◌, ◌<◌, ◌+◌, ◌-◌, ◌*◌, ◌%◌, ◌^◌, ◌⊎◌, ℕ, List, length}
-use Rattle.std.specs.Prelude.{nat_le}
+use Rattle.std.specs.Prelude.{◌≡◌, ◌≢◌, ◌≤◌, ◌<◌, ◌+◌, ◌-◌, ◌*◌, ◌/◌, ◌%◌, ◌^◌, ◌⊎◌, ℕ, List}
+use Rattle.std.specs.Prelude.{length, nat_le}
 use Rattle.std.specs.Prelude.{Option, Some, None, slice_index_or}
 use Rattle.std.specs.List.{prefix_len, sum_by}
 use Rattle.linker_output.specs.declared.placement.Branch.{Branch}
@@ -208,9 +208,9 @@ abbrev pub AreUsed : List (Option ℕ) → ℕ → Type 0
 AreUsed stubs len = (j : ℕ) → j < len
     → (i : ℕ) × (i < length stubs) × (slice_index_or stubs i None ≡ Some j)
 
--- Each branch and each stub reaches where it goes. A stub is shared: its target has no other one in
--- the same part of the boundary, and a branch goes by it. A branch with bytes to spare goes by none.
-pub record IsPlaced (code : Code) (placement : Placement) : Type 0 where
+-- Each branch and each stub reaches where it goes. A stub's target has no other one in the same part
+-- of the boundary. A branch with bytes to spare goes by none.
+pub record IsPlacement (code : Code) (placement : Placement) : Type 0 where
   pub is_code : IsCode code
   pub layout : IsLayout code placement.layout
   pub one_each : length placement.stubs.items ≡ length code.branches.now
@@ -221,10 +221,59 @@ pub record IsPlaced (code : Code) (placement : Placement) : Type 0 where
       → StubReaches code placement.layout j
   pub shared : (i j : ℕ) → i < j → j < length placement.layout.stubs.items
       → AreOfTwo (stub_at placement.layout.stubs.items i) (stub_at placement.layout.stubs.items j)
-  pub used : AreUsed placement.stubs.items (length placement.layout.stubs.items)
   pub spared : (i : ℕ) → i < length code.branches.now
       → HasSpare code (branch_at code.branches.now i)
       → slice_index_or placement.stubs.items i None ≡ None
+
+abbrev pub HasAllUsed : Placement → Type 0
+HasAllUsed placement = AreUsed placement.stubs.items (length placement.layout.stubs.items)
+
+-- Each branch and each stub reaches where it goes, and a branch goes by each stub.
+abbrev pub IsPlaced : Code → Placement → Type 0
+IsPlaced code placement = IsPlacement code placement × HasAllUsed placement
+
+-- ---- shared stubs
+
+-- the last boundary within half of a branch's reach ahead is beyond the next one
+pub record IsFar (code : Code) (branch : Branch) (boundary : ℕ) : Type 0 where
+  pub beyond : passed code.boundaries.now branch.offset < boundary
+  pub last : boundary + 1 ≡ passed code.boundaries.now (branch.offset + branch.max_forward / 2)
+
+abbrev pub HasNoFar : Code → Branch → Type 0
+HasNoFar code branch = (boundary : ℕ) → ¬ IsFar code branch boundary
+
+-- a stub stands so far ahead of a branch, of the same target, that may not reach it
+pub record IsFarFrom (code : Code) (stub : StubAt) (i : ℕ) : Type 0 where
+  pub within : i < length code.branches.now
+  pub target : stub.target ≡ (branch_at code.branches.now i).target
+  pub needed : ¬ HasSpare code (branch_at code.branches.now i)
+  pub far : IsFar code (branch_at code.branches.now i) stub.boundary
+
+-- a boundary is the next one ahead of an offset, or the one before it
+abbrev pub IsNextTo : Code → ℕ → ℕ → Type 0
+IsNextTo code offset boundary = (boundary ≡ passed code.boundaries.now offset)
+    ⊎ (boundary + 1 ≡ passed code.boundaries.now offset)
+
+-- of the stubs of a target it is the first one
+abbrev pub IsFirst : List StubAt → ℕ → Type 0
+IsFirst stubs j = (k : ℕ) → k < j → (stub_at stubs k).target ≢ (stub_at stubs j).target
+
+-- Each stub is far ahead of a branch, or a branch next to it goes by it. Of the first stub of a
+-- target that branch has no boundary far ahead.
+abbrev pub IsShared : Code → Placement → Type 0
+IsShared code placement = (j : ℕ) → j < length placement.layout.stubs.items
+    → ((i : ℕ) × IsFarFrom code (stub_at placement.layout.stubs.items j) i)
+    ⊎ ((i : ℕ) × (i < length code.branches.now)
+    × (slice_index_or placement.stubs.items i None ≡ Some j)
+    × IsNextTo code (branch_at code.branches.now i).offset
+    (stub_at placement.layout.stubs.items j).boundary
+    × (IsFirst placement.layout.stubs.items j → HasNoFar code (branch_at code.branches.now i)))
+
+-- Stubs stand far ahead of branches, which share them, or next to one where no boundary is far
+-- ahead; unless stubs placed so have one that no branch goes by.
+abbrev pub SharesStubs : Code → Placement → Type 0
+SharesStubs code placement = IsShared code placement
+    ⊎ ((shared : Placement) × IsPlacement code shared × IsShared code shared × ¬ HasAllUsed shared)
 
 -- ---- errors
 

@@ -1,11 +1,13 @@
 -- PowerPC64: what a linker adds to an output (64-bit ELF V2 ABI for Power, "Relocation Types";
 -- paths as glibc has them).
 use Rattle.std.specs.Prelude.{◌+◌, ◌^◌, codes, [], ◌∷◌, None, Some, ℕ, pos, List}
+use Rattle.linker_elf.specs.ElfNames.{ElfName}
 use Rattle.linker_elf.specs.Ppc64Relocations.{ppc64_name}
 use Rattle.linker_elf.specs.declared.ppc64.relocations.Ppc64Relocation.TheVariants as r
 use Rattle.linker_output.specs.Layout.{Run}
-use Rattle.linker_output.specs.Tables.{field_of, code_of_words, kind, units_of, symbol, only, four}
-use Rattle.linker_output.specs.Tables.{load_of}
+use Rattle.linker_output.specs.Stubs.{StubCode}
+use Rattle.linker_output.specs.Tables.{field_of, code_of_words, kind, kind_of, units_of, symbol, only}
+use Rattle.linker_output.specs.Tables.{four, load_of}
 use Rattle.linker_output.specs.View.{Description}
 use Rattle.linker_output.specs.declared.got.ThreadPointer.TheVariants.{BelowImage}
 use Rattle.linker_output.specs.declared.got.GotHeader.TheVariants.{Base}
@@ -24,6 +26,20 @@ address_to_r12 = 0xf8410018 ∷ 0x7c0802a6 ∷ 0x429f0005 ∷ 0x7d8802a6 ∷ 0x7
 -- `mtctr 12`, `bctr`
 abbrev pub jump_to_r12 : List ℕ
 jump_to_r12 = 0x7d8903a6 ∷ 0x4e800420 ∷ []
+
+-- `addis 12, 12` and an instruction with the low half
+abbrev pub through_r12 : ℕ → ElfName → StubCode
+through_r12 word low =
+    record {
+      head = code_of_words address_to_r12;
+      pair = code_of_words (0x3d8c0000 ∷ word ∷ []);
+      first = field_of 0 (ppc64_name r.R_PPC64_TOC16_HA);
+      second = Some (field_of 4 low);
+      tail = code_of_words jump_to_r12;
+      entry = 4;
+      origin = 12;
+      addend = pos 0;
+    }
 
 -- `std 0,16(1)` and `ld 0,16(1)`; `mtlr 0`; `blr`
 abbrev pub save_link : ℕ
@@ -71,15 +87,15 @@ ppc64_output =
     record {
       dynamic =
           record {
-            word = kind 38 (codes "R_PPC64_ADDR64");
+            word = kind_of (ppc64_name r.R_PPC64_ADDR64);
             relative = kind 22 (codes "R_PPC64_RELATIVE");
             glob_dat = kind 20 (codes "R_PPC64_GLOB_DAT");
             jump_slot = kind 21 (codes "R_PPC64_JMP_SLOT");
             copy = kind 19 (codes "R_PPC64_COPY");
             irelative = kind 248 (codes "R_PPC64_IRELATIVE");
             module_number = kind 68 (codes "R_PPC64_DTPMOD64");
-            module_offset = kind 78 (codes "R_PPC64_DTPREL64");
-            thread_offset = kind 73 (codes "R_PPC64_TPREL64");
+            module_offset = kind_of (ppc64_name r.R_PPC64_DTPREL64);
+            thread_offset = kind_of (ppc64_name r.R_PPC64_TPREL64);
             descriptor = None;
           };
       thread_pointer = BelowImage 0 0x7000;
@@ -118,29 +134,8 @@ ppc64_output =
       interpreter_flags = 0;
       paths = only (codes "/lib64/ld64.so.2");
       instructions = Ppc64;
-      load_stub =
-          record {
-            head = code_of_words address_to_r12;
-            -- `addis 12, 12`, `ld 12, (12)`
-            pair = code_of_words (0x3d8c0000 ∷ 0xe98c0000 ∷ []);
-            first = field_of 0 (ppc64_name r.R_PPC64_TOC16_HA);
-            second = Some (field_of 4 (ppc64_name r.R_PPC64_TOC16_LO_DS));
-            tail = code_of_words jump_to_r12;
-            entry = 4;
-            origin = 12;
-            addend = pos 0;
-          };
-      jump_stub =
-          Some
-          (record {
-            head = code_of_words address_to_r12;
-            -- `addis 12, 12`, `addi 12, 12`
-            pair = code_of_words (0x3d8c0000 ∷ 0x398c0000 ∷ []);
-            first = field_of 0 (ppc64_name r.R_PPC64_TOC16_HA);
-            second = Some (field_of 4 (ppc64_name r.R_PPC64_TOC16_LO));
-            tail = code_of_words jump_to_r12;
-            entry = 4;
-            origin = 12;
-            addend = pos 0;
-          });
+      -- `addis 12, 12`, `ld 12, (12)`
+      load_stub = through_r12 0xe98c0000 (ppc64_name r.R_PPC64_TOC16_LO_DS);
+      -- `addis 12, 12`, `addi 12, 12`
+      jump_stub = Some (through_r12 0x398c0000 (ppc64_name r.R_PPC64_TOC16_LO));
     }

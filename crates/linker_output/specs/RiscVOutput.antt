@@ -1,9 +1,9 @@
 -- RISC-V, 64 bits: what a linker adds to an output (RISC-V ELF psABI, "Relocations"; paths as glibc
 -- has them).
-use Rattle.std.specs.Prelude.{codes, [], ◌∷◌, Some, ℕ, ◌+◌, None, pos}
+use Rattle.std.specs.Prelude.{codes, [], ◌∷◌, Some, ℕ, ◌+◌, None}
 use Rattle.linker_elf.specs.RiscVRelocations.{riscv_name}
 use Rattle.linker_elf.specs.declared.riscv64.relocations.RiscVRelocation.TheVariants as r
-use Rattle.linker_output.specs.Tables.{field_of, code_of_words, kind, symbol, path, four}
+use Rattle.linker_output.specs.Tables.{field_of, kind, kind_of, symbol, path, four, plain_stub}
 use Rattle.linker_output.specs.View.{Description}
 use Rattle.linker_output.specs.declared.got.ThreadPointer.TheVariants.{BelowImage}
 use Rattle.linker_output.specs.declared.got.GotHeader.TheVariants.{Dynamic}
@@ -34,9 +34,9 @@ riscv_output =
     record {
       dynamic =
           record {
-            word = kind 2 (codes "R_RISCV_64");
+            word = kind_of (riscv_name r.R_RISCV_64);
             relative = kind 3 (codes "R_RISCV_RELATIVE");
-            glob_dat = kind 2 (codes "R_RISCV_64");
+            glob_dat = kind_of (riscv_name r.R_RISCV_64);
             jump_slot = kind 5 (codes "R_RISCV_JUMP_SLOT");
             copy = kind 4 (codes "R_RISCV_COPY");
             irelative = kind 58 (codes "R_RISCV_IRELATIVE");
@@ -65,15 +65,7 @@ riscv_output =
       instructions = RiscV;
       -- `auipc t3`, `ld t3, (t3)`, `jr t3`
       load_stub =
-          record {
-            head = [];
-            pair = code_of_words (0x00000e17 ∷ 0x000e3e03 ∷ []);
-            first = field_of 0 (riscv_name r.R_RISCV_PCREL_HI20);
-            second = Some (field_of 4 (riscv_name r.R_RISCV_PCREL_LO12_I));
-            tail = code_of_words (0x000e0067 ∷ []);
-            entry = 0;
-            origin = 0;
-            addend = pos 0;
-          };
+          plain_stub 0x00000e17 0x000e3e03 (field_of 0 (riscv_name r.R_RISCV_PCREL_HI20))
+          (Some (field_of 4 (riscv_name r.R_RISCV_PCREL_LO12_I))) (0x000e0067 ∷ []);
       jump_stub = None;
     }

@@ -4,11 +4,21 @@ use Rattle.std.specs.Prelude.{◌∷◌, Bool}
 use Rattle.std.specs.Prelude.{true, false, not, nat_lt, length, drop, if◌then◌else◌, IsTrue}
 use Rattle.std.specs.Prelude.{Option, Some, None, Result, Ok, Err}
 use Rattle.std.specs.Int.{w64, cast_unsigned}
+use Rattle.linker_elf.specs.ElfNames.{code_of}
+use Rattle.linker_elf.specs.Ppc64Relocations.{ppc64_name}
 use Rattle.linker_elf.specs.Relocate.{IsAccepted}
 use Rattle.linker_elf.specs.Value.{sum_64}
+use Rattle.linker_elf.specs.declared.aarch64.forms.AArch64Instruction.TheVariants.{JumpCall}
+use Rattle.linker_elf.specs.declared.elf.RelocationInstruction.TheVariants.{AArch64, LoongArch64}
+use Rattle.linker_elf.specs.declared.elf.RelocationInstruction.TheVariants.{Ppc64}
 use Rattle.linker_elf.specs.declared.elf.RelocationKindInfo.{RelocationKindInfo}
+use Rattle.linker_elf.specs.declared.elf.RelocationSize.{RelocationSize}
+use Rattle.linker_elf.specs.declared.elf.RelocationSize.TheVariants.{BitMasking}
 use Rattle.linker_elf.specs.declared.elf.relocate.RelocateError.{RelocateError}
 use Rattle.linker_elf.specs.declared.elf.relocate.RelocateError.TheVariants.{OutOfReach}
+use Rattle.linker_elf.specs.declared.loongarch64.forms.LoongArch64Instruction.TheVariants.{Branch26}
+use Rattle.linker_elf.specs.declared.ppc64.forms.Ppc64Instruction.TheVariants.{Branch24}
+use Rattle.linker_elf.specs.declared.ppc64.relocations.Ppc64Relocation.TheVariants as ppc64
 use Rattle.linker_output.specs.Stubs.{StubCode}
 use Rattle.linker_output.specs.View.{Description}
 use Rattle.linker_output.specs.declared.routes.Route.{Route}
@@ -18,9 +28,10 @@ use Rattle.linker_output.specs.declared.routes.RouteError.TheVariants as errors
 use Rattle.linker_output.specs.declared.stubs.StubKind.{StubKind}
 use Rattle.linker_output.specs.declared.stubs.StubKind.TheVariants.{Load, Jump}
 use Rattle.linker_ppc64.specs.Ppc64Rewrites.{HasTwo}
+use Rattle.linker_section.specs.Conditions.{changes_toc}
 use Rattle.linker_section.specs.Needed.{may_use_stub}
 use Rattle.linker_section.specs.Sections.{IsRejected}
-use Rattle.linker_section.specs.Values.{IsValue, local_entry}
+use Rattle.linker_section.specs.Values.{IsValue, is_relative, local_entry}
 use Rattle.linker_section.specs.declared.facts.Addresses.{Addresses}
 use Rattle.linker_section.specs.declared.facts.Symbol.{Symbol}
 use Rattle.linker_section.specs.declared.relocations.Rela.{Rela}
@@ -31,51 +42,50 @@ use Rattle.linker_utils.specs.declared.elf.Architecture.TheVariants as architect
 
 -- ---- branches
 
--- Branches that may go by a stub to a target that they don't reach: `R_AARCH64_JUMP26` and
--- `CALL26`, `R_LARCH_B26`, and PowerPC64's `R_PPC64_REL24` and `R_PPC64_REL24_NOTOC`. At others a
--- register that a stub changes may be in use, or they reach as far as a stub.
-abbrev pub may_go_by_stub : Architecture → ℕ → Bool
-may_go_by_stub architectures.AArch64 code = code == 282 || code == 283
-may_go_by_stub architectures.LoongArch64 code = code == 66
-may_go_by_stub architectures.Ppc64 code = code == 10 || code == 116
-may_go_by_stub architecture code = false
+-- Branches that may go by a stub to a target that they don't reach: of the forms of
+-- `R_AARCH64_CALL26`, `R_LARCH_B26` and `R_PPC64_REL24`. At others a register that a stub changes
+-- may be in use, or they reach as far as a stub.
+abbrev pub has_call_form : RelocationSize → Bool
+has_call_form (BitMasking bits (AArch64 JumpCall)) = true
+has_call_form (BitMasking bits (LoongArch64 Branch26)) = true
+has_call_form (BitMasking bits (Ppc64 Branch24)) = true
+has_call_form size = false
 
--- PowerPC64's `R_PPC64_REL24` and `R_PPC64_REL14`, of code that has a TOC pointer, and
--- `R_PPC64_REL24_NOTOC`, of code that has none (64-Bit ELF V2 ABI, "Relocation Types")
+abbrev pub may_go_by_stub : RelocationKindInfo → Bool
+may_go_by_stub row = is_relative row.kind && has_call_form row.size
+
+-- PowerPC64's branches of code that has a TOC pointer, and of code that has none (64-Bit ELF V2
+-- ABI, "Relocation Types")
 abbrev pub has_toc : Architecture → ℕ → Bool
-has_toc architectures.Ppc64 code = code == 10 || code == 11
+has_toc architectures.Ppc64 code =
+    code == code_of (ppc64_name ppc64.R_PPC64_REL24) || code == code_of (ppc64_name ppc64.R_PPC64_REL14)
 has_toc architecture code = false
 
 abbrev pub has_no_toc : Architecture → ℕ → Bool
-has_no_toc architectures.Ppc64 code = code == 116
+has_no_toc architectures.Ppc64 code = code == code_of (ppc64_name ppc64.R_PPC64_REL24_NOTOC)
 has_no_toc architecture code = false
 
 -- ---- the function that a branch goes to (64-Bit ELF V2 ABI, "Symbol Values")
 
--- the branch enters a function of the output itself: not a stub of it, and not one that nothing
--- defines
-abbrev pub is_entered : Symbol → Bool
-is_entered symbol = symbol.stub == 0 && not symbol.is_undefined_weak
-
--- The function may leave another TOC pointer, which `st_other` says, and the caller needs its own.
+-- The function may leave another TOC pointer, and the caller needs its own.
 abbrev pub loses_toc : Architecture → ℕ → Symbol → Bool
-loses_toc architecture code symbol =
-    has_toc architecture code && (is_entered symbol && symbol.other / 32 == 1)
+loses_toc architecture code symbol = has_toc architecture code && changes_toc symbol
 
--- The function has a local entry point, where it takes the TOC pointer of its caller, which has
--- none: it has to be entered at the global one, with its address in r12.
+-- The function of the output has a local entry point, where it takes the TOC pointer of its caller,
+-- which has none: it has to be entered at the global one, with its address in r12.
 abbrev pub lacks_toc : Architecture → ℕ → Symbol → Bool
 lacks_toc architecture code symbol =
-    has_no_toc architecture code && (is_entered symbol && nat_lt 1 (symbol.other / 32))
+    has_no_toc architecture code
+    && (symbol.stub == 0 && (not symbol.is_undefined_weak && nat_lt 1 (symbol.other / 32)))
 
 -- where a stub goes for a branch: to the local entry point for code with the same TOC pointer
-abbrev pub behind_global : Architecture → ℕ → Symbol → ℕ
-behind_global architecture code symbol =
+abbrev pub after_global : Architecture → ℕ → Symbol → ℕ
+after_global architecture code symbol =
     if has_toc architecture code then local_entry symbol.other else 0
 
 abbrev pub callee_of : Architecture → ℕ → Symbol → ℕ
 callee_of architecture code symbol =
-    if symbol.stub == 0 then sum_64 symbol.address (behind_global architecture code symbol)
+    if symbol.stub == 0 then sum_64 symbol.address (after_global architecture code symbol)
     else symbol.stub
 
 -- with the addend
@@ -114,28 +124,28 @@ IsObstacle row v offset section (Some error) = IsRejected row v offset section e
 
 -- Directly where the branch can be written. By a stub where it doesn't reach its target, and may go
 -- by one. Nothing leads to what nothing defines.
-abbrev pub is_served : Architecture → ℕ → Symbol → Bool
-is_served architecture code symbol =
-    may_go_by_stub architecture code
-    && (not (symbol.stub == 0) || not symbol.is_undefined_weak)
+abbrev pub is_served : RelocationKindInfo → Symbol → Bool
+is_served row symbol =
+    may_go_by_stub row && (not (symbol.stub == 0) || not symbol.is_undefined_weak)
 
-abbrev pub by_reach : Description → Symbol → Rela → Option RelocateError → Result Route RouteError
-by_reach target symbol r None = Ok Direct
-by_reach target symbol r (Some OutOfReach) =
-    if is_served target.instructions r.code symbol then
+abbrev pub by_reach : Description → RelocationKindInfo → Symbol → Rela → Option RelocateError
+    → Result Route RouteError
+by_reach target row symbol r None = Ok Direct
+by_reach target row symbol r (Some OutOfReach) =
+    if is_served row symbol then
     by_jump target.jump_stub false false (stub_target target.instructions symbol r)
     else Err (errors.Write OutOfReach)
-by_reach target symbol r (Some error) = Err (errors.Write error)
+by_reach target row symbol r (Some error) = Err (errors.Write error)
 
 -- by a stub also where the callee wouldn't get, or the caller wouldn't keep, the TOC pointer
-abbrev pub route_by : Description → Symbol → Rela → Bool → Option RelocateError
+abbrev pub route_by : Description → RelocationKindInfo → Symbol → Rela → Bool → Option RelocateError
     → Result Route RouteError
-route_by target symbol r has_room obstacle =
+route_by target row symbol r has_room obstacle =
     if loses_toc target.instructions r.code symbol
     || lacks_toc target.instructions r.code symbol then
     by_jump target.jump_stub (loses_toc target.instructions r.code symbol) has_room
     (stub_target target.instructions symbol r)
-    else by_reach target symbol r obstacle
+    else by_reach target row symbol r obstacle
 
 -- ---- routes of relocations
 
@@ -152,7 +162,7 @@ IsRouteOf target symbol r section row (Ok None) result = result ≡ Err errors.N
 IsRouteOf target symbol r section row (Ok (Some v)) result =
     (has_room : Bool) × (IsTrue has_room ↔ HasRoom section r.offset)
     × (obstacle : Option RelocateError) × IsObstacle row v r.offset section obstacle
-    × (result ≡ route_by target symbol r has_room obstacle)
+    × (result ≡ route_by target row symbol r has_room obstacle)
 
 -- of a relocation with a row, for whose target a stub may serve or not
 abbrev pub IsRouteBy : Bool → Description → Addresses → Symbol → Rela → List ℕ → RelocationKindInfo
@@ -205,7 +215,7 @@ IsWordRoute target r word section result =
 -- stub leads to.
 abbrev pub StubsServe : Type 0
 StubsServe =
-    (target : Description) (symbol : Symbol) (r : Rela) (stub : ℕ) → stub ≢ 0
-    → (has_room : Bool) (obstacle : Option RelocateError)
-    → route_by target (record symbol { stub = stub }) r has_room obstacle
-    ≡ by_reach target (record symbol { stub = stub }) r obstacle
+    (target : Description) (row : RelocationKindInfo) (symbol : Symbol) (r : Rela) (stub : ℕ)
+    → stub ≢ 0 → (has_room : Bool) (obstacle : Option RelocateError)
+    → route_by target row (record symbol { stub = stub }) r has_room obstacle
+    ≡ by_reach target row (record symbol { stub = stub }) r obstacle

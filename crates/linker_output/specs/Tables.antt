@@ -1,11 +1,12 @@
 -- The vocabulary of the architectures' tables.
-use Rattle.std.specs.Prelude.{ℕ, List, [], ◌∷◌, ◌++◌, Some, None}
+use Rattle.std.specs.Prelude.{ℕ, List, [], ◌∷◌, ◌++◌, Option, Some, None, pos}
 use Rattle.std.specs.Int.{w32, to_le_bytes}
 use Rattle.linker_elf.specs.Elf.{bit_bounds}
-use Rattle.linker_elf.specs.ElfNames.{ElfName, code_of}
+use Rattle.linker_elf.specs.ElfNames.{ElfName, code_of, text_of}
 use Rattle.linker_elf.specs.declared.elf.Sign.TheVariants.{Signed}
 use Rattle.linker_output.specs.Dynamic.{DynamicKind}
 use Rattle.linker_output.specs.Layout.{Path}
+use Rattle.linker_output.specs.Stubs.{StubCode}
 use Rattle.linker_output.specs.View.{Symbol}
 use Rattle.linker_output.specs.declared.addresses.WordLoad.{WordLoad}
 use Rattle.linker_output.specs.declared.flags.FlagRules.{FlagRules}
@@ -15,6 +16,9 @@ use Rattle.linker_output.specs.declared.stubs.StubField.{StubField}
 
 abbrev pub kind : ℕ → List ℕ → DynamicKind
 kind code name = record { code = code; name = name }
+
+abbrev pub kind_of : ElfName → DynamicKind
+kind_of name = kind (code_of name) (text_of name)
 
 -- instructions of so many bytes, whatever `e_flags` is
 abbrev pub units_of : ℕ → CodeUnit
@@ -59,4 +63,18 @@ field_of_32 offset name =
       offset = offset;
       relocation = code_of name;
       range = record { bounds = Some (bit_bounds 32 Signed) };
+    }
+
+-- a stub of two instructions with the fields, and those after them
+abbrev pub plain_stub : ℕ → ℕ → StubField → Option StubField → List ℕ → StubCode
+plain_stub one two first second tail =
+    record {
+      head = [];
+      pair = code_of_words (one ∷ two ∷ []);
+      first = first;
+      second = second;
+      tail = code_of_words tail;
+      entry = 0;
+      origin = 0;
+      addend = pos 0;
     }

@@ -3,7 +3,8 @@
 use Rattle.std.specs.Prelude.{codes, [], ◌∷◌, None, Some, negsuc}
 use Rattle.linker_elf.specs.X86Relocations.{x86_64_name}
 use Rattle.linker_elf.specs.declared.x86_64.relocations.X86_64Relocation.TheVariants as r
-use Rattle.linker_output.specs.Tables.{field_of, kind, units_of, no_flags, symbol, only, four}
+use Rattle.linker_output.specs.Tables.{field_of, kind, kind_of, units_of, no_flags, symbol, only}
+use Rattle.linker_output.specs.Tables.{four}
 use Rattle.linker_output.specs.View.{Description}
 use Rattle.linker_output.specs.declared.got.ThreadPointer.TheVariants.{AboveImage}
 use Rattle.linker_output.specs.declared.layout.SymbolPlace.TheVariants.{ThreadLocal}
@@ -14,15 +15,15 @@ x86_64_output =
     record {
       dynamic =
           record {
-            word = kind 1 (codes "R_X86_64_64");
+            word = kind_of (x86_64_name r.R_X86_64_64);
             relative = kind 8 (codes "R_X86_64_RELATIVE");
             glob_dat = kind 6 (codes "R_X86_64_GLOB_DAT");
             jump_slot = kind 7 (codes "R_X86_64_JUMP_SLOT");
             copy = kind 5 (codes "R_X86_64_COPY");
             irelative = kind 37 (codes "R_X86_64_IRELATIVE");
             module_number = kind 16 (codes "R_X86_64_DTPMOD64");
-            module_offset = kind 17 (codes "R_X86_64_DTPOFF64");
-            thread_offset = kind 18 (codes "R_X86_64_TPOFF64");
+            module_offset = kind_of (x86_64_name r.R_X86_64_DTPOFF64);
+            thread_offset = kind_of (x86_64_name r.R_X86_64_TPOFF64);
             descriptor = Some (kind 36 (codes "R_X86_64_TLSDESC"));
           };
       thread_pointer = AboveImage;

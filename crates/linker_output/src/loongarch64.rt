@@ -4,7 +4,7 @@ use crate::description::Target;
 use crate::dynamic::{DynamicType, DynamicTypes, named};
 use crate::flags::FlagRules;
 use crate::got::{GotLayout, ThreadPointer};
-use crate::layout::{CodeUnit, Interpreter};
+use crate::layout::{Interpreter, WORDS};
 use crate::stubs::{Stub, StubField, field};
 use linker_utils::elf::{AllowedRange, Architecture};
 
@@ -33,11 +33,7 @@ pub(crate) static TARGET: Target = Target {
     },
     address_section: None,
     page: 0x10000,
-    code_unit: CodeUnit {
-        len: 4,
-        flag: 0,
-        flagged_len: 4,
-    },
+    code_unit: WORDS,
     filler: [0, 0, 0x2a, 0],
     flags: FlagRules {
         same: 0xc7,
@@ -68,8 +64,8 @@ pub(crate) static TARGET: Target = Target {
             0x0f, 0, 0, 0x1a, // pcalau12i $t3, 0
             0xef, 1, 0xc0, 0x28, // ld.d $t3, $t3, 0
         ],
-        first: field!(0, 75, -0x8000_0000, 0x8000_0000),
-        second: Some(field!(4, 76)),
+        first: field!(0, (R_LARCH_GOT_PC_HI20, signed 32)),
+        second: Some(field!(4, R_LARCH_GOT_PC_LO12)),
         tail: &[
             0xe0, 1, 0, 0x4c, // jirl $zero, $t3, 0
         ],
@@ -83,7 +79,7 @@ pub(crate) static TARGET: Target = Target {
             0x0f, 0, 0, 0x1e, // pcaddu18i $t3, 0
             0xe0, 1, 0, 0x4c, // jirl $zero, $t3, 0
         ],
-        first: field!(0, 110),
+        first: field!(0, R_LARCH_CALL36),
         second: None,
         tail: &[],
         entry: 0,

@@ -8,7 +8,8 @@
 
 ghost use Rattle.std.specs.Prelude.{◌≡◌, ◌+◌, ◌*◌, ◌<◌, ◌≤◌, ◌^◌, ℕ, length, IfOk, IfErr, vec_len};
 ghost use Rattle.std.specs.Prelude.{true, false};
-ghost use Rattle.linker_output.specs.Placement.{at, AreUsed, IsCode, IsPlaced, IsPlaceCause};
+ghost use Rattle.linker_output.specs.Placement.{at, AreUsed, HasAllUsed, IsCode, IsPlaced};
+ghost use Rattle.linker_output.specs.Placement.{IsPlacement, IsPlaceCause, IsShared, SharesStubs};
 ghost use Rattle.linker_output.specs.Inner.Placement.{IsState, AreStubsOf};
 ghost use Rattle.linker_output.specs.declared.placement.Way.TheVariants.{Near, Far};
 
@@ -273,7 +274,8 @@ impl State {
 
 /// Whether a branch goes by each of `len` stubs.
 fn are_used(alloc: Global, stubs: &[Option<usize>], len: usize) -> Result<bool, OutOfMemory>
-    ensures { IfOk result (λ used. used ≡ true → AreUsed stubs.now len) }
+    ensures used { IfOk result (λ used. used ≡ true → AreUsed stubs.now len) }
+    ensures unused { IfOk result (λ used. used ≡ false → ¬ AreUsed stubs.now len) }
 {
     let mut used = vec![in alloc; false; len]?;
     for stub in stubs {
@@ -303,14 +305,11 @@ fn zeros(alloc: Global, len: usize) -> Result<Vec<u64>, OutOfMemory>
 /// stubs that aren't at a boundary next to them, a stub may be left that no branch goes by.
 fn place_by(alloc: Global, code: &Code<'_>, may_share: bool) -> Result<Placement, PlaceError>
     requires { IsCode code.now }
-    ensures ok { IfOk result (λ placement.
-        AreUsed placement.stubs.items (length placement.layout.stubs.items)
-        → IsPlaced code.now placement) }
+    ensures ok { IfOk result (IsPlacement code.now) }
+    ensures shared { may_share ≡ true → IfOk result (IsShared code.now) }
     ensures few { IfOk result (λ placement. length placement.layout.stubs.items
         ≤ 2 * length code.now.branches.now) }
-    ensures used { may_share ≡ false
-        → IfOk result (λ placement. AreUsed placement.stubs.items
-        (length placement.layout.stubs.items)) }
+    ensures used { may_share ≡ false → IfOk result HasAllUsed }
     ensures err { IfErr result (IsPlaceCause code.now) }
 {
     let mut state = State::new(alloc, code, may_share)?;
@@ -339,9 +338,10 @@ fn place_by(alloc: Global, code: &Code<'_>, may_share: bool) -> Result<Placement
 /// index of it. One that is about a layout has it.
 ///
 /// A branch that doesn't reach its target shares the stub of it that was used last, if that is in
-/// reach. Else a stub is placed for it within half of its reach ahead, or at the boundary next to
-/// it, unless the target has one there. Each stub has a branch that goes by it, and a branch goes by
-/// none that reaches its target with the bytes of all stubs that there may be in between.
+/// reach. Else a stub is placed for it at the last boundary within half of its reach ahead, if that
+/// is beyond the next one, or at a boundary next to it, unless the target has one there. Each stub
+/// has a branch that goes by it, and a branch goes by none that reaches its target with the bytes of
+/// all stubs that there may be in between.
 ///
 /// Offsets move by the stubs before them, so that this is done again until each branch is in reach.
 /// A pass takes O((n + s) log b) for n branches, s stubs and b boundaries, and there are a few.
@@ -365,6 +365,7 @@ fn place_by(alloc: Global, code: &Code<'_>, may_share: bool) -> Result<Placement
 /// ```
 pub fn place_stubs(alloc: Global, code: &Code<'_>) -> Result<Placement, PlaceError>
     ensures ok { IfOk result (IsPlaced code.now) }
+    ensures shared { IfOk result (SharesStubs code.now) }
     ensures few { IfOk result (λ placement. length placement.layout.stubs.items
         ≤ 2 * length code.now.branches.now) }
     ensures err { IfErr result (IsPlaceCause code.now) }

@@ -1,13 +1,85 @@
 //! What a linker adds to an output of PowerPC64.
 
 use crate::addresses::{AddressSection, WordLoad};
+use crate::codes::code;
 use crate::description::Target;
 use crate::dynamic::{DynamicType, DynamicTypes, named};
 use crate::flags::FlagRules;
 use crate::got::{GotHeader, GotLayout, ThreadPointer};
-use crate::layout::{CodeUnit, Interpreter, ProvidedRun, ProvidedSymbol, RunWord, SymbolPlace};
+use crate::layout::{Interpreter, ProvidedRun, ProvidedSymbol, RunWord, SymbolPlace, WORDS};
 use crate::stubs::{Stub, StubField, field};
 use linker_utils::elf::{AllowedRange, Architecture};
+
+/// `std 0, 16(1)`.
+const SAVE_LINK: u32 = 0xf801_0010;
+
+/// `ld 0, 16(1)`.
+const LOAD_LINK: u32 = 0xe801_0010;
+
+/// `mtlr 0`.
+const MTLR_0: u32 = 0x7c08_03a6;
+
+/// `blr`.
+const BLR: u32 = 0x4e80_0020;
+
+/// The functions of registers 14 to 31, by the first instruction and those after the last one.
+macro_rules! of_registers {
+    ($prefix:literal, $word:literal, $tail:expr) => {
+        ProvidedRun {
+            prefix: $prefix,
+            first: 14,
+            count: 18,
+            word: $word,
+            step: 0x20_0008,
+            second: None,
+            tail: $tail,
+        }
+    };
+}
+
+/// The functions of vector registers 20 to 31, by the second instruction; the first is
+/// `addi 12, 0, -192`.
+macro_rules! of_vectors {
+    ($prefix:literal, $word:literal) => {
+        ProvidedRun {
+            prefix: $prefix,
+            first: 20,
+            count: 12,
+            word: 0x3980_ff40,
+            step: 0x10,
+            second: Some(RunWord {
+                word: $word,
+                step: 0x20_0000,
+            }),
+            tail: &[BLR],
+        }
+    };
+}
+
+/// A stub by its pair of instructions, and the relocation of the second one.
+macro_rules! stub {
+    ($pair:expr, $second:ident) => {
+        Stub {
+            head: &[
+                0x18, 0, 0x41, 0xf8, // std 2, 24(1)
+                0xa6, 2, 8, 0x7c, // mflr 0
+                5, 0, 0x9f, 0x42, // bcl 20, 31, .+4
+                0xa6, 2, 0x88, 0x7d, // mflr 12
+                0xa6, 3, 8, 0x7c, // mtlr 0
+            ],
+            pair: $pair,
+            first: field!(0, R_PPC64_TOC16_HA),
+            second: Some(field!(4, $second)),
+            tail: &[
+                0xa6, 3, 0x89, 0x7d, // mtctr 12
+                0x20, 4, 0x80, 0x4e, // bctr
+            ],
+            entry: 4,
+            origin: 12,
+            addend: 0,
+        }
+    };
+}
 
 /// The description.
 pub(crate) static TARGET: Target = Target {
@@ -35,29 +107,22 @@ pub(crate) static TARGET: Target = Target {
     address_section: Some(AddressSection {
         name: ".toc",
         loads: &[
-            // R_PPC64_TOC16_HA and R_PPC64_GOT16_HA
             WordLoad {
-                word: 50,
-                entry: 17,
+                word: code!(R_PPC64_TOC16_HA),
+                entry: code!(R_PPC64_GOT16_HA),
             },
-            // R_PPC64_TOC16_LO and R_PPC64_GOT16_LO
             WordLoad {
-                word: 48,
-                entry: 15,
+                word: code!(R_PPC64_TOC16_LO),
+                entry: code!(R_PPC64_GOT16_LO),
             },
-            // R_PPC64_TOC16_LO_DS and R_PPC64_GOT16_LO_DS
             WordLoad {
-                word: 64,
-                entry: 59,
+                word: code!(R_PPC64_TOC16_LO_DS),
+                entry: code!(R_PPC64_GOT16_LO_DS),
             },
         ],
     }),
     page: 0x10000,
-    code_unit: CodeUnit {
-        len: 4,
-        flag: 0,
-        flagged_len: 4,
-    },
+    code_unit: WORDS,
     filler: [0x8, 0, 0xe0, 0x7f],
     flags: FlagRules {
         same: 0,
@@ -70,92 +135,14 @@ pub(crate) static TARGET: Target = Target {
         offset: 0x8000,
     }],
     runs: &[
-        // `std 14,-144(1)` and so on
-        ProvidedRun {
-            prefix: "_savegpr0_",
-            first: 14,
-            count: 18,
-            word: 0xf9c1_ff70,
-            step: 0x20_0008,
-            second: None,
-            tail: &[0xf801_0010, 0x4e80_0020],
-        },
-        // `ld 14,-144(1)` and so on
-        ProvidedRun {
-            prefix: "_restgpr0_",
-            first: 14,
-            count: 18,
-            word: 0xe9c1_ff70,
-            step: 0x20_0008,
-            second: None,
-            tail: &[0xe801_0010, 0x7c08_03a6, 0x4e80_0020],
-        },
-        // `std 14,-144(12)` and so on
-        ProvidedRun {
-            prefix: "_savegpr1_",
-            first: 14,
-            count: 18,
-            word: 0xf9cc_ff70,
-            step: 0x20_0008,
-            second: None,
-            tail: &[0x4e80_0020],
-        },
-        // `ld 14,-144(12)` and so on
-        ProvidedRun {
-            prefix: "_restgpr1_",
-            first: 14,
-            count: 18,
-            word: 0xe9cc_ff70,
-            step: 0x20_0008,
-            second: None,
-            tail: &[0x4e80_0020],
-        },
-        // `stfd 14,-144(1)` and so on
-        ProvidedRun {
-            prefix: "_savefpr_",
-            first: 14,
-            count: 18,
-            word: 0xd9c1_ff70,
-            step: 0x20_0008,
-            second: None,
-            tail: &[0xf801_0010, 0x4e80_0020],
-        },
-        // `lfd 14,-144(1)` and so on
-        ProvidedRun {
-            prefix: "_restfpr_",
-            first: 14,
-            count: 18,
-            word: 0xc9c1_ff70,
-            step: 0x20_0008,
-            second: None,
-            tail: &[0xe801_0010, 0x7c08_03a6, 0x4e80_0020],
-        },
-        // `addi 12,0,-192` and `stvx 20,12,0`, and so on
-        ProvidedRun {
-            prefix: "_savevr_",
-            first: 20,
-            count: 12,
-            word: 0x3980_ff40,
-            step: 0x10,
-            second: Some(RunWord {
-                word: 0x7e8c_01ce,
-                step: 0x20_0000,
-            }),
-            tail: &[0x4e80_0020],
-        },
-        // `addi 12,0,-192` and `lvx 20,12,0`, and so on
-        ProvidedRun {
-            prefix: "_restvr_",
-            first: 20,
-            count: 12,
-            word: 0x3980_ff40,
-            step: 0x10,
-            second: Some(RunWord {
-                word: 0x7e8c_00ce,
-                step: 0x20_0000,
-            }),
-            tail: &[0x4e80_0020],
-        },
+        of_registers!("_savegpr0_", 0xf9c1_ff70, &[SAVE_LINK, BLR]), // std 14,-144(1)
+        of_registers!("_restgpr0_", 0xe9c1_ff70, &[LOAD_LINK, MTLR_0, BLR]), // ld 14,-144(1)
+        of_registers!("_savegpr1_", 0xf9cc_ff70, &[BLR]), // std 14,-144(12)
+        of_registers!("_restgpr1_", 0xe9cc_ff70, &[BLR]), // ld 14,-144(12)
+        of_registers!("_savefpr_", 0xd9c1_ff70, &[SAVE_LINK, BLR]), // stfd 14,-144(1)
+        of_registers!("_restfpr_", 0xc9c1_ff70, &[LOAD_LINK, MTLR_0, BLR]), // lfd 14,-144(1)
+        of_vectors!("_savevr_", 0x7e8c_01ce), // stvx 20,12,0
+        of_vectors!("_restvr_", 0x7e8c_00ce), // lvx 20,12,0
     ],
     interpreter_flags: 0,
     interpreters: &[Interpreter {
@@ -163,48 +150,18 @@ pub(crate) static TARGET: Target = Target {
         path: "/lib64/ld64.so.2",
     }],
     instructions: Architecture::Ppc64,
-    load_stub: Stub {
-        head: &[
-            0x18, 0, 0x41, 0xf8, // std 2, 24(1)
-            0xa6, 2, 8, 0x7c, // mflr 0
-            5, 0, 0x9f, 0x42, // bcl 20, 31, .+4
-            0xa6, 2, 0x88, 0x7d, // mflr 12
-            0xa6, 3, 8, 0x7c, // mtlr 0
-        ],
-        pair: [
+    load_stub: stub!(
+        [
             0, 0, 0x8c, 0x3d, // addis 12, 12, 0
             0, 0, 0x8c, 0xe9, // ld 12, 0(12)
         ],
-        first: field!(0, 50),
-        second: Some(field!(4, 64)),
-        tail: &[
-            0xa6, 3, 0x89, 0x7d, // mtctr 12
-            0x20, 4, 0x80, 0x4e, // bctr
-        ],
-        entry: 4,
-        origin: 12,
-        addend: 0,
-    },
-    jump_stub: Some(Stub {
-        head: &[
-            0x18, 0, 0x41, 0xf8, // std 2, 24(1)
-            0xa6, 2, 8, 0x7c, // mflr 0
-            5, 0, 0x9f, 0x42, // bcl 20, 31, .+4
-            0xa6, 2, 0x88, 0x7d, // mflr 12
-            0xa6, 3, 8, 0x7c, // mtlr 0
-        ],
-        pair: [
+        R_PPC64_TOC16_LO_DS
+    ),
+    jump_stub: Some(stub!(
+        [
             0, 0, 0x8c, 0x3d, // addis 12, 12, 0
             0, 0, 0x8c, 0x39, // addi 12, 12, 0
         ],
-        first: field!(0, 50),
-        second: Some(field!(4, 48)),
-        tail: &[
-            0xa6, 3, 0x89, 0x7d, // mtctr 12
-            0x20, 4, 0x80, 0x4e, // bctr
-        ],
-        entry: 4,
-        origin: 12,
-        addend: 0,
-    }),
+        R_PPC64_TOC16_LO
+    )),
 };

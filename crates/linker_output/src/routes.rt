@@ -1,11 +1,11 @@
 //! How branches go to their targets: directly, or by a stub.
 
 ghost use Rattle.std.specs.Prelude.{◌≡◌, ◌↔◌, ◌≤◌, ◌+◌, IsTrue, IfNone, IfSome, length, drop};
-ghost use Rattle.std.specs.Prelude.{Ok, Some};
+ghost use Rattle.std.specs.Prelude.{Ok, Some, ◌==◌, ◌&&◌, not};
 ghost use Rattle.std.specs.Int.{w32, from_le_bytes};
 ghost use Rattle.linker_elf.specs.Relocate.{IsAccepted, IsCause};
-ghost use Rattle.linker_output.specs.Routes.{may_go_by_stub, has_toc, has_no_toc, is_entered};
-ghost use Rattle.linker_output.specs.Routes.{loses_toc, lacks_toc, behind_global, callee_of};
+ghost use Rattle.linker_output.specs.Routes.{may_go_by_stub, has_call_form, has_toc, has_no_toc};
+ghost use Rattle.linker_output.specs.Routes.{loses_toc, lacks_toc, after_global, callee_of};
 ghost use Rattle.linker_output.specs.Routes.{stub_target, can_restore, HasRoom, by_stub, by_jump};
 ghost use Rattle.linker_output.specs.Routes.{IsObstacle, is_served, by_reach, route_by, IsRouteOf};
 ghost use Rattle.linker_output.specs.Routes.{IsValueOf, IsRoute, IsWordRoute};
@@ -21,7 +21,11 @@ use linker_section::facts::{Addresses, Symbol};
 use linker_section::needed::needs;
 use linker_section::relocations::Rela;
 use linker_section::values::{ValueError, value};
-use linker_utils::elf::{Architecture, RelocateError, Row};
+use linker_utils::elf::{
+    AArch64Instruction, Architecture, LoongArch64Instruction, Ppc64Instruction, RelocateError,
+    RelocationInstruction, RelocationKind, RelocationSize, Row,
+};
+use linker_utils::ppc64::Ppc64Relocation;
 
 /// How a branch goes.
 #[derive(Debug, Clone, Copy, PartialEq, Eq)]
@@ -61,38 +65,52 @@ pub enum RouteError {
 
 /// Whether a branch may go by a stub to a target that it doesn't reach.
 #[inline(always)]
-fn may_go_by_stub(architecture: Architecture, code: u32) -> bool
-    ensures { result ≡ may_go_by_stub architecture code }
+fn may_go_by_stub(row: &Row) -> bool
+    ensures { result ≡ may_go_by_stub row.now }
 {
-    match architecture {
-        // R_AARCH64_JUMP26, R_AARCH64_CALL26
-        Architecture::AArch64 => code == 282 || code == 283,
-        // R_LARCH_B26
-        Architecture::LoongArch64 => code == 66,
-        // R_PPC64_REL24, R_PPC64_REL24_NOTOC
-        Architecture::Ppc64 => code == 10 || code == 116,
-        Architecture::RiscV | Architecture::X86_64 => false,
-    }
+    matches!(
+        row.kind(),
+        RelocationKind::Relative | RelocationKind::PltRelative
+    ) && has_call_form(row.info().size)
 }
 
-/// Whether it is `R_PPC64_REL24` or `R_PPC64_REL14`.
+/// Whether a field is that of `R_AARCH64_CALL26`, `R_LARCH_B26` or `R_PPC64_REL24`.
+#[inline(always)]
+fn has_call_form(size: RelocationSize) -> bool
+    ensures { result ≡ has_call_form size }
+{
+    let RelocationSize::BitMasking { insn, .. } = size else {
+        return false;
+    };
+    matches!(
+        insn,
+        RelocationInstruction::AArch64(AArch64Instruction::JumpCall)
+            | RelocationInstruction::LoongArch64(LoongArch64Instruction::Branch26)
+            | RelocationInstruction::Ppc64(Ppc64Instruction::Branch24)
+    )
+}
+
+/// Whether it is a branch of PowerPC64's code that has a TOC pointer.
 #[inline(always)]
 fn has_toc(architecture: Architecture, code: u32) -> bool
     ensures { result ≡ has_toc architecture code }
 {
     match architecture {
-        Architecture::Ppc64 => code == 10 || code == 11,
+        Architecture::Ppc64 => {
+            code == Ppc64Relocation::R_PPC64_REL24.elf_code()
+                || code == Ppc64Relocation::R_PPC64_REL14.elf_code()
+        }
         _ => false,
     }
 }
 
-/// Whether it is `R_PPC64_REL24_NOTOC`.
+/// Whether it is a branch of PowerPC64's code that has none.
 #[inline(always)]
 fn has_no_toc(architecture: Architecture, code: u32) -> bool
     ensures { result ≡ has_no_toc architecture code }
 {
     match architecture {
-        Architecture::Ppc64 => code == 116,
+        Architecture::Ppc64 => code == Ppc64Relocation::R_PPC64_REL24_NOTOC.elf_code(),
         _ => false,
     }
 }
@@ -100,7 +118,7 @@ fn has_no_toc(architecture: Architecture, code: u32) -> bool
 /// Whether a branch to a symbol enters a function of the output itself.
 #[inline(always)]
 fn is_entered(symbol: &Symbol) -> bool
-    ensures { result ≡ is_entered symbol.now }
+    ensures { result ≡ (symbol.now.stub == 0 && not symbol.now.is_undefined_weak) }
 {
     symbol.stub == 0 && !symbol.is_undefined_weak
 }
@@ -110,7 +128,7 @@ fn is_entered(symbol: &Symbol) -> bool
 fn loses_toc(architecture: Architecture, code: u32, symbol: &Symbol) -> bool
     ensures { result ≡ loses_toc architecture code symbol.now }
 {
-    has_toc(architecture, code) && (is_entered(symbol) && symbol.other / 32 == 1)
+    has_toc(architecture, code) && is_entered(symbol) && symbol.other / 32 == 1
 }
 
 /// Whether the function takes a TOC pointer that the caller hasn't.
@@ -118,7 +136,7 @@ fn loses_toc(architecture: Architecture, code: u32, symbol: &Symbol) -> bool
 fn lacks_toc(architecture: Architecture, code: u32, symbol: &Symbol) -> bool
     ensures { result ≡ lacks_toc architecture code symbol.now }
 {
-    has_no_toc(architecture, code) && (is_entered(symbol) && 1 < symbol.other / 32)
+    has_no_toc(architecture, code) && is_entered(symbol) && 1 < symbol.other / 32
 }
 
 /// How far after a function's global entry point its local one is.
@@ -132,8 +150,8 @@ fn local_entry(other: u8) -> u64
 
 /// How far after a function's global entry point a stub goes.
 #[inline(always)]
-fn behind_global(architecture: Architecture, code: u32, symbol: &Symbol) -> u64
-    ensures { result ≡ behind_global architecture code symbol.now }
+fn after_global(architecture: Architecture, code: u32, symbol: &Symbol) -> u64
+    ensures { result ≡ after_global architecture code symbol.now }
 {
     if has_toc(architecture, code) {
         local_entry(symbol.other)
@@ -148,8 +166,8 @@ fn callee_of(architecture: Architecture, code: u32, symbol: &Symbol) -> u64
     ensures { result ≡ callee_of architecture code symbol.now }
 {
     if symbol.stub == 0 {
-        let behind = behind_global(architecture, code, symbol);
-        symbol.address.wrapping_add(behind)
+        let offset = after_global(architecture, code, symbol);
+        symbol.address.wrapping_add(offset)
     } else {
         symbol.stub
     }
@@ -261,10 +279,10 @@ fn obstacle(row: &Row, value: i64, offset: u64, section: &[u8]) -> Option<Reloca
 
 /// Whether a stub may serve a branch that doesn't reach its target.
 #[inline(always)]
-fn is_served(architecture: Architecture, code: u32, symbol: &Symbol) -> bool
-    ensures { result ≡ is_served architecture code symbol.now }
+fn is_served(row: &Row, symbol: &Symbol) -> bool
+    ensures { result ≡ is_served row.now symbol.now }
 {
-    may_go_by_stub(architecture, code) && (symbol.stub != 0 || !symbol.is_undefined_weak)
+    may_go_by_stub(row) && (symbol.stub != 0 || !symbol.is_undefined_weak)
 }
 
 impl Target {
@@ -272,16 +290,17 @@ impl Target {
     #[inline(always)]
     fn by_reach(
         &self,
+        row: &Row,
         symbol: &Symbol,
         relocation: &Rela,
         obstacle: Option<RelocateError>,
     ) -> Result<Route, RouteError>
-        ensures { result ≡ by_reach (view self.now) symbol.now relocation.now obstacle }
+        ensures { result ≡ by_reach (view self.now) row.now symbol.now relocation.now obstacle }
     {
         match obstacle {
             None => Ok(Route::Direct),
             Some(RelocateError::OutOfReach) => {
-                if is_served(self.instructions, relocation.code, symbol) {
+                if is_served(row, symbol) {
                     let target = stub_target(self.instructions, symbol, relocation);
                     by_jump(&self.jump_stub, false, false, target)
                 } else {
@@ -296,12 +315,14 @@ impl Target {
     #[inline(always)]
     fn route_by(
         &self,
+        row: &Row,
         symbol: &Symbol,
         relocation: &Rela,
         has_room: bool,
         obstacle: Option<RelocateError>,
     ) -> Result<Route, RouteError>
-        ensures { result ≡ route_by (view self.now) symbol.now relocation.now has_room obstacle }
+        ensures { result
+            ≡ route_by (view self.now) row.now symbol.now relocation.now has_room obstacle }
     {
         let loses = loses_toc(self.instructions, relocation.code, symbol);
         let lacks = lacks_toc(self.instructions, relocation.code, symbol);
@@ -309,7 +330,7 @@ impl Target {
             let target = stub_target(self.instructions, symbol, relocation);
             by_jump(&self.jump_stub, loses, has_room, target)
         } else {
-            self.by_reach(symbol, relocation, obstacle)
+            self.by_reach(row, symbol, relocation, obstacle)
         }
     }
 
@@ -327,7 +348,7 @@ impl Target {
     {
         let is_room = has_room(section, relocation.offset);
         let cause = obstacle(row, value, relocation.offset, section);
-        self.route_by(symbol, relocation, is_room, cause)
+        self.route_by(row, symbol, relocation, is_room, cause)
     }
 
     /// The route of a relocation, by its value.

@@ -63,23 +63,19 @@ pub struct Stub {
     pub addend: i64,
 }
 
-/// A field at an offset, with the value of a relocation, from the first bound up and below the
-/// second.
+/// A field at an offset, with the value of a relocation, or a value of 32 signed bits of it.
 macro_rules! field {
-    ($offset:literal, $relocation:literal) => {
-        StubField {
-            offset: $offset,
-            relocation: $relocation,
-            range: AllowedRange { bounds: None },
-        }
+    ($offset:literal, $relocation:ident) => {
+        field!($offset, $relocation, None)
     };
-    ($offset:literal, $relocation:literal, $min:literal, $end:literal) => {
+    ($offset:literal, ($relocation:ident, signed 32)) => {
+        field!($offset, $relocation, Some((-0x8000_0000, 0x8000_0000)))
+    };
+    ($offset:literal, $relocation:ident, $bounds:expr) => {
         StubField {
             offset: $offset,
-            relocation: $relocation,
-            range: AllowedRange {
-                bounds: Some(($min, $end)),
-            },
+            relocation: $crate::codes::code!($relocation),
+            range: AllowedRange { bounds: $bounds },
         }
     };
 }

@@ -56,7 +56,7 @@ pub(crate) static TARGET: Target = Target {
     load_stub: Stub {
         head: &[],
         pair: [0xff, 0x25, 0, 0, 0, 0, 0xcc, 0xcc],
-        first: field!(2, 2),
+        first: field!(2, R_X86_64_PC32),
         second: None,
         tail: &[],
         entry: 0,

@@ -6,7 +6,7 @@ use crate::linker_output::description::Target;
 use crate::linker_output::dynamic::{DynamicType, DynamicTypes, named};
 use crate::linker_output::flags::FlagRules;
 use crate::linker_output::got::{GotLayout, ThreadPointer};
-use crate::linker_output::layout::{CodeUnit, Interpreter};
+use crate::linker_output::layout::{Interpreter, WORDS};
 use crate::linker_output::stubs::{Stub, StubField, field};
 use crate::elf::{AllowedRange, Architecture};
 
@@ -35,11 +35,7 @@ pub(crate) static TARGET: Target = Target {
     },
     address_section: None,
     page: 0x10000,
-    code_unit: CodeUnit {
-        len: 4,
-        flag: 0,
-        flagged_len: 4,
-    },
+    code_unit: WORDS,
     filler: [0, 0, 0, 0],
     flags: FlagRules {
         same: 0,
@@ -60,8 +56,8 @@ pub(crate) static TARGET: Target = Target {
             0x10, 0, 0, 0x90, // adrp x16, 0
             0x11, 2, 0x40, 0xf9, // ldr x17, [x16]
         ],
-        first: field!(0, 275),
-        second: Some(field!(4, 286)),
+        first: field!(0, R_AARCH64_ADR_PREL_PG_HI21),
+        second: Some(field!(4, R_AARCH64_LDST64_ABS_LO12_NC)),
         tail: &[
             0x20, 2, 0x1f, 0xd6, // br x17
         ],
@@ -75,8 +71,8 @@ pub(crate) static TARGET: Target = Target {
             0x10, 0, 0, 0x90, // adrp x16, 0
             0x10, 2, 0, 0x91, // add x16, x16, 0
         ],
-        first: field!(0, 275),
-        second: Some(field!(4, 277)),
+        first: field!(0, R_AARCH64_ADR_PREL_PG_HI21),
+        second: Some(field!(4, R_AARCH64_ADD_ABS_LO12_NC)),
         tail: &[
             0, 2, 0x1f, 0xd6, // br x16
         ],

@@ -16,6 +16,13 @@ pub struct CodeUnit {
     pub flagged_len: u64,
 }
 
+/// Instructions of 4 bytes, whatever `e_flags` is.
+pub(crate) const WORDS: CodeUnit = CodeUnit {
+    len: 4,
+    flag: 0,
+    flagged_len: 4,
+};
+
 /// Where a symbol is that a linker defines.
 #[derive(Debug, Clone, Copy, PartialEq, Eq)]
 pub enum SymbolPlace {

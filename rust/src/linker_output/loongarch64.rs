@@ -6,7 +6,7 @@ use crate::linker_output::description::Target;
 use crate::linker_output::dynamic::{DynamicType, DynamicTypes, named};
 use crate::linker_output::flags::FlagRules;
 use crate::linker_output::got::{GotLayout, ThreadPointer};
-use crate::linker_output::layout::{CodeUnit, Interpreter};
+use crate::linker_output::layout::{Interpreter, WORDS};
 use crate::linker_output::stubs::{Stub, StubField, field};
 use crate::elf::{AllowedRange, Architecture};
 
@@ -35,11 +35,7 @@ pub(crate) static TARGET: Target = Target {
     },
     address_section: None,
     page: 0x10000,
-    code_unit: CodeUnit {
-        len: 4,
-        flag: 0,
-        flagged_len: 4,
-    },
+    code_unit: WORDS,
     filler: [0, 0, 0x2a, 0],
     flags: FlagRules {
         same: 0xc7,
@@ -70,8 +66,8 @@ pub(crate) static TARGET: Target = Target {
             0x0f, 0, 0, 0x1a, // pcalau12i $t3, 0
             0xef, 1, 0xc0, 0x28, // ld.d $t3, $t3, 0
         ],
-        first: field!(0, 75, -0x8000_0000, 0x8000_0000),
-        second: Some(field!(4, 76)),
+        first: field!(0, (R_LARCH_GOT_PC_HI20, signed 32)),
+        second: Some(field!(4, R_LARCH_GOT_PC_LO12)),
         tail: &[
             0xe0, 1, 0, 0x4c, // jirl $zero, $t3, 0
         ],
@@ -85,7 +81,7 @@ pub(crate) static TARGET: Target = Target {
             0x0f, 0, 0, 0x1e, // pcaddu18i $t3, 0
             0xe0, 1, 0, 0x4c, // jirl $zero, $t3, 0
         ],
-        first: field!(0, 110),
+        first: field!(0, R_LARCH_CALL36),
         second: None,
         tail: &[],
         entry: 0,

@@ -74,8 +74,8 @@ pub(crate) static TARGET: Target = Target {
             0x17, 0x0e, 0, 0, // auipc t3, 0
             3, 0x3e, 0x0e, 0, // ld t3, 0(t3)
         ],
-        first: field!(0, 23),
-        second: Some(field!(4, 24)),
+        first: field!(0, R_RISCV_PCREL_HI20),
+        second: Some(field!(4, R_RISCV_PCREL_LO12_I)),
         tail: &[
             0x67, 0, 0x0e, 0, // jr t3
         ],

@@ -10,7 +10,11 @@ use crate::linker_section::facts::{Addresses, Symbol};
 use crate::linker_section::needed::needs;
 use crate::linker_section::relocations::Rela;
 use crate::linker_section::values::{ValueError, value};
-use crate::elf::{Architecture, RelocateError, Row};
+use crate::elf::{
+    AArch64Instruction, Architecture, LoongArch64Instruction, Ppc64Instruction, RelocateError,
+    RelocationInstruction, RelocationKind, RelocationSize, Row,
+};
+use crate::ppc64::Ppc64Relocation;
 
 /// How a branch goes.
 #[derive(Debug, Clone, Copy, PartialEq, Eq)]
@@ -50,32 +54,44 @@ pub enum RouteError {
 
 /// Whether a branch may go by a stub to a target that it doesn't reach.
 #[inline(always)]
-fn may_go_by_stub(architecture: Architecture, code: u32) -> bool {
-    match architecture {
-        // R_AARCH64_JUMP26, R_AARCH64_CALL26
-        Architecture::AArch64 => code == 282 || code == 283,
-        // R_LARCH_B26
-        Architecture::LoongArch64 => code == 66,
-        // R_PPC64_REL24, R_PPC64_REL24_NOTOC
-        Architecture::Ppc64 => code == 10 || code == 116,
-        Architecture::RiscV | Architecture::X86_64 => false,
-    }
+fn may_go_by_stub(row: &Row) -> bool {
+    matches!(
+        row.kind(),
+        RelocationKind::Relative | RelocationKind::PltRelative
+    ) && has_call_form(row.info().size)
 }
 
-/// Whether it is `R_PPC64_REL24` or `R_PPC64_REL14`.
+/// Whether a field is that of `R_AARCH64_CALL26`, `R_LARCH_B26` or `R_PPC64_REL24`.
+#[inline(always)]
+fn has_call_form(size: RelocationSize) -> bool {
+    let RelocationSize::BitMasking { insn, .. } = size else {
+        return false;
+    };
+    matches!(
+        insn,
+        RelocationInstruction::AArch64(AArch64Instruction::JumpCall)
+            | RelocationInstruction::LoongArch64(LoongArch64Instruction::Branch26)
+            | RelocationInstruction::Ppc64(Ppc64Instruction::Branch24)
+    )
+}
+
+/// Whether it is a branch of PowerPC64's code that has a TOC pointer.
 #[inline(always)]
 fn has_toc(architecture: Architecture, code: u32) -> bool {
     match architecture {
-        Architecture::Ppc64 => code == 10 || code == 11,
+        Architecture::Ppc64 => {
+            code == Ppc64Relocation::R_PPC64_REL24.elf_code()
+                || code == Ppc64Relocation::R_PPC64_REL14.elf_code()
+        }
         _ => false,
     }
 }
 
-/// Whether it is `R_PPC64_REL24_NOTOC`.
+/// Whether it is a branch of PowerPC64's code that has none.
 #[inline(always)]
 fn has_no_toc(architecture: Architecture, code: u32) -> bool {
     match architecture {
-        Architecture::Ppc64 => code == 116,
+        Architecture::Ppc64 => code == Ppc64Relocation::R_PPC64_REL24_NOTOC.elf_code(),
         _ => false,
     }
 }
@@ -89,13 +105,13 @@ fn is_entered(symbol: &Symbol) -> bool {
 /// Whether the function may leave another TOC pointer, and the caller needs its own.
 #[inline(always)]
 fn loses_toc(architecture: Architecture, code: u32, symbol: &Symbol) -> bool {
-    has_toc(architecture, code) && (is_entered(symbol) && symbol.other / 32 == 1)
+    has_toc(architecture, code) && is_entered(symbol) && symbol.other / 32 == 1
 }
 
 /// Whether the function takes a TOC pointer that the caller hasn't.
 #[inline(always)]
 fn lacks_toc(architecture: Architecture, code: u32, symbol: &Symbol) -> bool {
-    has_no_toc(architecture, code) && (is_entered(symbol) && 1 < symbol.other / 32)
+    has_no_toc(architecture, code) && is_entered(symbol) && 1 < symbol.other / 32
 }
 
 /// How far after a function's global entry point its local one is.
@@ -107,7 +123,7 @@ fn local_entry(other: u8) -> u64 {
 
 /// How far after a function's global entry point a stub goes.
 #[inline(always)]
-fn behind_global(architecture: Architecture, code: u32, symbol: &Symbol) -> u64 {
+fn after_global(architecture: Architecture, code: u32, symbol: &Symbol) -> u64 {
     if has_toc(architecture, code) {
         local_entry(symbol.other)
     } else {
@@ -119,8 +135,8 @@ fn behind_global(architecture: Architecture, code: u32, symbol: &Symbol) -> u64 
 #[inline(always)]
 fn callee_of(architecture: Architecture, code: u32, symbol: &Symbol) -> u64 {
     if symbol.stub == 0 {
-        let behind = behind_global(architecture, code, symbol);
-        symbol.address.wrapping_add(behind)
+        let offset = after_global(architecture, code, symbol);
+        symbol.address.wrapping_add(offset)
     } else {
         symbol.stub
     }
@@ -214,8 +230,8 @@ fn obstacle(row: &Row, value: i64, offset: u64, section: &[u8]) -> Option<Reloca
 
 /// Whether a stub may serve a branch that doesn't reach its target.
 #[inline(always)]
-fn is_served(architecture: Architecture, code: u32, symbol: &Symbol) -> bool {
-    may_go_by_stub(architecture, code) && (symbol.stub != 0 || !symbol.is_undefined_weak)
+fn is_served(row: &Row, symbol: &Symbol) -> bool {
+    may_go_by_stub(row) && (symbol.stub != 0 || !symbol.is_undefined_weak)
 }
 
 impl Target {
@@ -223,6 +239,7 @@ impl Target {
     #[inline(always)]
     fn by_reach(
         &self,
+        row: &Row,
         symbol: &Symbol,
         relocation: &Rela,
         obstacle: Option<RelocateError>,
@@ -230,7 +247,7 @@ impl Target {
         match obstacle {
             None => Ok(Route::Direct),
             Some(RelocateError::OutOfReach) => {
-                if is_served(self.instructions, relocation.code, symbol) {
+                if is_served(row, symbol) {
                     let target = stub_target(self.instructions, symbol, relocation);
                     by_jump(&self.jump_stub, false, false, target)
                 } else {
@@ -245,6 +262,7 @@ impl Target {
     #[inline(always)]
     fn route_by(
         &self,
+        row: &Row,
         symbol: &Symbol,
         relocation: &Rela,
         has_room: bool,
@@ -256,7 +274,7 @@ impl Target {
             let target = stub_target(self.instructions, symbol, relocation);
             by_jump(&self.jump_stub, loses, has_room, target)
         } else {
-            self.by_reach(symbol, relocation, obstacle)
+            self.by_reach(row, symbol, relocation, obstacle)
         }
     }
 
@@ -271,7 +289,7 @@ impl Target {
     ) -> Result<Route, RouteError> {
         let is_room = has_room(section, relocation.offset);
         let cause = obstacle(row, value, relocation.offset, section);
-        self.route_by(symbol, relocation, is_room, cause)
+        self.route_by(row, symbol, relocation, is_room, cause)
     }
 
     /// The route of a relocation, by its value.

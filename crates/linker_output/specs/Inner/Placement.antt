@@ -1,12 +1,12 @@
 -- What holds while stubs are placed.
-use Rattle.std.specs.Prelude.{◌≡◌, ◌≤◌, ◌<◌, ◌+◌, ◌*◌, ◌%◌, ◌⊎◌, ℕ, zero, suc, List, length}
+use Rattle.std.specs.Prelude.{◌≡◌, ◌≢◌, ◌≤◌, ◌<◌, ◌+◌, ◌*◌, ◌%◌, ◌⊎◌, ℕ, zero, suc, List, length}
 use Rattle.std.specs.Prelude.{slice_index_or, true, ⊤}
 use Rattle.std.specs.Prelude.{Option, Some, None}
 use Rattle.std.specs.List.{sum_by}
 use Rattle.linker_output.specs.Placement.{Reaches, at, branch_at, stub_at, group_at}
 use Rattle.linker_output.specs.Placement.{passed, stubs_in, size_of, place_of}
 use Rattle.linker_output.specs.Placement.{part_of, HasPart, AreTwo, ReachesAt, target_place}
-use Rattle.linker_output.specs.Placement.{AreOfTwo, HasSpare}
+use Rattle.linker_output.specs.Placement.{AreOfTwo, HasNoFar, HasSpare, IsFar, IsFarFrom, IsFirst}
 use Rattle.linker_output.specs.declared.placement.Branch.{Branch}
 use Rattle.linker_output.specs.declared.placement.Code.{Code}
 use Rattle.linker_output.specs.declared.placement.Group.{Group}
@@ -76,11 +76,14 @@ list_of lists boundary target = (boundary % 0x9e3779b1 * 0x9e3779b1 + target % 0
 abbrev pub list_at : ℕ → List StubAt → ℕ → ℕ
 list_at lists stubs j = list_of lists (stub_at stubs j).boundary (stub_at stubs j).target
 
--- A stub is one that branches share, or a branch goes by it for good.
+-- A stub is far ahead of a branch, or a branch next to it goes by it for good. Of the first stub of
+-- a target that branch has no boundary far ahead, where stubs may be shared.
 abbrev pub HasOwner : Code → State → ℕ → Type 0
 HasOwner code state j =
-    ((stub_at state.stubs.items j).part ≡ Middle × (state.may_share ≡ true))
-    ⊎ ((i : ℕ) × (i < length code.branches.now) × (way_at state.ways.items i ≡ Near j))
+    ((state.may_share ≡ true) × ((i : ℕ) × IsFarFrom code (stub_at state.stubs.items j) i))
+    ⊎ ((i : ℕ) × (i < length code.branches.now) × (way_at state.ways.items i ≡ Near j)
+    × (state.may_share ≡ true → IsFirst state.stubs.items j
+    → HasNoFar code (branch_at code.branches.now i)))
 
 -- Each list has all its stubs: its head is the last one, and each is followed by the one before it.
 pub record AreLists (lists : ℕ) (stubs : List StubAt) (heads nexts : List ℕ) : Type 0 where
@@ -158,18 +161,6 @@ pub record IsAt (stubs : List StubAt) (boundary : ℕ) (part : Part) (target s :
 abbrev pub HasNoneAt : List StubAt → ℕ → Part → ℕ → Type 0
 HasNoneAt stubs boundary part target = (s : ℕ) → ¬ IsAt stubs boundary part target s
 
--- a new stub would be near a branch, where it has to be
-abbrev pub IsNewNear : Code → State → ℕ → ℕ → Part → Type 0
-IsNewNear code state index boundary Middle = ⊤
-IsNewNear code state index boundary part =
-    IsNear code (branch_at code.branches.now index)
-    (record {
-      boundary = boundary;
-      part = part;
-      index = part_of part (group_at state.groups.items boundary);
-      target = (branch_at code.branches.now index).target;
-    })
-
 -- the stub that a branch would get in a part of a boundary
 abbrev pub new_stub : Code → State → Branch → ℕ → Part → StubAt
 new_stub code state branch boundary part =
@@ -179,6 +170,26 @@ new_stub code state branch boundary part =
       index = part_of part (group_at state.groups.items boundary);
       target = branch.target;
     }
+
+-- no boundary is far ahead of a branch, where stubs may be shared and its target has none
+abbrev pub IsLeft : Code → State → Branch → Type 0
+IsLeft code state branch = state.may_share ≡ true
+    → ((j : ℕ) → j < length state.stubs.items
+    → (stub_at state.stubs.items j).target ≢ branch.target)
+    → HasNoFar code branch
+
+-- a new stub would be far ahead of a branch, or near it
+abbrev pub IsNewFar : Code → State → Branch → ℕ → Type 0
+IsNewFar code state branch boundary = (state.may_share ≡ true) × IsFar code branch boundary
+
+abbrev pub IsNewNear : Code → State → Branch → ℕ → Part → Type 0
+IsNewNear code state branch boundary part =
+    IsNear code branch (new_stub code state branch boundary part) × IsLeft code state branch
+
+abbrev pub IsNew : Code → State → Branch → ℕ → Part → Type 0
+IsNew code state branch boundary Middle = IsNewFar code state branch boundary
+IsNew code state branch boundary Front = IsNewNear code state branch boundary Front
+IsNew code state branch boundary Back = IsNewNear code state branch boundary Back
 
 -- a branch is near no stub of its target in a part of a boundary, nor to a new one
 pub record IsOutThere (code : Code) (state : State) (branch : Branch) (boundary : ℕ) (part : Part)

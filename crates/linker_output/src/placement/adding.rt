@@ -3,9 +3,9 @@
 ghost use Rattle.std.specs.Prelude.{◌≡◌, ◌+◌, ◌*◌, ◌<◌, ◌^◌, ℕ, length, true, false, IfOk, IfSome};
 ghost use Rattle.std.specs.Prelude.{◌↔◌, IfNone, IsTrue};
 ghost use Rattle.std.specs.List.{sum_by};
-ghost use Rattle.linker_output.specs.Placement.{branch_at, at, part_of, stub_at, HasSpare, IsCode};
+ghost use Rattle.linker_output.specs.Placement.{branch_at, at, part_of, stub_at, HasNoFar, HasSpare, IsCode, IsFar};
 ghost use Rattle.linker_output.specs.Inner.Placement.{IsState, level, way_at, level_of, IsAt};
-ghost use Rattle.linker_output.specs.Inner.Placement.{HasNoneAt, IsNewNear, IsOut, IsWay};
+ghost use Rattle.linker_output.specs.Inner.Placement.{HasNoneAt, IsLeft, IsNew, IsOut, IsWay};
 ghost use Rattle.linker_output.specs.Inner.Placement.{IsOutAhead, IsOutBehind, IsOutThere, IsStubAt};
 ghost use Rattle.linker_output.specs.Inner.Placement.{list_of, new_stub, new_way, with_one, IsNear, SameStubs};
 ghost use Rattle.linker_output.specs.declared.placement.Way.TheVariants.{Near, Far};
@@ -111,11 +111,11 @@ impl State {
         requires within { index < length code.now.branches.now }
         requires boundary { boundary < length code.now.boundaries.now }
         requires higher { level (way_at self.old.ways.items index) < level_of part }
-        requires near { IsNewNear code.now self.old index boundary part }
+        requires place { IsNew code.now self.old (branch_at code.now.branches.now index) boundary
+            part }
         requires new { HasNoneAt self.old.stubs.items boundary part
             (branch_at code.now.branches.now index).target }
         requires needed { ¬ HasSpare code.now (branch_at code.now.branches.now index) }
-        requires shared { self.old.may_share ≡ false → level_of part ≡ 2 }
         ensures state { IfOk result (λ _. IsState code.now self.new) }
         ensures higher { IfOk result
             (λ _. sum_by level self.old.ways.items < sum_by level self.new.ways.items) }
@@ -213,7 +213,9 @@ impl State {
     fn far_boundary(&self, code: &Code<'_>, branch: &Branch) -> Option<usize>
         requires code { IsCode code.now }
         requires offset { branch.now.offset < 2 ^ 62 }
-        ensures { IfSome result (λ b. b < length code.now.boundaries.now) }
+        ensures some { IfSome result (λ b. (b < length code.now.boundaries.now)
+            × IsFar code.now branch.now b) }
+        ensures none { IfNone result (HasNoFar code.now branch.now) }
     {
         let half = branch.max_forward / 2;
         let behind = passed(code.boundaries, branch.offset.saturating_add(half));
@@ -244,6 +246,8 @@ impl State {
         ensures higher { IfOk result (λ went. went ≡ true
             → sum_by level self.old.ways.items < sum_by level self.new.ways.items) }
         ensures same { IfOk result (λ went. went ≡ false → self.new ≡ self.old) }
+        ensures left { IfOk result (λ went. went ≡ false
+            → IsLeft code.now self.old (branch_at code.now.branches.now index)) }
         ensures may_share { IfOk result (λ _. self.new.may_share ≡ self.old.may_share) }
     {
         let Way::Direct = self.ways[index] else {
@@ -320,6 +324,7 @@ impl State {
         requires next { level_of part ≡ 2 }
         requires higher { level (way_at self.old.ways.items index) < 2 }
         requires needed { ¬ HasSpare code.now (branch_at code.now.branches.now index) }
+        requires left { IsLeft code.now self.old (branch_at code.now.branches.now index) }
         ensures state { IfOk result (λ _. IsState code.now self.new) }
         ensures higher { IfOk result (λ went. went ≡ true
             → sum_by level self.old.ways.items < sum_by level self.new.ways.items) }
@@ -357,6 +362,7 @@ impl State {
         requires within { index < length code.now.branches.now }
         requires higher { level (way_at self.old.ways.items index) < 2 }
         requires needed { ¬ HasSpare code.now (branch_at code.now.branches.now index) }
+        requires left { IsLeft code.now self.old (branch_at code.now.branches.now index) }
         ensures state { IfOk result (λ _. IsState code.now self.new) }
         ensures higher { IfOk result (λ went. went ≡ true
             → sum_by level self.old.ways.items < sum_by level self.new.ways.items) }
@@ -379,6 +385,7 @@ impl State {
         requires within { index < length code.now.branches.now }
         requires higher { level (way_at self.old.ways.items index) < 2 }
         requires needed { ¬ HasSpare code.now (branch_at code.now.branches.now index) }
+        requires left { IsLeft code.now self.old (branch_at code.now.branches.now index) }
         ensures state { IfOk result (λ _. IsState code.now self.new) }
         ensures higher { IfOk result (λ went. went ≡ true
             → sum_by level self.old.ways.items < sum_by level self.new.ways.items) }
@@ -395,12 +402,13 @@ impl State {
     }
 
     /// Has a branch go by a stub at a boundary next to it, if that is in reach.
-    pub(super) fn go_near(&mut self, code: &Code<'_>, index: usize) -> Result<bool, OutOfMemory>
+    fn go_near(&mut self, code: &Code<'_>, index: usize) -> Result<bool, OutOfMemory>
         requires code { IsCode code.now }
         requires state { IsState code.now self.old }
         requires within { index < length code.now.branches.now }
         requires higher { level (way_at self.old.ways.items index) < 2 }
         requires needed { ¬ HasSpare code.now (branch_at code.now.branches.now index) }
+        requires left { IsLeft code.now self.old (branch_at code.now.branches.now index) }
         ensures state { IfOk result (λ _. IsState code.now self.new) }
         ensures higher { IfOk result (λ went. went ≡ true
             → sum_by level self.old.ways.items < sum_by level self.new.ways.items) }
@@ -456,9 +464,8 @@ impl State {
     {
         match self.ways[index] {
             Way::Direct => {}
-            Way::Far(stub) | Way::Near(stub) => {
-                self.last[code.branches[index].target] = stub;
-            }
+            Way::Far(stub) => self.last[code.branches[index].target] = stub,
+            Way::Near(stub) => self.last[code.branches[index].target] = stub,
         }
     }
 }

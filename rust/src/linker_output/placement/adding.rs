@@ -260,7 +260,7 @@ impl State {
     }
 
     /// Has a branch go by a stub at a boundary next to it, if that is in reach.
-    pub(super) fn go_near(&mut self, code: &Code<'_>, index: usize) -> Result<bool, OutOfMemory> {
+    fn go_near(&mut self, code: &Code<'_>, index: usize) -> Result<bool, OutOfMemory> {
         let went = self.go_ahead(code, index)?;
         if went {
             return Ok(true);
@@ -287,9 +287,8 @@ impl State {
     pub(super) fn note(&mut self, code: &Code<'_>, index: usize) {
         match self.ways[index] {
             Way::Direct => {}
-            Way::Far(stub) | Way::Near(stub) => {
-                self.last[code.branches[index].target] = stub;
-            }
+            Way::Far(stub) => self.last[code.branches[index].target] = stub,
+            Way::Near(stub) => self.last[code.branches[index].target] = stub,
         }
     }
 }

@@ -9,9 +9,16 @@ use super::{Code, MOST_PASSES, State, Sweep, Visit, Way};
 use crate::linker_base::relaxation::OutOfMemory;
 
 impl State {
-    /// If it is `late`, has a branch that may be lost by the stubs to come go by a stub next to it,
-    /// where such a boundary is in reach.
-    fn go_early(&mut self, code: &Code<'_>, late: bool, index: usize) -> Result<bool, OutOfMemory> {
+    /// If it is `late`, has a branch that may be lost by the stubs to come go by another stub, if one
+    /// can be in its reach.
+    fn go_early(
+        &mut self,
+        code: &Code<'_>,
+        before: &[u64],
+        places: &[u64],
+        late: bool,
+        index: usize,
+    ) -> Result<bool, OutOfMemory> {
         if !late {
             return Ok(false);
         }
@@ -19,11 +26,11 @@ impl State {
         if spare {
             return Ok(false);
         }
-        self.go_near(code, index)
+        self.raise(code, before, places, index)
     }
 
     /// Has a branch that is lost by a layout go by another stub. If it is `late`, also one that may
-    /// be lost by the stubs to come, where a boundary next to it is in reach.
+    /// be lost by the stubs to come.
     fn visit(
         &mut self,
         code: &Code<'_>,
@@ -45,7 +52,7 @@ impl State {
             }
             return Ok(Visit::Lost);
         }
-        if self.go_early(code, late, index)? {
+        if self.go_early(code, before, places, late, index)? {
             return Ok(Visit::Raised);
         }
         self.note(code, index);
@@ -98,8 +105,7 @@ impl State {
     }
 
     /// Adds stubs until each branch reaches what it goes by. After `MOST_PASSES` passes also those go
-    /// by stubs next to them that may be lost by the stubs to come, so that there are few further
-    /// passes. It returns none, or the index of a branch that reaches nothing and no boundary.
+    /// by other stubs that may be lost by the stubs to come, so that there are few further passes. It returns none, or the index of a branch that reaches nothing and no boundary.
     pub(super) fn settle(
         &mut self,
         code: &Code<'_>,

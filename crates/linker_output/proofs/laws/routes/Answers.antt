@@ -14,14 +14,14 @@ neither x y a b p q =
     (subst (λ y. (if y then a else b) ≡ b) (sym q) refl)
 
 -- what counts only where a function is entered
-unentered : (a b c : Bool) (stub : ℕ) → stub ≢ 0 → a && (((stub == 0) && b) && c) ≡ false
-unentered a b c stub some =
-    subst (λ x. a && ((x && b) && c) ≡ false) (sym (ne_eqb stub 0 some)) (never a)
+unentered : (a b : Bool) (stub : ℕ) → stub ≢ 0 → a && ((stub == 0) && b) ≡ false
+unentered a b stub some =
+    subst (λ x. a && (x && b) ≡ false) (sym (ne_eqb stub 0 some)) (never a)
 
 pub returns : goal.returns
-returns c target symbol r stub some has_room obstacle =
+returns c target row symbol r stub some has_room obstacle =
     let to = record symbol { stub = stub } in
     neither _ _ (by_jump target.jump_stub (loses_toc target.instructions r.code to) has_room (stub_target target.instructions to r))
-    (by_reach target to r obstacle)
-    (unentered (has_toc target.instructions r.code) (not symbol.is_undefined_weak) (symbol.other / 32 == 1) stub some)
-    (unentered (has_no_toc target.instructions r.code) (not symbol.is_undefined_weak) (nat_lt 1 (symbol.other / 32)) stub some)
+    (by_reach target row to r obstacle)
+    (unentered (has_toc target.instructions r.code) (not symbol.is_undefined_weak && symbol.other / 32 == 1) stub some)
+    (unentered (has_no_toc target.instructions r.code) (not symbol.is_undefined_weak && nat_lt 1 (symbol.other / 32)) stub some)

@@ -1,97 +1,121 @@
-use Rattle.std.proofs.Common.{◌≡◌, ◌∙◌, ℕ, List, length, refl, sym, subst, arith}
+use Rattle.std.proofs.Common.{◌≡◌, ◌≤◌, ◌∙◌, ℕ, List, length, refl, sym, subst, arith}
+use Rattle.std.specs.Global.{Vec}
 use Rattle.std.specs.Vec.{with_items}
 use Rattle.std.proofs.lemmas.List.{with_items_is}
 use Rattle.linker_output.specs.declared.placement.Code.{Code}
 use Rattle.linker_output.specs.declared.placement.Layout.{Layout}
+use Rattle.linker_output.specs.declared.placement.Placement.{Placement}
 use Rattle.linker_output.specs.declared.placement.State.{State}
-use Rattle.linker_output.specs.Placement.{IsCode, IsLaidOut, IsLayout}
+use Rattle.linker_output.specs.Placement.{AllGo, IsCode, IsLaidOut, IsLayout}
 use Rattle.linker_output.specs.Inner.Placement.{ArePlaces, AreServed, AreStubsOf, IsState, IsStuckIn}
 use Rattle.linker_output.proofs.Apart.{layout_is}
 use Rattle.linker_output.proofs.Bounds.{few_stubs}
-use Rattle.linker_output.proofs.Going.{all_go, goes_all, spared_all, used_all}
+use Rattle.linker_output.proofs.Going.{all_go, goes_all, shared_all, spared_all, used_all}
 use Rattle.linker_output.proofs.Stuck.{stuck}
 use Rattle.linker_output.proofs.placement.place_by.Goals as goal
 
-layout_by : (code : Code) (state : State) (layout : Layout) (before : List ℕ) → IsCode code → IsState code state → IsLaidOut code.shape state.groups.items before → ArePlaces code state before layout.places.items
-    → layout.before.items ≡ before → layout.stubs ≡ state.stubs → layout.groups ≡ state.groups → IsLayout code layout
-layout_by code state layout before is_code is laid are e stubs groups = layout_is code state layout is_code is (subst (IsLaidOut code.shape state.groups.items) (sym e) laid) (subst (λ b. ArePlaces code state b layout.places.items) (sym e) are) stubs groups
+-- the layout that is returned, whose `before` is written in place
+module _ (code : Code) (state : State) (places was : Vec ℕ) (before : List ℕ) (is_code : IsCode code) (is : IsState code state)
+    (laid : IsLaidOut code.shape state.groups.items before) (are : ArePlaces code state before places.items) (e : was.items ≡ before) where
+  abbrev layout : Layout
+  layout = record { stubs = state.stubs; places = places; groups = state.groups; before = was }
+
+  laid_out : IsLaidOut code.shape state.groups.items was.items
+  laid_out = subst (IsLaidOut code.shape state.groups.items) (sym e) laid
+
+  are_placed : ArePlaces code state was.items places.items
+  are_placed = subst (λ b. ArePlaces code state b places.items) (sym e) are
+
+  is_layout : IsLayout code layout
+  is_layout = layout_is code state layout is_code is laid_out are_placed refl refl
+
+  are_served : (limit : ℕ) → AreServed code before places.items state.ways.items limit → AreServed code was.items places.items state.ways.items limit
+  are_served limit served = subst (λ b. AreServed code b places.items state.ways.items limit) (sym e) served
+
+  go : (limit : ℕ) → limit ≤ length code.branches.now → AreServed code before places.items state.ways.items limit → AllGo code layout limit
+  go limit most served = all_go code state layout is refl laid_out are_placed limit most (are_served limit served)
 
 pub first_short-requires-clause-layout : goal.first_short-requires-clause-layout
 first_short-requires-clause-layout c =
-    let layout : Layout = record { stubs = c.settle.new.self.stubs; places = c.settle.new.places; groups = c.settle.new.self.groups; before = with_items c.in_ok-before.before c.settle.new.before } in
+    let s = c.in_ok-stuck.ensures in
     let len = c.in_ok-before.ensures in
-    let e : (with_items c.in_ok-before.before c.settle.new.before).items ≡ c.settle.new.before = with_items_is c.in_ok-before.before c.settle.new.before (omega arith) in
-    layout_by c.args.code.now c.settle.new.self layout c.settle.new.before c.requires c.in_ok-stuck.ensures.state c.in_ok-stuck.ensures.laid_out c.in_ok-stuck.ensures.places e refl refl
+    is_layout c.args.code.now c.settle.new.self c.settle.new.places (with_items c.in_ok-before.before c.settle.new.before) c.settle.new.before c.requires s.state s.laid_out s.places (with_items_is c.in_ok-before.before c.settle.new.before (omega arith))
 
 pub returns-in-Some-clause-err : goal.returns-in-Some-clause-err
 returns-in-Some-clause-err c =
-    let layout : Layout = record { stubs = c.settle.new.self.stubs; places = c.settle.new.places; groups = c.settle.new.self.groups; before = with_items c.in_ok-before.before c.settle.new.before } in
+    let code = c.args.code.now in
+    let state = c.settle.new.self in
+    let places = c.settle.new.places in
+    let s = c.in_ok-stuck.ensures in
     let len = c.in_ok-before.ensures in
-    let e : (with_items c.in_ok-before.before c.settle.new.before).items ≡ c.settle.new.before = with_items_is c.in_ok-before.before c.settle.new.before (omega arith) in
-    let is = layout_by c.args.code.now c.settle.new.self layout c.settle.new.before c.requires c.in_ok-stuck.ensures.state c.in_ok-stuck.ensures.laid_out c.in_ok-stuck.ensures.places e refl refl in
-    let out = rw c.in-Some.is at c.in_ok-stuck.ensures.settled in
-    let stuck_in : IsStuckIn c.args.code.now c.settle.new.before c.settle.new.places.items c.settle.new.self c.in-Some.index = out.0 in
-    let served : AreServed c.args.code.now c.settle.new.before c.settle.new.places.items c.settle.new.self.ways.items c.in-Some.index = out.1 in
-    let within = stuck_in.within in (
+    let was = with_items c.in_ok-before.before c.settle.new.before in
+    let e : was.items ≡ c.settle.new.before = with_items_is c.in_ok-before.before c.settle.new.before (omega arith) in
+    let out = rw c.in-Some.is at s.settled in
+    let stuck_in : IsStuckIn code c.settle.new.before places.items state c.in-Some.index = out.0 in
+    let within = stuck_in.within in
+    let is = is_layout code state places was c.settle.new.before c.requires s.state s.laid_out s.places e in (
       c.requires,
       stuck_in.within,
       is,
-      stuck c.args.code.now c.settle.new.self layout c.in-Some.index c.requires c.in_ok-stuck.ensures.state is refl refl
-          (subst (λ b. IsStuckIn c.args.code.now b c.settle.new.places.items c.settle.new.self c.in-Some.index) (sym e) stuck_in),
-      all_go c.args.code.now c.settle.new.self layout c.in_ok-stuck.ensures.state refl
-          (subst (IsLaidOut c.args.code.now.shape c.settle.new.self.groups.items) (sym e) c.in_ok-stuck.ensures.laid_out)
-          (subst (λ b. ArePlaces c.args.code.now c.settle.new.self b layout.places.items) (sym e) c.in_ok-stuck.ensures.places)
-          c.in-Some.index (omega arith)
-          (subst (λ b. AreServed c.args.code.now b layout.places.items c.settle.new.self.ways.items c.in-Some.index) (sym e) served),
+      stuck code state (layout code state places was c.settle.new.before c.requires s.state s.laid_out s.places e) c.in-Some.index c.requires s.state is refl refl (subst (λ b. IsStuckIn code b places.items state c.in-Some.index) (sym e) stuck_in),
+      go code state places was c.settle.new.before c.requires s.state s.laid_out s.places e c.in-Some.index (omega arith) out.1,
     )
 
 pub returns-in-Some-first_short-clause-err : goal.returns-in-Some-first_short-clause-err
 returns-in-Some-first_short-clause-err c =
-    let layout : Layout = record { stubs = c.settle.new.self.stubs; places = c.settle.new.places; groups = c.settle.new.self.groups; before = with_items c.in_ok-before.before c.settle.new.before } in
+    let code = c.args.code.now in
+    let state = c.settle.new.self in
+    let places = c.settle.new.places in
+    let s = c.in_ok-stuck.ensures in
     let len = c.in_ok-before.ensures in
-    let e : (with_items c.in_ok-before.before c.settle.new.before).items ≡ c.settle.new.before = with_items_is c.in_ok-before.before c.settle.new.before (omega arith) in
-    let is = layout_by c.args.code.now c.settle.new.self layout c.settle.new.before c.requires c.in_ok-stuck.ensures.state c.in_ok-stuck.ensures.laid_out c.in_ok-stuck.ensures.places e refl refl in
-    let served : AreServed c.args.code.now c.settle.new.before c.settle.new.places.items c.settle.new.self.ways.items (length c.args.code.now.branches.now) = rw c.in-None.is at c.in_ok-stuck.ensures.settled in
+    let was = with_items c.in_ok-before.before c.settle.new.before in
+    let e : was.items ≡ c.settle.new.before = with_items_is c.in_ok-before.before c.settle.new.before (omega arith) in
+    let served : AreServed code c.settle.new.before places.items state.ways.items (length code.branches.now) = rw c.in-None.is at s.settled in
     let short = c.in-Some-first_short.ensures.some in (
       short.0,
       c.requires,
-      is,
+      is_layout code state places was c.settle.new.before c.requires s.state s.laid_out s.places e,
       short.1,
       short.2,
-      all_go c.args.code.now c.settle.new.self layout c.in_ok-stuck.ensures.state refl
-          (subst (IsLaidOut c.args.code.now.shape c.settle.new.self.groups.items) (sym e) c.in_ok-stuck.ensures.laid_out)
-          (subst (λ b. ArePlaces c.args.code.now c.settle.new.self b layout.places.items) (sym e) c.in_ok-stuck.ensures.places)
-          (length c.args.code.now.branches.now) (omega arith)
-          (subst (λ b. AreServed c.args.code.now b layout.places.items c.settle.new.self.ways.items (length c.args.code.now.branches.now)) (sym e) served),
+      go code state places was c.settle.new.before c.requires s.state s.laid_out s.places e (length code.branches.now) (omega arith) served,
     )
 
 pub returns-clause-few : goal.returns-clause-few
 returns-clause-few c = few_stubs c.args.code.now c.settle.new.self c.in_ok-stuck.ensures.state
 
 pub returns-clause-ok : goal.returns-clause-ok
-returns-clause-ok c used =
-    let layout : Layout = record { stubs = c.settle.new.self.stubs; places = c.settle.new.places; groups = c.settle.new.self.groups; before = with_items c.in_ok-before.before c.settle.new.before } in
+returns-clause-ok c =
+    let code = c.args.code.now in
+    let state = c.settle.new.self in
+    let places = c.settle.new.places in
+    let s = c.in_ok-stuck.ensures in
     let len = c.in_ok-before.ensures in
-    let e : (with_items c.in_ok-before.before c.settle.new.before).items ≡ c.settle.new.before = with_items_is c.in_ok-before.before c.settle.new.before (omega arith) in
-    let is = layout_by c.args.code.now c.settle.new.self layout c.settle.new.before c.requires c.in_ok-stuck.ensures.state c.in_ok-stuck.ensures.laid_out c.in_ok-stuck.ensures.places e refl refl in
-    let served : AreServed c.args.code.now c.settle.new.before c.settle.new.places.items c.settle.new.self.ways.items (length c.args.code.now.branches.now) = rw c.in-None.is at c.in_ok-stuck.ensures.settled in
-    let of : AreStubsOf c.args.code.now layout.before.items c.settle.new.self.ways.items c.in_ok-stubs.stubs.items = subst (λ b. AreStubsOf c.args.code.now b c.settle.new.self.ways.items c.in_ok-stubs.stubs.items) c.deref.ensures.value c.in_ok-stubs.ensures in
+    let was = with_items c.in_ok-before.before c.settle.new.before in
+    let e : was.items ≡ c.settle.new.before = with_items_is c.in_ok-before.before c.settle.new.before (omega arith) in
+    let served : AreServed code c.settle.new.before places.items state.ways.items (length code.branches.now) = rw c.in-None.is at s.settled in
+    let stubs = c.in_ok-stubs.stubs.items in
+    let of : AreStubsOf code was.items state.ways.items stubs = subst (λ b. AreStubsOf code b state.ways.items stubs) c.deref.ensures.value c.in_ok-stubs.ensures in
     record {
       is_code = c.requires;
-      layout = is;
+      layout = is_layout code state places was c.settle.new.before c.requires s.state s.laid_out s.places e;
       one_each = of.len;
-      goes = goes_all c.args.code.now c.settle.new.self layout c.in_ok-stuck.ensures.state refl
-          (subst (IsLaidOut c.args.code.now.shape c.settle.new.self.groups.items) (sym e) c.in_ok-stuck.ensures.laid_out)
-          (subst (λ b. ArePlaces c.args.code.now c.settle.new.self b layout.places.items) (sym e) c.in_ok-stuck.ensures.places)
-          c.in_ok-stubs.stubs.items
-          (subst (λ b. AreServed c.args.code.now b layout.places.items c.settle.new.self.ways.items (length c.args.code.now.branches.now)) (sym e) served) of;
+      goes = goes_all code state (layout code state places was c.settle.new.before c.requires s.state s.laid_out s.places e) s.state refl (laid_out code state places was c.settle.new.before c.requires s.state s.laid_out s.places e) (are_placed code state places was c.settle.new.before c.requires s.state s.laid_out s.places e)
+          stubs (are_served code state places was c.settle.new.before c.requires s.state s.laid_out s.places e (length code.branches.now) served) of;
       stubs_reach = c.in-None-first_short.ensures.none;
-      shared = c.in_ok-stuck.ensures.state.shared;
-      used = used;
-      spared = spared_all c.args.code.now c.settle.new.self layout.before.items c.in_ok-stubs.stubs.items c.in_ok-stuck.ensures.state of;
+      shared = s.state.shared;
+      spared = spared_all code state was.items stubs s.state of;
     }
 
 pub returns-clause-used : goal.returns-clause-used
 returns-clause-used c alone =
     used_all c.args.code.now c.settle.new.self c.deref.result.now c.in_ok-stubs.stubs.items c.in_ok-stuck.ensures.state
     (c.in_ok-stuck.ensures.may_share ∙ c.in_ok-state.ensures.may_share ∙ alone) c.in_ok-stubs.ensures
+
+pub returns-clause-shared : goal.returns-clause-shared
+returns-clause-shared c shares =
+    let placement : Placement = record {
+      layout = record { stubs = c.settle.new.self.stubs; places = c.settle.new.places; groups = c.settle.new.self.groups; before = with_items c.in_ok-before.before c.settle.new.before };
+      stubs = c.in_ok-stubs.stubs;
+    } in
+    shared_all c.args.code.now c.settle.new.self placement c.deref.result.now c.in_ok-stuck.ensures.state
+    (c.in_ok-stuck.ensures.may_share ∙ c.in_ok-state.ensures.may_share ∙ shares) refl c.in_ok-stubs.ensures

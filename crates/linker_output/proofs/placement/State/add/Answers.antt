@@ -25,7 +25,7 @@ returns-clause-state c =
     let l_is : l ≡ list_of n b target = search (rules, c.list_of-list.ensures.list, lists.one_each) in
     let l_within : l < n = let w = c.list_of-list.ensures.within in let e = lists.one_each in omega arith in
     let head : c.index.result.now ≡ at state.heads.items l = (let e = lists.one_each in get_or_read state.heads.items l c.index.result.now (omega arith) c.index.ensures 0) in
-    added c.args.code.now state _ c.args.index b part stub c.requires.code c.requires.state c.requires.within c.requires.boundary c.requires.higher c.requires.near
+    added c.args.code.now state _ c.args.index b part stub c.requires.code c.requires.state c.requires.within c.requires.boundary c.requires.higher c.requires.place
     (ap (λ n. record { boundary = b; part = part; index = n; target = target }) nth)
     c.in_ok-push.ensures.items (ap (set state.groups.items b) grown) (ap (set state.ways.items c.args.index) way) (search rules)
-    c.requires.new c.requires.needed c.requires.shared l l_is l_within (search rules) (c.in_ok-push-2.ensures.items ∙ ap (λ h. state.nexts.items ++ (h ∷ [])) head) refl
+    c.requires.new c.requires.needed l l_is l_within (search rules) (c.in_ok-push-2.ensures.items ∙ ap (λ h. state.nexts.items ++ (h ∷ [])) head) refl

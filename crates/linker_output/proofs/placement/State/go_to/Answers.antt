@@ -9,10 +9,11 @@ take-requires-clause-way c =
     let here = c.in-Some.ensures.some in
     (here.within, here.there.of_target, c.is_near-is_near.ensures.0 c.if-not-is_near.false)
 
-pub add-requires-clause-near : goal.add-requires-clause-near
-add-requires-clause-near c =
-    new_near c.args.code.now c.args.self.now c.args.index c.args.boundary c.args.part c.requires.next
-    (subst (IsNear c.args.code.now (branch_at c.args.code.now.branches.now c.args.index)) c.new_stub-new.ensures.stub (c.is_near-fits.ensures.0 c.if-not-fits.false))
+pub add-requires-clause-place : goal.add-requires-clause-place
+add-requires-clause-place c =
+    let branch = branch_at c.args.code.now.branches.now c.args.index in
+    new_near c.args.code.now c.args.self.now branch c.args.boundary c.args.part c.requires.next
+    (subst (IsNear c.args.code.now branch) c.new_stub-new.ensures.stub (c.is_near-fits.ensures.0 c.if-not-fits.false), c.requires.left)
 
 pub returns-then-not-is_near-clause-none : goal.returns-then-not-is_near-clause-none
 returns-then-not-is_near-clause-none c = λ _.

@@ -4,28 +4,28 @@ use Rattle.std.specs.List.{sum_by}
 use Rattle.std.proofs.lemmas.Result.{IfOk-weaker}
 use Rattle.linker_output.specs.declared.placement.State.{State}
 use Rattle.linker_output.specs.Placement.{branch_at}
-use Rattle.linker_output.specs.Inner.Placement.{IsOut, level, way_at}
+use Rattle.linker_output.specs.Inner.Placement.{IsLeft, IsOut, level, way_at}
 use Rattle.linker_output.proofs.placement.State.raise.Goals as goal
 
 pub returns-clause-higher : goal.returns-clause-higher
 returns-clause-higher c =
-    let same : c.go_far.new.self ≡ c.args.self.now = c.in_ok-went.ensures.same c.if-went.false in
-    subst (λ (s : State). IfOk c.go_near.result (λ w. w ≡ true → sum_by level s.ways.items < sum_by level c.go_near.new.self.ways.items)) same c.go_near.ensures.higher
+    subst (λ (s : State). IfOk c.go_near.result (λ w. w ≡ true → sum_by level s.ways.items < sum_by level c.go_near.new.self.ways.items)) (c.in_ok-went.ensures.same c.if-went.false) c.go_near.ensures.higher
 
 pub returns-clause-same : goal.returns-clause-same
 returns-clause-same c =
-    let same : c.go_far.new.self ≡ c.args.self.now = c.in_ok-went.ensures.same c.if-went.false in
-    IfOk-weaker c.go_near.result _ _ (λ w f e. f e ∙ same) c.go_near.ensures.same
+    IfOk-weaker c.go_near.result _ _ (λ w f e. f e ∙ c.in_ok-went.ensures.same c.if-went.false) c.go_near.ensures.same
 
 pub returns-clause-may_share : goal.returns-clause-may_share
 returns-clause-may_share c = IfOk-weaker c.go_near.result _ _ (λ w f. f ∙ c.in_ok-went.ensures.may_share) c.go_near.ensures.may_share
 
 pub returns-clause-out : goal.returns-clause-out
 returns-clause-out c =
-    let same : c.go_far.new.self ≡ c.args.self.now = c.in_ok-went.ensures.same c.if-went.false in
-    subst (λ s. IfOk c.go_near.result (λ w. w ≡ false → IsOut c.args.code.now s (branch_at c.args.code.now.branches.now c.args.index))) same c.go_near.ensures.out
+    subst (λ s. IfOk c.go_near.result (λ w. w ≡ false → IsOut c.args.code.now s (branch_at c.args.code.now.branches.now c.args.index))) (c.in_ok-went.ensures.same c.if-went.false) c.go_near.ensures.out
 
 pub go_near-requires-clause-higher : goal.go_near-requires-clause-higher
 go_near-requires-clause-higher c =
-    let same : c.go_far.new.self ≡ c.args.self.now = c.in_ok-went.ensures.same c.if-went.false in
-    subst (λ (s : State). level (way_at s.ways.items c.args.index) < 2) (sym same) c.requires.higher
+    subst (λ (s : State). level (way_at s.ways.items c.args.index) < 2) (sym (c.in_ok-went.ensures.same c.if-went.false)) c.requires.higher
+
+pub go_near-requires-clause-left : goal.go_near-requires-clause-left
+go_near-requires-clause-left c =
+    subst (λ s. IsLeft c.args.code.now s (branch_at c.args.code.now.branches.now c.args.index)) (sym (c.in_ok-went.ensures.same c.if-went.false)) (c.in_ok-went.ensures.left c.if-went.false)
