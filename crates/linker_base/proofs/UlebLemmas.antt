@@ -1,8 +1,7 @@
 -- The groups of seven bits of a ULEB128 number.
 use Rattle.std.proofs.Common.{◌≡◌, ℕ, zero, suc, ◌+◌, ◌-◌, ◌*◌, ◌/◌, ◌%◌, ◌^◌, ◌<◌, ◌≤◌, ◌⊎◌}
 use Rattle.std.proofs.Common.{inl, inr, List, length, take, drop, slice_index, take_all, length-drop}
-use Rattle.std.proofs.Common.{refl, sym, ◌∙◌, ap, arith, bit_and, bit_or}
-use Rattle.std.proofs.Math.Nat.{pow-suc, mod-eq_of_lt}
+use Rattle.std.proofs.Common.{refl, sym, ◌∙◌, ap, arith, bit_and, bit_or, pow-suc, mod-eq_of_lt}
 use Rattle.std.proofs.lemmas.Bool.{cases_lt}
 use Rattle.std.proofs.lemmas.Nat.{and_mask, div_below, mod_below, mod-pow-add, mul-le, or_comm}
 use Rattle.std.proofs.lemmas.Nat.{or_shifted, pow_pos, pow-add, shl_whole, shr_below, shr_split}

@@ -5,12 +5,11 @@ use Rattle.std.proofs.lemmas.Bool.{cases_lt}
 use Rattle.std.proofs.lemmas.List.{length-map, length-take, get_or-take, get_or_default}
 use Rattle.std.proofs.lemmas.List.Sums.{count_by-le-length}
 use Rattle.linker_base.specs.declared.relaxation.RelaxDelta.{RelaxDelta}
-use Rattle.linker_base.specs.Deletions.{IsBefore, IsValid, rank}
+use Rattle.linker_base.specs.Deletions.{IsBefore, IsValid, rank, begun_below}
 use Rattle.linker_base.specs.Deltas.{deletion_of}
 use Rattle.linker_base.specs.Listed.{AreValidDeltas}
 use Rattle.linker_base.specs.Inner.Listed.{IsWalked}
 use Rattle.linker_base.specs.declared.relaxation.walk.Reached.{Reached}
-use Rattle.linker_base.specs.Deletions.{begun_below}
 use Rattle.linker_base.proofs.Laws.{begun_parted}
 use Rattle.linker_base.proofs.Listed.{taken_up_to}
 use Rattle.linker_base.proofs.OutputOffsets.{bytes-le-offset}

@@ -1,5 +1,4 @@
-use Rattle.std.proofs.Common.{◌≡◌, ◌∙◌, ap, map}
-use Rattle.std.specs.List.Sorted.{IsPermutation}
+use Rattle.std.proofs.Common.{◌≡◌, ◌∙◌, ap, map, IsPermutation}
 use Rattle.linker_base.specs.Deltas.{deletion_of, pairs_of}
 use Rattle.linker_base.proofs.Merging.{disjoint_back}
 use Rattle.linker_base.proofs.Unions.{disjoint_moved, union_moved_ok}

@@ -1,5 +1,4 @@
-use Rattle.std.proofs.Common.{◌++◌, take, drop, map, subst, rules, sym, ◌∙◌}
-use Rattle.std.specs.Prelude.{◌↔◌, IsTrue}
+use Rattle.std.proofs.Common.{◌++◌, take, drop, map, subst, rules, sym, ◌∙◌, ◌↔◌, IsTrue}
 use Rattle.std.specs.List.Sorted.{IsPermutation, IsNonDecreasingBy}
 use Rattle.std.proofs.lemmas.Bool.{false≢true}
 use Rattle.std.proofs.lemmas.List.{map-id, drop-map, take_rest}

@@ -1,7 +1,5 @@
-use Rattle.std.proofs.Common.{map, subst, rules}
-use Rattle.std.specs.Prelude.{◌↔◌, IsTrue, ◌++◌}
+use Rattle.std.proofs.Common.{map, subst, rules, map-id, ◌↔◌, IsTrue, ◌++◌}
 use Rattle.std.specs.List.Sorted.{IsNonDecreasingBy}
-use Rattle.std.proofs.lemmas.List.{map-id}
 use Rattle.std.proofs.lemmas.List.Sorted.{IsNonDecreasingBy-from_sort_by_key}
 use Rattle.linker_base.specs.Deletions.{AreDisjoint}
 use Rattle.linker_base.specs.Deltas.{deletion_of}

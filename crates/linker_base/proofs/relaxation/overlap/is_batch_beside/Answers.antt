@@ -1,6 +1,4 @@
-use Rattle.std.proofs.Common.{map, subst}
-use Rattle.std.specs.Prelude.{◌↔◌, IsTrue}
-use Rattle.std.proofs.lemmas.List.{map-id}
+use Rattle.std.proofs.Common.{map, subst, map-id, ◌↔◌, IsTrue}
 use Rattle.linker_base.specs.Inner.Listed.{AreApart}
 use Rattle.linker_base.proofs.relaxation.overlap.is_batch_beside.Goals as goal
 
