@@ -78,6 +78,7 @@ impl BitExtraction for u64 {
         self.low_bits(num_bits).sign_extend(num_bits - 1)
     }
 
+    #[tactic(auto, using(crate::proofs::Bits::set_above, crate::proofs::Bits::tested_clear, crate::proofs::Bits::tested_set))]
     fn sign_extend(self, sign_bit: u32) -> u64 {
         if self & (1 << sign_bit) != 0 {
             self | (u64::MAX << sign_bit)
