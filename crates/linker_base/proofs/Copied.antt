@@ -83,15 +83,15 @@ module _ (ds : List (ℕ × ℕ)) (base : ℕ) (s packed bytes : List ℕ) (from
   ranks : (n : ℕ) → from + n ≤ upto → rank ds (from + n) ≡ at + n + rank ds base
   ranks n h = rank-kept ds from n (λ p up below. kept p up (omega arith)) ∙ omega arith
 
-  pub run_end : at + length bytes + rank ds base ≡ rank ds upto
+  run_end : at + length bytes + rank ds base ≡ rank ds upto
   run_end =
       let e : rank ds (from + (upto - from)) ≡ at + (upto - from) + rank ds base = ranks (upto - from) (omega arith) in
       omega (arith, run_length, e, ap (rank ds) (let same : from + (upto - from) ≡ upto = omega arith in same))
 
-  pub run_fits : at + length bytes ≤ length packed
+  run_fits : at + length bytes ≤ length packed
   run_fits = omega (arith, run_end, room, rank-mono ds upto (base + length s) within)
 
-  pub run_copied : IsFilledTo ds base s upto (take at packed ++ bytes ++ drop (at + length bytes) packed)
+  run_copied : IsFilledTo ds base s upto (take at packed ++ bytes ++ drop (at + length bytes) packed)
   run_copied p inside below is =
       elim (cases_lt (base + p) from) [
         | inl before ↦
@@ -108,6 +108,9 @@ module _ (ds : List (ℕ × ℕ)) (base : ℕ) (s packed bytes : List ℕ) (from
             ∙ get_or-drop (from - base) s n 0
             ∙ ap (λ k. get_or s k 0) (omega arith)
       ]
+
+  pub run_done : (at + length bytes ≤ length packed) × (at + length bytes + rank ds base ≡ rank ds upto) × IsFilledTo ds base s upto (take at packed ++ bytes ++ drop (at + length bytes) packed)
+  run_done = (run_fits, run_end, run_copied)
 
 -- after what is filled only deleted positions follow
 filled_on : (ds : List (ℕ × ℕ)) (base : ℕ) (s packed : List ℕ) (a b : ℕ) → IsFilledTo ds base s a packed → ((p : ℕ) → a ≤ p → p < b → is_kept ds p ≡ false) → IsFilledTo ds base s b packed
@@ -143,6 +146,16 @@ module _ (ds : List (ℕ × ℕ)) (base : ℕ) (s packed bytes new : List ℕ) (
   above : base ≤ from
   above = copied.above
 
+  -- the run up to an offset, or to the section's end, where the other deletions begin there or above
+  run_put : (to : ℕ) → base ≤ to → min from ends ≤ min to ends → ((j : ℕ) (d : ℕ × ℕ) → k ≤ j → j < length ds → min to ends ≤ (get_or ds j d).0)
+      → bytes ≡ take (min (to - base) (length s) - min (from - base) (length s)) (drop (min (from - base) (length s)) s)
+      → (at + length bytes ≤ length packed) × (at + length bytes + rank ds base ≡ rank ds (min to ends)) × IsFilledTo ds base s (min to ends) new
+  run_put to up rise first run =
+      let kept : (p : ℕ) → min from ends ≤ p → p < min to ends → is_kept ds p ≡ true =
+      λ p low high. run_kept ds k from p copied.start (omega arith) (λ j d up inside. omega (arith, first j d up inside)) in
+      let done = run_done ds base s packed bytes (min from ends) (min to ends) at (omega (arith, above)) rise (omega arith) kept copied.at_is copied.filled room (run ∙ run_within base s from to above up) in
+      (done.0, done.1, subst (IsFilledTo ds base s (min to ends)) (sym (put_whole packed bytes new at done.0 put)) done.2)
+
   -- the run up to the next deletion, which is passed
   module _ (next end : ℕ) (valid : IsValid ds) (within : k < length ds)
       (run : bytes ≡ take (min ((get_or ds k (0, 0)).0 - base) (length s) - min (from - base) (length s)) (drop (min (from - base) (length s)) s))
@@ -168,27 +181,8 @@ module _ (ds : List (ℕ × ℕ)) (base : ℕ) (s packed bytes new : List ℕ) (
           | inr here ↦ let same : j ≡ k = omega arith in rw same (omega (arith, ap (λ (e : ℕ × ℕ). e.0) (get_or_default ds k d (0, 0) within)))
         ]
 
-    kept : (p : ℕ) → min from ends ≤ p → p < min to ends → is_kept ds p ≡ true
-    kept p low high = run_kept ds k from p copied.start (omega arith) (λ j d up inside. omega (arith, first_from j d up inside))
-
-    whole : bytes ≡ take (min to ends - min from ends) (drop (min from ends - base) s)
-    whole = run ∙ run_within base s from to above (omega (arith, above, rise))
-
-    low : base ≤ min from ends
-    low = omega (arith, above)
-
-    up : min from ends ≤ min to ends
-    up = omega (arith, rise)
-
-    fits : at + length bytes ≤ length packed
-    fits = run_fits ds base s packed bytes (min from ends) (min to ends) at low up (omega arith) kept copied.at_is copied.filled room whole
-
-    end_is : end + rank ds base ≡ rank ds (min to ends)
-    end_is = omega (arith, end_at, fits, run_end ds base s packed bytes (min from ends) (min to ends) at low up (omega arith) kept copied.at_is copied.filled room whole)
-
-    filled : IsFilledTo ds base s (min to ends) new
-    filled = subst (IsFilledTo ds base s (min to ends)) (sym (put_whole packed bytes new at fits put))
-        (run_copied ds base s packed bytes (min from ends) (min to ends) at low up (omega arith) kept copied.at_is copied.filled room whole)
+    done : (at + length bytes ≤ length packed) × (at + length bytes + rank ds base ≡ rank ds (min to ends)) × IsFilledTo ds base s (min to ends) new
+    done = run_put to (omega (arith, above, rise)) (omega (arith, rise)) (λ j d up inside. omega (arith, first_from j d up inside)) run
 
     gone : (p : ℕ) → min to ends ≤ p → p < min next ends → is_kept ds p ≡ false
     gone p down high = deleted_gone ds k p (0, 0) within (omega arith) (omega (arith, next_is))
@@ -208,23 +202,15 @@ module _ (ds : List (ℕ × ℕ)) (base : ℕ) (s packed bytes new : List ℕ) (
         ahead = λ j d after inside. later j d (omega arith) inside;
       };
       above = omega (arith, above, rise, next_is);
-      at_is = end_is ∙ sym rank_same;
-      filled = filled_on ds base s new (min to ends) (min next ends) filled gone;
+      at_is = omega (arith, end_at, done.0, done.1, rank_same);
+      filled = filled_on ds base s new (min to ends) (min next ends) done.2 gone;
     }
 
   -- the run up to the section's end, above which the other deletions begin
   pub copied_end : ((j : ℕ) (d : ℕ × ℕ) → k ≤ j → j < length ds → base + length s ≤ (get_or ds j d).0)
       → bytes ≡ take (min (base + length s - base) (length s) - min (from - base) (length s)) (drop (min (from - base) (length s)) s)
       → IsFilled ds base s new
-  copied_end past run =
-      let low = min from ends in
-      let kept : (p : ℕ) → low ≤ p → p < ends → is_kept ds p ≡ true =
-      λ p up below. run_kept ds k from p copied.start (omega arith) (λ j d after inside. (let q = past j d after inside in omega arith)) in
-      let whole : bytes ≡ take (ends - low) (drop (low - base) s) =
-      run ∙ run_within base s from ends above (omega arith) ∙ ap (λ n. take (n - low) (drop (low - base) s)) (let e : min ends ends ≡ ends = omega arith in e) in
-      let fits = run_fits ds base s packed bytes low ends at (omega (arith, above)) (omega arith) (omega arith) kept copied.at_is copied.filled room whole in
-      subst (IsFilled ds base s) (sym (put_whole packed bytes new at fits put))
-      (run_copied ds base s packed bytes low ends at (omega (arith, above)) (omega arith) (omega arith) kept copied.at_is copied.filled room whole)
+  copied_end past run = let e : min ends ends ≡ ends = omega arith in rw e at (run_put ends (omega arith) (omega arith) (λ j d up inside. omega (arith, past j d up inside)) run).2
 
 -- nothing is copied yet
 pub copied_first : (ds : List (ℕ × ℕ)) (base : ℕ) (s packed : List ℕ) (first from : ℕ) → IsFirstRun ds base first from → IsCopied ds base s first from 0 packed

@@ -1,5 +1,5 @@
 -- Steps of a search: what one test says of all other elements, and how many probes they take.
-use Rattle.std.proofs.Common.{◌≡◌, ℕ, zero, suc, ◌+◌, ◌*◌, ◌<◌, ◌≤◌, false, sym, ap, ◌∙◌, inl, inr, arith}
+use Rattle.std.proofs.Common.{pow_mono, ◌≡◌, ℕ, zero, suc, ◌+◌, ◌*◌, ◌<◌, ◌≤◌, false, sym, ap, ◌∙◌, inl, inr, arith}
 use Rattle.std.specs.Prelude.{◌^◌}
 use Rattle.std.proofs.lemmas.Bool.{cases_Bool, cases_order, false≢true}
 use Rattle.std.proofs.lemmas.Nat.{pow_below}
@@ -10,23 +10,17 @@ use Rattle.linker_base.specs.Inner.Search.{Subject, size_of, passing, IsPartitio
 
 -- a number of at least 2^exponent has more digits
 pub digits_above : (exponent digits n : ℕ) → 2 ^ exponent ≤ n → n < 2 ^ digits → exponent < digits
-digits_above exponent digits n low high = elim (cases_order exponent digits) [
-  | inl same ↦ absurd (omega (arith, ap (λ (k : ℕ). 2 ^ k) same))
-  | inr (inl lower) ↦ lower
-  | inr (inr above) ↦ absurd (omega (arith, pow_below digits exponent above))
-]
+digits_above exponent digits n low high =
+    let most : digits ≤ exponent → 2 ^ digits ≤ 2 ^ exponent = λ le. pow_mono le in
+    grind (arith, most)
 
 -- where each step takes a probe only of more indexes than its width, they are as many as the digits
 pub few_spent : (count a b c d e f g : ℕ) → b ≤ a + 1 → c ≤ b + 1 → d ≤ c + 1 → e ≤ d + 1 → f ≤ e + 1 → g ≤ f + 1
     → (count ≤ 32 → b ≤ a) → (count ≤ 16 → c ≤ b) → (count ≤ 8 → d ≤ c) → (count ≤ 4 → e ≤ d) → (count ≤ 2 → f ≤ e) → (count ≤ 1 → g ≤ f)
     → (digits : ℕ) → count ≤ 2 ^ digits → g ≤ a + digits
-few_spent count a b c d e f g i1 i2 i3 i4 i5 i6 n1 n2 n3 n4 n5 n6 zero few = omega arith
-few_spent count a b c d e f g i1 i2 i3 i4 i5 i6 n1 n2 n3 n4 n5 n6 (suc zero) few = omega arith
-few_spent count a b c d e f g i1 i2 i3 i4 i5 i6 n1 n2 n3 n4 n5 n6 (suc (suc zero)) few = omega arith
-few_spent count a b c d e f g i1 i2 i3 i4 i5 i6 n1 n2 n3 n4 n5 n6 (suc (suc (suc zero))) few = omega arith
-few_spent count a b c d e f g i1 i2 i3 i4 i5 i6 n1 n2 n3 n4 n5 n6 (suc (suc (suc (suc zero)))) few = omega arith
-few_spent count a b c d e f g i1 i2 i3 i4 i5 i6 n1 n2 n3 n4 n5 n6 (suc (suc (suc (suc (suc zero))))) few = omega arith
-few_spent count a b c d e f g i1 i2 i3 i4 i5 i6 _ _ _ _ _ _ (suc (suc (suc (suc (suc (suc digits)))))) few = omega arith
+few_spent count a b c d e f g i1 i2 i3 i4 i5 i6 n1 n2 n3 n4 n5 n6 digits few =
+    let most : (k : ℕ) → digits ≤ k → 2 ^ digits ≤ 2 ^ k = λ k le. pow_mono le in
+    grind (arith, most 0, most 1, most 2, most 3, most 4, most 5)
 
 module _ (s : Subject) (level : Level) (test : Test) where
   -- one index is left

@@ -1,5 +1,5 @@
 -- The laws of deletions, proved.
-use Rattle.std.proofs.Common.{◌≡◌, ℕ, zero, suc, ◌+◌, ◌<◌, ◌≤◌, true, false, cond, List, [], ◌∷◌, ◌++◌, length, map, get_or, take, refl, ap, inl, inr, ⊎_elim, arith}
+use Rattle.std.proofs.Common.{add-zero, add-suc, ◌≡◌, ℕ, zero, suc, ◌+◌, ◌-◌, ◌<◌, ◌≤◌, true, false, cond, List, [], ◌∷◌, ◌++◌, length, map, get_or, take, refl, ap, inl, inr, ⊎_elim, arith}
 use Rattle.std.specs.Prelude.{max, not, nat_lt, All, AllPairs, Contains, IsPermutation}
 use Rattle.std.specs.List.{list_any, AllWithin}
 use Rattle.std.proofs.lemmas.Bool.{cases_lt, cases_Bool, not-true, false_from_ne_true, both_ways}
@@ -143,17 +143,14 @@ kept_by_fewer ds more p held kept = ap not (free ds held)
         rw none (free ds (All-tail (Contains more) d ds held))
 
 -- as one offset rises, the rank over more deletions rises no more than that over fewer
-shorter : (ds more : List (ℕ × ℕ)) (a b : ℕ) → All (Contains more) ds → a ≤ b → rank more b + rank ds a ≤ rank ds b + rank more a
-shorter ds more a zero held le = let e : a ≡ zero = omega arith in rw e (omega arith)
-shorter ds more a (suc b) held le = ⊎_elim
-    (λ (below : a < suc b).
-    let before = shorter ds more a b held (omega arith) in
-    ⊎_elim
-    (λ kept. omega (arith, rank_kept more b kept, rank_kept ds b (kept_by_fewer ds more b held kept)))
-    (λ gone. omega (arith, rank_gone more b gone, rank-mono ds b (suc b) (omega arith)))
-    (cases_Bool (is_kept more b)))
-    (λ (from : suc b ≤ a). let e : a ≡ suc b = omega arith in rw e (omega arith))
-    (cases_lt a (suc b))
+shorter : (ds more : List (ℕ × ℕ)) (a n : ℕ) → All (Contains more) ds → rank more (a + n) + rank ds a ≤ rank ds (a + n) + rank more a
+shorter ds more a zero held = rw (add-zero a) (omega arith)
+shorter ds more a (suc n) held = rw (add-suc a n) (elim (cases_Bool (is_kept more (a + n))) [
+  | inl kept ↦ omega (arith, shorter ds more a n held, rank_kept more (a + n) kept, rank_kept ds (a + n) (kept_by_fewer ds more (a + n) held kept))
+  | inr gone ↦ omega (arith, shorter ds more a n held, rank_gone more (a + n) gone, rank-mono ds (a + n) (suc (a + n)) (omega arith))
+])
 
 pub merges_shorten : MergesShortenDistances
-merges_shorten ds more a b held le = omega (arith, shorter ds more a b held le, rank-mono ds a b le, rank-mono more a b le)
+merges_shorten ds more a b held le =
+    let e : a + (b - a) ≡ b = omega arith in
+    omega (arith, rw e at (shorter ds more a (b - a) held), rank-mono ds a b le, rank-mono more a b le)

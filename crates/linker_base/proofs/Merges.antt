@@ -12,16 +12,8 @@ use Rattle.linker_base.specs.declared.relaxation.RelaxDelta.{RelaxDelta}
 use Rattle.linker_base.specs.Deletions.{AreDisjoint, IsValid, IsSortedUnion, bytes_of}
 use Rattle.linker_base.specs.Deltas.{deletion_of}
 use Rattle.linker_base.specs.Listed.{AreValidDeltas}
-use Rattle.linker_base.proofs.Search.{deletion_at}
+use Rattle.linker_base.proofs.Search.{deletion_at, valid_rises}
 use Rattle.linker_base.proofs.Unions.{union_from_sort}
-
--- the offsets of a valid list rise
-pub valid_rises : (ds : List (ℕ × ℕ)) → IsValid ds → IsNonDecreasingBy (λ d. d.0) ds
-valid_rises ds valid i j d le within = elim (cases_order i j) [
-  | inl same ↦ rw same (omega arith)
-  | inr (inl lower) ↦ omega (arith, (valid.ascending i j d lower within).0)
-  | inr (inr above) ↦ absurd (omega arith)
-]
 
 rise-cons : (x : ℕ × ℕ) (xs : List (ℕ × ℕ)) → All (λ d. x.0 ≤ d.0) xs → IsNonDecreasingBy (λ d. d.0) xs → IsNonDecreasingBy (λ d. d.0) (x ∷ xs)
 rise-cons x xs least rise zero zero d le within = omega arith
@@ -132,51 +124,39 @@ merging_end start ps i j bytes merged d merging some =
     let inside : i - 1 < length start = omega (arith, merging.old_within) in
     deletion_at start (i - 1) d (0, 0) inside ∙ ap deletion_of (sym (get_or-take i start (i - 1) d low) ∙ ap (λ front. get_or front (i - 1) d) (sym merging.front) ∙ get_or-take i merged (i - 1) d low)
 
--- an old deletion is written
+-- a deletion of either list is written
+merged_on : (start : List RelaxDelta) (ps : List (ℕ × ℕ)) (old left i j at : ℕ) (merged : List RelaxDelta) (delta : RelaxDelta) (bytes : ℕ) → IsMerging start ps old left merged bytes → i ≤ old → j ≤ left → i + j ≡ at → at + 1 ≡ old + left
+    → IsTail (map deletion_of start) ps i j (delta ∷ drop (old + left) merged) → bytes ≡ bytes_of (take i (map deletion_of start)) + bytes_of (take j ps) + delta.bytes_deleted → IsMerging start ps i j (set merged at delta) (bytes - delta.bytes_deleted)
+merged_on start ps old left i j at merged delta bytes merging low lower here next written sum =
+    let free : at < length merged = omega (arith, merging.size, merging.old_within, merging.left_within) in
+    record {
+      old_within = omega (arith, merging.old_within);
+      left_within = omega (arith, merging.left_within);
+      size = omega (arith, merging.size, length-set merged at delta);
+      front = take-set-le i merged at delta (omega arith) ∙ sym (take-take i old merged low) ∙ ap (take i) merging.front ∙ take-take i old start low;
+      tail = rw (here, drop-set merged at delta free, next) written;
+      sum = omega (arith, sum);
+    }
+
 pub merging_old : (start : List RelaxDelta) (ps : List (ℕ × ℕ)) (old left at : ℕ) (merged : List RelaxDelta) (delta : RelaxDelta) (bytes : ℕ) → IsValid (map deletion_of start) → IsValid ps → 0 < old → at ≡ old + left - 1 → IsMerging start ps old left merged bytes
     → deletion_of delta ≡ get_or (map deletion_of start) (old - 1) (0, 0) → (0 < left → (get_or ps (left - 1) (0, 0)).0 ≤ (get_or (map deletion_of start) (old - 1) (0, 0)).0) → delta.cumulative_deleted ≡ bytes → IsMerging start ps (old - 1) left (set merged at delta) (bytes - delta.bytes_deleted)
 merging_old start ps old left at merged delta bytes valid rises some place merging is above sum =
     let ds = map deletion_of start in
-    let long : length ds ≡ length start = length-map start deletion_of in
-    let one : old ≡ old - 1 + 1 = omega arith in
-    let inside : old - 1 < length ds = omega (arith, long, merging.old_within) in
-    let free : at < length merged = omega (arith, merging.size, merging.old_within, merging.left_within) in
-    let here : old - 1 + left ≡ at = omega arith in
-    let next : at + 1 ≡ old + left = omega arith in
-    let low : old - 1 ≤ at = omega arith in
-    let tail : IsTail ds ps (old - 1 + 1) left (drop (old + left) merged) = rw (← one) merging.tail in
-    let written : IsTail ds ps (old - 1) left (delta ∷ drop (old + left) merged) = IsTail-old ds ps (old - 1) left (drop (old + left) merged) delta valid rises inside merging.left_within tail is above (rw (← one) (sum ∙ merging.sum)) in
-    record {
-      old_within = omega (arith, merging.old_within);
-      left_within = merging.left_within;
-      size = omega (arith, merging.size, length-set merged at delta);
-      front = take-set-le (old - 1) merged at delta low ∙ sym (take-take (old - 1) old merged (omega arith)) ∙ ap (take (old - 1)) merging.front ∙ take-take (old - 1) old start (omega arith);
-      tail = rw (here, drop-set merged at delta free, next) written;
-      sum = omega (arith, merging.sum, rw (← one) at (sum_by_more (λ (e : ℕ × ℕ). e.1) ds (old - 1) (0, 0) inside), ap (λ (e : ℕ × ℕ). e.1) is);
-    }
+    let one : old - 1 + 1 ≡ old = omega arith in
+    let inside : old - 1 < length ds = omega (arith, length-map start deletion_of, merging.old_within) in
+    merged_on start ps old left (old - 1) left at merged delta bytes merging (omega arith) (omega arith) (omega arith) (omega arith)
+    (IsTail-old ds ps (old - 1) left (drop (old + left) merged) delta valid rises inside merging.left_within (rw one merging.tail) is above (rw one (sum ∙ merging.sum)))
+    (omega (arith, merging.sum, rw one at (sum_by_more (λ (e : ℕ × ℕ). e.1) ds (old - 1) (0, 0) inside), ap (λ (e : ℕ × ℕ). e.1) is))
 
--- an additional deletion is written
 pub merging_left : (start : List RelaxDelta) (ps : List (ℕ × ℕ)) (old left at : ℕ) (merged : List RelaxDelta) (delta : RelaxDelta) (bytes : ℕ) → IsValid (map deletion_of start) → IsValid ps → 0 < left → at ≡ old + left - 1 → IsMerging start ps old left merged bytes
     → deletion_of delta ≡ get_or ps (left - 1) (0, 0) → (0 < old → (get_or (map deletion_of start) (old - 1) (0, 0)).0 ≤ (get_or ps (left - 1) (0, 0)).0) → delta.cumulative_deleted ≡ bytes → IsMerging start ps old (left - 1) (set merged at delta) (bytes - delta.bytes_deleted)
 merging_left start ps old left at merged delta bytes valid rises more place merging is above sum =
     let ds = map deletion_of start in
-    let long : length ds ≡ length start = length-map start deletion_of in
-    let other : left ≡ left - 1 + 1 = omega arith in
+    let one : left - 1 + 1 ≡ left = omega arith in
     let inside : left - 1 < length ps = omega (arith, merging.left_within) in
-    let free : at < length merged = omega (arith, merging.size, merging.old_within, merging.left_within) in
-    let here : old + (left - 1) ≡ at = omega arith in
-    let next : at + 1 ≡ old + left = omega arith in
-    let low : old ≤ at = omega arith in
-    let tail : IsTail ds ps old (left - 1 + 1) (drop (old + left) merged) = rw (← other) merging.tail in
-    let written : IsTail ds ps old (left - 1) (delta ∷ drop (old + left) merged) = IsTail-left ds ps old (left - 1) (drop (old + left) merged) delta valid rises (omega (arith, long, merging.old_within)) inside tail is above (rw (← other) (sum ∙ merging.sum)) in
-    record {
-      old_within = merging.old_within;
-      left_within = omega (arith, merging.left_within);
-      size = omega (arith, merging.size, length-set merged at delta);
-      front = take-set-le old merged at delta low ∙ merging.front;
-      tail = rw (here, drop-set merged at delta free, next) written;
-      sum = omega (arith, merging.sum, rw (← other) at (sum_by_more (λ (e : ℕ × ℕ). e.1) ps (left - 1) (0, 0) inside), ap (λ (e : ℕ × ℕ). e.1) is);
-    }
+    merged_on start ps old left old (left - 1) at merged delta bytes merging (omega arith) (omega arith) (omega arith) (omega arith)
+    (IsTail-left ds ps old (left - 1) (drop (old + left) merged) delta valid rises (omega (arith, length-map start deletion_of, merging.old_within)) inside (rw one merging.tail) is above (rw one (sum ∙ merging.sum)))
+    (omega (arith, merging.sum, rw one at (sum_by_more (λ (e : ℕ × ℕ). e.1) ps (left - 1) (0, 0) inside), ap (λ (e : ℕ × ℕ). e.1) is))
 
 -- the bytes of the next deletion are among those left
 pub spends_old : (start : List RelaxDelta) (ps : List (ℕ × ℕ)) (old left : ℕ) (merged : List RelaxDelta) (bytes : ℕ) → 0 < old → IsMerging start ps old left merged bytes → (get_or (map deletion_of start) (old - 1) (0, 0)).1 ≤ bytes

@@ -1,5 +1,5 @@
 -- Where a list of deletions parts at an offset or at an output offset, and what is gone before it.
-use Rattle.std.proofs.Common.{◌≡◌, ℕ, zero, suc, ◌+◌, ◌-◌, ◌<◌, ◌≤◌, true, false, List, [], ◌∷◌, length, get_or, take, refl, ap, inl, inr, ⊎_elim, add-one, arith}
+use Rattle.std.proofs.Common.{add-zero, add-suc, ◌≡◌, ℕ, zero, suc, ◌+◌, ◌-◌, ◌<◌, ◌≤◌, true, false, List, [], ◌∷◌, length, get_or, take, refl, ap, inl, inr, ⊎_elim, add-one, arith}
 use Rattle.std.specs.Prelude.{◌^◌, not, AllPairs}
 use Rattle.std.specs.List.{list_any, AllWithin}
 use Rattle.std.proofs.lemmas.Bool.{cases_lt}
@@ -83,18 +83,15 @@ selected-output ds k y apart within before after = record {
     ahead : AllWithin (λ d. suc p ≤ d.0) ds k (length ds)
     ahead j d from below = omega (arith, after j d from below, bytes_of-take_rise ds k j from)
 
--- the bytes of the deletions from the one at i up to the one at j lie between their offsets
+-- the bytes of the deletions from the one at i up to the one n after it lie between their offsets
+between : (ds : List (ℕ × ℕ)) (i n : ℕ) (d : ℕ × ℕ) → AllPairs IsBefore ds → i + n < length ds → (get_or ds i d).0 + bytes_of (take (i + n) ds) ≤ (get_or ds (i + n) d).0 + bytes_of (take i ds)
+between ds i zero d ascending within = rw (add-zero i) (omega arith)
+between ds i (suc n) d ascending within =
+    let more = sum_by_more (λ (e : ℕ × ℕ). e.1) ds (i + n) d (omega arith) in
+    rw add-suc (omega (arith, between ds i n d ascending (omega arith), (ascending (i + n) (suc (i + n)) d (omega arith) (omega arith)).1, rw (add-one (i + n)) at more))
+
 pub bytes_between : (ds : List (ℕ × ℕ)) (i j : ℕ) (d : ℕ × ℕ) → AllPairs IsBefore ds → i ≤ j → j < length ds → (get_or ds i d).0 + bytes_of (take j ds) ≤ (get_or ds j d).0 + bytes_of (take i ds)
-bytes_between ds i zero d ascending le within = let e : i ≡ zero = omega arith in rw e (omega arith)
-bytes_between ds i (suc j) d ascending le within =
-    ⊎_elim
-    (λ (below : i < suc j).
-    let before = bytes_between ds i j d ascending (omega arith) (omega arith) in
-    let next : (get_or ds j d).0 + (get_or ds j d).1 ≤ (get_or ds (suc j) d).0 = (ascending j (suc j) d (omega arith) within).1 in
-    let more : bytes_of (take (suc j) ds) ≡ bytes_of (take j ds) + (get_or ds j d).1 = rw (← (add-one j)) (sum_by_more (λ (e : ℕ × ℕ). e.1) ds j d (omega arith)) in
-    omega arith)
-    (λ (from : suc j ≤ i). let e : i ≡ suc j = omega arith in rw e (omega arith))
-    (cases_lt i (suc j))
+bytes_between ds i j d ascending le within = let e : i + (j - i) ≡ j = omega arith in rw e at (between ds i (j - i) d ascending (omega arith))
 
 -- the bytes of the earlier deletions fit below a deletion's offset
 pub bytes-le-offset : (ds : List (ℕ × ℕ)) (j : ℕ) (d : ℕ × ℕ) → AllPairs IsBefore ds → j < length ds → bytes_of (take j ds) ≤ (get_or ds j d).0

@@ -12,7 +12,7 @@ use Rattle.linker_base.specs.Bits.{signed}
 use Rattle.linker_base.specs.Form.{values_below, ImmediateBit, BitsWritten, placed_bit, bit_for, place_sum, IsClear, Written, MachineReads, IsReadBack, WriteBackChangesNothing}
 use Rattle.linker_base.specs.Rounded.{rounded_immediate}
 use Rattle.linker_base.proofs.Places.{value_bit, adds, bit_at-place_sum}
-use Rattle.linker_base.proofs.Fields.{bit_at_window, bit_at_mod, signed_rem, aligned_rem}
+use Rattle.linker_base.proofs.Fields.{bit_at_window, bit_at_mod, signed_rem, aligned_rem, cast_rem, whole_parts}
 use Rattle.linker_base.proofs.Immediates.{fills, values_apart_fills, place_sum_laid, place_sum_below, restored, all_hold, own_bits, bits_kept}
 
 -- all places are of value bits from bit n up
@@ -75,46 +75,21 @@ field_of_sum x low n h =
 
 -- ---- two's complement less a constant
 
-module _ (s r m q : ℕ) (small : s < m) (parts : 2 ^ 64 ≡ suc q * m) (room : m + r ≤ 2 ^ 64) where
-  below_whole : s < 2 ^ 64
-  below_whole = omega arith
+-- s less r, or also less m, to which r is added again
+plus_part : (s r : ℕ) → s < 2 ^ 64 → r ≤ 2 ^ 64 → (cast_unsigned w64 (pos s -ℤ pos r) % 2 ^ 64 + r) % 2 ^ 64 ≡ s
+plus_part s r small room = ap (λ y. (y + r) % 2 ^ 64) (cast_rem (pos s -ℤ pos r) (s + (2 ^ 64 - r)) (omega (arith, ints))) ∙ omega arith
 
-  -- s itself, where it isn't below r
-  above_part : r ≤ s → (cast_unsigned w64 (pos s -ℤ pos r) % 2 ^ 64 + r) % 2 ^ 64 ≡ s
-  above_part h =
-      let z : pos s -ℤ pos r ≡ pos (s - r) = omega (arith, ints) in
-      let cast : cast_unsigned w64 (pos s -ℤ pos r) ≡ s - r = ap (cast_unsigned w64) z in
-      let wide = below_whole in
-      ap (λ y. (y % 2 ^ 64 + r) % 2 ^ 64) cast ∙ omega arith
-
-  below_part : s < r → (cast_unsigned w64 (pos s -ℤ pos r) % 2 ^ 64 + r) % 2 ^ 64 ≡ s
-  below_part h =
-      let z : pos s -ℤ pos r ≡ negsuc (r - s - 1) = omega (arith, ints) in
-      let cast : cast_unsigned w64 (pos s -ℤ pos r) ≡ 2 ^ 64 - (r - s) = ap (cast_unsigned w64) z ∙ omega arith in
-      ap (λ y. (y % 2 ^ 64 + r) % 2 ^ 64) cast ∙ omega arith
-
-  -- s - m
-  minus_part : (cast_unsigned w64 (pos s -ℤ pos m -ℤ pos r) % 2 ^ 64 + r) % 2 ^ 64 ≡ q * m + s
-  minus_part =
-      let z : pos s -ℤ pos m -ℤ pos r ≡ negsuc (m + r - s - 1) = omega (arith, ints) in
-      let cast : cast_unsigned w64 (pos s -ℤ pos m -ℤ pos r) ≡ 2 ^ 64 - (m + r - s) = ap (cast_unsigned w64) z ∙ omega arith in
-      ap (λ y. (y % 2 ^ 64 + r) % 2 ^ 64) cast ∙ omega arith
+minus_part : (s r m q : ℕ) → s < m → 2 ^ 64 ≡ suc q * m → m + r ≤ 2 ^ 64 → (cast_unsigned w64 (pos s -ℤ pos m -ℤ pos r) % 2 ^ 64 + r) % 2 ^ 64 ≡ q * m + s
+minus_part s r m q small parts room =
+    ap (λ y. (y + r) % 2 ^ 64) (cast_rem (pos s -ℤ pos m -ℤ pos r) (q * m + s - r) (omega (arith, ints))) ∙ omega arith
 
 -- the bits of a signed number less r, to which r is added again
 signed_less : (n s r q : ℕ) → s < 2 ^ n → 2 ^ 64 ≡ suc q * 2 ^ n → 2 ^ n + r ≤ 2 ^ 64
     → (cast_unsigned w64 (signed n s -ℤ pos r) % 2 ^ 64 + r) % 2 ^ 64 % 2 ^ n ≡ s
 signed_less n s r q h e room =
-    let same : s % 2 ^ n ≡ s = mod-eq_of_lt h in
     cond_both (ltb s (2 ^ (n - 1))) (pos s) (pos s -ℤ pos (2 ^ n)) (λ z. (cast_unsigned w64 (z -ℤ pos r) % 2 ^ 64 + r) % 2 ^ 64 % 2 ^ n ≡ s)
-    (λ _. elim (cases_lt s r) [
-      | inl below ↦ ap (λ y. y % 2 ^ n) (below_part s r (2 ^ n) q h e room below) ∙ same
-      | inr above ↦ ap (λ y. y % 2 ^ n) (above_part s r (2 ^ n) q h e room above) ∙ same
-    ])
+    (λ _. ap (λ y. y % 2 ^ n) (plus_part s r (omega arith) (omega arith)) ∙ mod-eq_of_lt h)
     (λ _. ap (λ y. y % 2 ^ n) (minus_part s r (2 ^ n) q h e room) ∙ mod_low q n s h)
-
-whole_parts : (n : ℕ) → n ≤ 64 → 2 ^ 64 ≡ suc (2 ^ (64 - n) - 1) * 2 ^ n
-whole_parts n l =
-    ap (λ k. 2 ^ k) (let e : 64 ≡ (64 - n) + n = omega arith in e) ∙ pow-add 2 (64 - n) n ∙ ap (λ y. y * 2 ^ n) (omega (arith, pow_pos (64 - n)))
 
 -- ---- rounded immediates
 

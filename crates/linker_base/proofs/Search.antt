@@ -41,17 +41,16 @@ pub sum_at : (deltas : List RelaxDelta) → AreValidDeltas deltas → (k : ℕ) 
     → (get_or deltas k d).cumulative_deleted ≡ bytes_of (take k (map deletion_of deltas)) + (get_or deltas k d).bytes_deleted
 sum_at deltas listed k d within = listed.listing.sums k d within ∙ bytes_up_to deltas k d within
 
+-- the offsets of a valid list rise
+pub valid_rises : (ds : List (ℕ × ℕ)) → IsValid ds → IsNonDecreasingBy (λ d. d.0) ds
+valid_rises ds valid i j d le within = grind (arith, λ (lower : i < j). (valid.ascending i j d lower within).0, λ (same : i ≡ j). ap (λ k. (get_or ds k d).0) same)
+
 -- the offsets of deltas rise
 pub offsets_rise : (deltas : List RelaxDelta) → IsValid (map deletion_of deltas)
     → IsNonDecreasingBy (λ d. d.input_offset) deltas
-offsets_rise deltas valid i j d le within = elim (cases_order i j) [
-  | inl same ↦ rw same (omega arith)
-  | inr (inl lower) ↦
-      let inside : j < length (map deletion_of deltas) = omega (arith, length-map deltas deletion_of) in
-      let before = rw (deletion_at deltas i d (0, 0) (omega arith), deletion_at deltas j d (0, 0) within) at (valid.ascending i j (0, 0) lower inside) in
-      omega (arith, before.0)
-  | inr (inr above) ↦ absurd (omega arith)
-]
+offsets_rise deltas valid i j d le within =
+    let rise = valid_rises (map deletion_of deltas) valid i j (0, 0) le (omega (arith, length-map deltas deletion_of)) in
+    rw (deletion_at deltas i d (0, 0) (omega arith), deletion_at deltas j d (0, 0) within) at rise
 
 output_offset_from_sum : (offset bytes before : ℕ) → before ≤ offset → offset + bytes < 2 ^ 64
     → (offset + bytes + (2 ^ 64 - (before + bytes))) % 2 ^ 64 + before ≡ offset
@@ -112,14 +111,9 @@ module _ (ds : List (ℕ × ℕ)) (valid : IsValid ds) where
       → ((d : ℕ × ℕ) → 0 < k → (get_or ds (k - 1) d).0 + (get_or ds (k - 1) d).1 ≤ i)
       → ((j : ℕ) (d : ℕ × ℕ) → k ≤ j → j < length ds → i ≤ (get_or ds j d).0) → AreParted ds k i
   parted_past i k within past ahead = record {
-    passed = λ j d from below. elim (cases_lt j (k - 1)) [
-      | inl lower ↦
-          let before = valid.ascending j (k - 1) d lower (omega arith) in
-          omega (arith, before.0, before.1, past d (omega arith))
-      | inr last ↦
-          let here : j ≡ k - 1 = omega arith in
-          rw here (past d (omega arith))
-    ];
+    passed = λ j d from below.
+        let earlier : j < k - 1 → (get_or ds j d).0 + (get_or ds j d).1 ≤ (get_or ds (k - 1) d).0 = λ lower. (valid.ascending j (k - 1) d lower (omega arith)).1 in
+        grind (arith, earlier, past d (omega arith), λ (last : j ≡ k - 1). ap (λ q. get_or ds q d) last);
     ahead = ahead;
   }
 
@@ -144,15 +138,9 @@ module _ (ds : List (ℕ × ℕ)) (valid : IsValid ds) where
               let more : bytes_of (take (k - 1 + 1) ds) ≡ bytes_of (take (k - 1) ds) + last.1 = sum_by_more (λ (e : ℕ × ℕ). e.1) ds (k - 1) (0, 0) (omega arith) in
               let back : k - 1 + 1 ≡ k = omega arith in
               let bytes : bytes_of (take k ds) ≡ bytes_of (take (k - 1) ds) + last.1 = rw back at more in
-              let begin : rank ds last.0 + bytes_of (take (k - 1) ds) ≡ last.0 = rank-parted ds (k - 1) last.0 apart (record {
-                passed = λ j d from below. rw (get_or_default ds (k - 1) (0, 0) d (omega arith)) ((valid.ascending j (k - 1) d below (omega arith)).1);
-                ahead = λ j d from below. elim (cases_lt (k - 1) j) [
-                  | inl later ↦ rw (get_or_default ds (k - 1) (0, 0) d (omega arith)) (omega (arith, (valid.ascending (k - 1) j d later below).0))
-                  | inr same ↦
-                      let at : j ≡ k - 1 = omega arith in
-                      rw (at, get_or_default ds (k - 1) (0, 0) d (omega arith)) (omega arith)
-                ];
-              }) in
+              let begin : rank ds last.0 + bytes_of (take (k - 1) ds) ≡ last.0 = rank-parted ds (k - 1) last.0 apart (parted_past last.0 (k - 1) (omega arith)
+              (λ d positive. rw (get_or_default ds (k - 1) (0, 0) d (omega arith)) ((valid.ascending (k - 1 - 1) (k - 1) d (omega arith) (omega arith)).1))
+              (λ j d from below. rw (get_or_default ds (k - 1) (0, 0) d (omega arith)) (valid_rises ds valid (k - 1) j d from below))) in
               let finish : rank ds end + bytes_of (take k ds) ≡ end = rank-parted ds k end apart (parted_past end k within (λ d positive. omega (arith, ends.last d positive)) (λ j d from below.
               let next = valid.ascending (k - 1) j d (omega arith) below in
               omega (arith, next.1, ends.last d some))) in

@@ -1,7 +1,7 @@
 -- The groups of seven bits of a ULEB128 number.
 use Rattle.std.proofs.Common.{◌≡◌, ℕ, zero, suc, ◌+◌, ◌-◌, ◌*◌, ◌/◌, ◌%◌, ◌^◌, ◌<◌, ◌≤◌, ◌⊎◌}
 use Rattle.std.proofs.Common.{inl, inr, List, length, take, drop, slice_index, take_all, length-drop}
-use Rattle.std.proofs.Common.{refl, sym, ◌∙◌, ap, arith, bit_and, bit_or, pow-suc, mod-eq_of_lt}
+use Rattle.std.proofs.Common.{refl, sym, ◌∙◌, ap, arith, bit_and, bit_or, div-lt_iff_lt-mul, pow-suc, mod-eq_of_lt}
 use Rattle.std.proofs.lemmas.Bool.{cases_lt}
 use Rattle.std.proofs.lemmas.Nat.{and_mask, div_below, mod_below, mod-pow-add, mul-le, or_comm}
 use Rattle.std.proofs.lemmas.Nat.{or_shifted, pow_pos, pow-add, shl_whole, shr_below, shr_split}
@@ -99,20 +99,13 @@ groups_of bytes n (suc i) each =
 
 -- a number is below 2 ^ k where nothing of it stands from bit k up
 below_shift : (n k : ℕ) → n / 2 ^ k ≡ 0 → n < 2 ^ k
-below_shift n k none =
-    let low : n % 2 ^ k < 2 ^ k = mod_below n (2 ^ k) (pow_pos k) in
-    let whole : n / 2 ^ k * 2 ^ k + n % 2 ^ k ≡ n = shr_split n k in
-    let same : 0 * 2 ^ k + n % 2 ^ k ≡ n
-    = ap (λ q. q * 2 ^ k + n % 2 ^ k) (sym none) ∙ whole in
-    omega (arith, low, same)
+below_shift n k none = omega (arith, (div-lt_iff_lt-mul {k = 2 ^ k} {x = n} {y = 1} (pow_pos k)).0 (omega arith))
 
 pub above_shift : (n k : ℕ) → ¬ (n / 2 ^ k ≡ 0) → 2 ^ k ≤ n
-above_shift n k some = by_order (cases_lt n (2 ^ k)) where
-  by_order : (n < 2 ^ k) ⊎ (2 ^ k ≤ n) → 2 ^ k ≤ n
-  by_order (inl low) =
-      let none : n / 2 ^ k < 1 = div_below n (2 ^ k) 1 (pow_pos k) (omega (arith, low)) in
-      absurd (some (omega (arith, none)))
-  by_order (inr high) = high
+above_shift n k some = elim (cases_lt n (2 ^ k)) [
+  | inl low ↦ absurd (some (omega (arith, div_below n (2 ^ k) 1 (pow_pos k) (omega (arith, low)))))
+  | inr high ↦ high
+]
 
 -- a group with the mark that it isn't the last
 marked : (n : ℕ) → (128 ≤ 128 + n % 128) × ((128 + n % 128) % 128 ≡ n % 128)
