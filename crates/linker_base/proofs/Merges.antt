@@ -6,33 +6,20 @@ use Rattle.std.proofs.lemmas.Bool.{cases_lt, cases_order}
 use Rattle.std.proofs.lemmas.List.{append_assoc, take-append-drop, take-append-le, take-take, take-map, take-set-le, drop_more, drop-set, get_or-take, get_or_default, get_or_append_left, get_or-append_right, map-append, length-append, length-map, length-set, length-take}
 use Rattle.std.proofs.Math.Seq.{take-append-add}
 use Rattle.std.proofs.lemmas.List.Elements.{All-cons}
-use Rattle.std.proofs.lemmas.List.Sorted.{IsNonDecreasingBy-take, IsPermutation-cons, IsPermutation-append_right, IsPermutation-append_comm, IsPermutation-trans}
+use Rattle.std.proofs.lemmas.List.Sorted.{IsNonDecreasingBy-insert, IsNonDecreasingBy-take, IsPermutation-cons, IsPermutation-append_right, IsPermutation-append_comm, IsPermutation-trans}
 use Rattle.std.proofs.lemmas.List.Sums.{sum_by-cons, sum_by_more, sum_by-append}
 use Rattle.linker_base.specs.declared.relaxation.RelaxDelta.{RelaxDelta}
 use Rattle.linker_base.specs.Deletions.{AreDisjoint, IsValid, IsSortedUnion, bytes_of}
 use Rattle.linker_base.specs.Deltas.{deletion_of}
 use Rattle.linker_base.specs.Listed.{AreValidDeltas}
+use Rattle.linker_base.proofs.Listed.{all_pairs_append}
 use Rattle.linker_base.proofs.Search.{deletion_at, valid_rises}
 use Rattle.linker_base.proofs.Unions.{union_from_sort}
 
-rise-cons : (x : ℕ × ℕ) (xs : List (ℕ × ℕ)) → All (λ d. x.0 ≤ d.0) xs → IsNonDecreasingBy (λ d. d.0) xs → IsNonDecreasingBy (λ d. d.0) (x ∷ xs)
-rise-cons x xs least rise zero zero d le within = omega arith
-rise-cons x xs least rise zero (suc j) d le within = least j d (omega arith)
-rise-cons x xs least rise (suc i) zero d le within = absurd (omega arith)
-rise-cons x xs least rise (suc i) (suc j) d le within = rise i j d (omega arith) (omega arith)
-
-pub rise-append : (xs ys : List (ℕ × ℕ)) → IsNonDecreasingBy (λ d. d.0) xs → IsNonDecreasingBy (λ d. d.0) ys → ((k : ℕ) → k < length xs → All (λ d. (get_or xs k (0, 0)).0 ≤ d.0) ys) → IsNonDecreasingBy (λ d. d.0) (xs ++ ys)
-rise-append xs ys first second above i j d le within = elim (cases_lt j (length xs)) [
-  | inl low ↦
-      let lower : i < length xs = omega arith in
-      rw (get_or_append_left xs ys d i lower, get_or_append_left xs ys d j low) (first i j d le low)
-  | inr high ↦
-      let inside : j - length xs < length ys = omega (arith, length-append xs ys) in
-      elim (cases_lt i (length xs)) [
-        | inl low ↦ rw (get_or_append_left xs ys d i low, get_or-append_right xs ys (length xs) j d refl high, get_or_default xs i d (0, 0) low) (above i low (j - length xs) d inside)
-        | inr from ↦ rw (get_or-append_right xs ys (length xs) i d refl from, get_or-append_right xs ys (length xs) j d refl high) (second (i - length xs) (j - length xs) d (omega arith) inside)
-      ]
-]
+rise-append : (xs ys : List (ℕ × ℕ)) → IsNonDecreasingBy (λ d. d.0) xs → IsNonDecreasingBy (λ d. d.0) ys → All (λ y. All (λ x. x.0 ≤ y.0) xs) ys → IsNonDecreasingBy (λ d. d.0) (xs ++ ys)
+rise-append xs ys first second above i j d le within =
+    let all = all_pairs_append (λ x y. x.0 ≤ y.0) xs ys (λ i j d lt low. first i j d (omega arith) low) (λ i j d lt low. second i j d (omega arith) low) above in
+    grind (arith, λ (lower : i < j). all i j d lower within, λ (same : i ≡ j). ap (λ k. (get_or (xs ++ ys) k d).0) same)
 
 -- each delta has the bytes deleted before all, and those up to it
 pub record HaveSums (before : ℕ) (deltas : List RelaxDelta) : Type 0 where
@@ -83,7 +70,7 @@ IsTail-old ds ps i j tail delta valid rises within inside merged is above sum =
     let more = sum_by_more (λ (e : ℕ × ℕ). e.1) ds i (0, 0) within in
     record {
       same = rw (drop_more ds i (0, 0) within, ← is) (IsPermutation-cons (deletion_of delta) (drop (i + 1) ds ++ drop j ps) (map deletion_of tail) merged.same);
-      rise = rise-cons (deletion_of delta) (map deletion_of tail) (rw (← is) at (merged.above_old i (omega arith))) merged.rise;
+      rise = IsNonDecreasingBy-insert (λ d. d.0) (map deletion_of tail) 0 (deletion_of delta) merged.rise (omega arith) (λ k d low. absurd (omega arith)) (λ k d low high. (rw (← is) at (merged.above_old i (omega arith))) k d high);
       above_old = λ k low. All-cons (λ d. (get_or ds k (0, 0)).0 ≤ d.0) (deletion_of delta) (map deletion_of tail) (omega (arith, offset, valid_rises ds valid k i (0, 0) (omega arith) within)) (merged.above_old k (omega arith));
       above_left = λ k low. All-cons (λ d. (get_or ps k (0, 0)).0 ≤ d.0) (deletion_of delta) (map deletion_of tail) (omega (arith, offset, above (omega arith), valid_rises ps rises k (j - 1) (0, 0) (omega arith) (omega arith))) (merged.above_left k low);
       sums = HaveSums-cons (bytes_of (take i ds) + bytes_of (take j ps)) delta tail (omega (arith, more, bytes, sum)) (
@@ -171,52 +158,26 @@ spends_left start ps old left merged bytes some merging =
 
 -- the first i deltas, where they stood, and those after them list all
 pub merging_last : (start : List RelaxDelta) (ps : List (ℕ × ℕ)) (i bytes : ℕ) (deltas : List RelaxDelta) → AreValidDeltas start → AreDisjoint (map deletion_of start ++ ps) → IsMerging start ps i 0 deltas bytes → IsSortedUnion (map deletion_of start ++ ps) (map deletion_of deltas) × AreValidDeltas deltas
-merging_last start ps i bytes deltas listed disjoint merging = (union, record { valid = union.valid; listing = record { same = refl; sums = λ k d within. omega (arith, sums.each k d within) } })
-  where
-    ds : List (ℕ × ℕ)
-    ds = map deletion_of start
-
-    tail : List RelaxDelta
-    tail = drop i deltas
-
-    here : i + 0 ≡ i
-    here = omega arith
-
-    merged : IsTail ds ps i 0 tail
-    merged = rw here at merging.tail
-
-    whole : deltas ≡ take i start ++ tail
-    whole = sym (take-append-drop i deltas) ∙ ap (λ front. front ++ drop i deltas) merging.front
-
-    joined : map deletion_of deltas ≡ take i ds ++ map deletion_of tail
-    joined = ap (map deletion_of) whole ∙ map-append deletion_of (take i start) tail ∙ ap (λ front. front ++ map deletion_of tail) (sym (take-map deletion_of i start))
-
-    same : IsPermutation (ds ++ ps) (take i ds ++ map deletion_of tail)
-    same =
-        let moved = IsPermutation-append_right (take i ds) (drop i ds ++ ps) (map deletion_of tail) merged.same in
-        rw (← (append_assoc (take i ds) (drop i ds) ps), take-append-drop i ds) at moved
-
-    long : length (take i ds) ≤ i
-    long = omega (arith, length-take i ds)
-
-    rise : IsNonDecreasingBy (λ d. d.0) (take i ds ++ map deletion_of tail)
-    rise = rise-append (take i ds) (map deletion_of tail) (IsNonDecreasingBy-take (λ d. d.0) i ds (valid_rises ds listed.valid)) merged.rise (λ k low.
-        let lower : k < i = omega (arith, long) in
-        rw (get_or-take i ds k (0, 0) lower) (merged.above_old k lower))
-
-    union : IsSortedUnion (ds ++ ps) (map deletion_of deltas)
-    union = rw joined (union_from_sort (ds ++ ps) (take i ds ++ map deletion_of tail) same disjoint rise)
-
-    front : HaveSums 0 (take i start)
-    front = record {
+merging_last start ps i bytes deltas listed disjoint merging =
+    let ds = map deletion_of start in
+    let tail = drop i deltas in
+    let here : i + 0 ≡ i = omega arith in
+    let merged : IsTail ds ps i 0 tail = rw here at merging.tail in
+    let whole : deltas ≡ take i start ++ tail = sym (take-append-drop i deltas) ∙ ap (λ front. front ++ tail) merging.front in
+    let joined : map deletion_of deltas ≡ take i ds ++ map deletion_of tail =
+    ap (map deletion_of) whole ∙ map-append deletion_of (take i start) tail ∙ ap (λ front. front ++ map deletion_of tail) (sym (take-map deletion_of i start)) in
+    let moved = IsPermutation-append_right (take i ds) (drop i ds ++ ps) (map deletion_of tail) merged.same in
+    let same = rw (← (append_assoc (take i ds) (drop i ds) ps), take-append-drop i ds) at moved in
+    let rise = rise-append (take i ds) (map deletion_of tail) (IsNonDecreasingBy-take (λ d. d.0) i ds (valid_rises ds listed.valid)) merged.rise (λ m e inside k d low.
+    let lower : k < i = omega (arith, length-take i ds) in
+    rw (get_or-take i ds k d lower, get_or_default ds k d (0, 0) (omega (arith, length-take i ds))) (merged.above_old k lower m e inside)) in
+    let union : IsSortedUnion (ds ++ ps) (map deletion_of deltas) = rw joined (union_from_sort (ds ++ ps) (take i ds ++ map deletion_of tail) same disjoint rise) in
+    let front : HaveSums 0 (take i start) = record {
       each = λ k d within.
           let lower : k < i = omega (arith, length-take i start) in
-          let inside : k < length start = omega (arith, length-take i start) in
           let taken : take (k + 1) (map deletion_of (take i start)) ≡ take (k + 1) ds = ap (take (k + 1)) (sym (take-map deletion_of i start)) ∙ take-take (k + 1) i ds (omega arith) in
-          rw (get_or-take i start k d lower, taken) (omega (arith, listed.listing.sums k d inside));
-    }
-
-    sums : HaveSums 0 deltas
-    sums = rw whole (HaveSums-append 0 (take i start) tail front (
-        let before : 0 + bytes_of (map deletion_of (take i start)) ≡ bytes_of (take i ds) + bytes_of (take 0 ps) = omega (arith, ap bytes_of (take-map deletion_of i start)) in
-        rw before merged.sums))
+          rw (get_or-take i start k d lower, taken) (omega (arith, listed.listing.sums k d (omega (arith, length-take i start))));
+    } in
+    let before : 0 + bytes_of (map deletion_of (take i start)) ≡ bytes_of (take i ds) + bytes_of (take 0 ps) = omega (arith, ap bytes_of (take-map deletion_of i start)) in
+    let sums : HaveSums 0 deltas = rw whole (HaveSums-append 0 (take i start) tail front (rw before merged.sums)) in
+    (union, record { valid = union.valid; listing = record { same = refl; sums = λ k d within. omega (arith, sums.each k d within) } })

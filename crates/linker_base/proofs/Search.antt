@@ -148,14 +148,6 @@ module _ (ds : List (ℕ × ℕ)) (valid : IsValid ds) where
         ]
       ]
 
-  pub selected_from_search : (y k : ℕ) → k ≤ length ds → ArePlaced ds y k
-      → IsSelected ds y (y + bytes_of (take k ds))
-  selected_from_search y k within placed = selected-output ds k y (apart_from_ascending ds valid.ascending) within placed.before placed.after
-
-  pub fits_from_search : (y k : ℕ) → k ≤ length ds → ArePlaced ds y k
-      → HasInput ds y ↔ (y + bytes_of (take k ds) < 2 ^ 64)
-  fits_from_search y k within placed = input_fits ds y (y + bytes_of (take k ds)) (selected_from_search y k within placed)
-
   -- of a valid list one deletion at most begins at an offset
   pub only_at : (offset k : ℕ) (e : ℕ × ℕ) → k < length ds → (get_or ds k e).0 ≡ offset
       → IsOnlyAt ds offset (get_or ds k e).1
@@ -206,23 +198,24 @@ rank_at_none deltas listed i parted =
 
 -- ---- searches by index
 
-pub begins_partitioned : (s : Subject) → IsValid (map deletion_of s.deltas) → (i : ℕ)
+begins_partitioned : (s : Subject) → IsValid (map deletion_of s.deltas) → (i : ℕ)
     → IsPartitioned s Deltas (BeginsBelow i)
 begins_partitioned s valid i j k le within passes = let rise = offsets_rise s.deltas valid j k blank le within in grind (arith, nat_tests)
 
-pub places_partitioned : (s : Subject) → AreValidDeltas s.deltas → (y : ℕ)
+places_partitioned : (s : Subject) → AreValidDeltas s.deltas → (y : ℕ)
     → IsPartitioned s Deltas (IsPlacedUpTo y)
 places_partitioned s listed y j k le within passes = placed_first s.deltas listed y j k blank le within passes
 
-pub parted_from_point : (s : Subject) (i k : ℕ) → k ≤ length s.deltas
-    → IsPointOf s Deltas (BeginsBelow i) k
+pub parted_from_point : (s : Subject) (i k : ℕ) → IsValid (map deletion_of s.deltas) → k ≤ length s.deltas
+    → (IsPartitioned s Deltas (BeginsBelow i) → IsPointOf s Deltas (BeginsBelow i) k)
     → IsPartitionPoint (λ d. d.0 < i) (λ d. i ≤ d.0) (map deletion_of s.deltas) k
-parted_from_point s i k within found = (
-  λ j d low high. rw (deletion_at s.deltas j blank d (omega arith)) (grind (arith, nat_tests, found.before j high)),
-  λ j d low high. let inside : j < length s.deltas = omega (arith, length-map s.deltas deletion_of) in rw (deletion_at s.deltas j blank d inside) (grind (arith, nat_tests, found.after j low inside)),
-)
+parted_from_point s i k valid within find =
+    let found = find (begins_partitioned s valid i) in (
+      λ j d low high. rw (deletion_at s.deltas j blank d (omega arith)) (grind (arith, nat_tests, found.before j high)),
+      λ j d low high. let inside : j < length s.deltas = omega (arith, length-map s.deltas deletion_of) in rw (deletion_at s.deltas j blank d inside) (grind (arith, nat_tests, found.after j low inside)),
+    )
 
-pub placed_from_point : (s : Subject) → AreValidDeltas s.deltas → (y k : ℕ) → k ≤ length s.deltas
+placed_from_point : (s : Subject) → AreValidDeltas s.deltas → (y k : ℕ) → k ≤ length s.deltas
     → IsPointOf s Deltas (IsPlacedUpTo y) k → ArePlaced (map deletion_of s.deltas) y k
 placed_from_point s listed y k within found = record {
   before = λ j d below. (placed_at s.deltas listed y j blank d (omega arith)).0 (found.before j below);
@@ -230,6 +223,17 @@ placed_from_point s listed y k within found = record {
       let inside : j < length s.deltas = omega (arith, length-map s.deltas deletion_of) in
       (placed_at s.deltas listed y j blank d inside).2 (found.after j from inside);
 }
+
+-- a search by output offsets finds what one selects, and tells whether that is of 64 bits
+pub searched : (s : Subject) → AreValidDeltas s.deltas → (y k : ℕ) → k ≤ length s.deltas
+    → (IsPartitioned s Deltas (IsPlacedUpTo y) → IsPointOf s Deltas (IsPlacedUpTo y) k)
+    → IsSelected (map deletion_of s.deltas) y (y + bytes_of (take k (map deletion_of s.deltas)))
+    × (HasInput (map deletion_of s.deltas) y ↔ (y + bytes_of (take k (map deletion_of s.deltas)) < 2 ^ 64))
+searched s listed y k within find =
+    let ds = map deletion_of s.deltas in
+    let placed = placed_from_point s listed y k within (find (places_partitioned s listed y)) in
+    let selected = selected-output ds k y (apart_from_ascending ds listed.valid.ascending) (omega (arith, length-map s.deltas deletion_of)) placed.before placed.after in
+    (selected, input_fits ds y (y + bytes_of (take k ds)) selected)
 
 -- ---- searches by heads
 

@@ -68,6 +68,13 @@ begun_later ds valid passed i j begun le k d within =
     let low : k < passed = omega (arith, length-take passed ds) in
     rw (get_or-take passed ds k d low) (omega (arith, parted.0 k d (omega arith) (omega arith)))
 
+-- so do both after a query that is no step back
+pub walked_ahead : (ds : List (ℕ × ℕ)) → IsValid ds → (before i : ℕ) (reached : Reached) → before ≤ length ds → reached.passed ≡ max before (begun_below ds i) → IsWalked ds reached → All (λ d. d.0 < i) (take before ds)
+    → (rank ds i + reached.deleted ≡ max i reached.end) × All (λ d. d.0 < i) (take reached.passed ds)
+walked_ahead ds valid before i reached within passed walked ahead =
+    let begun = passed ∙ begun_ahead ds valid before i within ahead in
+    (rank_walked ds valid reached i begun walked, begun_later ds valid reached.passed i i begun (omega arith))
+
 -- the last of the first deletions decides whether all of them begin below an offset
 pub taken_begin_below : (ds : List (ℕ × ℕ)) → AllPairs IsBefore ds → (i k : ℕ) → 0 < k → k ≤ length ds → ((get_or ds (k - 1) (0, 0)).0 < i) ↔ All (λ d. d.0 < i) (take k ds)
 taken_begin_below ds ascending i k some bound = (

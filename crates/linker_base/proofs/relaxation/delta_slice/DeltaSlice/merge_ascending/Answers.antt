@@ -35,16 +35,10 @@ loop-deletion-preserved g c =
     let valid : AreValidTogether ds ps = rw c.deltas-deltas.ensures c.requires.valid in
     merged_step ds ps c.loop-deletion.passed c.loop-deletion.taken c.loop-deletion.merged c.loop-deletion.bytes c.in-Some.deletion c.in-Some.is_old _ _ _ c.loop-deletion.invariant valid c.in-Some.ensures refl (omega arith) (omega arith) (omega arith)
 
-pub returns-clause-union : goal.returns-clause-union
-returns-clause-union g c =
+pub returns : goal.returns
+returns g c =
     let ds = map deletion_of c.deltas-deltas.result.now in
     let ps = map g.D.AsDeletion.deletion c.args.additional.now in
     let valid : AreValidTogether ds ps = rw c.deltas-deltas.ensures c.requires.valid in
-    rw (← c.deltas-deltas.ensures) (merged_all ds ps c.loop-deletion.passed c.loop-deletion.taken c.loop-deletion.merged c.loop-deletion.bytes valid.disjoint c.loop-deletion.invariant (omega (arith, length-map c.deltas-deltas.result.now deletion_of, c.in_default.ensures)) (omega (arith, length-map c.args.additional.now g.D.AsDeletion.deletion, c.in_default.ensures))).0
-
-pub returns-clause-listed : goal.returns-clause-listed
-returns-clause-listed g c =
-    let ds = map deletion_of c.deltas-deltas.result.now in
-    let ps = map g.D.AsDeletion.deletion c.args.additional.now in
-    let valid : AreValidTogether ds ps = rw c.deltas-deltas.ensures c.requires.valid in
-    (merged_all ds ps c.loop-deletion.passed c.loop-deletion.taken c.loop-deletion.merged c.loop-deletion.bytes valid.disjoint c.loop-deletion.invariant (omega (arith, length-map c.deltas-deltas.result.now deletion_of, c.in_default.ensures)) (omega (arith, length-map c.args.additional.now g.D.AsDeletion.deletion, c.in_default.ensures))).1
+    let all = merged_all ds ps c.loop-deletion.passed c.loop-deletion.taken c.loop-deletion.merged c.loop-deletion.bytes valid.disjoint c.loop-deletion.invariant (omega (arith, length-map c.deltas-deltas.result.now deletion_of, c.in_default.ensures)) (omega (arith, length-map c.args.additional.now g.D.AsDeletion.deletion, c.in_default.ensures)) in
+    record { union = rw (← c.deltas-deltas.ensures) all.0; listed = all.1 }
