@@ -33,12 +33,8 @@ loop-index-preserved c =
 
 pub returns : goal.returns
 returns c = λ valid room.
-    let deltas = c.args.deltas.now in
     let ends = c.args.base + length c.args.section.now in
-    let behind = c.count_begun-behind.result in
-    let same = c.loop-index.auto.packed in
-    let past : behind ≤ c.loop-index.index = c.loop-index-test.false in
-    copied_end (map deletion_of deltas) c.args.base c.args.section.now c.loop-index.packed c.between-2.result.now c.put-end.new.packed c.loop-index.index c.loop-index.from c.loop-index.at
-    (c.loop-index.invariant.copied valid (same ∙ room)) (same ∙ room) c.put-end.ensures.bytes
-    (λ j d h inside. begin_above deltas ends behind valid (c.count_begun-behind.ensures.begun valid) j d (omega arith) inside)
+    let room = c.loop-index.auto.packed ∙ room in
+    copied_end _ _ _ _ _ _ _ _ _ (c.loop-index.invariant.copied valid room) room c.put-end.ensures.bytes
+    (λ j d h inside. begin_above c.args.deltas.now ends c.count_begun-behind.result valid (c.count_begun-behind.ensures.begun valid) j d (omega (arith, c.loop-index-test.false)) inside)
     c.between-2.ensures
