@@ -1,7 +1,7 @@
 -- The bytes of a section that stay are copied run by run. The section begins at a base.
 use Rattle.std.proofs.Common.{◌≡◌, ℕ, zero, suc, ◌+◌, ◌-◌, ◌<◌, ◌≤◌, ◌^◌, true, false, not, ltb, leb, List, ◌++◌, length, get_or, take, drop, min, max, map, refl, sym, subst, ◌∙◌, ap, arith, inl, inr, add-zero, add-suc}
 use Rattle.std.specs.List.{list_any}
-use Rattle.std.proofs.lemmas.Bool.{cases_Bool, cases_lt, both_ways, and_from, le-leb, lt-ltb}
+use Rattle.std.proofs.lemmas.Bool.{false_from_ne_true, cases_lt, both_ways, and_from, le-leb, lt-ltb}
 use Rattle.std.proofs.lemmas.List.Folds.{list_any_at}
 use Rattle.std.proofs.lemmas.List.{length-take, length-append, length-drop, get_or-take, get_or-drop, get_or_append_left, get_or-append_right, get_or_default, get_or-map, length-map, take_all}
 use Rattle.linker_base.specs.Deletions.{IsValid, covers, is_kept, rank}
@@ -44,19 +44,12 @@ gone_at ds p k d l at low high kept =
 
 -- a position in the run from an offset up to the next deletion is kept
 pub run_kept : (ds : List (ℕ × ℕ)) (k from p : ℕ) → IsRunStart ds k from → from ≤ p → ((j : ℕ) (d : ℕ × ℕ) → k ≤ j → j < length ds → p < (get_or ds j d).0) → is_kept ds p ≡ true
-run_kept ds k from p start low high =
-    ap not (none_covers ds p (λ j d within begun. elim (cases_lt j k) [
-      | inl passed ↦ omega (arith, start.ended j d passed)
-      | inr ahead ↦ absurd (omega (arith, high j d ahead within))
-    ]))
+run_kept ds k from p start low high = ap not (none_covers ds p (λ j d within begun. grind (arith, start.ended j d, high j d)))
 
 -- a position in a deletion isn't
 pub deleted_gone : (ds : List (ℕ × ℕ)) (k p : ℕ) (d : ℕ × ℕ) → k < length ds → (get_or ds k d).0 ≤ p → p < (get_or ds k d).0 + (get_or ds k d).1 → is_kept ds p ≡ false
 deleted_gone ds k p d within low high =
-    elim (cases_Bool (is_kept ds p)) [
-      | inl kept ↦ absurd (gone_at ds p k (get_or ds k d) within (get_or_default ds k (get_or ds k d) d within) low high kept)
-      | inr gone ↦ gone
-    ]
+    false_from_ne_true (is_kept ds p) (gone_at ds p k (get_or ds k d) within (get_or_default ds k (get_or ds k d) d within) low high)
 
 -- over kept positions the rank rises with the offset
 pub rank-kept : (ds : List (ℕ × ℕ)) (i n : ℕ) → ((p : ℕ) → i ≤ p → p < i + n → is_kept ds p ≡ true) → rank ds (i + n) ≡ rank ds i + n
@@ -175,11 +168,7 @@ module _ (ds : List (ℕ × ℕ)) (base : ℕ) (s packed bytes new : List ℕ) (
         omega (arith, next_is, (valid.ascending k j d up inside).1, ap (λ (e : ℕ × ℕ). e.0 + e.1) (get_or_default ds k d (0, 0) within))
 
     first_from : (j : ℕ) (d : ℕ × ℕ) → k ≤ j → j < length ds → to ≤ (get_or ds j d).0
-    first_from j d up inside =
-        elim (cases_lt k j) [
-          | inl after ↦ omega (arith, next_is, later j d after inside)
-          | inr here ↦ let same : j ≡ k = omega arith in rw same (omega (arith, ap (λ (e : ℕ × ℕ). e.0) (get_or_default ds k d (0, 0) within)))
-        ]
+    first_from j d up inside = grind (arith, next_is, later j d, λ (same : j ≡ k). ap (λ q. (get_or ds q d).0) same, ap (λ (e : ℕ × ℕ). e.0) (get_or_default ds k d (0, 0) within))
 
     done : (at + length bytes ≤ length packed) × (at + length bytes + rank ds base ≡ rank ds (min to ends)) × IsFilledTo ds base s (min to ends) new
     done = run_put to (omega (arith, above, rise)) (omega (arith, rise)) (λ j d up inside. omega (arith, first_from j d up inside)) run
@@ -195,10 +184,7 @@ module _ (ds : List (ℕ × ℕ)) (base : ℕ) (s packed bytes new : List ℕ) (
     pub copied_step : IsCopied ds base s (k + 1) next end new
     copied_step = record {
       start = record {
-        ended = λ j d below. elim (cases_lt j k) [
-          | inl before ↦ omega (arith, copied.start.ended j d before, rise, next_is)
-          | inr here ↦ let same : j ≡ k = omega arith in rw same (omega (arith, next_is, ap (λ (e : ℕ × ℕ). e.0 + e.1) (get_or_default ds k d (0, 0) within)))
-        ];
+        ended = λ j d below. grind (arith, copied.start.ended j d, rise, next_is, λ (same : j ≡ k). ap (λ q. get_or ds q d) same, get_or_default ds k d (0, 0) within);
         ahead = λ j d after inside. later j d (omega arith) inside;
       };
       above = omega (arith, above, rise, next_is);
@@ -267,20 +253,10 @@ deletion_at deltas j d e h = ap (λ (x : ℕ × ℕ). x.0) (get_or-map deletion_
 module _ (deltas : List RelaxDelta) (offset begun : ℕ) (valid : AreValidDeltas deltas) (are : AreBegun deltas offset begun) where
   pub begin_below : (j : ℕ) (d : ℕ × ℕ) → j < begun → (get_or (map deletion_of deltas) j d).0 < offset
   begin_below j d h =
-      let within = are.within in
-      let low = are.below (omega arith) in
-      let last = deletion_at deltas (begun - 1) d no_delta (omega arith) in
-      elim (cases_lt j (begun - 1)) [
-        | inl before ↦ let rise = (valid.valid.ascending j (begun - 1) d before (omega (arith, length-map deltas deletion_of))).0 in omega arith
-        | inr here ↦ let same : j ≡ begun - 1 = omega arith in rw same (omega arith)
-      ]
+      let last = deletion_at deltas (begun - 1) d no_delta in
+      grind (arith, are.within, are.below, last, λ (before : j < begun - 1). (valid.valid.ascending j (begun - 1) d before (omega (arith, are.within, length-map deltas deletion_of))).0, λ (same : j ≡ begun - 1). ap (λ q. (get_or (map deletion_of deltas) q d).0) same)
 
   pub begin_above : (j : ℕ) (d : ℕ × ℕ) → begun ≤ j → j < length (map deletion_of deltas) → offset ≤ (get_or (map deletion_of deltas) j d).0
   begin_above j d h inside =
-      let there : j < length deltas = omega (arith, length-map deltas deletion_of) in
-      let low = are.above (omega arith) in
-      let first = deletion_at deltas begun d no_delta (omega arith) in
-      elim (cases_lt begun j) [
-        | inl before ↦ let rise = (valid.valid.ascending begun j d before inside).0 in omega arith
-        | inr here ↦ let same : j ≡ begun = omega arith in rw same (omega arith)
-      ]
+      let first = deletion_at deltas begun d no_delta in
+      grind (arith, length-map deltas deletion_of, are.above, first, λ (before : begun < j). (valid.valid.ascending begun j d before inside).0, λ (same : j ≡ begun). ap (λ q. (get_or (map deletion_of deltas) q d).0) same)

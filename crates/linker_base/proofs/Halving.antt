@@ -1,7 +1,7 @@
 -- Steps of a search: what one test says of all other elements, and how many probes they take.
 use Rattle.std.proofs.Common.{pow_mono, ◌≡◌, ℕ, zero, suc, ◌+◌, ◌*◌, ◌<◌, ◌≤◌, false, sym, ap, ◌∙◌, inl, inr, arith}
 use Rattle.std.specs.Prelude.{◌^◌}
-use Rattle.std.proofs.lemmas.Bool.{cases_Bool, cases_order, false≢true}
+use Rattle.std.proofs.lemmas.Bool.{false_from_ne_true, false≢true}
 use Rattle.std.proofs.lemmas.Nat.{pow_below}
 use Rattle.linker_base.specs.declared.relaxation.search.Level.{Level}
 use Rattle.linker_base.specs.declared.relaxation.search.Level.TheVariants.{Heads, Deltas}
@@ -41,12 +41,9 @@ module _ (s : Subject) (test : Test) where
 
   fails_after : IsPartitioned s Deltas test → HeadsAgree s test → (h : ℕ) → IsPointOf s Heads test h
       → (k : ℕ) → 64 * h ≤ k → k < size_of s Deltas → passing s Deltas test k ≡ false
-  fails_after parted agree h point k from high = elim (cases_Bool (passing s Deltas test k)) [
-    | inl passes ↦
-        let inside : h < size_of s Heads = omega arith in
-        absurd (false≢true (sym (point.after h (omega arith) inside) ∙ agree h inside ∙ parted (64 * h) k from high passes))
-    | inr fails ↦ fails
-  ]
+  fails_after parted agree h point k from high = false_from_ne_true (passing s Deltas test k) (λ passes.
+      let inside : h < size_of s Heads = omega arith in
+      false≢true (sym (point.after h (omega arith) inside) ∙ agree h inside ∙ parted (64 * h) k from high passes))
 
   -- the last head that passes is the first delta of the block in which those that pass end
   pub block_narrowed : IsPartitioned s Deltas test → HeadsAgree s test → (h b count : ℕ)

@@ -53,10 +53,7 @@ none_covers (d ∷ ds) p past =
 
 -- nor one that parts the list, if those ahead begin above it
 kept-parted : (ds : List (ℕ × ℕ)) (k p : ℕ) → AreParted ds k (suc p) → AllWithin (λ d. d.0 + d.1 ≤ p) ds 0 k → is_kept ds p ≡ true
-kept-parted ds k p parted passed = ap not (none_covers ds p (λ j d within begun. elim (cases_lt j k) [
-  | inl low ↦ passed j d (omega arith) low
-  | inr from ↦ absurd (omega (arith, begun, parted.ahead j d from within))
-]))
+kept-parted ds k p parted passed = ap not (none_covers ds p (λ j d within begun. grind (arith, passed j d (omega arith), parted.ahead j d)))
 
 -- where the output offsets part the list at k, the first k deletions are the bytes to add
 pub selected-output : (ds : List (ℕ × ℕ)) (k y : ℕ) → AllPairs DoNotOverlap ds → k ≤ length ds

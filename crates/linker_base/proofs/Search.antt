@@ -166,11 +166,7 @@ module _ (ds : List (ℕ × ℕ)) (valid : IsValid ds) where
       → ⊥
   none_at offset k parted other (j, d, inside, is, here) =
       let at : (get_or ds j d).0 ≡ offset = ap (λ (x : ℕ × ℕ). x.0) is ∙ here in
-      elim (cases_order j k) [
-        | inl same ↦ other d (omega arith) (rw (← same) at)
-        | inr (inl lower) ↦ omega (arith, at, parted.0 j d (omega arith) lower)
-        | inr (inr higher) ↦ omega (arith, at, (valid.ascending k j d higher inside).0, parted.1 k d (omega arith) (omega arith))
-      ]
+      grind (arith, at, parted.0 j d (omega arith), parted.1 k d (omega arith), λ (same : j ≡ k). other d (omega arith) (rw (← same) at), λ (higher : k < j). (valid.ascending k j d higher inside).0)
 
 -- what the last delta that begins below an offset tells of the offset's rank
 pub rank_at_last : (deltas : List RelaxDelta) → AreValidDeltas deltas → (i last : ℕ)

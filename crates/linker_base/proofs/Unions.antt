@@ -58,13 +58,13 @@ disjoint_from_valid ds valid = record { apart = apart_from_ascending ds valid.as
 
 -- disjoint deletions whose offsets don't fall are a valid list
 pub valid_from_disjoint : (ds : List (ℕ × ℕ)) → AreDisjoint ds → IsNonDecreasingBy (λ d. d.0) ds → IsValid ds
-valid_from_disjoint ds disjoint rise = record { ascending = ascending; ends = disjoint.ends }
-  where
-    ascending : AllPairs IsBefore ds
-    ascending i j d below within = elim (disjoint.apart i j d below within) [
-      | inl before ↦ before
-      | inr after ↦ absurd (omega (arith, rise i j d (omega arith) within, after.0))
-    ]
+valid_from_disjoint ds disjoint rise = record {
+  ascending = λ i j d below within. elim (disjoint.apart i j d below within) [
+    | inl before ↦ before
+    | inr after ↦ absurd (omega (arith, rise i j d (omega arith) within, after.0))
+  ];
+  ends = disjoint.ends;
+}
 
 -- a sort of disjoint deletions by offset is their sorted union
 pub union_from_sort : (all ds : List (ℕ × ℕ)) → IsPermutation all ds → AreDisjoint all → IsNonDecreasingBy (λ d. d.0) ds → IsSortedUnion all ds

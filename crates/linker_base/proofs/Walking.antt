@@ -19,40 +19,18 @@ use Rattle.linker_base.proofs.Search.{blank, deletion_at, rank_from_search}
 pub walked_to : (deltas : List RelaxDelta) → AreValidDeltas deltas → (i start k : ℕ) → start ≤ k → k ≤ length deltas → ((j : ℕ) (d : RelaxDelta) → start ≤ j → j < k → (get_or deltas j d).input_offset < i) → (k < length deltas → i ≤ (get_or deltas k blank).input_offset) → k ≡ max start (begun_below (map deletion_of deltas) i)
 walked_to deltas listed i start k from within begun stop =
     let ds = map deletion_of deltas in
-    let b = begun_below ds i in
     let bound = count_by-le-length (λ (d : ℕ × ℕ). nat_lt d.0 i) ds in
-    let long = length-map deltas deletion_of in
     let parted = begun_parted ds i listed.valid.ascending in
-    let not_past : b ≤ k = elim (cases_lt k b) [
-      | inl high ↦
-          let inside : k < length deltas = omega arith in
-          let low = rw (deletion_at deltas k blank (0, 0) inside) at (parted.0 k (0, 0) (omega arith) high) in
-          absurd (omega (arith, low, stop inside))
-      | inr le ↦ le
-    ] in
-    elim (cases_lt start k) [
-      | inl moved ↦
-          let inside : k - 1 < length deltas = omega arith in
-          elim (cases_lt b k) [
-            | inl short ↦
-                let high = rw (deletion_at deltas (k - 1) blank (0, 0) inside) at (parted.1 (k - 1) (0, 0) (omega arith) (omega arith)) in
-                absurd (omega (arith, high, begun (k - 1) blank (omega arith) (omega arith)))
-            | inr le ↦ omega arith
-          ]
-      | inr stayed ↦ omega arith
-    ]
+    let at : (j : ℕ) → j < length deltas → (get_or ds j (0, 0)).0 ≡ (get_or deltas j blank).input_offset = λ j low. ap (λ (e : ℕ × ℕ). e.0) (deletion_at deltas j blank (0, 0) low) in
+    grind (arith, length-map deltas deletion_of, bound, at k, at (k - 1), parted.0 k (0, 0), parted.1 (k - 1) (0, 0), stop, begun (k - 1) blank)
 
 -- a query that is no step back passes just what begins below it
 pub begun_ahead : (ds : List (ℕ × ℕ)) → IsValid ds → (before i : ℕ) → before ≤ length ds → All (λ d. d.0 < i) (take before ds) → max before (begun_below ds i) ≡ begun_below ds i
 begun_ahead ds valid before i within below =
     let b = begun_below ds i in
     let parted = begun_parted ds i valid.ascending in
-    elim (cases_lt b before) [
-      | inl short ↦
-          let inside : b < length (take before ds) = omega (arith, length-take before ds) in
-          absurd (omega (arith, rw (get_or-take before ds b (0, 0) short) at (below b (0, 0) inside), parted.1 b (0, 0) (omega arith) (omega arith)))
-      | inr le ↦ omega arith
-    ]
+    let first : b < before → (get_or (take before ds) b (0, 0)).0 ≡ (get_or ds b (0, 0)).0 = λ low. ap (λ (e : ℕ × ℕ). e.0) (get_or-take before ds b (0, 0) low) in
+    grind (arith, length-take before ds, below b (0, 0), first, parted.1 b (0, 0))
 
 -- and its rank follows from how far the walk has come
 pub rank_walked : (ds : List (ℕ × ℕ)) → IsValid ds → (reached : Reached) (i : ℕ) → reached.passed ≡ begun_below ds i → IsWalked ds reached → rank ds i + reached.deleted ≡ max i reached.end
