@@ -5,7 +5,7 @@ use Rattle.std.specs.Prelude.{◌↔◌, IsTrue, MatchOption, All, IsPermutation
 use Rattle.std.specs.List.{AllWithin, HoldsAt}
 use Rattle.std.specs.List.Sorted.{IsPartitionPoint, IsPartitionedBy}
 use Rattle.std.specs.Global.{Vec}
-use Rattle.std.proofs.lemmas.Bool.{cases_lt, cases_order, false≢true, false_from_ne_true}
+use Rattle.std.proofs.lemmas.Bool.{cases_eq, cases_lt, cases_order, false≢true, false_from_ne_true}
 use Rattle.std.proofs.lemmas.Bool.Decides.{nat_tests}
 use Rattle.std.proofs.lemmas.List.{take-append-drop, get_or_default, get_or-map, length-map, drop_more, take_more, append-nil}
 use Rattle.std.proofs.lemmas.List.Concat.{flat_map-append}
@@ -83,12 +83,12 @@ disjoint_from_falling ds falling fits = record {
       let up : i + suc (j - i - 1) ≡ j = omega arith in
       let first : i < length ds = omega arith in
       inr (rw (get_or_default ds i d (0, 0) first, get_or_default ds j d (0, 0) within) (rw up at (fallen ds falling i (j - i - 1) (omega arith))));
-  ends = λ k d within. rw (get_or_default ds k d (0, 0) within) (elim (cases_lt 0 k) [
-    | inl some ↦
+  ends = λ k d within. rw (get_or_default ds k d (0, 0) within) (elim (cases_eq k 0) [
+    | inl first ↦ rw first fits
+    | inr other ↦
         let up : 0 + suc (k - 1) ≡ k = omega arith in
         let last = rw up at (fallen ds falling 0 (k - 1) (omega arith)) in
         omega (arith, last.0, last.1, fits)
-    | inr none ↦ let first : k ≡ 0 = omega arith in rw first fits
   ]);
 }
 
@@ -100,13 +100,12 @@ test_is false a b tells = sym (false_from_ne_true (is_before a b) (λ holds. fal
 
 -- those below a pair come first
 pub below_first : {X : Type 0} (f : X → ℕ × ℕ) (xs : List X) (pair : ℕ × ℕ) → IsValid (map f xs) → IsPartitionedBy (λ x. is_before (f x) pair) xs
-below_first f xs pair valid i j d le within passes = elim (cases_order i j) [
+below_first f xs pair valid i j d le within passes = elim (cases_eq i j) [
   | inl same ↦ rw same passes
-  | inr (inl lower) ↦
+  | inr other ↦
       let inside : j < length (map f xs) = omega (arith, length-map xs f) in
-      let step = rw (get_or-map f xs i d (0, 0) (omega arith), get_or-map f xs j d (0, 0) within) at (valid.ascending i j (0, 0) lower inside) in
+      let step = rw (get_or-map f xs i d (0, 0) (omega arith), get_or-map f xs j d (0, 0) within) at (valid.ascending i j (0, 0) (omega arith) inside) in
       grind (arith, nat_tests, step.0, step.1, passes)
-  | inr (inr higher) ↦ absurd (omega arith)
 ]
 
 -- and the next one decides

@@ -1,5 +1,5 @@
 -- The laws of forms: what the machine reads after a write, and that writing back what was read changes nothing.
-use Rattle.std.proofs.Common.{◌≡◌, ℕ, ◌+◌, ◌-◌, ◌*◌, ◌/◌, ◌%◌, ◌^◌, ◌<◌, ◌≤◌, Bool, true, false, not, ◌&&◌, ltb, leb, eqb, List, [], ◌∷◌, refl, sym, ◌∙◌, ap, subst, arith, get_or, inl, inr, cond, pos}
+use Rattle.std.proofs.Common.{pow_mono, ◌≡◌, ℕ, ◌+◌, ◌-◌, ◌*◌, ◌/◌, ◌%◌, ◌^◌, ◌<◌, ◌≤◌, Bool, true, false, not, ◌&&◌, ltb, leb, eqb, List, [], ◌∷◌, refl, sym, ◌∙◌, ap, subst, arith, get_or, inl, inr, cond, pos}
 use Rattle.std.specs.Int.{bit_at, int_rem_euclid, w64, cast_unsigned}
 use Rattle.std.specs.List.{All, list_all}
 use Rattle.std.proofs.lemmas.Bool.{agree_below, agree_below_at, and_parts, or_parts, or_cases, eqb-true, ltb-true, leb-true, cases_lt, cases_Bool, le-ltb, or_from, and_right, and_from, ne_eqb, eqb-false, eq-eqb, cond-true, cond-false, not-true}
@@ -282,10 +282,8 @@ layout_restores (own_form form) h = cc
 
 pub subst_below : (v n m : ℕ) → v < 2 ^ n → n ≤ m → v < 2 ^ m
 subst_below v n m h l =
-    elim (cases_lt n m) [
-      | inl below ↦ omega (arith, pow_below n m below)
-      | inr at ↦ let same : n ≡ m = omega arith in subst (λ k. v < 2 ^ k) same h
-    ]
+    let most : 2 ^ n ≤ 2 ^ m = pow_mono l in
+    omega arith
 
 -- ---- no place is only ORed
 

@@ -26,10 +26,7 @@ in_after_out ds y p selected = (kept_outside ds p selected.kept, selected.ranked
 pub out_after_in : OutAfterInIsFirstKept
 out_after_in ds i p selected = record {
   kept = selected.kept;
-  at_or_after = ⊎_elim
-      (λ (below : p < i). absurd (omega (arith, rank_kept ds p selected.kept, rank-mono ds (suc p) i (omega arith), selected.ranked)))
-      (λ (from : i ≤ p). from)
-      (cases_lt p i);
+  at_or_after = grind (arith, rank_kept ds p selected.kept, rank-mono ds (suc p) i, selected.ranked);
   none_between = λ q from below. false_from_ne_true (is_kept ds q) (λ kept. omega (arith, rank_kept ds q kept, rank-mono ds i q from, rank-mono ds (suc q) p (omega arith), selected.ranked));
 }
 
@@ -91,18 +88,14 @@ taken_to : (ds : List (ℕ × ℕ)) (k i : ℕ) → AllPairs IsBefore ds → All
 taken_to ds k i ascending passed =
     let b = begun_below ds i in
     let parted = begun_parted ds i ascending in
-    ⊎_elim
-    (λ (more : b < k).
-    let e : max k b ≡ k = omega arith in
-    let past : length ds ≤ b = ⊎_elim
-    (λ (inside : b < length ds).
-    let low : (get_or ds b (0, 0)).0 < i = rw (get_or-take k ds b (0, 0) more) at (passed b (0, 0) (omega (arith, length-take k ds))) in
-    absurd (omega (arith, low, parted.1 b (0, 0) (omega arith) inside)))
-    (λ le. le)
-    (cases_lt b (length ds)) in
-    rw (e, take_all k ds (omega arith), take_all b ds past) refl)
-    (λ (le : k ≤ b). let e : max k b ≡ b = omega arith in rw e refl)
-    (cases_lt b k)
+    elim (cases_lt b k) [
+      | inl more ↦
+          let e : max k b ≡ k = omega arith in
+          let low : (get_or (take k ds) b (0, 0)).0 ≡ (get_or ds b (0, 0)).0 = ap (λ (d : ℕ × ℕ). d.0) (get_or-take k ds b (0, 0) more) in
+          let past : length ds ≤ b = grind (arith, length-take k ds, passed b (0, 0), low, parted.1 b (0, 0)) in
+          rw (e, take_all k ds (omega arith), take_all b ds past) refl
+      | inr le ↦ let e : max k b ≡ b = omega arith in rw e refl
+    ]
 
 pub cursor_ranks : CursorGivesRanks
 cursor_ranks walk [] valid ahead = (tt, λ outputs none. none)

@@ -67,14 +67,7 @@ rank-removed ds zero apart = none ds
     none : (ds : List (ℕ × ℕ)) → 0 + removed ds 0 ≡ 0
     none [] = refl
     none (d ∷ ds) = omega (arith, sum_by-cons (removed_by 0) d ds, none ds)
-rank-removed ds (suc i) apart =
-    let before = rank-removed ds i apart in
-    let step = removed_step ds i in
-    let once = held_once ds i apart in
-    elim (cases_Bool (list_any (λ d. covers d i) ds)) [
-      | inl held ↦ rw held (omega (arith, rw held at once))
-      | inr free ↦ rw free (omega (arith, rw free at once))
-    ]
+rank-removed ds (suc i) apart = grind (arith, nat_tests, rank-removed ds i apart, removed_step ds i, held_once ds i apart)
 
 -- a kept position is counted
 pub rank_kept : (ds : List (ℕ × ℕ)) (i : ℕ) → is_kept ds i ≡ true → rank ds (suc i) ≡ rank ds i + 1

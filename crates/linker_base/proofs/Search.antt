@@ -2,7 +2,7 @@
 use Rattle.std.proofs.Common.{◌≡◌, ℕ, ◌+◌, ◌-◌, ◌<◌, ◌≤◌, Bool, true, false, List, length, map, get_or, take, leb, refl, ap, ◌∙◌, inl, inr, arith}
 use Rattle.std.specs.Prelude.{◌%◌, ◌^◌, ◌↔◌, max, All, Any, nat_eq}
 use Rattle.std.specs.List.Sorted.{IsNonDecreasingBy, IsPartitionedBy, IsPartitionPoint}
-use Rattle.std.proofs.lemmas.Bool.{cases_lt, cases_order}
+use Rattle.std.proofs.lemmas.Bool.{cases_eq, cases_lt, cases_order}
 use Rattle.std.proofs.lemmas.Bool.Decides.{nat_tests}
 use Rattle.std.proofs.lemmas.List.{get_or-map, get_or_default, length-map}
 use Rattle.std.proofs.lemmas.List.Sums.{sum_by_more}
@@ -97,14 +97,13 @@ module _ (ds : List (ℕ × ℕ)) (valid : IsValid ds) where
   inside_last i k d positive within parted = (into, λ inside. (k - 1, get_or ds (k - 1) d, omega arith, get_or_default ds (k - 1) _ d (omega arith), (parted.0 (k - 1) d (omega arith) (omega arith), inside)))
     where
       into : IsInsideDeletion ds i → i < (get_or ds (k - 1) d).0 + (get_or ds (k - 1) d).1
-      into (j, e, low, is, (below, above)) = elim (cases_order j (k - 1)) [
-        | inl same ↦ rw (← same, get_or_default ds j d e low, is) above
-        | inr (inl lower) ↦
-            let before = valid.ascending j (k - 1) e lower (omega arith) in
-            let last = parted.0 (k - 1) e (omega arith) (omega arith) in
-            absurd (omega (arith, rw is at before.1))
-        | inr (inr higher) ↦ absurd (omega (arith, rw is at (parted.1 j e (omega arith) low)))
-      ]
+      into (j, e, low, is, (below, above)) =
+          let end : (get_or ds j e).0 + (get_or ds j e).1 ≡ e.0 + e.1 = ap (λ (x : ℕ × ℕ). x.0 + x.1) is in
+          let same : j ≡ k - 1 → get_or ds j e ≡ get_or ds (k - 1) d = λ here. ap (λ q. get_or ds q e) here ∙ get_or_default ds (k - 1) e d (omega arith) in
+          elim (cases_eq j (k - 1)) [
+            | inl here ↦ omega (arith, end, ap (λ (x : ℕ × ℕ). x.0 + x.1) (same here))
+            | inr other ↦ absurd (grind (arith, ap (λ (x : ℕ × ℕ). x.0) is, end, λ (lower : j < k - 1). (valid.ascending j (k - 1) e lower (omega arith)).1, parted.0 (k - 1) e (omega arith), parted.1 j e, low))
+          ]
 
   -- an offset at or above the end of the last deletion that begins below it parts the list there
   parted_past : (i k : ℕ) → k ≤ length ds
@@ -156,8 +155,7 @@ module _ (ds : List (ℕ × ℕ)) (valid : IsValid ds) where
       only : All (λ d. d.0 ≡ offset → (get_or ds k e).1 ≡ d.1) ds
       only j d inside there = elim (cases_order j k) [
         | inl same ↦ rw (same, get_or_default ds k d e within) refl
-        | inr (inl lower) ↦ absurd (omega (arith, (valid.ascending j k d lower within).0, ap (λ (x : ℕ × ℕ). x.0) (get_or_default ds k d e within)))
-        | inr (inr higher) ↦ absurd (omega (arith, (valid.ascending k j d higher inside).0, ap (λ (x : ℕ × ℕ). x.0) (get_or_default ds k d e within)))
+        | inr other ↦ absurd (grind (arith, other, λ (lower : j < k). (valid.ascending j k d lower within).0, λ (higher : k < j). (valid.ascending k j d higher inside).0, ap (λ (x : ℕ × ℕ). x.0) (get_or_default ds k d e within)))
       ]
 
   -- and none where the first that begins at it or above does not begin at it
