@@ -1,6 +1,7 @@
 -- The bits of remainders, quotients and fields, and numbers read in two's complement.
 use Rattle.std.proofs.Common.{◌≡◌, ℕ, suc, ◌+◌, ◌-◌, ◌*◌, ◌/◌, ◌%◌, ◌^◌, ◌<◌, ◌≤◌, ◌&&◌, ltb, leb, refl, sym, ◌∙◌, ap, arith, inl, inr, cond, pos, negsuc, ◌-ℤ◌, ℤ, ◌+ℤ◌, ◌⊎◌}
 use Rattle.std.specs.Int.{bit_at, int_rem_euclid, w64, cast_unsigned}
+use Rattle.std.proofs.Math.Pow.{mod-mod-pow}
 use Rattle.std.proofs.lemmas.Bool.{cond-true, cond-false, cond_both, cases_lt, lt-ltb, le-ltb, le-leb, lt-leb}
 use Rattle.std.proofs.lemmas.Int.{ints, int_rem_euclid_is}
 use Rattle.std.proofs.lemmas.Nat.{pow_pos, pow-add, mod_low, shr-shr, shr_split, div-add-mod', mod_below, mod-pow-add, shl-shr}
@@ -38,11 +39,7 @@ bit_at_window x low high i =
     ]
 
 pub mod_mod : (x m n : ℕ) → n ≤ m → x % 2 ^ m % 2 ^ n ≡ x % 2 ^ n
-mod_mod x m n h =
-    let apart : m ≡ (m - n) + n = omega arith in
-    ap (λ k. x % 2 ^ k % 2 ^ n) apart
-    ∙ ap (λ y. y % 2 ^ n) (mod-pow-add x (m - n) n)
-    ∙ mod_low (x / 2 ^ n % 2 ^ (m - n)) n (x % 2 ^ n) (mod_below x (2 ^ n) (pow_pos n))
+mod_mod x m n h = let apart : m ≡ (m - n) + n = omega arith in ap (λ k. x % 2 ^ k % 2 ^ n) apart ∙ mod-mod-pow x (m - n) n
 
 -- ---- two's complement
 

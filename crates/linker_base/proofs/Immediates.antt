@@ -2,7 +2,7 @@
 use Rattle.std.proofs.Common.{pow_mono, ◌≡◌, ℕ, ◌+◌, ◌-◌, ◌*◌, ◌/◌, ◌%◌, ◌^◌, ◌<◌, ◌≤◌, Bool, true, false, not, ◌&&◌, ltb, leb, eqb, List, [], ◌∷◌, refl, sym, ◌∙◌, ap, subst, arith, get_or, inl, inr, cond, pos}
 use Rattle.std.specs.Int.{bit_at, int_rem_euclid, w64, cast_unsigned}
 use Rattle.std.specs.List.{All, list_all}
-use Rattle.std.proofs.lemmas.Bool.{agree_below, agree_below_at, and_parts, or_parts, or_cases, eqb-true, ltb-true, leb-true, cases_lt, cases_Bool, le-ltb, or_from, and_right, and_from, ne_eqb, eqb-false, eq-eqb, cond-true, cond-false, not-true}
+use Rattle.std.proofs.lemmas.Bool.{le-leb, agree_below, agree_below_at, and_parts, or_parts, or_cases, eqb-true, ltb-true, leb-true, cases_lt, cases_Bool, le-ltb, or_from, and_right, and_from, ne_eqb, eqb-false, eq-eqb, cond-true, cond-false, not-true}
 use Rattle.std.proofs.lemmas.List.Elements.{All-nil, All-cons, All-head, All-tail}
 use Rattle.std.proofs.lemmas.List.Sums.{AllPass-from_list_all}
 use Rattle.std.proofs.lemmas.Nat.{pow_pos, pow_below, mod_below}
@@ -106,24 +106,34 @@ same_bit replaced new old h e = e
 same_bit ored new old h e = omega arith
 same_bit cleared new old h e = cc
 
-pub bits_kept : (n r : ℕ) (v before after : ℕ) (f : ℕ → ℕ) (ps : List ImmediateBit) → ((k : ℕ) → k < n → bit_at ((v + r) % 2 ^ 64) k ≡ f k)
-    → values_below n ps ≡ true → all_hold ps ≡ true → adds r ps ≡ true
+-- all places are of value bits from bit n up
+abbrev pub values_from : ℕ → List ImmediateBit → Bool
+values_from n [] = true
+values_from n (p ∷ ps) = leb n p.value && values_from n ps
+
+values_from_zero : (ps : List ImmediateBit) → values_from 0 ps ≡ true
+values_from_zero [] = refl
+values_from_zero (p ∷ ps) = and_from (leb 0 p.value) (values_from 0 ps) (le-leb 0 p.value (omega arith)) (values_from_zero ps)
+
+pub bits_kept : (low n r : ℕ) (v before after : ℕ) (f : ℕ → ℕ) (ps : List ImmediateBit) → ((k : ℕ) → low ≤ k → k < n → bit_at ((v + r) % 2 ^ 64) k ≡ f k)
+    → values_from low ps ≡ true → values_below n ps ≡ true → all_hold ps ≡ true → adds r ps ≡ true
     → All (λ (p : ImmediateBit). f p.value ≡ bit_at before p.insn_bit) ps
     → All (λ (p : ImmediateBit). bit_at after p.insn_bit ≡ placed_bit p.mark (bit_for p v) (bit_at before p.insn_bit)) ps
     → All (λ (p : ImmediateBit). bit_at after p.insn_bit ≡ bit_at before p.insn_bit) ps
-bits_kept n r v before after f [] g b a u own placed = All-nil (λ (p : ImmediateBit). bit_at after p.insn_bit ≡ bit_at before p.insn_bit)
-bits_kept n r v before after f (p ∷ ps) g b a u own placed =
+bits_kept low n r v before after f [] g c b a u own placed = All-nil (λ (p : ImmediateBit). bit_at after p.insn_bit ≡ bit_at before p.insn_bit)
+bits_kept low n r v before after f (p ∷ ps) g c b a u own placed =
+    let from = and_parts (leb low p.value) (values_from low ps) c in
     let below = and_parts (ltb p.value n) (values_below n ps) b in
     let held = and_parts (holds_value_bit p.mark) (all_hold ps) a in
     let added = and_parts (eqb p.added r) (adds r ps) u in
     let new : bit_for p v ≡ bit_at before p.insn_bit =
     ap (λ a. bit_at ((v + a) % 2 ^ 64) p.value) (eqb-true p.added r added.0)
-    ∙ g p.value (ltb-true p.value n below.0)
+    ∙ g p.value (leb-true low p.value from.0) (ltb-true p.value n below.0)
     ∙ All-head (λ (q : ImmediateBit). f q.value ≡ bit_at before q.insn_bit) p ps own in
     All-cons (λ (q : ImmediateBit). bit_at after q.insn_bit ≡ bit_at before q.insn_bit) p ps
     (All-head (λ (q : ImmediateBit). bit_at after q.insn_bit ≡ placed_bit q.mark (bit_for q v) (bit_at before q.insn_bit)) p ps placed
     ∙ same_bit p.mark (bit_for p v) (bit_at before p.insn_bit) held.0 new)
-    (bits_kept n r v before after f ps g below.1 held.1 added.1
+    (bits_kept low n r v before after f ps g from.1 below.1 held.1 added.1
     (All-tail (λ (q : ImmediateBit). f q.value ≡ bit_at before q.insn_bit) p ps own)
     (All-tail (λ (q : ImmediateBit). bit_at after q.insn_bit ≡ placed_bit q.mark (bit_for q v) (bit_at before q.insn_bit)) p ps placed))
 
@@ -132,9 +142,9 @@ pub restored : (n r : ℕ) (ps : List ImmediateBit) (v before after : ℕ) → v
     → (v + r) % 2 ^ 64 % 2 ^ n ≡ place_sum ps before → BitsWritten ps v before after → after ≡ before
 restored n r ps v before after apart below held u e laid =
     same_window ps before after
-    (bits_kept n r v before after (λ k. value_bit ps k before) ps
-    (λ k l. sym (bit_at_mod ((v + r) % 2 ^ 64) n k l) ∙ ap (λ y. bit_at y k) e ∙ bit_at-place_sum ps before k apart)
-    below held u (own_bits ps before apart held) laid.placed)
+    (bits_kept 0 n r v before after (λ k. value_bit ps k before) ps
+    (λ k z l. sym (bit_at_mod ((v + r) % 2 ^ 64) n k l) ∙ ap (λ y. bit_at y k) e ∙ bit_at-place_sum ps before k apart)
+    (values_from_zero ps) below held u (own_bits ps before apart held) laid.placed)
     laid.kept
 
 -- ---- forms of one field

@@ -2,7 +2,7 @@
 use Rattle.std.proofs.Common.{◌≡◌, ℕ, zero, suc, ◌+◌, ◌-◌, ◌<◌, ◌≤◌, true, false, cond, List, [], ◌∷◌, refl, ap, inl, inr, ⊎_elim, add-zero, add-suc, zero-add, arith}
 use Rattle.std.specs.Prelude.{◌^◌, ◌↔◌, min, ◌||◌, All, AllPairs, sum_by, count_by}
 use Rattle.std.specs.List.{list_any}
-use Rattle.std.proofs.lemmas.Bool.{cases_Bool, cases_lt, cases_order}
+use Rattle.std.proofs.lemmas.Bool.{true_from_ne_false, cases_Bool, cases_lt, cases_order}
 use Rattle.std.proofs.lemmas.Bool.Decides.{nat_tests}
 use Rattle.std.proofs.lemmas.List.Elements.{All-head, All-tail}
 use Rattle.std.proofs.lemmas.List.Sums.{sum_by-cons}
@@ -118,10 +118,6 @@ rank_all_kept ds start (suc n) kept =
 
 -- and only there
 pub kept_from_rank : (ds : List (ℕ × ℕ)) (start len : ℕ) → rank ds (start + len) ≡ rank ds start + len → AreKept ds start len
-kept_from_rank ds start len all k low =
-    elim (cases_Bool (is_kept ds (start + k))) [
-      | inl t ↦ t
-      | inr f ↦
-          let rest : start + len ≡ suc (start + k) + (len - suc k) = omega arith in
-          absurd (omega (arith, ap (rank ds) rest, rank_steps ds (suc (start + k)) (len - suc k), rank_gone ds (start + k) f, rank_steps ds start k))
-    ]
+kept_from_rank ds start len all k low = true_from_ne_false (is_kept ds (start + k)) (λ gone.
+    let rest : start + len ≡ suc (start + k) + (len - suc k) = omega arith in
+    omega (arith, ap (rank ds) rest, rank_steps ds (suc (start + k)) (len - suc k), rank_gone ds (start + k) gone, rank_steps ds start k))

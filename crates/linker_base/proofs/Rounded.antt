@@ -5,31 +5,15 @@ use Rattle.std.specs.List.{All}
 use Rattle.std.proofs.lemmas.Bool.{and_parts, and_from, and_right, leb-true, ltb-true, cond_both, cond-true, cond-false, le-leb, le-ltb, lt-ltb, cases_lt}
 use Rattle.std.proofs.lemmas.Int.{ints}
 use Rattle.std.proofs.lemmas.List.Elements.{All-nil, All-cons, All-head, All-tail}
-use Rattle.std.proofs.lemmas.Nat.{pow_pos, pow-add, mod_low, mod_below}
+use Rattle.std.proofs.lemmas.Nat.{field_of, pow_pos, pow-add, mod_low, mod_below}
 use Rattle.std.proofs.lemmas.Nat.Bits.{same_from_bits}
 use Rattle.std.proofs.Math.Nat.{mod-eq_of_lt}
 use Rattle.linker_base.specs.Bits.{signed}
 use Rattle.linker_base.specs.Form.{values_below, ImmediateBit, BitsWritten, placed_bit, bit_for, place_sum, IsClear, Written, MachineReads, IsReadBack, WriteBackChangesNothing}
 use Rattle.linker_base.specs.Rounded.{rounded_immediate}
 use Rattle.linker_base.proofs.Places.{value_bit, adds, bit_at-place_sum}
-use Rattle.linker_base.proofs.Fields.{bit_at_window, bit_at_mod, signed_rem, aligned_rem, cast_rem, whole_parts}
-use Rattle.linker_base.proofs.Immediates.{fills, values_apart_fills, place_sum_laid, place_sum_below, restored, all_hold, own_bits, bits_kept}
-
--- all places are of value bits from bit n up
-abbrev pub values_from : ℕ → List ImmediateBit → Bool
-values_from n [] = true
-values_from n (p ∷ ps) = leb n p.value && values_from n ps
-
-looked_up : (low n before : ℕ) (f g : ℕ → ℕ) (ps : List ImmediateBit) → ((k : ℕ) → low ≤ k → k < n → f k ≡ g k)
-    → values_from low ps ≡ true → values_below n ps ≡ true
-    → All (λ (p : ImmediateBit). g p.value ≡ bit_at before p.insn_bit) ps → All (λ (p : ImmediateBit). f p.value ≡ bit_at before p.insn_bit) ps
-looked_up low n before f g [] same a b own = All-nil (λ (p : ImmediateBit). f p.value ≡ bit_at before p.insn_bit)
-looked_up low n before f g (p ∷ ps) same a b own =
-    let from = and_parts (leb low p.value) (values_from low ps) a in
-    let below = and_parts (ltb p.value n) (values_below n ps) b in
-    All-cons (λ (q : ImmediateBit). f q.value ≡ bit_at before q.insn_bit) p ps
-    (same p.value (leb-true low p.value from.0) (ltb-true p.value n below.0) ∙ All-head (λ (q : ImmediateBit). g q.value ≡ bit_at before q.insn_bit) p ps own)
-    (looked_up low n before f g ps same from.1 below.1 (All-tail (λ (q : ImmediateBit). g q.value ≡ bit_at before q.insn_bit) p ps own))
+use Rattle.linker_base.proofs.Fields.{mod_mod, bit_at_window, bit_at_mod, signed_rem, aligned_rem, cast_rem, whole_parts}
+use Rattle.linker_base.proofs.Immediates.{fills, values_apart_fills, place_sum_laid, place_sum_below, restored, all_hold, own_bits, bits_kept, values_from}
 
 -- bits low and up, below n, of x
 inside_window : (x low n k : ℕ) → low ≤ k → k < n → bit_at (x / 2 ^ low % 2 ^ (n - low) * 2 ^ low) k ≡ bit_at x k
@@ -56,22 +40,15 @@ part_kept low n r ps v before after sound e placed =
     let x = (v + r) % 2 ^ 64 in
     let same : (k : ℕ) → low ≤ k → k < n → bit_at x k ≡ value_bit ps k before =
     λ k a b. sym (inside_window x low n k a b) ∙ ap (λ y. bit_at y k) e ∙ bit_at-place_sum ps before k apart in
-    bits_kept n r v before after (bit_at x) ps (λ k l. refl) sound.below sound.held sound.added
-    (looked_up low n before (bit_at x) (λ k. value_bit ps k before) ps same sound.from sound.below (own_bits ps before apart sound.held))
-    placed
+    bits_kept low n r v before after (λ k. value_bit ps k before) ps same sound.from sound.below sound.held sound.added (own_bits ps before apart sound.held) placed
 
 -- a field below bit 64 doesn't see what is cut off there
-pub field_of_sum : (x low n : ℕ) → n ≤ 64 → x % 2 ^ 64 / 2 ^ low % 2 ^ (n - low) * 2 ^ low ≡ x / 2 ^ low % 2 ^ (n - low) * 2 ^ low
-field_of_sum x low n h =
-    same_from_bits (x % 2 ^ 64 / 2 ^ low % 2 ^ (n - low) * 2 ^ low) (x / 2 ^ low % 2 ^ (n - low) * 2 ^ low) (λ i.
-    bit_at_window (x % 2 ^ 64) low n i
-    ∙ elim (cases_lt i n) [
-      | inl inside ↦ ap (λ y. cond (leb low i && ltb i n) y 0) (bit_at_mod x 64 i (omega arith))
-      | inr above ↦
-          let out : (leb low i && ltb i n) ≡ false = and_right (leb low i) (ltb i n) (le-ltb i n above) in
-          cond-false (leb low i && ltb i n) (bit_at (x % 2 ^ 64) i) 0 out ∙ sym (cond-false (leb low i && ltb i n) (bit_at x i) 0 out)
-    ]
-    ∙ sym (bit_at_window x low n i))
+field_of_sum : (x low n : ℕ) → low ≤ n → n ≤ 64 → x % 2 ^ 64 / 2 ^ low % 2 ^ (n - low) * 2 ^ low ≡ x / 2 ^ low % 2 ^ (n - low) * 2 ^ low
+field_of_sum x low n a b =
+    let apart : 64 ≡ (64 - low) + low = omega arith in
+    ap (λ k. x % 2 ^ k / 2 ^ low % 2 ^ (n - low) * 2 ^ low) apart
+    ∙ ap (λ y. y % 2 ^ (n - low) * 2 ^ low) (field_of x (64 - low) low)
+    ∙ ap (λ y. y * 2 ^ low) (mod_mod (x / 2 ^ low) (64 - low) (n - low) (omega arith))
 
 -- ---- two's complement less a constant
 
@@ -113,7 +90,7 @@ module _ (w : Width) (n low r : ℕ) (flags : Bool) (ps : List ImmediateBit) (so
   pub rounded_laid : (v before after : ℕ) → BitsWritten ps v before after → IsClear ps before → place_sum ps after ≡ (v + r - (v + r) % 2 ^ low) % 2 ^ n
   rounded_laid v before after laid clear =
       place_sum_laid low n r ps v before after sound.short sound.filled sound.added laid clear
-      ∙ field_of_sum (v + r) low n sound.short
+      ∙ field_of_sum (v + r) low n sound.ordered sound.short
       ∙ sym (aligned_rem (v + r) low n sound.ordered)
 
   -- modulo 2 ^ n the machine reads the rounded value
