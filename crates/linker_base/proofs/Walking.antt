@@ -10,7 +10,7 @@ use Rattle.linker_base.specs.Deltas.{deletion_of}
 use Rattle.linker_base.specs.Listed.{AreValidDeltas}
 use Rattle.linker_base.specs.Inner.Listed.{IsWalked}
 use Rattle.linker_base.specs.declared.relaxation.walk.Reached.{Reached}
-use Rattle.linker_base.proofs.Laws.{begun_parted}
+use Rattle.linker_base.proofs.Laws.{begun_parted, begun_later}
 use Rattle.linker_base.proofs.Listed.{taken_up_to}
 use Rattle.linker_base.proofs.OutputOffsets.{bytes-le-offset}
 use Rattle.linker_base.proofs.Search.{blank, deletion_at, rank_from_search}
@@ -39,19 +39,12 @@ rank_walked ds valid reached i begun walked =
     let within : reached.passed ≤ length ds = omega (arith, count_by-le-length (λ (d : ℕ × ℕ). nat_lt d.0 i) ds) in
     omega (arith, rank_from_search ds valid i reached.passed reached.end within (rw begun parted) walked.end, walked.sum)
 
--- what is passed at a query begins below each later one
-pub begun_later : (ds : List (ℕ × ℕ)) → IsValid ds → (passed i j : ℕ) → passed ≡ begun_below ds i → i ≤ j → All (λ d. d.0 < j) (take passed ds)
-begun_later ds valid passed i j begun le k d within =
-    let parted = begun_parted ds i valid.ascending in
-    let low : k < passed = omega (arith, length-take passed ds) in
-    rw (get_or-take passed ds k d low) (omega (arith, parted.0 k d (omega arith) (omega arith)))
-
 -- so do both after a query that is no step back
 pub walked_ahead : (ds : List (ℕ × ℕ)) → IsValid ds → (before i : ℕ) (reached : Reached) → before ≤ length ds → reached.passed ≡ max before (begun_below ds i) → IsWalked ds reached → All (λ d. d.0 < i) (take before ds)
     → (rank ds i + reached.deleted ≡ max i reached.end) × All (λ d. d.0 < i) (take reached.passed ds)
 walked_ahead ds valid before i reached within passed walked ahead =
     let begun = passed ∙ begun_ahead ds valid before i within ahead in
-    (rank_walked ds valid reached i begun walked, begun_later ds valid reached.passed i i begun (omega arith))
+    (rank_walked ds valid reached i begun walked, rw begun (begun_later ds i i valid.ascending (omega arith)))
 
 -- the last of the first deletions decides whether all of them begin below an offset
 pub taken_begin_below : (ds : List (ℕ × ℕ)) → AllPairs IsBefore ds → (i k : ℕ) → 0 < k → k ≤ length ds → ((get_or ds (k - 1) (0, 0)).0 < i) ↔ All (λ d. d.0 < i) (take k ds)
