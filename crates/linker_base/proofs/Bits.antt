@@ -1,10 +1,10 @@
 -- Masks, fields and two's complement in 64 bits.
-use Rattle.std.proofs.Common.{◌≡◌, ℕ, ◌+◌, ◌-◌, ◌*◌, ◌/◌, ◌%◌, ◌^◌, ◌<◌, ◌≤◌, ◌⊎◌, inl, inr, max, suc, pos, negsuc, ◌-ℤ◌, nat_lt, true, false, refl, sym, ◌∙◌, ap, arith, bit_and, bit_or}
+use Rattle.std.proofs.Common.{◌≡◌, ℕ, ◌+◌, ◌-◌, ◌*◌, ◌/◌, ◌%◌, ◌^◌, ◌<◌, ◌≤◌, ◌⊎◌, inl, inr, max, suc, pos, negsuc, ◌-ℤ◌, refl, sym, ◌∙◌, ap, arith, bit_and, bit_or}
 use Rattle.std.proofs.Math.Facts.{to_z-neg}
 use Rattle.std.proofs.Math.Nat.{mod-eq_of_lt}
 use Rattle.std.proofs.Math.Pow.{high_ones}
 use Rattle.std.proofs.lemmas.Int.{ints}
-use Rattle.std.proofs.lemmas.Bool.{cases_lt, cases_order, lt-ltb, le-ltb}
+use Rattle.std.proofs.lemmas.Bool.{cases_order}
 use Rattle.std.proofs.lemmas.Nat.{and_mask, one_shl, or_lt, pow_pos, pow-add, shr_split, mod_below, mul-le, pow_below, shr_high}
 use Rattle.std.proofs.lemmas.Nat.Bits.{ones_shl, ones_shr, bit_at_or, bit_at_ones, bit_at_mask_below, bit_at_mask_inside, bit_at_cat_low, bit_at_cat_high, bit_at-lt, bit_at_above, same_from_bits_below, and_pow}
 use Rattle.std.specs.Int.{bit_at, cast_signed, cast_unsigned, w64}

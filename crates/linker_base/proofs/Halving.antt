@@ -1,8 +1,6 @@
 -- Steps of a search: what one test says of all other elements, and how many probes they take.
-use Rattle.std.proofs.Common.{pow_mono, ◌≡◌, ℕ, zero, suc, ◌+◌, ◌*◌, ◌<◌, ◌≤◌, false, sym, ap, ◌∙◌, inl, inr, arith}
-use Rattle.std.specs.Prelude.{◌^◌}
+use Rattle.std.proofs.Common.{pow_mono, ◌≡◌, ℕ, ◌+◌, ◌*◌, ◌<◌, ◌≤◌, false, sym, ◌∙◌, arith, ◌^◌}
 use Rattle.std.proofs.lemmas.Bool.{false_from_ne_true, false≢true}
-use Rattle.std.proofs.lemmas.Nat.{pow_below}
 use Rattle.linker_base.specs.declared.relaxation.search.Level.{Level}
 use Rattle.linker_base.specs.declared.relaxation.search.Level.TheVariants.{Heads, Deltas}
 use Rattle.linker_base.specs.declared.relaxation.search.Test.{Test}

@@ -5,7 +5,7 @@ use Rattle.std.specs.List.{All, list_all}
 use Rattle.std.proofs.lemmas.Bool.{le-leb, agree_below, agree_below_at, and_parts, or_parts, or_cases, eqb-true, ltb-true, leb-true, cases_lt, cases_Bool, le-ltb, or_from, and_right, and_from, ne_eqb, eqb-false, eq-eqb, cond-true, cond-false, not-true}
 use Rattle.std.proofs.lemmas.List.Elements.{All-nil, All-cons, All-head, All-tail}
 use Rattle.std.proofs.lemmas.List.Sums.{AllPass-from_list_all}
-use Rattle.std.proofs.lemmas.Nat.{pow_pos, pow_below, mod_below}
+use Rattle.std.proofs.lemmas.Nat.{pow_pos, mod_below}
 use Rattle.std.proofs.lemmas.Nat.Bits.{same_from_bits}
 use Rattle.std.proofs.Math.Nat.{mod-eq_of_lt}
 use Rattle.linker_base.specs.Form.{values_below, is_clear_at, holds_value_bit, is_of, has_value, values_apart, Mark, replaced, ored, cleared, ImmediateBit, BitsWritten, is_placed, placed_bit, bit_for, place_sum, IsClear, Fits, Written, MachineReads, WriteBackChangesNothing, field_form, number_of, Sign, unsigned, twos_complement, Claim, exactly, modulo, unclaimed, IsSameBy, IsSameModulo, Field, Layout, one_field, own_form, form_of}

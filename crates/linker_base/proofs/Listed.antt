@@ -1,5 +1,5 @@
 -- Lists of deltas: how one grows, what its sums are, and how a valid list is tested.
-use Rattle.std.proofs.Common.{◌≡◌, ℕ, zero, suc, ◌+◌, ◌-◌, ◌<◌, ◌≤◌, List, [], ◌∷◌, ◌++◌, length, map, get_or, set, take, sym, ap, ◌∙◌, inl, inr, arith, drop, refl}
+use Rattle.std.proofs.Common.{◌≡◌, ℕ, zero, suc, ◌+◌, ◌-◌, ◌<◌, ◌≤◌, List, [], ◌∷◌, ◌++◌, length, get_or, set, take, sym, ap, ◌∙◌, inl, inr, arith, drop, refl}
 use Rattle.std.specs.Prelude.{◌^◌, All, AllPairs}
 use Rattle.std.proofs.lemmas.Bool.{cases_lt}
 use Rattle.std.proofs.lemmas.List.{length_push, get_or_push, get_or_append_left, get_or-take, length-take, take_more, map_push, length-map, take-append-le, take_all, get_or_default, take_more_set, get_or-append_right, get_or-append-add, length-append, take-append-drop}

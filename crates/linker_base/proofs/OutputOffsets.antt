@@ -1,5 +1,5 @@
 -- Where a list of deletions parts at an offset or at an output offset, and what is gone before it.
-use Rattle.std.proofs.Common.{add-zero, add-suc, ◌≡◌, ℕ, zero, suc, ◌+◌, ◌-◌, ◌<◌, ◌≤◌, true, false, List, [], ◌∷◌, length, get_or, take, refl, ap, inl, inr, ⊎_elim, add-one, arith}
+use Rattle.std.proofs.Common.{add-zero, add-suc, ◌≡◌, ℕ, zero, suc, ◌+◌, ◌-◌, ◌<◌, ◌≤◌, true, false, List, [], ◌∷◌, length, get_or, take, refl, ap, inl, inr, add-one, arith}
 use Rattle.std.specs.Prelude.{◌^◌, not, AllPairs}
 use Rattle.std.specs.List.{list_any, AllWithin}
 use Rattle.std.proofs.lemmas.Bool.{cases_lt}

@@ -2,7 +2,7 @@
 use Rattle.std.proofs.Common.{◌≡◌, ℕ, zero, suc, ◌+◌, ◌-◌, ◌<◌, ◌≤◌, true, false, cond, List, [], ◌∷◌, refl, ap, inl, inr, ⊎_elim, add-zero, add-suc, zero-add, arith}
 use Rattle.std.specs.Prelude.{◌^◌, ◌↔◌, min, ◌||◌, All, AllPairs, sum_by, count_by}
 use Rattle.std.specs.List.{list_any}
-use Rattle.std.proofs.lemmas.Bool.{true_from_ne_false, cases_Bool, cases_lt, cases_order}
+use Rattle.std.proofs.lemmas.Bool.{true_from_ne_false, cases_Bool}
 use Rattle.std.proofs.lemmas.Bool.Decides.{nat_tests}
 use Rattle.std.proofs.lemmas.List.Elements.{All-head, All-tail}
 use Rattle.std.proofs.lemmas.List.Sums.{sum_by-cons}

@@ -1,18 +1,16 @@
 -- The laws of forms whose places hold bits of the value plus a constant.
-use Rattle.std.proofs.Common.{◌≡◌, ℕ, suc, ◌+◌, ◌-◌, ◌*◌, ◌/◌, ◌%◌, ◌^◌, ◌<◌, ◌≤◌, Bool, true, false, ◌&&◌, ltb, leb, List, [], ◌∷◌, refl, sym, ◌∙◌, ap, arith, cond, pos, negsuc, ◌-ℤ◌, inl, inr}
+use Rattle.std.proofs.Common.{◌≡◌, ℕ, suc, ◌+◌, ◌-◌, ◌*◌, ◌/◌, ◌%◌, ◌^◌, ◌<◌, ◌≤◌, Bool, true, ◌&&◌, ltb, leb, List, sym, ◌∙◌, ap, arith, pos, ◌-ℤ◌}
 use Rattle.std.specs.Int.{bit_at, int_rem_euclid, w64, cast_unsigned, Width}
 use Rattle.std.specs.List.{All}
-use Rattle.std.proofs.lemmas.Bool.{and_parts, and_from, and_right, leb-true, ltb-true, cond_both, cond-true, cond-false, le-leb, le-ltb, lt-ltb, cases_lt}
+use Rattle.std.proofs.lemmas.Bool.{and_parts, and_from, leb-true, cond_both, cond-true, le-leb, lt-ltb}
 use Rattle.std.proofs.lemmas.Int.{ints}
-use Rattle.std.proofs.lemmas.List.Elements.{All-nil, All-cons, All-head, All-tail}
-use Rattle.std.proofs.lemmas.Nat.{field_of, pow_pos, pow-add, mod_low, mod_below}
-use Rattle.std.proofs.lemmas.Nat.Bits.{same_from_bits}
+use Rattle.std.proofs.lemmas.Nat.{field_of, pow_pos, mod_low, mod_below}
 use Rattle.std.proofs.Math.Nat.{mod-eq_of_lt}
 use Rattle.linker_base.specs.Bits.{signed}
 use Rattle.linker_base.specs.Form.{values_below, ImmediateBit, BitsWritten, placed_bit, bit_for, place_sum, IsClear, Written, MachineReads, IsReadBack, WriteBackChangesNothing}
 use Rattle.linker_base.specs.Rounded.{rounded_immediate}
 use Rattle.linker_base.proofs.Places.{value_bit, adds, bit_at-place_sum}
-use Rattle.linker_base.proofs.Fields.{mod_mod, bit_at_window, bit_at_mod, signed_rem, aligned_rem, cast_rem, whole_parts}
+use Rattle.linker_base.proofs.Fields.{mod_mod, bit_at_window, signed_rem, aligned_rem, cast_rem, whole_parts}
 use Rattle.linker_base.proofs.Immediates.{fills, values_apart_fills, place_sum_laid, place_sum_below, restored, all_hold, own_bits, bits_kept, values_from}
 
 -- bits low and up, below n, of x

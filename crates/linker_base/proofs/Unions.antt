@@ -2,6 +2,7 @@
 use Rattle.std.proofs.Common.{◌≡◌, ℕ, zero, suc, ◌+◌, ◌<◌, ◌≤◌, Bool, true, false, List, [], ◌∷◌, ◌++◌, refl, sym, ap, ◌∙◌, inl, inr, ⊎_elim, arith}
 use Rattle.std.specs.Prelude.{◌⊎◌, ◌↔◌, not, ◌&&◌, nat_le, nat_lt, AllPairs, Contains, IsPermutation, Result, Ok, Err, OnOk}
 use Rattle.std.specs.List.Sorted.{IsNonDecreasingBy}
+use Rattle.std.proofs.Math.Bool.{and_comm}
 use Rattle.std.proofs.lemmas.Bool.{cases_lt}
 use Rattle.std.proofs.lemmas.Bool.Decides.{nat_tests}
 use Rattle.std.proofs.lemmas.List.{append_assoc, get_or_append_left, length-append}
@@ -19,13 +20,7 @@ abbrev touch : ℕ × ℕ → ℕ × ℕ → Bool
 touch a b = not (is_before a b) && not (is_before b a)
 
 touch_flips : (a b : ℕ × ℕ) → touch a b ≡ touch b a
-touch_flips a b = both (not (is_before a b)) (not (is_before b a))
-  where
-    both : (x y : Bool) → (x && y) ≡ (y && x)
-    both true true = refl
-    both true false = refl
-    both false true = refl
-    both false false = refl
+touch_flips a b = and_comm (not (is_before a b)) (not (is_before b a))
 
 touch_not : (a b : ℕ × ℕ) → DoNotOverlap a b → touch a b ≡ false
 touch_not a b (inl below) = grind (arith, nat_tests, below.0, below.1)

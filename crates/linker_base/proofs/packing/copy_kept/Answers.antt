@@ -1,4 +1,4 @@
-use Rattle.std.proofs.Common.{ℕ, ◌≡◌, ◌+◌, ◌-◌, ◌∙◌, ◌≤◌, get_or, map, ap, sym, arith, length, min, take, drop}
+use Rattle.std.proofs.Common.{ℕ, ◌≡◌, ◌+◌, ◌-◌, ◌∙◌, get_or, map, ap, sym, arith, length, min, take, drop}
 use Rattle.std.proofs.lemmas.List.{get_or-map, length-map}
 use Rattle.linker_base.specs.Deltas.{deletion_of}
 use Rattle.linker_base.specs.declared.relaxation.RelaxDelta.{RelaxDelta}

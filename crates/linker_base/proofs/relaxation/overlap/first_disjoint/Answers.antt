@@ -1,4 +1,4 @@
-use Rattle.std.proofs.Common.{◌++◌, take, drop, map, arith, ◌↔◌, IsTrue}
+use Rattle.std.proofs.Common.{map, arith}
 use Rattle.std.proofs.lemmas.List.{length-map, take-map, drop-map, take_rest}
 use Rattle.linker_base.specs.Deltas.{pairs_of}
 use Rattle.linker_base.proofs.Apart.{first_if}

@@ -1,5 +1,4 @@
-use Rattle.std.proofs.Common.{get_or, ◌∙◌, ◌≡◌, refl, ap, inl, inr, arith}
-use Rattle.std.proofs.lemmas.Bool.{cases_lt}
+use Rattle.std.proofs.Common.{get_or, ◌∙◌, ◌≡◌, refl, ap, arith}
 use Rattle.std.proofs.lemmas.List.{get_or_default}
 use Rattle.linker_base.specs.declared.relaxation.RelaxDelta.{RelaxDelta}
 use Rattle.linker_base.specs.declared.relaxation.walk.Reached.{Reached}
