@@ -70,40 +70,29 @@ module _ (ds : List (ℕ × ℕ)) (base : ℕ) (s packed bytes : List ℕ) (from
     (filled : IsFilledTo ds base s from packed)
     (room : length packed ≡ rank ds (base + length s) - rank ds base)
     (run : bytes ≡ take (upto - from) (drop (from - base) s)) where
-  run_length : length bytes ≡ upto - from
-  run_length = ap length run ∙ length-take (upto - from) (drop (from - base) s) ∙ omega (arith, length-drop (from - base) s)
-
-  ranks : (n : ℕ) → from + n ≤ upto → rank ds (from + n) ≡ at + n + rank ds base
-  ranks n h = rank-kept ds from n (λ p up below. kept p up (omega arith)) ∙ omega arith
-
-  run_end : at + length bytes + rank ds base ≡ rank ds upto
-  run_end =
-      let e : rank ds (from + (upto - from)) ≡ at + (upto - from) + rank ds base = ranks (upto - from) (omega arith) in
-      omega (arith, run_length, e, ap (rank ds) (let same : from + (upto - from) ≡ upto = omega arith in same))
-
-  run_fits : at + length bytes ≤ length packed
-  run_fits = omega (arith, run_end, room, rank-mono ds upto (base + length s) within)
-
-  run_copied : IsFilledTo ds base s upto (take at packed ++ bytes ++ drop (at + length bytes) packed)
-  run_copied p inside below is =
-      elim (cases_lt (base + p) from) [
+  pub run_done : (at + length bytes ≤ length packed) × (at + length bytes + rank ds base ≡ rank ds upto) × IsFilledTo ds base s upto (take at packed ++ bytes ++ drop (at + length bytes) packed)
+  run_done =
+      let long : length bytes ≡ upto - from = ap length run ∙ length-take (upto - from) (drop (from - base) s) ∙ omega (arith, length-drop (from - base) s) in
+      let ranks : (n : ℕ) → from + n ≤ upto → rank ds (from + n) ≡ at + n + rank ds base = λ n h. rank-kept ds from n (λ p up below. kept p up (omega arith)) ∙ omega arith in
+      let whole : from + (upto - from) ≡ upto = omega arith in
+      let end : at + length bytes + rank ds base ≡ rank ds upto = omega (arith, long, ranks (upto - from) (omega arith), ap (rank ds) whole) in
+      let fits : at + length bytes ≤ length packed = omega (arith, end, room, rank-mono ds upto (base + length s) within) in
+      let copied : IsFilledTo ds base s upto (take at packed ++ bytes ++ drop (at + length bytes) packed) = λ p inside below is. elim (cases_lt (base + p) from) [
         | inl before ↦
-            put_below packed bytes at (at + length bytes) run_fits refl (rank ds (base + p) - rank ds base) (omega (arith, rank_kept ds (base + p) is, rank-mono ds (suc (base + p)) from (omega arith), rank-mono ds base (base + p) (omega arith)))
+            put_below packed bytes at (at + length bytes) fits refl (rank ds (base + p) - rank ds base) (omega (arith, rank_kept ds (base + p) is, rank-mono ds (suc (base + p)) from (omega arith), rank-mono ds base (base + p) (omega arith)))
             ∙ filled p inside before is
         | inr after ↦
             let n = base + p - from in
             let there : base + p ≡ from + n = omega arith in
             let position : rank ds (base + p) - rank ds base ≡ at + n = omega (arith, ap (rank ds) there, ranks n (omega arith)) in
             ap (λ y. get_or (take at packed ++ bytes ++ drop (at + length bytes) packed) y 0) position
-            ∙ put_at packed bytes at (at + length bytes) run_fits refl n (omega (arith, run_length))
+            ∙ put_at packed bytes at (at + length bytes) fits refl n (omega (arith, long))
             ∙ ap (λ xs. get_or xs n 0) run
             ∙ get_or-take (upto - from) (drop (from - base) s) n 0 (omega arith)
             ∙ get_or-drop (from - base) s n 0
             ∙ ap (λ k. get_or s k 0) (omega arith)
-      ]
-
-  pub run_done : (at + length bytes ≤ length packed) × (at + length bytes + rank ds base ≡ rank ds upto) × IsFilledTo ds base s upto (take at packed ++ bytes ++ drop (at + length bytes) packed)
-  run_done = (run_fits, run_end, run_copied)
+      ] in
+      (fits, end, copied)
 
 -- after what is filled only deleted positions follow
 filled_on : (ds : List (ℕ × ℕ)) (base : ℕ) (s packed : List ℕ) (a b : ℕ) → IsFilledTo ds base s a packed → ((p : ℕ) → a ≤ p → p < b → is_kept ds p ≡ false) → IsFilledTo ds base s b packed
@@ -154,43 +143,29 @@ module _ (ds : List (ℕ × ℕ)) (base : ℕ) (s packed bytes new : List ℕ) (
       (run : bytes ≡ take (min ((get_or ds k (0, 0)).0 - base) (length s) - min (from - base) (length s)) (drop (min (from - base) (length s)) s))
       (end_at : end ≡ at + min (length bytes) (length packed - at))
       (onward : next ≡ min ((get_or ds k (0, 0)).0 + (get_or ds k (0, 0)).1) (2 ^ 64 - 1)) where
-    abbrev to : ℕ
-    to = (get_or ds k (0, 0)).0
-
-    rise : from ≤ to
-    rise = copied.start.ahead k (0, 0) (omega arith) within
-
-    next_is : next ≡ to + (get_or ds k (0, 0)).1
-    next_is = omega (arith, valid.ends k (0, 0) within)
-
-    later : (j : ℕ) (d : ℕ × ℕ) → k < j → j < length ds → next ≤ (get_or ds j d).0
-    later j d up inside =
-        omega (arith, next_is, (valid.ascending k j d up inside).1, ap (λ (e : ℕ × ℕ). e.0 + e.1) (get_or_default ds k d (0, 0) within))
-
-    first_from : (j : ℕ) (d : ℕ × ℕ) → k ≤ j → j < length ds → to ≤ (get_or ds j d).0
-    first_from j d up inside = grind (arith, next_is, later j d, λ (same : j ≡ k). ap (λ q. (get_or ds q d).0) same, ap (λ (e : ℕ × ℕ). e.0) (get_or_default ds k d (0, 0) within))
-
-    done : (at + length bytes ≤ length packed) × (at + length bytes + rank ds base ≡ rank ds (min to ends)) × IsFilledTo ds base s (min to ends) new
-    done = run_put to (omega (arith, above, rise)) (omega (arith, rise)) (λ j d up inside. omega (arith, first_from j d up inside)) run
-
-    gone : (p : ℕ) → min to ends ≤ p → p < min next ends → is_kept ds p ≡ false
-    gone p down high = deleted_gone ds k p (0, 0) within (omega arith) (omega (arith, next_is))
-
-    rank_same : rank ds (min next ends) ≡ rank ds (min to ends)
-    rank_same =
-        ap (rank ds) (let same : min next ends ≡ min to ends + (min next ends - min to ends) = omega (arith, next_is) in same)
-        ∙ rank-gone ds (min to ends) (min next ends - min to ends) (λ p down below. gone p down (omega (arith, next_is)))
-
     pub copied_step : IsCopied ds base s (k + 1) next end new
-    copied_step = record {
-      start = record {
-        ended = λ j d below. grind (arith, copied.start.ended j d, rise, next_is, λ (same : j ≡ k). ap (λ q. get_or ds q d) same, get_or_default ds k d (0, 0) within);
-        ahead = λ j d after inside. later j d (omega arith) inside;
-      };
-      above = omega (arith, above, rise, next_is);
-      at_is = omega (arith, end_at, done.0, done.1, rank_same);
-      filled = filled_on ds base s new (min to ends) (min next ends) done.2 gone;
-    }
+    copied_step =
+        let to = (get_or ds k (0, 0)).0 in
+        let rise : from ≤ to = copied.start.ahead k (0, 0) (omega arith) within in
+        let next_is : next ≡ to + (get_or ds k (0, 0)).1 = omega (arith, valid.ends k (0, 0) within) in
+        let later : (j : ℕ) (d : ℕ × ℕ) → k < j → j < length ds → next ≤ (get_or ds j d).0 =
+        λ j d up inside. omega (arith, next_is, (valid.ascending k j d up inside).1, ap (λ (e : ℕ × ℕ). e.0 + e.1) (get_or_default ds k d (0, 0) within)) in
+        let first_from : (j : ℕ) (d : ℕ × ℕ) → k ≤ j → j < length ds → to ≤ (get_or ds j d).0 =
+        λ j d up inside. grind (arith, next_is, later j d, λ (same : j ≡ k). ap (λ q. (get_or ds q d).0) same, ap (λ (e : ℕ × ℕ). e.0) (get_or_default ds k d (0, 0) within)) in
+        let done = run_put to (omega (arith, above, rise)) (omega (arith, rise)) (λ j d up inside. omega (arith, first_from j d up inside)) run in
+        let gone : (p : ℕ) → min to ends ≤ p → p < min next ends → is_kept ds p ≡ false = λ p down high. deleted_gone ds k p (0, 0) within (omega arith) (omega (arith, next_is)) in
+        let apart : min next ends ≡ min to ends + (min next ends - min to ends) = omega (arith, next_is) in
+        let rank_same : rank ds (min next ends) ≡ rank ds (min to ends) =
+        ap (rank ds) apart ∙ rank-gone ds (min to ends) (min next ends - min to ends) (λ p down below. gone p down (omega (arith, next_is))) in
+        record {
+          start = record {
+            ended = λ j d below. grind (arith, copied.start.ended j d, rise, next_is, λ (same : j ≡ k). ap (λ q. get_or ds q d) same, get_or_default ds k d (0, 0) within);
+            ahead = λ j d after inside. later j d (omega arith) inside;
+          };
+          above = omega (arith, above, rise, next_is);
+          at_is = omega (arith, end_at, done.0, done.1, rank_same);
+          filled = filled_on ds base s new (min to ends) (min next ends) done.2 gone;
+        }
 
   -- the run up to the section's end, above which the other deletions begin
   pub copied_end : ((j : ℕ) (d : ℕ × ℕ) → k ≤ j → j < length ds → base + length s ≤ (get_or ds j d).0)
