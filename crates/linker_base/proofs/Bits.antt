@@ -50,18 +50,12 @@ filled_above m k v i above within =
     bit_at_cat_high (2 ^ m - 1) k (v % 2 ^ k) i (mod_below v (2 ^ k) (pow_pos k)) above
     ∙ bit_at_ones m (i - k) (omega arith)
 
-max_one : (x : ℕ) → x < 2 → max x 1 ≡ 1
-max_one x small = omega arith
-
-max_zero : (x : ℕ) → max x 0 ≡ x
-max_zero x = omega arith
-
 same_bits : (v b i : ℕ) → b < 64 → bit_at v b ≡ 1 → i < 64 → (i ≡ b) ⊎ ((i < b) ⊎ (b < i))
     → max (bit_at v i) (bit_at (2 ^ 64 - 2 ^ b) i) ≡ bit_at (filled (63 - b) (b + 1) v) i
 same_bits v b i within set inside (inr (inl below)) =
     let mask : bit_at (2 ^ 64 - 2 ^ b) i ≡ 0 = bit_at_mask_below b 64 i below in
     let after : bit_at (filled (63 - b) (b + 1) v) i ≡ bit_at v i = filled_below (63 - b) (b + 1) v i (omega arith) in
-    rw (mask, after) (max_zero (bit_at v i))
+    rw (mask, after) (omega arith)
 same_bits v b i within set inside (inl at) =
     let mask : bit_at (2 ^ 64 - 2 ^ b) i ≡ 1 = bit_at_mask_inside b 64 i (omega arith) inside in
     let after : bit_at (filled (63 - b) (b + 1) v) i ≡ bit_at v i = filled_below (63 - b) (b + 1) v i (omega arith) in
@@ -70,7 +64,7 @@ same_bits v b i within set inside (inl at) =
 same_bits v b i within set inside (inr (inr above)) =
     let mask : bit_at (2 ^ 64 - 2 ^ b) i ≡ 1 = bit_at_mask_inside b 64 i (omega arith) inside in
     let after : bit_at (filled (63 - b) (b + 1) v) i ≡ 1 = filled_above (63 - b) (b + 1) v i (omega arith) (omega arith) in
-    rw (mask, after) (max_one (bit_at v i) (bit_at-lt v i))
+    rw (mask, after) (omega (arith, bit_at-lt v i))
 
 -- to set every bit above bit b, where b itself is set
 pub set_above : (v b : ℕ) → v < 2 ^ 64 → b < 64 → bit_at v b ≡ 1

@@ -52,18 +52,14 @@ signed_rem n f h =
     (λ _. ap pos (below_itself n f h))
     (λ _. int_rem_euclid_is (pos f -ℤ pos (2 ^ n)) (pos (2 ^ n)) (2 ^ n) 1 f (pow_pos n) refl (omega (arith, ints)) ∙ ap pos (below_itself n f h))
 
-below_zero : (f m : ℕ) → f < m → pos f -ℤ pos m ≡ negsuc (m - f - 1)
-below_zero f m h = omega (arith, ints)
-
-whole_less : (f m t q : ℕ) → f < m → t ≡ suc q * m → t - suc (m - f - 1) ≡ q * m + f
-whole_less f m t q h e = omega arith
-
 -- the signed number's bits, at 64 bits
 signed_cast : (n f q : ℕ) → f < 2 ^ n → 2 ^ 64 ≡ suc q * 2 ^ n → cast_unsigned w64 (signed n f) % 2 ^ n ≡ f
 signed_cast n f q h e =
     cond_both (ltb f (2 ^ (n - 1))) (pos f) (pos f -ℤ pos (2 ^ n)) (λ z. cast_unsigned w64 z % 2 ^ n ≡ f)
     (λ _. below_itself n f h)
-    (λ _. ap (λ y. y % 2 ^ n) (ap (cast_unsigned w64) (below_zero f (2 ^ n) h) ∙ whole_less f (2 ^ n) (2 ^ 64) q h e) ∙ mod_low q n f h)
+    (λ _.
+    let below : pos f -ℤ pos (2 ^ n) ≡ negsuc (2 ^ n - f - 1) = omega (arith, ints) in
+    ap (λ y. y % 2 ^ n) (ap (cast_unsigned w64) below ∙ omega arith) ∙ mod_low q n f h)
 
 pub whole_parts : (n : ℕ) → n ≤ 64 → 2 ^ 64 ≡ suc (2 ^ (64 - n) - 1) * 2 ^ n
 whole_parts n l =

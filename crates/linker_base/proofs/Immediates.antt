@@ -216,15 +216,12 @@ number_bits : (s : Sign) (n f : ℕ) → f < 2 ^ n → n ≤ 64 → cast_unsigne
 number_bits unsigned n f h l = mod-eq_of_lt h
 number_bits twos_complement n f h l = signed_bits n f h l
 
-below_still : (v r m : ℕ) → v < m → v - r < m
-below_still v r m h = omega arith
-
 -- the claim, of a value without some low bits, from the number of n bits that stands in the field
 number_claimed : (claim : Claim) (s : Sign) (width n v low sum : ℕ) → is_claimed claim s width n ≡ true → v < 2 ^ width
     → sum ≡ (v - v % 2 ^ low) % 2 ^ n → IsSameBy claim (number_of s n sum) (pos (v - v % 2 ^ low))
 number_claimed exactly unsigned width n v low sum h fit e =
-    let same = eqb-true width n h in
-    ap pos (e ∙ mod-eq_of_lt (below_still v (v % 2 ^ low) (2 ^ n) (subst (λ k. v < 2 ^ k) same fit)))
+    let small : v < 2 ^ n = subst (λ k. v < 2 ^ k) (eqb-true width n h) fit in
+    ap pos (e ∙ mod-eq_of_lt (omega arith))
 number_claimed exactly twos_complement width n v low sum h fit e = cc
 number_claimed (modulo m) s width n v low sum h fit e =
     let small : sum < 2 ^ n = subst (λ y. y < 2 ^ n) (sym e) (mod_below (v - v % 2 ^ low) (2 ^ n) (pow_pos n)) in

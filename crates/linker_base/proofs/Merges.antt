@@ -25,17 +25,14 @@ rise-append xs ys first second above i j d le within =
 pub record HaveSums (before : ℕ) (deltas : List RelaxDelta) : Type 0 where
   pub each : (k : ℕ) (d : RelaxDelta) → k < length deltas → (get_or deltas k d).cumulative_deleted ≡ before + bytes_of (take (k + 1) (map deletion_of deltas))
 
-take_suc : (ds : List (ℕ × ℕ)) (d : ℕ × ℕ) (k : ℕ) → take (suc k + 1) (d ∷ ds) ≡ d ∷ take (k + 1) ds
-take_suc ds d k = let next : suc k + 1 ≡ suc (k + 1) = omega arith in rw next
-
 HaveSums-cons : (before : ℕ) (delta : RelaxDelta) (deltas : List RelaxDelta) → delta.cumulative_deleted ≡ before + delta.bytes_deleted → HaveSums (before + delta.bytes_deleted) deltas → HaveSums before (delta ∷ deltas)
 HaveSums-cons before delta deltas sum rest = record { each = each }
   where
     each : (k : ℕ) (d : RelaxDelta) → k < length (delta ∷ deltas) → (get_or (delta ∷ deltas) k d).cumulative_deleted ≡ before + bytes_of (take (k + 1) (map deletion_of (delta ∷ deltas)))
     each zero d within = omega (arith, sum)
     each (suc k) d within =
-        let more : take (suc k + 1) (map deletion_of (delta ∷ deltas)) ≡ deletion_of delta ∷ take (k + 1) (map deletion_of deltas) = take_suc (map deletion_of deltas) (deletion_of delta) k in
-        rw more (omega (arith, rest.each k d (omega arith), sum_by-cons (λ (e : ℕ × ℕ). e.1) (deletion_of delta) (take (k + 1) (map deletion_of deltas))))
+        let next : suc k + 1 ≡ suc (k + 1) = omega arith in
+        rw next (omega (arith, rest.each k d (omega arith), sum_by-cons (λ (e : ℕ × ℕ). e.1) (deletion_of delta) (take (k + 1) (map deletion_of deltas))))
 
 pub HaveSums-append : (before : ℕ) (xs ys : List RelaxDelta) → HaveSums before xs → HaveSums (before + bytes_of (map deletion_of xs)) ys → HaveSums before (xs ++ ys)
 HaveSums-append before xs ys first second = record {

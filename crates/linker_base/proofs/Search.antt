@@ -150,13 +150,13 @@ module _ (ds : List (ℕ × ℕ)) (valid : IsValid ds) where
   -- of a valid list one deletion at most begins at an offset
   pub only_at : (offset k : ℕ) (e : ℕ × ℕ) → k < length ds → (get_or ds k e).0 ≡ offset
       → IsOnlyAt ds offset (get_or ds k e).1
-  only_at offset k e within here = record { some = (k, get_or ds k e, within, get_or_default ds k _ e within, here); only = only }
-    where
-      only : All (λ d. d.0 ≡ offset → (get_or ds k e).1 ≡ d.1) ds
-      only j d inside there = elim (cases_order j k) [
-        | inl same ↦ rw (same, get_or_default ds k d e within) refl
-        | inr other ↦ absurd (grind (arith, other, λ (lower : j < k). (valid.ascending j k d lower within).0, λ (higher : k < j). (valid.ascending k j d higher inside).0, ap (λ (x : ℕ × ℕ). x.0) (get_or_default ds k d e within)))
-      ]
+  only_at offset k e within here = record {
+    some = (k, get_or ds k e, within, get_or_default ds k _ e within, here);
+    only = λ j d inside there. elim (cases_order j k) [
+      | inl same ↦ rw (same, get_or_default ds k d e within) refl
+      | inr other ↦ absurd (grind (arith, other, λ (lower : j < k). (valid.ascending j k d lower within).0, λ (higher : k < j). (valid.ascending k j d higher inside).0, ap (λ (x : ℕ × ℕ). x.0) (get_or_default ds k d e within)))
+    ];
+  }
 
   -- and none where the first that begins at it or above does not begin at it
   pub none_at : (offset k : ℕ) → IsPartitionPoint (λ d. d.0 < offset) (λ d. offset ≤ d.0) ds k

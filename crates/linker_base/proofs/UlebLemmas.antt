@@ -107,12 +107,6 @@ above_shift n k some = elim (cases_lt n (2 ^ k)) [
   | inr high ↦ high
 ]
 
--- a group with the mark that it isn't the last
-marked : (n : ℕ) → (128 ≤ 128 + n % 128) × ((128 + n % 128) % 128 ≡ n % 128)
-marked n =
-    let group : n % 128 < 128 = mod_below n 128 (omega arith) in
-    (omega arith, omega (arith, group))
-
 -- the code has written the groups of a number that fits
 pub is_written : (before after : List ℕ) (last n : ℕ) → last < length before → last < 10
     → AllContinue last before → slice_index before last < 128
@@ -128,7 +122,7 @@ is_written before after last n there within continue ends tenth word fits groups
       | inr late ↦ let at : last ≡ 9 = omega arith in rw at (omega (arith, word))
     ] in
     let group : (k : ℕ) → k < suc last → slice_index after k % 128 ≡ shifted n k % 128 = λ k h. elim (cases_lt k last) [
-      | inl early ↦ rw (groups k early) ((marked (shifted n k)).1)
+      | inl early ↦ rw (groups k early) (omega arith)
       | inr late ↦ let at : k ≡ last = omega arith in rw (at, end) refl
     ] in
     let more : 7 * suc last ≡ 7 + 7 * last = omega arith in
@@ -149,7 +143,7 @@ is_written before after last n there within continue ends tenth word fits groups
         last = last;
         there = rw same there;
         within_ten = within;
-        continue = λ k early. rw (groups k early) ((marked (shifted n k)).0);
+        continue = λ k early. rw (groups k early) (omega arith);
         ends = rw end (shr_below n 7 (7 * last) most);
         tenth = λ at. rw (end, at) (omega (arith, shr_below n 1 63 word));
         number = sym (groups_of after n (suc last) group ∙ ap (λ k. n % 2 ^ k) more ∙ mod-eq_of_lt most);
