@@ -112,33 +112,27 @@ below_first f xs pair valid i j d le within passes = elim (cases_eq i j) [
 pub beside_by_next : {X : Type 0} (f : X → ℕ × ℕ) (xs : List X) (pair : ℕ × ℕ) (k : ℕ) → IsValid (map f xs) → IsPartitionPoint (λ x. is_before (f x) pair ≡ true) (λ x. is_before (f x) pair ≡ false) xs k
     → (k < length xs → IsBefore pair (get_or (map f xs) k (0, 0))) ↔ All (λ d. DoNotOverlap d pair) (map f xs)
 beside_by_next {X = X} f [] pair k valid parted = (λ next j d within. absurd (omega arith), λ free inside. absurd (omega arith))
-beside_by_next {X = X} f (x ∷ rest) pair k valid parted = (into, out)
-  where
-    xs : List X
-    xs = x ∷ rest
-
-    into : (k < length xs → IsBefore pair (get_or (map f xs) k (0, 0))) → All (λ d. DoNotOverlap d pair) (map f xs)
-    into next j d within =
-        let inside : j < length xs = omega (arith, length-map xs f) in
-        elim (cases_order j k) [
-          | inl same ↦ inr (rw (same, get_or_default (map f xs) k d (0, 0) (omega arith)) (next (omega arith)))
-          | inr (inl lower) ↦
-              let here = parted.0 j x (omega arith) lower in
-              inl (rw (get_or-map f xs j x d inside) (grind (arith, nat_tests, here), grind (arith, nat_tests, here)))
-          | inr (inr higher) ↦
-              let step = valid.ascending k j d higher within in
-              let first = rw (get_or_default (map f xs) k (0, 0) d (omega arith)) at (next (omega arith)) in
-              inr (omega (arith, step.0, first.0), omega (arith, step.0, first.1))
-        ]
-
-    out : All (λ d. DoNotOverlap d pair) (map f xs) → k < length xs → IsBefore pair (get_or (map f xs) k (0, 0))
-    out free inside = elim (free k (0, 0) (omega (arith, inside, length-map xs f))) [
-      | inl before ↦
-          let below = rw (get_or-map f xs k x (0, 0) inside) at before in
-          let here = parted.1 k x (omega arith) inside in
-          absurd (grind (arith, nat_tests, here, below.0, below.1))
-      | inr after ↦ after
-    ]
+beside_by_next {X = X} f (x ∷ rest) pair k valid parted = (
+  λ next j d within.
+      let inside : j < length (x ∷ rest) = omega (arith, length-map (x ∷ rest) f) in
+      elim (cases_order j k) [
+        | inl same ↦ inr (rw (same, get_or_default (map f (x ∷ rest)) k d (0, 0) (omega arith)) (next (omega arith)))
+        | inr (inl lower) ↦
+            let here = parted.0 j x (omega arith) lower in
+            inl (rw (get_or-map f (x ∷ rest) j x d inside) (grind (arith, nat_tests, here), grind (arith, nat_tests, here)))
+        | inr (inr higher) ↦
+            let step = valid.ascending k j d higher within in
+            let first = rw (get_or_default (map f (x ∷ rest)) k (0, 0) d (omega arith)) at (next (omega arith)) in
+            inr (omega (arith, step.0, first.0), omega (arith, step.0, first.1))
+      ],
+  λ free inside. elim (free k (0, 0) (omega (arith, inside, length-map (x ∷ rest) f))) [
+    | inl before ↦
+        let below = rw (get_or-map f (x ∷ rest) k x (0, 0) inside) at before in
+        let here = parted.1 k x (omega arith) inside in
+        absurd (grind (arith, nat_tests, here, below.0, below.1))
+    | inr after ↦ after
+  ],
+)
 
 -- ---- what a test of each tells
 

@@ -94,16 +94,16 @@ module _ (ds : List (ℕ × ℕ)) (valid : IsValid ds) where
   pub inside_last : (i k : ℕ) (d : ℕ × ℕ) → 0 < k → k ≤ length ds
       → IsPartitionPoint (λ d. d.0 < i) (λ d. i ≤ d.0) ds k
       → IsInsideDeletion ds i ↔ (i < (get_or ds (k - 1) d).0 + (get_or ds (k - 1) d).1)
-  inside_last i k d positive within parted = (into, λ inside. (k - 1, get_or ds (k - 1) d, omega arith, get_or_default ds (k - 1) _ d (omega arith), (parted.0 (k - 1) d (omega arith) (omega arith), inside)))
-    where
-      into : IsInsideDeletion ds i → i < (get_or ds (k - 1) d).0 + (get_or ds (k - 1) d).1
-      into (j, e, low, is, (below, above)) =
-          let end : (get_or ds j e).0 + (get_or ds j e).1 ≡ e.0 + e.1 = ap (λ (x : ℕ × ℕ). x.0 + x.1) is in
-          let same : j ≡ k - 1 → get_or ds j e ≡ get_or ds (k - 1) d = λ here. ap (λ q. get_or ds q e) here ∙ get_or_default ds (k - 1) e d (omega arith) in
-          elim (cases_eq j (k - 1)) [
-            | inl here ↦ omega (arith, end, ap (λ (x : ℕ × ℕ). x.0 + x.1) (same here))
-            | inr other ↦ absurd (grind (arith, ap (λ (x : ℕ × ℕ). x.0) is, end, λ (lower : j < k - 1). (valid.ascending j (k - 1) e lower (omega arith)).1, parted.0 (k - 1) e (omega arith), parted.1 j e, low))
-          ]
+  inside_last i k d positive within parted = (
+    λ (j, e, low, is, (below, above)).
+        let end : (get_or ds j e).0 + (get_or ds j e).1 ≡ e.0 + e.1 = ap (λ (x : ℕ × ℕ). x.0 + x.1) is in
+        let same : j ≡ k - 1 → get_or ds j e ≡ get_or ds (k - 1) d = λ here. ap (λ q. get_or ds q e) here ∙ get_or_default ds (k - 1) e d (omega arith) in
+        elim (cases_eq j (k - 1)) [
+          | inl here ↦ omega (arith, end, ap (λ (x : ℕ × ℕ). x.0 + x.1) (same here))
+          | inr other ↦ absurd (grind (arith, ap (λ (x : ℕ × ℕ). x.0) is, end, λ (lower : j < k - 1). (valid.ascending j (k - 1) e lower (omega arith)).1, parted.0 (k - 1) e (omega arith), parted.1 j e, low))
+        ],
+    λ inside. (k - 1, get_or ds (k - 1) d, omega arith, get_or_default ds (k - 1) _ d (omega arith), (parted.0 (k - 1) d (omega arith) (omega arith), inside)),
+  )
 
   -- an offset at or above the end of the last deletion that begins below it parts the list there
   parted_past : (i k : ℕ) → k ≤ length ds

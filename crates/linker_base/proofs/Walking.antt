@@ -1,7 +1,7 @@
 -- How far a cursor's walk goes at a query.
 use Rattle.std.proofs.Common.{◌≡◌, ℕ, ◌+◌, ◌-◌, ◌<◌, ◌≤◌, List, length, map, get_or, take, ap, ◌∙◌, inl, inr, arith}
 use Rattle.std.specs.Prelude.{◌↔◌, ◌%◌, ◌^◌, max, nat_lt, All, AllPairs}
-use Rattle.std.proofs.lemmas.Bool.{cases_lt}
+use Rattle.std.proofs.lemmas.Bool.{cases_eq, cases_lt}
 use Rattle.std.proofs.lemmas.List.{length-map, length-take, get_or-take, get_or_default}
 use Rattle.std.proofs.lemmas.List.Sums.{count_by-le-length}
 use Rattle.linker_base.specs.declared.relaxation.RelaxDelta.{RelaxDelta}
@@ -51,11 +51,9 @@ pub taken_begin_below : (ds : List (ℕ × ℕ)) → AllPairs IsBefore ds → (i
 taken_begin_below ds ascending i k some bound = (
   λ last j d within.
       let low : j < k = omega (arith, length-take k ds) in
-      rw (get_or-take k ds j d low) (elim (cases_lt j (k - 1)) [
-        | inl lower ↦ omega (arith, last, (ascending j (k - 1) d lower (omega arith)).0, ap (λ (e : ℕ × ℕ). e.0) (get_or_default ds (k - 1) d (0, 0) (omega arith)))
-        | inr end ↦
-            let here : j ≡ k - 1 = omega arith in
-            rw (here, get_or_default ds (k - 1) d (0, 0) (omega arith)) last
+      rw (get_or-take k ds j d low) (elim (cases_eq j (k - 1)) [
+        | inl here ↦ rw (here, get_or_default ds (k - 1) d (0, 0) (omega arith)) last
+        | inr lower ↦ omega (arith, last, (ascending j (k - 1) d (omega arith) (omega arith)).0, ap (λ (e : ℕ × ℕ). e.0) (get_or_default ds (k - 1) d (0, 0) (omega arith)))
       ]),
   λ all.
       let low : k - 1 < k = omega arith in
