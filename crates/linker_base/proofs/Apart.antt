@@ -5,7 +5,7 @@ use Rattle.std.specs.Prelude.{◌↔◌, IsTrue, MatchOption, All, IsPermutation
 use Rattle.std.specs.List.{AllWithin, HoldsAt}
 use Rattle.std.specs.List.Sorted.{IsPartitionPoint, IsPartitionedBy}
 use Rattle.std.specs.Global.{Vec}
-use Rattle.std.proofs.lemmas.Bool.{cases_lt, cases_order, false≢true, false_from_ne_true}
+use Rattle.std.proofs.lemmas.Bool.{cases_eq, cases_order, false≢true, false_from_ne_true}
 use Rattle.std.proofs.lemmas.Bool.Decides.{nat_tests}
 use Rattle.std.proofs.lemmas.List.{take-append-drop, get_or_default, get_or-map, length-map, drop_more, take_more, append-nil}
 use Rattle.std.proofs.lemmas.List.Concat.{flat_map-append}
@@ -83,12 +83,12 @@ disjoint_from_falling ds falling fits = record {
       let up : i + suc (j - i - 1) ≡ j = omega arith in
       let first : i < length ds = omega arith in
       inr (rw (get_or_default ds i d (0, 0) first, get_or_default ds j d (0, 0) within) (rw up at (fallen ds falling i (j - i - 1) (omega arith))));
-  ends = λ k d within. rw (get_or_default ds k d (0, 0) within) (elim (cases_lt 0 k) [
-    | inl some ↦
+  ends = λ k d within. rw (get_or_default ds k d (0, 0) within) (elim (cases_eq k 0) [
+    | inl first ↦ rw first fits
+    | inr other ↦
         let up : 0 + suc (k - 1) ≡ k = omega arith in
         let last = rw up at (fallen ds falling 0 (k - 1) (omega arith)) in
         omega (arith, last.0, last.1, fits)
-    | inr none ↦ let first : k ≡ 0 = omega arith in rw first fits
   ]);
 }
 
@@ -100,46 +100,39 @@ test_is false a b tells = sym (false_from_ne_true (is_before a b) (λ holds. fal
 
 -- those below a pair come first
 pub below_first : {X : Type 0} (f : X → ℕ × ℕ) (xs : List X) (pair : ℕ × ℕ) → IsValid (map f xs) → IsPartitionedBy (λ x. is_before (f x) pair) xs
-below_first f xs pair valid i j d le within passes = elim (cases_order i j) [
+below_first f xs pair valid i j d le within passes = elim (cases_eq i j) [
   | inl same ↦ rw same passes
-  | inr (inl lower) ↦
+  | inr other ↦
       let inside : j < length (map f xs) = omega (arith, length-map xs f) in
-      let step = rw (get_or-map f xs i d (0, 0) (omega arith), get_or-map f xs j d (0, 0) within) at (valid.ascending i j (0, 0) lower inside) in
+      let step = rw (get_or-map f xs i d (0, 0) (omega arith), get_or-map f xs j d (0, 0) within) at (valid.ascending i j (0, 0) (omega arith) inside) in
       grind (arith, nat_tests, step.0, step.1, passes)
-  | inr (inr higher) ↦ absurd (omega arith)
 ]
 
 -- and the next one decides
 pub beside_by_next : {X : Type 0} (f : X → ℕ × ℕ) (xs : List X) (pair : ℕ × ℕ) (k : ℕ) → IsValid (map f xs) → IsPartitionPoint (λ x. is_before (f x) pair ≡ true) (λ x. is_before (f x) pair ≡ false) xs k
     → (k < length xs → IsBefore pair (get_or (map f xs) k (0, 0))) ↔ All (λ d. DoNotOverlap d pair) (map f xs)
 beside_by_next {X = X} f [] pair k valid parted = (λ next j d within. absurd (omega arith), λ free inside. absurd (omega arith))
-beside_by_next {X = X} f (x ∷ rest) pair k valid parted = (into, out)
-  where
-    xs : List X
-    xs = x ∷ rest
-
-    into : (k < length xs → IsBefore pair (get_or (map f xs) k (0, 0))) → All (λ d. DoNotOverlap d pair) (map f xs)
-    into next j d within =
-        let inside : j < length xs = omega (arith, length-map xs f) in
-        elim (cases_order j k) [
-          | inl same ↦ inr (rw (same, get_or_default (map f xs) k d (0, 0) (omega arith)) (next (omega arith)))
-          | inr (inl lower) ↦
-              let here = parted.0 j x (omega arith) lower in
-              inl (rw (get_or-map f xs j x d inside) (grind (arith, nat_tests, here), grind (arith, nat_tests, here)))
-          | inr (inr higher) ↦
-              let step = valid.ascending k j d higher within in
-              let first = rw (get_or_default (map f xs) k (0, 0) d (omega arith)) at (next (omega arith)) in
-              inr (omega (arith, step.0, first.0), omega (arith, step.0, first.1))
-        ]
-
-    out : All (λ d. DoNotOverlap d pair) (map f xs) → k < length xs → IsBefore pair (get_or (map f xs) k (0, 0))
-    out free inside = elim (free k (0, 0) (omega (arith, inside, length-map xs f))) [
-      | inl before ↦
-          let below = rw (get_or-map f xs k x (0, 0) inside) at before in
-          let here = parted.1 k x (omega arith) inside in
-          absurd (grind (arith, nat_tests, here, below.0, below.1))
-      | inr after ↦ after
-    ]
+beside_by_next {X = X} f (x ∷ rest) pair k valid parted = (
+  λ next j d within.
+      let inside : j < length (x ∷ rest) = omega (arith, length-map (x ∷ rest) f) in
+      elim (cases_order j k) [
+        | inl same ↦ inr (rw (same, get_or_default (map f (x ∷ rest)) k d (0, 0) (omega arith)) (next (omega arith)))
+        | inr (inl lower) ↦
+            let here = parted.0 j x (omega arith) lower in
+            inl (rw (get_or-map f (x ∷ rest) j x d inside) (grind (arith, nat_tests, here), grind (arith, nat_tests, here)))
+        | inr (inr higher) ↦
+            let step = valid.ascending k j d higher within in
+            let first = rw (get_or_default (map f (x ∷ rest)) k (0, 0) d (omega arith)) at (next (omega arith)) in
+            inr (omega (arith, step.0, first.0), omega (arith, step.0, first.1))
+      ],
+  λ free inside. elim (free k (0, 0) (omega (arith, inside, length-map (x ∷ rest) f))) [
+    | inl before ↦
+        let below = rw (get_or-map f (x ∷ rest) k x (0, 0) inside) at before in
+        let here = parted.1 k x (omega arith) inside in
+        absurd (grind (arith, nat_tests, here, below.0, below.1))
+    | inr after ↦ after
+  ],
+)
 
 -- ---- what a test of each tells
 

@@ -1,7 +1,7 @@
 -- The bytes of a section that stay are copied run by run. The section begins at a base.
 use Rattle.std.proofs.Common.{◌≡◌, ℕ, zero, suc, ◌+◌, ◌-◌, ◌<◌, ◌≤◌, ◌^◌, true, false, not, ltb, leb, List, ◌++◌, length, get_or, take, drop, min, max, map, refl, sym, subst, ◌∙◌, ap, arith, inl, inr, add-zero, add-suc}
 use Rattle.std.specs.List.{list_any}
-use Rattle.std.proofs.lemmas.Bool.{cases_Bool, cases_lt, both_ways, and_from, le-leb, lt-ltb}
+use Rattle.std.proofs.lemmas.Bool.{false_from_ne_true, cases_lt, both_ways, and_from, le-leb, lt-ltb}
 use Rattle.std.proofs.lemmas.List.Folds.{list_any_at}
 use Rattle.std.proofs.lemmas.List.{length-take, length-append, length-drop, get_or-take, get_or-drop, get_or_append_left, get_or-append_right, get_or_default, get_or-map, length-map, take_all}
 use Rattle.linker_base.specs.Deletions.{IsValid, covers, is_kept, rank}
@@ -44,19 +44,12 @@ gone_at ds p k d l at low high kept =
 
 -- a position in the run from an offset up to the next deletion is kept
 pub run_kept : (ds : List (ℕ × ℕ)) (k from p : ℕ) → IsRunStart ds k from → from ≤ p → ((j : ℕ) (d : ℕ × ℕ) → k ≤ j → j < length ds → p < (get_or ds j d).0) → is_kept ds p ≡ true
-run_kept ds k from p start low high =
-    ap not (none_covers ds p (λ j d within begun. elim (cases_lt j k) [
-      | inl passed ↦ omega (arith, start.ended j d passed)
-      | inr ahead ↦ absurd (omega (arith, high j d ahead within))
-    ]))
+run_kept ds k from p start low high = ap not (none_covers ds p (λ j d within begun. grind (arith, start.ended j d, high j d)))
 
 -- a position in a deletion isn't
 pub deleted_gone : (ds : List (ℕ × ℕ)) (k p : ℕ) (d : ℕ × ℕ) → k < length ds → (get_or ds k d).0 ≤ p → p < (get_or ds k d).0 + (get_or ds k d).1 → is_kept ds p ≡ false
 deleted_gone ds k p d within low high =
-    elim (cases_Bool (is_kept ds p)) [
-      | inl kept ↦ absurd (gone_at ds p k (get_or ds k d) within (get_or_default ds k (get_or ds k d) d within) low high kept)
-      | inr gone ↦ gone
-    ]
+    false_from_ne_true (is_kept ds p) (gone_at ds p k (get_or ds k d) within (get_or_default ds k (get_or ds k d) d within) low high)
 
 -- over kept positions the rank rises with the offset
 pub rank-kept : (ds : List (ℕ × ℕ)) (i n : ℕ) → ((p : ℕ) → i ≤ p → p < i + n → is_kept ds p ≡ true) → rank ds (i + n) ≡ rank ds i + n
@@ -77,37 +70,29 @@ module _ (ds : List (ℕ × ℕ)) (base : ℕ) (s packed bytes : List ℕ) (from
     (filled : IsFilledTo ds base s from packed)
     (room : length packed ≡ rank ds (base + length s) - rank ds base)
     (run : bytes ≡ take (upto - from) (drop (from - base) s)) where
-  run_length : length bytes ≡ upto - from
-  run_length = ap length run ∙ length-take (upto - from) (drop (from - base) s) ∙ omega (arith, length-drop (from - base) s)
-
-  ranks : (n : ℕ) → from + n ≤ upto → rank ds (from + n) ≡ at + n + rank ds base
-  ranks n h = rank-kept ds from n (λ p up below. kept p up (omega arith)) ∙ omega arith
-
-  pub run_end : at + length bytes + rank ds base ≡ rank ds upto
-  run_end =
-      let e : rank ds (from + (upto - from)) ≡ at + (upto - from) + rank ds base = ranks (upto - from) (omega arith) in
-      omega (arith, run_length, e, ap (rank ds) (let same : from + (upto - from) ≡ upto = omega arith in same))
-
-  pub run_fits : at + length bytes ≤ length packed
-  run_fits = omega (arith, run_end, room, rank-mono ds upto (base + length s) within)
-
-  pub run_copied : IsFilledTo ds base s upto (take at packed ++ bytes ++ drop (at + length bytes) packed)
-  run_copied p inside below is =
-      elim (cases_lt (base + p) from) [
+  pub run_done : (at + length bytes ≤ length packed) × (at + length bytes + rank ds base ≡ rank ds upto) × IsFilledTo ds base s upto (take at packed ++ bytes ++ drop (at + length bytes) packed)
+  run_done =
+      let long : length bytes ≡ upto - from = ap length run ∙ length-take (upto - from) (drop (from - base) s) ∙ omega (arith, length-drop (from - base) s) in
+      let ranks : (n : ℕ) → from + n ≤ upto → rank ds (from + n) ≡ at + n + rank ds base = λ n h. rank-kept ds from n (λ p up below. kept p up (omega arith)) ∙ omega arith in
+      let whole : from + (upto - from) ≡ upto = omega arith in
+      let end : at + length bytes + rank ds base ≡ rank ds upto = omega (arith, long, ranks (upto - from) (omega arith), ap (rank ds) whole) in
+      let fits : at + length bytes ≤ length packed = omega (arith, end, room, rank-mono ds upto (base + length s) within) in
+      let copied : IsFilledTo ds base s upto (take at packed ++ bytes ++ drop (at + length bytes) packed) = λ p inside below is. elim (cases_lt (base + p) from) [
         | inl before ↦
-            put_below packed bytes at (at + length bytes) run_fits refl (rank ds (base + p) - rank ds base) (omega (arith, rank_kept ds (base + p) is, rank-mono ds (suc (base + p)) from (omega arith), rank-mono ds base (base + p) (omega arith)))
+            put_below packed bytes at (at + length bytes) fits refl (rank ds (base + p) - rank ds base) (omega (arith, rank_kept ds (base + p) is, rank-mono ds (suc (base + p)) from (omega arith), rank-mono ds base (base + p) (omega arith)))
             ∙ filled p inside before is
         | inr after ↦
             let n = base + p - from in
             let there : base + p ≡ from + n = omega arith in
             let position : rank ds (base + p) - rank ds base ≡ at + n = omega (arith, ap (rank ds) there, ranks n (omega arith)) in
             ap (λ y. get_or (take at packed ++ bytes ++ drop (at + length bytes) packed) y 0) position
-            ∙ put_at packed bytes at (at + length bytes) run_fits refl n (omega (arith, run_length))
+            ∙ put_at packed bytes at (at + length bytes) fits refl n (omega (arith, long))
             ∙ ap (λ xs. get_or xs n 0) run
             ∙ get_or-take (upto - from) (drop (from - base) s) n 0 (omega arith)
             ∙ get_or-drop (from - base) s n 0
             ∙ ap (λ k. get_or s k 0) (omega arith)
-      ]
+      ] in
+      (fits, end, copied)
 
 -- after what is filled only deleted positions follow
 filled_on : (ds : List (ℕ × ℕ)) (base : ℕ) (s packed : List ℕ) (a b : ℕ) → IsFilledTo ds base s a packed → ((p : ℕ) → a ≤ p → p < b → is_kept ds p ≡ false) → IsFilledTo ds base s b packed
@@ -143,88 +128,50 @@ module _ (ds : List (ℕ × ℕ)) (base : ℕ) (s packed bytes new : List ℕ) (
   above : base ≤ from
   above = copied.above
 
+  -- the run up to an offset, or to the section's end, where the other deletions begin there or above
+  run_put : (to : ℕ) → base ≤ to → min from ends ≤ min to ends → ((j : ℕ) (d : ℕ × ℕ) → k ≤ j → j < length ds → min to ends ≤ (get_or ds j d).0)
+      → bytes ≡ take (min (to - base) (length s) - min (from - base) (length s)) (drop (min (from - base) (length s)) s)
+      → (at + length bytes ≤ length packed) × (at + length bytes + rank ds base ≡ rank ds (min to ends)) × IsFilledTo ds base s (min to ends) new
+  run_put to up rise first run =
+      let kept : (p : ℕ) → min from ends ≤ p → p < min to ends → is_kept ds p ≡ true =
+      λ p low high. run_kept ds k from p copied.start (omega arith) (λ j d up inside. omega (arith, first j d up inside)) in
+      let done = run_done ds base s packed bytes (min from ends) (min to ends) at (omega (arith, above)) rise (omega arith) kept copied.at_is copied.filled room (run ∙ run_within base s from to above up) in
+      (done.0, done.1, subst (IsFilledTo ds base s (min to ends)) (sym (put_whole packed bytes new at done.0 put)) done.2)
+
   -- the run up to the next deletion, which is passed
   module _ (next end : ℕ) (valid : IsValid ds) (within : k < length ds)
       (run : bytes ≡ take (min ((get_or ds k (0, 0)).0 - base) (length s) - min (from - base) (length s)) (drop (min (from - base) (length s)) s))
       (end_at : end ≡ at + min (length bytes) (length packed - at))
       (onward : next ≡ min ((get_or ds k (0, 0)).0 + (get_or ds k (0, 0)).1) (2 ^ 64 - 1)) where
-    abbrev to : ℕ
-    to = (get_or ds k (0, 0)).0
-
-    rise : from ≤ to
-    rise = copied.start.ahead k (0, 0) (omega arith) within
-
-    next_is : next ≡ to + (get_or ds k (0, 0)).1
-    next_is = omega (arith, valid.ends k (0, 0) within)
-
-    later : (j : ℕ) (d : ℕ × ℕ) → k < j → j < length ds → next ≤ (get_or ds j d).0
-    later j d up inside =
-        omega (arith, next_is, (valid.ascending k j d up inside).1, ap (λ (e : ℕ × ℕ). e.0 + e.1) (get_or_default ds k d (0, 0) within))
-
-    first_from : (j : ℕ) (d : ℕ × ℕ) → k ≤ j → j < length ds → to ≤ (get_or ds j d).0
-    first_from j d up inside =
-        elim (cases_lt k j) [
-          | inl after ↦ omega (arith, next_is, later j d after inside)
-          | inr here ↦ let same : j ≡ k = omega arith in rw same (omega (arith, ap (λ (e : ℕ × ℕ). e.0) (get_or_default ds k d (0, 0) within)))
-        ]
-
-    kept : (p : ℕ) → min from ends ≤ p → p < min to ends → is_kept ds p ≡ true
-    kept p low high = run_kept ds k from p copied.start (omega arith) (λ j d up inside. omega (arith, first_from j d up inside))
-
-    whole : bytes ≡ take (min to ends - min from ends) (drop (min from ends - base) s)
-    whole = run ∙ run_within base s from to above (omega (arith, above, rise))
-
-    low : base ≤ min from ends
-    low = omega (arith, above)
-
-    up : min from ends ≤ min to ends
-    up = omega (arith, rise)
-
-    fits : at + length bytes ≤ length packed
-    fits = run_fits ds base s packed bytes (min from ends) (min to ends) at low up (omega arith) kept copied.at_is copied.filled room whole
-
-    end_is : end + rank ds base ≡ rank ds (min to ends)
-    end_is = omega (arith, end_at, fits, run_end ds base s packed bytes (min from ends) (min to ends) at low up (omega arith) kept copied.at_is copied.filled room whole)
-
-    filled : IsFilledTo ds base s (min to ends) new
-    filled = subst (IsFilledTo ds base s (min to ends)) (sym (put_whole packed bytes new at fits put))
-        (run_copied ds base s packed bytes (min from ends) (min to ends) at low up (omega arith) kept copied.at_is copied.filled room whole)
-
-    gone : (p : ℕ) → min to ends ≤ p → p < min next ends → is_kept ds p ≡ false
-    gone p down high = deleted_gone ds k p (0, 0) within (omega arith) (omega (arith, next_is))
-
-    rank_same : rank ds (min next ends) ≡ rank ds (min to ends)
-    rank_same =
-        ap (rank ds) (let same : min next ends ≡ min to ends + (min next ends - min to ends) = omega (arith, next_is) in same)
-        ∙ rank-gone ds (min to ends) (min next ends - min to ends) (λ p down below. gone p down (omega (arith, next_is)))
-
     pub copied_step : IsCopied ds base s (k + 1) next end new
-    copied_step = record {
-      start = record {
-        ended = λ j d below. elim (cases_lt j k) [
-          | inl before ↦ omega (arith, copied.start.ended j d before, rise, next_is)
-          | inr here ↦ let same : j ≡ k = omega arith in rw same (omega (arith, next_is, ap (λ (e : ℕ × ℕ). e.0 + e.1) (get_or_default ds k d (0, 0) within)))
-        ];
-        ahead = λ j d after inside. later j d (omega arith) inside;
-      };
-      above = omega (arith, above, rise, next_is);
-      at_is = end_is ∙ sym rank_same;
-      filled = filled_on ds base s new (min to ends) (min next ends) filled gone;
-    }
+    copied_step =
+        let to = (get_or ds k (0, 0)).0 in
+        let rise : from ≤ to = copied.start.ahead k (0, 0) (omega arith) within in
+        let next_is : next ≡ to + (get_or ds k (0, 0)).1 = omega (arith, valid.ends k (0, 0) within) in
+        let later : (j : ℕ) (d : ℕ × ℕ) → k < j → j < length ds → next ≤ (get_or ds j d).0 =
+        λ j d up inside. omega (arith, next_is, (valid.ascending k j d up inside).1, ap (λ (e : ℕ × ℕ). e.0 + e.1) (get_or_default ds k d (0, 0) within)) in
+        let first_from : (j : ℕ) (d : ℕ × ℕ) → k ≤ j → j < length ds → to ≤ (get_or ds j d).0 =
+        λ j d up inside. grind (arith, next_is, later j d, λ (same : j ≡ k). ap (λ q. (get_or ds q d).0) same, ap (λ (e : ℕ × ℕ). e.0) (get_or_default ds k d (0, 0) within)) in
+        let done = run_put to (omega (arith, above, rise)) (omega (arith, rise)) (λ j d up inside. omega (arith, first_from j d up inside)) run in
+        let gone : (p : ℕ) → min to ends ≤ p → p < min next ends → is_kept ds p ≡ false = λ p down high. deleted_gone ds k p (0, 0) within (omega arith) (omega (arith, next_is)) in
+        let apart : min next ends ≡ min to ends + (min next ends - min to ends) = omega (arith, next_is) in
+        let rank_same : rank ds (min next ends) ≡ rank ds (min to ends) =
+        ap (rank ds) apart ∙ rank-gone ds (min to ends) (min next ends - min to ends) (λ p down below. gone p down (omega (arith, next_is))) in
+        record {
+          start = record {
+            ended = λ j d below. grind (arith, copied.start.ended j d, rise, next_is, λ (same : j ≡ k). ap (λ q. get_or ds q d) same, get_or_default ds k d (0, 0) within);
+            ahead = λ j d after inside. later j d (omega arith) inside;
+          };
+          above = omega (arith, above, rise, next_is);
+          at_is = omega (arith, end_at, done.0, done.1, rank_same);
+          filled = filled_on ds base s new (min to ends) (min next ends) done.2 gone;
+        }
 
   -- the run up to the section's end, above which the other deletions begin
   pub copied_end : ((j : ℕ) (d : ℕ × ℕ) → k ≤ j → j < length ds → base + length s ≤ (get_or ds j d).0)
       → bytes ≡ take (min (base + length s - base) (length s) - min (from - base) (length s)) (drop (min (from - base) (length s)) s)
       → IsFilled ds base s new
-  copied_end past run =
-      let low = min from ends in
-      let kept : (p : ℕ) → low ≤ p → p < ends → is_kept ds p ≡ true =
-      λ p up below. run_kept ds k from p copied.start (omega arith) (λ j d after inside. (let q = past j d after inside in omega arith)) in
-      let whole : bytes ≡ take (ends - low) (drop (low - base) s) =
-      run ∙ run_within base s from ends above (omega arith) ∙ ap (λ n. take (n - low) (drop (low - base) s)) (let e : min ends ends ≡ ends = omega arith in e) in
-      let fits = run_fits ds base s packed bytes low ends at (omega (arith, above)) (omega arith) (omega arith) kept copied.at_is copied.filled room whole in
-      subst (IsFilled ds base s) (sym (put_whole packed bytes new at fits put))
-      (run_copied ds base s packed bytes low ends at (omega (arith, above)) (omega arith) (omega arith) kept copied.at_is copied.filled room whole)
+  copied_end past run = let e : min ends ends ≡ ends = omega arith in rw e at (run_put ends (omega arith) (omega arith) (λ j d up inside. omega (arith, past j d up inside)) run).2
 
 -- nothing is copied yet
 pub copied_first : (ds : List (ℕ × ℕ)) (base : ℕ) (s packed : List ℕ) (first from : ℕ) → IsFirstRun ds base first from → IsCopied ds base s first from 0 packed
@@ -281,20 +228,10 @@ deletion_at deltas j d e h = ap (λ (x : ℕ × ℕ). x.0) (get_or-map deletion_
 module _ (deltas : List RelaxDelta) (offset begun : ℕ) (valid : AreValidDeltas deltas) (are : AreBegun deltas offset begun) where
   pub begin_below : (j : ℕ) (d : ℕ × ℕ) → j < begun → (get_or (map deletion_of deltas) j d).0 < offset
   begin_below j d h =
-      let within = are.within in
-      let low = are.below (omega arith) in
-      let last = deletion_at deltas (begun - 1) d no_delta (omega arith) in
-      elim (cases_lt j (begun - 1)) [
-        | inl before ↦ let rise = (valid.valid.ascending j (begun - 1) d before (omega (arith, length-map deltas deletion_of))).0 in omega arith
-        | inr here ↦ let same : j ≡ begun - 1 = omega arith in rw same (omega arith)
-      ]
+      let last = deletion_at deltas (begun - 1) d no_delta in
+      grind (arith, are.within, are.below, last, λ (before : j < begun - 1). (valid.valid.ascending j (begun - 1) d before (omega (arith, are.within, length-map deltas deletion_of))).0, λ (same : j ≡ begun - 1). ap (λ q. (get_or (map deletion_of deltas) q d).0) same)
 
   pub begin_above : (j : ℕ) (d : ℕ × ℕ) → begun ≤ j → j < length (map deletion_of deltas) → offset ≤ (get_or (map deletion_of deltas) j d).0
   begin_above j d h inside =
-      let there : j < length deltas = omega (arith, length-map deltas deletion_of) in
-      let low = are.above (omega arith) in
-      let first = deletion_at deltas begun d no_delta (omega arith) in
-      elim (cases_lt begun j) [
-        | inl before ↦ let rise = (valid.valid.ascending begun j d before inside).0 in omega arith
-        | inr here ↦ let same : j ≡ begun = omega arith in rw same (omega arith)
-      ]
+      let first = deletion_at deltas begun d no_delta in
+      grind (arith, length-map deltas deletion_of, are.above, first, λ (before : begun < j). (valid.valid.ascending begun j d before inside).0, λ (same : j ≡ begun). ap (λ q. (get_or (map deletion_of deltas) q d).0) same)

@@ -1,7 +1,8 @@
 -- The bits of remainders, quotients and fields, and numbers read in two's complement.
-use Rattle.std.proofs.Common.{◌≡◌, ℕ, suc, ◌+◌, ◌-◌, ◌*◌, ◌/◌, ◌%◌, ◌^◌, ◌<◌, ◌≤◌, ◌&&◌, ltb, leb, refl, sym, ◌∙◌, ap, arith, inl, inr, cond, pos, negsuc, ◌-ℤ◌}
+use Rattle.std.proofs.Common.{◌≡◌, ℕ, suc, ◌+◌, ◌-◌, ◌*◌, ◌/◌, ◌%◌, ◌^◌, ◌<◌, ◌≤◌, ◌&&◌, ltb, leb, refl, sym, ◌∙◌, ap, arith, inl, inr, cond, pos, negsuc, ◌-ℤ◌, ℤ, ◌+ℤ◌, ◌⊎◌}
 use Rattle.std.specs.Int.{bit_at, int_rem_euclid, w64, cast_unsigned}
-use Rattle.std.proofs.lemmas.Bool.{cond_both, cases_lt, lt-ltb, le-ltb, le-leb, lt-leb}
+use Rattle.std.proofs.Math.Pow.{mod-mod-pow}
+use Rattle.std.proofs.lemmas.Bool.{cond-true, cond-false, cond_both, cases_lt, lt-ltb, le-ltb, le-leb, lt-leb}
 use Rattle.std.proofs.lemmas.Int.{ints, int_rem_euclid_is}
 use Rattle.std.proofs.lemmas.Nat.{pow_pos, pow-add, mod_low, shr-shr, shr_split, div-add-mod', mod_below, mod-pow-add, shl-shr}
 use Rattle.std.proofs.lemmas.Nat.Bits.{same_from_bits, bit_at-zero, bit_at_cat_low, bit_at_cat_high, bit_at_above}
@@ -38,11 +39,7 @@ bit_at_window x low high i =
     ]
 
 pub mod_mod : (x m n : ℕ) → n ≤ m → x % 2 ^ m % 2 ^ n ≡ x % 2 ^ n
-mod_mod x m n h =
-    let apart : m ≡ (m - n) + n = omega arith in
-    ap (λ k. x % 2 ^ k % 2 ^ n) apart
-    ∙ ap (λ y. y % 2 ^ n) (mod-pow-add x (m - n) n)
-    ∙ mod_low (x / 2 ^ n % 2 ^ (m - n)) n (x % 2 ^ n) (mod_below x (2 ^ n) (pow_pos n))
+mod_mod x m n h = let apart : m ≡ (m - n) + n = omega arith in ap (λ k. x % 2 ^ k % 2 ^ n) apart ∙ mod-mod-pow x (m - n) n
 
 -- ---- two's complement
 
@@ -55,23 +52,33 @@ signed_rem n f h =
     (λ _. ap pos (below_itself n f h))
     (λ _. int_rem_euclid_is (pos f -ℤ pos (2 ^ n)) (pos (2 ^ n)) (2 ^ n) 1 f (pow_pos n) refl (omega (arith, ints)) ∙ ap pos (below_itself n f h))
 
-below_zero : (f m : ℕ) → f < m → pos f -ℤ pos m ≡ negsuc (m - f - 1)
-below_zero f m h = omega (arith, ints)
-
-whole_less : (f m t q : ℕ) → f < m → t ≡ suc q * m → t - suc (m - f - 1) ≡ q * m + f
-whole_less f m t q h e = omega arith
-
 -- the signed number's bits, at 64 bits
 signed_cast : (n f q : ℕ) → f < 2 ^ n → 2 ^ 64 ≡ suc q * 2 ^ n → cast_unsigned w64 (signed n f) % 2 ^ n ≡ f
 signed_cast n f q h e =
     cond_both (ltb f (2 ^ (n - 1))) (pos f) (pos f -ℤ pos (2 ^ n)) (λ z. cast_unsigned w64 z % 2 ^ n ≡ f)
     (λ _. below_itself n f h)
-    (λ _. ap (λ y. y % 2 ^ n) (ap (cast_unsigned w64) (below_zero f (2 ^ n) h) ∙ whole_less f (2 ^ n) (2 ^ 64) q h e) ∙ mod_low q n f h)
+    (λ _.
+    let below : pos f -ℤ pos (2 ^ n) ≡ negsuc (2 ^ n - f - 1) = omega (arith, ints) in
+    ap (λ y. y % 2 ^ n) (ap (cast_unsigned w64) below ∙ omega arith) ∙ mod_low q n f h)
+
+pub whole_parts : (n : ℕ) → n ≤ 64 → 2 ^ 64 ≡ suc (2 ^ (64 - n) - 1) * 2 ^ n
+whole_parts n l =
+    ap (λ k. 2 ^ k) (let e : 64 ≡ (64 - n) + n = omega arith in e) ∙ pow-add 2 (64 - n) n ∙ ap (λ y. y * 2 ^ n) (omega (arith, pow_pos (64 - n)))
 
 pub signed_bits : (n f : ℕ) → f < 2 ^ n → n ≤ 64 → cast_unsigned w64 (signed n f) % 2 ^ n ≡ f
-signed_bits n f h l =
-    signed_cast n f (2 ^ (64 - n) - 1) h
-    (ap (λ k. 2 ^ k) (let e : 64 ≡ (64 - n) + n = omega arith in e) ∙ pow-add 2 (64 - n) n ∙ ap (λ y. y * 2 ^ n) (omega (arith, pow_pos (64 - n))))
+signed_bits n f h l = signed_cast n f (2 ^ (64 - n) - 1) h (whole_parts n l)
+
+pub signed_cases : (n f : ℕ) → ((f < 2 ^ (n - 1)) × (signed n f ≡ pos f)) ⊎ ((2 ^ (n - 1) ≤ f) × (signed n f ≡ pos f -ℤ pos (2 ^ n)))
+signed_cases n f =
+    elim (cases_lt f (2 ^ (n - 1))) [
+      | inl below ↦ inl (below, cond-true (ltb f (2 ^ (n - 1))) (pos f) (pos f -ℤ pos (2 ^ n)) (lt-ltb f (2 ^ (n - 1)) below))
+      | inr above ↦ inr (above, cond-false (ltb f (2 ^ (n - 1))) (pos f) (pos f -ℤ pos (2 ^ n)) (le-ltb f (2 ^ (n - 1)) above))
+    ]
+
+-- a number's bits, from the number plus 2 ^ 64
+pub cast_rem : (z : ℤ) (m : ℕ) → z +ℤ pos (2 ^ 64) ≡ pos m → cast_unsigned w64 z % 2 ^ 64 ≡ m % 2 ^ 64
+cast_rem (pos a) m e = let same : m ≡ a + 2 ^ 64 = omega (arith, ints) in omega arith
+cast_rem (negsuc a) m e = let same : m + a + 1 ≡ 2 ^ 64 = omega (arith, ints) in omega arith
 
 shl_rem : (a low m : ℕ) → a * 2 ^ low % 2 ^ (m + low) ≡ a % 2 ^ m * 2 ^ low
 shl_rem a low m =

@@ -1,10 +1,10 @@
 -- A merge of two ascending lists, from the front.
-use Rattle.std.proofs.Common.{◌≡◌, ℕ, ◌+◌, ◌<◌, ◌≤◌, ◌∙◌, List, [], ◌∷◌, ◌++◌, length, map, get_or, set, take, drop, true, false, Bool, refl, ap, arith}
+use Rattle.std.proofs.Common.{◌≡◌, ℕ, ◌+◌, ◌-◌, ◌<◌, ◌≤◌, ◌∙◌, List, [], ◌∷◌, ◌++◌, length, map, get_or, set, take, drop, true, false, Bool, refl, ap, arith}
 use Rattle.std.specs.Prelude.{◌^◌, not, All, IsPermutation}
 use Rattle.std.specs.List.Sorted.{IsNonDecreasingBy}
 use Rattle.std.proofs.lemmas.List.{append_assoc, take-append-drop, take-set-le, take_all, take_more, get_or-set_same, map-append, length-set}
-use Rattle.std.proofs.lemmas.List.Elements.{All-nil, All-cons, All-push}
-use Rattle.std.proofs.lemmas.List.Sorted.{sum_by-IsPermutation, IsPermutation-trans, IsPermutation-append_left, IsPermutation-append_right, IsPermutation-append_comm}
+use Rattle.std.proofs.lemmas.List.Elements.{All-push}
+use Rattle.std.proofs.lemmas.List.Sorted.{IsNonDecreasingBy-push, sum_by-IsPermutation, IsPermutation-trans, IsPermutation-append_left, IsPermutation-append_right, IsPermutation-append_comm}
 use Rattle.std.proofs.lemmas.List.Sums.{sum_by_more, sum_by-append}
 use mir.Val.{bool_byte}
 use Rattle.linker_base.specs.declared.relaxation.RelaxDelta.{RelaxDelta}
@@ -13,7 +13,6 @@ use Rattle.linker_base.specs.Deltas.{deletion_of, RecordsDeletions}
 use Rattle.linker_base.specs.Listed.{AreValidDeltas, AreValidTogether}
 use Rattle.linker_base.specs.Inner.Listed.{IsLower}
 use Rattle.linker_base.proofs.Listed.{RecordsDeletions-push}
-use Rattle.linker_base.proofs.Merges.{rise-append}
 use Rattle.linker_base.proofs.OutputOffsets.{disjoint_fit}
 use Rattle.linker_base.proofs.Unions.{disjoint_permutation, union_from_sort}
 
@@ -61,57 +60,32 @@ has_more ds ps i j merged bytes upto disjoint within =
 -- one more of the first list is written after, where it isn't above what comes next of the other
 merged_more : (ds ps : List (ℕ × ℕ)) (i j at : ℕ) (merged : List RelaxDelta) (delta : RelaxDelta) (bytes : ℕ) → IsValid ds → i < length ds → at ≡ i + j → IsMergedUpTo ds ps i j merged bytes
     → deletion_of delta ≡ get_or ds i (0, 0) → (j < length ps → (get_or ds i (0, 0)).0 ≤ (get_or ps j (0, 0)).0) → delta.cumulative_deleted ≡ bytes + (get_or ds i (0, 0)).1 → IsMergedUpTo ds ps (i + 1) j (set merged at delta) delta.cumulative_deleted
-merged_more ds ps i j at merged delta bytes valid within place upto is first sum = record {
-  old_within = omega arith;
-  added_within = upto.added_within;
-  size = omega (arith, upto.size, length-set merged at delta);
-  front = rw whole (record {
-    same = rw (joined, is, more) (IsPermutation-trans ((take i ds ++ d ∷ []) ++ take j ps) ((take i ds ++ take j ps) ++ d ∷ []) (map deletion_of old ++ d ∷ []) behind (IsPermutation-append_left (d ∷ []) (take i ds ++ take j ps) (map deletion_of old) upto.front.same));
-    rise = rw (joined, is) (rise-append (map deletion_of old) (d ∷ []) upto.front.rise alone above);
-    below_old = λ some. rw (joined, is) (All-push (λ e. e.0 ≤ (get_or ds (i + 1) (0, 0)).0) (map deletion_of old) d (λ k e low. omega (arith, upto.front.below_old within k e low, (valid.ascending i (i + 1) (0, 0) (omega arith) some).0)) (omega (arith, (valid.ascending i (i + 1) (0, 0) (omega arith) some).0)));
-    below_added = λ some. rw (joined, is) (All-push (λ e. e.0 ≤ (get_or ps j (0, 0)).0) (map deletion_of old) d (upto.front.below_added some) (first some));
-    listing = rw joined (RecordsDeletions-push (map deletion_of old) old delta upto.front.listing (omega (arith, sum, bytes_before, ap (λ (x : ℕ × ℕ). x.1) is)));
-  });
-  sum = omega (arith, sum, upto.sum, sum_by_more (λ (e : ℕ × ℕ). e.1) ds i (0, 0) within);
-}
-  where
-    d : ℕ × ℕ
-    d = get_or ds i (0, 0)
-
-    old : List RelaxDelta
-    old = take (i + j) merged
-
-    more : take (i + 1) ds ≡ take i ds ++ d ∷ []
-    more = take_more ds i (0, 0) within
-
-    free : at < length merged
-    free = omega (arith, place, upto.size, upto.added_within, within)
-
-    whole : take (i + 1 + j) (set merged at delta) ≡ old ++ delta ∷ []
-    whole =
-        let next : i + 1 + j ≡ at + 1 = omega (arith, place) in
-        let written : take (at + 1) (set merged at delta) ≡ take at (set merged at delta) ++ get_or (set merged at delta) at delta ∷ [] = take_more (set merged at delta) at delta (omega (arith, free, length-set merged at delta)) in
-        let kept : take at (set merged at delta) ≡ take at merged = take-set-le at merged at delta (omega arith) in
-        let here : get_or (set merged at delta) at delta ≡ delta = get_or-set_same merged at delta delta free in
-        rw (next, written, kept, here, place) refl
-
-    joined : map deletion_of (old ++ delta ∷ []) ≡ map deletion_of old ++ deletion_of delta ∷ []
-    joined = map-append deletion_of old (delta ∷ [])
-
-    behind : IsPermutation ((take i ds ++ d ∷ []) ++ take j ps) ((take i ds ++ take j ps) ++ d ∷ [])
-    behind = rw (append_assoc (take i ds) (d ∷ []) (take j ps), append_assoc (take i ds) (take j ps) (d ∷ [])) (IsPermutation-append_right (take i ds) (d ∷ [] ++ take j ps) (take j ps ++ d ∷ []) (IsPermutation-append_comm (d ∷ []) (take j ps)))
-
-    alone : IsNonDecreasingBy (λ e. e.0) (d ∷ [])
-    alone a b e le low =
-        let first : a ≡ 0 = omega (arith, le, low) in
-        let second : b ≡ 0 = omega (arith, low) in
-        rw (first, second) (omega arith)
-
-    above : (k : ℕ) → k < length (map deletion_of old) → All (λ e. (get_or (map deletion_of old) k (0, 0)).0 ≤ e.0) (d ∷ [])
-    above k low = All-cons (λ e. (get_or (map deletion_of old) k (0, 0)).0 ≤ e.0) d [] (upto.front.below_old within k (0, 0) low) (All-nil (λ e. (get_or (map deletion_of old) k (0, 0)).0 ≤ e.0))
-
-    bytes_before : bytes ≡ bytes_of (map deletion_of old)
-    bytes_before = omega (arith, upto.sum, sum_by-append (λ (e : ℕ × ℕ). e.1) (take i ds) (take j ps), sum_by-IsPermutation (λ (e : ℕ × ℕ). e.1) (take i ds ++ take j ps) (map deletion_of old) upto.front.same)
+merged_more ds ps i j at merged delta bytes valid within place upto is first sum =
+    let d = get_or ds i (0, 0) in
+    let old = take (i + j) merged in
+    let more = take_more ds i (0, 0) within in
+    let free : at < length merged = omega (arith, place, upto.size, upto.added_within, within) in
+    let next : i + 1 + j ≡ at + 1 = omega (arith, place) in
+    let whole : take (i + 1 + j) (set merged at delta) ≡ old ++ delta ∷ [] =
+    rw (next, take_more (set merged at delta) at delta (omega (arith, free, length-set merged at delta)), take-set-le at merged at delta (omega arith), get_or-set_same merged at delta delta free, place) refl in
+    let joined : map deletion_of (old ++ delta ∷ []) ≡ map deletion_of old ++ deletion_of delta ∷ [] = map-append deletion_of old (delta ∷ []) in
+    let behind : IsPermutation ((take i ds ++ d ∷ []) ++ take j ps) ((take i ds ++ take j ps) ++ d ∷ []) =
+    rw (append_assoc (take i ds) (d ∷ []) (take j ps), append_assoc (take i ds) (take j ps) (d ∷ [])) (IsPermutation-append_right (take i ds) (d ∷ [] ++ take j ps) (take j ps ++ d ∷ []) (IsPermutation-append_comm (d ∷ []) (take j ps))) in
+    let bytes_before : bytes ≡ bytes_of (map deletion_of old) =
+    omega (arith, upto.sum, sum_by-append (λ (e : ℕ × ℕ). e.1) (take i ds) (take j ps), sum_by-IsPermutation (λ (e : ℕ × ℕ). e.1) (take i ds ++ take j ps) (map deletion_of old) upto.front.same) in
+    record {
+      old_within = omega arith;
+      added_within = upto.added_within;
+      size = omega (arith, upto.size, length-set merged at delta);
+      front = rw whole (record {
+        same = rw (joined, is, more) (IsPermutation-trans ((take i ds ++ d ∷ []) ++ take j ps) ((take i ds ++ take j ps) ++ d ∷ []) (map deletion_of old ++ d ∷ []) behind (IsPermutation-append_left (d ∷ []) (take i ds ++ take j ps) (map deletion_of old) upto.front.same));
+        rise = rw (joined, is) (IsNonDecreasingBy-push (λ e. e.0) (map deletion_of old) d upto.front.rise (λ e some. upto.front.below_old within (length (map deletion_of old) - 1) e (omega arith)));
+        below_old = λ some. rw (joined, is) (All-push (λ e. e.0 ≤ (get_or ds (i + 1) (0, 0)).0) (map deletion_of old) d (λ k e low. omega (arith, upto.front.below_old within k e low, (valid.ascending i (i + 1) (0, 0) (omega arith) some).0)) (omega (arith, (valid.ascending i (i + 1) (0, 0) (omega arith) some).0)));
+        below_added = λ some. rw (joined, is) (All-push (λ e. e.0 ≤ (get_or ps j (0, 0)).0) (map deletion_of old) d (upto.front.below_added some) (first some));
+        listing = rw joined (RecordsDeletions-push (map deletion_of old) old delta upto.front.listing (omega (arith, sum, bytes_before, ap (λ (x : ℕ × ℕ). x.1) is)));
+      });
+      sum = omega (arith, sum, upto.sum, sum_by_more (λ (e : ℕ × ℕ). e.1) ds i (0, 0) within);
+    }
 
 -- one more of either list has room, and is written
 pub fits_step : (ds ps : List (ℕ × ℕ)) (i j : ℕ) (merged : List RelaxDelta) (bytes : ℕ) (d : ℕ × ℕ) (is_old : Bool) → IsMergedUpTo ds ps i j merged bytes → AreDisjoint (ds ++ ps) → IsLower ds ps i j d is_old → (i + j < length merged) × (bytes + d.1 < 2 ^ 64)

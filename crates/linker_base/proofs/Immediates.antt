@@ -1,11 +1,11 @@
 -- The laws of forms: what the machine reads after a write, and that writing back what was read changes nothing.
-use Rattle.std.proofs.Common.{◌≡◌, ℕ, ◌+◌, ◌-◌, ◌*◌, ◌/◌, ◌%◌, ◌^◌, ◌<◌, ◌≤◌, Bool, true, false, not, ◌&&◌, ltb, leb, eqb, List, [], ◌∷◌, refl, sym, ◌∙◌, ap, subst, arith, get_or, inl, inr, cond, pos}
+use Rattle.std.proofs.Common.{pow_mono, ◌≡◌, ℕ, ◌+◌, ◌-◌, ◌*◌, ◌/◌, ◌%◌, ◌^◌, ◌<◌, ◌≤◌, Bool, true, false, not, ◌&&◌, ltb, leb, eqb, List, [], ◌∷◌, refl, sym, ◌∙◌, ap, subst, arith, get_or, inl, inr, cond, pos}
 use Rattle.std.specs.Int.{bit_at, int_rem_euclid, w64, cast_unsigned}
 use Rattle.std.specs.List.{All, list_all}
-use Rattle.std.proofs.lemmas.Bool.{agree_below, agree_below_at, and_parts, or_parts, or_cases, eqb-true, ltb-true, leb-true, cases_lt, cases_Bool, le-ltb, or_from, and_right, and_from, ne_eqb, eqb-false, eq-eqb, cond-true, cond-false, not-true}
+use Rattle.std.proofs.lemmas.Bool.{le-leb, agree_below, agree_below_at, and_parts, or_parts, or_cases, eqb-true, ltb-true, leb-true, cases_lt, cases_Bool, le-ltb, or_from, and_right, and_from, ne_eqb, eqb-false, eq-eqb, cond-true, cond-false, not-true}
 use Rattle.std.proofs.lemmas.List.Elements.{All-nil, All-cons, All-head, All-tail}
 use Rattle.std.proofs.lemmas.List.Sums.{AllPass-from_list_all}
-use Rattle.std.proofs.lemmas.Nat.{pow_pos, pow_below, mod_below}
+use Rattle.std.proofs.lemmas.Nat.{pow_pos, mod_below}
 use Rattle.std.proofs.lemmas.Nat.Bits.{same_from_bits}
 use Rattle.std.proofs.Math.Nat.{mod-eq_of_lt}
 use Rattle.linker_base.specs.Form.{values_below, is_clear_at, holds_value_bit, is_of, has_value, values_apart, Mark, replaced, ored, cleared, ImmediateBit, BitsWritten, is_placed, placed_bit, bit_for, place_sum, IsClear, Fits, Written, MachineReads, WriteBackChangesNothing, field_form, number_of, Sign, unsigned, twos_complement, Claim, exactly, modulo, unclaimed, IsSameBy, IsSameModulo, Field, Layout, one_field, own_form, form_of}
@@ -106,24 +106,34 @@ same_bit replaced new old h e = e
 same_bit ored new old h e = omega arith
 same_bit cleared new old h e = cc
 
-pub bits_kept : (n r : ℕ) (v before after : ℕ) (f : ℕ → ℕ) (ps : List ImmediateBit) → ((k : ℕ) → k < n → bit_at ((v + r) % 2 ^ 64) k ≡ f k)
-    → values_below n ps ≡ true → all_hold ps ≡ true → adds r ps ≡ true
+-- all places are of value bits from bit n up
+abbrev pub values_from : ℕ → List ImmediateBit → Bool
+values_from n [] = true
+values_from n (p ∷ ps) = leb n p.value && values_from n ps
+
+values_from_zero : (ps : List ImmediateBit) → values_from 0 ps ≡ true
+values_from_zero [] = refl
+values_from_zero (p ∷ ps) = and_from (leb 0 p.value) (values_from 0 ps) (le-leb 0 p.value (omega arith)) (values_from_zero ps)
+
+pub bits_kept : (low n r : ℕ) (v before after : ℕ) (f : ℕ → ℕ) (ps : List ImmediateBit) → ((k : ℕ) → low ≤ k → k < n → bit_at ((v + r) % 2 ^ 64) k ≡ f k)
+    → values_from low ps ≡ true → values_below n ps ≡ true → all_hold ps ≡ true → adds r ps ≡ true
     → All (λ (p : ImmediateBit). f p.value ≡ bit_at before p.insn_bit) ps
     → All (λ (p : ImmediateBit). bit_at after p.insn_bit ≡ placed_bit p.mark (bit_for p v) (bit_at before p.insn_bit)) ps
     → All (λ (p : ImmediateBit). bit_at after p.insn_bit ≡ bit_at before p.insn_bit) ps
-bits_kept n r v before after f [] g b a u own placed = All-nil (λ (p : ImmediateBit). bit_at after p.insn_bit ≡ bit_at before p.insn_bit)
-bits_kept n r v before after f (p ∷ ps) g b a u own placed =
+bits_kept low n r v before after f [] g c b a u own placed = All-nil (λ (p : ImmediateBit). bit_at after p.insn_bit ≡ bit_at before p.insn_bit)
+bits_kept low n r v before after f (p ∷ ps) g c b a u own placed =
+    let from = and_parts (leb low p.value) (values_from low ps) c in
     let below = and_parts (ltb p.value n) (values_below n ps) b in
     let held = and_parts (holds_value_bit p.mark) (all_hold ps) a in
     let added = and_parts (eqb p.added r) (adds r ps) u in
     let new : bit_for p v ≡ bit_at before p.insn_bit =
     ap (λ a. bit_at ((v + a) % 2 ^ 64) p.value) (eqb-true p.added r added.0)
-    ∙ g p.value (ltb-true p.value n below.0)
+    ∙ g p.value (leb-true low p.value from.0) (ltb-true p.value n below.0)
     ∙ All-head (λ (q : ImmediateBit). f q.value ≡ bit_at before q.insn_bit) p ps own in
     All-cons (λ (q : ImmediateBit). bit_at after q.insn_bit ≡ bit_at before q.insn_bit) p ps
     (All-head (λ (q : ImmediateBit). bit_at after q.insn_bit ≡ placed_bit q.mark (bit_for q v) (bit_at before q.insn_bit)) p ps placed
     ∙ same_bit p.mark (bit_for p v) (bit_at before p.insn_bit) held.0 new)
-    (bits_kept n r v before after f ps g below.1 held.1 added.1
+    (bits_kept low n r v before after f ps g from.1 below.1 held.1 added.1
     (All-tail (λ (q : ImmediateBit). f q.value ≡ bit_at before q.insn_bit) p ps own)
     (All-tail (λ (q : ImmediateBit). bit_at after q.insn_bit ≡ placed_bit q.mark (bit_for q v) (bit_at before q.insn_bit)) p ps placed))
 
@@ -132,9 +142,9 @@ pub restored : (n r : ℕ) (ps : List ImmediateBit) (v before after : ℕ) → v
     → (v + r) % 2 ^ 64 % 2 ^ n ≡ place_sum ps before → BitsWritten ps v before after → after ≡ before
 restored n r ps v before after apart below held u e laid =
     same_window ps before after
-    (bits_kept n r v before after (λ k. value_bit ps k before) ps
-    (λ k l. sym (bit_at_mod ((v + r) % 2 ^ 64) n k l) ∙ ap (λ y. bit_at y k) e ∙ bit_at-place_sum ps before k apart)
-    below held u (own_bits ps before apart held) laid.placed)
+    (bits_kept 0 n r v before after (λ k. value_bit ps k before) ps
+    (λ k z l. sym (bit_at_mod ((v + r) % 2 ^ 64) n k l) ∙ ap (λ y. bit_at y k) e ∙ bit_at-place_sum ps before k apart)
+    (values_from_zero ps) below held u (own_bits ps before apart held) laid.placed)
     laid.kept
 
 -- ---- forms of one field
@@ -206,15 +216,12 @@ number_bits : (s : Sign) (n f : ℕ) → f < 2 ^ n → n ≤ 64 → cast_unsigne
 number_bits unsigned n f h l = mod-eq_of_lt h
 number_bits twos_complement n f h l = signed_bits n f h l
 
-below_still : (v r m : ℕ) → v < m → v - r < m
-below_still v r m h = omega arith
-
 -- the claim, of a value without some low bits, from the number of n bits that stands in the field
 number_claimed : (claim : Claim) (s : Sign) (width n v low sum : ℕ) → is_claimed claim s width n ≡ true → v < 2 ^ width
     → sum ≡ (v - v % 2 ^ low) % 2 ^ n → IsSameBy claim (number_of s n sum) (pos (v - v % 2 ^ low))
 number_claimed exactly unsigned width n v low sum h fit e =
-    let same = eqb-true width n h in
-    ap pos (e ∙ mod-eq_of_lt (below_still v (v % 2 ^ low) (2 ^ n) (subst (λ k. v < 2 ^ k) same fit)))
+    let small : v < 2 ^ n = subst (λ k. v < 2 ^ k) (eqb-true width n h) fit in
+    ap pos (e ∙ mod-eq_of_lt (omega arith))
 number_claimed exactly twos_complement width n v low sum h fit e = cc
 number_claimed (modulo m) s width n v low sum h fit e =
     let small : sum < 2 ^ n = subst (λ y. y < 2 ^ n) (sym e) (mod_below (v - v % 2 ^ low) (2 ^ n) (pow_pos n)) in
@@ -282,10 +289,8 @@ layout_restores (own_form form) h = cc
 
 pub subst_below : (v n m : ℕ) → v < 2 ^ n → n ≤ m → v < 2 ^ m
 subst_below v n m h l =
-    elim (cases_lt n m) [
-      | inl below ↦ omega (arith, pow_below n m below)
-      | inr at ↦ let same : n ≡ m = omega arith in subst (λ k. v < 2 ^ k) same h
-    ]
+    let most : 2 ^ n ≤ 2 ^ m = pow_mono l in
+    omega arith
 
 -- ---- no place is only ORed
 

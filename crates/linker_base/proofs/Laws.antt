@@ -1,5 +1,5 @@
 -- The laws of deletions, proved.
-use Rattle.std.proofs.Common.{◌≡◌, ℕ, zero, suc, ◌+◌, ◌<◌, ◌≤◌, true, false, cond, List, [], ◌∷◌, ◌++◌, length, map, get_or, take, refl, ap, inl, inr, ⊎_elim, arith}
+use Rattle.std.proofs.Common.{add-zero, add-suc, ◌≡◌, ℕ, zero, suc, ◌+◌, ◌-◌, ◌<◌, ◌≤◌, true, false, cond, List, [], ◌∷◌, ◌++◌, length, map, get_or, take, refl, ap, inl, inr, arith}
 use Rattle.std.specs.Prelude.{max, not, nat_lt, All, AllPairs, Contains, IsPermutation}
 use Rattle.std.specs.List.{list_any, AllWithin}
 use Rattle.std.proofs.lemmas.Bool.{cases_lt, cases_Bool, not-true, false_from_ne_true, both_ways}
@@ -26,10 +26,7 @@ in_after_out ds y p selected = (kept_outside ds p selected.kept, selected.ranked
 pub out_after_in : OutAfterInIsFirstKept
 out_after_in ds i p selected = record {
   kept = selected.kept;
-  at_or_after = ⊎_elim
-      (λ (below : p < i). absurd (omega (arith, rank_kept ds p selected.kept, rank-mono ds (suc p) i (omega arith), selected.ranked)))
-      (λ (from : i ≤ p). from)
-      (cases_lt p i);
+  at_or_after = grind (arith, rank_kept ds p selected.kept, rank-mono ds (suc p) i, selected.ranked);
   none_between = λ q from below. false_from_ne_true (is_kept ds q) (λ kept. omega (arith, rank_kept ds q kept, rank-mono ds i q from, rank-mono ds (suc q) p (omega arith), selected.ranked));
 }
 
@@ -61,6 +58,10 @@ begun_none (e ∷ ds) i from =
     let rest = begun_none ds i (All-tail (λ d. i ≤ d.0) e ds from) in
     grind (arith, nat_tests, sum_by-cons (λ (d : ℕ × ℕ). cond (nat_lt d.0 i) 1 0) e ds, rest)
 
+within_cons : (P : ℕ × ℕ → Type 0) (e : ℕ × ℕ) (ds : List (ℕ × ℕ)) (low high : ℕ) → (low ≡ 0 → P e) → ((k : ℕ) (d : ℕ × ℕ) → low ≤ suc k → suc k < high → P (get_or ds k d)) → AllWithin P (e ∷ ds) low high
+within_cons P e ds low high first rest zero d from below = first (omega arith)
+within_cons P e ds low high first rest (suc k) d from below = rest k d from below
+
 -- the first `begun_below` deletions of an ascending list begin below i, and the others don't
 pub begun_parted : (ds : List (ℕ × ℕ)) (i : ℕ) → AllPairs IsBefore ds → AllWithin (λ d. d.0 < i) ds 0 (begun_below ds i) × AllWithin (λ d. i ≤ d.0) ds (begun_below ds i) (length ds)
 begun_parted [] i ascending = (λ k d from below. absurd (omega arith), λ k d from below. absurd (omega arith))
@@ -68,53 +69,41 @@ begun_parted (e ∷ ds) i ascending = elim (cases_lt e.0 i) [
   | inl below ↦
       let count : begun_below (e ∷ ds) i ≡ suc (begun_below ds i) = grind (arith, nat_tests, sum_by-cons (λ (d : ℕ × ℕ). cond (nat_lt d.0 i) 1 0) e ds) in
       let rest = begun_parted ds i (all_pairs_tail IsBefore e ds ascending) in
-      rw count (one_more (begun_below ds i) below rest.0, λ k d. later (begun_below ds i) rest.1 k d)
+      rw count (within_cons (λ d. d.0 < i) e ds _ _ (λ _. below) (λ k d low high. rest.0 k d (omega arith) (omega arith)), within_cons (λ d. i ≤ d.0) e ds _ _ (λ none. absurd (omega arith)) (λ k d low high. rest.1 k d (omega arith) (omega arith)))
   | inr from ↦
-      let all : All (λ d. i ≤ d.0) (e ∷ ds) = from_first from in
-      rw (begun_none (e ∷ ds) i all) (λ k d low high. absurd (omega arith), λ k d low high. all k d high)
+      let all = within_cons (λ d. i ≤ d.0) e ds 0 (length (e ∷ ds)) (λ _. from) (λ k d low high. omega (arith, from, (ascending zero (suc k) d (omega arith) high).0)) in
+      rw (begun_none (e ∷ ds) i (λ k d within. all k d (omega arith) within)) (λ k d low high. absurd (omega arith), all)
 ]
-  where
-    one_more : (n : ℕ) → e.0 < i → AllWithin (λ d. d.0 < i) ds 0 n → AllWithin (λ d. d.0 < i) (e ∷ ds) 0 (suc n)
-    one_more n below rest zero d low high = below
-    one_more n below rest (suc k) d low high = rest k d (omega arith) (omega arith)
 
-    later : (n : ℕ) → AllWithin (λ d. i ≤ d.0) ds n (length ds) → AllWithin (λ d. i ≤ d.0) (e ∷ ds) (suc n) (suc (length ds))
-    later n rest zero d low high = absurd (omega arith)
-    later n rest (suc k) d low high = rest k d (omega arith) (omega arith)
-
-    from_first : i ≤ e.0 → All (λ d. i ≤ d.0) (e ∷ ds)
-    from_first from zero d within = from
-    from_first from (suc k) d within = omega (arith, (ascending zero (suc k) d (omega arith) within).0)
+-- those begin below each later offset
+pub begun_later : (ds : List (ℕ × ℕ)) (i j : ℕ) → AllPairs IsBefore ds → i ≤ j → All (λ d. d.0 < j) (take (begun_below ds i) ds)
+begun_later ds i j ascending le k d within =
+    let inside : k < begun_below ds i = omega (arith, length-take (begun_below ds i) ds) in
+    rw (get_or-take (begun_below ds i) ds k d inside) (omega (arith, (begun_parted ds i ascending).0 k d (omega arith) inside))
 
 -- where what is passed begins below i, a query at i leaves just what begins below i as passed
 taken_to : (ds : List (ℕ × ℕ)) (k i : ℕ) → AllPairs IsBefore ds → All (λ d. d.0 < i) (take k ds) → take (max k (begun_below ds i)) ds ≡ take (begun_below ds i) ds
 taken_to ds k i ascending passed =
     let b = begun_below ds i in
     let parted = begun_parted ds i ascending in
-    ⊎_elim
-    (λ (more : b < k).
-    let e : max k b ≡ k = omega arith in
-    let past : length ds ≤ b = ⊎_elim
-    (λ (inside : b < length ds).
-    let low : (get_or ds b (0, 0)).0 < i = rw (get_or-take k ds b (0, 0) more) at (passed b (0, 0) (omega (arith, length-take k ds))) in
-    absurd (omega (arith, low, parted.1 b (0, 0) (omega arith) inside)))
-    (λ le. le)
-    (cases_lt b (length ds)) in
-    rw (e, take_all k ds (omega arith), take_all b ds past) refl)
-    (λ (le : k ≤ b). let e : max k b ≡ b = omega arith in rw e refl)
-    (cases_lt b k)
+    elim (cases_lt b k) [
+      | inl more ↦
+          let e : max k b ≡ k = omega arith in
+          let low : (get_or (take k ds) b (0, 0)).0 ≡ (get_or ds b (0, 0)).0 = ap (λ (d : ℕ × ℕ). d.0) (get_or-take k ds b (0, 0) more) in
+          let past : length ds ≤ b = grind (arith, length-take k ds, passed b (0, 0), low, parted.1 b (0, 0)) in
+          rw (e, take_all k ds (omega arith), take_all b ds past) refl
+      | inr le ↦ let e : max k b ≡ b = omega arith in rw e refl
+    ]
 
 pub cursor_ranks : CursorGivesRanks
 cursor_ranks walk [] valid ahead = (tt, λ outputs none. none)
 cursor_ranks walk (i ∷ queries) valid ahead =
     let ds = walk.deletions in
-    let now = begun_below ds i in
     let first = ahead.first (omega arith) in
     let taken = taken_to ds walk.passed i valid.ascending first in
-    let parted = begun_parted ds i valid.ascending in
     let rest = cursor_ranks (walk_to walk i) queries valid (record {
       ascending = λ a b d le within. ahead.ascending (suc a) (suc b) d (omega arith) (omega arith);
-      first = λ some. rw taken (begun_before (rise_on some) now parted.0);
+      first = λ some. rw taken (begun_later ds i (get_or queries 0 0) valid.ascending (ahead.ascending 0 1 0 (omega arith) (omega arith)));
     }) in
     ((inl first, rest.0), each first rest.1)
   where
@@ -122,14 +111,6 @@ cursor_ranks walk (i ∷ queries) valid ahead =
         → (outputs : List ℕ) → AreTranslations walk (i ∷ queries) outputs → outputs ≡ map (rank walk.deletions) (i ∷ queries)
     each first rest [] none = absurd none
     each first rest (output ∷ outputs) given = rw (given.0.ahead first, rest outputs given.1) refl
-
-    rise_on : 0 < length queries → i ≤ get_or queries 0 0
-    rise_on some = ahead.ascending 0 1 0 (omega arith) (omega arith)
-
-    begun_before : {q : ℕ} → i ≤ q → (n : ℕ) → AllWithin (λ d. d.0 < i) walk.deletions 0 n → All (λ d. d.0 < q) (take n walk.deletions)
-    begun_before le n below k d within =
-        let inside : k < n = omega (arith, length-take n walk.deletions) in
-        rw (get_or-take n walk.deletions k d inside) (omega (arith, below k d (omega arith) inside))
 
 -- a position that more deletions keep is kept by fewer
 kept_by_fewer : (ds more : List (ℕ × ℕ)) (p : ℕ) → All (Contains more) ds → is_kept more p ≡ true → is_kept ds p ≡ true
@@ -143,17 +124,14 @@ kept_by_fewer ds more p held kept = ap not (free ds held)
         rw none (free ds (All-tail (Contains more) d ds held))
 
 -- as one offset rises, the rank over more deletions rises no more than that over fewer
-shorter : (ds more : List (ℕ × ℕ)) (a b : ℕ) → All (Contains more) ds → a ≤ b → rank more b + rank ds a ≤ rank ds b + rank more a
-shorter ds more a zero held le = let e : a ≡ zero = omega arith in rw e (omega arith)
-shorter ds more a (suc b) held le = ⊎_elim
-    (λ (below : a < suc b).
-    let before = shorter ds more a b held (omega arith) in
-    ⊎_elim
-    (λ kept. omega (arith, rank_kept more b kept, rank_kept ds b (kept_by_fewer ds more b held kept)))
-    (λ gone. omega (arith, rank_gone more b gone, rank-mono ds b (suc b) (omega arith)))
-    (cases_Bool (is_kept more b)))
-    (λ (from : suc b ≤ a). let e : a ≡ suc b = omega arith in rw e (omega arith))
-    (cases_lt a (suc b))
+shorter : (ds more : List (ℕ × ℕ)) (a n : ℕ) → All (Contains more) ds → rank more (a + n) + rank ds a ≤ rank ds (a + n) + rank more a
+shorter ds more a zero held = rw (add-zero a) (omega arith)
+shorter ds more a (suc n) held = rw (add-suc a n) (elim (cases_Bool (is_kept more (a + n))) [
+  | inl kept ↦ omega (arith, shorter ds more a n held, rank_kept more (a + n) kept, rank_kept ds (a + n) (kept_by_fewer ds more (a + n) held kept))
+  | inr gone ↦ omega (arith, shorter ds more a n held, rank_gone more (a + n) gone, rank-mono ds (a + n) (suc (a + n)) (omega arith))
+])
 
 pub merges_shorten : MergesShortenDistances
-merges_shorten ds more a b held le = omega (arith, shorter ds more a b held le, rank-mono ds a b le, rank-mono more a b le)
+merges_shorten ds more a b held le =
+    let e : a + (b - a) ≡ b = omega arith in
+    omega (arith, rw e at (shorter ds more a (b - a) held), rank-mono ds a b le, rank-mono more a b le)

@@ -1,5 +1,5 @@
 -- Lists of deltas: how one grows, what its sums are, and how a valid list is tested.
-use Rattle.std.proofs.Common.{◌≡◌, ℕ, zero, suc, ◌+◌, ◌-◌, ◌<◌, ◌≤◌, List, [], ◌∷◌, ◌++◌, length, map, get_or, set, take, sym, ap, ◌∙◌, inl, inr, arith, drop, refl}
+use Rattle.std.proofs.Common.{◌≡◌, ℕ, zero, suc, ◌+◌, ◌-◌, ◌<◌, ◌≤◌, List, [], ◌∷◌, ◌++◌, length, get_or, set, take, sym, ap, ◌∙◌, inl, inr, arith, drop, refl}
 use Rattle.std.specs.Prelude.{◌^◌, All, AllPairs}
 use Rattle.std.proofs.lemmas.Bool.{cases_lt}
 use Rattle.std.proofs.lemmas.List.{length_push, get_or_push, get_or_append_left, get_or-take, length-take, take_more, map_push, length-map, take-append-le, take_all, get_or_default, take_more_set, get_or-append_right, get_or-append-add, length-append, take-append-drop}
@@ -40,42 +40,35 @@ taken_up_to ds valid k d within =
 
 -- one more delta, with the sum so far and its own bytes, lists one more deletion
 pub RecordsDeletions-push : (ds : List (ℕ × ℕ)) (deltas : List RelaxDelta) (delta : RelaxDelta) → RecordsDeletions ds deltas → delta.cumulative_deleted ≡ bytes_of ds + delta.bytes_deleted → RecordsDeletions (ds ++ deletion_of delta ∷ []) (deltas ++ delta ∷ [])
-RecordsDeletions-push ds deltas delta listing sum = record { same = same; sums = sums }
-  where
-    same : map deletion_of (deltas ++ delta ∷ []) ≡ ds ++ deletion_of delta ∷ []
-    same = map_push deletion_of deltas delta ∙ ap (λ l. l ++ deletion_of delta ∷ []) listing.same
-
-    long : length ds ≡ length deltas
-    long = ap length (sym listing.same) ∙ length-map deltas deletion_of
-
-    sums : (k : ℕ) (d : RelaxDelta) → k < length (deltas ++ delta ∷ []) → (get_or (deltas ++ delta ∷ []) k d).cumulative_deleted ≡ bytes_of (take (k + 1) (ds ++ deletion_of delta ∷ []))
-    sums k d within = elim (cases_lt k (length deltas)) [
-      | inl below ↦
-          let inner : k + 1 ≤ length ds = omega (arith, long) in
-          rw (get_or_append_left deltas (delta ∷ []) d k below, take-append-le (k + 1) ds (deletion_of delta ∷ []) inner) (listing.sums k d below)
-      | inr at_end ↦
-          let here : length deltas ≡ k = omega (arith, length_push deltas delta) in
-          let whole : length (ds ++ deletion_of delta ∷ []) ≤ k + 1 = omega (arith, long, length_push ds (deletion_of delta)) in
-          rw (get_or_push deltas delta d k here, take_all (k + 1) (ds ++ deletion_of delta ∷ []) whole, sum_by_push (λ (e : ℕ × ℕ). e.1) ds (deletion_of delta)) sum
-    ]
+RecordsDeletions-push ds deltas delta listing sum =
+    let long : length ds ≡ length deltas = ap length (sym listing.same) ∙ length-map deltas deletion_of in
+    record {
+      same = map_push deletion_of deltas delta ∙ ap (λ l. l ++ deletion_of delta ∷ []) listing.same;
+      sums = λ k d within. elim (cases_lt k (length deltas)) [
+        | inl below ↦
+            let inner : k + 1 ≤ length ds = omega (arith, long) in
+            rw (get_or_append_left deltas (delta ∷ []) d k below, take-append-le (k + 1) ds (deletion_of delta ∷ []) inner) (listing.sums k d below)
+        | inr at_end ↦
+            let here : length deltas ≡ k = omega (arith, length_push deltas delta) in
+            let whole : length (ds ++ deletion_of delta ∷ []) ≤ k + 1 = omega (arith, long, length_push ds (deletion_of delta)) in
+            rw (get_or_push deltas delta d k here, take_all (k + 1) (ds ++ deletion_of delta ∷ []) whole, sum_by_push (λ (e : ℕ × ℕ). e.1) ds (deletion_of delta)) sum
+      ];
+    }
 
 -- the first deletions and one more that fits and lies past the last of them are valid
 pub IsValid-push : (ds : List (ℕ × ℕ)) (d : ℕ × ℕ) → IsValid ds → EndFits d → ((e : ℕ × ℕ) → 0 < length ds → IsBefore (get_or ds (length ds - 1) e) d) → IsValid (ds ++ d ∷ [])
 IsValid-push ds d valid fits last = record {
-  ascending = all_pairs_push IsBefore ds d valid.ascending below;
+  ascending = all_pairs_push IsBefore ds d valid.ascending (λ k e within. elim (cases_lt k (length ds - 1)) [
+    | inl earlier ↦
+        let step = valid.ascending k (length ds - 1) e earlier (omega arith) in
+        let end = last e (omega arith) in
+        (omega (arith, step.0, end.0), omega (arith, step.1, end.0))
+    | inr at_end ↦
+        let here : k ≡ length ds - 1 = omega arith in
+        rw here (last e (omega arith))
+  ]);
   ends = All-push EndFits ds d valid.ends fits;
 }
-  where
-    below : (k : ℕ) (e : ℕ × ℕ) → k < length ds → IsBefore (get_or ds k e) d
-    below k e within = elim (cases_lt k (length ds - 1)) [
-      | inl earlier ↦
-          let step = valid.ascending k (length ds - 1) e earlier (omega arith) in
-          let end = last e (omega arith) in
-          (omega (arith, step.0, end.0), omega (arith, step.1, end.0))
-      | inr at_end ↦
-          let here : k ≡ length ds - 1 = omega arith in
-          rw here (last e (omega arith))
-    ]
 
 -- the first part of a valid list is valid
 pub IsValid-front : (xs ys : List (ℕ × ℕ)) → IsValid (xs ++ ys) → IsValid xs

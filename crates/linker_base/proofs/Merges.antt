@@ -2,52 +2,28 @@
 use Rattle.std.proofs.Common.{◌≡◌, ℕ, zero, suc, ◌+◌, ◌-◌, ◌<◌, ◌≤◌, List, ◌∷◌, ◌++◌, length, map, get_or, set, take, drop, refl, sym, ap, ◌∙◌, inl, inr, arith}
 use Rattle.std.specs.Prelude.{All, IsPermutation}
 use Rattle.std.specs.List.Sorted.{IsNonDecreasingBy}
-use Rattle.std.proofs.lemmas.Bool.{cases_lt, cases_order}
+use Rattle.std.proofs.lemmas.Bool.{cases_lt}
 use Rattle.std.proofs.lemmas.List.{append_assoc, take-append-drop, take-append-le, take-take, take-map, take-set-le, drop_more, drop-set, get_or-take, get_or_default, get_or_append_left, get_or-append_right, map-append, length-append, length-map, length-set, length-take}
 use Rattle.std.proofs.Math.Seq.{take-append-add}
 use Rattle.std.proofs.lemmas.List.Elements.{All-cons}
-use Rattle.std.proofs.lemmas.List.Sorted.{IsNonDecreasingBy-take, IsPermutation-cons, IsPermutation-append_right, IsPermutation-append_comm, IsPermutation-trans}
+use Rattle.std.proofs.lemmas.List.Sorted.{IsNonDecreasingBy-insert, IsNonDecreasingBy-take, IsPermutation-cons, IsPermutation-append_right, IsPermutation-append_comm, IsPermutation-trans}
 use Rattle.std.proofs.lemmas.List.Sums.{sum_by-cons, sum_by_more, sum_by-append}
 use Rattle.linker_base.specs.declared.relaxation.RelaxDelta.{RelaxDelta}
 use Rattle.linker_base.specs.Deletions.{AreDisjoint, IsValid, IsSortedUnion, bytes_of}
 use Rattle.linker_base.specs.Deltas.{deletion_of}
 use Rattle.linker_base.specs.Listed.{AreValidDeltas}
-use Rattle.linker_base.proofs.Search.{deletion_at}
+use Rattle.linker_base.proofs.Listed.{all_pairs_append}
+use Rattle.linker_base.proofs.Search.{deletion_at, valid_rises}
 use Rattle.linker_base.proofs.Unions.{union_from_sort}
 
--- the offsets of a valid list rise
-pub valid_rises : (ds : List (ℕ × ℕ)) → IsValid ds → IsNonDecreasingBy (λ d. d.0) ds
-valid_rises ds valid i j d le within = elim (cases_order i j) [
-  | inl same ↦ rw same (omega arith)
-  | inr (inl lower) ↦ omega (arith, (valid.ascending i j d lower within).0)
-  | inr (inr above) ↦ absurd (omega arith)
-]
-
-rise-cons : (x : ℕ × ℕ) (xs : List (ℕ × ℕ)) → All (λ d. x.0 ≤ d.0) xs → IsNonDecreasingBy (λ d. d.0) xs → IsNonDecreasingBy (λ d. d.0) (x ∷ xs)
-rise-cons x xs least rise zero zero d le within = omega arith
-rise-cons x xs least rise zero (suc j) d le within = least j d (omega arith)
-rise-cons x xs least rise (suc i) zero d le within = absurd (omega arith)
-rise-cons x xs least rise (suc i) (suc j) d le within = rise i j d (omega arith) (omega arith)
-
-pub rise-append : (xs ys : List (ℕ × ℕ)) → IsNonDecreasingBy (λ d. d.0) xs → IsNonDecreasingBy (λ d. d.0) ys → ((k : ℕ) → k < length xs → All (λ d. (get_or xs k (0, 0)).0 ≤ d.0) ys) → IsNonDecreasingBy (λ d. d.0) (xs ++ ys)
-rise-append xs ys first second above i j d le within = elim (cases_lt j (length xs)) [
-  | inl low ↦
-      let lower : i < length xs = omega arith in
-      rw (get_or_append_left xs ys d i lower, get_or_append_left xs ys d j low) (first i j d le low)
-  | inr high ↦
-      let inside : j - length xs < length ys = omega (arith, length-append xs ys) in
-      elim (cases_lt i (length xs)) [
-        | inl low ↦ rw (get_or_append_left xs ys d i low, get_or-append_right xs ys (length xs) j d refl high, get_or_default xs i d (0, 0) low) (above i low (j - length xs) d inside)
-        | inr from ↦ rw (get_or-append_right xs ys (length xs) i d refl from, get_or-append_right xs ys (length xs) j d refl high) (second (i - length xs) (j - length xs) d (omega arith) inside)
-      ]
-]
+rise-append : (xs ys : List (ℕ × ℕ)) → IsNonDecreasingBy (λ d. d.0) xs → IsNonDecreasingBy (λ d. d.0) ys → All (λ y. All (λ x. x.0 ≤ y.0) xs) ys → IsNonDecreasingBy (λ d. d.0) (xs ++ ys)
+rise-append xs ys first second above i j d le within =
+    let all = all_pairs_append (λ x y. x.0 ≤ y.0) xs ys (λ i j d lt low. first i j d (omega arith) low) (λ i j d lt low. second i j d (omega arith) low) above in
+    grind (arith, λ (lower : i < j). all i j d lower within, λ (same : i ≡ j). ap (λ k. (get_or (xs ++ ys) k d).0) same)
 
 -- each delta has the bytes deleted before all, and those up to it
 pub record HaveSums (before : ℕ) (deltas : List RelaxDelta) : Type 0 where
   pub each : (k : ℕ) (d : RelaxDelta) → k < length deltas → (get_or deltas k d).cumulative_deleted ≡ before + bytes_of (take (k + 1) (map deletion_of deltas))
-
-take_suc : (ds : List (ℕ × ℕ)) (d : ℕ × ℕ) (k : ℕ) → take (suc k + 1) (d ∷ ds) ≡ d ∷ take (k + 1) ds
-take_suc ds d k = let next : suc k + 1 ≡ suc (k + 1) = omega arith in rw next
 
 HaveSums-cons : (before : ℕ) (delta : RelaxDelta) (deltas : List RelaxDelta) → delta.cumulative_deleted ≡ before + delta.bytes_deleted → HaveSums (before + delta.bytes_deleted) deltas → HaveSums before (delta ∷ deltas)
 HaveSums-cons before delta deltas sum rest = record { each = each }
@@ -55,8 +31,8 @@ HaveSums-cons before delta deltas sum rest = record { each = each }
     each : (k : ℕ) (d : RelaxDelta) → k < length (delta ∷ deltas) → (get_or (delta ∷ deltas) k d).cumulative_deleted ≡ before + bytes_of (take (k + 1) (map deletion_of (delta ∷ deltas)))
     each zero d within = omega (arith, sum)
     each (suc k) d within =
-        let more : take (suc k + 1) (map deletion_of (delta ∷ deltas)) ≡ deletion_of delta ∷ take (k + 1) (map deletion_of deltas) = take_suc (map deletion_of deltas) (deletion_of delta) k in
-        rw more (omega (arith, rest.each k d (omega arith), sum_by-cons (λ (e : ℕ × ℕ). e.1) (deletion_of delta) (take (k + 1) (map deletion_of deltas))))
+        let next : suc k + 1 ≡ suc (k + 1) = omega arith in
+        rw next (omega (arith, rest.each k d (omega arith), sum_by-cons (λ (e : ℕ × ℕ). e.1) (deletion_of delta) (take (k + 1) (map deletion_of deltas))))
 
 pub HaveSums-append : (before : ℕ) (xs ys : List RelaxDelta) → HaveSums before xs → HaveSums (before + bytes_of (map deletion_of xs)) ys → HaveSums before (xs ++ ys)
 HaveSums-append before xs ys first second = record {
@@ -91,7 +67,7 @@ IsTail-old ds ps i j tail delta valid rises within inside merged is above sum =
     let more = sum_by_more (λ (e : ℕ × ℕ). e.1) ds i (0, 0) within in
     record {
       same = rw (drop_more ds i (0, 0) within, ← is) (IsPermutation-cons (deletion_of delta) (drop (i + 1) ds ++ drop j ps) (map deletion_of tail) merged.same);
-      rise = rise-cons (deletion_of delta) (map deletion_of tail) (rw (← is) at (merged.above_old i (omega arith))) merged.rise;
+      rise = IsNonDecreasingBy-insert (λ d. d.0) (map deletion_of tail) 0 (deletion_of delta) merged.rise (omega arith) (λ k d low. absurd (omega arith)) (λ k d low high. (rw (← is) at (merged.above_old i (omega arith))) k d high);
       above_old = λ k low. All-cons (λ d. (get_or ds k (0, 0)).0 ≤ d.0) (deletion_of delta) (map deletion_of tail) (omega (arith, offset, valid_rises ds valid k i (0, 0) (omega arith) within)) (merged.above_old k (omega arith));
       above_left = λ k low. All-cons (λ d. (get_or ps k (0, 0)).0 ≤ d.0) (deletion_of delta) (map deletion_of tail) (omega (arith, offset, above (omega arith), valid_rises ps rises k (j - 1) (0, 0) (omega arith) (omega arith))) (merged.above_left k low);
       sums = HaveSums-cons (bytes_of (take i ds) + bytes_of (take j ps)) delta tail (omega (arith, more, bytes, sum)) (
@@ -132,51 +108,39 @@ merging_end start ps i j bytes merged d merging some =
     let inside : i - 1 < length start = omega (arith, merging.old_within) in
     deletion_at start (i - 1) d (0, 0) inside ∙ ap deletion_of (sym (get_or-take i start (i - 1) d low) ∙ ap (λ front. get_or front (i - 1) d) (sym merging.front) ∙ get_or-take i merged (i - 1) d low)
 
--- an old deletion is written
+-- a deletion of either list is written
+merged_on : (start : List RelaxDelta) (ps : List (ℕ × ℕ)) (old left i j at : ℕ) (merged : List RelaxDelta) (delta : RelaxDelta) (bytes : ℕ) → IsMerging start ps old left merged bytes → i ≤ old → j ≤ left → i + j ≡ at → at + 1 ≡ old + left
+    → IsTail (map deletion_of start) ps i j (delta ∷ drop (old + left) merged) → bytes ≡ bytes_of (take i (map deletion_of start)) + bytes_of (take j ps) + delta.bytes_deleted → IsMerging start ps i j (set merged at delta) (bytes - delta.bytes_deleted)
+merged_on start ps old left i j at merged delta bytes merging low lower here next written sum =
+    let free : at < length merged = omega (arith, merging.size, merging.old_within, merging.left_within) in
+    record {
+      old_within = omega (arith, merging.old_within);
+      left_within = omega (arith, merging.left_within);
+      size = omega (arith, merging.size, length-set merged at delta);
+      front = take-set-le i merged at delta (omega arith) ∙ sym (take-take i old merged low) ∙ ap (take i) merging.front ∙ take-take i old start low;
+      tail = rw (here, drop-set merged at delta free, next) written;
+      sum = omega (arith, sum);
+    }
+
 pub merging_old : (start : List RelaxDelta) (ps : List (ℕ × ℕ)) (old left at : ℕ) (merged : List RelaxDelta) (delta : RelaxDelta) (bytes : ℕ) → IsValid (map deletion_of start) → IsValid ps → 0 < old → at ≡ old + left - 1 → IsMerging start ps old left merged bytes
     → deletion_of delta ≡ get_or (map deletion_of start) (old - 1) (0, 0) → (0 < left → (get_or ps (left - 1) (0, 0)).0 ≤ (get_or (map deletion_of start) (old - 1) (0, 0)).0) → delta.cumulative_deleted ≡ bytes → IsMerging start ps (old - 1) left (set merged at delta) (bytes - delta.bytes_deleted)
 merging_old start ps old left at merged delta bytes valid rises some place merging is above sum =
     let ds = map deletion_of start in
-    let long : length ds ≡ length start = length-map start deletion_of in
-    let one : old ≡ old - 1 + 1 = omega arith in
-    let inside : old - 1 < length ds = omega (arith, long, merging.old_within) in
-    let free : at < length merged = omega (arith, merging.size, merging.old_within, merging.left_within) in
-    let here : old - 1 + left ≡ at = omega arith in
-    let next : at + 1 ≡ old + left = omega arith in
-    let low : old - 1 ≤ at = omega arith in
-    let tail : IsTail ds ps (old - 1 + 1) left (drop (old + left) merged) = rw (← one) merging.tail in
-    let written : IsTail ds ps (old - 1) left (delta ∷ drop (old + left) merged) = IsTail-old ds ps (old - 1) left (drop (old + left) merged) delta valid rises inside merging.left_within tail is above (rw (← one) (sum ∙ merging.sum)) in
-    record {
-      old_within = omega (arith, merging.old_within);
-      left_within = merging.left_within;
-      size = omega (arith, merging.size, length-set merged at delta);
-      front = take-set-le (old - 1) merged at delta low ∙ sym (take-take (old - 1) old merged (omega arith)) ∙ ap (take (old - 1)) merging.front ∙ take-take (old - 1) old start (omega arith);
-      tail = rw (here, drop-set merged at delta free, next) written;
-      sum = omega (arith, merging.sum, rw (← one) at (sum_by_more (λ (e : ℕ × ℕ). e.1) ds (old - 1) (0, 0) inside), ap (λ (e : ℕ × ℕ). e.1) is);
-    }
+    let one : old - 1 + 1 ≡ old = omega arith in
+    let inside : old - 1 < length ds = omega (arith, length-map start deletion_of, merging.old_within) in
+    merged_on start ps old left (old - 1) left at merged delta bytes merging (omega arith) (omega arith) (omega arith) (omega arith)
+    (IsTail-old ds ps (old - 1) left (drop (old + left) merged) delta valid rises inside merging.left_within (rw one merging.tail) is above (rw one (sum ∙ merging.sum)))
+    (omega (arith, merging.sum, rw one at (sum_by_more (λ (e : ℕ × ℕ). e.1) ds (old - 1) (0, 0) inside), ap (λ (e : ℕ × ℕ). e.1) is))
 
--- an additional deletion is written
 pub merging_left : (start : List RelaxDelta) (ps : List (ℕ × ℕ)) (old left at : ℕ) (merged : List RelaxDelta) (delta : RelaxDelta) (bytes : ℕ) → IsValid (map deletion_of start) → IsValid ps → 0 < left → at ≡ old + left - 1 → IsMerging start ps old left merged bytes
     → deletion_of delta ≡ get_or ps (left - 1) (0, 0) → (0 < old → (get_or (map deletion_of start) (old - 1) (0, 0)).0 ≤ (get_or ps (left - 1) (0, 0)).0) → delta.cumulative_deleted ≡ bytes → IsMerging start ps old (left - 1) (set merged at delta) (bytes - delta.bytes_deleted)
 merging_left start ps old left at merged delta bytes valid rises more place merging is above sum =
     let ds = map deletion_of start in
-    let long : length ds ≡ length start = length-map start deletion_of in
-    let other : left ≡ left - 1 + 1 = omega arith in
+    let one : left - 1 + 1 ≡ left = omega arith in
     let inside : left - 1 < length ps = omega (arith, merging.left_within) in
-    let free : at < length merged = omega (arith, merging.size, merging.old_within, merging.left_within) in
-    let here : old + (left - 1) ≡ at = omega arith in
-    let next : at + 1 ≡ old + left = omega arith in
-    let low : old ≤ at = omega arith in
-    let tail : IsTail ds ps old (left - 1 + 1) (drop (old + left) merged) = rw (← other) merging.tail in
-    let written : IsTail ds ps old (left - 1) (delta ∷ drop (old + left) merged) = IsTail-left ds ps old (left - 1) (drop (old + left) merged) delta valid rises (omega (arith, long, merging.old_within)) inside tail is above (rw (← other) (sum ∙ merging.sum)) in
-    record {
-      old_within = merging.old_within;
-      left_within = omega (arith, merging.left_within);
-      size = omega (arith, merging.size, length-set merged at delta);
-      front = take-set-le old merged at delta low ∙ merging.front;
-      tail = rw (here, drop-set merged at delta free, next) written;
-      sum = omega (arith, merging.sum, rw (← other) at (sum_by_more (λ (e : ℕ × ℕ). e.1) ps (left - 1) (0, 0) inside), ap (λ (e : ℕ × ℕ). e.1) is);
-    }
+    merged_on start ps old left old (left - 1) at merged delta bytes merging (omega arith) (omega arith) (omega arith) (omega arith)
+    (IsTail-left ds ps old (left - 1) (drop (old + left) merged) delta valid rises (omega (arith, length-map start deletion_of, merging.old_within)) inside (rw one merging.tail) is above (rw one (sum ∙ merging.sum)))
+    (omega (arith, merging.sum, rw one at (sum_by_more (λ (e : ℕ × ℕ). e.1) ps (left - 1) (0, 0) inside), ap (λ (e : ℕ × ℕ). e.1) is))
 
 -- the bytes of the next deletion are among those left
 pub spends_old : (start : List RelaxDelta) (ps : List (ℕ × ℕ)) (old left : ℕ) (merged : List RelaxDelta) (bytes : ℕ) → 0 < old → IsMerging start ps old left merged bytes → (get_or (map deletion_of start) (old - 1) (0, 0)).1 ≤ bytes
@@ -191,52 +155,26 @@ spends_left start ps old left merged bytes some merging =
 
 -- the first i deltas, where they stood, and those after them list all
 pub merging_last : (start : List RelaxDelta) (ps : List (ℕ × ℕ)) (i bytes : ℕ) (deltas : List RelaxDelta) → AreValidDeltas start → AreDisjoint (map deletion_of start ++ ps) → IsMerging start ps i 0 deltas bytes → IsSortedUnion (map deletion_of start ++ ps) (map deletion_of deltas) × AreValidDeltas deltas
-merging_last start ps i bytes deltas listed disjoint merging = (union, record { valid = union.valid; listing = record { same = refl; sums = λ k d within. omega (arith, sums.each k d within) } })
-  where
-    ds : List (ℕ × ℕ)
-    ds = map deletion_of start
-
-    tail : List RelaxDelta
-    tail = drop i deltas
-
-    here : i + 0 ≡ i
-    here = omega arith
-
-    merged : IsTail ds ps i 0 tail
-    merged = rw here at merging.tail
-
-    whole : deltas ≡ take i start ++ tail
-    whole = sym (take-append-drop i deltas) ∙ ap (λ front. front ++ drop i deltas) merging.front
-
-    joined : map deletion_of deltas ≡ take i ds ++ map deletion_of tail
-    joined = ap (map deletion_of) whole ∙ map-append deletion_of (take i start) tail ∙ ap (λ front. front ++ map deletion_of tail) (sym (take-map deletion_of i start))
-
-    same : IsPermutation (ds ++ ps) (take i ds ++ map deletion_of tail)
-    same =
-        let moved = IsPermutation-append_right (take i ds) (drop i ds ++ ps) (map deletion_of tail) merged.same in
-        rw (← (append_assoc (take i ds) (drop i ds) ps), take-append-drop i ds) at moved
-
-    long : length (take i ds) ≤ i
-    long = omega (arith, length-take i ds)
-
-    rise : IsNonDecreasingBy (λ d. d.0) (take i ds ++ map deletion_of tail)
-    rise = rise-append (take i ds) (map deletion_of tail) (IsNonDecreasingBy-take (λ d. d.0) i ds (valid_rises ds listed.valid)) merged.rise (λ k low.
-        let lower : k < i = omega (arith, long) in
-        rw (get_or-take i ds k (0, 0) lower) (merged.above_old k lower))
-
-    union : IsSortedUnion (ds ++ ps) (map deletion_of deltas)
-    union = rw joined (union_from_sort (ds ++ ps) (take i ds ++ map deletion_of tail) same disjoint rise)
-
-    front : HaveSums 0 (take i start)
-    front = record {
+merging_last start ps i bytes deltas listed disjoint merging =
+    let ds = map deletion_of start in
+    let tail = drop i deltas in
+    let here : i + 0 ≡ i = omega arith in
+    let merged : IsTail ds ps i 0 tail = rw here at merging.tail in
+    let whole : deltas ≡ take i start ++ tail = sym (take-append-drop i deltas) ∙ ap (λ front. front ++ tail) merging.front in
+    let joined : map deletion_of deltas ≡ take i ds ++ map deletion_of tail =
+    ap (map deletion_of) whole ∙ map-append deletion_of (take i start) tail ∙ ap (λ front. front ++ map deletion_of tail) (sym (take-map deletion_of i start)) in
+    let moved = IsPermutation-append_right (take i ds) (drop i ds ++ ps) (map deletion_of tail) merged.same in
+    let same = rw (← (append_assoc (take i ds) (drop i ds) ps), take-append-drop i ds) at moved in
+    let rise = rise-append (take i ds) (map deletion_of tail) (IsNonDecreasingBy-take (λ d. d.0) i ds (valid_rises ds listed.valid)) merged.rise (λ m e inside k d low.
+    let lower : k < i = omega (arith, length-take i ds) in
+    rw (get_or-take i ds k d lower, get_or_default ds k d (0, 0) (omega (arith, length-take i ds))) (merged.above_old k lower m e inside)) in
+    let union : IsSortedUnion (ds ++ ps) (map deletion_of deltas) = rw joined (union_from_sort (ds ++ ps) (take i ds ++ map deletion_of tail) same disjoint rise) in
+    let front : HaveSums 0 (take i start) = record {
       each = λ k d within.
           let lower : k < i = omega (arith, length-take i start) in
-          let inside : k < length start = omega (arith, length-take i start) in
           let taken : take (k + 1) (map deletion_of (take i start)) ≡ take (k + 1) ds = ap (take (k + 1)) (sym (take-map deletion_of i start)) ∙ take-take (k + 1) i ds (omega arith) in
-          rw (get_or-take i start k d lower, taken) (omega (arith, listed.listing.sums k d inside));
-    }
-
-    sums : HaveSums 0 deltas
-    sums = rw whole (HaveSums-append 0 (take i start) tail front (
-        let before : 0 + bytes_of (map deletion_of (take i start)) ≡ bytes_of (take i ds) + bytes_of (take 0 ps) = omega (arith, ap bytes_of (take-map deletion_of i start)) in
-        rw before merged.sums))
+          rw (get_or-take i start k d lower, taken) (omega (arith, listed.listing.sums k d (omega (arith, length-take i start))));
+    } in
+    let before : 0 + bytes_of (map deletion_of (take i start)) ≡ bytes_of (take i ds) + bytes_of (take 0 ps) = omega (arith, ap bytes_of (take-map deletion_of i start)) in
+    let sums : HaveSums 0 deltas = rw whole (HaveSums-append 0 (take i start) tail front (rw before merged.sums)) in
+    (union, record { valid = union.valid; listing = record { same = refl; sums = λ k d within. omega (arith, sums.each k d within) } })

@@ -1,8 +1,6 @@
 -- Deletions beside those of a section: whether they may be merged, and what a merge leaves.
 use Rattle.std.proofs.Common.{◌≡◌, ℕ, ◌+◌, List, ◌++◌, length, get_or, take, drop, true, false, not, refl, sym, ◌∙◌, arith}
-use Rattle.std.specs.Prelude.{◌↔◌, Bool, IsTrue, All}
-use Rattle.std.specs.Prelude.{Option, Some, None, MatchOption}
-use Rattle.std.specs.Option.{is_some}
+use Rattle.std.specs.Prelude.{◌↔◌, Bool, IsTrue, All, is_some, Option, Some, None, MatchOption}
 use Rattle.std.proofs.lemmas.Bool.{false≢true}
 use Rattle.std.proofs.lemmas.List.{append_assoc, take-append-drop, get_or_append_left, get_or-append-add, get_or_default, length-append}
 use Rattle.std.proofs.lemmas.List.Elements.{All-append}

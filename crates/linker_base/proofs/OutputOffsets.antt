@@ -1,5 +1,5 @@
 -- Where a list of deletions parts at an offset or at an output offset, and what is gone before it.
-use Rattle.std.proofs.Common.{◌≡◌, ℕ, zero, suc, ◌+◌, ◌-◌, ◌<◌, ◌≤◌, true, false, List, [], ◌∷◌, length, get_or, take, refl, ap, inl, inr, ⊎_elim, add-one, arith}
+use Rattle.std.proofs.Common.{add-zero, add-suc, ◌≡◌, ℕ, zero, suc, ◌+◌, ◌-◌, ◌<◌, ◌≤◌, true, false, List, [], ◌∷◌, length, get_or, take, refl, ap, inl, inr, add-one, arith}
 use Rattle.std.specs.Prelude.{◌^◌, not, AllPairs}
 use Rattle.std.specs.List.{list_any, AllWithin}
 use Rattle.std.proofs.lemmas.Bool.{cases_lt}
@@ -15,15 +15,9 @@ pub record AreParted (ds : List (ℕ × ℕ)) (k i : ℕ) : Type 0 where
   pub passed : AllWithin (λ d. d.0 + d.1 ≤ i) ds 0 k
   pub ahead : AllWithin (λ d. i ≤ d.0) ds k (length ds)
 
-parted_tail : (d : ℕ × ℕ) (ds : List (ℕ × ℕ)) (k i : ℕ) → AreParted (d ∷ ds) (suc k) i → AreParted ds k i
-parted_tail d ds k i h = record {
+parted_tail : (d : ℕ × ℕ) (ds : List (ℕ × ℕ)) (k n i : ℕ) → n ≡ k - 1 → AreParted (d ∷ ds) k i → AreParted ds n i
+parted_tail d ds k n i same h = record {
   passed = λ j e from below. h.passed (suc j) e (omega arith) (omega arith);
-  ahead = λ j e from below. h.ahead (suc j) e (omega arith) (omega arith);
-}
-
-parted_from_start : (d : ℕ × ℕ) (ds : List (ℕ × ℕ)) (i : ℕ) → AreParted (d ∷ ds) zero i → AreParted ds zero i
-parted_from_start d ds i h = record {
-  passed = λ j e from below. absurd (omega arith);
   ahead = λ j e from below. h.ahead (suc j) e (omega arith) (omega arith);
 }
 
@@ -33,10 +27,10 @@ removed-parted [] zero i h = refl
 removed-parted [] (suc k) i h = refl
 removed-parted (d ∷ ds) zero i h =
     let first : i ≤ d.0 = h.ahead 0 d (omega arith) (omega arith) in
-    omega (arith, sum_by-cons (removed_by i) d ds, removed-parted ds zero i (parted_from_start d ds i h))
+    omega (arith, sum_by-cons (removed_by i) d ds, removed-parted ds zero i (parted_tail d ds zero zero i (omega arith) h))
 removed-parted (d ∷ ds) (suc k) i h =
     let first : d.0 + d.1 ≤ i = h.passed 0 d (omega arith) (omega arith) in
-    omega (arith, sum_by-cons (removed_by i) d ds, sum_by-cons (λ (e : ℕ × ℕ). e.1) d (take k ds), removed-parted ds k i (parted_tail d ds k i h))
+    omega (arith, sum_by-cons (removed_by i) d ds, sum_by-cons (λ (e : ℕ × ℕ). e.1) d (take k ds), removed-parted ds k i (parted_tail d ds (suc k) k i (omega arith) h))
 
 -- an offset that parts the list is its rank and the bytes of the deletions below it
 pub rank-parted : (ds : List (ℕ × ℕ)) (k i : ℕ) → AllPairs DoNotOverlap ds → AreParted ds k i → rank ds i + bytes_of (take k ds) ≡ i
@@ -59,42 +53,32 @@ none_covers (d ∷ ds) p past =
 
 -- nor one that parts the list, if those ahead begin above it
 kept-parted : (ds : List (ℕ × ℕ)) (k p : ℕ) → AreParted ds k (suc p) → AllWithin (λ d. d.0 + d.1 ≤ p) ds 0 k → is_kept ds p ≡ true
-kept-parted ds k p parted passed = ap not (none_covers ds p (λ j d within begun. elim (cases_lt j k) [
-  | inl low ↦ passed j d (omega arith) low
-  | inr from ↦ absurd (omega (arith, begun, parted.ahead j d from within))
-]))
+kept-parted ds k p parted passed = ap not (none_covers ds p (λ j d within begun. grind (arith, passed j d (omega arith), parted.ahead j d)))
 
 -- where the output offsets part the list at k, the first k deletions are the bytes to add
 pub selected-output : (ds : List (ℕ × ℕ)) (k y : ℕ) → AllPairs DoNotOverlap ds → k ≤ length ds
     → ((j : ℕ) (d : ℕ × ℕ) → j < k → (get_or ds j d).0 ≤ y + bytes_of (take j ds))
     → ((j : ℕ) (d : ℕ × ℕ) → k ≤ j → j < length ds → y + bytes_of (take j ds) < (get_or ds j d).0)
     → IsSelected ds y (y + bytes_of (take k ds))
-selected-output ds k y apart within before after = record {
-  kept = kept-parted ds k p (record { passed = λ j d from below. omega (arith, passed j d from below); ahead = ahead }) passed;
-  ranked = omega (arith, rank-removed ds p apart, removed-parted ds k p (record { passed = passed; ahead = λ j d from below. omega (arith, ahead j d from below) }));
-}
-  where
-    p : ℕ
-    p = y + bytes_of (take k ds)
+selected-output ds k y apart within before after =
+    let p = y + bytes_of (take k ds) in
+    let passed : AllWithin (λ d. d.0 + d.1 ≤ p) ds 0 k =
+    λ j d from below. omega (arith, before j d below, sum_by_more (λ (e : ℕ × ℕ). e.1) ds j d (omega arith), bytes_of-take_rise ds (j + 1) k (omega arith)) in
+    let ahead : AllWithin (λ d. suc p ≤ d.0) ds k (length ds) = λ j d from below. omega (arith, after j d from below, bytes_of-take_rise ds k j from) in
+    record {
+      kept = kept-parted ds k p (record { passed = λ j d from below. omega (arith, passed j d from below); ahead = ahead }) passed;
+      ranked = omega (arith, rank-removed ds p apart, removed-parted ds k p (record { passed = passed; ahead = λ j d from below. omega (arith, ahead j d from below) }));
+    }
 
-    passed : AllWithin (λ d. d.0 + d.1 ≤ p) ds 0 k
-    passed j d from below = omega (arith, before j d below, sum_by_more (λ (e : ℕ × ℕ). e.1) ds j d (omega arith), bytes_of-take_rise ds (j + 1) k (omega arith))
+-- the bytes of the deletions from the one at i up to the one n after it lie between their offsets
+between : (ds : List (ℕ × ℕ)) (i n : ℕ) (d : ℕ × ℕ) → AllPairs IsBefore ds → i + n < length ds → (get_or ds i d).0 + bytes_of (take (i + n) ds) ≤ (get_or ds (i + n) d).0 + bytes_of (take i ds)
+between ds i zero d ascending within = rw (add-zero i) (omega arith)
+between ds i (suc n) d ascending within =
+    let more = sum_by_more (λ (e : ℕ × ℕ). e.1) ds (i + n) d (omega arith) in
+    rw add-suc (omega (arith, between ds i n d ascending (omega arith), (ascending (i + n) (suc (i + n)) d (omega arith) (omega arith)).1, rw (add-one (i + n)) at more))
 
-    ahead : AllWithin (λ d. suc p ≤ d.0) ds k (length ds)
-    ahead j d from below = omega (arith, after j d from below, bytes_of-take_rise ds k j from)
-
--- the bytes of the deletions from the one at i up to the one at j lie between their offsets
 pub bytes_between : (ds : List (ℕ × ℕ)) (i j : ℕ) (d : ℕ × ℕ) → AllPairs IsBefore ds → i ≤ j → j < length ds → (get_or ds i d).0 + bytes_of (take j ds) ≤ (get_or ds j d).0 + bytes_of (take i ds)
-bytes_between ds i zero d ascending le within = let e : i ≡ zero = omega arith in rw e (omega arith)
-bytes_between ds i (suc j) d ascending le within =
-    ⊎_elim
-    (λ (below : i < suc j).
-    let before = bytes_between ds i j d ascending (omega arith) (omega arith) in
-    let next : (get_or ds j d).0 + (get_or ds j d).1 ≤ (get_or ds (suc j) d).0 = (ascending j (suc j) d (omega arith) within).1 in
-    let more : bytes_of (take (suc j) ds) ≡ bytes_of (take j ds) + (get_or ds j d).1 = rw (← (add-one j)) (sum_by_more (λ (e : ℕ × ℕ). e.1) ds j d (omega arith)) in
-    omega arith)
-    (λ (from : suc j ≤ i). let e : i ≡ suc j = omega arith in rw e (omega arith))
-    (cases_lt i (suc j))
+bytes_between ds i j d ascending le within = let e : i + (j - i) ≡ j = omega arith in rw e at (between ds i (j - i) d ascending (omega arith))
 
 -- the bytes of the earlier deletions fit below a deletion's offset
 pub bytes-le-offset : (ds : List (ℕ × ℕ)) (j : ℕ) (d : ℕ × ℕ) → AllPairs IsBefore ds → j < length ds → bytes_of (take j ds) ≤ (get_or ds j d).0

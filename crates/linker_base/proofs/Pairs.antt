@@ -1,15 +1,16 @@
 -- Values in two parts: a rounded high one and a signed low one, or bits that are held and others.
-use Rattle.std.proofs.Common.{◌≡◌, ℕ, ◌+◌, ◌-◌, ◌*◌, ◌/◌, ◌%◌, ◌^◌, ◌<◌, ◌≤◌, true, ◌&&◌, refl, ap, sym, ◌∙◌, arith, List, [], ◌∷◌, ◌++◌, ◌⊎◌, inl, inr, ltb, ℤ, pos, negsuc, ◌+ℤ◌, ◌-ℤ◌}
+use Rattle.std.proofs.Common.{◌≡◌, ℕ, ◌+◌, ◌-◌, ◌*◌, ◌/◌, ◌%◌, ◌^◌, ◌<◌, ◌≤◌, true, ◌&&◌, refl, ap, sym, ◌∙◌, arith, List, [], ◌∷◌, ◌++◌, inl, inr, ltb, ℤ, pos, ◌+ℤ◌, ◌-ℤ◌}
 use Rattle.std.specs.Int.{w64, cast_unsigned, bit_at, int_rem_euclid}
 use Rattle.std.specs.List.{All}
-use Rattle.std.proofs.lemmas.Bool.{cases_lt, cond_both, cond-true, cond-false, lt-ltb, lt-leb, le-ltb, ltb-true, ltb-false, and_parts}
+use Rattle.std.proofs.lemmas.Bool.{cases_lt, cond_both, lt-leb, ltb-true, ltb-false, and_parts}
 use Rattle.std.proofs.lemmas.Int.{ints, int_rem_euclid_is}
 use Rattle.std.proofs.lemmas.List.Elements.{All-append}
 use Rattle.std.proofs.lemmas.List.Sums.{sum_by-cons}
 use Rattle.std.proofs.lemmas.Nat.Bits.{same_from_bits, bit_at-zero}
 use Rattle.linker_base.specs.Bits.{signed}
 use Rattle.linker_base.specs.Form.{Mark, replaced, ored, cleared, ImmediateBit, BitsWritten, placed_bit, bit_for, place_sum, worth}
-use Rattle.linker_base.proofs.Fields.{bit_at_mod, bit_at_mod_above}
+pub use Rattle.linker_base.proofs.Fields.{signed_cases}
+use Rattle.linker_base.proofs.Fields.{bit_at_mod, bit_at_mod_above, cast_rem}
 use Rattle.linker_base.proofs.Immediates.{has_value_fills, values_apart_fills, place_sum_below}
 use Rattle.linker_base.proofs.Listed.{All-front, All-back}
 use Rattle.linker_base.proofs.Parts.{unchanged, is_cleared, all_cleared, cleared_kept, ored_from, ored_kept}
@@ -17,18 +18,6 @@ use Rattle.linker_base.proofs.Places.{bit_at-place_sum, value_bit_none, sums}
 use Rattle.linker_base.proofs.Rounded.{IsSoundPart, part_kept}
 
 -- ---- numbers in two's complement
-
-pub signed_cases : (n f : ℕ) → ((f < 2 ^ (n - 1)) × (signed n f ≡ pos f)) ⊎ ((2 ^ (n - 1) ≤ f) × (signed n f ≡ pos f -ℤ pos (2 ^ n)))
-signed_cases n f =
-    elim (cases_lt f (2 ^ (n - 1))) [
-      | inl below ↦ inl (below, cond-true (ltb f (2 ^ (n - 1))) (pos f) (pos f -ℤ pos (2 ^ n)) (lt-ltb f (2 ^ (n - 1)) below))
-      | inr above ↦ inr (above, cond-false (ltb f (2 ^ (n - 1))) (pos f) (pos f -ℤ pos (2 ^ n)) (le-ltb f (2 ^ (n - 1)) above))
-    ]
-
--- a number's bits, from the number plus 2 ^ 64
-cast_rem : (z : ℤ) (m : ℕ) → z +ℤ pos (2 ^ 64) ≡ pos m → cast_unsigned w64 z % 2 ^ 64 ≡ m % 2 ^ 64
-cast_rem (pos a) m e = let same : m ≡ a + 2 ^ 64 = omega (arith, ints) in omega arith
-cast_rem (negsuc a) m e = let same : m + a + 1 ≡ 2 ^ 64 = omega (arith, ints) in omega arith
 
 pub added : (x y a b : ℤ) → x ≡ a → y ≡ b → x +ℤ y ≡ a +ℤ b
 added x y a b e f = cc

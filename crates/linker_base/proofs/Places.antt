@@ -5,9 +5,8 @@ use Rattle.std.specs.List.{All}
 use Rattle.std.proofs.lemmas.Bool.{or_parts, and_parts, cases_Bool, eqb-true, cond-false, not-true, cases_eq, eq-eqb, ne_eqb}
 use Rattle.std.proofs.lemmas.List.Elements.{All-head, All-tail}
 use Rattle.std.proofs.lemmas.List.Sums.{sum_by-cons, sum_by-append}
-use Rattle.std.proofs.lemmas.Nat.{or_disjoint}
 use Rattle.std.proofs.lemmas.Nat.Bits.{bit_at-lt, bit_at_or, bit_at-pow_same, bit_at-pow_other, bit_at-zero, and_pow}
-use lib.Bits.{bit_and}
+use lib.Bits.{bit_and, or_disjoint}
 use Rattle.linker_base.specs.Form.{holds_value_bit, is_of, has_value, values_apart, Mark, replaced, ored, cleared, ImmediateBit, placed_bit, bit_for, worth, place_sum, IsClear, is_clear_at}
 
 -- the window's bit at the place of value bit k, and 0 where it has none

@@ -2,7 +2,7 @@
 use Rattle.std.proofs.Common.{◌≡◌, ℕ, zero, suc, ◌+◌, ◌-◌, ◌<◌, ◌≤◌, true, false, cond, List, [], ◌∷◌, refl, ap, inl, inr, ⊎_elim, add-zero, add-suc, zero-add, arith}
 use Rattle.std.specs.Prelude.{◌^◌, ◌↔◌, min, ◌||◌, All, AllPairs, sum_by, count_by}
 use Rattle.std.specs.List.{list_any}
-use Rattle.std.proofs.lemmas.Bool.{cases_Bool, cases_lt, cases_order}
+use Rattle.std.proofs.lemmas.Bool.{true_from_ne_false, cases_Bool}
 use Rattle.std.proofs.lemmas.Bool.Decides.{nat_tests}
 use Rattle.std.proofs.lemmas.List.Elements.{All-head, All-tail}
 use Rattle.std.proofs.lemmas.List.Sums.{sum_by-cons}
@@ -67,14 +67,7 @@ rank-removed ds zero apart = none ds
     none : (ds : List (ℕ × ℕ)) → 0 + removed ds 0 ≡ 0
     none [] = refl
     none (d ∷ ds) = omega (arith, sum_by-cons (removed_by 0) d ds, none ds)
-rank-removed ds (suc i) apart =
-    let before = rank-removed ds i apart in
-    let step = removed_step ds i in
-    let once = held_once ds i apart in
-    elim (cases_Bool (list_any (λ d. covers d i) ds)) [
-      | inl held ↦ rw held (omega (arith, rw held at once))
-      | inr free ↦ rw free (omega (arith, rw free at once))
-    ]
+rank-removed ds (suc i) apart = grind (arith, nat_tests, rank-removed ds i apart, removed_step ds i, held_once ds i apart)
 
 -- a kept position is counted
 pub rank_kept : (ds : List (ℕ × ℕ)) (i : ℕ) → is_kept ds i ≡ true → rank ds (suc i) ≡ rank ds i + 1
@@ -86,40 +79,29 @@ pub rank_gone : (ds : List (ℕ × ℕ)) (i : ℕ) → is_kept ds i ≡ false �
 unfolding rank
 rank_gone ds i gone = rw gone refl
 
+-- n positions on, the rank is no lower, and by n higher at most
+rank_rises : (ds : List (ℕ × ℕ)) (i n : ℕ) → (rank ds i ≤ rank ds (i + n)) × (rank ds (i + n) ≤ rank ds i + n)
+unfolding rank
+rank_rises ds i zero = rw (add-zero i) (omega arith, omega arith)
+rank_rises ds i (suc n) =
+    let before = rank_rises ds i n in
+    rw (add-suc i n) (grind (arith, nat_tests, before.0), grind (arith, nat_tests, before.1))
+
 -- a later offset has no lower rank
 pub rank-mono : (ds : List (ℕ × ℕ)) (a b : ℕ) → a ≤ b → rank ds a ≤ rank ds b
-rank-mono ds a zero le = let e : a ≡ 0 = omega arith in rw e (omega arith)
-rank-mono ds a (suc b) le =
-    ⊎_elim
-    (λ (below : a < suc b).
-    let before = rank-mono ds a b (omega arith) in
-    ⊎_elim (λ kept. omega (arith, rank_kept ds b kept)) (λ gone. omega (arith, rank_gone ds b gone)) (cases_Bool (is_kept ds b)))
-    (λ (from : suc b ≤ a). let e : a ≡ suc b = omega arith in rw e (omega arith))
-    (cases_lt a (suc b))
+rank-mono ds a b le = let e : a + (b - a) ≡ b = omega arith in rw e at (rank_rises ds a (b - a)).0
 
 -- two kept positions of one rank are one
 pub selected_once : (ds : List (ℕ × ℕ)) (y p q : ℕ) → IsSelected ds y p → IsSelected ds y q → p ≡ q
-selected_once ds y p q one other = elim (cases_order p q) [
-  | inl same ↦ same
-  | inr (inl below) ↦ absurd (omega (arith, rank_kept ds p one.kept, rank-mono ds (suc p) q (omega arith), one.ranked, other.ranked))
-  | inr (inr above) ↦ absurd (omega (arith, rank_kept ds q other.kept, rank-mono ds (suc q) p (omega arith), one.ranked, other.ranked))
-]
+selected_once ds y p q one other = grind (arith, rank_kept ds p one.kept, rank_kept ds q other.kept, rank-mono ds (suc p) q, rank-mono ds (suc q) p, one.ranked, other.ranked)
 
 -- an offset of 64 bits has rank y and is kept just where the one that is selected is of 64 bits
 pub input_fits : (ds : List (ℕ × ℕ)) (y p : ℕ) → IsSelected ds y p → HasInput ds y ↔ (p < 2 ^ 64)
 input_fits ds y p selected = (λ has. omega (arith, selected_once ds y p has.0 selected has.2), λ fits. (p, fits, selected))
 
-rank_step : (ds : List (ℕ × ℕ)) (i : ℕ) → rank ds (suc i) ≤ rank ds i + 1
-rank_step ds i =
-    elim (cases_Bool (is_kept ds i)) [
-      | inl t ↦ omega (arith, rank_kept ds i t)
-      | inr f ↦ omega (arith, rank_gone ds i f)
-    ]
-
 -- the rank rises by at most one a position
 pub rank_steps : (ds : List (ℕ × ℕ)) (i n : ℕ) → rank ds (i + n) ≤ rank ds i + n
-rank_steps ds i zero = omega (arith, ap (rank ds) (add-zero i))
-rank_steps ds i (suc n) = omega (arith, ap (rank ds) (add-suc i n), rank_step ds (i + n), rank_steps ds i n)
+rank_steps ds i n = (rank_rises ds i n).1
 
 rank-zero : (ds : List (ℕ × ℕ)) → rank ds 0 ≡ 0
 unfolding rank
@@ -136,10 +118,6 @@ rank_all_kept ds start (suc n) kept =
 
 -- and only there
 pub kept_from_rank : (ds : List (ℕ × ℕ)) (start len : ℕ) → rank ds (start + len) ≡ rank ds start + len → AreKept ds start len
-kept_from_rank ds start len all k low =
-    elim (cases_Bool (is_kept ds (start + k))) [
-      | inl t ↦ t
-      | inr f ↦
-          let rest : start + len ≡ suc (start + k) + (len - suc k) = omega arith in
-          absurd (omega (arith, ap (rank ds) rest, rank_steps ds (suc (start + k)) (len - suc k), rank_gone ds (start + k) f, rank_steps ds start k))
-    ]
+kept_from_rank ds start len all k low = true_from_ne_false (is_kept ds (start + k)) (λ gone.
+    let rest : start + len ≡ suc (start + k) + (len - suc k) = omega arith in
+    omega (arith, ap (rank ds) rest, rank_steps ds (suc (start + k)) (len - suc k), rank_gone ds (start + k) gone, rank_steps ds start k))

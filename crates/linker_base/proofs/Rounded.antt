@@ -1,35 +1,17 @@
 -- The laws of forms whose places hold bits of the value plus a constant.
-use Rattle.std.proofs.Common.{◌≡◌, ℕ, suc, ◌+◌, ◌-◌, ◌*◌, ◌/◌, ◌%◌, ◌^◌, ◌<◌, ◌≤◌, Bool, true, false, ◌&&◌, ltb, leb, List, [], ◌∷◌, refl, sym, ◌∙◌, ap, arith, cond, pos, negsuc, ◌-ℤ◌, inl, inr}
+use Rattle.std.proofs.Common.{◌≡◌, ℕ, suc, ◌+◌, ◌-◌, ◌*◌, ◌/◌, ◌%◌, ◌^◌, ◌<◌, ◌≤◌, Bool, true, ◌&&◌, ltb, leb, List, sym, ◌∙◌, ap, arith, pos, ◌-ℤ◌}
 use Rattle.std.specs.Int.{bit_at, int_rem_euclid, w64, cast_unsigned, Width}
 use Rattle.std.specs.List.{All}
-use Rattle.std.proofs.lemmas.Bool.{and_parts, and_from, and_right, leb-true, ltb-true, cond_both, cond-true, cond-false, le-leb, le-ltb, lt-ltb, cases_lt}
+use Rattle.std.proofs.lemmas.Bool.{and_parts, and_from, leb-true, cond_both, cond-true, le-leb, lt-ltb}
 use Rattle.std.proofs.lemmas.Int.{ints}
-use Rattle.std.proofs.lemmas.List.Elements.{All-nil, All-cons, All-head, All-tail}
-use Rattle.std.proofs.lemmas.Nat.{pow_pos, pow-add, mod_low, mod_below}
-use Rattle.std.proofs.lemmas.Nat.Bits.{same_from_bits}
+use Rattle.std.proofs.lemmas.Nat.{field_of, pow_pos, mod_low, mod_below}
 use Rattle.std.proofs.Math.Nat.{mod-eq_of_lt}
 use Rattle.linker_base.specs.Bits.{signed}
 use Rattle.linker_base.specs.Form.{values_below, ImmediateBit, BitsWritten, placed_bit, bit_for, place_sum, IsClear, Written, MachineReads, IsReadBack, WriteBackChangesNothing}
 use Rattle.linker_base.specs.Rounded.{rounded_immediate}
 use Rattle.linker_base.proofs.Places.{value_bit, adds, bit_at-place_sum}
-use Rattle.linker_base.proofs.Fields.{bit_at_window, bit_at_mod, signed_rem, aligned_rem}
-use Rattle.linker_base.proofs.Immediates.{fills, values_apart_fills, place_sum_laid, place_sum_below, restored, all_hold, own_bits, bits_kept}
-
--- all places are of value bits from bit n up
-abbrev pub values_from : ℕ → List ImmediateBit → Bool
-values_from n [] = true
-values_from n (p ∷ ps) = leb n p.value && values_from n ps
-
-looked_up : (low n before : ℕ) (f g : ℕ → ℕ) (ps : List ImmediateBit) → ((k : ℕ) → low ≤ k → k < n → f k ≡ g k)
-    → values_from low ps ≡ true → values_below n ps ≡ true
-    → All (λ (p : ImmediateBit). g p.value ≡ bit_at before p.insn_bit) ps → All (λ (p : ImmediateBit). f p.value ≡ bit_at before p.insn_bit) ps
-looked_up low n before f g [] same a b own = All-nil (λ (p : ImmediateBit). f p.value ≡ bit_at before p.insn_bit)
-looked_up low n before f g (p ∷ ps) same a b own =
-    let from = and_parts (leb low p.value) (values_from low ps) a in
-    let below = and_parts (ltb p.value n) (values_below n ps) b in
-    All-cons (λ (q : ImmediateBit). f q.value ≡ bit_at before q.insn_bit) p ps
-    (same p.value (leb-true low p.value from.0) (ltb-true p.value n below.0) ∙ All-head (λ (q : ImmediateBit). g q.value ≡ bit_at before q.insn_bit) p ps own)
-    (looked_up low n before f g ps same from.1 below.1 (All-tail (λ (q : ImmediateBit). g q.value ≡ bit_at before q.insn_bit) p ps own))
+use Rattle.linker_base.proofs.Fields.{mod_mod, bit_at_window, signed_rem, aligned_rem, cast_rem, whole_parts}
+use Rattle.linker_base.proofs.Immediates.{fills, values_apart_fills, place_sum_laid, place_sum_below, restored, all_hold, own_bits, bits_kept, values_from}
 
 -- bits low and up, below n, of x
 inside_window : (x low n k : ℕ) → low ≤ k → k < n → bit_at (x / 2 ^ low % 2 ^ (n - low) * 2 ^ low) k ≡ bit_at x k
@@ -56,65 +38,33 @@ part_kept low n r ps v before after sound e placed =
     let x = (v + r) % 2 ^ 64 in
     let same : (k : ℕ) → low ≤ k → k < n → bit_at x k ≡ value_bit ps k before =
     λ k a b. sym (inside_window x low n k a b) ∙ ap (λ y. bit_at y k) e ∙ bit_at-place_sum ps before k apart in
-    bits_kept n r v before after (bit_at x) ps (λ k l. refl) sound.below sound.held sound.added
-    (looked_up low n before (bit_at x) (λ k. value_bit ps k before) ps same sound.from sound.below (own_bits ps before apart sound.held))
-    placed
+    bits_kept low n r v before after (λ k. value_bit ps k before) ps same sound.from sound.below sound.held sound.added (own_bits ps before apart sound.held) placed
 
 -- a field below bit 64 doesn't see what is cut off there
-pub field_of_sum : (x low n : ℕ) → n ≤ 64 → x % 2 ^ 64 / 2 ^ low % 2 ^ (n - low) * 2 ^ low ≡ x / 2 ^ low % 2 ^ (n - low) * 2 ^ low
-field_of_sum x low n h =
-    same_from_bits (x % 2 ^ 64 / 2 ^ low % 2 ^ (n - low) * 2 ^ low) (x / 2 ^ low % 2 ^ (n - low) * 2 ^ low) (λ i.
-    bit_at_window (x % 2 ^ 64) low n i
-    ∙ elim (cases_lt i n) [
-      | inl inside ↦ ap (λ y. cond (leb low i && ltb i n) y 0) (bit_at_mod x 64 i (omega arith))
-      | inr above ↦
-          let out : (leb low i && ltb i n) ≡ false = and_right (leb low i) (ltb i n) (le-ltb i n above) in
-          cond-false (leb low i && ltb i n) (bit_at (x % 2 ^ 64) i) 0 out ∙ sym (cond-false (leb low i && ltb i n) (bit_at x i) 0 out)
-    ]
-    ∙ sym (bit_at_window x low n i))
+field_of_sum : (x low n : ℕ) → low ≤ n → n ≤ 64 → x % 2 ^ 64 / 2 ^ low % 2 ^ (n - low) * 2 ^ low ≡ x / 2 ^ low % 2 ^ (n - low) * 2 ^ low
+field_of_sum x low n a b =
+    let apart : 64 ≡ (64 - low) + low = omega arith in
+    ap (λ k. x % 2 ^ k / 2 ^ low % 2 ^ (n - low) * 2 ^ low) apart
+    ∙ ap (λ y. y % 2 ^ (n - low) * 2 ^ low) (field_of x (64 - low) low)
+    ∙ ap (λ y. y * 2 ^ low) (mod_mod (x / 2 ^ low) (64 - low) (n - low) (omega arith))
 
 -- ---- two's complement less a constant
 
-module _ (s r m q : ℕ) (small : s < m) (parts : 2 ^ 64 ≡ suc q * m) (room : m + r ≤ 2 ^ 64) where
-  below_whole : s < 2 ^ 64
-  below_whole = omega arith
+-- s less r, or also less m, to which r is added again
+plus_part : (s r : ℕ) → s < 2 ^ 64 → r ≤ 2 ^ 64 → (cast_unsigned w64 (pos s -ℤ pos r) % 2 ^ 64 + r) % 2 ^ 64 ≡ s
+plus_part s r small room = ap (λ y. (y + r) % 2 ^ 64) (cast_rem (pos s -ℤ pos r) (s + (2 ^ 64 - r)) (omega (arith, ints))) ∙ omega arith
 
-  -- s itself, where it isn't below r
-  above_part : r ≤ s → (cast_unsigned w64 (pos s -ℤ pos r) % 2 ^ 64 + r) % 2 ^ 64 ≡ s
-  above_part h =
-      let z : pos s -ℤ pos r ≡ pos (s - r) = omega (arith, ints) in
-      let cast : cast_unsigned w64 (pos s -ℤ pos r) ≡ s - r = ap (cast_unsigned w64) z in
-      let wide = below_whole in
-      ap (λ y. (y % 2 ^ 64 + r) % 2 ^ 64) cast ∙ omega arith
-
-  below_part : s < r → (cast_unsigned w64 (pos s -ℤ pos r) % 2 ^ 64 + r) % 2 ^ 64 ≡ s
-  below_part h =
-      let z : pos s -ℤ pos r ≡ negsuc (r - s - 1) = omega (arith, ints) in
-      let cast : cast_unsigned w64 (pos s -ℤ pos r) ≡ 2 ^ 64 - (r - s) = ap (cast_unsigned w64) z ∙ omega arith in
-      ap (λ y. (y % 2 ^ 64 + r) % 2 ^ 64) cast ∙ omega arith
-
-  -- s - m
-  minus_part : (cast_unsigned w64 (pos s -ℤ pos m -ℤ pos r) % 2 ^ 64 + r) % 2 ^ 64 ≡ q * m + s
-  minus_part =
-      let z : pos s -ℤ pos m -ℤ pos r ≡ negsuc (m + r - s - 1) = omega (arith, ints) in
-      let cast : cast_unsigned w64 (pos s -ℤ pos m -ℤ pos r) ≡ 2 ^ 64 - (m + r - s) = ap (cast_unsigned w64) z ∙ omega arith in
-      ap (λ y. (y % 2 ^ 64 + r) % 2 ^ 64) cast ∙ omega arith
+minus_part : (s r m q : ℕ) → s < m → 2 ^ 64 ≡ suc q * m → m + r ≤ 2 ^ 64 → (cast_unsigned w64 (pos s -ℤ pos m -ℤ pos r) % 2 ^ 64 + r) % 2 ^ 64 ≡ q * m + s
+minus_part s r m q small parts room =
+    ap (λ y. (y + r) % 2 ^ 64) (cast_rem (pos s -ℤ pos m -ℤ pos r) (q * m + s - r) (omega (arith, ints))) ∙ omega arith
 
 -- the bits of a signed number less r, to which r is added again
 signed_less : (n s r q : ℕ) → s < 2 ^ n → 2 ^ 64 ≡ suc q * 2 ^ n → 2 ^ n + r ≤ 2 ^ 64
     → (cast_unsigned w64 (signed n s -ℤ pos r) % 2 ^ 64 + r) % 2 ^ 64 % 2 ^ n ≡ s
 signed_less n s r q h e room =
-    let same : s % 2 ^ n ≡ s = mod-eq_of_lt h in
     cond_both (ltb s (2 ^ (n - 1))) (pos s) (pos s -ℤ pos (2 ^ n)) (λ z. (cast_unsigned w64 (z -ℤ pos r) % 2 ^ 64 + r) % 2 ^ 64 % 2 ^ n ≡ s)
-    (λ _. elim (cases_lt s r) [
-      | inl below ↦ ap (λ y. y % 2 ^ n) (below_part s r (2 ^ n) q h e room below) ∙ same
-      | inr above ↦ ap (λ y. y % 2 ^ n) (above_part s r (2 ^ n) q h e room above) ∙ same
-    ])
+    (λ _. ap (λ y. y % 2 ^ n) (plus_part s r (omega arith) (omega arith)) ∙ mod-eq_of_lt h)
     (λ _. ap (λ y. y % 2 ^ n) (minus_part s r (2 ^ n) q h e room) ∙ mod_low q n s h)
-
-whole_parts : (n : ℕ) → n ≤ 64 → 2 ^ 64 ≡ suc (2 ^ (64 - n) - 1) * 2 ^ n
-whole_parts n l =
-    ap (λ k. 2 ^ k) (let e : 64 ≡ (64 - n) + n = omega arith in e) ∙ pow-add 2 (64 - n) n ∙ ap (λ y. y * 2 ^ n) (omega (arith, pow_pos (64 - n)))
 
 -- ---- rounded immediates
 
@@ -138,7 +88,7 @@ module _ (w : Width) (n low r : ℕ) (flags : Bool) (ps : List ImmediateBit) (so
   pub rounded_laid : (v before after : ℕ) → BitsWritten ps v before after → IsClear ps before → place_sum ps after ≡ (v + r - (v + r) % 2 ^ low) % 2 ^ n
   rounded_laid v before after laid clear =
       place_sum_laid low n r ps v before after sound.short sound.filled sound.added laid clear
-      ∙ field_of_sum (v + r) low n sound.short
+      ∙ field_of_sum (v + r) low n sound.ordered sound.short
       ∙ sym (aligned_rem (v + r) low n sound.ordered)
 
   -- modulo 2 ^ n the machine reads the rounded value

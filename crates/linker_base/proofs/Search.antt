@@ -1,8 +1,8 @@
 -- What a search in the deltas of a section finds.
 use Rattle.std.proofs.Common.{◌≡◌, ℕ, ◌+◌, ◌-◌, ◌<◌, ◌≤◌, Bool, true, false, List, length, map, get_or, take, leb, refl, ap, ◌∙◌, inl, inr, arith}
-use Rattle.std.specs.Prelude.{◌%◌, ◌^◌, ◌↔◌, max, All, Any, nat_eq}
+use Rattle.std.specs.Prelude.{◌%◌, ◌^◌, ◌↔◌, max, Any, nat_eq}
 use Rattle.std.specs.List.Sorted.{IsNonDecreasingBy, IsPartitionedBy, IsPartitionPoint}
-use Rattle.std.proofs.lemmas.Bool.{cases_lt, cases_order}
+use Rattle.std.proofs.lemmas.Bool.{cases_eq, cases_lt, cases_order}
 use Rattle.std.proofs.lemmas.Bool.Decides.{nat_tests}
 use Rattle.std.proofs.lemmas.List.{get_or-map, get_or_default, length-map}
 use Rattle.std.proofs.lemmas.List.Sums.{sum_by_more}
@@ -41,17 +41,16 @@ pub sum_at : (deltas : List RelaxDelta) → AreValidDeltas deltas → (k : ℕ) 
     → (get_or deltas k d).cumulative_deleted ≡ bytes_of (take k (map deletion_of deltas)) + (get_or deltas k d).bytes_deleted
 sum_at deltas listed k d within = listed.listing.sums k d within ∙ bytes_up_to deltas k d within
 
+-- the offsets of a valid list rise
+pub valid_rises : (ds : List (ℕ × ℕ)) → IsValid ds → IsNonDecreasingBy (λ d. d.0) ds
+valid_rises ds valid i j d le within = grind (arith, λ (lower : i < j). (valid.ascending i j d lower within).0, λ (same : i ≡ j). ap (λ k. (get_or ds k d).0) same)
+
 -- the offsets of deltas rise
 pub offsets_rise : (deltas : List RelaxDelta) → IsValid (map deletion_of deltas)
     → IsNonDecreasingBy (λ d. d.input_offset) deltas
-offsets_rise deltas valid i j d le within = elim (cases_order i j) [
-  | inl same ↦ rw same (omega arith)
-  | inr (inl lower) ↦
-      let inside : j < length (map deletion_of deltas) = omega (arith, length-map deltas deletion_of) in
-      let before = rw (deletion_at deltas i d (0, 0) (omega arith), deletion_at deltas j d (0, 0) within) at (valid.ascending i j (0, 0) lower inside) in
-      omega (arith, before.0)
-  | inr (inr above) ↦ absurd (omega arith)
-]
+offsets_rise deltas valid i j d le within =
+    let rise = valid_rises (map deletion_of deltas) valid i j (0, 0) le (omega (arith, length-map deltas deletion_of)) in
+    rw (deletion_at deltas i d (0, 0) (omega arith), deletion_at deltas j d (0, 0) within) at rise
 
 output_offset_from_sum : (offset bytes before : ℕ) → before ≤ offset → offset + bytes < 2 ^ 64
     → (offset + bytes + (2 ^ 64 - (before + bytes))) % 2 ^ 64 + before ≡ offset
@@ -95,31 +94,25 @@ module _ (ds : List (ℕ × ℕ)) (valid : IsValid ds) where
   pub inside_last : (i k : ℕ) (d : ℕ × ℕ) → 0 < k → k ≤ length ds
       → IsPartitionPoint (λ d. d.0 < i) (λ d. i ≤ d.0) ds k
       → IsInsideDeletion ds i ↔ (i < (get_or ds (k - 1) d).0 + (get_or ds (k - 1) d).1)
-  inside_last i k d positive within parted = (into, λ inside. (k - 1, get_or ds (k - 1) d, omega arith, get_or_default ds (k - 1) _ d (omega arith), (parted.0 (k - 1) d (omega arith) (omega arith), inside)))
-    where
-      into : IsInsideDeletion ds i → i < (get_or ds (k - 1) d).0 + (get_or ds (k - 1) d).1
-      into (j, e, low, is, (below, above)) = elim (cases_order j (k - 1)) [
-        | inl same ↦ rw (← same, get_or_default ds j d e low, is) above
-        | inr (inl lower) ↦
-            let before = valid.ascending j (k - 1) e lower (omega arith) in
-            let last = parted.0 (k - 1) e (omega arith) (omega arith) in
-            absurd (omega (arith, rw is at before.1))
-        | inr (inr higher) ↦ absurd (omega (arith, rw is at (parted.1 j e (omega arith) low)))
-      ]
+  inside_last i k d positive within parted = (
+    λ (j, e, low, is, (below, above)).
+        let end : (get_or ds j e).0 + (get_or ds j e).1 ≡ e.0 + e.1 = ap (λ (x : ℕ × ℕ). x.0 + x.1) is in
+        let same : j ≡ k - 1 → get_or ds j e ≡ get_or ds (k - 1) d = λ here. ap (λ q. get_or ds q e) here ∙ get_or_default ds (k - 1) e d (omega arith) in
+        elim (cases_eq j (k - 1)) [
+          | inl here ↦ omega (arith, end, ap (λ (x : ℕ × ℕ). x.0 + x.1) (same here))
+          | inr other ↦ absurd (grind (arith, ap (λ (x : ℕ × ℕ). x.0) is, end, λ (lower : j < k - 1). (valid.ascending j (k - 1) e lower (omega arith)).1, parted.0 (k - 1) e (omega arith), parted.1 j e, low))
+        ],
+    λ inside. (k - 1, get_or ds (k - 1) d, omega arith, get_or_default ds (k - 1) _ d (omega arith), (parted.0 (k - 1) d (omega arith) (omega arith), inside)),
+  )
 
   -- an offset at or above the end of the last deletion that begins below it parts the list there
   parted_past : (i k : ℕ) → k ≤ length ds
       → ((d : ℕ × ℕ) → 0 < k → (get_or ds (k - 1) d).0 + (get_or ds (k - 1) d).1 ≤ i)
       → ((j : ℕ) (d : ℕ × ℕ) → k ≤ j → j < length ds → i ≤ (get_or ds j d).0) → AreParted ds k i
   parted_past i k within past ahead = record {
-    passed = λ j d from below. elim (cases_lt j (k - 1)) [
-      | inl lower ↦
-          let before = valid.ascending j (k - 1) d lower (omega arith) in
-          omega (arith, before.0, before.1, past d (omega arith))
-      | inr last ↦
-          let here : j ≡ k - 1 = omega arith in
-          rw here (past d (omega arith))
-    ];
+    passed = λ j d from below.
+        let earlier : j < k - 1 → (get_or ds j d).0 + (get_or ds j d).1 ≤ (get_or ds (k - 1) d).0 = λ lower. (valid.ascending j (k - 1) d lower (omega arith)).1 in
+        grind (arith, earlier, past d (omega arith), λ (last : j ≡ k - 1). ap (λ q. get_or ds q d) last);
     ahead = ahead;
   }
 
@@ -144,15 +137,9 @@ module _ (ds : List (ℕ × ℕ)) (valid : IsValid ds) where
               let more : bytes_of (take (k - 1 + 1) ds) ≡ bytes_of (take (k - 1) ds) + last.1 = sum_by_more (λ (e : ℕ × ℕ). e.1) ds (k - 1) (0, 0) (omega arith) in
               let back : k - 1 + 1 ≡ k = omega arith in
               let bytes : bytes_of (take k ds) ≡ bytes_of (take (k - 1) ds) + last.1 = rw back at more in
-              let begin : rank ds last.0 + bytes_of (take (k - 1) ds) ≡ last.0 = rank-parted ds (k - 1) last.0 apart (record {
-                passed = λ j d from below. rw (get_or_default ds (k - 1) (0, 0) d (omega arith)) ((valid.ascending j (k - 1) d below (omega arith)).1);
-                ahead = λ j d from below. elim (cases_lt (k - 1) j) [
-                  | inl later ↦ rw (get_or_default ds (k - 1) (0, 0) d (omega arith)) (omega (arith, (valid.ascending (k - 1) j d later below).0))
-                  | inr same ↦
-                      let at : j ≡ k - 1 = omega arith in
-                      rw (at, get_or_default ds (k - 1) (0, 0) d (omega arith)) (omega arith)
-                ];
-              }) in
+              let begin : rank ds last.0 + bytes_of (take (k - 1) ds) ≡ last.0 = rank-parted ds (k - 1) last.0 apart (parted_past last.0 (k - 1) (omega arith)
+              (λ d positive. rw (get_or_default ds (k - 1) (0, 0) d (omega arith)) ((valid.ascending (k - 1 - 1) (k - 1) d (omega arith) (omega arith)).1))
+              (λ j d from below. rw (get_or_default ds (k - 1) (0, 0) d (omega arith)) (valid_rises ds valid (k - 1) j d from below))) in
               let finish : rank ds end + bytes_of (take k ds) ≡ end = rank-parted ds k end apart (parted_past end k within (λ d positive. omega (arith, ends.last d positive)) (λ j d from below.
               let next = valid.ascending (k - 1) j d (omega arith) below in
               omega (arith, next.1, ends.last d some))) in
@@ -160,25 +147,16 @@ module _ (ds : List (ℕ × ℕ)) (valid : IsValid ds) where
         ]
       ]
 
-  pub selected_from_search : (y k : ℕ) → k ≤ length ds → ArePlaced ds y k
-      → IsSelected ds y (y + bytes_of (take k ds))
-  selected_from_search y k within placed = selected-output ds k y (apart_from_ascending ds valid.ascending) within placed.before placed.after
-
-  pub fits_from_search : (y k : ℕ) → k ≤ length ds → ArePlaced ds y k
-      → HasInput ds y ↔ (y + bytes_of (take k ds) < 2 ^ 64)
-  fits_from_search y k within placed = input_fits ds y (y + bytes_of (take k ds)) (selected_from_search y k within placed)
-
   -- of a valid list one deletion at most begins at an offset
   pub only_at : (offset k : ℕ) (e : ℕ × ℕ) → k < length ds → (get_or ds k e).0 ≡ offset
       → IsOnlyAt ds offset (get_or ds k e).1
-  only_at offset k e within here = record { some = (k, get_or ds k e, within, get_or_default ds k _ e within, here); only = only }
-    where
-      only : All (λ d. d.0 ≡ offset → (get_or ds k e).1 ≡ d.1) ds
-      only j d inside there = elim (cases_order j k) [
-        | inl same ↦ rw (same, get_or_default ds k d e within) refl
-        | inr (inl lower) ↦ absurd (omega (arith, (valid.ascending j k d lower within).0, ap (λ (x : ℕ × ℕ). x.0) (get_or_default ds k d e within)))
-        | inr (inr higher) ↦ absurd (omega (arith, (valid.ascending k j d higher inside).0, ap (λ (x : ℕ × ℕ). x.0) (get_or_default ds k d e within)))
-      ]
+  only_at offset k e within here = record {
+    some = (k, get_or ds k e, within, get_or_default ds k _ e within, here);
+    only = λ j d inside there. elim (cases_order j k) [
+      | inl same ↦ rw (same, get_or_default ds k d e within) refl
+      | inr other ↦ absurd (grind (arith, other, λ (lower : j < k). (valid.ascending j k d lower within).0, λ (higher : k < j). (valid.ascending k j d higher inside).0, ap (λ (x : ℕ × ℕ). x.0) (get_or_default ds k d e within)))
+    ];
+  }
 
   -- and none where the first that begins at it or above does not begin at it
   pub none_at : (offset k : ℕ) → IsPartitionPoint (λ d. d.0 < offset) (λ d. offset ≤ d.0) ds k
@@ -186,11 +164,7 @@ module _ (ds : List (ℕ × ℕ)) (valid : IsValid ds) where
       → ⊥
   none_at offset k parted other (j, d, inside, is, here) =
       let at : (get_or ds j d).0 ≡ offset = ap (λ (x : ℕ × ℕ). x.0) is ∙ here in
-      elim (cases_order j k) [
-        | inl same ↦ other d (omega arith) (rw (← same) at)
-        | inr (inl lower) ↦ omega (arith, at, parted.0 j d (omega arith) lower)
-        | inr (inr higher) ↦ omega (arith, at, (valid.ascending k j d higher inside).0, parted.1 k d (omega arith) (omega arith))
-      ]
+      grind (arith, at, parted.0 j d (omega arith), parted.1 k d (omega arith), λ (same : j ≡ k). other d (omega arith) (rw (← same) at), λ (higher : k < j). (valid.ascending k j d higher inside).0)
 
 -- what the last delta that begins below an offset tells of the offset's rank
 pub rank_at_last : (deltas : List RelaxDelta) → AreValidDeltas deltas → (i last : ℕ)
@@ -218,23 +192,24 @@ rank_at_none deltas listed i parted =
 
 -- ---- searches by index
 
-pub begins_partitioned : (s : Subject) → IsValid (map deletion_of s.deltas) → (i : ℕ)
+begins_partitioned : (s : Subject) → IsValid (map deletion_of s.deltas) → (i : ℕ)
     → IsPartitioned s Deltas (BeginsBelow i)
 begins_partitioned s valid i j k le within passes = let rise = offsets_rise s.deltas valid j k blank le within in grind (arith, nat_tests)
 
-pub places_partitioned : (s : Subject) → AreValidDeltas s.deltas → (y : ℕ)
+places_partitioned : (s : Subject) → AreValidDeltas s.deltas → (y : ℕ)
     → IsPartitioned s Deltas (IsPlacedUpTo y)
 places_partitioned s listed y j k le within passes = placed_first s.deltas listed y j k blank le within passes
 
-pub parted_from_point : (s : Subject) (i k : ℕ) → k ≤ length s.deltas
-    → IsPointOf s Deltas (BeginsBelow i) k
+pub parted_from_point : (s : Subject) (i k : ℕ) → IsValid (map deletion_of s.deltas) → k ≤ length s.deltas
+    → (IsPartitioned s Deltas (BeginsBelow i) → IsPointOf s Deltas (BeginsBelow i) k)
     → IsPartitionPoint (λ d. d.0 < i) (λ d. i ≤ d.0) (map deletion_of s.deltas) k
-parted_from_point s i k within found = (
-  λ j d low high. rw (deletion_at s.deltas j blank d (omega arith)) (grind (arith, nat_tests, found.before j high)),
-  λ j d low high. let inside : j < length s.deltas = omega (arith, length-map s.deltas deletion_of) in rw (deletion_at s.deltas j blank d inside) (grind (arith, nat_tests, found.after j low inside)),
-)
+parted_from_point s i k valid within find =
+    let found = find (begins_partitioned s valid i) in (
+      λ j d low high. rw (deletion_at s.deltas j blank d (omega arith)) (grind (arith, nat_tests, found.before j high)),
+      λ j d low high. let inside : j < length s.deltas = omega (arith, length-map s.deltas deletion_of) in rw (deletion_at s.deltas j blank d inside) (grind (arith, nat_tests, found.after j low inside)),
+    )
 
-pub placed_from_point : (s : Subject) → AreValidDeltas s.deltas → (y k : ℕ) → k ≤ length s.deltas
+placed_from_point : (s : Subject) → AreValidDeltas s.deltas → (y k : ℕ) → k ≤ length s.deltas
     → IsPointOf s Deltas (IsPlacedUpTo y) k → ArePlaced (map deletion_of s.deltas) y k
 placed_from_point s listed y k within found = record {
   before = λ j d below. (placed_at s.deltas listed y j blank d (omega arith)).0 (found.before j below);
@@ -242,6 +217,17 @@ placed_from_point s listed y k within found = record {
       let inside : j < length s.deltas = omega (arith, length-map s.deltas deletion_of) in
       (placed_at s.deltas listed y j blank d inside).2 (found.after j from inside);
 }
+
+-- a search by output offsets finds what one selects, and tells whether that is of 64 bits
+pub searched : (s : Subject) → AreValidDeltas s.deltas → (y k : ℕ) → k ≤ length s.deltas
+    → (IsPartitioned s Deltas (IsPlacedUpTo y) → IsPointOf s Deltas (IsPlacedUpTo y) k)
+    → IsSelected (map deletion_of s.deltas) y (y + bytes_of (take k (map deletion_of s.deltas)))
+    × (HasInput (map deletion_of s.deltas) y ↔ (y + bytes_of (take k (map deletion_of s.deltas)) < 2 ^ 64))
+searched s listed y k within find =
+    let ds = map deletion_of s.deltas in
+    let placed = placed_from_point s listed y k within (find (places_partitioned s listed y)) in
+    let selected = selected-output ds k y (apart_from_ascending ds listed.valid.ascending) (omega (arith, length-map s.deltas deletion_of)) placed.before placed.after in
+    (selected, input_fits ds y (y + bytes_of (take k ds)) selected)
 
 -- ---- searches by heads
 

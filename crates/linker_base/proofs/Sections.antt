@@ -1,14 +1,13 @@
 -- What sorted entries say of the finite map that they hold, and what an edit of them does to it.
-use Rattle.std.proofs.Common.{◌≡◌, ℕ, zero, suc, ◌+◌, ◌-◌, ◌<◌, ◌≤◌, ◌≢◌, Bool, true, cond, eqb, List, [], ◌∷◌, ◌++◌, length, get_or, set, Option, Some, None, Result, Ok, Err, IfOk, IfErr, is_some, refl, sym, ap, subst, ◌∙◌, inl, inr, ⊎_elim, arith}
+use Rattle.std.proofs.Common.{◌≡◌, ℕ, zero, suc, ◌+◌, ◌-◌, ◌<◌, ◌≤◌, ◌≢◌, Bool, true, cond, eqb, List, [], ◌∷◌, ◌++◌, length, get_or, set, Option, Some, None, Result, Ok, Err, IfOk, IfErr, is_some, refl, sym, ap, subst, ◌∙◌, inl, inr, arith}
 use Rattle.std.specs.Prelude.{◌↔◌, IfSome, MatchOption, OnOk, is_ok, option_map, slice_get, ◌⊎◌, All, IsTrue, HoldsAt, insert as insert_at}
 use Rattle.std.specs.List.{AllWithin}
 use Rattle.std.specs.List.Sorted.{IsSearchInRange, IsBinarySearchResult, IsNonDecreasingBy}
 use Rattle.std.specs.Ordering.{nat_cmp, eq_by_cmp, ordering_index}
-use Rattle.std.specs.Cmp.{nat_cmp_total}
 use Rattle.std.specs.FinMap.{find, get, contains_key, empty, insert, from_entries, nat_cmp-IsAntisymmetric, same_map, get-from_entries, get-insert, get-empty, from_entries_push}
-use Rattle.std.proofs.lemmas.Bool.{cases_eq, cases_lt, cond_both, cond-true, false≢true}
+use Rattle.std.proofs.lemmas.Bool.{cases_eq, cond_both, cond-true, false≢true}
 use Rattle.std.proofs.lemmas.Bool.Decides.{nat_tests}
-use Rattle.std.proofs.lemmas.Cmp.{ranked}
+use Rattle.std.proofs.lemmas.Cmp.{ranked, nat_cmp_total}
 use Rattle.std.proofs.lemmas.Option.{slice_get-get_or}
 use Rattle.std.proofs.lemmas.List.Elements.{All-head, All-tail}
 use Rattle.std.proofs.lemmas.List.Edits.{length-insert, get_or-insert_below, get_or-insert_at, get_or-insert_above}
@@ -94,10 +93,7 @@ module _ (es : Entries) where
 
   -- a key in a gap isn't there
   pub get-gap : (k at : ℕ) → IsGap es k at → get (held es) k ≡ None
-  get-gap k at gap = get-held k ∙ find_absent es k (λ j d within same. ⊎_elim
-      (λ (before : j < at). omega (arith, gap.lower j d (omega arith) before))
-      (λ (from : at ≤ j). omega (arith, gap.higher j d from within))
-      (cases_lt j at))
+  get-gap k at gap = get-held k ∙ find_absent es k (λ j d within same. grind (arith, gap.lower j d (omega arith), gap.higher j d, within, same))
 
   -- a key that has an entry is there, with that value
   pub get-at : (k at : ℕ) (d : ℕ × List (ℕ × ℕ)) → IndicesRise es → IsAt es k at → get (held es) k ≡ Some (get_or es at d).1
@@ -149,10 +145,8 @@ module _ (es : Entries) where
     there = contains-entry (length es - 1) d (omega arith);
     highest = λ other there.
         let at = entry-contains other there in
-        ⊎_elim
-        (λ (before : at.0 < length es - 1). let low = rise at.0 (length es - 1) d before (omega arith) in omega (arith, at.2 d))
-        (λ (end : length es - 1 ≤ at.0). let same : length es - 1 ≡ at.0 = omega (arith, at.1) in rw same (omega (arith, at.2 d)))
-        (cases_lt at.0 (length es - 1));
+        let same : at.0 ≡ length es - 1 → (get_or es at.0 d).0 ≡ (get_or es (length es - 1) d).0 = λ end. ap (λ q. (get_or es q d).0) end in
+        grind (arith, rise at.0 (length es - 1) d, same, at.1, at.2 d);
   }
 
 -- only no entries hold the empty map

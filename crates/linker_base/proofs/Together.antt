@@ -58,31 +58,26 @@ walked_swapped ds ps i j next walked = record {
 -- one more of the first list
 walked_more : (ds ps : List (ℕ × ℕ)) (i j next after : ℕ) → AreWalked ds ps i j next → i < length ds → (j < length ps → (get_or ds i (0, 0)).0 ≤ (get_or ps j (0, 0)).0)
     → next ≤ (get_or ds i (0, 0)).0 → EndFits (get_or ds i (0, 0)) → after ≡ (get_or ds i (0, 0)).0 + max (get_or ds i (0, 0)).1 1 → AreWalked ds ps (i + 1) j after
-walked_more ds ps i j next after walked within first begins fits is = record {
-  valid = record {
-    old = old.valid;
-    added = walked.valid.added;
-    disjoint = disjoint_joined (take (i + 1) ds) (take j ps) (disjoint_from_valid (take (i + 1) ds) old.valid) (disjoint_from_valid (take j ps) walked.valid.added) (λ k e low. rw more (All-push (λ x. DoNotOverlap x (get_or (take j ps) k e)) (take i ds) d
-        (disjoint_across (take i ds) (take j ps) walked.valid.disjoint k e low)
-        (let below = walked.added_below k e low in inr (omega (arith, below.0, begins), omega (arith, below.1, begins)))));
-  };
-  old_below = old.below;
-  added_below = rise next after (take j ps) (omega (arith, begins, is)) walked.added_below;
-  old_follows = λ valid some. let step = valid.old.ascending i (i + 1) (0, 0) (omega arith) some in omega (arith, step.0, step.1, is);
-  added_follows = λ valid some. elim (disjoint_across ds ps valid.disjoint j (0, 0) some i (0, 0) within) [
-    | inl before ↦ omega (arith, before.0, before.1, is)
-    | inr behind ↦ absurd (omega (arith, behind.0, first some))
-  ];
-}
-  where
-    d : ℕ × ℕ
-    d = get_or ds i (0, 0)
-
-    more : take (i + 1) ds ≡ take i ds ++ d ∷ []
-    more = take_more ds i (0, 0) within
-
-    old : IsBelow after (take (i + 1) ds)
-    old = rw more (below_push (take i ds) d next after (record { valid = walked.valid.old; below = walked.old_below }) begins fits is)
+walked_more ds ps i j next after walked within first begins fits is =
+    let d = get_or ds i (0, 0) in
+    let more = take_more ds i (0, 0) within in
+    let old : IsBelow after (take (i + 1) ds) = rw more (below_push (take i ds) d next after (record { valid = walked.valid.old; below = walked.old_below }) begins fits is) in
+    record {
+      valid = record {
+        old = old.valid;
+        added = walked.valid.added;
+        disjoint = disjoint_joined (take (i + 1) ds) (take j ps) (disjoint_from_valid (take (i + 1) ds) old.valid) (disjoint_from_valid (take j ps) walked.valid.added) (λ k e low. rw more (All-push (λ x. DoNotOverlap x (get_or (take j ps) k e)) (take i ds) d
+            (disjoint_across (take i ds) (take j ps) walked.valid.disjoint k e low)
+            (let below = walked.added_below k e low in inr (omega (arith, below.0, begins), omega (arith, below.1, begins)))));
+      };
+      old_below = old.below;
+      added_below = rise next after (take j ps) (omega (arith, begins, is)) walked.added_below;
+      old_follows = λ valid some. let step = valid.old.ascending i (i + 1) (0, 0) (omega arith) some in omega (arith, step.0, step.1, is);
+      added_follows = λ valid some. elim (disjoint_across ds ps valid.disjoint j (0, 0) some i (0, 0) within) [
+        | inl before ↦ omega (arith, before.0, before.1, is)
+        | inr behind ↦ absurd (omega (arith, behind.0, first some))
+      ];
+    }
 
 -- one more of either list
 pub walked_step : (ds ps : List (ℕ × ℕ)) (i j next after : ℕ) (d : ℕ × ℕ) (is_old : Bool) (p t : ℕ) → AreWalked ds ps i j next → IsLower ds ps i j d is_old

@@ -1,5 +1,5 @@
 -- The bits of a number's two's complement are those of the number.
-use Rattle.std.proofs.Common.{◌≡◌, ℕ, suc, ◌+◌, ◌-◌, ◌*◌, ◌/◌, ◌%◌, ◌^◌, ◌<◌, ◌+ℤ◌, refl, sym, ◌∙◌, ap, subst, arith, pos, negsuc}
+use Rattle.std.proofs.Common.{add-mul, suc-mul, ◌≡◌, ℕ, suc, ◌+◌, ◌-◌, ◌*◌, ◌/◌, ◌%◌, ◌^◌, ◌<◌, ◌+ℤ◌, refl, sym, ◌∙◌, ap, subst, arith, pos, negsuc}
 use Rattle.std.specs.Int.{int_rem_euclid}
 use Rattle.std.proofs.lemmas.Int.{ints, int_rem_euclid_is}
 use Rattle.std.proofs.lemmas.Nat.{pow_pos, pow-add, mod_below, div-add-mod', div-mul-add}
@@ -10,15 +10,8 @@ use Rattle.linker_base.specs.Bits.{TwosComplementKeepsFields}
 complement : (n m d q r : ℕ) → n ≡ q * d + r → r < d → q < m → m * d - suc n ≡ (m - suc q) * d + (d - suc r)
 complement n m d q r e small below =
     let parts : m ≡ (m - suc q) + suc q = omega arith in
-    let split : m * d ≡ (m - suc q) * d + suc q * d = ap (λ x. x * d) parts ∙ right_distrib (m - suc q) (suc q) d in
-    let more : suc q * d ≡ q * d + d = turn q d in
-    omega arith
-  where
-    right_distrib : (a b d : ℕ) → (a + b) * d ≡ a * d + b * d
-    right_distrib a b d = grind arith
-
-    turn : (q d : ℕ) → suc q * d ≡ q * d + d
-    turn q d = grind arith
+    let split : m * d ≡ (m - suc q) * d + suc q * d = ap (λ x. x * d) parts ∙ add-mul (m - suc q) (suc q) d in
+    omega (arith, split, suc-mul q d)
 
 complement_quotient : (n m s : ℕ) → n < 2 ^ (m + s) → (2 ^ (m + s) - suc n) / 2 ^ s ≡ 2 ^ m - suc (n / 2 ^ s)
 complement_quotient n m s h =

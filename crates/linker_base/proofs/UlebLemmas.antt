@@ -1,11 +1,10 @@
 -- The groups of seven bits of a ULEB128 number.
 use Rattle.std.proofs.Common.{◌≡◌, ℕ, zero, suc, ◌+◌, ◌-◌, ◌*◌, ◌/◌, ◌%◌, ◌^◌, ◌<◌, ◌≤◌, ◌⊎◌}
 use Rattle.std.proofs.Common.{inl, inr, List, length, take, drop, slice_index, take_all, length-drop}
-use Rattle.std.proofs.Common.{refl, sym, ◌∙◌, ap, arith, bit_and, bit_or}
-use Rattle.std.proofs.Math.Nat.{pow-suc, mod-eq_of_lt}
+use Rattle.std.proofs.Common.{refl, sym, ◌∙◌, ap, arith, bit_and, bit_or, div-lt_iff_lt-mul, pow-suc, mod-eq_of_lt}
 use Rattle.std.proofs.lemmas.Bool.{cases_lt}
 use Rattle.std.proofs.lemmas.Nat.{and_mask, div_below, mod_below, mod-pow-add, mul-le, or_comm}
-use Rattle.std.proofs.lemmas.Nat.{or_shifted, pow_pos, pow-add, shl_whole, shr_below, shr_split}
+use Rattle.std.proofs.lemmas.Nat.{or_shifted, pow_pos, pow-add, shl_whole, shr_below}
 use Rattle.linker_base.specs.Uleb.{AllContinue, uleb_number, Uleb, HasOneReading, IsUlebWritten}
 
 -- the number that the first i bytes give
@@ -100,26 +99,13 @@ groups_of bytes n (suc i) each =
 
 -- a number is below 2 ^ k where nothing of it stands from bit k up
 below_shift : (n k : ℕ) → n / 2 ^ k ≡ 0 → n < 2 ^ k
-below_shift n k none =
-    let low : n % 2 ^ k < 2 ^ k = mod_below n (2 ^ k) (pow_pos k) in
-    let whole : n / 2 ^ k * 2 ^ k + n % 2 ^ k ≡ n = shr_split n k in
-    let same : 0 * 2 ^ k + n % 2 ^ k ≡ n
-    = ap (λ q. q * 2 ^ k + n % 2 ^ k) (sym none) ∙ whole in
-    omega (arith, low, same)
+below_shift n k none = omega (arith, (div-lt_iff_lt-mul {k = 2 ^ k} {x = n} {y = 1} (pow_pos k)).0 (omega arith))
 
 pub above_shift : (n k : ℕ) → ¬ (n / 2 ^ k ≡ 0) → 2 ^ k ≤ n
-above_shift n k some = by_order (cases_lt n (2 ^ k)) where
-  by_order : (n < 2 ^ k) ⊎ (2 ^ k ≤ n) → 2 ^ k ≤ n
-  by_order (inl low) =
-      let none : n / 2 ^ k < 1 = div_below n (2 ^ k) 1 (pow_pos k) (omega (arith, low)) in
-      absurd (some (omega (arith, none)))
-  by_order (inr high) = high
-
--- a group with the mark that it isn't the last
-marked : (n : ℕ) → (128 ≤ 128 + n % 128) × ((128 + n % 128) % 128 ≡ n % 128)
-marked n =
-    let group : n % 128 < 128 = mod_below n 128 (omega arith) in
-    (omega arith, omega (arith, group))
+above_shift n k some = elim (cases_lt n (2 ^ k)) [
+  | inl low ↦ absurd (some (omega (arith, div_below n (2 ^ k) 1 (pow_pos k) (omega (arith, low)))))
+  | inr high ↦ high
+]
 
 -- the code has written the groups of a number that fits
 pub is_written : (before after : List ℕ) (last n : ℕ) → last < length before → last < 10
@@ -131,11 +117,15 @@ pub is_written : (before after : List ℕ) (last n : ℕ) → last < length befo
     → drop (last + 1) after ≡ drop (last + 1) before → length after ≡ length before
     → IsUlebWritten before n after
 is_written before after last n there within continue ends tenth word fits groups end rest same =
-    let most : n < 2 ^ (7 + 7 * last) = below (cases_lt last 9) in
-    let small : shifted n last < 128 = shr_below n 7 (7 * last) most in
+    let most : n < 2 ^ (7 + 7 * last) = elim (cases_lt last 9) [
+      | inl early ↦ let turned : 7 + 7 * last ≡ 7 * last + 7 = omega arith in rw turned (below_shift n (7 * last + 7) (fits early))
+      | inr late ↦ let at : last ≡ 9 = omega arith in rw at (omega (arith, word))
+    ] in
+    let group : (k : ℕ) → k < suc last → slice_index after k % 128 ≡ shifted n k % 128 = λ k h. elim (cases_lt k last) [
+      | inl early ↦ rw (groups k early) (omega arith)
+      | inr late ↦ let at : k ≡ last = omega arith in rw (at, end) refl
+    ] in
     let more : 7 * suc last ≡ 7 + 7 * last = omega arith in
-    let low : uleb_number after last ≡ n % 2 ^ (7 * suc last)
-    = groups_of after n (suc last) (λ k h. group k (cases_lt k last) h) in
     record {
       old = uleb_number before last;
       rest = drop (last + 1) before;
@@ -153,25 +143,11 @@ is_written before after last n there within continue ends tenth word fits groups
         last = last;
         there = rw same there;
         within_ten = within;
-        continue = λ k early. rw (groups k early) ((marked (shifted n k)).0);
-        ends = rw end small;
-        tenth = λ at. rw end (late at);
-        number = sym (low ∙ ap (λ k. n % 2 ^ k) more ∙ mod-eq_of_lt most);
+        continue = λ k early. rw (groups k early) (omega arith);
+        ends = rw end (shr_below n 7 (7 * last) most);
+        tenth = λ at. rw (end, at) (omega (arith, shr_below n 1 63 word));
+        number = sym (groups_of after n (suc last) group ∙ ap (λ k. n % 2 ^ k) more ∙ mod-eq_of_lt most);
         rest_is = sym rest;
       };
       same_length = same;
     }
-  where
-    below : (last < 9) ⊎ (9 ≤ last) → n < 2 ^ (7 + 7 * last)
-    below (inl early) =
-        let turned : 7 + 7 * last ≡ 7 * last + 7 = omega arith in
-        rw turned (below_shift n (7 * last + 7) (fits early))
-    below (inr late) = let at : last ≡ 9 = omega arith in rw at (omega (arith, word))
-
-    late : last ≡ 9 → shifted n last ≤ 1
-    late at = rw at (omega (arith, shr_below n 1 63 word))
-
-    group : (k : ℕ) → (k < last) ⊎ (last ≤ k) → k < suc last
-        → slice_index after k % 128 ≡ shifted n k % 128
-    group k (inl early) h = rw (groups k early) ((marked (shifted n k)).1)
-    group k (inr late) h = let at : k ≡ last = omega arith in rw (at, end) refl

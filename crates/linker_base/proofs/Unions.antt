@@ -1,7 +1,8 @@
 -- Deletions in any order, and the one valid list that they sort into.
-use Rattle.std.proofs.Common.{◌≡◌, ℕ, zero, suc, ◌+◌, ◌<◌, ◌≤◌, Bool, true, false, List, [], ◌∷◌, ◌++◌, refl, sym, ap, ◌∙◌, inl, inr, ⊎_elim, arith}
+use Rattle.std.proofs.Common.{◌≡◌, ℕ, zero, suc, ◌+◌, ◌<◌, ◌≤◌, Bool, false, List, [], ◌∷◌, ◌++◌, refl, sym, ap, ◌∙◌, inl, inr, ⊎_elim, arith}
 use Rattle.std.specs.Prelude.{◌⊎◌, ◌↔◌, not, ◌&&◌, nat_le, nat_lt, AllPairs, Contains, IsPermutation, Result, Ok, Err, OnOk}
 use Rattle.std.specs.List.Sorted.{IsNonDecreasingBy}
+use Rattle.std.proofs.Math.Bool.{and_comm}
 use Rattle.std.proofs.lemmas.Bool.{cases_lt}
 use Rattle.std.proofs.lemmas.Bool.Decides.{nat_tests}
 use Rattle.std.proofs.lemmas.List.{append_assoc, get_or_append_left, length-append}
@@ -19,13 +20,7 @@ abbrev touch : ℕ × ℕ → ℕ × ℕ → Bool
 touch a b = not (is_before a b) && not (is_before b a)
 
 touch_flips : (a b : ℕ × ℕ) → touch a b ≡ touch b a
-touch_flips a b = both (not (is_before a b)) (not (is_before b a))
-  where
-    both : (x y : Bool) → (x && y) ≡ (y && x)
-    both true true = refl
-    both true false = refl
-    both false true = refl
-    both false false = refl
+touch_flips a b = and_comm (not (is_before a b)) (not (is_before b a))
 
 touch_not : (a b : ℕ × ℕ) → DoNotOverlap a b → touch a b ≡ false
 touch_not a b (inl below) = grind (arith, nat_tests, below.0, below.1)
@@ -58,13 +53,13 @@ disjoint_from_valid ds valid = record { apart = apart_from_ascending ds valid.as
 
 -- disjoint deletions whose offsets don't fall are a valid list
 pub valid_from_disjoint : (ds : List (ℕ × ℕ)) → AreDisjoint ds → IsNonDecreasingBy (λ d. d.0) ds → IsValid ds
-valid_from_disjoint ds disjoint rise = record { ascending = ascending; ends = disjoint.ends }
-  where
-    ascending : AllPairs IsBefore ds
-    ascending i j d below within = elim (disjoint.apart i j d below within) [
-      | inl before ↦ before
-      | inr after ↦ absurd (omega (arith, rise i j d (omega arith) within, after.0))
-    ]
+valid_from_disjoint ds disjoint rise = record {
+  ascending = λ i j d below within. elim (disjoint.apart i j d below within) [
+    | inl before ↦ before
+    | inr after ↦ absurd (omega (arith, rise i j d (omega arith) within, after.0))
+  ];
+  ends = disjoint.ends;
+}
 
 -- a sort of disjoint deletions by offset is their sorted union
 pub union_from_sort : (all ds : List (ℕ × ℕ)) → IsPermutation all ds → AreDisjoint all → IsNonDecreasingBy (λ d. d.0) ds → IsSortedUnion all ds

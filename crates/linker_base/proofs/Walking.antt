@@ -1,17 +1,16 @@
 -- How far a cursor's walk goes at a query.
 use Rattle.std.proofs.Common.{◌≡◌, ℕ, ◌+◌, ◌-◌, ◌<◌, ◌≤◌, List, length, map, get_or, take, ap, ◌∙◌, inl, inr, arith}
 use Rattle.std.specs.Prelude.{◌↔◌, ◌%◌, ◌^◌, max, nat_lt, All, AllPairs}
-use Rattle.std.proofs.lemmas.Bool.{cases_lt}
+use Rattle.std.proofs.lemmas.Bool.{cases_eq, cases_lt}
 use Rattle.std.proofs.lemmas.List.{length-map, length-take, get_or-take, get_or_default}
 use Rattle.std.proofs.lemmas.List.Sums.{count_by-le-length}
 use Rattle.linker_base.specs.declared.relaxation.RelaxDelta.{RelaxDelta}
-use Rattle.linker_base.specs.Deletions.{IsBefore, IsValid, rank}
+use Rattle.linker_base.specs.Deletions.{IsBefore, IsValid, rank, begun_below}
 use Rattle.linker_base.specs.Deltas.{deletion_of}
 use Rattle.linker_base.specs.Listed.{AreValidDeltas}
 use Rattle.linker_base.specs.Inner.Listed.{IsWalked}
 use Rattle.linker_base.specs.declared.relaxation.walk.Reached.{Reached}
-use Rattle.linker_base.specs.Deletions.{begun_below}
-use Rattle.linker_base.proofs.Laws.{begun_parted}
+use Rattle.linker_base.proofs.Laws.{begun_parted, begun_later}
 use Rattle.linker_base.proofs.Listed.{taken_up_to}
 use Rattle.linker_base.proofs.OutputOffsets.{bytes-le-offset}
 use Rattle.linker_base.proofs.Search.{blank, deletion_at, rank_from_search}
@@ -20,40 +19,18 @@ use Rattle.linker_base.proofs.Search.{blank, deletion_at, rank_from_search}
 pub walked_to : (deltas : List RelaxDelta) → AreValidDeltas deltas → (i start k : ℕ) → start ≤ k → k ≤ length deltas → ((j : ℕ) (d : RelaxDelta) → start ≤ j → j < k → (get_or deltas j d).input_offset < i) → (k < length deltas → i ≤ (get_or deltas k blank).input_offset) → k ≡ max start (begun_below (map deletion_of deltas) i)
 walked_to deltas listed i start k from within begun stop =
     let ds = map deletion_of deltas in
-    let b = begun_below ds i in
     let bound = count_by-le-length (λ (d : ℕ × ℕ). nat_lt d.0 i) ds in
-    let long = length-map deltas deletion_of in
     let parted = begun_parted ds i listed.valid.ascending in
-    let not_past : b ≤ k = elim (cases_lt k b) [
-      | inl high ↦
-          let inside : k < length deltas = omega arith in
-          let low = rw (deletion_at deltas k blank (0, 0) inside) at (parted.0 k (0, 0) (omega arith) high) in
-          absurd (omega (arith, low, stop inside))
-      | inr le ↦ le
-    ] in
-    elim (cases_lt start k) [
-      | inl moved ↦
-          let inside : k - 1 < length deltas = omega arith in
-          elim (cases_lt b k) [
-            | inl short ↦
-                let high = rw (deletion_at deltas (k - 1) blank (0, 0) inside) at (parted.1 (k - 1) (0, 0) (omega arith) (omega arith)) in
-                absurd (omega (arith, high, begun (k - 1) blank (omega arith) (omega arith)))
-            | inr le ↦ omega arith
-          ]
-      | inr stayed ↦ omega arith
-    ]
+    let at : (j : ℕ) → j < length deltas → (get_or ds j (0, 0)).0 ≡ (get_or deltas j blank).input_offset = λ j low. ap (λ (e : ℕ × ℕ). e.0) (deletion_at deltas j blank (0, 0) low) in
+    grind (arith, length-map deltas deletion_of, bound, at k, at (k - 1), parted.0 k (0, 0), parted.1 (k - 1) (0, 0), stop, begun (k - 1) blank)
 
 -- a query that is no step back passes just what begins below it
 pub begun_ahead : (ds : List (ℕ × ℕ)) → IsValid ds → (before i : ℕ) → before ≤ length ds → All (λ d. d.0 < i) (take before ds) → max before (begun_below ds i) ≡ begun_below ds i
 begun_ahead ds valid before i within below =
     let b = begun_below ds i in
     let parted = begun_parted ds i valid.ascending in
-    elim (cases_lt b before) [
-      | inl short ↦
-          let inside : b < length (take before ds) = omega (arith, length-take before ds) in
-          absurd (omega (arith, rw (get_or-take before ds b (0, 0) short) at (below b (0, 0) inside), parted.1 b (0, 0) (omega arith) (omega arith)))
-      | inr le ↦ omega arith
-    ]
+    let first : b < before → (get_or (take before ds) b (0, 0)).0 ≡ (get_or ds b (0, 0)).0 = λ low. ap (λ (e : ℕ × ℕ). e.0) (get_or-take before ds b (0, 0) low) in
+    grind (arith, length-take before ds, below b (0, 0), first, parted.1 b (0, 0))
 
 -- and its rank follows from how far the walk has come
 pub rank_walked : (ds : List (ℕ × ℕ)) → IsValid ds → (reached : Reached) (i : ℕ) → reached.passed ≡ begun_below ds i → IsWalked ds reached → rank ds i + reached.deleted ≡ max i reached.end
@@ -62,23 +39,21 @@ rank_walked ds valid reached i begun walked =
     let within : reached.passed ≤ length ds = omega (arith, count_by-le-length (λ (d : ℕ × ℕ). nat_lt d.0 i) ds) in
     omega (arith, rank_from_search ds valid i reached.passed reached.end within (rw begun parted) walked.end, walked.sum)
 
--- what is passed at a query begins below each later one
-pub begun_later : (ds : List (ℕ × ℕ)) → IsValid ds → (passed i j : ℕ) → passed ≡ begun_below ds i → i ≤ j → All (λ d. d.0 < j) (take passed ds)
-begun_later ds valid passed i j begun le k d within =
-    let parted = begun_parted ds i valid.ascending in
-    let low : k < passed = omega (arith, length-take passed ds) in
-    rw (get_or-take passed ds k d low) (omega (arith, parted.0 k d (omega arith) (omega arith)))
+-- so do both after a query that is no step back
+pub walked_ahead : (ds : List (ℕ × ℕ)) → IsValid ds → (before i : ℕ) (reached : Reached) → before ≤ length ds → reached.passed ≡ max before (begun_below ds i) → IsWalked ds reached → All (λ d. d.0 < i) (take before ds)
+    → (rank ds i + reached.deleted ≡ max i reached.end) × All (λ d. d.0 < i) (take reached.passed ds)
+walked_ahead ds valid before i reached within passed walked ahead =
+    let begun = passed ∙ begun_ahead ds valid before i within ahead in
+    (rank_walked ds valid reached i begun walked, rw begun (begun_later ds i i valid.ascending (omega arith)))
 
 -- the last of the first deletions decides whether all of them begin below an offset
 pub taken_begin_below : (ds : List (ℕ × ℕ)) → AllPairs IsBefore ds → (i k : ℕ) → 0 < k → k ≤ length ds → ((get_or ds (k - 1) (0, 0)).0 < i) ↔ All (λ d. d.0 < i) (take k ds)
 taken_begin_below ds ascending i k some bound = (
   λ last j d within.
       let low : j < k = omega (arith, length-take k ds) in
-      rw (get_or-take k ds j d low) (elim (cases_lt j (k - 1)) [
-        | inl lower ↦ omega (arith, last, (ascending j (k - 1) d lower (omega arith)).0, ap (λ (e : ℕ × ℕ). e.0) (get_or_default ds (k - 1) d (0, 0) (omega arith)))
-        | inr end ↦
-            let here : j ≡ k - 1 = omega arith in
-            rw (here, get_or_default ds (k - 1) d (0, 0) (omega arith)) last
+      rw (get_or-take k ds j d low) (elim (cases_eq j (k - 1)) [
+        | inl here ↦ rw (here, get_or_default ds (k - 1) d (0, 0) (omega arith)) last
+        | inr lower ↦ omega (arith, last, (ascending j (k - 1) d (omega arith) (omega arith)).0, ap (λ (e : ℕ × ℕ). e.0) (get_or_default ds (k - 1) d (0, 0) (omega arith)))
       ]),
   λ all.
       let low : k - 1 < k = omega arith in

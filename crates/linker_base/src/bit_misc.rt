@@ -64,10 +64,12 @@ impl BitExtraction for u64 {
         (self >> position) & 1
     }
 
+    #[tactic(auto, using(crate::proofs::Bits::high_mask_keeps))]
     fn extract_bit_range(self, range: Range<u32>) -> u64 {
         (self >> range.start) & (u64::MAX >> (64 - (range.end - range.start)))
     }
 
+    #[tactic(auto, using(crate::proofs::Bits::low_mask_keeps))]
     fn low_bits(self, num_bits: u32) -> u64 {
         self & ((1 << num_bits) - 1)
     }
@@ -76,6 +78,7 @@ impl BitExtraction for u64 {
         self.low_bits(num_bits).sign_extend(num_bits - 1)
     }
 
+    #[tactic(auto, using(crate::proofs::Bits::set_above, crate::proofs::Bits::tested_clear, crate::proofs::Bits::tested_set))]
     fn sign_extend(self, sign_bit: u32) -> u64 {
         if self & (1 << sign_bit) != 0 {
             self | (u64::MAX << sign_bit)
@@ -87,6 +90,7 @@ impl BitExtraction for u64 {
 
 /// A law: the bits of a number's two's complement, as `extract_bit_range` reads them, are those of
 /// the number.
+#[tactic(auto, using(crate::proofs::TwosComplement::fields_kept))]
 pub fn twos_complement_keeps_fields()
     ensures { TwosComplementKeepsFields }
 {}

@@ -88,6 +88,7 @@ pub fn read_u32(content: &mut &[u8]) -> Result<u32>
 /// # Errors
 ///
 /// "No null terminator found in string", and "Out of memory". The content is then unchanged.
+#[tactic(auto, using(crate::proofs::TextLemmas::first_nul, crate::proofs::TextLemmas::after_first_nul))]
 pub fn read_string(alloc: Global, content: &mut &[u8]) -> Result<String>
     ensures text { IfOk result (λ text. string_bytes text ≡ text_before_nul content.old.now) }
     ensures rest { OnOk result (content.new.now ≡ after_nul content.old.now) }

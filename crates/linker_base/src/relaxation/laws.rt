@@ -6,6 +6,7 @@ ghost use Rattle.linker_base.specs.Laws.{MergesShortenDistances, OtherSectionsSt
 
 /// Back to the output: the input offset of an output offset `y` isn't strictly inside a deletion,
 /// and its output offset is `y`.
+#[tactic(auto, using(crate::proofs::Laws::in_after_out))]
 pub fn in_after_out_returns()
     ensures { InAfterOutReturns }
 {}
@@ -13,6 +14,7 @@ pub fn in_after_out_returns()
 /// Back to the input: the input offset of the output offset of `i` is the first kept position at
 /// or after `i`, where `i` lies inside a deletion too. So it is `i` where `i` is kept, and then it
 /// is always there.
+#[tactic(auto, using(crate::proofs::Laws::out_after_in, crate::proofs::Laws::out_after_kept))]
 pub fn out_after_in_returns()
     ensures first_kept { OutAfterInIsFirstKept }
     ensures kept { OutAfterInReturnsKept }
@@ -36,12 +38,14 @@ pub fn cursor_gives_ranks()
 
 /// More deletions never increase a distance: a branch within range of its target remains so under
 /// every merge.
+#[tactic(auto, using(crate::proofs::Laws::merges_shorten))]
 pub fn merges_shorten_distances()
     ensures { MergesShortenDistances }
 {}
 
 /// What `RelaxDeltaMap::get_mut` lends is of one section: those of the others are as before when it
 /// is handed back.
+#[tactic(auto, using(crate::proofs::Sections::others_stay))]
 pub fn other_sections_stay()
     ensures { OtherSectionsStay }
 {}

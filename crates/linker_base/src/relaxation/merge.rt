@@ -167,6 +167,7 @@ fn merge_in_place(merged: &mut [RelaxDelta], count: usize, additional: &[(u64, u
 }
 
 // The bytes that the deletions of a valid list take together.
+#[tactic(auto, using(crate::proofs::Listed::taken_up_to))]
 fn bytes_in(deletions: &[(u64, u32)]) -> u64
     requires { IsValid deletions.now }
     ensures { result ≡ bytes_of deletions.now }

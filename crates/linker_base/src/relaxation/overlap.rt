@@ -3,7 +3,7 @@
 //! Deletions in any order are tested in parts: each part is one that ascends, or a few that are
 //! sorted on the stack, and a search in it finds what it overlaps.
 
-ghost use Rattle.std.specs.Prelude.{◌≡◌, ◌≤◌, ◌<◌, ◌+◌, ◌-◌, ◌++◌, ◌↔◌, ℕ, max, IsTrue};
+ghost use Rattle.std.specs.Prelude.{◌≡◌, ◌≤◌, ◌<◌, ◌+◌, ◌-◌, ◌++◌, ◌↔◌, ℕ, IsTrue};
 ghost use Rattle.std.specs.Prelude.{MatchOption, All, map, length, take, drop, slice_index_or};
 ghost use Rattle.linker_base.specs.Deletions.{IsBefore, DoNotOverlap, EndFits, AreDisjoint};
 ghost use Rattle.linker_base.specs.Deletions.{IsValid};
@@ -324,11 +324,12 @@ fn falls<D: AsDeletion>(deletions: &[D]) -> bool
     if deletions.is_empty() {
         return false;
     }
-    let mut at = 1;
-    while at < deletions.len() && is_before(pair_at(deletions, at), pair_at(deletions, at - 1)) {
-        at += 1;
+    for at in 1..deletions.len() {
+        if !is_before(pair_at(deletions, at), pair_at(deletions, at - 1)) {
+            return false;
+        }
     }
-    at == deletions.len() && end_fits(pair_at(deletions, 0))
+    end_fits(pair_at(deletions, 0))
 }
 
 // Whether the deletion overlaps none of a valid list: the first that isn't below it decides.

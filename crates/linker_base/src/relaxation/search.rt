@@ -128,6 +128,7 @@ fn narrow_few<P: Probe>(
 /// The first of 64 indexes, at one of which the point is, where none passes from `len` on. After the
 /// first probe, 2^left indexes are left. What is added is a shift, which LLVM makes no branch of.
 #[inline(always)]
+#[tactic(auto, using(crate::proofs::Halving::digits_above))]
 fn approach<P: Probe>(probe: &mut P, level: Level, test: Test, len: usize, exponent: u32) -> usize
     requires within { len ≤ size_of (P.state probe.old).subject level }
     requires power { 2 ^ exponent ≤ len }

@@ -243,11 +243,12 @@ fn falls<D: AsDeletion>(deletions: &[D]) -> bool {
     if deletions.is_empty() {
         return false;
     }
-    let mut at = 1;
-    while at < deletions.len() && is_before(pair_at(deletions, at), pair_at(deletions, at - 1)) {
-        at += 1;
+    for at in 1..deletions.len() {
+        if !is_before(pair_at(deletions, at), pair_at(deletions, at - 1)) {
+            return false;
+        }
     }
-    at == deletions.len() && end_fits(pair_at(deletions, 0))
+    end_fits(pair_at(deletions, 0))
 }
 
 // Whether the deletion overlaps none of a valid list: the first that isn't below it decides.

@@ -1,4 +1,4 @@
-use Rattle.std.proofs.Common.{ℕ, ◌≡◌, ◌+◌, ◌-◌, ◌∙◌, ◌≤◌, get_or, map, ap, sym, arith, length, min, take, drop}
+use Rattle.std.proofs.Common.{ℕ, ◌≡◌, ◌+◌, ◌-◌, ◌∙◌, get_or, map, ap, sym, arith, length, min, take, drop}
 use Rattle.std.proofs.lemmas.List.{get_or-map, length-map}
 use Rattle.linker_base.specs.Deltas.{deletion_of}
 use Rattle.linker_base.specs.declared.relaxation.RelaxDelta.{RelaxDelta}
@@ -15,16 +15,13 @@ pub loop-index-preserved : goal.loop-index-preserved
 loop-index-preserved c =
     let s = c.args.section.now in
     let k = c.loop-index.index in
-    let ds = map deletion_of c.args.deltas.now in
     let none : RelaxDelta = record { input_offset = 0; cumulative_deleted = 0; bytes_deleted = 0 } in
-    let here : get_or ds k (0, 0) ≡ deletion_of (get_or c.args.deltas.now k none) =
-    get_or-map deletion_of c.args.deltas.now k none (0, 0) (omega arith) in
+    let here : get_or (map deletion_of c.args.deltas.now) k (0, 0) ≡ deletion_of (get_or c.args.deltas.now k none) = get_or-map deletion_of c.args.deltas.now k none (0, 0) (omega arith) in
     record {
       within = omega (arith, c.put-at.ensures.end, c.put-at.auto.packed);
       copied = λ valid room.
           let same : length c.loop-index.packed ≡ length c.put-at.new.packed = sym c.put-at.auto.packed in
-          copied_step ds c.args.base s c.loop-index.packed c.between.result.now c.put-at.new.packed k c.loop-index.from c.loop-index.at
-          (c.loop-index.invariant.copied valid (same ∙ room)) (same ∙ room) c.put-at.ensures.bytes
+          copied_step _ _ _ _ _ _ _ _ _ (c.loop-index.invariant.copied valid (same ∙ room)) (same ∙ room) c.put-at.ensures.bytes
           c.saturating_add-from.result c.put-at.result valid.valid (omega (arith, length-map c.args.deltas.now deletion_of))
           (c.between.ensures ∙ ap (λ n. take (min (n - c.args.base) (length s) - min (c.loop-index.from - c.args.base) (length s)) (drop (min (c.loop-index.from - c.args.base) (length s)) s)) (sym (ap (λ (d : ℕ × ℕ). d.0) here)))
           c.put-at.ensures.end
@@ -33,12 +30,8 @@ loop-index-preserved c =
 
 pub returns : goal.returns
 returns c = λ valid room.
-    let deltas = c.args.deltas.now in
     let ends = c.args.base + length c.args.section.now in
-    let behind = c.count_begun-behind.result in
-    let same = c.loop-index.auto.packed in
-    let past : behind ≤ c.loop-index.index = c.loop-index-test.false in
-    copied_end (map deletion_of deltas) c.args.base c.args.section.now c.loop-index.packed c.between-2.result.now c.put-end.new.packed c.loop-index.index c.loop-index.from c.loop-index.at
-    (c.loop-index.invariant.copied valid (same ∙ room)) (same ∙ room) c.put-end.ensures.bytes
-    (λ j d h inside. begin_above deltas ends behind valid (c.count_begun-behind.ensures.begun valid) j d (omega arith) inside)
+    let room = c.loop-index.auto.packed ∙ room in
+    copied_end _ _ _ _ _ _ _ _ _ (c.loop-index.invariant.copied valid room) room c.put-end.ensures.bytes
+    (λ j d h inside. begin_above c.args.deltas.now ends c.count_begun-behind.result valid (c.count_begun-behind.ensures.begun valid) j d (omega (arith, c.loop-index-test.false)) inside)
     c.between-2.ensures

@@ -7,10 +7,8 @@ use Rattle.linker_base.proofs.packing.first_run.Goals as goal
 
 pub returns-then-first-eq0-clause-first : goal.returns-then-first-eq0-clause-first
 returns-then-first-eq0-clause-first c = λ valid.
-    let deltas = c.args.deltas.now in
-    let first = c.count_begun-first.result in
     let begun = c.count_begun-first.ensures.begun valid in
-    run_from_base (map deletion_of deltas) c.args.base first valid.valid (omega (arith, length-map deltas deletion_of)) (begin_below deltas c.args.base first valid begun) (begin_above deltas c.args.base first valid begun) c.if-first-eq0.true
+    run_from_base _ _ c.count_begun-first.result valid.valid (omega (arith, length-map c.args.deltas.now deletion_of)) (begin_below _ _ _ valid begun) (begin_above _ _ _ valid begun) c.if-first-eq0.true
 
 pub returns-clause-first : goal.returns-clause-first
 returns-clause-first c = λ valid.

@@ -1,5 +1,4 @@
-use Rattle.std.proofs.Common.{◌≡◌, ◌∙◌, ap, map}
-use Rattle.std.specs.List.Sorted.{IsPermutation}
+use Rattle.std.proofs.Common.{◌∙◌, ap, map}
 use Rattle.linker_base.specs.Deltas.{deletion_of, pairs_of}
 use Rattle.linker_base.proofs.Merging.{disjoint_back}
 use Rattle.linker_base.proofs.Unions.{disjoint_moved, union_moved_ok}
@@ -10,16 +9,12 @@ sorted-pairs-requires c = rw c.in_ok-all_pairs.ensures (disjoint_back c.args.sel
 
 pub insert_ascending-requires-clause-disjoint : goal.insert_ascending-requires-clause-disjoint
 insert_ascending-requires-clause-disjoint c =
-    let more = pairs_of c.args.batches.now in
-    let pairs = c.sorted-pairs.result.items in
-    let same : IsPermutation more pairs = rw c.in_ok-all_pairs.ensures at c.sorted-pairs.ensures.same in
-    let ds : map deletion_of c.reserve.new.self.items ≡ c.args.self.now = ap (map deletion_of) c.reserve.ensures.items ∙ c.self.view_is in
-    rw (ds, c.deref.ensures.value) ((disjoint_moved c.args.self.now more pairs same).1 c.requires)
+    let same = rw c.in_ok-all_pairs.ensures at c.sorted-pairs.ensures.same in
+    let ds = ap (map deletion_of) c.reserve.ensures.items ∙ c.self.view_is in
+    rw (ds, c.deref.ensures.value) ((disjoint_moved c.args.self.now _ _ same).1 c.requires)
 
 pub returns-clause-ok : goal.returns-clause-ok
 returns-clause-ok c =
-    let more = pairs_of c.args.batches.now in
-    let pairs = c.sorted-pairs.result.items in
-    let same : IsPermutation more pairs = rw c.in_ok-all_pairs.ensures at c.sorted-pairs.ensures.same in
-    let ds : map deletion_of c.reserve.new.self.items ≡ c.args.self.now = ap (map deletion_of) c.reserve.ensures.items ∙ c.self.view_is in
-    union_moved_ok c.insert_ascending.result c.args.self.now more pairs _ same (rw (ds, c.deref.ensures.value) at c.insert_ascending.ensures.ok)
+    let same = rw c.in_ok-all_pairs.ensures at c.sorted-pairs.ensures.same in
+    let ds = ap (map deletion_of) c.reserve.ensures.items ∙ c.self.view_is in
+    union_moved_ok c.insert_ascending.result c.args.self.now _ _ _ same (rw (ds, c.deref.ensures.value) at c.insert_ascending.ensures.ok)

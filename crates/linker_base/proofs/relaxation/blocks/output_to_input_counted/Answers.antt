@@ -1,49 +1,39 @@
-use Rattle.std.proofs.Common.{◌≡◌, ◌+◌, ◌<◌, length, map, take, arith}
-use Rattle.std.proofs.lemmas.List.{length-map}
+use Rattle.std.proofs.Common.{◌≡◌, ◌+◌, map, take, arith}
 use Rattle.linker_base.specs.Deletions.{bytes_of}
 use Rattle.linker_base.specs.Deltas.{deletion_of}
 use Rattle.linker_base.specs.Inner.Search.{list_subject}
 use Rattle.linker_base.specs.declared.relaxation.search.Test.TheVariants.{IsPlacedUpTo}
-use Rattle.linker_base.proofs.Search.{blank, list_heads_agree, same_listed, places_partitioned, placed_from_point, selected_from_search, fits_from_search}
+use Rattle.linker_base.proofs.Search.{blank, list_heads_agree, same_listed, searched}
 use Rattle.linker_base.proofs.relaxation.blocks.output_to_input_counted.Goals as goal
 
 -- the bytes up to the last deletion that is passed
 pub overflow_add-result : goal.overflow_add-result
 overflow_add-result g c =
     let deltas = g.K.Looks.listed c.args.looks.now in
-    let s = list_subject deltas in
     let listed = c.len-len.ensures.valid in
     let last = c.in-Some.last in
     let count : c.count_passing.result ≡ last + 1 = omega (arith, c.in-Some.ensures.0, c.in-Some.ensures.1) in
-    let within : last < length deltas = omega (arith, c.count_passing.ensures.within) in
-    let point = c.count_passing.ensures.point (places_partitioned s listed c.args.output_offset) (list_heads_agree deltas (IsPlacedUpTo c.args.output_offset)) in
-    let placed = placed_from_point s listed c.args.output_offset c.count_passing.result c.count_passing.ensures.within point in
+    let found = searched (list_subject deltas) listed c.args.output_offset c.count_passing.result c.count_passing.ensures.within (λ parted. c.count_passing.ensures.point parted (list_heads_agree deltas (IsPlacedUpTo c.args.output_offset))) in
     let read = rw (same_listed c.count_passing.ensures.probes) at (c.delta.ensures.delta blank) in
-    let sum : c.delta.result.cumulative_deleted ≡ bytes_of (take c.count_passing.result (map deletion_of deltas)) = rw (read, count) (listed.listing.sums last blank within) in
-    let low = (fits_from_search (map deletion_of deltas) listed.valid c.args.output_offset c.count_passing.result (omega (arith, length-map deltas deletion_of, c.count_passing.ensures.within)) placed).0 c.requires.fits in
-    record { fits = omega (arith, low, sum) }
+    let sum : c.delta.result.cumulative_deleted ≡ bytes_of (take c.count_passing.result (map deletion_of deltas)) = rw (read, count) (listed.listing.sums last blank (omega (arith, c.count_passing.ensures.within))) in
+    record { fits = omega (arith, found.1.0 c.requires.fits, sum) }
 
 pub returns-in-Some-clause-input : goal.returns-in-Some-clause-input
 returns-in-Some-clause-input g c =
     let deltas = g.K.Looks.listed c.args.looks.now in
-    let s = list_subject deltas in
     let listed = c.len-len.ensures.valid in
     let last = c.in-Some.last in
     let count : c.count_passing.result ≡ last + 1 = omega (arith, c.in-Some.ensures.0, c.in-Some.ensures.1) in
-    let within : last < length deltas = omega (arith, c.count_passing.ensures.within) in
-    let point = c.count_passing.ensures.point (places_partitioned s listed c.args.output_offset) (list_heads_agree deltas (IsPlacedUpTo c.args.output_offset)) in
-    let placed = placed_from_point s listed c.args.output_offset c.count_passing.result c.count_passing.ensures.within point in
+    let found = searched (list_subject deltas) listed c.args.output_offset c.count_passing.result c.count_passing.ensures.within (λ parted. c.count_passing.ensures.point parted (list_heads_agree deltas (IsPlacedUpTo c.args.output_offset))) in
     let read = rw (same_listed c.count_passing.ensures.probes) at (c.delta.ensures.delta blank) in
-    let sum : c.delta.result.cumulative_deleted ≡ bytes_of (take c.count_passing.result (map deletion_of deltas)) = rw (read, count) (listed.listing.sums last blank within) in
-    rw sum (selected_from_search (map deletion_of deltas) listed.valid c.args.output_offset c.count_passing.result (omega (arith, length-map deltas deletion_of, c.count_passing.ensures.within)) placed)
+    let sum : c.delta.result.cumulative_deleted ≡ bytes_of (take c.count_passing.result (map deletion_of deltas)) = rw (read, count) (listed.listing.sums last blank (omega (arith, c.count_passing.ensures.within))) in
+    rw sum found.0
 
 pub returns-in-None-clause-input : goal.returns-in-None-clause-input
 returns-in-None-clause-input g c =
     let deltas = g.K.Looks.listed c.args.looks.now in
-    let s = list_subject deltas in
     let listed = c.len-len.ensures.valid in
     let count : c.count_passing.result ≡ 0 = omega (arith, c.in-None.ensures) in
-    let point = c.count_passing.ensures.point (places_partitioned s listed c.args.output_offset) (list_heads_agree deltas (IsPlacedUpTo c.args.output_offset)) in
-    let placed = rw count at (placed_from_point s listed c.args.output_offset c.count_passing.result c.count_passing.ensures.within point) in
+    let found = searched (list_subject deltas) listed c.args.output_offset c.count_passing.result c.count_passing.ensures.within (λ parted. c.count_passing.ensures.point parted (list_heads_agree deltas (IsPlacedUpTo c.args.output_offset))) in
     let zero_more : c.args.output_offset + 0 ≡ c.args.output_offset = omega arith in
-    rw zero_more at (selected_from_search (map deletion_of deltas) listed.valid c.args.output_offset 0 (omega arith) placed)
+    rw zero_more at (rw count at found.0)

@@ -1,5 +1,5 @@
 use Rattle.std.proofs.Common.{◌≡◌, ◌+◌, map, take, get_or, inl, inr, arith}
-use Rattle.std.proofs.lemmas.Bool.{cases_lt, false≢true}
+use Rattle.std.proofs.lemmas.Bool.{cases_eq, false≢true}
 use Rattle.std.proofs.lemmas.List.{get_or_default}
 use Rattle.linker_base.specs.Deletions.{bytes_of}
 use Rattle.linker_base.specs.Deltas.{deletion_of}
@@ -28,10 +28,8 @@ loop-delta-preserved c =
     let sum : (get_or c.args.deltas.now c.loop-delta.delta-index blank).cumulative_deleted ≡ bytes_of (take (c.loop-delta.delta-index + 1) (map deletion_of c.args.deltas.now)) = omega (arith, more, c.loop-delta.invariant.sum, c.if-delta-sum.false, c.if-delta-sum-2.false, c.from.ensures) in
     record {
       sum = sum;
-      each = λ k d below. elim (cases_lt k c.loop-delta.delta-index) [
-        | inl earlier ↦ c.loop-delta.invariant.each k d earlier
-        | inr last ↦
-            let here : k ≡ c.loop-delta.delta-index = omega arith in
-            rw (here, get_or_default c.args.deltas.now c.loop-delta.delta-index d blank within) sum
+      each = λ k d below. elim (cases_eq k c.loop-delta.delta-index) [
+        | inl here ↦ rw (here, get_or_default c.args.deltas.now c.loop-delta.delta-index d blank within) sum
+        | inr earlier ↦ c.loop-delta.invariant.each k d (omega arith)
       ];
     }

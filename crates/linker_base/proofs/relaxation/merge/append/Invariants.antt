@@ -1,5 +1,4 @@
-use Rattle.std.proofs.Common.{◌≡◌, ◌+◌, take, vec_len}
-use Rattle.std.specs.Vec.{vec_capacity}
+use Rattle.std.proofs.Common.{◌≡◌, ◌+◌, take, vec_len, vec_capacity}
 use Rattle.linker_base.specs.Deletions.{IsValid, bytes_of}
 use Rattle.linker_base.specs.Deltas.{RecordsDeletions}
 use Rattle.linker_base.proofs.relaxation.merge.append.Given as goal

@@ -1,4 +1,4 @@
-use Rattle.std.proofs.Common.{◌≡◌, ◌-◌, ◌++◌, ℕ, map, get_or, take, refl, sym, ap, ◌∙◌, arith}
+use Rattle.std.proofs.Common.{◌≡◌, ◌-◌, ◌++◌, ℕ, map, take, refl, sym, ap, ◌∙◌, arith}
 use Rattle.std.proofs.lemmas.Bool.Decides.{nat_tests}
 use Rattle.std.proofs.lemmas.List.{length-map, length-take, take_all}
 use Rattle.std.proofs.lemmas.List.Sums.{sum_by-append}
@@ -19,72 +19,46 @@ overflow_add-bytes c =
 
 pub overflow_sub-bytes : goal.overflow_sub-bytes
 overflow_sub-bytes c =
-    let start = take c.args.count c.args.merged.now in
-    let ps = c.args.additional.now in
-    let old = c.loop-listed.old in
-    let left = c.loop-listed.left in
     let merging = c.loop-listed.invariant in
-    let listed : get_or (map deletion_of start) (old - 1) (0, 0) ≡ c.as_deletion-listed.result = merging_end start ps old left c.loop-listed.bytes c.loop-listed.merged blank merging c.if-old-gt0.true ∙ sym c.as_deletion-listed.ensures in
+    let listed = merging_end _ _ _ _ _ _ blank merging c.if-old-gt0.true ∙ sym c.as_deletion-listed.ensures in
     elim c.if-is_old.branch [
-      | then-is_old w ↦
-          let here : c.if-is_old.input_offset ≡ get_or (map deletion_of start) (old - 1) (0, 0) = w.input_offset-is ∙ sym listed in
-          omega (arith, ap (λ (e : ℕ × ℕ). e.1) here, c.from-bytes.ensures, spends_old start ps old left c.loop-listed.merged c.loop-listed.bytes c.if-old-gt0.true merging)
-      | else-is_old w ↦ omega (arith, ap (λ (e : ℕ × ℕ). e.1) w.input_offset-is, c.from-bytes.ensures, spends_left start ps old left c.loop-listed.merged c.loop-listed.bytes c.if-left-gt0.true merging)
+      | then-is_old w ↦ omega (arith, ap (λ (e : ℕ × ℕ). e.1) (w.input_offset-is ∙ sym listed), c.from-bytes.ensures, spends_old _ _ _ _ _ _ c.if-old-gt0.true merging)
+      | else-is_old w ↦ omega (arith, ap (λ (e : ℕ × ℕ). e.1) w.input_offset-is, c.from-bytes.ensures, spends_left _ _ _ _ _ _ c.if-left-gt0.true merging)
     ]
 
 pub loop-listed-preserved : goal.loop-listed-preserved
 loop-listed-preserved c =
-    let start = take c.args.count c.args.merged.now in
-    let ps = c.args.additional.now in
     let old = c.loop-listed.old in
     let left = c.loop-listed.left in
     let merging = c.loop-listed.invariant in
-    let listed : get_or (map deletion_of start) (old - 1) (0, 0) ≡ c.as_deletion-listed.result = merging_end start ps old left c.loop-listed.bytes c.loop-listed.merged blank merging c.if-old-gt0.true ∙ sym c.as_deletion-listed.ensures in
+    let listed = merging_end _ _ _ _ _ _ blank merging c.if-old-gt0.true ∙ sym c.as_deletion-listed.ensures in
     elim c.if-is_old.branch [
       | then-is_old w ↦
           let one : c.from-old.result ≡ 1 = grind (arith, nat_tests, c.from-old.ensures, w.if-is_old.true) in
           let none : left - c.from-left.result ≡ left = grind (arith, nat_tests, c.from-left.ensures, w.if-is_old.true) in
-          rw (one, none, c.from-bytes.ensures) (merging_old start ps old left _ c.loop-listed.merged _ c.loop-listed.bytes c.requires.valid.old c.requires.valid.added c.if-old-gt0.true refl merging (w.input_offset-is ∙ sym listed)
-          (λ _. omega (arith, ap (λ (e : ℕ × ℕ). e.0) listed, w.if-is_old.true))
-          refl)
+          rw (one, none, c.from-bytes.ensures) (merging_old _ _ _ _ _ _ _ _ c.requires.valid.old c.requires.valid.added c.if-old-gt0.true refl merging (w.input_offset-is ∙ sym listed) (λ _. omega (arith, ap (λ (e : ℕ × ℕ). e.0) listed, w.if-is_old.true)) refl)
       | else-is_old w ↦
           let none : old - c.from-old.result ≡ old = grind (arith, nat_tests, c.from-old.ensures, w.if-is_old.false) in
           let one : c.from-left.result ≡ 1 = grind (arith, nat_tests, c.from-left.ensures, w.if-is_old.false) in
-          rw (none, one, c.from-bytes.ensures) (merging_left start ps old left _ c.loop-listed.merged _ c.loop-listed.bytes c.requires.valid.old c.requires.valid.added c.if-left-gt0.true refl merging w.input_offset-is
-          (λ _. omega (arith, ap (λ (e : ℕ × ℕ). e.0) listed, w.if-is_old.false))
-          refl)
+          rw (none, one, c.from-bytes.ensures) (merging_left _ _ _ _ _ _ _ _ c.requires.valid.old c.requires.valid.added c.if-left-gt0.true refl merging w.input_offset-is (λ _. omega (arith, ap (λ (e : ℕ × ℕ). e.0) listed, w.if-is_old.false)) refl)
     ]
 
 pub overflow_sub-bytes-in-loop-old : goal.overflow_sub-bytes-in-loop-old
 overflow_sub-bytes-in-loop-old c =
-    let start = take c.args.count c.args.merged.now in
-    let ps = c.args.additional.now in
-    let old = c.loop-old.old in
-    let left = c.loop-left.left in
-    let end = merging_end start ps old left c.loop-old.bytes c.loop-old.merged blank c.loop-old.invariant c.loop-old-test.true in
-    omega (arith, ap (λ (e : ℕ × ℕ). e.1) end, c.from-bytes-in-loop-old.ensures, spends_old start ps old left c.loop-old.merged c.loop-old.bytes c.loop-old-test.true c.loop-old.invariant)
+    let end = merging_end _ _ _ _ _ _ blank c.loop-old.invariant c.loop-old-test.true in
+    omega (arith, ap (λ (e : ℕ × ℕ). e.1) end, c.from-bytes-in-loop-old.ensures, spends_old _ _ _ _ _ _ c.loop-old-test.true c.loop-old.invariant)
 
 pub loop-old-preserved : goal.loop-old-preserved
 loop-old-preserved c =
-    let start = take c.args.count c.args.merged.now in
-    let ps = c.args.additional.now in
-    let old = c.loop-old.old in
-    let left = c.loop-left.left in
-    let end = merging_end start ps old left c.loop-old.bytes c.loop-old.merged blank c.loop-old.invariant c.loop-old-test.true in
-    rw c.from-bytes-in-loop-old.ensures (merging_old start ps old left _ c.loop-old.merged _ c.loop-old.bytes c.requires.valid.old c.requires.valid.added c.loop-old-test.true refl c.loop-old.invariant (sym end)
-    (λ _. omega (arith, ap (λ (e : ℕ × ℕ). e.0) end, c.if-input_offset-merged.true))
-    refl)
+    let end = merging_end _ _ _ _ _ _ blank c.loop-old.invariant c.loop-old-test.true in
+    rw c.from-bytes-in-loop-old.ensures (merging_old _ _ _ _ _ _ _ _ c.requires.valid.old c.requires.valid.added c.loop-old-test.true refl c.loop-old.invariant (sym end) (λ _. omega (arith, ap (λ (e : ℕ × ℕ). e.0) end, c.if-input_offset-merged.true)) refl)
 
 pub loop-left-preserved : goal.loop-left-preserved
 loop-left-preserved c =
-    let start = take c.args.count c.args.merged.now in
-    let ps = c.args.additional.now in
-    let old = c.loop-old.old in
-    let left = c.loop-left.left in
-    rw c.from-bytes-in-loop-left.ensures (merging_left start ps old left _ c.loop-old.merged _ c.loop-old.bytes c.requires.valid.old c.requires.valid.added c.loop-left-test.true refl c.loop-old.invariant refl
+    rw c.from-bytes-in-loop-left.ensures (merging_left _ _ _ _ _ _ _ _ c.requires.valid.old c.requires.valid.added c.loop-left-test.true refl c.loop-old.invariant refl
     (λ some. elim c.loop-old-test.branch [
       | then-loop-old-test+else-input_offset-merged w ↦
-          let end = merging_end start ps old left c.loop-old.bytes c.loop-old.merged blank c.loop-old.invariant some in
+          let end = merging_end _ _ _ _ _ _ blank c.loop-old.invariant some in
           omega (arith, ap (λ (e : ℕ × ℕ). e.0) end, w.if-input_offset-merged.false)
       | else-loop-old-test w ↦ absurd (omega (arith, some, w.loop-old-test.false))
     ])
@@ -93,9 +67,9 @@ loop-left-preserved c =
 pub returns-clause-union : goal.returns-clause-union
 returns-clause-union c =
     let done : c.loop-left.left ≡ 0 = omega (arith, c.loop-left-test.false) in
-    (merging_last (take c.args.count c.args.merged.now) c.args.additional.now c.loop-left.old c.loop-left.bytes c.loop-left.merged c.requires.listed c.requires.valid.disjoint (rw done at c.loop-left.invariant)).0
+    (merging_last _ _ _ _ _ c.requires.listed c.requires.valid.disjoint (rw done at c.loop-left.invariant)).0
 
 pub returns-clause-listed : goal.returns-clause-listed
 returns-clause-listed c =
     let done : c.loop-left.left ≡ 0 = omega (arith, c.loop-left-test.false) in
-    (merging_last (take c.args.count c.args.merged.now) c.args.additional.now c.loop-left.old c.loop-left.bytes c.loop-left.merged c.requires.listed c.requires.valid.disjoint (rw done at c.loop-left.invariant)).1
+    (merging_last _ _ _ _ _ c.requires.listed c.requires.valid.disjoint (rw done at c.loop-left.invariant)).1

@@ -1,7 +1,5 @@
-use Rattle.std.proofs.Common.{map, rules}
-use Rattle.std.specs.Prelude.{All}
+use Rattle.std.proofs.Common.{map, rules, All, tests}
 use Rattle.std.proofs.lemmas.Iterator.{cases_from_all, YieldsList-from_slice}
-use borrow.Author.Tests.{tests}
 use Rattle.linker_base.specs.Deletions.{DoNotOverlap}
 use Rattle.linker_base.proofs.Apart.{all_tell}
 use Rattle.linker_base.proofs.relaxation.overlap.are_beside.Goals as goal

@@ -1,8 +1,6 @@
-use Rattle.std.proofs.Common.{ℕ, map, rules}
-use Rattle.std.specs.Prelude.{All}
+use Rattle.std.proofs.Common.{ℕ, map, rules, All, tests}
 use Rattle.std.specs.Global.{Vec}
 use Rattle.std.proofs.lemmas.Iterator.{cases_from_all, YieldsList-from_slice}
-use borrow.Author.Tests.{tests}
 use Rattle.linker_base.specs.Deletions.{DoNotOverlap}
 use Rattle.linker_base.specs.Inner.Listed.{AreApart}
 use Rattle.linker_base.proofs.Apart.{all_tell, all_batches}

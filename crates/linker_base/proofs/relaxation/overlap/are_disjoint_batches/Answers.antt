@@ -1,10 +1,7 @@
-use Rattle.std.proofs.Common.{◌+◌, ◌++◌, take, drop, [], refl, subst, ap, sym, ◌∙◌, arith}
-use Rattle.std.specs.Prelude.{◌↔◌, IsTrue}
+use Rattle.std.proofs.Common.{◌+◌, take, drop, [], refl, ap, sym, ◌∙◌, arith, map-id}
 use Rattle.std.proofs.lemmas.Bool.{false≢true}
-use Rattle.std.proofs.lemmas.List.{map-id, drop_all, take_rest}
-use Rattle.linker_base.specs.Deletions.{AreDisjoint}
+use Rattle.std.proofs.lemmas.List.{drop_all, take_rest}
 use Rattle.linker_base.specs.Deltas.{pairs_of}
-use Rattle.linker_base.specs.Inner.Listed.{AreDisjointBeside}
 use Rattle.linker_base.proofs.Apart.{beside_none, pairs_from, pairs_front}
 use Rattle.linker_base.proofs.Merging.{disjoint_joined, disjoint_back, disjoint_across}
 use Rattle.linker_base.proofs.Unions.{disjoint_left, disjoint_from_valid}
@@ -20,10 +17,10 @@ returns-then-not-are_disjoint_beside c =
     let i = c.loop-at.at in
     let batch = c.index-batches-at.result in
     let later = pairs_of (drop (i + 1) batches) in
-    let beside : IsTrue c.are_disjoint_beside.result ↔ AreDisjointBeside batch.items later = subst (λ ps. IsTrue c.are_disjoint_beside.result ↔ AreDisjointBeside ps later) (map-id batch.items) (rw (c.deref.ensures.value, take_rest batches (i + 1)) at c.are_disjoint_beside.ensures) in (
+    let beside = rw (c.deref.ensures.value, take_rest batches (i + 1), map-id batch.items) at c.are_disjoint_beside.ensures in (
       λ none. absurd (false≢true none),
       λ all.
-          let joined : AreDisjoint (batch.items ++ later) = rw (pairs_from batches i batch c.loop-at-test.true c.index-batches-at.is) at (disjoint_back (pairs_of (take i batches)) (pairs_of (drop i batches)) (rw (pairs_front batches i) all)) in
+          let joined = rw (pairs_from batches i batch c.loop-at-test.true c.index-batches-at.is) at (disjoint_back (pairs_of (take i batches)) (pairs_of (drop i batches)) (rw (pairs_front batches i) all)) in
           sym c.if-not-are_disjoint_beside.true ∙ beside.1 (record { disjoint = disjoint_left batch.items later joined; apart = disjoint_across batch.items later joined }),
     )
 
@@ -33,7 +30,7 @@ loop-at-preserved c rest =
     let i = c.loop-at.at in
     let batch = c.index-batches-at.result in
     let later = pairs_of (drop (i + 1) batches) in
-    let beside : IsTrue c.are_disjoint_beside.result ↔ AreDisjointBeside batch.items later = subst (λ ps. IsTrue c.are_disjoint_beside.result ↔ AreDisjointBeside ps later) (map-id batch.items) (rw (c.deref.ensures.value, take_rest batches (i + 1)) at c.are_disjoint_beside.ensures) in
+    let beside = rw (c.deref.ensures.value, take_rest batches (i + 1), map-id batch.items) at c.are_disjoint_beside.ensures in
     let here = beside.0 c.if-not-are_disjoint_beside.false in
     c.loop-at.invariant (rw (pairs_from batches i batch c.loop-at-test.true c.index-batches-at.is) (disjoint_joined batch.items later here.disjoint rest here.apart))
 

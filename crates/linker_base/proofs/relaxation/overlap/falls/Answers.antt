@@ -3,8 +3,8 @@ use Rattle.std.proofs.lemmas.List.{length-map}
 use Rattle.linker_base.proofs.Apart.{disjoint_from_falling}
 use Rattle.linker_base.proofs.relaxation.overlap.falls.Goals as goal
 
-pub returns-then-at-deletions : goal.returns-then-at-deletions
-returns-then-at-deletions g c fits =
+pub returns : goal.returns
+returns g c fits =
     let f = g.D.AsDeletion.deletion in
     let xs = c.args.deletions.now in
-    disjoint_from_falling (map f xs) (λ k low. c.loop-at.invariant.falling k (omega (arith, low, length-map xs f, c.if-at-deletions.true))) (rw (← c.pair_at-then-at-deletions.ensures) (c.end_fits.ensures.0 fits))
+    disjoint_from_falling (map f xs) (λ k low. c.loop-at.invariant k (omega (arith, low, length-map xs f, c.loop-at-test.false))) (rw (← c.pair_at-2.ensures) (c.end_fits.ensures.0 fits))

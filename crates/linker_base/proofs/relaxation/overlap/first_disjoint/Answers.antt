@@ -1,9 +1,6 @@
-use Rattle.std.proofs.Common.{◌++◌, take, drop, map, arith}
-use Rattle.std.specs.Prelude.{◌↔◌, IsTrue}
+use Rattle.std.proofs.Common.{map, arith}
 use Rattle.std.proofs.lemmas.List.{length-map, take-map, drop-map, take_rest}
-use Rattle.linker_base.specs.Deletions.{IsValid}
 use Rattle.linker_base.specs.Deltas.{pairs_of}
-use Rattle.linker_base.specs.Inner.Listed.{AreApart}
 use Rattle.linker_base.proofs.Apart.{first_if}
 use Rattle.linker_base.proofs.Unions.{disjoint_from_valid}
 use Rattle.linker_base.proofs.relaxation.overlap.first_disjoint.Goals as goal
@@ -20,7 +17,7 @@ returns g c =
     let f = g.D.AsDeletion.deletion in
     let xs = c.args.deletions.now in
     let n = c.valid_len-rising.result in
-    let valid : IsValid (take n (map f xs)) = c.valid_len-rising.ensures.valid in
-    let apart : IsTrue c.are_apart.result ↔ AreApart (take n (map f xs)) (drop n (map f xs) ++ pairs_of c.args.batches.now) = rw (take-map f n xs, drop-map f n xs, ← take_rest xs n) (c.are_apart.ensures (rw (take-map f n xs) at valid)) in
+    let valid = c.valid_len-rising.ensures.valid in
+    let apart = rw (take_rest xs n, ← drop-map f n xs, ← take-map f n xs) at (c.are_apart.ensures (rw (take-map f n xs) at valid)) in
     rw c.then_some-2.ensures (first_if c.are_apart.result (map f xs) (pairs_of c.args.batches.now) n (omega (arith, c.min-count.ensures, c.requires, c.if-rising-count.false)) (omega (arith, c.valid_len-rising.ensures.within, length-map xs f))
     (λ holds. record { disjoint = disjoint_from_valid _ valid; apart = apart.0 holds }, λ all. apart.1 all.apart))

@@ -23,24 +23,20 @@ loop-high-init g c =
 
 pub loop-high-preserved-then-can_be_merged_sorted-2 : goal.loop-high-preserved-then-can_be_merged_sorted-2
 loop-high-preserved-then-can_be_merged_sorted-2 g c =
-    let f = g.D.AsDeletion.deletion in
-    let xs = c.args.additional.now in
     record {
       within = c.loop-high.invariant.within;
       order = omega (arith, c.inner_or_middle-middle.ensures.1);
       some = λ valid. c.inner_or_middle-middle.ensures.1;
-      below = λ valid. rw (take-map f c.inner_or_middle-middle.result xs) ((c.can_be_merged_sorted-in-loop-high.ensures valid).0 c.if-can_be_merged_sorted-2.true);
+      below = λ valid. rw (take-map g.D.AsDeletion.deletion c.inner_or_middle-middle.result c.args.additional.now) ((c.can_be_merged_sorted-in-loop-high.ensures valid).0 c.if-can_be_merged_sorted-2.true);
       above = c.loop-high.invariant.above;
     }
 
 pub loop-high-preserved : goal.loop-high-preserved
 loop-high-preserved g c =
-    let f = g.D.AsDeletion.deletion in
-    let xs = c.args.additional.now in
     record {
       within = omega (arith, c.inner_or_middle-middle.ensures.1, c.loop-high.invariant.within);
       order = omega (arith, c.inner_or_middle-middle.ensures.0);
       some = λ valid. c.inner_or_middle-middle.ensures.0;
       below = c.loop-high.invariant.below;
-      above = λ valid all. false≢true (sym c.if-can_be_merged_sorted-2.false ∙ (c.can_be_merged_sorted-in-loop-high.ensures valid).1 (rw (take-map f c.inner_or_middle-middle.result xs) at all));
+      above = λ valid all. false≢true (sym c.if-can_be_merged_sorted-2.false ∙ (c.can_be_merged_sorted-in-loop-high.ensures valid).1 (rw (take-map g.D.AsDeletion.deletion c.inner_or_middle-middle.result c.args.additional.now) at all));
     }

@@ -1,8 +1,5 @@
-use Rattle.std.proofs.Common.{map, subst}
-use Rattle.std.specs.Prelude.{◌↔◌, IsTrue}
-use Rattle.std.proofs.lemmas.List.{map-id}
-use Rattle.linker_base.specs.Inner.Listed.{AreApart}
+use Rattle.std.proofs.Common.{map-id}
 use Rattle.linker_base.proofs.relaxation.overlap.is_batch_beside.Goals as goal
 
 pub returns : goal.returns
-returns g c valid = subst (λ ps. IsTrue c.are_beside.result ↔ AreApart (map g.R.AsDeletion.deletion c.args.list.now) ps) (map-id c.args.batch.now.items) (rw c.as_slice.ensures.value at (c.are_beside.ensures valid))
+returns g c valid = rw (c.as_slice.ensures.value, map-id c.args.batch.now.items) at (c.are_beside.ensures valid)

@@ -1,14 +1,13 @@
-use Rattle.std.proofs.Common.{map, arith}
-use Rattle.linker_base.specs.Deltas.{deletion_of}
+use Rattle.std.proofs.Common.{arith}
 use Rattle.linker_base.proofs.Together.{walked_step}
 use Rattle.linker_base.proofs.relaxation.overlap.rise_together.Goals as goal
 
 pub loop-passed-preserved : goal.loop-passed-preserved
 loop-passed-preserved g c =
-    walked_step (map deletion_of c.args.deltas.now) (map g.D.AsDeletion.deletion c.args.additional.now) c.loop-passed.passed c.loop-passed.taken c.loop-passed.low _ c.lower-is_old.result.0 c.lower-is_old.result.1 _ _ c.loop-passed.invariant c.lower-is_old.ensures
+    walked_step _ _ _ _ _ _ _ _ _ _ c.loop-passed.invariant c.lower-is_old.ensures
     c.if-deletion-low.false (omega (arith, c.in-Some.ensures, c.max.ensures, c.from.ensures)) (omega (arith, c.in-Some.ensures, c.max.ensures, c.from.ensures)) (omega arith) (omega arith)
 
 pub loop-deletion-preserved : goal.loop-deletion-preserved
 loop-deletion-preserved g c =
-    walked_step (map deletion_of c.args.deltas.now) (map g.D.AsDeletion.deletion c.args.additional.now) c.loop-deletion.passed c.loop-deletion.taken c.loop-deletion.next _ c.in-Some-next_of.deletion c.in-Some-next_of.is_old _ _ c.loop-deletion.invariant c.in-Some-next_of.ensures
+    walked_step _ _ _ _ _ _ _ _ _ _ c.loop-deletion.invariant c.in-Some-next_of.ensures
     (omega arith) (c.end_fits.ensures.0 c.if-not-end_fits.false) (omega arith) (omega arith) (omega arith)

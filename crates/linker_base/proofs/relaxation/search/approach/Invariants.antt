@@ -1,5 +1,4 @@
-use Rattle.std.proofs.Common.{◌≡◌, ◌+◌, ◌≤◌}
-use Rattle.std.specs.Prelude.{◌^◌}
+use Rattle.std.proofs.Common.{◌≡◌, ◌+◌, ◌≤◌, ◌^◌}
 use Rattle.linker_base.specs.Inner.Search.{IsPartitioned, IsNarrowed}
 use Rattle.linker_base.proofs.relaxation.search.approach.Given as goal
 

@@ -1,5 +1,4 @@
-use Rattle.std.proofs.Common.{◌≡◌, ◌∙◌, arith}
-use Rattle.std.specs.Prelude.{min}
+use Rattle.std.proofs.Common.{◌≡◌, ◌∙◌, arith, min}
 use Rattle.linker_base.specs.Inner.Search.{IsNarrowed}
 use Rattle.linker_base.proofs.Halving.{few_spent, narrowed_point}
 use Rattle.linker_base.proofs.relaxation.search.narrow_few.Goals as goal

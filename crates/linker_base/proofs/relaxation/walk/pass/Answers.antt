@@ -1,6 +1,6 @@
-use Rattle.std.proofs.Common.{◌≡◌, refl, ap, inl, inr, arith}
-use Rattle.std.proofs.lemmas.Bool.{cases_lt}
+use Rattle.std.proofs.Common.{get_or, ◌∙◌, ◌≡◌, refl, ap, arith}
 use Rattle.std.proofs.lemmas.List.{get_or_default}
+use Rattle.linker_base.specs.declared.relaxation.RelaxDelta.{RelaxDelta}
 use Rattle.linker_base.specs.declared.relaxation.walk.Reached.{Reached}
 use Rattle.linker_base.proofs.Search.{blank}
 use Rattle.linker_base.proofs.Walking.{walked_to, walked_over}
@@ -23,11 +23,8 @@ loop-reached-preserved c =
     record {
       within = omega (arith, passed);
       from = omega (arith, c.loop-reached.invariant.from, passed);
-      begun = λ j d low high. elim (cases_lt j k) [
-        | inl earlier ↦ c.loop-reached.invariant.begun j d low earlier
-        | inr last ↦
-            let here : j ≡ k = omega (arith, passed) in
-            rw (here, get_or_default deltas k d blank c.loop-reached-test.true) c.if-deltas-reached.true
-      ];
+      begun = λ j d low high.
+          let last : j ≡ k → (get_or deltas j d).input_offset ≡ (get_or deltas k blank).input_offset = λ here. ap (λ q. (get_or deltas q d).input_offset) here ∙ ap (λ (x : RelaxDelta). x.input_offset) (get_or_default deltas k d blank c.loop-reached-test.true) in
+          grind (arith, c.loop-reached.invariant.begun j d low, last, passed, high, c.if-deltas-reached.true);
       walked = λ listed _. rw c.over-reached.ensures (walked_over deltas listed k c.loop-reached-test.true _ _ refl refl);
     }

@@ -7,7 +7,8 @@ use Rattle.linker_base.specs.Deletions.{rank, begun_below}
 use Rattle.linker_base.specs.Deltas.{deletion_of}
 use Rattle.linker_base.specs.Listed.{AreValidDeltas}
 use Rattle.linker_base.specs.Walk.{walk_at, walk_to, AreAhead}
-use Rattle.linker_base.proofs.Walking.{begun_ahead, begun_later, rank_walked}
+use Rattle.linker_base.proofs.Laws.{begun_later}
+use Rattle.linker_base.proofs.Walking.{begun_ahead, rank_walked}
 use Rattle.linker_base.proofs.relaxation.walk.walk.Goals as goal
 
 pub loop-at-preserved : goal.loop-at-preserved
@@ -24,7 +25,7 @@ loop-at-preserved c =
       within = c.pass-reached.ensures.within;
       walked = λ listed walked. c.pass-reached.ensures.walked listed (c.loop-at.invariant.walked listed walked);
       passed = λ listed. ap (walk_at ds) (c.pass-reached.ensures.passed listed) ∙ ap (λ walk. walk_to walk i) (c.loop-at.invariant.passed listed) ∙ sym (fold_more walk_to (walk_at ds c.args.from.passed) queries at 0 c.loop-at-test.true);
-      ahead = λ listed ahead more. begun_later ds listed.valid reached.passed i (get_or queries (at + 1) 0) (begun listed ahead) (ahead.ascending at (at + 1) 0 (omega arith) more);
+      ahead = λ listed ahead more. rw (begun listed ahead) (begun_later ds i (get_or queries (at + 1) 0) listed.valid.ascending (ahead.ascending at (at + 1) 0 (omega arith) more));
       ranks = λ listed walked ahead k below. elim (cases_lt k at) [
         | inl earlier ↦
             let other : k ≢ at = omega arith in

@@ -1,11 +1,10 @@
 use Rattle.linker_base.specs.Inner.Search.{view_subject}
 use Rattle.linker_base.specs.declared.relaxation.search.Test.TheVariants.{BeginsBelow}
-use Rattle.linker_base.proofs.Search.{begins_partitioned, view_heads_agree, parted_from_point}
+use Rattle.linker_base.proofs.Search.{view_heads_agree, parted_from_point}
 use Rattle.linker_base.proofs.relaxation.delta_slice.DeltaSlice.count_below.Goals as goal
 
 pub returns-clause-below : goal.returns-clause-below
 returns-clause-below c valid heads =
-    let s = view_subject c.args.self.now in
-    let found = rw c.copy.ensures at c.count_passing.ensures.point in
+    let find = rw c.copy.ensures at c.count_passing.ensures.point in
     let within = rw c.copy.ensures at c.count_passing.ensures.within in
-    parted_from_point s c.args.offset c.count_passing.result within (found (begins_partitioned s valid c.args.offset) (view_heads_agree c.args.self.now (BeginsBelow c.args.offset) heads))
+    parted_from_point (view_subject c.args.self.now) c.args.offset c.count_passing.result valid within (λ parted. find parted (view_heads_agree c.args.self.now (BeginsBelow c.args.offset) heads))

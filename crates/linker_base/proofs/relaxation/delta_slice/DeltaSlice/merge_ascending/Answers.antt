@@ -1,50 +1,31 @@
-use Rattle.std.proofs.Common.{map, refl, arith}
+use Rattle.std.proofs.Common.{refl, arith}
 use Rattle.std.proofs.lemmas.List.{length-map}
 use Rattle.linker_base.specs.Deltas.{deletion_of}
-use Rattle.linker_base.specs.Listed.{AreValidTogether}
 use Rattle.linker_base.proofs.Fronts.{fits_step, merged_step, merged_all}
 use Rattle.linker_base.proofs.relaxation.delta_slice.DeltaSlice.merge_ascending.Goals as goal
 
 pub overflow_add-bytes : goal.overflow_add-bytes
 overflow_add-bytes g c =
-    let ds = map deletion_of c.deltas-deltas.result.now in
-    let ps = map g.D.AsDeletion.deletion c.args.additional.now in
-    let valid : AreValidTogether ds ps = rw c.deltas-deltas.ensures c.requires.valid in
-    let step = fits_step ds ps c.loop-passed.passed c.loop-passed.taken c.loop-passed.merged c.loop-passed.bytes c.lower-is_old.result.0 c.lower-is_old.result.1 c.loop-passed.invariant valid.disjoint c.lower-is_old.ensures in
+    let valid = rw (← c.deltas-deltas.ensures) at c.requires.valid in
+    let step = fits_step _ _ _ _ _ _ _ _ c.loop-passed.invariant valid.disjoint c.lower-is_old.ensures in
     record { fits = omega (arith, step.1) }
 
 pub loop-passed-preserved : goal.loop-passed-preserved
 loop-passed-preserved g c =
-    let ds = map deletion_of c.deltas-deltas.result.now in
-    let ps = map g.D.AsDeletion.deletion c.args.additional.now in
-    let valid : AreValidTogether ds ps = rw c.deltas-deltas.ensures c.requires.valid in
-    merged_step ds ps c.loop-passed.passed c.loop-passed.taken c.loop-passed.merged c.loop-passed.bytes c.lower-is_old.result.0 c.lower-is_old.result.1 _ _ _ c.loop-passed.invariant valid c.lower-is_old.ensures refl (omega arith) (omega arith) (omega arith)
+    merged_step _ _ _ _ _ _ _ _ _ _ _ c.loop-passed.invariant (rw c.deltas-deltas.ensures c.requires.valid) c.lower-is_old.ensures refl (omega arith) (omega arith) (omega arith)
 
 pub overflow_add-bytes-in-Some : goal.overflow_add-bytes-in-Some
 overflow_add-bytes-in-Some g c =
-    let ds = map deletion_of c.deltas-deltas.result.now in
-    let ps = map g.D.AsDeletion.deletion c.args.additional.now in
-    let valid : AreValidTogether ds ps = rw c.deltas-deltas.ensures c.requires.valid in
-    let step = fits_step ds ps c.loop-deletion.passed c.loop-deletion.taken c.loop-deletion.merged c.loop-deletion.bytes c.in-Some.deletion c.in-Some.is_old c.loop-deletion.invariant valid.disjoint c.in-Some.ensures in
+    let valid = rw (← c.deltas-deltas.ensures) at c.requires.valid in
+    let step = fits_step _ _ _ _ _ _ _ _ c.loop-deletion.invariant valid.disjoint c.in-Some.ensures in
     record { fits = omega (arith, step.1) }
 
 pub loop-deletion-preserved : goal.loop-deletion-preserved
 loop-deletion-preserved g c =
-    let ds = map deletion_of c.deltas-deltas.result.now in
-    let ps = map g.D.AsDeletion.deletion c.args.additional.now in
-    let valid : AreValidTogether ds ps = rw c.deltas-deltas.ensures c.requires.valid in
-    merged_step ds ps c.loop-deletion.passed c.loop-deletion.taken c.loop-deletion.merged c.loop-deletion.bytes c.in-Some.deletion c.in-Some.is_old _ _ _ c.loop-deletion.invariant valid c.in-Some.ensures refl (omega arith) (omega arith) (omega arith)
+    merged_step _ _ _ _ _ _ _ _ _ _ _ c.loop-deletion.invariant (rw c.deltas-deltas.ensures c.requires.valid) c.in-Some.ensures refl (omega arith) (omega arith) (omega arith)
 
-pub returns-clause-union : goal.returns-clause-union
-returns-clause-union g c =
-    let ds = map deletion_of c.deltas-deltas.result.now in
-    let ps = map g.D.AsDeletion.deletion c.args.additional.now in
-    let valid : AreValidTogether ds ps = rw c.deltas-deltas.ensures c.requires.valid in
-    rw (← c.deltas-deltas.ensures) (merged_all ds ps c.loop-deletion.passed c.loop-deletion.taken c.loop-deletion.merged c.loop-deletion.bytes valid.disjoint c.loop-deletion.invariant (omega (arith, length-map c.deltas-deltas.result.now deletion_of, c.in_default.ensures)) (omega (arith, length-map c.args.additional.now g.D.AsDeletion.deletion, c.in_default.ensures))).0
-
-pub returns-clause-listed : goal.returns-clause-listed
-returns-clause-listed g c =
-    let ds = map deletion_of c.deltas-deltas.result.now in
-    let ps = map g.D.AsDeletion.deletion c.args.additional.now in
-    let valid : AreValidTogether ds ps = rw c.deltas-deltas.ensures c.requires.valid in
-    (merged_all ds ps c.loop-deletion.passed c.loop-deletion.taken c.loop-deletion.merged c.loop-deletion.bytes valid.disjoint c.loop-deletion.invariant (omega (arith, length-map c.deltas-deltas.result.now deletion_of, c.in_default.ensures)) (omega (arith, length-map c.args.additional.now g.D.AsDeletion.deletion, c.in_default.ensures))).1
+pub returns : goal.returns
+returns g c =
+    let valid = rw (← c.deltas-deltas.ensures) at c.requires.valid in
+    let all = merged_all _ _ _ _ _ _ valid.disjoint c.loop-deletion.invariant (omega (arith, length-map c.deltas-deltas.result.now deletion_of, c.in_default.ensures)) (omega (arith, length-map c.args.additional.now g.D.AsDeletion.deletion, c.in_default.ensures)) in
+    record { union = rw (← c.deltas-deltas.ensures) all.0; listed = all.1 }
