@@ -28,12 +28,12 @@
  *   of deltas, heads, items or relocations by any number of threads. So threads may also write
  *   parts of one section at once, each through a slice that no other overlaps.
  * - With such pointers and counts each call is defined, whatever the numbers and bytes.
- * - A call that returns `uint32_t` returns a status of `enum linker_utils_status`, except for
- *   `linker_utils_output_flags`, `linker_utils_forms_of` and `linker_utils_uleb128_role`. With any
- *   except `LINKER_UTILS_OK` it has written nothing but `faulty`, `memory`, `decisions`, `deleted`,
- *   and what `linker_utils_relocate_all`, `linker_utils_rewritten_items` and
- *   `linker_utils_deltas_create_in_one_pass` write before the entry that they reject. Where several
- *   statuses apply, the first in the order that the call names is returned. Other calls can't fail.
+ * - A call that returns `uint32_t` returns an `enum linker_utils_status`, except for
+ *   `linker_utils_find`, `linker_utils_output_flags`, `linker_utils_forms_of` and
+ *   `linker_utils_uleb128_role`: of several the first that the call names. Other calls can't fail.
+ *   With any except `LINKER_UTILS_OK` it has written nothing but `faulty`, `memory`, `decisions`,
+ *   `deleted`, and what `linker_utils_relocate_all`, `linker_utils_rewritten_items` and
+ *   `linker_utils_deltas_create_in_one_pass` write before the entry that they reject.
  * - `faulty` may be null. If the status is about one entry of an array, the index of that entry is
  *   written there; with any other status nothing is.
  * - Only a call that may return `LINKER_UTILS_OUT_OF_MEMORY` allocates, and for its speed

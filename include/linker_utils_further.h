@@ -95,6 +95,66 @@ static inline uint32_t linker_utils_relocate_all(
     const struct linker_utils_relocation_entry *relocations, size_t relocations_len,
     size_t *faulty);
 
+/* ---- Rows: calls of one relocation by a handle, which is looked up once.
+ *
+ * `linker_utils_find` returns a handle, a number that a linker may keep in place of the machine and
+ * the type, also in a file: it depends on nothing else. Each call by a handle does what the call of
+ * the same name does by machine and type, with the same statuses. First of these is
+ * LINKER_UTILS_UNKNOWN_RELOCATION of a number that is no handle, as 0. A call that is inlined in a
+ * loop over random types takes half of the time by `linker_utils_row_apply`. */
+
+/* The handle of a relocation; 0 where the machine or the type is unknown. */
+uint32_t linker_utils_find(uint16_t machine, uint32_t r_type);
+
+/* `linker_utils_value`. */
+uint32_t linker_utils_row_value(uint32_t handle, const struct linker_utils_operands *operands,
+                                int64_t *value);
+
+/* `linker_utils_relocate`. */
+static inline uint32_t linker_utils_row_write(uint32_t handle, int64_t value, uint8_t *dest,
+                                              size_t dest_len);
+
+/* Both: the value is computed and written. Where it isn't, the status is that of
+ * `linker_utils_row_value` or of `linker_utils_row_write`. */
+static inline uint32_t linker_utils_row_apply(uint32_t handle,
+                                              const struct linker_utils_operands *operands,
+                                              uint8_t *dest, size_t dest_len);
+
+/* `linker_utils_reach`. */
+uint32_t linker_utils_row_reach(uint32_t handle, struct linker_utils_relocation_reach *reach);
+
+/* `linker_utils_needs`. */
+uint32_t linker_utils_row_needs(uint32_t handle, int64_t addend, bool is_thread_local,
+                                struct linker_utils_requirements *required);
+
+/* `linker_utils_choose`, of a type with a row. */
+static inline uint32_t linker_utils_row_choose(
+    uint32_t handle, const uint8_t *section, size_t section_len, uint64_t offset,
+    const struct linker_utils_link_facts *facts, struct linker_utils_choice *choice);
+
+/* `linker_utils_relocation_fits`. False of a number that is no handle. */
+static inline bool linker_utils_row_fits(uint32_t handle, const uint8_t *section,
+                                         size_t section_len, uint64_t offset,
+                                         const struct linker_utils_link_facts *facts);
+
+/* What a relocation means and requires. */
+struct linker_utils_row {
+    uint64_t alignment; /* what each value has to be a multiple of */
+    struct linker_utils_relocation_reach reach; /* which values can be written */
+    /* What it requires with the addend 1, of a symbol that isn't thread-local. */
+    struct linker_utils_requirements needs;
+    uint32_t r_type;
+    uint32_t kind; /* the formula of its value, by `enum linker_utils_relocation_kind` */
+    uint16_t machine;
+    uint8_t window; /* how many bytes a write writes */
+    uint8_t may_use_plt; /* 1 where `linker_utils_may_use_plt` is true; else 0 */
+    uint8_t is_relative; /* 1 where its value is relative to the place; else 0 */
+    char name[40]; /* in its psABI, with a NUL after it */
+};
+
+/* What a relocation means and requires, into `row`. */
+uint32_t linker_utils_row_of(uint32_t handle, struct linker_utils_row *row);
+
 /* ---- Outputs: what a linker adds to one, by architecture.
  *
  * Types of dynamic relocations, words of the GOT, what offsets of thread-local storage count from,

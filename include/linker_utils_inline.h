@@ -130,6 +130,44 @@ static inline uint32_t linker_utils_relocate(uint16_t machine, uint32_t r_type, 
                                          LINKER_UTILS_SLICE(uint8_t, dest), dest_len);
 }
 
+uint32_t linker_utils_row_write_nonnull(uint32_t handle, int64_t value, uint8_t *dest,
+                                        size_t dest_len);
+static inline uint32_t linker_utils_row_write(uint32_t handle, int64_t value, uint8_t *dest,
+                                              size_t dest_len) {
+    return linker_utils_row_write_nonnull(handle, value, LINKER_UTILS_SLICE(uint8_t, dest),
+                                          dest_len);
+}
+
+uint32_t linker_utils_row_apply_nonnull(uint32_t handle,
+                                        const struct linker_utils_operands *operands,
+                                        uint8_t *dest, size_t dest_len);
+static inline uint32_t linker_utils_row_apply(uint32_t handle,
+                                              const struct linker_utils_operands *operands,
+                                              uint8_t *dest, size_t dest_len) {
+    return linker_utils_row_apply_nonnull(handle, operands, LINKER_UTILS_SLICE(uint8_t, dest),
+                                          dest_len);
+}
+
+uint32_t linker_utils_row_choose_nonnull(uint32_t handle, const uint8_t *section,
+                                         size_t section_len, uint64_t offset,
+                                         const struct linker_utils_link_facts *facts,
+                                         struct linker_utils_choice *choice);
+static inline uint32_t linker_utils_row_choose(
+    uint32_t handle, const uint8_t *section, size_t section_len, uint64_t offset,
+    const struct linker_utils_link_facts *facts, struct linker_utils_choice *choice) {
+    return linker_utils_row_choose_nonnull(handle, LINKER_UTILS_SLICE(const uint8_t, section),
+                                           section_len, offset, facts, choice);
+}
+
+bool linker_utils_row_fits_nonnull(uint32_t handle, const uint8_t *section, size_t section_len,
+                                   uint64_t offset, const struct linker_utils_link_facts *facts);
+static inline bool linker_utils_row_fits(uint32_t handle, const uint8_t *section,
+                                         size_t section_len, uint64_t offset,
+                                         const struct linker_utils_link_facts *facts) {
+    return linker_utils_row_fits_nonnull(handle, LINKER_UTILS_SLICE(const uint8_t, section),
+                                         section_len, offset, facts);
+}
+
 uint32_t linker_utils_relocate_all_nonnull(uint16_t machine, uint8_t *section, size_t section_len,
                                            const struct linker_utils_relocation_entry *relocations,
                                            size_t relocations_len, size_t *faulty);

@@ -229,6 +229,41 @@ fn relocations(report: &mut Report, random: &mut Random) {
             linker_utils_value(machine, r_type, &operands, &mut value).into()
         },
     );
+    numbers(
+        report,
+        "`linker_utils_find`, at random",
+        &types,
+        |&(machine, r_type)| unsafe { linker_utils_find(machine, r_type).into() },
+    );
+    let handles: Vec<u32> = types
+        .iter()
+        .map(|&(machine, r_type)| unsafe { linker_utils_find(machine, r_type) })
+        .collect();
+    numbers(
+        report,
+        "`linker_utils_row_value`, at random",
+        &handles,
+        |&handle| unsafe { linker_utils_row_value(handle, &operands, &mut value).into() },
+    );
+    let mut dest = [0; 8];
+    numbers(
+        report,
+        "`linker_utils_row_write`, at random",
+        &handles,
+        |&handle| unsafe {
+            let (at, len) = (dest.as_mut_ptr(), dest.len());
+            linker_utils_row_write_nonnull(handle, 0x40, at, len).into()
+        },
+    );
+    numbers(
+        report,
+        "`linker_utils_row_apply`, at random",
+        &handles,
+        |&handle| unsafe {
+            let (at, len) = (dest.as_mut_ptr(), dest.len());
+            linker_utils_row_apply_nonnull(handle, &operands, at, len).into()
+        },
+    );
 }
 
 fn instructions(report: &mut Report, random: &mut Random) {

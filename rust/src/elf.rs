@@ -7,8 +7,8 @@
 
 use crate::linker_base::utils::Uleb128Error;
 pub use crate::linker_elf::elf::{
-    AArch64Instruction, AllowedRange, Bias, Choice, EM_AARCH64, EM_LOONGARCH, EM_PPC64, EM_RISCV,
-    EM_X86_64, FormulaError, InstructionForm, InstructionRewrite, LinkFacts,
+    AArch64Instruction, AllowedRange, ApplyError, Bias, Choice, EM_AARCH64, EM_LOONGARCH, EM_PPC64,
+    EM_RISCV, EM_X86_64, FormulaError, InstructionForm, InstructionRewrite, LinkFacts,
     LoongArch64Instruction, Operands, OtherRelocation, PAGE_MASK_4KB, PageMask, PageMaskPattern,
     Ppc64Instruction, RelocateError, RelocationInstruction, RelocationKind, RelocationKindInfo,
     RelocationNumbers, RelocationSize, RewriteWindow, RiscVInstruction, Row, SIZE_2GB, SIZE_2KB,

@@ -1,7 +1,7 @@
 // SPDX-License-Identifier: MIT OR Apache-2.0
 //! What the library's errors print, and which error is the cause of another.
 
-use crate::elf::{FormulaError, RelocateError, Uleb128PairError, WriteError};
+use crate::elf::{ApplyError, FormulaError, RelocateError, Uleb128PairError, WriteError};
 use crate::output::{RouteError, StubError};
 use crate::placement::PlaceError;
 use crate::relaxation::{OutOfMemory, PackError, RejectedCall, SectionRelaxDeltas};
@@ -49,6 +49,17 @@ impl Display for RelocateError {
 }
 
 impl Error for RelocateError {}
+
+impl Display for ApplyError {
+    fn fmt(&self, f: &mut Formatter<'_>) -> Result {
+        match self {
+            ApplyError::Formula(error) => error.fmt(f),
+            ApplyError::Write(error) => error.fmt(f),
+        }
+    }
+}
+
+impl Error for ApplyError {}
 
 impl Display for WriteError {
     fn fmt(&self, f: &mut Formatter<'_>) -> Result {

@@ -719,6 +719,104 @@ static void call_relocate(void) {
     finish_with(status, 0 NOT_RELOCATED);
 }
 
+/* A handle, or another number. */
+static uint32_t any_handle(void) {
+    return once_in(16) ? (uint32_t)any_number()
+                       : linker_utils_find(any_machine(), any_relocation_type());
+}
+
+/* It is that of the machine and the type. */
+static void call_find(void) {
+    uint16_t machine = any_machine();
+    uint32_t r_type = any_relocation_type();
+    uint32_t handle = CALL(find, machine, r_type);
+    struct linker_utils_relocation_info info;
+    struct linker_utils_row row;
+    bool is_known = linker_utils_relocation(machine, r_type, &info) == LINKER_UTILS_OK;
+    expect((handle != 0) == is_known, "no handle of a relocation");
+    uint32_t status = linker_utils_row_of(handle, &row);
+    expect(status == LINKER_UTILS_OK ? row.machine == machine && row.r_type == r_type : !is_known,
+           "a handle of another relocation");
+    finish(true);
+}
+
+static void call_row_of(void) {
+    struct linker_utils_row *row = output(sizeof *row);
+    uint32_t status = CALL(row_of, any_handle(), row);
+    if (status == LINKER_UTILS_OK) {
+        expect(memchr(row->name, 0, sizeof row->name) && row->window <= 8, "no row");
+    }
+    finish_with(status, 0 OR(UNKNOWN_RELOCATION));
+}
+
+static void call_row_value(void) {
+    struct buffer *given = place(READ, 1, sizeof(struct linker_utils_operands));
+    fill_operands(filled(given));
+    int64_t *value = output(sizeof(int64_t));
+    uint32_t status = CALL(row_value, any_handle(), given->given, value);
+    finish_with(status, 0 OR(UNKNOWN_RELOCATION) OR(NO_ENTRY) OR(NO_TLS_BASE) OR(NO_VALUE));
+}
+
+#define ROW_NOT_WRITTEN \
+    OR(UNKNOWN_RELOCATION) OR(UNSUPPORTED) OR(TOO_SHORT) OR(MISALIGNED) OR(OUT_OF_REACH)
+
+static void call_row_write(void) {
+    struct buffer *dest = bytes(WRITTEN, any_len(16));
+    int64_t value = (int64_t)(once_in(2) ? below(4096) : any_number());
+    changes(dest, 0, 8);
+    uint32_t status = CALL(row_write, any_handle(), value, dest->given, dest->len);
+    finish_with(status, 0 ROW_NOT_WRITTEN);
+}
+
+static void call_row_apply(void) {
+    struct buffer *given = place(READ, 1, sizeof(struct linker_utils_operands));
+    fill_operands(filled(given));
+    struct buffer *dest = bytes(WRITTEN, any_len(16));
+    changes(dest, 0, 8);
+    uint32_t status = CALL(row_apply, any_handle(), given->given, dest->given, dest->len);
+    finish_with(status, 0 ROW_NOT_WRITTEN OR(NO_ENTRY) OR(NO_TLS_BASE) OR(NO_VALUE));
+}
+
+static void call_row_reach(void) {
+    struct linker_utils_relocation_reach *reach = output(sizeof *reach);
+    uint32_t status = CALL(row_reach, any_handle(), reach);
+    if (status == LINKER_UTILS_OK) {
+        expect(reach->has_range <= 1 && reach->min <= reach->max, "no reach");
+    }
+    finish_with(status, 0 OR(UNKNOWN_RELOCATION));
+}
+
+static void call_row_needs(void) {
+    struct linker_utils_requirements *required = output(sizeof *required);
+    uint32_t status = CALL(row_needs, any_handle(), (int64_t)any_number(), once_in(2), required);
+    finish_with(status, 0 OR(UNKNOWN_RELOCATION));
+}
+
+static void call_row_choose(void) {
+    struct buffer *section = bytes(READ, any_section_len());
+    uint64_t offset = any_offset(section->len);
+    struct buffer *given = any_facts();
+    struct linker_utils_choice *choice = output(sizeof *choice);
+    uint32_t status = CALL(row_choose, any_handle(), section->given, section->len, offset,
+                           given->given, choice);
+    finish_with(status, 0 OR(UNKNOWN_RELOCATION));
+}
+
+/* A relocation fits by its handle if it does by its machine and type. */
+static void call_row_fits(void) {
+    uint32_t handle = any_handle();
+    struct buffer *section = bytes(READ, any_section_len());
+    uint64_t offset = any_offset(section->len);
+    struct buffer *given = any_facts();
+    struct linker_utils_row row;
+    bool fits = CALL(row_fits, handle, section->given, section->len, offset, given->given);
+    bool is_known = linker_utils_row_of(handle, &row) == LINKER_UTILS_OK;
+    expect(fits == (is_known && linker_utils_relocation_fits(row.machine, row.r_type, section->given,
+                                                             section->len, offset, given->given)),
+           "not what fits");
+    finish(true);
+}
+
 /* What is before the rejected relocation is written. */
 static void call_relocate_all(void) {
     uint16_t machine = any_machine();
@@ -2408,6 +2506,8 @@ static void (*const all[])(void) = {
     call_status_text, call_operands_of, call_version, call_window, call_write, call_read, call_apply, call_matches,
     call_choose, call_relocation_fits, call_is_unchanged, call_rewrite_window,
     call_next_modifier, call_relocation, call_relocation_name, call_value, call_reach, call_relocate,
+    call_find, call_row_of, call_row_value, call_row_write, call_row_apply, call_row_reach,
+    call_row_needs, call_row_choose, call_row_fits,
     call_relocate_all, call_needs, call_value_at, call_relocate_section, call_survey,
     call_rewrite_section, call_has_rewrites, call_survey_placed_section, call_keep_facts,
     call_relocate_rewritten_section,

@@ -956,10 +956,7 @@ pub fn value(architecture: Architecture, r_type: u32, operands: &Operands) -> Re
 pub fn reach(architecture: Architecture, r_type: u32) -> Result<Option<Range<i64>>, Status> {
     let mut reach = raw::Reach::default();
     let status = unsafe { raw::linker_utils_reach(architecture.machine(), r_type, &mut reach) };
-    result_of(
-        status,
-        (reach.has_range != 0).then_some(reach.min..reach.max),
-    )
+    result_of(status, range_of(&reach))
 }
 
 /// Writes the value of a relocation to the bytes that `dest` begins with.
@@ -1004,6 +1001,140 @@ pub fn needs(
     let status =
         unsafe { raw::linker_utils_needs(machine, r_type, addend, is_thread_local, &mut required) };
     result_of(status, required.into())
+}
+
+/// A relocation of an architecture's type, looked up once: a handle of the library's.
+#[derive(Debug, Clone, Copy, PartialEq, Eq, Hash)]
+pub struct Row {
+    architecture: Architecture,
+    handle: u32,
+}
+
+/// What a relocation means and requires, as `struct linker_utils_row` in
+/// `include/linker_utils_further.h` explains.
+#[derive(Debug, Clone, PartialEq, Eq)]
+pub struct RowFields {
+    pub machine: u16,
+    pub r_type: u32,
+    pub name: String,
+    pub kind: RelocationKind,
+    /// Which values can be written; `None` if all can.
+    pub reach: Option<Range<i64>>,
+    pub alignment: u64,
+    /// How many bytes a write writes.
+    pub window: u8,
+    /// What it requires with the addend 1, of a symbol that isn't thread-local.
+    pub needs: Requirements,
+    pub may_use_plt: bool,
+    /// Whether its value is relative to the place.
+    pub is_relative: bool,
+}
+
+/// The row of a relocation; `None` where the library knows no meaning.
+pub fn find(architecture: Architecture, r_type: u32) -> Option<Row> {
+    let handle = unsafe { raw::linker_utils_find(architecture.machine(), r_type) };
+    (handle != 0).then_some(Row {
+        architecture,
+        handle,
+    })
+}
+
+impl Row {
+    /// What names the row: a number that depends on its architecture and type only.
+    pub fn handle(self) -> u32 {
+        self.handle
+    }
+
+    /// Its value, as `value` computes it.
+    pub fn value(self, operands: &Operands) -> Result<i64, Status> {
+        let mut value = 0;
+        let status = unsafe { raw::linker_utils_row_value(self.handle, operands, &mut value) };
+        result_of(status, value)
+    }
+
+    /// Writes a value, as `relocate` does.
+    pub fn write(self, value: i64, dest: &mut [u8]) -> Result<(), Status> {
+        let (at, len) = (dest.as_mut_ptr(), dest.len());
+        let status = unsafe { raw::linker_utils_row_write_nonnull(self.handle, value, at, len) };
+        result_of(status, ())
+    }
+
+    /// Computes its value and writes it.
+    pub fn apply(self, operands: &Operands, dest: &mut [u8]) -> Result<(), Status> {
+        let (at, len) = (dest.as_mut_ptr(), dest.len());
+        let status = unsafe { raw::linker_utils_row_apply_nonnull(self.handle, operands, at, len) };
+        result_of(status, ())
+    }
+
+    /// The values that `write` writes, or `None` if it writes all.
+    pub fn reach(self) -> Result<Option<Range<i64>>, Status> {
+        let mut reach = raw::Reach::default();
+        let status = unsafe { raw::linker_utils_row_reach(self.handle, &mut reach) };
+        result_of(status, range_of(&reach))
+    }
+
+    /// What it requires, by whether its symbol is thread-local.
+    pub fn needs(self, addend: i64, is_thread_local: bool) -> Result<Requirements, Status> {
+        let mut required = raw::Requirements::default();
+        let status = unsafe {
+            raw::linker_utils_row_needs(self.handle, addend, is_thread_local, &mut required)
+        };
+        result_of(status, required.into())
+    }
+
+    /// The rewrite that a linker may make of its instruction, as `choose` says.
+    pub fn choose(
+        self,
+        section: &[u8],
+        offset: u64,
+        facts: &LinkFacts,
+    ) -> Result<Choice, Status> {
+        let (at, len) = (section.as_ptr(), section.len());
+        let (facts, mut choice) = (raw::LinkFacts::from(facts), raw::Choice::default());
+        let status = unsafe {
+            raw::linker_utils_row_choose_nonnull(
+                self.handle,
+                at,
+                len,
+                offset,
+                &facts,
+                &mut choice,
+            )
+        };
+        result_of(status, ())?;
+        Ok(choice_of(self.architecture, &choice))
+    }
+
+    /// Whether it can be rewritten if each other one of its sequence can.
+    pub fn fits(self, section: &[u8], offset: u64, facts: &LinkFacts) -> bool {
+        let (at, len, facts) = (section.as_ptr(), section.len(), raw::LinkFacts::from(facts));
+        unsafe { raw::linker_utils_row_fits_nonnull(self.handle, at, len, offset, &facts) }
+    }
+
+    /// What it means and requires.
+    pub fn fields(self) -> Result<RowFields, Status> {
+        let mut row = raw::Row::default();
+        let status = unsafe { raw::linker_utils_row_of(self.handle, &mut row) };
+        result_of(status, ())?;
+        let name = CStr::from_bytes_until_nul(&row.name).expect("a NUL after each name");
+        Ok(RowFields {
+            machine: row.machine,
+            r_type: row.r_type,
+            name: name.to_str().expect("a name of ELF's").to_owned(),
+            kind: RelocationKind::from_number(row.kind).expect("a kind of the library's"),
+            reach: range_of(&row.reach),
+            alignment: row.alignment,
+            window: row.window,
+            needs: row.needs.into(),
+            may_use_plt: row.may_use_plt != 0,
+            is_relative: row.is_relative != 0,
+        })
+    }
+}
+
+/// The values that can be written, or `None` if all can.
+fn range_of(reach: &raw::Reach) -> Option<Range<i64>> {
+    (reach.has_range != 0).then_some(reach.min..reach.max)
 }
 
 /// The value of the relocation at an index of a section's relocations, which are the bytes of

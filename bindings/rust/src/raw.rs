@@ -72,6 +72,39 @@ pub struct Requirements {
     pub depends_on_load: u8,
 }
 
+/// `struct linker_utils_row`.
+#[repr(C)]
+#[derive(Debug, Clone, Copy)]
+pub struct Row {
+    pub alignment: u64,
+    pub reach: Reach,
+    pub needs: Requirements,
+    pub r_type: u32,
+    pub kind: u32,
+    pub machine: u16,
+    pub window: u8,
+    pub may_use_plt: u8,
+    pub is_relative: u8,
+    pub name: [u8; 40],
+}
+
+impl Default for Row {
+    fn default() -> Row {
+        Row {
+            alignment: 0,
+            reach: Reach::default(),
+            needs: Requirements::default(),
+            r_type: 0,
+            kind: 0,
+            machine: 0,
+            window: 0,
+            may_use_plt: 0,
+            is_relative: 0,
+            name: [0; 40],
+        }
+    }
+}
+
 /// `struct linker_utils_decision`.
 #[repr(C)]
 #[derive(Debug, Clone, Copy, Default, PartialEq, Eq)]
@@ -275,6 +308,47 @@ extern "C" {
         dest: *mut u8,
         dest_len: usize,
     ) -> u32;
+    pub fn linker_utils_find(machine: u16, r_type: u32) -> u32;
+    pub fn linker_utils_row_value(
+        handle: u32,
+        operands: *const Operands,
+        value: *mut i64,
+    ) -> u32;
+    pub fn linker_utils_row_write_nonnull(
+        handle: u32,
+        value: i64,
+        dest: *mut u8,
+        dest_len: usize,
+    ) -> u32;
+    pub fn linker_utils_row_apply_nonnull(
+        handle: u32,
+        operands: *const Operands,
+        dest: *mut u8,
+        dest_len: usize,
+    ) -> u32;
+    pub fn linker_utils_row_reach(handle: u32, reach: *mut Reach) -> u32;
+    pub fn linker_utils_row_needs(
+        handle: u32,
+        addend: i64,
+        is_thread_local: bool,
+        required: *mut Requirements,
+    ) -> u32;
+    pub fn linker_utils_row_choose_nonnull(
+        handle: u32,
+        section: *const u8,
+        section_len: usize,
+        offset: u64,
+        facts: *const LinkFacts,
+        choice: *mut Choice,
+    ) -> u32;
+    pub fn linker_utils_row_fits_nonnull(
+        handle: u32,
+        section: *const u8,
+        section_len: usize,
+        offset: u64,
+        facts: *const LinkFacts,
+    ) -> bool;
+    pub fn linker_utils_row_of(handle: u32, row: *mut Row) -> u32;
     pub fn linker_utils_relocate_all_nonnull(
         machine: u16,
         section: *mut u8,

@@ -93,7 +93,7 @@ fn type_of_c(text: &str) -> String {
         None => (words, "*mut "),
     };
     let name = match name {
-        "uint8_t" => "u8",
+        "uint8_t" | "char" => "u8",
         "uint16_t" => "u16",
         "uint32_t" => "u32",
         "uint64_t" => "u64",
@@ -119,6 +119,7 @@ fn type_of_c(text: &str) -> String {
         "struct linker_utils_symbol" => "Symbol",
         "struct linker_utils_addresses" => "Addresses",
         "struct linker_utils_requirements" => "Requirements",
+        "struct linker_utils_row" => "Row",
         "struct linker_utils_symbol_facts" => "SymbolFacts",
         "struct linker_utils_output_facts" => "OutputFacts",
         "struct linker_utils_kept_groups" => "KeptGroups",
@@ -258,6 +259,7 @@ fn element(kind: &str) -> String {
         "RecognisedNumbers" => "Recognised".to_string(),
         "DestinationNumbers" => "Destination".to_string(),
         "RequirementNumbers" => "Requirements".to_string(),
+        "RowNumbers" => "Row".to_string(),
         "DecisionNumbers" => "Decision".to_string(),
         "DynamicCodes" => "DynamicTypes".to_string(),
         "WordCodes" => "WordTypes".to_string(),
@@ -847,6 +849,9 @@ fn the_structs_are_those_of_the_library() {
         "linker_utils_requirements": raw::Requirements {
             entry_addend, entry_class, is_branch, may_use_stub, stub_only_if_undefined, is_word,
             depends_on_load,
+        }
+        "linker_utils_row": raw::Row {
+            alignment, reach, needs, r_type, kind, machine, window, may_use_plt, is_relative, name,
         }
         "linker_utils_symbol": Symbol {
             address, size, stub, address_entry, thread_entry, module_entry, descriptor,

@@ -24,7 +24,8 @@ fn linked(
     target: u64,
 ) -> Vec<u8> {
     let mut section = bytes_of(before);
-    let relocation = |&(offset, r_type): &(u64, u32)| {
+    let mut applied = section.clone();
+    let mut relocation = |&(offset, r_type): &(u64, u32)| {
         // a RISC-V low part has the place of its high part
         let at = if r_type == 24 { 0 } else { offset };
         let operands = Operands {
@@ -34,17 +35,21 @@ fn linked(
             ..Operands::default()
         };
         let value = value(architecture, r_type, &operands).expect("it has a value");
+        let row = find(architecture, r_type).expect("it has a row");
+        assert_eq!(row.value(&operands), Ok(value));
+        assert_eq!(row.apply(&operands, &mut applied[offset as usize..]), Ok(()));
         Relocation {
             offset,
             value,
             r_type,
         }
     };
-    let relocations: Vec<_> = types.iter().map(relocation).collect();
+    let relocations: Vec<_> = types.iter().map(&mut relocation).collect();
     assert_eq!(
         relocate_all(architecture, &mut section, &relocations),
         Ok(())
     );
+    assert_eq!(applied, section);
     section
 }
 
@@ -215,4 +220,66 @@ fn a_section_is_relocated_up_to_what_is_rejected() {
         failed(Status::TooShort, 0)
     );
     assert_eq!(relocate_all(RISCV, &mut section, &[]), Ok(()));
+}
+
+#[test]
+fn rows_are_those_of_types() {
+    // the numbers of R_AARCH64_CALL26 in ELF for the Arm 64-bit Architecture
+    let call26 = find(AARCH64, 283).expect("it has a row");
+    let fields = call26.fields().expect("they are known");
+    assert_eq!((fields.machine, fields.r_type), (183, 283));
+    assert_eq!(fields.name, "R_AARCH64_CALL26");
+    assert_eq!(fields.kind, RelocationKind::PltRelative);
+    assert_eq!(fields.reach, Some(-0x8000000..0x8000000));
+    assert_eq!((fields.alignment, fields.window), (4, 4));
+    assert!(fields.needs.is_branch && fields.needs.may_use_stub && fields.may_use_plt);
+    assert!(fields.is_relative && !fields.needs.is_word && fields.needs.entry.is_none());
+    assert_eq!(call26.reach(), Ok(fields.reach));
+
+    // the GOT has an entry of S + A on AArch64, and of S on x86-64
+    for (architecture, r_type, addend) in [(AARCH64, 311, 1), (X86_64, 9, 0)] {
+        let load = find(architecture, r_type).expect("it has a row");
+        let class = EntryClass::Address;
+        let entry = Some(Entry { class, addend });
+        assert_eq!(load.fields().expect("they are known").needs.entry, entry);
+        assert_eq!(load.needs(1, false).expect("it has needs").entry, entry);
+    }
+
+    for (architecture, r_type) in [(AARCH64, 5000), (X86_64, 5), (RISCV, 0x10002)] {
+        assert_eq!(find(architecture, r_type), None);
+    }
+}
+
+#[test]
+fn a_number_that_is_no_handle_is_an_error() {
+    let mut value = 7;
+    // R_RISCV_COPY, after the last architecture, and above all types
+    for handle in [0, 1, 0x10004, 0x60000, u32::MAX] {
+        let status = unsafe { raw::linker_utils_row_value(handle, &Operands::default(), &mut value) };
+        assert_eq!(Status::from_number(status), Some(Status::UnknownRelocation));
+        let mut reach = raw::Reach::default();
+        let status = unsafe { raw::linker_utils_row_reach(handle, &mut reach) };
+        assert_eq!(Status::from_number(status), Some(Status::UnknownRelocation));
+    }
+    assert_eq!(value, 7);
+}
+
+#[test]
+fn rows_choose_as_types_do() {
+    // call *x@GOTPCREL(%rip), with R_X86_64_GOTPCRELX, becomes call x
+    let call = [0xff, 0x15, 0, 0, 0, 0];
+    let facts = LinkFacts {
+        is_local: true,
+        has_fixed_distance: true,
+        operands: Operands {
+            addend: -4,
+            ..Operands::default()
+        },
+        ..LinkFacts::default()
+    };
+    let row = find(X86_64, 41).expect("it has a row");
+    let chosen = row.choose(&call, 2, &facts).expect("it has a choice");
+    assert_eq!(chosen.relocation, 2);
+    assert_eq!(Ok(chosen), choose(X86_64, 41, &call, 2, &facts));
+    assert!(row.fits(&call, 2, &facts));
 }

@@ -2,6 +2,7 @@ pub mod AArch64
 pub mod AArch64Relocations
 pub mod Agrees
 pub mod Applied
+pub mod AppliedRows
 pub mod Bounds
 pub mod Choices
 pub mod Elf

@@ -34,7 +34,7 @@ use linker_base::bit_misc::BitRange;
 use linker_base::relaxation::RelocationModifier;
 pub use linker_base::rewrite::RewriteWindow;
 pub use numbers::RelocationNumbers;
-pub use relocate::RelocateError;
+pub use relocate::{ApplyError, RelocateError};
 pub use rows::Row;
 use std::marker::Model;
 pub use value::{FormulaError, Operands};

@@ -51,23 +51,23 @@ pub x86_64_is_named : (name : X86_64Relocation) → ((code : ℕ) → name ≡ x
 x86_64_is_named (x86_64_names.Other code) isnt = absurd (isnt code refl)
 x86_64_is_named _ isnt = tt
 
--- No name has more than 64 bytes.
-pub aarch64_is_short : (name : AArch64Relocation) → length (text_of (aarch64_name name)) ≤ 64
+-- No name has more than 39 bytes.
+pub aarch64_is_short : (name : AArch64Relocation) → length (text_of (aarch64_name name)) ≤ 39
 aarch64_is_short (aarch64_names.Other code) = lit≤ tt
 aarch64_is_short _ = lit≤ tt
 
-pub riscv64_is_short : (name : RiscVRelocation) → length (text_of (riscv_name name)) ≤ 64
+pub riscv64_is_short : (name : RiscVRelocation) → length (text_of (riscv_name name)) ≤ 39
 riscv64_is_short (riscv64_names.Other code) = lit≤ tt
 riscv64_is_short _ = lit≤ tt
 
-pub loongarch64_is_short : (name : LoongArch64Relocation) → length (text_of (loongarch_name name)) ≤ 64
+pub loongarch64_is_short : (name : LoongArch64Relocation) → length (text_of (loongarch_name name)) ≤ 39
 loongarch64_is_short (loongarch64_names.Other code) = lit≤ tt
 loongarch64_is_short _ = lit≤ tt
 
-pub ppc64_is_short : (name : Ppc64Relocation) → length (text_of (ppc64_name name)) ≤ 64
+pub ppc64_is_short : (name : Ppc64Relocation) → length (text_of (ppc64_name name)) ≤ 39
 ppc64_is_short (ppc64_names.Other code) = lit≤ tt
 ppc64_is_short _ = lit≤ tt
 
-pub x86_64_is_short : (name : X86_64Relocation) → length (text_of (x86_64_name name)) ≤ 64
+pub x86_64_is_short : (name : X86_64Relocation) → length (text_of (x86_64_name name)) ≤ 39
 x86_64_is_short (x86_64_names.Other code) = lit≤ tt
 x86_64_is_short _ = lit≤ tt

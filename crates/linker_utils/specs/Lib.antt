@@ -1,4 +1,5 @@
 pub mod Architectures
+pub mod Handles
 pub mod Inner
 pub mod Machines
 pub mod Uleb128
@@ -23,6 +24,7 @@ pub use Rattle.linker_elf.specs.AArch64
 pub use Rattle.linker_elf.specs.AArch64Relocations
 pub use Rattle.linker_elf.specs.Agrees
 pub use Rattle.linker_elf.specs.Applied
+pub use Rattle.linker_elf.specs.AppliedRows
 pub use Rattle.linker_elf.specs.Bounds
 pub use Rattle.linker_elf.specs.Choices
 pub use Rattle.linker_elf.specs.Elf

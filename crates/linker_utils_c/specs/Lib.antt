@@ -17,6 +17,7 @@ pub mod Relocations
 pub mod Rewrites
 pub mod Rewriting
 pub mod Routes
+pub mod Rows
 pub mod SectionItems
 pub mod Sections
 pub mod Shrinking

@@ -2,7 +2,7 @@
 use Rattle.std.specs.Prelude.{◌≡◌, ◌≤◌, ◌<◌, ◌+◌, ◌-◌, ◌*◌, ◌^◌, ◌⊎◌, ℕ, List, length}
 use Rattle.std.specs.Prelude.{slice_index_or}
 use Rattle.std.specs.Prelude.{Option, Some, None, ⊤}
-use Rattle.linker_output.specs.Placement.{at, stub_at, IsPlaced, IsPlaceCause}
+use Rattle.linker_output.specs.Placement.{at, stub_at, IsPlaced, IsPlaceCause, SharesStubs}
 use Rattle.linker_output.specs.declared.placement.Branch.{Branch}
 use Rattle.linker_output.specs.declared.placement.Code.{Code}
 use Rattle.linker_output.specs.declared.placement.Layout.{Layout}
@@ -98,7 +98,7 @@ NamesStub error = ⊤
 abbrev pub IsPlacing : Code → Arrays → Arrays → ℕ → ℕ → ℕ → Type 0
 IsPlacing code_of old new old_faulty faulty status =
     ((placement : Placement) × (status ≡ code Success) × IsPlaced code_of placement
-    × ArePut placement old new × (faulty ≡ old_faulty))
+    × SharesStubs code_of placement × ArePut placement old new × (faulty ≡ old_faulty))
     ⊎ ((error : PlaceError) × (status ≡ code (place_status error)) × IsPlaceCause code_of error
     × (new ≡ old) × (faulty ≡ faulty_by error old_faulty))
 

@@ -141,7 +141,7 @@ macro_rules! chosen_in_numbers {
 /// The choice for a relocation, as `Architecture::choose`, in numbers. In an architecture's arm the
 /// compiler drops what is of other architectures' rewrites.
 #[inline(always)]
-fn choose_in_numbers(
+pub(crate) fn choose_in_numbers(
     architecture: Architecture,
     code: u32,
     section: &[u8],

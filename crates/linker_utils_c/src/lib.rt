@@ -23,6 +23,7 @@ mod relocations;
 mod rewrites;
 mod rewriting;
 mod routes;
+mod rows;
 mod section_items;
 mod sections;
 mod sequences;

@@ -23,6 +23,7 @@ use crate::relocate::Reach;
 use crate::relocate::Relocation;
 use crate::rewriting::DecisionNumbers;
 use crate::routes::RouteNumbers;
+use crate::rows::RowNumbers;
 use crate::section_items::Rela;
 use crate::sections::RequirementNumbers;
 use linker_utils::elf::Operands;
@@ -2178,6 +2179,153 @@ unsafe extern "C" fn linker_utils_route_by_word_nonnull(
             index,
             from_raw_parts(section, section_len),
             &mut *route,
+        )
+    }
+}
+
+#[unsafe(no_mangle)]
+extern "C" fn linker_utils_find(
+    machine: u16,
+    r_type: u32,
+) -> u32 {
+    crate::rows::linker_utils_find(
+        machine,
+        r_type,
+    )
+}
+
+#[unsafe(no_mangle)]
+unsafe extern "C" fn linker_utils_row_value(
+    handle: u32,
+    operands: *const Operands,
+    value: *mut i64,
+) -> u32 {
+    // SAFETY: the arguments are as the head of the header says.
+    unsafe {
+        crate::rows::linker_utils_row_value(
+            handle,
+            &*operands,
+            &mut *value,
+        )
+    }
+}
+
+#[unsafe(no_mangle)]
+unsafe extern "C" fn linker_utils_row_write_nonnull(
+    handle: u32,
+    value: i64,
+    dest: *mut u8,
+    dest_len: usize,
+) -> u32 {
+    // SAFETY: the arguments are as the head of the header says.
+    unsafe {
+        crate::rows::linker_utils_row_write_nonnull(
+            handle,
+            value,
+            from_raw_parts_mut(dest, dest_len),
+        )
+    }
+}
+
+#[unsafe(no_mangle)]
+unsafe extern "C" fn linker_utils_row_apply_nonnull(
+    handle: u32,
+    operands: *const Operands,
+    dest: *mut u8,
+    dest_len: usize,
+) -> u32 {
+    // SAFETY: the arguments are as the head of the header says.
+    unsafe {
+        crate::rows::linker_utils_row_apply_nonnull(
+            handle,
+            &*operands,
+            from_raw_parts_mut(dest, dest_len),
+        )
+    }
+}
+
+#[unsafe(no_mangle)]
+unsafe extern "C" fn linker_utils_row_reach(
+    handle: u32,
+    reach: *mut Reach,
+) -> u32 {
+    // SAFETY: the arguments are as the head of the header says.
+    unsafe {
+        crate::rows::linker_utils_row_reach(
+            handle,
+            &mut *reach,
+        )
+    }
+}
+
+#[unsafe(no_mangle)]
+unsafe extern "C" fn linker_utils_row_needs(
+    handle: u32,
+    addend: i64,
+    is_thread_local: bool,
+    required: *mut RequirementNumbers,
+) -> u32 {
+    // SAFETY: the arguments are as the head of the header says.
+    unsafe {
+        crate::rows::linker_utils_row_needs(
+            handle,
+            addend,
+            is_thread_local,
+            &mut *required,
+        )
+    }
+}
+
+#[unsafe(no_mangle)]
+unsafe extern "C" fn linker_utils_row_choose_nonnull(
+    handle: u32,
+    section: *const u8,
+    section_len: usize,
+    offset: u64,
+    facts: *const LinkFactNumbers,
+    choice: *mut ChoiceNumbers,
+) -> u32 {
+    // SAFETY: the arguments are as the head of the header says.
+    unsafe {
+        crate::rows::linker_utils_row_choose_nonnull(
+            handle,
+            from_raw_parts(section, section_len),
+            offset,
+            &*facts,
+            &mut *choice,
+        )
+    }
+}
+
+#[unsafe(no_mangle)]
+unsafe extern "C" fn linker_utils_row_fits_nonnull(
+    handle: u32,
+    section: *const u8,
+    section_len: usize,
+    offset: u64,
+    facts: *const LinkFactNumbers,
+) -> bool {
+    // SAFETY: the arguments are as the head of the header says.
+    unsafe {
+        crate::rows::linker_utils_row_fits_nonnull(
+            handle,
+            from_raw_parts(section, section_len),
+            offset,
+            &*facts,
+        )
+    }
+}
+
+#[unsafe(no_mangle)]
+unsafe extern "C" fn linker_utils_row_of(
+    handle: u32,
+    row: *mut RowNumbers,
+) -> u32 {
+    // SAFETY: the arguments are as the head of the header says.
+    unsafe {
+        crate::rows::linker_utils_row_of(
+            handle,
+            &mut *row,
         )
     }
 }

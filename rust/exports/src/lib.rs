@@ -42,6 +42,7 @@ pub mod relocations;
 pub mod rewrites;
 pub mod rewriting;
 pub mod routes;
+pub mod rows;
 pub mod section_items;
 pub mod sections;
 pub mod sequences;

@@ -4,16 +4,31 @@
 
 use crate::status::Status;
 use linker_utils::elf::{
-    Architecture, FormulaError, Operands, RelocateError, Uleb128PairError, Uleb128Role,
+    Architecture, FormulaError, Operands, RelocateError, Row, Uleb128PairError, Uleb128Role,
 };
 use linker_utils::utils::{self, Uleb128Error};
 
 #[inline(always)]
-fn value_status(error: FormulaError) -> Status {
+pub(crate) fn value_status(error: FormulaError) -> Status {
     match error {
         FormulaError::NoEntry => Status::NoEntry,
         FormulaError::NoTlsBase => Status::NoTlsBase,
         FormulaError::NoValue => Status::NoValue,
+    }
+}
+
+/// The value by a relocation's row, if it has one.
+#[inline(always)]
+pub(crate) fn value_by(row: Option<Row>, operands: &Operands, value: &mut i64) -> u32 {
+    match row {
+        Some(row) => match row.value(operands) {
+            Ok(number) => {
+                *value = number;
+                Status::Success.number()
+            }
+            Err(error) => value_status(error).number(),
+        },
+        None => Status::UnknownRelocation.number(),
     }
 }
 
@@ -28,16 +43,7 @@ pub fn linker_utils_value(
     let Some(architecture) = Architecture::from_machine(machine) else {
         return Status::UnknownArchitecture.number();
     };
-    match architecture.row(r_type) {
-        Some(meaning) => match meaning.value(operands) {
-            Ok(number) => {
-                *value = number;
-                Status::Success.number()
-            }
-            Err(error) => value_status(error).number(),
-        },
-        None => Status::UnknownRelocation.number(),
-    }
+    value_by(architecture.row(r_type), operands, value)
 }
 
 /// The values of a relocation that can be written.
@@ -52,30 +58,42 @@ pub struct Reach {
     pub has_range: u8,
 }
 
+/// A row's reach.
+#[inline(always)]
+pub(crate) fn reach_in(row: &Row) -> Reach {
+    match row.reach().bounds {
+        Some((min, max)) => Reach {
+            min,
+            max,
+            has_range: 1,
+        },
+        None => Reach {
+            min: 0,
+            max: 0,
+            has_range: 0,
+        },
+    }
+}
+
+/// The reach of a relocation's row, if it has one.
+#[inline(always)]
+pub(crate) fn reach_by(row: Option<Row>, reach: &mut Reach) -> u32 {
+    match row {
+        Some(row) => {
+            *reach = reach_in(&row);
+            Status::Success.number()
+        }
+        None => Status::UnknownRelocation.number(),
+    }
+}
+
 /// The values of a relocation that can be written. The first that applies of `UnknownArchitecture`;
 /// `UnknownRelocation`.
 pub fn linker_utils_reach(machine: u16, r_type: u32, reach: &mut Reach) -> u32 {
     let Some(architecture) = Architecture::from_machine(machine) else {
         return Status::UnknownArchitecture.number();
     };
-    match architecture.row(r_type) {
-        Some(meaning) => {
-            *reach = match meaning.reach().bounds {
-                Some((min, max)) => Reach {
-                    min,
-                    max,
-                    has_range: 1,
-                },
-                None => Reach {
-                    min: 0,
-                    max: 0,
-                    has_range: 0,
-                },
-            };
-            Status::Success.number()
-        }
-        None => Status::UnknownRelocation.number(),
-    }
+    reach_by(architecture.row(r_type), reach)
 }
 
 #[inline(always)]
@@ -89,12 +107,18 @@ pub(crate) fn status_of(outcome: Result<(), RelocateError>) -> u32 {
     }
 }
 
+/// Writes a value by a relocation's row, if it has one.
 #[inline(always)]
-fn relocate(architecture: Architecture, r_type: u32, value: i64, dest: &mut [u8]) -> u32 {
-    match architecture.row(r_type) {
+pub(crate) fn write_by(row: Option<Row>, value: i64, dest: &mut [u8]) -> u32 {
+    match row {
         Some(row) => status_of(row.write(value, dest)),
         None => Status::UnknownRelocation.number(),
     }
+}
+
+#[inline(always)]
+fn relocate(architecture: Architecture, r_type: u32, value: i64, dest: &mut [u8]) -> u32 {
+    write_by(architecture.row(r_type), value, dest)
 }
 
 /// Writes the value of a relocation to the bytes that `dest` begins with. The first that applies of

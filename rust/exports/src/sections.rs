@@ -47,7 +47,7 @@ fn class_number(class: EntryClass) -> u32 {
 
 /// What is required, in numbers.
 #[inline(always)]
-fn in_numbers(needs: &Requirements) -> RequirementNumbers {
+pub(crate) fn in_numbers(needs: &Requirements) -> RequirementNumbers {
     let (entry_class, entry_addend) = match needs.entry {
         Some(entry) => (class_number(entry.class), entry.addend),
         None => (0, 0),
@@ -60,6 +60,18 @@ fn in_numbers(needs: &Requirements) -> RequirementNumbers {
         stub_only_if_undefined: needs.stub_only_if_undefined.into(),
         is_word: needs.is_word.into(),
         depends_on_load: needs.depends_on_load.into(),
+    }
+}
+
+/// What a relocation requires, if it has a row, in numbers.
+#[inline(always)]
+pub(crate) fn needs_by(needs: Option<Requirements>, required: &mut RequirementNumbers) -> u32 {
+    match needs {
+        Some(needs) => {
+            *required = in_numbers(&needs);
+            Status::Success.number()
+        }
+        None => Status::UnknownRelocation.number(),
     }
 }
 
@@ -76,13 +88,10 @@ pub fn linker_utils_needs(
     let Some(architecture) = Architecture::from_machine(machine) else {
         return Status::UnknownArchitecture.number();
     };
-    match needs(architecture, r_type, addend, is_thread_local) {
-        Some(needs) => {
-            *required = in_numbers(&needs);
-            Status::Success.number()
-        }
-        None => Status::UnknownRelocation.number(),
-    }
+    needs_by(
+        needs(architecture, r_type, addend, is_thread_local),
+        required,
+    )
 }
 
 /// Why a relocation has no value.

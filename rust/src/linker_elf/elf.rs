@@ -23,7 +23,7 @@ use crate::linker_base::bit_misc::BitRange;
 use crate::linker_base::relaxation::RelocationModifier;
 pub use crate::linker_base::rewrite::RewriteWindow;
 pub use numbers::RelocationNumbers;
-pub use relocate::RelocateError;
+pub use relocate::{ApplyError, RelocateError};
 pub use rows::Row;
 pub use value::{FormulaError, Operands};
 

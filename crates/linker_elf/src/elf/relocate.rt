@@ -23,8 +23,8 @@ ghost use Rattle.linker_elf.specs.Inner.RowTables.{is_over};
 use crate::aarch64::is_movk;
 use crate::elf::engine::Window;
 use crate::elf::{
-    AArch64Instruction, InstructionForm, LoongArch64Instruction, Operands, RelocationInstruction,
-    RelocationKind, RelocationKindInfo, RelocationSize, RiscVInstruction,
+    AArch64Instruction, FormulaError, InstructionForm, LoongArch64Instruction, Operands,
+    RelocationInstruction, RelocationKind, RelocationKindInfo, RelocationSize, RiscVInstruction,
 };
 use crate::loongarch64::is_jirl;
 use crate::ppc64::DQ_UNIT;
@@ -48,6 +48,15 @@ pub enum RelocateError {
     /// The value is outside `reach`, or its high part in a `c.lui` is 0. Or the row is none that
     /// the library returns, and its bits don't fit its instruction.
     OutOfReach,
+}
+
+/// Why a relocation isn't applied.
+#[derive(Debug, Clone, Copy, PartialEq, Eq)]
+pub enum ApplyError {
+    /// It has no value.
+    Formula(FormulaError),
+    /// Its value isn't written.
+    Write(RelocateError),
 }
 
 /// The number of the first `len` bytes.

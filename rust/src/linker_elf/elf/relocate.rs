@@ -5,8 +5,8 @@
 use crate::linker_elf::aarch64::is_movk;
 use crate::linker_elf::elf::engine::Window;
 use crate::linker_elf::elf::{
-    AArch64Instruction, InstructionForm, LoongArch64Instruction, Operands, RelocationInstruction,
-    RelocationKind, RelocationKindInfo, RelocationSize, RiscVInstruction,
+    AArch64Instruction, FormulaError, InstructionForm, LoongArch64Instruction, Operands,
+    RelocationInstruction, RelocationKind, RelocationKindInfo, RelocationSize, RiscVInstruction,
 };
 use crate::linker_elf::loongarch64::is_jirl;
 use crate::linker_elf::ppc64::DQ_UNIT;
@@ -31,6 +31,15 @@ pub enum RelocateError {
     /// The value is outside `reach`, or its high part in a `c.lui` is 0. Or the row is none that
     /// the library returns, and its bits don't fit its instruction.
     OutOfReach,
+}
+
+/// Why a relocation isn't applied.
+#[derive(Debug, Clone, Copy, PartialEq, Eq, Hash)]
+pub enum ApplyError {
+    /// It has no value.
+    Formula(FormulaError),
+    /// Its value isn't written.
+    Write(RelocateError),
 }
 
 /// The number of the first `len` bytes.

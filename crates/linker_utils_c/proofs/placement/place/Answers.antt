@@ -7,6 +7,7 @@ returns-in-Ok c = inl (
   c.in-Ok.placement,
   c.number.ensures,
   c.in-Ok.ensures.ok,
+  c.in-Ok.ensures.shared,
   record {
     stubs = c.put_stubs.ensures;
     stubs_used = (let e = c.len.ensures in omega (arith, e));

@@ -1,23 +1,14 @@
-use Rattle.std.proofs.Common.{subst, Some}
+use Rattle.std.proofs.Common.{subst}
 use Rattle.std.specs.Int.{w64}
 use Rattle.std.proofs.lemmas.Int.{to_z-of_z}
-use Rattle.linker_utils.specs.Architectures.{IsRow}
-use Rattle.linker_utils_c.specs.Relocate.{IsOutcome}
-use Rattle.linker_utils_c.proofs.Relocating.{outcome_of}
+use Rattle.linker_utils_c.specs.Relocate.{IsRelocatedAs}
 use Rattle.linker_utils_c.proofs.relocate.relocate.Goals as goal
 
-pub returns-in-Some : goal.returns-in-Some
-returns-in-Some c =
-    let row = c.in-Some.row in
-    let before = c.args.dest.now in
-    let after = c.write.new.dest in
+pub returns : goal.returns
+returns c =
     record {
-      meaning = Some row;
-      means = subst (IsRow c.args.architecture c.args.r_type) c.in-Some.is c.row.ensures;
-      relocated = record {
-        outcome = c.write.result;
-        says = c.status_of.ensures;
-        holds = subst (λ v. IsOutcome c.write.result row v before after) (to_z-of_z w64 c.args.value c.ranges.value)
-            (outcome_of c.write.result row _ before after c.write.ensures.ok c.write.ensures.err);
-      };
+      meaning = c.row.result;
+      means = c.row.ensures;
+      relocated = subst (λ v. IsRelocatedAs c.row.result v c.args.dest.now c.write_by.new.dest c.write_by.result)
+          (to_z-of_z w64 c.args.value c.ranges.value) c.write_by.ensures;
     }

@@ -1,0 +1,18 @@
+use Rattle.std.proofs.Common.{subst}
+use Rattle.std.specs.Int.{w64}
+use Rattle.std.proofs.lemmas.Int.{to_z-of_z}
+use Rattle.linker_utils_c.specs.Relocate.{IsOutcome}
+use Rattle.linker_utils_c.proofs.Relocating.{outcome_of}
+use Rattle.linker_utils_c.proofs.relocate.write_by.Goals as goal
+
+pub returns-in-Some : goal.returns-in-Some
+returns-in-Some c =
+    let row = c.in-Some.row in
+    let before = c.args.dest.now in
+    let after = c.write.new.dest in
+    rw c.in-Some.is (record {
+      outcome = c.write.result;
+      says = c.status_of.ensures;
+      holds = subst (λ v. IsOutcome c.write.result row v before after) (to_z-of_z w64 c.args.value c.ranges.value)
+          (outcome_of c.write.result row _ before after c.write.ensures.ok c.write.ensures.err);
+    })
