@@ -65,18 +65,7 @@ fn write_quickly(
     if write_held_at(row, value, offset, section).is_err() {
         return None;
     }
-    let high = high_behind(
-        architecture,
-        addresses,
-        relocations,
-        symbols,
-        number,
-        row,
-        index,
-        offset,
-        value,
-        high,
-    );
+    let high = high_behind(architecture, number, offset, value, high);
     Some((offset + row.window() as u64, high))
 }
 

@@ -2,7 +2,8 @@ use Rattle.std.specs.Int.{from_le_bytes}
 use Rattle.std.specs.Prelude.{IfSome, slice_index, not, ◌||◌}
 use Rattle.std.proofs.lemmas.Bool.{cases_Bool}
 use Rattle.linker_section.proofs.CodeNumbers.{says_way}
-use Rattle.linker_section.specs.Inner.Codes.{shows_lengths}
+use Rattle.linker_section.proofs.QuickValues.{high_is}
+use Rattle.linker_section.specs.Inner.Codes.{shows_lengths, SaysWay}
 use Rattle.std.proofs.lemmas.List.{get_or-drop}
 use Rattle.std.proofs.Common.{◌≡◌, ℕ, ◌+◌, drop, ◌<◌, ◌^◌, ◌∙◌, refl, sym, ap, subst, arith, rules, length, FitsSigned, to_z, of_z, inl, inr}
 use Rattle.std.specs.Int.{w64}
@@ -10,7 +11,7 @@ use Rattle.std.proofs.lemmas.Int.{to_z-of_z}
 use Rattle.linker_section.proofs.Lengths.{unthreaded_holds, word_shows}
 use Rattle.linker_section.proofs.Local.{one_local}
 use Rattle.linker_section.proofs.Reaching.{is_written, not_written}
-use Rattle.linker_section.specs.Inner.Quick.{AreOf, IsQuickValue, shows}
+use Rattle.linker_section.specs.Inner.Quick.{AreOf, IsHighValue, IsQuickValue, shows}
 use Rattle.linker_section.specs.Inner.Saved.{IsSavedAt}
 use Rattle.linker_section.specs.Sections.{IsWrittenAt}
 use Rattle.linker_section.specs.Values.{offset_at}
@@ -83,3 +84,24 @@ returns-clause-some c =
       behind = omega (arith, front, offset);
       end_is = omega (arith, offset, window);
     }
+
+pub returns-clause-high : goal.returns-clause-high
+returns-clause-high c =
+    let a = c.args in
+    let bytes = a.relocations.now in
+    let row = c.in-Some.row in
+    let v = c.in-Some-quick_value.value in
+    let same = c.requires.is in
+    let fits : FitsSigned w64 v = search rules in
+    let Is = IsHighValue a.architecture a.addresses.now bytes a.symbols.now in
+    let known = subst (λ x. IfSome x (AreOf a.architecture a.known.now)) c.in-Some.is c.requires.known in
+    let way = says_way a.architecture a.known.now.code a.known.now.number row known.is_number known.is_row in
+    elim c.high_behind-high.ensures [
+      | inl kept ↦ subst (λ x. IfSome x Is) (sym kept) c.requires.high
+      | inr new ↦
+          subst (λ x. IfSome x Is) (sym (new.1))
+          (subst (λ x. Is (record { offset = a.relocation.now.offset; value = x })) (sym (to_z-of_z w64 v fits))
+          (high_is a.architecture a.addresses.now bytes a.symbols.now a.index row a.known.now.number a.relocation.now.offset v
+          c.requires.within (ap (λ r. r.offset) same) (subst (λ code. SaysWay a.architecture code a.known.now.number row) (c.requires.code ∙ ap (λ r. r.code) same) way) (new.0)
+          (subst (λ r. IsQuickValue a.architecture a.addresses.now bytes a.symbols.now r row v) same c.in-Some-quick_value.ensures)))
+    ]
