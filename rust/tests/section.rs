@@ -1407,6 +1407,48 @@ fn the_first_overlap_is_found_in_any_order() {
     assert!(2_000 < written && 2_000 < rejected, "{written} {rejected}");
 }
 
+/// As GNU as writes them for x86-64: what may be a short jump after all others. The value of each is
+/// its number, so that a field that another wrote would differ.
+#[test]
+fn two_ascending_runs_are_written_unless_fields_overlap() {
+    let mut random = Random(0x9e37_79b9_7f4a_7c15);
+    let symbols = [Symbol::default(), Symbol::default()];
+    let (mut written, mut rejected) = (0, 0);
+    for _ in 0..20_000 {
+        let count = 2 + random.below(30);
+        let mut end = 0;
+        let all: Vec<Rela> = (0..count)
+            .map(|number| {
+                // R_X86_64_64, R_X86_64_32; few begin before the field before them ends
+                let (code, len) = [(1, 8), (10, 4)][random.below(2) as usize];
+                let offset = end - if random.below(15) == 0 { end.min(4) } else { 0 };
+                end = offset + len + random.below(9);
+                rela(offset, code, 1, number as i64)
+            })
+            .collect();
+        let (second, first): (Vec<Rela>, Vec<Rela>) =
+            all.iter().partition(|_| random.below(3) == 0);
+        let runs = [first, second].concat();
+        let [ascending, in_runs] = [all, runs].map(|relas| {
+            let mut section = vec![0; end as usize + 8];
+            let bytes = bytes_of(&relas);
+            relocate_section(X86_64, &ADDRESSES, &bytes, &symbols, &mut section).map(|()| section)
+        });
+        match (ascending, in_runs) {
+            (Ok(section), Ok(other)) => {
+                assert_eq!(section, other);
+                written += 1;
+            }
+            (Err(_), Err(error)) => {
+                assert_eq!(error.error, RelocationError::Overlaps);
+                rejected += 1;
+            }
+            (ascending, in_runs) => panic!("{ascending:?} {in_runs:?}"),
+        }
+    }
+    assert!(2_000 < written && 2_000 < rejected, "{written} {rejected}");
+}
+
 #[test]
 fn a_hundred_thousand_descending_relocations_are_written() {
     let symbols = [Symbol::default(), SYMBOL];

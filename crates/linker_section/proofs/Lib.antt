@@ -13,6 +13,7 @@ pub mod Numbers
 pub mod QuickValues
 pub mod Reaching
 pub mod Rows
+pub mod Runs
 pub mod Saving
 pub mod Sized
 pub mod Sorted

@@ -1,30 +1,40 @@
 -- What is known of a section before and after some of its values are written.
-use Rattle.std.proofs.Common.{◌≡◌, ℕ, ℤ, ◌+◌, ◌-◌, ◌*◌, ◌^◌, ◌/◌, ◌<◌, ◌≤◌, List, length, drop, Option, Some, None, inl, inr, Result, Ok, Err, leb, refl, sym, ap, subst, ◌∙◌, arith, set, eqb, true, false, true≢false}
+use Rattle.std.proofs.Common.{◌≡◌, ℕ, ℤ, ◌+◌, ◌-◌, ◌*◌, ◌^◌, ◌/◌, ◌<◌, ◌≤◌, List, length, drop, Option, None, inl, inr, Result, Ok, Err, leb, refl, sym, ap, subst, ◌∙◌, arith, eqb, true, false, true≢false}
 use Rattle.std.proofs.lemmas.Bool.{cases_eq, cond-false, or_left, or_right, ne_eqb, le-leb}
 use Rattle.std.proofs.lemmas.List.{drop-drop, length-drop}
 use Rattle.linker_elf.specs.Relocate.{window_len}
 use Rattle.linker_elf.specs.declared.elf.RelocationKind.TheVariants as kinds
 use Rattle.linker_elf.specs.declared.elf.RelocationKindInfo.{RelocationKindInfo}
 use Rattle.linker_elf.specs.declared.elf.relocate.RelocateError.{RelocateError}
+use Rattle.std.specs.Prelude.{slice_index}
 use Rattle.std.specs.Result.{is_err}
 use Rattle.linker_section.proofs.All.{all_relocated}
-use Rattle.linker_section.proofs.Stepping.{first_order, one_order, one_restores, apart_now, len_alone, set_above}
+use Rattle.linker_section.proofs.Runs.{fields_small}
+use Rattle.linker_section.proofs.Stepping.{first_order, ascends_one, one_restores, apart_now, len_alone}
 use Rattle.linker_section.proofs.Saving.{restores_by}
 use Rattle.linker_section.specs.Fields.{AreApart}
 use Rattle.linker_section.specs.Inner.Claims.{is_clear_of, next_field}
-use Rattle.linker_section.specs.Inner.Quick.{IsQuickValue}
-use Rattle.linker_section.specs.Inner.Saved.{IsSavedAt, Restores}
-use Rattle.linker_section.specs.declared.quick.HighPart.{HighPart}
+use Rattle.linker_section.specs.Inner.Order.{AreSmall}
 use Rattle.linker_section.specs.declared.sections.Step.{Step}
-use Rattle.linker_section.specs.Inner.Steps.{IsLimit, IsInOrder, Reached, clear_in, field_of_row}
-use Rattle.linker_section.specs.Inner.Steps.{AreWrittenBelow, IsFront, IsOwnField, IsQuickStep}
-use Rattle.linker_section.specs.Relocations.{relocation_in}
+use Rattle.linker_section.specs.Inner.Steps.{Ascends, IsLimit, Reached, clear_in, field_of_row}
+use Rattle.linker_section.specs.Inner.Steps.{AreWrittenBelow, IsFirstRun, IsFront, IsOwnField, IsQuickStep}
 use Rattle.linker_section.specs.Sections.{AreAllRelocated, AreRelocated, IsWritten, IsWrittenAt}
 use Rattle.linker_section.specs.Values.{offset_at}
 use Rattle.linker_section.specs.declared.facts.Addresses.{Addresses}
 use Rattle.linker_section.specs.declared.facts.Symbol.{Symbol}
 use Rattle.linker_section.specs.declared.fields.Field.{Field}
 use Rattle.linker_utils.specs.declared.elf.Architecture.{Architecture}
+
+pub below_first : (architecture : Architecture) (addresses : Addresses) (bytes : List ℕ)
+    (symbols : List Symbol) (before memory : List ℕ)
+    → AreWrittenBelow architecture addresses bytes symbols before before memory 0
+below_first architecture addresses bytes symbols before memory =
+    record {
+      within = omega arith;
+      relocated = AreRelocated.none;
+      restores = refl;
+      same_length = refl;
+    }
 
 pub reached_first : (architecture : Architecture) (addresses : Addresses) (bytes : List ℕ)
     (symbols : List Symbol) (limit : Option ℕ) (before memory : List ℕ)
@@ -33,74 +43,60 @@ pub reached_first : (architecture : Architecture) (addresses : Addresses) (bytes
 reached_first architecture addresses bytes symbols limit before memory is_limit =
     record {
       is_limit = is_limit;
-      within = omega arith;
-      relocated = AreRelocated.none;
-      restores = refl;
+      below = below_first architecture addresses bytes symbols before memory;
       order = first_order limit architecture bytes before;
-      same_length = refl;
     }
+
+pub all_written : (architecture : Architecture) (addresses : Addresses) (bytes : List ℕ)
+    (symbols : List Symbol) (before now memory : List ℕ) (i : ℕ)
+    → AreWrittenBelow architecture addresses bytes symbols before now memory i
+    → AreApart architecture bytes before i → length bytes / 24 ≤ i
+    → AreAllRelocated architecture addresses bytes symbols before now
+all_written architecture addresses bytes symbols before now memory i below apart behind =
+    let within = below.within in
+    let all : i ≡ length bytes / 24 = omega (arith, behind, within) in
+    all_relocated architecture addresses bytes before now symbols
+    (subst (AreApart architecture bytes before) all apart)
+    (subst (λ n. AreRelocated architecture addresses bytes symbols before n now) all below.relocated)
 
 pub reached_all : (architecture : Architecture) (addresses : Addresses) (bytes : List ℕ)
     (symbols : List Symbol) (limit : Option ℕ) (before now memory : List ℕ) (i : ℕ) (last : Field)
     → Reached architecture addresses bytes symbols limit before now memory i last
     → length bytes / 24 ≤ i → AreAllRelocated architecture addresses bytes symbols before now
 reached_all architecture addresses bytes symbols limit before now memory i last reached behind =
-    let within = reached.within in
-    let all : i ≡ length bytes / 24 = omega (arith, behind, within) in
-    all_relocated architecture addresses bytes before now symbols
-    (subst (AreApart architecture bytes before) all
-    (apart_now limit architecture bytes before now i last reached.is_limit reached.order))
-    (subst (λ n. AreRelocated architecture addresses bytes symbols before n now) all reached.relocated)
+    all_written architecture addresses bytes symbols before now memory i reached.below
+    (apart_now limit architecture bytes before now i last reached.is_limit reached.order) behind
 
--- a word of the next relocation is kept
-pub reached_kept : (architecture : Architecture) (addresses : Addresses) (bytes : List ℕ)
-    (symbols : List Symbol) (limit : Option ℕ) (before now memory : List ℕ) (i word : ℕ)
-    (last : Field) → Reached architecture addresses bytes symbols limit before now memory i last
-    → Reached architecture addresses bytes symbols limit before now (set memory i word) i last
-reached_kept architecture addresses bytes symbols limit before now memory i word last reached =
-    record {
-      is_limit = reached.is_limit;
-      within = reached.within;
-      relocated = reached.relocated;
-      restores = restores_by architecture bytes memory (set memory i word) i now before
-          (set_above memory i i word (omega arith)) reached.restores;
-      order = reached.order;
-      same_length = reached.same_length;
-    }
+-- the section stays, and what is kept of earlier relocations
+pub below_kept : (architecture : Architecture) (addresses : Addresses) (bytes : List ℕ)
+    (symbols : List Symbol) (before now after memory other : List ℕ) (i : ℕ) → after ≡ now
+    → ((k : ℕ) → k < i → slice_index other k ≡ slice_index memory k)
+    → AreWrittenBelow architecture addresses bytes symbols before now memory i
+    → AreWrittenBelow architecture addresses bytes symbols before after other i
+below_kept architecture addresses bytes symbols before now after memory other i same kept below =
+    subst (λ section. AreWrittenBelow architecture addresses bytes symbols before section other i) (sym same)
+    (record {
+      within = below.within;
+      relocated = below.relocated;
+      restores = restores_by architecture bytes memory other i now before kept below.restores;
+      same_length = below.same_length;
+    })
 
 -- one value is written that is found by the number of its code
-pub reached_quickly : (architecture : Architecture) (addresses : Addresses) (bytes : List ℕ)
-    (symbols : List Symbol) (before now after memory : List ℕ) (i word : ℕ) (last : Field)
-    (row : RelocationKindInfo) (v : ℤ) → i < length bytes / 24 → i < length memory
-    → IsQuickValue architecture addresses bytes symbols (relocation_in bytes i) row v
-    → last.offset + last.len ≤ offset_at bytes i
-    → IsSavedAt (offset_at bytes i) now word → IsWritten row v (offset_at bytes i) now after
-    → Reached architecture addresses bytes symbols None before now memory i last
-    → Reached architecture addresses bytes symbols None before after (set memory i word) (i + 1)
-    (record { offset = offset_at bytes i; len = window_len row; kind = row.kind })
-reached_quickly architecture addresses bytes symbols before now after memory i word last row v there room value behind saved written reached =
-    let o = offset_at bytes i in
-    let field : Field = record { offset = o; len = window_len row; kind = row.kind } in
-    let some = value.some in
-    let same : field_of_row row o now ≡ field =
-    ap (λ n. record { offset = o; len = n; kind = row.kind }) (len_alone row (drop o now) value.valued value.single) in
-    let next : next_field (field_of_row row o now) last ≡ field =
-    ap (λ f. next_field f last) same
-    ∙ cond-false (eqb (window_len row) 0) last field (ne_eqb (window_len row) 0 (λ e. omega (arith, e, some))) in
-    let far : leb last.len (o - last.offset) ≡ true = le-leb last.len (o - last.offset) (omega (arith, behind)) in
-    let clear : is_clear_of field last ≡ true = or_left (leb last.len (o - last.offset)) _ far in
-    let below : last.offset ≤ o = omega (arith, behind) in
-    let clear_now : clear_in None i (field_of_row row o now) last ≡ true =
-    ap (λ f. clear_in None i f last) same ∙ or_right (eqb (window_len row) 0) (is_clear_of field last) clear in
-    record {
-      is_limit = reached.is_limit;
+pub below_quickly : (architecture : Architecture) (addresses : Addresses) (bytes : List ℕ)
+    (symbols : List Symbol) (before now after memory other : List ℕ) (i end next : ℕ)
+    → i < length bytes / 24 → i < length memory
+    → IsQuickStep architecture addresses bytes symbols i end now after memory other next
+    → AreWrittenBelow architecture addresses bytes symbols before now memory i
+    → AreWrittenBelow architecture addresses bytes symbols before after other (i + 1)
+below_quickly architecture addresses bytes symbols before now after memory other i end next there room step below =
+    subst (λ kept. AreWrittenBelow architecture addresses bytes symbols before after kept (i + 1)) (sym step.kept_is)
+    (record {
       within = omega (arith, there);
-      relocated = AreRelocated.one reached.relocated value.has written;
-      restores = one_restores architecture bytes memory before now after i word row v room value.has.is_row written saved reached.restores;
-      order = subst (IsInOrder None architecture bytes before after (i + 1)) next
-          (one_order None architecture bytes before now after i last row v reached.is_limit reached.order there below reached.same_length value.has.is_row value.valued clear_now written);
-      same_length = written.same_length ∙ reached.same_length;
-    }
+      relocated = AreRelocated.one below.relocated step.value.has step.written;
+      restores = one_restores architecture bytes memory before now after i step.word step.row step.v room step.value.has.is_row step.written step.saved below.restores;
+      same_length = step.written.same_length ∙ below.same_length;
+    })
 
 -- ---- whether a value is written
 
@@ -118,61 +114,102 @@ not_written row v offset before after (Err error) is written = written.1
 
 -- ---- relocations that ascend
 
-pub front_first : (architecture : Architecture) (addresses : Addresses) (bytes : List ℕ)
-    (symbols : List Symbol) (before memory : List ℕ)
-    → IsFront architecture addresses bytes symbols before before memory 0
+pub front_first : (architecture : Architecture) (bytes before : List ℕ)
+    → IsFront architecture bytes before before 0
     (record { index = 0; last = record { offset = 0; len = 0; kind = kinds.None } }) 0
-front_first architecture addresses bytes symbols before memory =
+front_first architecture bytes before =
     record {
       last = record { offset = 0; len = 0; kind = kinds.None };
-      reached = reached_first architecture addresses bytes symbols None before memory tt;
+      order = first_order None architecture bytes before;
       is_last = record { same = λ is. refl; own = λ other k here. absurd (omega (arith, here)) };
       within = omega arith;
     }
 
 -- after a value that is written quickly
 pub front_quickly : (architecture : Architecture) (addresses : Addresses) (bytes : List ℕ)
-    (symbols : List Symbol) (before now memory : List ℕ) (i : ℕ) (last : Field) (step : Step)
-    (next : ℕ × Option HighPart) → step.index ≤ i
-    → IsQuickStep architecture addresses bytes symbols before i last now memory (Some next)
-    → IsFront architecture addresses bytes symbols before now memory (i + 1) step (next.0)
-front_quickly architecture addresses bytes symbols before now memory i last step next behind is =
+    (symbols : List Symbol) (before now after memory other : List ℕ) (i end next : ℕ) (step : Step)
+    → step.index ≤ i → length now ≡ length before
+    → IsQuickStep architecture addresses bytes symbols i end now after memory other next
+    → IsFront architecture bytes before now i step end
+    → IsFront architecture bytes before after (i + 1) step next
+front_quickly architecture addresses bytes symbols before now after memory other i end next step later same_length quick front =
+    let o = offset_at bytes i in
+    let row = quick.row in
+    let last = front.last in
+    let value = quick.value in
+    let field : Field = record { offset = o; len = window_len row; kind = row.kind } in
+    let some = value.some in
+    let behind = quick.behind in
+    let within = front.within in
+    let same : field_of_row row o now ≡ field =
+    ap (λ n. record { offset = o; len = n; kind = row.kind }) (len_alone row (drop o now) value.valued value.single) in
+    let next_is : next_field (field_of_row row o now) last ≡ field =
+    ap (λ f. next_field f last) same
+    ∙ cond-false (eqb (window_len row) 0) last field (ne_eqb (window_len row) 0 (λ e. omega (arith, e, some))) in
+    let far : leb last.len (o - last.offset) ≡ true = le-leb last.len (o - last.offset) (omega (arith, behind, within)) in
+    let clear : is_clear_of field last ≡ true = or_left (leb last.len (o - last.offset)) _ far in
+    let below : last.offset ≤ o = omega (arith, behind, within) in
+    let clear_now : clear_in None i (field_of_row row o now) last ≡ true =
+    ap (λ f. clear_in None i f last) same ∙ or_right (eqb (window_len row) 0) (is_clear_of field last) clear in
+    let end_is = quick.end_is in
     record {
-      last = is.0;
-      reached = is.3;
+      last = field;
+      order = subst (Ascends architecture bytes before after (i + 1)) next_is
+          (ascends_one architecture bytes before now after i last row quick.v front.order below same_length value.has.is_row value.valued clear_now quick.written);
       is_last = record {
-        same = λ same. absurd (omega (arith, same, behind));
-        own = λ other k here. subst (λ x. IsOwnField architecture bytes x (is.0)) (omega (arith, here)) (is.1);
+        same = λ is. absurd (omega (arith, is, later));
+        own = λ differs k here. subst (λ x. IsOwnField architecture bytes x field) (omega (arith, here))
+            (record { row = row; is_row = value.has.is_row; is_field = refl });
       };
-      within = let end = is.2 in omega (arith, end);
-    }
-
--- where none is written quickly
-pub front_kept : (architecture : Architecture) (addresses : Addresses) (bytes : List ℕ)
-    (symbols : List Symbol) (before now after memory other : List ℕ) (i : ℕ) (step : Step) (end : ℕ)
-    (front : IsFront architecture addresses bytes symbols before now memory i step end)
-    → IsQuickStep architecture addresses bytes symbols before i front.last after other None
-    → IsFront architecture addresses bytes symbols before after other i step end
-front_kept architecture addresses bytes symbols before now after memory other i step end front is =
-    record {
-      last = front.last;
-      reached = is;
-      is_last = front.is_last;
-      within = front.within;
+      within = omega (arith, end_is);
     }
 
 -- after a step
-pub front_slowly : (architecture : Architecture) (addresses : Addresses) (bytes : List ℕ)
-    (symbols : List Symbol) (before now memory : List ℕ) (step : Step)
-    → Reached architecture addresses bytes symbols None before now memory step.index step.last
-    → IsFront architecture addresses bytes symbols before now memory step.index step
-    (step.last.offset + step.last.len)
-front_slowly architecture addresses bytes symbols before now memory step reached =
+pub front_slowly : (architecture : Architecture) (bytes before now : List ℕ) (step : Step)
+    → Ascends architecture bytes before now step.index step.last
+    → IsFront architecture bytes before now step.index step (step.last.offset + step.last.len)
+front_slowly architecture bytes before now step order =
     record {
       last = step.last;
-      reached = reached;
+      order = order;
       is_last = record { same = λ is. refl; own = λ other k here. absurd (other refl) };
       within = omega arith;
+    }
+
+-- ---- two runs
+
+-- all are written
+pub runs_written : (architecture : Architecture) (addresses : Addresses) (bytes : List ℕ)
+    (symbols : List Symbol) (before now memory : List ℕ) (i : ℕ)
+    → AreWrittenBelow architecture addresses bytes symbols before now memory i
+    → length bytes / 24 ≤ i
+    → ((section : List ℕ) → AreSmall architecture bytes section
+    → AreApart architecture bytes section (length bytes / 24))
+    → AreAllRelocated architecture addresses bytes symbols before now
+runs_written architecture addresses bytes symbols before now memory i below end apart =
+    let within = below.within in
+    let all : length bytes / 24 ≡ i = omega (arith, within, end) in
+    all_written architecture addresses bytes symbols before now memory i below
+    (subst (AreApart architecture bytes before) all
+    (apart before (λ k row under. fields_small architecture addresses bytes before symbols below.relocated k row (omega (arith, under, all))))) end
+
+pub first_run : (architecture : Architecture) (addresses : Addresses) (bytes : List ℕ)
+    (symbols : List Symbol) (before now memory : List ℕ) (i : ℕ) → i < length bytes / 24
+    → AreWrittenBelow architecture addresses bytes symbols before now memory i
+    → IsFirstRun architecture addresses bytes symbols before now memory i
+first_run architecture addresses bytes symbols before now memory i there below =
+    record { below = below; within = below.within; all = λ is. absurd (omega (arith, is, there)) }
+
+pub only_run : (architecture : Architecture) (addresses : Addresses) (bytes : List ℕ)
+    (symbols : List Symbol) (before now memory : List ℕ) (i : ℕ)
+    → AreWrittenBelow architecture addresses bytes symbols before now memory i
+    → AreApart architecture bytes before i → length bytes / 24 ≤ i
+    → IsFirstRun architecture addresses bytes symbols before now memory i
+only_run architecture addresses bytes symbols before now memory i below apart end =
+    record {
+      below = below;
+      within = below.within;
+      all = λ is. all_written architecture addresses bytes symbols before now memory i below apart end;
     }
 
 pub end_fits : (architecture : Architecture) (addresses : Addresses) (bytes : List ℕ)
@@ -200,26 +237,3 @@ pub rest_behind : (bytes rest : List ℕ) (i : ℕ) → rest ≡ drop (i * 24) b
     → drop 24 rest ≡ drop ((i + 1) * 24) bytes
 rest_behind bytes rest i is =
     ap (drop 24) is ∙ (drop-drop 24 (i * 24) bytes ∙ ap (λ n. drop n bytes) (omega arith))
-
-pub written_below : (architecture : Architecture) (addresses : Addresses) (bytes : List ℕ)
-    (symbols : List Symbol) (before now memory : List ℕ) (i : ℕ) → i < length bytes / 24
-    → Restores architecture bytes memory i now before
-    → AreWrittenBelow architecture addresses bytes symbols before now memory i
-written_below architecture addresses bytes symbols before now memory i there restores =
-    record {
-      within = omega (arith, there);
-      restores = restores;
-      all = λ is. absurd (omega (arith, is, there));
-    }
-
-pub written_all : (architecture : Architecture) (addresses : Addresses) (bytes : List ℕ)
-    (symbols : List Symbol) (before now memory : List ℕ) (i : ℕ) (last : Field)
-    → Reached architecture addresses bytes symbols None before now memory i last
-    → length bytes / 24 ≤ i
-    → AreWrittenBelow architecture addresses bytes symbols before now memory i
-written_all architecture addresses bytes symbols before now memory i last reached behind =
-    record {
-      within = reached.within;
-      restores = reached.restores;
-      all = λ is. reached_all architecture addresses bytes symbols None before now memory i last reached behind;
-    }

@@ -1,20 +1,22 @@
 //! The values of relocations that ascend by offset, written.
 
-ghost use Rattle.std.specs.Prelude.{◌≡◌, ◌≤◌, ◌<◌, ◌+◌, ◌/◌, ℕ, List, length, IfErr, IfSome, None};
-ghost use Rattle.std.specs.Prelude.{IfOk};
+ghost use Rattle.std.specs.Prelude.{◌≡◌, ◌≤◌, ◌<◌, ◌/◌, ℕ, List, length, slice_index, IfErr};
+ghost use Rattle.std.specs.Prelude.{IfOk, IfSome, IfNone};
 ghost use Rattle.linker_section.specs.Inner.Quick.{IsKnown, IsHighValue};
 ghost use Rattle.linker_section.specs.Inner.Steps.{IsFront, IsLastOf, IsQuickStep, IsSlowStep};
-ghost use Rattle.linker_section.specs.Inner.Steps.{IsStopped, Reached, AreWrittenBelow};
+ghost use Rattle.linker_section.specs.Inner.Steps.{IsStopped, AreWrittenBelow, AreWrittenOrKept};
+ghost use Rattle.linker_section.specs.Inner.Steps.{IsFirstRun};
 ghost use Rattle.linker_section.specs.Relocations.{relocation_in};
 ghost use Rattle.linker_section.specs.declared.fields.Field.{Field};
 
 use crate::conditions::begins_with;
 use crate::facts::{Addresses, Symbol};
 use crate::fields::Field;
-use crate::known::{KnownCode, learn, no_codes, place_of};
+use crate::known::{KnownCode, NO_CODES, learn, place_of};
+use crate::order::are_runs_apart;
 use crate::quick::{HighPart, high_behind, quick_value};
 use crate::relocations::{
-    RELA_LEN, Rela, offset_at, relocation_in, relocation_of, relocations_from,
+    RELA_LEN, Rela, offset_at, relocation_in, relocation_of, relocations_from, relocations_len,
 };
 use crate::saved::whole_word_at;
 use crate::sections::{
@@ -23,9 +25,8 @@ use crate::sections::{
 use linker_utils::elf::Architecture;
 
 /// Writes the value of the relocation at an index, if it is found and accepted with few
-/// tests, and keeps the bytes that were there before. Its offset has to be `end` at least,
-/// where the fields before it end. Returns where its own ends, and the last high part; and
-/// else changes no byte of the section.
+/// tests, and keeps the bytes that were there before. Its offset has to be `end` at least.
+/// Returns where its field ends, and the last high part; and else changes no byte of the section.
 #[inline(always)]
 fn write_quickly(
     architecture: Architecture,
@@ -50,11 +51,10 @@ fn write_quickly(
     ensures len { length memory.new ≡ length memory.old }
     ensures high { IfSome result (λ next. IfSome (next.1)
         (IsHighValue architecture addresses.now relocations.now symbols.now)) }
-    ensures step { (before : List ℕ) (last : Field) → last.offset + last.len ≤ end
-        → Reached architecture addresses.now relocations.now symbols.now None before section.old
-        memory.old index last
-        → IsQuickStep architecture addresses.now relocations.now symbols.now before index last
-        section.new memory.new result }
+    ensures kept { (k : ℕ) → k < index → slice_index memory.new k ≡ slice_index memory.old k }
+    ensures none { IfNone result (section.new ≡ section.old) }
+    ensures some { IfSome result (λ next. IsQuickStep architecture addresses.now relocations.now
+        symbols.now index end section.old section.new memory.old memory.new (next.0)) }
 {
     let offset = relocation.offset;
     if offset < end {
@@ -87,18 +87,7 @@ fn write_quickly(
     if write_held_at(row, value, offset, section).is_err() {
         return None;
     }
-    let high = high_behind(
-        architecture,
-        addresses,
-        relocations,
-        symbols,
-        number,
-        row,
-        index,
-        offset,
-        value,
-        high,
-    );
+    let high = high_behind(architecture, number, offset, value, high);
     Some((offset + row.window() as u64, high))
 }
 
@@ -142,8 +131,9 @@ fn write_slowly(
     requires behind { step.now.index ≤ index }
     ensures len { length memory.new ≡ length memory.old }
     ensures step { (before : List ℕ) (end : ℕ)
-        → IsFront architecture addresses.now relocations.now symbols.now before section.old
-        memory.old index step.now end
+        → AreWrittenBelow architecture addresses.now relocations.now symbols.now before section.old
+        memory.old index
+        → IsFront architecture relocations.now before section.old index step.now end
         → IsSlowStep architecture addresses.now relocations.now symbols.now before index
         section.new memory.new result }
 {
@@ -180,12 +170,12 @@ fn write_ascending(
 ) -> Result<usize, Stopped>
     requires memory { length relocations.now / 24 ≤ length memory.old }
     ensures len { length memory.new ≡ length memory.old }
-    ensures ok { IfOk result (AreWrittenBelow architecture addresses.now relocations.now
+    ensures ok { IfOk result (IsFirstRun architecture addresses.now relocations.now
         symbols.now section.old section.new memory.new) }
     ensures err { IfErr result (IsStopped architecture addresses.now relocations.now symbols.now
         section.old section.new memory.new) }
 {
-    let mut known = no_codes(architecture);
+    let mut known = NO_CODES;
     let mut step = FIRST_STEP;
     let mut end = 0;
     let mut high = None;
@@ -239,6 +229,62 @@ fn write_ascending(
     Ok(index)
 }
 
+/// The same of the relocations from an index on, where those before are written, and they are the
+/// second of two runs by ascending offsets. None where all are written; and else below which index
+/// the bytes are kept that were there before. By code for all architectures.
+#[inline(never)]
+pub(crate) fn write_second_run(
+    architecture: Architecture,
+    addresses: &Addresses,
+    relocations: &[u8],
+    symbols: &[Symbol],
+    start: usize,
+    section: &mut [u8],
+    memory: &mut [u64],
+) -> Option<usize>
+    requires memory { length relocations.now / 24 ≤ length memory.old }
+    requires within { start ≤ length relocations.now / 24 }
+    ensures len { length memory.new ≡ length memory.old }
+    ensures written { (before : List ℕ)
+        → AreWrittenBelow architecture addresses.now relocations.now symbols.now before section.old
+        memory.old start
+        → AreWrittenOrKept architecture addresses.now relocations.now symbols.now before section.new
+        memory.new result }
+{
+    let len = relocations_len(relocations);
+    let mut known = NO_CODES;
+    let mut end = 0;
+    let mut high = None;
+    let mut index = start;
+    while index < len {
+        let relocation = relocation_in(relocations, index);
+        learn(architecture, relocation.code, &mut known);
+        let Some((own_end, part)) = write_quickly(
+            architecture,
+            addresses,
+            relocations,
+            symbols,
+            &relocation,
+            &known[place_of(relocation.code)],
+            high,
+            index,
+            end,
+            section,
+            memory,
+        ) else {
+            return Some(index);
+        };
+        end = own_end;
+        high = part;
+        index += 1;
+    }
+    if are_runs_apart(architecture, relocations, start) {
+        None
+    } else {
+        Some(index)
+    }
+}
+
 /// A call for an architecture, which is compiled for each by itself.
 macro_rules! of_each {
     ($architecture:ident, $call:ident($($given:ident),*)) => {
@@ -263,7 +309,7 @@ pub(crate) fn write_ascending_of(
 ) -> Result<usize, Stopped>
     requires memory { length relocations.now / 24 ≤ length memory.old }
     ensures len { length memory.new ≡ length memory.old }
-    ensures ok { IfOk result (AreWrittenBelow architecture addresses.now relocations.now
+    ensures ok { IfOk result (IsFirstRun architecture addresses.now relocations.now
         symbols.now section.old section.new memory.new) }
     ensures err { IfErr result (IsStopped architecture addresses.now relocations.now symbols.now
         section.old section.new memory.new) }

@@ -4,7 +4,7 @@
 ghost use Rattle.std.specs.Prelude.{◌≡◌, ◌%◌, None};
 ghost use Rattle.linker_section.specs.Inner.Quick.{AreKnown, IsKnown, IsThere};
 
-use crate::codes::{NO_ROW, number_of};
+use crate::codes::number_of;
 use crate::conditions::Length;
 use linker_utils::elf::{Architecture, Row};
 
@@ -24,90 +24,21 @@ pub(crate) struct KnownCode {
 /// Codes that were looked up, each at its low 6 bits.
 pub(crate) type KnownCodes = [KnownCode; 64];
 
-/// A place for one of them.
-macro_rules! none {
-    () => {
-        KnownCode {
-            code: 0,
-            number: NO_ROW,
-            row: None,
-            length: Length::Any,
-        }
-    };
-}
+/// A place without one.
+const NONE: KnownCode = KnownCode {
+    code: 0,
+    number: 0,
+    row: None,
+    length: Length::Any,
+};
 
-/// None of them.
-#[inline(always)]
-pub(crate) fn no_codes(architecture: Architecture) -> KnownCodes
-    ensures { AreKnown architecture result }
-{
-    [
-        none!(),
-        none!(),
-        none!(),
-        none!(),
-        none!(),
-        none!(),
-        none!(),
-        none!(),
-        none!(),
-        none!(),
-        none!(),
-        none!(),
-        none!(),
-        none!(),
-        none!(),
-        none!(),
-        none!(),
-        none!(),
-        none!(),
-        none!(),
-        none!(),
-        none!(),
-        none!(),
-        none!(),
-        none!(),
-        none!(),
-        none!(),
-        none!(),
-        none!(),
-        none!(),
-        none!(),
-        none!(),
-        none!(),
-        none!(),
-        none!(),
-        none!(),
-        none!(),
-        none!(),
-        none!(),
-        none!(),
-        none!(),
-        none!(),
-        none!(),
-        none!(),
-        none!(),
-        none!(),
-        none!(),
-        none!(),
-        none!(),
-        none!(),
-        none!(),
-        none!(),
-        none!(),
-        none!(),
-        none!(),
-        none!(),
-        none!(),
-        none!(),
-        none!(),
-        none!(),
-        none!(),
-        none!(),
-        none!(),
-        none!(),
-    ]
-}
+/// None of them. A constant, which is copied in few instructions.
+pub(crate) const NO_CODES: KnownCodes = [
+    NONE, NONE, NONE, NONE, NONE, NONE, NONE, NONE, NONE, NONE, NONE, NONE, NONE, NONE, NONE, NONE,
+    NONE, NONE, NONE, NONE, NONE, NONE, NONE, NONE, NONE, NONE, NONE, NONE, NONE, NONE, NONE, NONE,
+    NONE, NONE, NONE, NONE, NONE, NONE, NONE, NONE, NONE, NONE, NONE, NONE, NONE, NONE, NONE, NONE,
+    NONE, NONE, NONE, NONE, NONE, NONE, NONE, NONE, NONE, NONE, NONE, NONE, NONE, NONE, NONE, NONE,
+];
 
 /// Where a code is kept.
 #[inline(always)]

@@ -3,16 +3,15 @@
 //! Few tests find them, so that a section's values take little more time than the formulas. Where
 //! these return nothing, `value_of` says what the value is, and why there is none.
 
-ghost use Rattle.std.specs.Prelude.{◌≡◌, ◌&&◌, ◌==◌, ◌%◌, ◌/◌, ◌<◌, true, false, length, Some, IfSome};
+ghost use Rattle.std.specs.Prelude.{◌≡◌, ◌⊎◌, ◌&&◌, ◌==◌, ◌%◌, ◌/◌, true, false, Some, IfSome};
 ghost use Rattle.linker_section.specs.Conditions.{needs_upper};
-ghost use Rattle.linker_section.specs.Inner.Codes.{class_by, entry_by, is_plain, is_ppc64};
+ghost use Rattle.linker_section.specs.Inner.Codes.{class_by, entry_by, is_high, is_plain, is_ppc64};
 ghost use Rattle.linker_section.specs.Inner.Codes.{IsNumberOf, SaysNeeds, SaysWay};
 ghost use Rattle.linker_section.specs.Inner.Quick.{IsHighValue, HasHighValue};
 ghost use Rattle.linker_section.specs.Inner.Quick.{IsPlainValue, IsQuickValue};
 ghost use Rattle.linker_section.specs.Needed.{entry_of};
-ghost use Rattle.linker_section.specs.Relocations.{relocation_in};
 ghost use Rattle.linker_section.specs.Values.{address_of, entry_address, is_ppc64_branch};
-ghost use Rattle.linker_section.specs.Values.{offset_at, operands_with, target_of};
+ghost use Rattle.linker_section.specs.Values.{operands_with, target_of};
 ghost use Rattle.linker_utils.specs.Architectures.{IsRow};
 
 use crate::codes::{HIGH, LOW, NO_ENTRY, PLAIN, way_of};
@@ -287,32 +286,17 @@ fn new_high(offset: u64, value: i64) -> HighPart
     HighPart { offset, value }
 }
 
-/// The last high part after a relocation among those of its section, with the
-/// value that `quick_value` returns. Only the contract uses `_relocations`,
-/// `_symbols`, `_addresses` and `_row`.
+/// The last high part after a relocation with a value.
 #[inline(always)]
 pub(crate) fn high_behind(
     architecture: Architecture,
-    _addresses: &Addresses,
-    _relocations: &[u8],
-    _symbols: &[Symbol],
     number: u16,
-    _row: &Row,
-    _index: usize,
     offset: u64,
     value: i64,
     high: Option<HighPart>,
 ) -> Option<HighPart>
-    requires within { _index < length _relocations.now / 24 }
-    requires offset { offset ≡ offset_at _relocations.now _index }
-    requires row { IsRow architecture (relocation_in _relocations.now _index).code (Some _row.now) }
-    requires number { IsNumberOf architecture (relocation_in _relocations.now _index).code number }
-    requires value { IsQuickValue architecture _addresses.now _relocations.now _symbols.now
-        (relocation_in _relocations.now _index) _row.now value }
-    requires high { IfSome high
-        (IsHighValue architecture _addresses.now _relocations.now _symbols.now) }
-    ensures { IfSome result
-        (IsHighValue architecture _addresses.now _relocations.now _symbols.now) }
+    ensures { (result ≡ high) ⊎ ((is_high number ≡ true)
+        × (result ≡ Some (record { offset = offset; value = value }))) }
 {
     if way_of(number) == HIGH && matches!(architecture, Architecture::RiscV) {
         Some(new_high(offset, value))

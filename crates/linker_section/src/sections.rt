@@ -18,7 +18,7 @@ ghost use Rattle.linker_section.specs.WrittenFields.{AreWritten, CanBeWritten, I
 ghost use Rattle.linker_utils.specs.Architectures.{IsRow};
 ghost use Rattle.linker_elf.specs.declared.elf.RelocationKindInfo.{RelocationKindInfo};
 
-use crate::ascending::write_ascending_of;
+use crate::ascending::{write_ascending_of, write_second_run};
 use crate::codes::number_of;
 use crate::conditions::{has_length, has_offset, is_filled, is_in_reach, lacks_stub};
 use crate::facts::{Addresses, Symbol};
@@ -547,11 +547,22 @@ fn write_values(
         section,
         memory,
     ) {
-        Ok(count) => {
-            if count == relocations_len(relocations) {
+        Ok(start) => {
+            if start == relocations_len(relocations) {
                 return Ok(());
             }
-            count
+            match write_second_run(
+                architecture,
+                addresses,
+                relocations,
+                symbols,
+                start,
+                section,
+                memory,
+            ) {
+                None => return Ok(()),
+                Some(count) => count,
+            }
         }
         Err(stopped) => {
             if is_ascending(relocations) {
@@ -593,9 +604,9 @@ pub fn memory_len(relocations: &[u8]) -> usize
 /// A relocation without a value, as `R_RISCV_RELAX`, has no field. Where code would be wrong with
 /// its value, it isn't written (`NotAligned`, `NeedsStub`, `OtherLength`, `OutOfReach`). A linker
 /// that removes the nops of an alignment itself sets the relocation's code to 0. n relocations that
-/// ascend by offset take time in proportion to n. In any other order their indexes are sorted in
-/// `memory` first, and the time is in proportion to n log n; each low part of RISC-V then takes up to
-/// n more.
+/// ascend by offset take time in proportion to n, also most that are two such lists, one after the
+/// other. In any other order their indexes are sorted in `memory` first, and the time is in
+/// proportion to n log n; each low part of RISC-V then takes up to n more.
 ///
 /// # Errors
 ///

@@ -5,10 +5,11 @@
 use crate::linker_section::conditions::begins_with;
 use crate::linker_section::facts::{Addresses, Symbol};
 use crate::linker_section::fields::Field;
-use crate::linker_section::known::{KnownCode, learn, no_codes, place_of};
+use crate::linker_section::known::{KnownCode, NO_CODES, learn, place_of};
+use crate::linker_section::order::are_runs_apart;
 use crate::linker_section::quick::{HighPart, high_behind, quick_value};
 use crate::linker_section::relocations::{
-    RELA_LEN, Rela, offset_at, relocation_in, relocation_of, relocations_from,
+    RELA_LEN, Rela, offset_at, relocation_in, relocation_of, relocations_from, relocations_len,
 };
 use crate::linker_section::saved::whole_word_at;
 use crate::linker_section::sections::{
@@ -17,9 +18,8 @@ use crate::linker_section::sections::{
 use crate::elf::Architecture;
 
 /// Writes the value of the relocation at an index, if it is found and accepted with few
-/// tests, and keeps the bytes that were there before. Its offset has to be `end` at least,
-/// where the fields before it end. Returns where its own ends, and the last high part; and
-/// else changes no byte of the section.
+/// tests, and keeps the bytes that were there before. Its offset has to be `end` at least.
+/// Returns where its field ends, and the last high part; and else changes no byte of the section.
 #[inline(always)]
 fn write_quickly(
     architecture: Architecture,
@@ -65,18 +65,7 @@ fn write_quickly(
     if write_held_at(row, value, offset, section).is_err() {
         return None;
     }
-    let high = high_behind(
-        architecture,
-        addresses,
-        relocations,
-        symbols,
-        number,
-        row,
-        index,
-        offset,
-        value,
-        high,
-    );
+    let high = high_behind(architecture, number, offset, value, high);
     Some((offset + row.window() as u64, high))
 }
 
@@ -141,7 +130,7 @@ fn write_ascending(
     section: &mut [u8],
     memory: &mut [u64],
 ) -> Result<usize, Stopped> {
-    let mut known = no_codes(architecture);
+    let mut known = NO_CODES;
     let mut step = FIRST_STEP;
     let mut end = 0;
     let mut high = None;
@@ -193,6 +182,53 @@ fn write_ascending(
         }
     }
     Ok(index)
+}
+
+/// The same of the relocations from an index on, where those before are written, and they are the
+/// second of two runs by ascending offsets. None where all are written; and else below which index
+/// the bytes are kept that were there before. By code for all architectures.
+#[inline(never)]
+pub(crate) fn write_second_run(
+    architecture: Architecture,
+    addresses: &Addresses,
+    relocations: &[u8],
+    symbols: &[Symbol],
+    start: usize,
+    section: &mut [u8],
+    memory: &mut [u64],
+) -> Option<usize> {
+    let len = relocations_len(relocations);
+    let mut known = NO_CODES;
+    let mut end = 0;
+    let mut high = None;
+    let mut index = start;
+    while index < len {
+        let relocation = relocation_in(relocations, index);
+        learn(architecture, relocation.code, &mut known);
+        let Some((own_end, part)) = write_quickly(
+            architecture,
+            addresses,
+            relocations,
+            symbols,
+            &relocation,
+            &known[place_of(relocation.code)],
+            high,
+            index,
+            end,
+            section,
+            memory,
+        ) else {
+            return Some(index);
+        };
+        end = own_end;
+        high = part;
+        index += 1;
+    }
+    if are_runs_apart(architecture, relocations, start) {
+        None
+    } else {
+        Some(index)
+    }
 }
 
 /// A call for an architecture, which is compiled for each by itself.

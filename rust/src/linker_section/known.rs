@@ -3,7 +3,7 @@
 //! What codes of relocations mean, kept once it is looked up, since a section has
 //! relocations of few types.
 
-use crate::linker_section::codes::{NO_ROW, number_of};
+use crate::linker_section::codes::number_of;
 use crate::linker_section::conditions::Length;
 use crate::elf::{Architecture, Row};
 
@@ -22,88 +22,21 @@ pub(crate) struct KnownCode {
 /// Codes that were looked up, each at its low 6 bits.
 pub(crate) type KnownCodes = [KnownCode; 64];
 
-/// A place for one of them.
-macro_rules! none {
-    () => {
-        KnownCode {
-            code: 0,
-            number: NO_ROW,
-            row: None,
-            length: Length::Any,
-        }
-    };
-}
+/// A place without one.
+const NONE: KnownCode = KnownCode {
+    code: 0,
+    number: 0,
+    row: None,
+    length: Length::Any,
+};
 
-/// None of them.
-#[inline(always)]
-pub(crate) fn no_codes(architecture: Architecture) -> KnownCodes {
-    [
-        none!(),
-        none!(),
-        none!(),
-        none!(),
-        none!(),
-        none!(),
-        none!(),
-        none!(),
-        none!(),
-        none!(),
-        none!(),
-        none!(),
-        none!(),
-        none!(),
-        none!(),
-        none!(),
-        none!(),
-        none!(),
-        none!(),
-        none!(),
-        none!(),
-        none!(),
-        none!(),
-        none!(),
-        none!(),
-        none!(),
-        none!(),
-        none!(),
-        none!(),
-        none!(),
-        none!(),
-        none!(),
-        none!(),
-        none!(),
-        none!(),
-        none!(),
-        none!(),
-        none!(),
-        none!(),
-        none!(),
-        none!(),
-        none!(),
-        none!(),
-        none!(),
-        none!(),
-        none!(),
-        none!(),
-        none!(),
-        none!(),
-        none!(),
-        none!(),
-        none!(),
-        none!(),
-        none!(),
-        none!(),
-        none!(),
-        none!(),
-        none!(),
-        none!(),
-        none!(),
-        none!(),
-        none!(),
-        none!(),
-        none!(),
-    ]
-}
+/// None of them. A constant, which is copied in few instructions.
+pub(crate) const NO_CODES: KnownCodes = [
+    NONE, NONE, NONE, NONE, NONE, NONE, NONE, NONE, NONE, NONE, NONE, NONE, NONE, NONE, NONE, NONE,
+    NONE, NONE, NONE, NONE, NONE, NONE, NONE, NONE, NONE, NONE, NONE, NONE, NONE, NONE, NONE, NONE,
+    NONE, NONE, NONE, NONE, NONE, NONE, NONE, NONE, NONE, NONE, NONE, NONE, NONE, NONE, NONE, NONE,
+    NONE, NONE, NONE, NONE, NONE, NONE, NONE, NONE, NONE, NONE, NONE, NONE, NONE, NONE, NONE, NONE,
+];
 
 /// Where a code is kept.
 #[inline(always)]

@@ -2,8 +2,8 @@
 // Made by tools/erase of crates/linker_section/src/order.rt.
 //! Relocations in any order: the first whose field overlaps that of an earlier one.
 
-use crate::linker_section::fields::Field;
-use crate::linker_section::relocations::{relocation_at, relocation_in, relocations_len};
+use crate::linker_section::fields::{Field, is_of_pair};
+use crate::linker_section::relocations::{Rela, offset_at, relocation_at, relocation_in, relocations_len};
 use crate::linker_section::sections::{field_at, second_of_pair};
 use crate::linker_section::values::has_value;
 use crate::elf::{Architecture, RelocationKind};
@@ -127,4 +127,58 @@ fn is_second_of(architecture: Architecture, relocations: &[u8], first: usize, in
         return false;
     };
     second_of_pair(architecture, relocations, first, &row).is_some()
+}
+
+/// Whether the field of a relocation begins where that of another ends or after it. The other has
+/// at most ten bytes, and a ULEB128 number counts for as many.
+#[inline(always)]
+fn is_past(architecture: Architecture, last: &Rela, next: &Rela) -> bool {
+    if next.offset < last.offset {
+        return false;
+    }
+    let distance = next.offset - last.offset;
+    if distance >= 10 {
+        return true;
+    }
+    match architecture.row(last.code) {
+        Some(row) => !is_of_pair(&row.info()) && row.window() as u64 <= distance,
+        None => false,
+    }
+}
+
+/// Whether the fields of relocations are apart that are two runs by ascending offsets, the second
+/// from an index on: both are gone through by offset, each field beside the one before it.
+#[inline(never)]
+pub(crate) fn are_runs_apart(architecture: Architecture, relocations: &[u8], start: usize) -> bool {
+    let len = relocations_len(relocations);
+    let mut last = Rela {
+        offset: 0,
+        code: 0,
+        symbol: 0,
+        addend: 0,
+    };
+    let mut first = 0;
+    for second in start..len + 1 {
+        let stop = if second < len {
+            offset_at(relocations, second)
+        } else {
+            u64::MAX
+        };
+        while first < start && offset_at(relocations, first) <= stop {
+            let next = relocation_in(relocations, first);
+            if !is_past(architecture, &last, &next) {
+                return false;
+            }
+            last = next;
+            first += 1;
+        }
+        if second < len {
+            let next = relocation_in(relocations, second);
+            if !is_past(architecture, &last, &next) {
+                return false;
+            }
+            last = next;
+        }
+    }
+    first == start
 }

@@ -228,18 +228,11 @@ fn new_high(offset: u64, value: i64) -> HighPart {
     HighPart { offset, value }
 }
 
-/// The last high part after a relocation among those of its section, with the
-/// value that `quick_value` returns. Only the contract uses `_relocations`,
-/// `_symbols`, `_addresses` and `_row`.
+/// The last high part after a relocation with a value.
 #[inline(always)]
 pub(crate) fn high_behind(
     architecture: Architecture,
-    _addresses: &Addresses,
-    _relocations: &[u8],
-    _symbols: &[Symbol],
     number: u16,
-    _row: &Row,
-    _index: usize,
     offset: u64,
     value: i64,
     high: Option<HighPart>,

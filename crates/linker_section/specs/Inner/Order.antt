@@ -1,13 +1,15 @@
 -- Indexes of relocations, sorted by offset, and what is known of fields that are gone through so.
 use Rattle.std.specs.Prelude.{◌≡◌, ◌⊎◌, ℕ, ◌+◌, ◌*◌, ◌/◌, ◌^◌, ◌<◌, ◌≤◌, List, length, slice_index}
-use Rattle.std.specs.Prelude.{Option, Some, None}
+use Rattle.std.specs.Prelude.{drop, Option, Some, None}
 use Rattle.linker_elf.specs.declared.elf.RelocationKindInfo.{RelocationKindInfo}
 use Rattle.linker_section.specs.Fields.{IsField, IsOverlapped, Overlap, Composes}
+use Rattle.linker_section.specs.Fields.{field_end, field_len}
 use Rattle.linker_section.specs.Inner.Claims.{AreClaimed, HasField}
-use Rattle.linker_section.specs.Relocations.{relocation_at}
+use Rattle.linker_section.specs.Relocations.{relocation_at, relocation_in}
 use Rattle.linker_section.specs.Values.{offset_at}
 use Rattle.linker_section.specs.declared.fields.Field.{Field}
 use Rattle.linker_section.specs.declared.relocations.Rela.{Rela}
+use Rattle.linker_utils.specs.Architectures.{IsRow}
 use Rattle.linker_utils.specs.declared.elf.Architecture.{Architecture}
 
 -- ---- sorted indexes
@@ -71,3 +73,32 @@ pub record AreSwept (architecture : Architecture) (bytes section order : List �
       → IsLastAt architecture bytes section (IsSeen order count p) index last
   pub ascending : (q : ℕ) → p ≤ q → q < length order
       → last.offset ≤ offset_at bytes (slice_index order q)
+
+-- ---- two runs by ascending offsets
+
+-- the field of a relocation begins where that of another ends, which has at most ten bytes
+abbrev pub IsPast : Architecture → Rela → Rela → Type 0
+IsPast architecture last next =
+    (last.offset ≤ next.offset)
+    × ((row : RelocationKindInfo) (there : List ℕ) → IsRow architecture last.code (Some row)
+    → field_len row there ≤ 10 → last.offset + field_len row there ≤ next.offset)
+
+-- each field has at most ten bytes
+abbrev pub AreSmall : Architecture → List ℕ → List ℕ → Type 0
+AreSmall architecture bytes section =
+    (i : ℕ) (row : RelocationKindInfo) → i < length bytes / 24
+    → IsField architecture bytes section i row
+    → field_len row (drop (offset_at bytes i) section) ≤ 10
+
+-- a relocation of the first run below an index, or of the second below another
+abbrev pub IsOfRuns : List ℕ → ℕ → ℕ → ℕ → ℕ → Type 0
+IsOfRuns bytes start first second i =
+    (i < length bytes / 24) × ((i < first) ⊎ ((start ≤ i) × (i < second)))
+
+-- the fields that were seen are apart, and end where that of the last begins, or are its
+pub record ArePast (architecture : Architecture) (bytes section : List ℕ) (IsSeen : ℕ → Type 0)
+    (last : Rela) : Type 0 where
+  pub apart : ApartIn architecture bytes section IsSeen
+  pub before : (i : ℕ) (row : RelocationKindInfo) → IsSeen i
+      → IsField architecture bytes section i row
+      → (field_end bytes section i row ≤ last.offset) ⊎ (relocation_in bytes i ≡ last)

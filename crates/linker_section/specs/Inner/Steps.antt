@@ -1,21 +1,22 @@
 -- What is known of a section while values are written to it.
-use Rattle.std.specs.Prelude.{◌≡◌, ℕ, ◌≢◌, ◌+◌, ◌/◌, ◌<◌, ◌≤◌, ◌==◌, ◌||◌, Bool, not, List, length}
-use Rattle.std.specs.Prelude.{drop, ◌⊎◌, ⊤, true, false, Option, Some, None, Result, Ok, Err}
+use Rattle.std.specs.Prelude.{◌≡◌, ℕ, ◌≢◌, ◌+◌, ◌/◌, ◌<◌, ◌≤◌, ◌==◌, ◌||◌, Bool, not, ℤ, List, length}
+use Rattle.std.specs.Prelude.{drop, set, ◌⊎◌, ⊤, true, false, Option, Some, None, Result, Ok, Err}
 use Rattle.linker_base.specs.declared.utils.Uleb128Error.{Uleb128Error}
 use Rattle.linker_elf.specs.Relocate.{window_len}
 use Rattle.linker_elf.specs.declared.elf.RelocationKindInfo.{RelocationKindInfo}
 use Rattle.linker_section.specs.Fields.{AreApart, IsOverlapped, begins_pair, ends_pair, field_len}
 use Rattle.linker_section.specs.Inner.Claims.{AreClaimed, is_clear_of}
-use Rattle.linker_section.specs.Inner.Saved.{Restores}
+use Rattle.linker_section.specs.Inner.Quick.{IsQuickValue}
+use Rattle.linker_section.specs.Inner.Saved.{IsSavedAt, Restores}
 use Rattle.linker_section.specs.Relocations.{relocation_in}
 use Rattle.linker_section.specs.Sections.{IsFirstRejected, IsPairWritten, IsPairRejected}
+use Rattle.linker_section.specs.Sections.{IsWritten}
 use Rattle.linker_section.specs.Sections.{AreRelocated, AreAllRelocated, IsValueless}
 use Rattle.linker_section.specs.Values.{offset_at}
 use Rattle.linker_section.specs.declared.facts.Addresses.{Addresses}
 use Rattle.linker_section.specs.declared.facts.Symbol.{Symbol}
 use Rattle.linker_section.specs.declared.fields.Field.{Field}
 use Rattle.linker_section.specs.declared.sections.RelocationError.TheVariants.{Value, Uleb128}
-use Rattle.linker_section.specs.declared.quick.HighPart.{HighPart}
 use Rattle.linker_section.specs.declared.sections.SectionError.{SectionError}
 use Rattle.linker_section.specs.declared.sections.Step.{Step}
 use Rattle.linker_section.specs.declared.sections.Stopped.{Stopped}
@@ -93,15 +94,20 @@ pub record IsStopped (architecture : Architecture) (addresses : Addresses) (byte
 -- ---- one step
 
 -- the values of relocations below an index are written, and the bytes before can be put back
+pub record AreWrittenBelow (architecture : Architecture) (addresses : Addresses) (bytes : List ℕ)
+    (symbols : List Symbol) (before now memory : List ℕ) (i : ℕ) : Type 0 where
+  pub within : i ≤ length bytes / 24
+  pub relocated : AreRelocated architecture addresses bytes symbols before i now
+  pub restores : Restores architecture bytes memory i now before
+  pub same_length : length now ≡ length before
+
+-- and their fields are apart
 pub record Reached (architecture : Architecture) (addresses : Addresses) (bytes : List ℕ)
     (symbols : List Symbol) (limit : Option ℕ) (before now memory : List ℕ) (i : ℕ) (last : Field)
     : Type 0 where
   pub is_limit : IsLimit architecture bytes before limit
-  pub within : i ≤ length bytes / 24
-  pub relocated : AreRelocated architecture addresses bytes symbols before i now
-  pub restores : Restores architecture bytes memory i now before
+  pub below : AreWrittenBelow architecture addresses bytes symbols before now memory i
   pub order : IsInOrder limit architecture bytes before now i last
-  pub same_length : length now ≡ length before
 
 -- more values are written, or there is one that can't be
 abbrev pub IsStep : Architecture → Addresses → List ℕ → List Symbol → Option ℕ → List ℕ → ℕ
@@ -121,14 +127,19 @@ pub record IsOwnField (architecture : Architecture) (bytes : List ℕ) (i : ℕ)
   pub is_field : field
       ≡ record { offset = offset_at bytes i; len = window_len row; kind = row.kind }
 
--- one more value is written, whose field ends at an offset, or nothing is changed
-abbrev pub IsQuickStep : Architecture → Addresses → List ℕ → List Symbol → List ℕ → ℕ → Field
-    → List ℕ → List ℕ → Option (ℕ × Option HighPart) → Type 0
-IsQuickStep architecture addresses bytes symbols before i last now memory None =
-    Reached architecture addresses bytes symbols None before now memory i last
-IsQuickStep architecture addresses bytes symbols before i last now memory (Some next) =
-    (field : Field) × IsOwnField architecture bytes i field × (field.offset + field.len ≡ next.0)
-    × Reached architecture addresses bytes symbols None before now memory (i + 1) field
+-- one more value is written, whose field begins at an offset or after it and ends at another
+pub record IsQuickStep (architecture : Architecture) (addresses : Addresses) (bytes : List ℕ)
+    (symbols : List Symbol) (i end : ℕ) (now after memory kept : List ℕ) (own_end : ℕ)
+    : Type 0 where
+  pub row : RelocationKindInfo
+  pub v : ℤ
+  pub value : IsQuickValue architecture addresses bytes symbols (relocation_in bytes i) row v
+  pub word : ℕ
+  pub saved : IsSavedAt (offset_at bytes i) now word
+  pub kept_is : kept ≡ set memory i word
+  pub written : IsWritten row v (offset_at bytes i) now after
+  pub behind : end ≤ offset_at bytes i
+  pub end_is : own_end ≡ offset_at bytes i + window_len row
 
 -- The last field before an index is that of a step, or where the step was another, that of the
 -- relocation before.
@@ -137,13 +148,11 @@ pub record IsLastOf (architecture : Architecture) (bytes : List ℕ) (i : ℕ) (
   pub same : step.index ≡ i → last ≡ step.last
   pub own : step.index ≢ i → (k : ℕ) → k + 1 ≡ i → IsOwnField architecture bytes k last
 
--- The values of relocations below an index are written whose fields ascend, and none of these has a
--- byte from an offset on.
-pub record IsFront (architecture : Architecture) (addresses : Addresses) (bytes : List ℕ)
-    (symbols : List Symbol) (before now memory : List ℕ) (i : ℕ) (step : Step) (end : ℕ)
-    : Type 0 where
+-- Fields of relocations below an index ascend, and none of these has a byte from an offset on.
+pub record IsFront (architecture : Architecture) (bytes before now : List ℕ) (i : ℕ) (step : Step)
+    (end : ℕ) : Type 0 where
   pub last : Field
-  pub reached : Reached architecture addresses bytes symbols None before now memory i last
+  pub order : Ascends architecture bytes before now i last
   pub is_last : IsLastOf architecture bytes i step last
   pub within : last.offset + last.len ≤ end
 
@@ -151,16 +160,24 @@ pub record IsFront (architecture : Architecture) (addresses : Addresses) (bytes 
 abbrev pub IsSlowStep : Architecture → Addresses → List ℕ → List Symbol → List ℕ → ℕ
     → List ℕ → List ℕ → Result (Option Step) SectionError → Type 0
 IsSlowStep architecture addresses bytes symbols before i now memory (Ok None) =
-    Restores architecture bytes memory i now before
+    AreWrittenBelow architecture addresses bytes symbols before now memory i
 IsSlowStep architecture addresses bytes symbols before i now memory (Ok (Some step)) =
     IsStep architecture addresses bytes symbols None before i now memory (Ok step)
 IsSlowStep architecture addresses bytes symbols before i now memory (Err error) =
     IsStep architecture addresses bytes symbols None before i now memory (Err error)
 
--- the values below an index are written, and the bytes before can be put back
-pub record AreWrittenBelow (architecture : Architecture) (addresses : Addresses) (bytes : List ℕ)
-    (symbols : List Symbol) (before now memory : List ℕ) (count : ℕ) : Type 0 where
-  pub within : count ≤ length bytes / 24
-  pub restores : Restores architecture bytes memory count now before
-  pub all : count ≡ length bytes / 24
+-- all values are written, or the bytes before can be put back
+abbrev pub AreWrittenOrKept : Architecture → Addresses → List ℕ → List Symbol → List ℕ → List ℕ
+    → List ℕ → Option ℕ → Type 0
+AreWrittenOrKept architecture addresses bytes symbols before now memory None =
+    AreAllRelocated architecture addresses bytes symbols before now
+AreWrittenOrKept architecture addresses bytes symbols before now memory (Some count) =
+    (count ≤ length bytes / 24) × Restores architecture bytes memory count now before
+
+-- the values below an index are written, which are all or those of the first run
+pub record IsFirstRun (architecture : Architecture) (addresses : Addresses) (bytes : List ℕ)
+    (symbols : List Symbol) (before now memory : List ℕ) (start : ℕ) : Type 0 where
+  pub below : AreWrittenBelow architecture addresses bytes symbols before now memory start
+  pub within : start ≤ length bytes / 24
+  pub all : start ≡ length bytes / 24
       → AreAllRelocated architecture addresses bytes symbols before now

@@ -1,20 +1,30 @@
-use Rattle.std.proofs.Common.{◌<◌, ◌^◌, ◌∙◌, refl, ap, subst, arith, rules, length, Ok}
-use Rattle.linker_section.proofs.Reaching.{front_first, front_quickly, front_kept, front_slowly, end_fits, there_is, there_isnt, rest_behind, written_below, written_all}
-use Rattle.linker_section.specs.Inner.Steps.{IsQuickStep, IsSlowStep}
+use Rattle.std.proofs.Common.{◌≡◌, ◌<◌, ◌^◌, ◌∙◌, refl, sym, ap, subst, arith, rules, length, take, Ok, None}
+use Rattle.std.proofs.lemmas.List.Elements.{All-replicate}
+use Rattle.std.specs.Prelude.{IfSome, IfNone}
+use Rattle.linker_section.proofs.Reaching.{below_first, below_kept, below_quickly, front_first, front_quickly, front_slowly, end_fits, there_is, there_isnt, rest_behind, first_run, only_run}
+use Rattle.linker_section.specs.Inner.Quick.{IsKnown}
+use Rattle.linker_section.specs.Inner.Steps.{IsFront, IsQuickStep, IsSlowStep}
+use Rattle.linker_section.specs.Relocations.{relocation_of}
+use Rattle.linker_section.specs.declared.conditions.Length.TheVariants.{Any}
 use Rattle.linker_section.proofs.ascending.write_ascending.Goals as goal
 
 pub loop-entry-init : goal.loop-entry-init
 loop-entry-init c =
     let a = c.args in
     record {
-      front = front_first a.architecture a.addresses.now a.relocations.now a.symbols.now a.section.now a.memory.now;
+      below = below_first a.architecture a.addresses.now a.relocations.now a.symbols.now a.section.now a.memory.now;
+      front = front_first a.architecture a.relocations.now a.section.now;
       room = refl;
       rest = refl;
       within = omega arith;
       behind = omega arith;
-      known = c.no_codes-known.ensures;
+      known = All-replicate (IsKnown a.architecture) 64 (record { code = 0; number = 0; row = None; length = Any }) tt;
       high = tt;
     }
+
+pub write_quickly-requires-clause-is : goal.write_quickly-requires-clause-is
+write_quickly-requires-clause-is c =
+    c.relocation_of-relocation.ensures ∙ ap relocation_of (c.in-Some.ensures.cases.0 ∙ ap (take 24) c.loop-entry.invariant.rest)
 
 pub loop-entry-preserved-in-Some-write_quickly : goal.loop-entry-preserved-in-Some-write_quickly
 loop-entry-preserved-in-Some-write_quickly c =
@@ -26,10 +36,15 @@ loop-entry-preserved-in-Some-write_quickly c =
     let len = cases.2 in
     let there = there_is bytes l.rest.now l.index inv.rest (omega (arith, len)) in
     let behind = inv.behind in
+    let memory = inv.room in
+    let room = c.requires in
+    let end = c.in-Some-write_quickly.own_end in
+    let quick : IsQuickStep a.architecture a.addresses.now bytes a.symbols.now l.index l.end l.section c.write_quickly.new.section l.memory c.write_quickly.new.memory end =
+    subst (λ x. IfSome x (λ next. IsQuickStep a.architecture a.addresses.now bytes a.symbols.now l.index l.end l.section c.write_quickly.new.section l.memory c.write_quickly.new.memory (next.0)))
+    c.in-Some-write_quickly.is c.write_quickly.ensures.some in
     record {
-      front = front_quickly a.architecture a.addresses.now bytes a.symbols.now a.section.now c.write_quickly.new.section c.write_quickly.new.memory l.index inv.front.last l.step (c.in-Some-write_quickly.own_end, c.in-Some-write_quickly.part) behind
-          (subst (IsQuickStep a.architecture a.addresses.now bytes a.symbols.now a.section.now l.index inv.front.last c.write_quickly.new.section c.write_quickly.new.memory) c.in-Some-write_quickly.is
-          (c.write_quickly.ensures.step a.section.now inv.front.last inv.front.within inv.front.reached));
+      below = below_quickly a.architecture a.addresses.now bytes a.symbols.now a.section.now l.section c.write_quickly.new.section l.memory c.write_quickly.new.memory l.index l.end end there (omega (arith, there, memory, room)) quick inv.below;
+      front = front_quickly a.architecture a.addresses.now bytes a.symbols.now a.section.now l.section c.write_quickly.new.section l.memory c.write_quickly.new.memory l.index l.end end l.step behind inv.below.same_length quick inv.front;
       room = c.write_quickly.ensures.len ∙ inv.room;
       rest = cases.1 ∙ rest_behind bytes l.rest.now l.index inv.rest;
       within = omega (arith, there);
@@ -44,11 +59,11 @@ overflow_add-end c =
     let bytes = a.relocations.now in
     let l = c.loop-entry in
     let inv = l.invariant in
-    let quick = subst (IsQuickStep a.architecture a.addresses.now bytes a.symbols.now a.section.now l.index inv.front.last c.write_quickly.new.section c.write_quickly.new.memory) c.in_default-write_quickly.is
-    (c.write_quickly.ensures.step a.section.now inv.front.last inv.front.within inv.front.reached) in
-    let front = front_kept a.architecture a.addresses.now bytes a.symbols.now a.section.now l.section c.write_quickly.new.section l.memory c.write_quickly.new.memory l.index l.step l.end inv.front quick in
+    let same = subst (λ x. IfNone x (c.write_quickly.new.section ≡ l.section)) c.in_default-write_quickly.is c.write_quickly.ensures.none in
+    let below = below_kept a.architecture a.addresses.now bytes a.symbols.now a.section.now l.section c.write_quickly.new.section l.memory c.write_quickly.new.memory l.index same c.write_quickly.ensures.kept inv.below in
+    let front = subst (λ section. IsFront a.architecture bytes a.section.now section l.index l.step l.end) (sym same) inv.front in
     let step = subst (IsSlowStep a.architecture a.addresses.now bytes a.symbols.now a.section.now l.index c.write_slowly.new.section c.write_slowly.new.memory)
-    (c.in-Ok-Some.is ∙ ap Ok c.in-Ok-Some.field-0-is) (c.write_slowly.ensures.step a.section.now l.end front) in
+    (c.in-Ok-Some.is ∙ ap Ok c.in-Ok-Some.field-0-is) (c.write_slowly.ensures.step a.section.now l.end below front) in
     let next = c.in-Ok-Some.next in
     let long : length a.section.now < 2 ^ 63 = search rules in
     let fits : next.last.offset < 2 ^ 64 = search rules in
@@ -61,12 +76,12 @@ relocations_from-rest-requires c =
     let bytes = a.relocations.now in
     let l = c.loop-entry in
     let inv = l.invariant in
-    let quick = subst (IsQuickStep a.architecture a.addresses.now bytes a.symbols.now a.section.now l.index inv.front.last c.write_quickly.new.section c.write_quickly.new.memory) c.in_default-write_quickly.is
-    (c.write_quickly.ensures.step a.section.now inv.front.last inv.front.within inv.front.reached) in
-    let front = front_kept a.architecture a.addresses.now bytes a.symbols.now a.section.now l.section c.write_quickly.new.section l.memory c.write_quickly.new.memory l.index l.step l.end inv.front quick in
+    let same = subst (λ x. IfNone x (c.write_quickly.new.section ≡ l.section)) c.in_default-write_quickly.is c.write_quickly.ensures.none in
+    let below = below_kept a.architecture a.addresses.now bytes a.symbols.now a.section.now l.section c.write_quickly.new.section l.memory c.write_quickly.new.memory l.index same c.write_quickly.ensures.kept inv.below in
+    let front = subst (λ section. IsFront a.architecture bytes a.section.now section l.index l.step l.end) (sym same) inv.front in
     let step = subst (IsSlowStep a.architecture a.addresses.now bytes a.symbols.now a.section.now l.index c.write_slowly.new.section c.write_slowly.new.memory)
-    (c.in-Ok-Some.is ∙ ap Ok c.in-Ok-Some.field-0-is) (c.write_slowly.ensures.step a.section.now l.end front) in
-    step.1.within
+    (c.in-Ok-Some.is ∙ ap Ok c.in-Ok-Some.field-0-is) (c.write_slowly.ensures.step a.section.now l.end below front) in
+    step.1.below.within
 
 pub loop-entry-smaller : goal.loop-entry-smaller
 loop-entry-smaller c =
@@ -74,11 +89,11 @@ loop-entry-smaller c =
     let bytes = a.relocations.now in
     let l = c.loop-entry in
     let inv = l.invariant in
-    let quick = subst (IsQuickStep a.architecture a.addresses.now bytes a.symbols.now a.section.now l.index inv.front.last c.write_quickly.new.section c.write_quickly.new.memory) c.in_default-write_quickly.is
-    (c.write_quickly.ensures.step a.section.now inv.front.last inv.front.within inv.front.reached) in
-    let front = front_kept a.architecture a.addresses.now bytes a.symbols.now a.section.now l.section c.write_quickly.new.section l.memory c.write_quickly.new.memory l.index l.step l.end inv.front quick in
+    let same = subst (λ x. IfNone x (c.write_quickly.new.section ≡ l.section)) c.in_default-write_quickly.is c.write_quickly.ensures.none in
+    let below = below_kept a.architecture a.addresses.now bytes a.symbols.now a.section.now l.section c.write_quickly.new.section l.memory c.write_quickly.new.memory l.index same c.write_quickly.ensures.kept inv.below in
+    let front = subst (λ section. IsFront a.architecture bytes a.section.now section l.index l.step l.end) (sym same) inv.front in
     let step = subst (IsSlowStep a.architecture a.addresses.now bytes a.symbols.now a.section.now l.index c.write_slowly.new.section c.write_slowly.new.memory)
-    (c.in-Ok-Some.is ∙ ap Ok c.in-Ok-Some.field-0-is) (c.write_slowly.ensures.step a.section.now l.end front) in
+    (c.in-Ok-Some.is ∙ ap Ok c.in-Ok-Some.field-0-is) (c.write_slowly.ensures.step a.section.now l.end below front) in
     let len = c.in-Some.ensures.cases.2 in
     let there = there_is bytes l.rest.now l.index inv.rest (omega (arith, len)) in
     let more = step.0 in
@@ -90,16 +105,17 @@ loop-entry-preserved c =
     let bytes = a.relocations.now in
     let l = c.loop-entry in
     let inv = l.invariant in
-    let quick = subst (IsQuickStep a.architecture a.addresses.now bytes a.symbols.now a.section.now l.index inv.front.last c.write_quickly.new.section c.write_quickly.new.memory) c.in_default-write_quickly.is
-    (c.write_quickly.ensures.step a.section.now inv.front.last inv.front.within inv.front.reached) in
-    let front = front_kept a.architecture a.addresses.now bytes a.symbols.now a.section.now l.section c.write_quickly.new.section l.memory c.write_quickly.new.memory l.index l.step l.end inv.front quick in
+    let same = subst (λ x. IfNone x (c.write_quickly.new.section ≡ l.section)) c.in_default-write_quickly.is c.write_quickly.ensures.none in
+    let below = below_kept a.architecture a.addresses.now bytes a.symbols.now a.section.now l.section c.write_quickly.new.section l.memory c.write_quickly.new.memory l.index same c.write_quickly.ensures.kept inv.below in
+    let front = subst (λ section. IsFront a.architecture bytes a.section.now section l.index l.step l.end) (sym same) inv.front in
     let step = subst (IsSlowStep a.architecture a.addresses.now bytes a.symbols.now a.section.now l.index c.write_slowly.new.section c.write_slowly.new.memory)
-    (c.in-Ok-Some.is ∙ ap Ok c.in-Ok-Some.field-0-is) (c.write_slowly.ensures.step a.section.now l.end front) in
+    (c.in-Ok-Some.is ∙ ap Ok c.in-Ok-Some.field-0-is) (c.write_slowly.ensures.step a.section.now l.end below front) in
     record {
-      front = front_slowly a.architecture a.addresses.now bytes a.symbols.now a.section.now c.write_slowly.new.section c.write_slowly.new.memory c.in-Ok-Some.next (step.1);
+      below = step.1.below;
+      front = front_slowly a.architecture bytes a.section.now c.write_slowly.new.section c.in-Ok-Some.next step.1.order;
       room = c.write_slowly.ensures.len ∙ (c.write_quickly.ensures.len ∙ inv.room);
       rest = c.relocations_from-rest.ensures;
-      within = step.1.within;
+      within = step.1.below.within;
       behind = omega arith;
       known = c.learn.ensures.known;
       high = inv.high;
@@ -111,14 +127,14 @@ returns-in-Ok-None-clause-ok c =
     let bytes = a.relocations.now in
     let l = c.loop-entry in
     let inv = l.invariant in
-    let quick = subst (IsQuickStep a.architecture a.addresses.now bytes a.symbols.now a.section.now l.index inv.front.last c.write_quickly.new.section c.write_quickly.new.memory) c.in_default-write_quickly.is
-    (c.write_quickly.ensures.step a.section.now inv.front.last inv.front.within inv.front.reached) in
-    let front = front_kept a.architecture a.addresses.now bytes a.symbols.now a.section.now l.section c.write_quickly.new.section l.memory c.write_quickly.new.memory l.index l.step l.end inv.front quick in
+    let same = subst (λ x. IfNone x (c.write_quickly.new.section ≡ l.section)) c.in_default-write_quickly.is c.write_quickly.ensures.none in
+    let below = below_kept a.architecture a.addresses.now bytes a.symbols.now a.section.now l.section c.write_quickly.new.section l.memory c.write_quickly.new.memory l.index same c.write_quickly.ensures.kept inv.below in
+    let front = subst (λ section. IsFront a.architecture bytes a.section.now section l.index l.step l.end) (sym same) inv.front in
+    let step = subst (IsSlowStep a.architecture a.addresses.now bytes a.symbols.now a.section.now l.index c.write_slowly.new.section c.write_slowly.new.memory)
+    (c.in-Ok-None.is ∙ ap Ok c.in-Ok-None.field-0-is) (c.write_slowly.ensures.step a.section.now l.end below front) in
     let len = c.in-Some.ensures.cases.2 in
-    let there = there_is bytes l.rest.now l.index inv.rest (omega (arith, len)) in
-    written_below a.architecture a.addresses.now bytes a.symbols.now a.section.now c.write_slowly.new.section c.write_slowly.new.memory l.index there
-    (subst (IsSlowStep a.architecture a.addresses.now bytes a.symbols.now a.section.now l.index c.write_slowly.new.section c.write_slowly.new.memory)
-    (c.in-Ok-None.is ∙ ap Ok c.in-Ok-None.field-0-is) (c.write_slowly.ensures.step a.section.now l.end front))
+    first_run a.architecture a.addresses.now bytes a.symbols.now a.section.now c.write_slowly.new.section c.write_slowly.new.memory l.index
+    (there_is bytes l.rest.now l.index inv.rest (omega (arith, len))) step
 
 pub returns-in-Err-clause-err : goal.returns-in-Err-clause-err
 returns-in-Err-clause-err c =
@@ -126,16 +142,18 @@ returns-in-Err-clause-err c =
     let bytes = a.relocations.now in
     let l = c.loop-entry in
     let inv = l.invariant in
-    let quick = subst (IsQuickStep a.architecture a.addresses.now bytes a.symbols.now a.section.now l.index inv.front.last c.write_quickly.new.section c.write_quickly.new.memory) c.in_default-write_quickly.is
-    (c.write_quickly.ensures.step a.section.now inv.front.last inv.front.within inv.front.reached) in
-    let front = front_kept a.architecture a.addresses.now bytes a.symbols.now a.section.now l.section c.write_quickly.new.section l.memory c.write_quickly.new.memory l.index l.step l.end inv.front quick in
-    subst (IsSlowStep a.architecture a.addresses.now bytes a.symbols.now a.section.now l.index c.write_slowly.new.section c.write_slowly.new.memory)
-    c.in-Err.is (c.write_slowly.ensures.step a.section.now l.end front)
+    let same = subst (λ x. IfNone x (c.write_quickly.new.section ≡ l.section)) c.in_default-write_quickly.is c.write_quickly.ensures.none in
+    let below = below_kept a.architecture a.addresses.now bytes a.symbols.now a.section.now l.section c.write_quickly.new.section l.memory c.write_quickly.new.memory l.index same c.write_quickly.ensures.kept inv.below in
+    let front = subst (λ section. IsFront a.architecture bytes a.section.now section l.index l.step l.end) (sym same) inv.front in
+    let step = subst (IsSlowStep a.architecture a.addresses.now bytes a.symbols.now a.section.now l.index c.write_slowly.new.section c.write_slowly.new.memory)
+    c.in-Err.is (c.write_slowly.ensures.step a.section.now l.end below front) in
+    step
 
 pub returns-clause-ok : goal.returns-clause-ok
 returns-clause-ok c =
     let a = c.args in
+    let bytes = a.relocations.now in
     let l = c.loop-entry in
     let inv = l.invariant in
-    written_all a.architecture a.addresses.now a.relocations.now a.symbols.now a.section.now l.section l.memory l.index inv.front.last inv.front.reached
-    (there_isnt a.relocations.now l.rest.now l.index inv.rest c.in_default.ensures.cases)
+    only_run a.architecture a.addresses.now bytes a.symbols.now a.section.now l.section l.memory l.index inv.below inv.front.order.apart
+    (there_isnt bytes l.rest.now l.index inv.rest c.in_default.ensures.cases)

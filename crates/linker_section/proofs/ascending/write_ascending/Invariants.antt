@@ -1,13 +1,14 @@
 use Rattle.std.proofs.Common.{◌≡◌, ◌-◌, ◌*◌, ◌/◌, ◌≤◌, length, drop}
 use Rattle.std.specs.Prelude.{IfSome}
 use Rattle.linker_section.specs.Inner.Quick.{AreKnown, IsHighValue}
-use Rattle.linker_section.specs.Inner.Steps.{IsFront}
+use Rattle.linker_section.specs.Inner.Steps.{AreWrittenBelow, IsFront}
 use Rattle.linker_section.proofs.ascending.write_ascending.Given as goal
 
 abbrev pub invariant-loop-entry : goal.invariant-loop-entry
 invariant-loop-entry l = record {
-  front : IsFront l.architecture l.addresses l.relocations l.symbols l.fn.section l.section l.memory
-      l.index l.step l.end;
+  below : AreWrittenBelow l.architecture l.addresses l.relocations l.symbols l.fn.section l.section
+      l.memory l.index;
+  front : IsFront l.architecture l.relocations l.fn.section l.section l.index l.step l.end;
   room : length l.memory ≡ length l.fn.memory;
   rest : l.rest ≡ drop (l.index * 24) l.relocations;
   within : l.index ≤ length l.relocations / 24;

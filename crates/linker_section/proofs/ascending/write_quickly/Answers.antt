@@ -2,37 +2,25 @@ use Rattle.std.specs.Int.{from_le_bytes}
 use Rattle.std.specs.Prelude.{IfSome, slice_index, not, ◌||◌}
 use Rattle.std.proofs.lemmas.Bool.{cases_Bool}
 use Rattle.linker_section.proofs.CodeNumbers.{says_way}
-use Rattle.linker_section.specs.Inner.Codes.{shows_lengths}
+use Rattle.linker_section.proofs.QuickValues.{high_is}
+use Rattle.linker_section.specs.Inner.Codes.{shows_lengths, SaysWay}
 use Rattle.std.proofs.lemmas.List.{get_or-drop}
-use Rattle.std.proofs.Common.{◌≡◌, ℕ, ◌+◌, drop, ◌<◌, ◌^◌, ◌∙◌, refl, sym, ap, subst, arith, rules, length, set, FitsSigned, to_z, of_z, inl, inr, None}
+use Rattle.std.proofs.Common.{◌≡◌, ℕ, ◌+◌, drop, ◌<◌, ◌^◌, ◌∙◌, refl, sym, ap, subst, arith, rules, length, FitsSigned, to_z, of_z, inl, inr}
 use Rattle.std.specs.Int.{w64}
 use Rattle.std.proofs.lemmas.Int.{to_z-of_z}
-use Rattle.linker_elf.specs.Relocate.{window_len}
 use Rattle.linker_section.proofs.Lengths.{unthreaded_holds, word_shows}
 use Rattle.linker_section.proofs.Local.{one_local}
-use Rattle.linker_section.proofs.Reaching.{is_written, not_written, reached_kept, reached_quickly}
-use Rattle.linker_section.specs.Inner.Quick.{AreOf, IsQuickValue, shows}
+use Rattle.linker_section.proofs.Reaching.{is_written, not_written}
+use Rattle.linker_section.specs.Inner.Quick.{AreOf, IsHighValue, IsQuickValue, shows}
 use Rattle.linker_section.specs.Inner.Saved.{IsSavedAt}
-use Rattle.linker_section.specs.Inner.Steps.{Reached}
-use Rattle.linker_section.specs.Sections.{IsWritten, IsWrittenAt}
+use Rattle.linker_section.specs.Sections.{IsWrittenAt}
 use Rattle.linker_section.specs.Values.{offset_at}
-use Rattle.linker_section.specs.declared.fields.Field.{Field}
 use Rattle.linker_section.proofs.ascending.write_quickly.Goals as goal
 
-pub returns-then-is_err-clause-step : goal.returns-then-is_err-clause-step
-returns-then-is_err-clause-step c before last within reached =
-    let a = c.args in
-    let section = a.section.now in
-    let memory = set a.memory.now a.index c.in-Some-whole_word_at.word in
-    let same = not_written c.in-Some.row _ a.relocation.now.offset section c.write_held_at.new.section c.write_held_at.result
-    (sym c.is_err.ensures.value ∙ c.if-is_err.true) c.write_held_at.ensures in
-    subst (λ now. Reached a.architecture a.addresses.now a.relocations.now a.symbols.now None before now memory a.index last) (sym same)
-    (reached_kept a.architecture a.addresses.now a.relocations.now a.symbols.now None before section a.memory.now a.index c.in-Some-whole_word_at.word last reached)
-
-pub returns-in_default-quick_value-clause-step : goal.returns-in_default-quick_value-clause-step
-returns-in_default-quick_value-clause-step c before last within reached =
-    let a = c.args in
-    reached_kept a.architecture a.addresses.now a.relocations.now a.symbols.now None before a.section.now a.memory.now a.index c.in-Some-whole_word_at.word last reached
+pub returns-then-is_err-clause-none : goal.returns-then-is_err-clause-none
+returns-then-is_err-clause-none c =
+    not_written c.in-Some.row _ c.args.relocation.now.offset c.args.section.now c.write_held_at.new.section c.write_held_at.result
+    (sym c.is_err.ensures.value ∙ c.if-is_err.true) c.write_held_at.ensures
 
 pub write_held_at-requires-clause-length : goal.write_held_at-requires-clause-length
 write_held_at-requires-clause-length c inside long =
@@ -69,34 +57,51 @@ overflow_add-result c =
     let window = c.window.ensures in
     omega (arith, inside, long, window)
 
-pub returns-clause-step : goal.returns-clause-step
-returns-clause-step c before last within reached =
+pub returns-clause-some : goal.returns-clause-some
+returns-clause-some c =
     let a = c.args in
-    let i = a.index in
-    let bytes = a.relocations.now in
     let section = a.section.now in
     let after = c.write_held_at.new.section in
     let row = c.in-Some.row in
     let word = c.in-Some-whole_word_at.word in
     let v = c.in-Some-quick_value.value in
-    let o = offset_at bytes i in
-    let there = c.requires.within in
-    let room = c.requires.room in
+    let o = offset_at a.relocations.now a.index in
     let same = c.requires.is in
     let offset = ap (λ r. r.offset) same in
     let front = c.if-offset-end.false in
     let window = c.window.ensures in
-    let value = subst (λ r. IsQuickValue a.architecture a.addresses.now bytes a.symbols.now r row v) same c.in-Some-quick_value.ensures in
     let fits : FitsSigned w64 v = search rules in
-    let saved = subst (λ r. IsSavedAt r.offset section word) same c.in-Some-whole_word_at.ensures.some in
-    let written : IsWritten row v o section after =
-    is_written row v o section after c.write_held_at.result (sym c.is_err.ensures.value ∙ c.if-is_err.false)
-    (subst (λ x. IsWrittenAt row x o section after c.write_held_at.result) (to_z-of_z w64 v fits)
-    (subst (λ r. IsWrittenAt row (to_z w64 (of_z w64 v)) r.offset section after c.write_held_at.result) same c.write_held_at.ensures)) in
-    let field : Field = record { offset = o; len = window_len row; kind = row.kind } in (
-      field,
-      record { row = row; is_row = value.has.is_row; is_field = refl },
-      (omega (arith, offset, window)),
-      reached_quickly a.architecture a.addresses.now bytes a.symbols.now before section after a.memory.now i word last row v
-          there (omega (arith, there, room)) value (omega (arith, within, front, offset)) saved written reached,
-    )
+    record {
+      row = row;
+      v = v;
+      value = subst (λ r. IsQuickValue a.architecture a.addresses.now a.relocations.now a.symbols.now r row v) same c.in-Some-quick_value.ensures;
+      word = word;
+      saved = subst (λ r. IsSavedAt r.offset section word) same c.in-Some-whole_word_at.ensures.some;
+      kept_is = refl;
+      written = is_written row v o section after c.write_held_at.result (sym c.is_err.ensures.value ∙ c.if-is_err.false)
+          (subst (λ x. IsWrittenAt row x o section after c.write_held_at.result) (to_z-of_z w64 v fits)
+          (subst (λ r. IsWrittenAt row (to_z w64 (of_z w64 v)) r.offset section after c.write_held_at.result) same c.write_held_at.ensures));
+      behind = omega (arith, front, offset);
+      end_is = omega (arith, offset, window);
+    }
+
+pub returns-clause-high : goal.returns-clause-high
+returns-clause-high c =
+    let a = c.args in
+    let bytes = a.relocations.now in
+    let row = c.in-Some.row in
+    let v = c.in-Some-quick_value.value in
+    let same = c.requires.is in
+    let fits : FitsSigned w64 v = search rules in
+    let Is = IsHighValue a.architecture a.addresses.now bytes a.symbols.now in
+    let known = subst (λ x. IfSome x (AreOf a.architecture a.known.now)) c.in-Some.is c.requires.known in
+    let way = says_way a.architecture a.known.now.code a.known.now.number row known.is_number known.is_row in
+    elim c.high_behind-high.ensures [
+      | inl kept ↦ subst (λ x. IfSome x Is) (sym kept) c.requires.high
+      | inr new ↦
+          subst (λ x. IfSome x Is) (sym (new.1))
+          (subst (λ x. Is (record { offset = a.relocation.now.offset; value = x })) (sym (to_z-of_z w64 v fits))
+          (high_is a.architecture a.addresses.now bytes a.symbols.now a.index row a.known.now.number a.relocation.now.offset v
+          c.requires.within (ap (λ r. r.offset) same) (subst (λ code. SaysWay a.architecture code a.known.now.number row) (c.requires.code ∙ ap (λ r. r.code) same) way) (new.0)
+          (subst (λ r. IsQuickValue a.architecture a.addresses.now bytes a.symbols.now r row v) same c.in-Some-quick_value.ensures)))
+    ]

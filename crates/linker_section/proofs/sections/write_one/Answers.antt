@@ -34,11 +34,13 @@ returns-in-Ok-None-clause-step c before inv =
       (omega arith),
       record {
         is_limit = inv.is_limit;
-        within = omega (arith, there);
-        relocated = AreRelocated.mark inv.relocated value;
-        restores = mark_restores a.architecture a.addresses.now bytes a.memory.now before a.section.now a.symbols.now i c.word_at.result (omega (arith, there, room)) none saved inv.restores;
+        below = record {
+          within = omega (arith, there);
+          relocated = AreRelocated.mark inv.below.relocated value;
+          restores = mark_restores a.architecture a.addresses.now bytes a.memory.now before a.section.now a.symbols.now i c.word_at.result (omega (arith, there, room)) none saved inv.below.restores;
+          same_length = inv.below.same_length;
+        };
         order = mark_order a.limit a.architecture a.addresses.now bytes before a.section.now a.symbols.now i a.last inv.is_limit inv.order there none;
-        same_length = inv.same_length;
       },
     )
 
@@ -96,12 +98,14 @@ returns-clause-step c before inv =
       (omega arith),
       record {
         is_limit = inv.is_limit;
-        within = omega (arith, there);
-        relocated = AreRelocated.one inv.relocated has written;
-        restores = one_restores a.architecture bytes memory before section c.write_at.new.section i c.word_at.result row (found.1) (omega (arith, there, room)) has.is_row written saved inv.restores;
+        below = record {
+          within = omega (arith, there);
+          relocated = AreRelocated.one inv.below.relocated has written;
+          restores = one_restores a.architecture bytes memory before section c.write_at.new.section i c.word_at.result row (found.1) (omega (arith, there, room)) has.is_row written saved inv.below.restores;
+          same_length = local ∙ inv.below.same_length;
+        };
         order = subst (IsInOrder a.limit a.architecture bytes before c.write_at.new.section (i + 1)) (sym (c.or-last.ensures ∙ ap (λ f. next_field f last) field_is))
-            (one_order a.limit a.architecture bytes before section c.write_at.new.section i last row (found.1) inv.is_limit inv.order there c.requires.after inv.same_length has.is_row some clear written);
-        same_length = local ∙ inv.same_length;
+            (one_order a.limit a.architecture bytes before section c.write_at.new.section i last row (found.1) inv.is_limit inv.order there c.requires.after inv.below.same_length has.is_row some clear written);
       },
     )
 
@@ -119,15 +123,15 @@ returns-in-Err-clause-step c before inv =
     let saved = subst (λ r. IsSavedAt r.offset section c.word_at.result) same c.word_at.ensures in
     let value = subst (λ r. IsRowValue a.architecture a.addresses.now bytes a.symbols.now r (Err c.in-Err.error)) same
     (subst (IsRowValue a.architecture a.addresses.now bytes a.symbols.now c.relocation_in-relocation.result) c.in-Err.is c.row_value.ensures) in
-    stop a.architecture a.addresses.now bytes before section memory _ a.symbols.now i _ inv.within
-    (set_above memory i i c.word_at.result (omega arith)) inv.restores
+    stop a.architecture a.addresses.now bytes before section memory _ a.symbols.now i _ inv.below.within
+    (set_above memory i i c.word_at.result (omega arith)) inv.below.restores
     (record {
       within = there;
       apart = apart_now a.limit a.architecture bytes before section i last inv.is_limit inv.order;
       written = i;
       is_next = inl refl;
       now = section;
-      relocated = inv.relocated;
+      relocated = inv.below.relocated;
       cause = value;
     })
 
@@ -154,16 +158,16 @@ returns-then-not-is_clear-clause-step c before inv =
     let field_is : c.field_at-field.result ≡ field = c.field_at-field.ensures ∙ ap (λ r. field_of_row row r.offset section) same in
     let unclear : clear_in a.limit i field last ≡ false =
     ap (λ f. clear_in a.limit i f last) (sym field_is) ∙ (sym c.is_clear.ensures ∙ c.if-not-is_clear.true) in
-    stop a.architecture a.addresses.now bytes before section memory _ a.symbols.now i _ inv.within
-    (set_above memory i i c.word_at.result (omega arith)) inv.restores
+    stop a.architecture a.addresses.now bytes before section memory _ a.symbols.now i _ inv.below.within
+    (set_above memory i i c.word_at.result (omega arith)) inv.below.restores
     (record {
       within = there;
       apart = apart_now a.limit a.architecture bytes before section i last inv.is_limit inv.order;
       written = i;
       is_next = inl refl;
       now = section;
-      relocated = inv.relocated;
-      cause = overlap_now a.limit a.architecture bytes before section i last row inv.is_limit inv.order there c.requires.after inv.same_length has.is_row some unclear;
+      relocated = inv.below.relocated;
+      cause = overlap_now a.limit a.architecture bytes before section i last row inv.is_limit inv.order there c.requires.after inv.below.same_length has.is_row some unclear;
     })
 
 pub relocate_pair-requires-clause-value : goal.relocate_pair-requires-clause-value
@@ -213,17 +217,17 @@ returns-then-not-has_length-clause-step c before inv =
     let field_is : c.field_at-field.result ≡ field = c.field_at-field.ensures ∙ ap (λ r. field_of_row row r.offset section) same in
     let clear : clear_in a.limit i field last ≡ true =
     ap (λ f. clear_in a.limit i f last) (sym field_is) ∙ (sym c.is_clear.ensures ∙ c.if-not-is_clear.false) in
-    stop a.architecture a.addresses.now bytes before section memory _ a.symbols.now i _ inv.within
-    (set_above memory i i c.word_at.result (omega arith)) inv.restores
+    stop a.architecture a.addresses.now bytes before section memory _ a.symbols.now i _ inv.below.within
+    (set_above memory i i c.word_at.result (omega arith)) inv.below.restores
     (record {
       within = there;
       apart = apart_now a.limit a.architecture bytes before section i last inv.is_limit inv.order;
       written = i;
       is_next = inl refl;
       now = section;
-      relocated = inv.relocated;
+      relocated = inv.below.relocated;
       cause = (
-        apart_next a.limit a.architecture bytes before section i last row inv.is_limit inv.order there c.requires.after inv.same_length has.is_row some clear,
+        apart_next a.limit a.architecture bytes before section i last row inv.is_limit inv.order there c.requires.after inv.below.same_length has.is_row some clear,
         other_length a.architecture a.addresses.now bytes a.symbols.now i section row (found.1) has
             (λ shown. true≢false (sym ((c.has_length.ensures).1 (subst (λ r. HasLength row r.offset section) (sym same) shown)) ∙ c.if-not-has_length.true)),
       );
@@ -261,17 +265,17 @@ returns-in-Err-write_at-clause-step c before inv =
     let stopped : Stopped = record { count = i; error = record { index = i; error = Write why } } in
     let alone : BeginsPair a.architecture bytes i → ⊥ = subst (λ x. IfNone x (BeginsPair a.architecture bytes i → ⊥)) c.in_default.is c.second_of_pair.ensures.none in
     subst (λ now. IsStopped a.architecture a.addresses.now bytes a.symbols.now before now (set memory i c.word_at.result) stopped) (sym (rejected.1))
-    (stop a.architecture a.addresses.now bytes before section memory _ a.symbols.now i _ inv.within
-    (set_above memory i i c.word_at.result (omega arith)) inv.restores
+    (stop a.architecture a.addresses.now bytes before section memory _ a.symbols.now i _ inv.below.within
+    (set_above memory i i c.word_at.result (omega arith)) inv.below.restores
     (record {
       within = there;
       apart = apart_now a.limit a.architecture bytes before section i last inv.is_limit inv.order;
       written = i;
       is_next = inl refl;
       now = section;
-      relocated = inv.relocated;
+      relocated = inv.below.relocated;
       cause = (
-        apart_next a.limit a.architecture bytes before section i last row inv.is_limit inv.order there c.requires.after inv.same_length has.is_row some clear,
+        apart_next a.limit a.architecture bytes before section i last row inv.is_limit inv.order there c.requires.after inv.below.same_length has.is_row some clear,
         record { row = row; value = found.1; has_value = has; length_shown = shown; rejected = rejected.0; alone = alone },
       );
     }))
@@ -309,12 +313,14 @@ returns-in-Some-clause-step c before inv =
       (omega arith),
       record {
         is_limit = inv.is_limit;
-        within = omega (arith, under);
-        relocated = AreRelocated.pair inv.relocated written;
-        restores = pair_restores a.architecture a.addresses.now bytes memory before section c.relocate_pair.new.section a.symbols.now i c.word_at.result c.word_at-in-Some.result row (omega (arith, under, room)) long has.is_row pair written saved saved_next inv.restores;
+        below = record {
+          within = omega (arith, under);
+          relocated = AreRelocated.pair inv.below.relocated written;
+          restores = pair_restores a.architecture a.addresses.now bytes memory before section c.relocate_pair.new.section a.symbols.now i c.word_at.result c.word_at-in-Some.result row (omega (arith, under, room)) long has.is_row pair written saved saved_next inv.below.restores;
+          same_length = local.same_length ∙ inv.below.same_length;
+        };
         order = subst (IsInOrder a.limit a.architecture bytes before c.relocate_pair.new.section (i + 2)) (sym (c.or-last.ensures ∙ ap (λ f. next_field f last) field_is))
-            (pair_order a.limit a.architecture a.addresses.now bytes before section c.relocate_pair.new.section a.symbols.now i last row inv.is_limit inv.order there c.requires.after inv.same_length has.is_row some clear pair written);
-        same_length = local.same_length ∙ inv.same_length;
+            (pair_order a.limit a.architecture a.addresses.now bytes before section c.relocate_pair.new.section a.symbols.now i last row inv.is_limit inv.order there c.requires.after inv.below.same_length has.is_row some clear pair written);
       },
     )
 
@@ -346,10 +352,10 @@ returns-in-Err-relocate_pair-clause-step c before inv =
     let under = pair.within in
     let outcome = subst (IsPairOutcome a.architecture a.addresses.now bytes a.symbols.now i section c.relocate_pair.new.section) c.in-Err-relocate_pair.is c.relocate_pair.ensures in
     let stopped : Stopped = record { count = i; error = c.in-Err-relocate_pair.error } in
-    let next = apart_next a.limit a.architecture bytes before section i last row inv.is_limit inv.order there c.requires.after inv.same_length has.is_row some clear in
+    let next = apart_next a.limit a.architecture bytes before section i last row inv.is_limit inv.order there c.requires.after inv.below.same_length has.is_row some clear in
     subst (λ now. IsStopped a.architecture a.addresses.now bytes a.symbols.now before now (set (set memory i c.word_at.result) (i + 1) c.word_at-in-Some.result) stopped) (sym (outcome.0))
-    (stop a.architecture a.addresses.now bytes before section memory _ a.symbols.now i _ inv.within
-    (λ j below. set_above (set memory i c.word_at.result) i (i + 1) c.word_at-in-Some.result (omega arith) j below ∙ set_above memory i i c.word_at.result (omega arith) j below) inv.restores
+    (stop a.architecture a.addresses.now bytes before section memory _ a.symbols.now i _ inv.below.within
+    (λ j below. set_above (set memory i c.word_at.result) i (i + 1) c.word_at-in-Some.result (omega arith) j below ∙ set_above memory i i c.word_at.result (omega arith) j below) inv.below.restores
     (elim (outcome.1) [
       | inl value ↦ subst (IsFirstRejected a.architecture a.addresses.now bytes a.symbols.now before) (sym (value.1))
           (record {
@@ -358,7 +364,7 @@ returns-in-Err-relocate_pair-clause-step c before inv =
             written = i;
             is_next = inr (refl, pair, tt);
             now = section;
-            relocated = inv.relocated;
+            relocated = inv.below.relocated;
             cause = value.2;
           })
       | inr number ↦ subst (IsFirstRejected a.architecture a.addresses.now bytes a.symbols.now before) (sym (number.1))
@@ -368,7 +374,7 @@ returns-in-Err-relocate_pair-clause-step c before inv =
             written = i;
             is_next = inl refl;
             now = section;
-            relocated = inv.relocated;
+            relocated = inv.below.relocated;
             cause = (next, number.2);
           })
     ]))

@@ -1,0 +1,216 @@
+-- Two runs of relocations by ascending offsets, gone through by offset.
+use Rattle.std.proofs.Common.{◌≡◌, ℕ, ◌+◌, ◌/◌, ◌<◌, ◌≤◌, List, length, drop, Some, true, false, sym, ap, subst, inl, inr, arith}
+use Rattle.std.proofs.lemmas.Bool.{cases_eq, cases_lt, cases_Bool, cond-false, or_left, or_right}
+use Rattle.linker_elf.specs.Relocate.{window_len}
+use Rattle.linker_elf.specs.declared.elf.RelocationKindInfo.{RelocationKindInfo}
+use Rattle.linker_section.proofs.Claims.{OneMore}
+use Rattle.linker_section.proofs.Local.{small_row}
+use Rattle.linker_section.proofs.Rows.{one_info}
+use Rattle.linker_section.proofs.Stepping.{len_alone, len_paired, no_field, written_alone}
+use Rattle.linker_section.proofs.Ulebs.{uleb_len_most}
+use Rattle.linker_section.proofs.Valued.{mark_none}
+use Rattle.linker_section.specs.Fields.{IsField, field_end, field_len, begins_pair, is_of_pair, AreApart}
+use Rattle.linker_section.specs.Inner.Order.{IsPast, AreSmall, IsOfRuns, ArePast}
+use Rattle.linker_section.specs.Relocations.{relocation_in}
+use Rattle.linker_section.specs.Sections.{AreRelocated, none, mark, one, pair}
+use Rattle.linker_section.specs.Values.{has_value, offset_at}
+use Rattle.linker_section.specs.declared.facts.Addresses.{Addresses}
+use Rattle.linker_section.specs.declared.facts.Symbol.{Symbol}
+use Rattle.linker_section.specs.declared.relocations.Rela.{Rela}
+use Rattle.linker_utils.specs.Architectures.{IsRow}
+use Rattle.linker_utils.specs.declared.elf.Architecture.{Architecture}
+
+-- ---- fields are small
+
+pub len_within : (row : RelocationKindInfo) (there : List ℕ) → is_of_pair row ≡ false
+    → field_len row there ≤ window_len row
+len_within row there alone =
+    elim (cases_Bool (has_value row.kind)) [
+      | inl has ↦ let e = len_alone row there has alone in omega (arith, e)
+      | inr isnt ↦ let e : field_len row there ≡ 0 = cond-false {A = ℕ} (has_value row.kind) _ 0 isnt in omega (arith, e)
+    ]
+
+pair_within : (row : RelocationKindInfo) (there : List ℕ) → is_of_pair row ≡ true
+    → field_len row there ≤ 10
+pair_within row there paired =
+    elim (cases_Bool (has_value row.kind)) [
+      | inl has ↦ let e = len_paired row there has paired in let most = uleb_len_most 10 there in omega (arith, e, most)
+      | inr isnt ↦ let e : field_len row there ≡ 0 = cond-false {A = ℕ} (has_value row.kind) _ 0 isnt in omega (arith, e)
+    ]
+
+-- those whose values are written
+pub fields_small : (architecture : Architecture) (addresses : Addresses) (bytes before : List ℕ)
+    (symbols : List Symbol) {n : ℕ} {now : List ℕ}
+    → AreRelocated architecture addresses bytes symbols before n now
+    → (i : ℕ) (row : RelocationKindInfo) → i < n → IsField architecture bytes before i row
+    → field_len row (drop (offset_at bytes i) before) ≤ 10
+fields_small architecture addresses bytes before symbols none i row below is_field = absurd (omega (arith, below))
+fields_small architecture addresses bytes before symbols (mark {n} {middle} relocated value) i row below is_field =
+    elim (cases_eq i n) [
+      | inl is ↦
+          absurd (no_field architecture addresses bytes before symbols n row
+          (mark_none architecture addresses bytes symbols (relocation_in bytes n) value)
+          (subst (λ x. IsField architecture bytes before x row) is is_field))
+      | inr isnt ↦ fields_small architecture addresses bytes before symbols relocated i row (omega (arith, below, isnt)) is_field
+    ]
+fields_small architecture addresses bytes before symbols (one {n} {middle} {after} {row} {v} relocated has written) i own below is_field =
+    elim (cases_eq i n) [
+      | inl is ↦
+          let same : own ≡ row = one_info architecture _ own row
+          (subst (λ x. IsRow architecture (relocation_in bytes x).code (Some own)) is is_field.is_row) has.is_row in
+          let small = small_row row v (drop (offset_at bytes n) middle) written.rest written.written in
+          let within = len_within own (drop (offset_at bytes i) before)
+          (subst (λ x. is_of_pair x ≡ false) (sym same) (written_alone row v (offset_at bytes n) middle after written)) in
+          let window = ap window_len same in
+          omega (arith, small, within, window)
+      | inr isnt ↦ fields_small architecture addresses bytes before symbols relocated i own (omega (arith, below, isnt)) is_field
+    ]
+fields_small architecture addresses bytes before symbols (pair {n} {middle} {after} relocated written) i row below is_field =
+    let both = written.pair in
+    elim (cases_lt i n) [
+      | inl under ↦ fields_small architecture addresses bytes before symbols relocated i row under is_field
+      | inr over ↦ pair_within row (drop (offset_at bytes i) before) (elim (cases_eq i n) [
+        | inl is ↦
+            let same : both.row ≡ row = one_info architecture _ both.row row both.has_value.is_row
+            (subst (λ x. IsRow architecture (relocation_in bytes x).code (Some row)) is is_field.is_row) in
+            subst (λ x. is_of_pair x ≡ true) same (or_left (begins_pair both.row.size both.row.kind) _ both.begins)
+        | inr isnt ↦
+            let next : i ≡ n + 1 = omega (arith, below, over, isnt) in
+            let same : both.other ≡ row = one_info architecture _ both.other row both.has_subtracted.is_row
+            (subst (λ x. IsRow architecture (relocation_in bytes x).code (Some row)) next is_field.is_row) in
+            subst (λ x. is_of_pair x ≡ true) same (or_right (begins_pair both.other.size both.other.kind) _ both.ends)
+      ])
+    ]
+
+-- ---- one more field
+
+pub past_more : (architecture : Architecture) (bytes section : List ℕ)
+    (IsSeen IsSeenNow : ℕ → Type 0) (k : ℕ) (last : Rela) → OneMore IsSeen IsSeenNow k
+    → ((i : ℕ) → IsSeen i → i < length bytes / 24) → AreSmall architecture bytes section
+    → IsPast architecture last (relocation_in bytes k)
+    → ArePast architecture bytes section IsSeen last
+    → ArePast architecture bytes section IsSeenNow (relocation_in bytes k)
+past_more architecture bytes section IsSeen IsSeenNow k last more within small next past =
+    let ends : (i : ℕ) (row : RelocationKindInfo) → IsSeen i → IsField architecture bytes section i row
+    → field_end bytes section i row ≤ offset_at bytes k =
+    λ i row seen is_field. elim (past.before i row seen is_field) [
+      | inl before ↦ let o = next.0 in omega (arith, before, o)
+      | inr same ↦
+          let o = ap (λ r. r.offset) same in
+          let e = next.1 row (drop (offset_at bytes i) section)
+          (subst (λ r. IsRow architecture r.code (Some row)) same is_field.is_row) (small i row (within i seen) is_field) in
+          omega (arith, o, e)
+    ] in
+    record {
+      apart = λ i j row other seen_i seen_j below is_field is_other overlap.
+          let o = overlap.0 in let p = overlap.1 in
+          elim (more.before i seen_i) [
+            | inl was_i ↦ elim (more.before j seen_j) [
+              | inl was_j ↦ past.apart i j row other was_i was_j below is_field is_other overlap
+              | inr new ↦ let e = ends i row was_i is_field in let n = ap (offset_at bytes) new in absurd (omega (arith, e, p, n))
+            ]
+            | inr new ↦ elim (more.before j seen_j) [
+              | inl was_j ↦ let e = ends j other was_j is_other in let n = ap (offset_at bytes) new in absurd (omega (arith, e, o, n))
+              | inr also ↦ absurd (omega (arith, new, also, below))
+            ]
+          ];
+      before = λ i row seen is_field. elim (more.before i seen) [
+        | inl was ↦ inl (ends i row was is_field)
+        | inr new ↦ inr (ap (relocation_in bytes) new)
+      ];
+    }
+
+-- in both runs
+
+pub past_first : (architecture : Architecture) (bytes section : List ℕ)
+    (start first second : ℕ) (last : Rela) → first < start → start ≤ length bytes / 24
+    → AreSmall architecture bytes section → IsPast architecture last (relocation_in bytes first)
+    → ArePast architecture bytes section (IsOfRuns bytes start first second) last
+    → ArePast architecture bytes section (IsOfRuns bytes start (first + 1) second) (relocation_in bytes first)
+past_first architecture bytes section start first second last there within =
+    past_more architecture bytes section (IsOfRuns bytes start first second) (IsOfRuns bytes start (first + 1) second) first last
+    (record {
+      before = λ i seen. elim (seen.1) [
+        | inl under ↦ elim (cases_eq i first) [
+          | inl is ↦ inr is
+          | inr isnt ↦ inl (seen.0, inl (omega (arith, under, isnt)))
+        ]
+        | inr other ↦ inl (seen.0, inr other)
+      ];
+      kept = λ i seen. elim (seen.1) [
+        | inl under ↦ (seen.0, inl (omega (arith, under)))
+        | inr other ↦ (seen.0, inr other)
+      ];
+      now = ((omega (arith, there, within)), inl (omega arith));
+    })
+    (λ i seen. seen.0)
+
+pub past_second : (architecture : Architecture) (bytes section : List ℕ)
+    (start first second : ℕ) (last : Rela) → start ≤ second → second < length bytes / 24
+    → AreSmall architecture bytes section → IsPast architecture last (relocation_in bytes second)
+    → ArePast architecture bytes section (IsOfRuns bytes start first second) last
+    → ArePast architecture bytes section (IsOfRuns bytes start first (second + 1)) (relocation_in bytes second)
+past_second architecture bytes section start first second last from there =
+    past_more architecture bytes section (IsOfRuns bytes start first second) (IsOfRuns bytes start first (second + 1)) second last
+    (record {
+      before = λ i seen. elim (seen.1) [
+        | inl under ↦ inl (seen.0, inl under)
+        | inr other ↦ elim (cases_eq i second) [
+          | inl is ↦ inr is
+          | inr isnt ↦ let o = other.1 in inl (seen.0, inr (other.0, omega (arith, o, isnt)))
+        ]
+      ];
+      kept = λ i seen. elim (seen.1) [
+        | inl under ↦ (seen.0, inl under)
+        | inr other ↦ let o = other.1 in (seen.0, inr (other.0, omega (arith, o)))
+      ];
+      now = (there, inr (from, omega arith));
+    })
+    (λ i seen. seen.0)
+
+-- past the last one there is none
+pub past_end : (architecture : Architecture) (bytes section : List ℕ) (start first second : ℕ)
+    (last : Rela) → length bytes / 24 ≤ second
+    → ArePast architecture bytes section (IsOfRuns bytes start first second) last
+    → ArePast architecture bytes section (IsOfRuns bytes start first (second + 1)) last
+past_end architecture bytes section start first second last end past =
+    let fewer : (i : ℕ) → IsOfRuns bytes start first (second + 1) i → IsOfRuns bytes start first second i =
+    λ i seen. (
+      seen.0,
+      elim (seen.1) [
+        | inl under ↦ inl under
+        | inr other ↦ let b = seen.0 in inr (other.0, omega (arith, b, end))
+      ],
+    ) in
+    record {
+      apart = λ i j row other seen_i seen_j. past.apart i j row other (fewer i seen_i) (fewer j seen_j);
+      before = λ i row seen. past.before i row (fewer i seen);
+    }
+
+pub past_none : (architecture : Architecture) (bytes section : List ℕ) (start : ℕ) (last : Rela)
+    → ArePast architecture bytes section (IsOfRuns bytes start 0 start) last
+past_none architecture bytes section start last =
+    let no : (i : ℕ) → IsOfRuns bytes start 0 start i → ⊥ =
+    λ i seen. elim (seen.1) [
+      | inl under ↦ omega (arith, under)
+      | inr other ↦ let a = other.0 in let b = other.1 in omega (arith, a, b)
+    ] in
+    record {
+      apart = λ i j row other seen_i. absurd (no i seen_i);
+      before = λ i row seen. absurd (no i seen);
+    }
+
+pub past_all : (architecture : Architecture) (bytes section : List ℕ) (start first second : ℕ)
+    (last : Rela) → start ≤ first → length bytes / 24 ≤ second
+    → ArePast architecture bytes section (IsOfRuns bytes start first second) last
+    → AreApart architecture bytes section (length bytes / 24)
+past_all architecture bytes section start first second last all_first all_second past i j row other below under =
+    let seen : (k : ℕ) → k < length bytes / 24 → IsOfRuns bytes start first second k =
+    λ k there. (
+      there,
+      elim (cases_lt k start) [
+        | inl of_first ↦ inl (omega (arith, of_first, all_first))
+        | inr of_second ↦ inr (of_second, omega (arith, there, all_second))
+      ],
+    ) in
+    past.apart i j row other (seen i (omega (arith, below, under))) (seen j under) below

@@ -1,0 +1,23 @@
+use Rattle.std.proofs.Common.{◌≡◌, ◌-◌, ◌∙◌, false, sym, ap, subst, arith}
+use Rattle.std.proofs.lemmas.Bool.{leb-true}
+use Rattle.linker_elf.specs.Relocate.{window_len}
+use Rattle.linker_section.proofs.Rows.{one_info}
+use Rattle.linker_section.proofs.Runs.{len_within}
+use Rattle.linker_section.specs.Fields.{is_of_pair}
+use Rattle.linker_utils.specs.Architectures.{IsRow}
+use Rattle.linker_section.proofs.order.is_past.Goals as goal
+
+pub returns-then-not-is_of_pair : goal.returns-then-not-is_of_pair
+returns-then-not-is_of_pair c fits =
+    let a = c.args in
+    let later = c.if-next-last.false in
+    let near = leb-true c.window.result (a.next.now.offset - a.last.now.offset) fits in
+    let window = c.window.ensures in (
+      (omega (arith, later)),
+      (λ row there is_row small.
+          let same : c.in-Some.row ≡ row = one_info a.architecture _ c.in-Some.row row
+          (subst (IsRow a.architecture a.last.now.code) c.in-Some.is c.row.ensures) is_row in
+          let within = len_within row there (subst (λ x. is_of_pair x ≡ false) (c.info.ensures.row ∙ same) (sym c.is_of_pair.ensures ∙ c.if-not-is_of_pair.true)) in
+          let e = ap window_len same in
+          omega (arith, later, near, window, within, e)),
+    )
