@@ -223,6 +223,7 @@ pub(crate) fn first_covered<D: AsDecision>(
     for index in 0..count {
         let offset = relocation_in(relocations, index).offset;
         if place.below <= offset
+            && index != place.at
             && !reaches(architecture, relocations, section, index, place.above)
         {
             continue;
