@@ -1,4 +1,3 @@
-pub mod CodeNumbers
 pub mod Deciding
 pub mod GlobalPointer
 pub mod Keeping

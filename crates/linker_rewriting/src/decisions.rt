@@ -11,13 +11,12 @@ ghost use Rattle.linker_rewriting.specs.Decisions.{IsDecisionAfter, IsEndBehind,
 ghost use Rattle.linker_rewriting.specs.Decisions.{IsRewrittenAt, label_decision, IsLabelDecision};
 ghost use Rattle.linker_rewriting.specs.Inner.Settings.{setting_of};
 ghost use Rattle.linker_rewriting.specs.Inner.Calls.{IsLeft};
-ghost use Rattle.linker_rewriting.specs.Inner.Codes.{bit_of, table_of};
 ghost use Rattle.linker_rewriting.specs.Inner.Left.{AreKept};
 ghost use Rattle.linker_rewriting.specs.Labels.{IsInLabel, IsLabelNote};
 
 use crate::calls::keeps_call;
 use crate::candidates::candidate;
-use crate::codes::{bit_of, is_listed, lists_any, table_of};
+use crate::codes::{is_listed, lists_any, of_each};
 use crate::covered::first_covered;
 use crate::facts::{OutputFacts, Setting, SymbolFacts};
 use crate::groups::{KeptGroups, Scope, group_stays, scope_in};
@@ -294,27 +293,22 @@ fn is_left(
     is_taken: bool,
     architecture: Architecture,
     phase: Phase,
-    table: &'static [u8],
-    bit: u8,
     symbols: &[SymbolFacts],
     relocations: &[u8],
     index: usize,
 ) -> bool
-    requires table { table.now ≡ table_of architecture }
-    requires bit { bit ≡ bit_of phase }
-    requires within { index < length relocations.now / 24 }
+    requires { index < length relocations.now / 24 }
     ensures not_taken { result ≡ true → is_taken ≡ false }
     ensures left { result ≡ true → IsLeft architecture phase symbols.now
         (relocation_in relocations.now index) }
 {
     let relocation = relocation_in(relocations, index);
     let scope = scope_in(architecture, phase, relocation.code);
-    let listed = is_listed(architecture, phase, table, bit, relocation.code);
+    let listed = is_listed(architecture, phase, relocation.code);
     !is_taken && (!listed || keeps_call(architecture, phase, symbols, &relocation))
 }
 
 /// What becomes of a relocation, which another may take along.
-#[inline(always)]
 fn decide_after(
     is_taken: bool,
     stays: bool,
@@ -389,13 +383,18 @@ pub(crate) fn end_behind(start: u64, own: u64, end: u64) -> Option<u64>
 }
 
 /// The same as `decide_section`, but relocations may be in the bytes of others.
-fn decide_each<D: AsDecision>(
+#[inline(always)]
+fn decide_all<D: AsDecision>(
+    architecture: Architecture,
+    phase: Phase,
     setting: &Setting<'_>,
     kept: &[KeptGroups],
     relocations: &[u8],
     section: &[u8],
     decisions: &mut [D],
 ) -> Result<bool, RewritingError>
+    requires architecture { architecture ≡ setting.now.architecture }
+    requires phase { phase ≡ setting.now.phase }
     ensures enough { OnOk result (length relocations.now / 24 ≤ length decisions.old) }
     ensures decided { OnOk result (AreDecidedIn (setting_of setting.now) kept.now relocations.now
         section.now (map D.decision decisions.new) (length relocations.now / 24)) }
@@ -416,22 +415,18 @@ fn decide_each<D: AsDecision>(
     if decisions.len() < len {
         return Err(RewritingError::TooShort);
     }
-    if !lists_any(setting.architecture, setting.phase, relocations) {
+    if !lists_any(architecture, phase, relocations) {
         set_all(relocations, Decision::Kept, decisions);
         return Ok(false);
     }
     note_labels(setting, relocations, section, decisions);
     let mut end = 0;
     let mut is_taken = false;
-    let table = table_of(setting.architecture);
-    let bit = bit_of(setting.phase);
     for index in 0..len {
         if is_left(
             is_taken,
-            setting.architecture,
-            setting.phase,
-            table,
-            bit,
+            architecture,
+            phase,
             setting.symbols,
             relocations,
             index,
@@ -462,6 +457,37 @@ fn decide_each<D: AsDecision>(
         decisions[index] = D::from_decision(decision);
     }
     Ok(true)
+}
+
+/// The same, compiled for each architecture and phase.
+fn decide_each<D: AsDecision>(
+    setting: &Setting<'_>,
+    kept: &[KeptGroups],
+    relocations: &[u8],
+    section: &[u8],
+    decisions: &mut [D],
+) -> Result<bool, RewritingError>
+    ensures enough { OnOk result (length relocations.now / 24 ≤ length decisions.old) }
+    ensures decided { OnOk result (AreDecidedIn (setting_of setting.now) kept.now relocations.now
+        section.now (map D.decision decisions.new) (length relocations.now / 24)) }
+    ensures left { IfOk result (λ changes. changes ≡ false
+        → AreKept (map D.decision decisions.new) (length relocations.now / 24)) }
+    ensures made { OnOk result (AllCanBeMade relocations.now section.now
+        (map D.decision decisions.new) (length relocations.now / 24)) }
+    ensures apart { OnOk result (AreApart relocations.now (map D.decision decisions.new)
+        (length relocations.now / 24)) }
+    ensures form { OnOk result
+        (All D.is_written (take (length relocations.now / 24) decisions.new)) }
+    ensures others_stay { drop (length relocations.now / 24) decisions.new
+        ≡ drop (length relocations.now / 24) decisions.old }
+    ensures rejected { IfErr result (IsRejectedIn (setting_of setting.now) kept.now relocations.now
+        section.now (map D.decision decisions.new)) }
+{
+    of_each!(
+        setting.architecture,
+        setting.phase,
+        decide_all(setting, kept, relocations, section, decisions)
+    )
 }
 
 /// Decides what becomes of each relocation of a section and of its instruction, in the caller's

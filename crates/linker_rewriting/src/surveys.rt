@@ -7,7 +7,7 @@ ghost use Rattle.linker_rewriting.specs.Agreement.{Agree, IsContradiction};
 ghost use Rattle.linker_rewriting.specs.Candidates.{calls_tls_get_addr};
 ghost use Rattle.linker_rewriting.specs.Facts.{setting};
 ghost use Rattle.linker_rewriting.specs.Inner.Settings.{setting_of};
-ghost use Rattle.linker_rewriting.specs.Inner.Codes.{group_bit_of, table_of, needs_mark};
+ghost use Rattle.linker_rewriting.specs.Inner.Codes.{needs_mark};
 ghost use Rattle.linker_rewriting.specs.Inner.Codes.{KeepsNone};
 ghost use Rattle.linker_rewriting.specs.Surveys.{IsKeeping, IsMarked, IsUnmarkedIn, IsUnmarkedBy};
 ghost use Rattle.linker_rewriting.specs.Surveys.{AreKeptToo, IsGroup, IsGroupOf, IsOfThreads};
@@ -15,7 +15,7 @@ ghost use Rattle.linker_rewriting.specs.Surveys.{IsSurveyed, IsSurveyedIn};
 
 use crate::agreement::contradiction;
 use crate::candidates::{candidate, is_matched, is_tls_get_addr};
-use crate::codes::{group_bit_of, is_surveyed, table_of};
+use crate::codes::{is_surveyed, of_each};
 use crate::facts::{NO_ADDRESSES, OutputFacts, Setting, SymbolFacts};
 use crate::groups::{Group, KeptGroups, Scope, marks_call, scope_in, symbol_of_group};
 use crate::phases::Phase;
@@ -164,49 +164,61 @@ fn needs_mark(
 fn keeps_none(
     architecture: Architecture,
     phase: Phase,
-    table: &'static [u8],
-    bit: u8,
     symbols: &[SymbolFacts],
     relocations: &[u8],
     index: usize,
 ) -> bool
-    requires table { table.now ≡ table_of architecture }
-    requires bit { bit ≡ group_bit_of phase }
     requires within { index < length relocations.now / 24 }
     ensures { result ≡ true
         → KeepsNone architecture phase symbols.now (relocation_in relocations.now index) }
 {
     let relocation = relocation_in(relocations, index);
-    let surveyed = is_surveyed(architecture, phase, table, bit, relocation.code);
+    let surveyed = is_surveyed(architecture, phase, relocation.code);
     !surveyed && !needs_mark(architecture, phase, symbols, &relocation)
 }
 
 /// The index of the first relocation from an index on that may keep a group, or how many
 /// relocations there are.
-fn next_keeping(
+#[inline(always)]
+fn next_in(
     architecture: Architecture,
     phase: Phase,
-    table: &'static [u8],
-    bit: u8,
-    symbols: &[SymbolFacts],
+    setting: &Setting<'_>,
     relocations: &[u8],
     from: usize,
 ) -> usize
-    requires table { table.now ≡ table_of architecture }
-    requires bit { bit ≡ group_bit_of phase }
+    requires architecture { architecture ≡ setting.now.architecture }
+    requires phase { phase ≡ setting.now.phase }
     requires from { from ≤ length relocations.now / 24 }
     ensures from { from ≤ result }
     ensures within { result ≤ length relocations.now / 24 }
     ensures between { (n : ℕ) → from ≤ n → n < result
-        → KeepsNone architecture phase symbols.now (relocation_in relocations.now n) }
+        → KeepsNone setting.now.architecture setting.now.phase setting.now.symbols.now
+        (relocation_in relocations.now n) }
 {
     let len = relocations_len(relocations);
     for index in from..len {
-        if !keeps_none(architecture, phase, table, bit, symbols, relocations, index) {
+        if !keeps_none(architecture, phase, setting.symbols, relocations, index) {
             return index;
         }
     }
     len
+}
+
+/// The same, compiled for each architecture and phase.
+fn next_keeping(setting: &Setting<'_>, relocations: &[u8], from: usize) -> usize
+    requires from { from ≤ length relocations.now / 24 }
+    ensures from { from ≤ result }
+    ensures within { result ≤ length relocations.now / 24 }
+    ensures between { (n : ℕ) → from ≤ n → n < result
+        → KeepsNone setting.now.architecture setting.now.phase setting.now.symbols.now
+        (relocation_in relocations.now n) }
+{
+    of_each!(
+        setting.architecture,
+        setting.phase,
+        next_in(setting, relocations, from)
+    )
 }
 
 /// Notes which groups stay in a phase, by a section, as `survey` and `survey_placed_section` say.
@@ -215,18 +227,8 @@ fn survey_in(setting: &Setting<'_>, relocations: &[u8], section: &[u8], kept: &m
     ensures { IsSurveyedIn (setting_of setting.now) relocations.now section.now kept.old kept.new
         (length relocations.now / 24) }
 {
-    let table = table_of(setting.architecture);
-    let bit = group_bit_of(setting.phase);
     let len = relocations_len(relocations);
-    let mut index = next_keeping(
-        setting.architecture,
-        setting.phase,
-        table,
-        bit,
-        setting.symbols,
-        relocations,
-        0,
-    );
+    let mut index = next_keeping(setting, relocations, 0);
     while index < len {
         let relocation = relocation_in(relocations, index);
         let group = keeping(setting, relocations, section, index, &relocation);
@@ -240,15 +242,7 @@ fn survey_in(setting: &Setting<'_>, relocations: &[u8], section: &[u8], kept: &m
             &relocation,
         );
         keep_threads(kept, unmarked);
-        index = next_keeping(
-            setting.architecture,
-            setting.phase,
-            table,
-            bit,
-            setting.symbols,
-            relocations,
-            index + 1,
-        );
+        index = next_keeping(setting, relocations, index + 1);
     }
 }
 

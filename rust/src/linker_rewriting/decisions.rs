@@ -4,7 +4,7 @@
 
 use crate::linker_rewriting::calls::keeps_call;
 use crate::linker_rewriting::candidates::candidate;
-use crate::linker_rewriting::codes::{bit_of, is_listed, lists_any, table_of};
+use crate::linker_rewriting::codes::{is_listed, lists_any, of_each};
 use crate::linker_rewriting::covered::first_covered;
 use crate::linker_rewriting::facts::{OutputFacts, Setting, SymbolFacts};
 use crate::linker_rewriting::groups::{KeptGroups, Scope, group_stays, scope_in};
@@ -239,20 +239,17 @@ fn is_left(
     is_taken: bool,
     architecture: Architecture,
     phase: Phase,
-    table: &'static [u8],
-    bit: u8,
     symbols: &[SymbolFacts],
     relocations: &[u8],
     index: usize,
 ) -> bool {
     let relocation = relocation_in(relocations, index);
     let scope = scope_in(architecture, phase, relocation.code);
-    let listed = is_listed(architecture, phase, table, bit, relocation.code);
+    let listed = is_listed(architecture, phase, relocation.code);
     !is_taken && (!listed || keeps_call(architecture, phase, symbols, &relocation))
 }
 
 /// What becomes of a relocation, which another may take along.
-#[inline(always)]
 fn decide_after(
     is_taken: bool,
     stays: bool,
@@ -310,7 +307,10 @@ pub(crate) fn end_behind(start: u64, own: u64, end: u64) -> Option<u64> {
 }
 
 /// The same as `decide_section`, but relocations may be in the bytes of others.
-fn decide_each<D: AsDecision>(
+#[inline(always)]
+fn decide_all<D: AsDecision>(
+    architecture: Architecture,
+    phase: Phase,
     setting: &Setting<'_>,
     kept: &[KeptGroups],
     relocations: &[u8],
@@ -321,22 +321,18 @@ fn decide_each<D: AsDecision>(
     if decisions.len() < len {
         return Err(RewritingError::TooShort);
     }
-    if !lists_any(setting.architecture, setting.phase, relocations) {
+    if !lists_any(architecture, phase, relocations) {
         set_all(relocations, Decision::Kept, decisions);
         return Ok(false);
     }
     note_labels(setting, relocations, section, decisions);
     let mut end = 0;
     let mut is_taken = false;
-    let table = table_of(setting.architecture);
-    let bit = bit_of(setting.phase);
     for index in 0..len {
         if is_left(
             is_taken,
-            setting.architecture,
-            setting.phase,
-            table,
-            bit,
+            architecture,
+            phase,
             setting.symbols,
             relocations,
             index,
@@ -367,6 +363,21 @@ fn decide_each<D: AsDecision>(
         decisions[index] = D::from_decision(decision);
     }
     Ok(true)
+}
+
+/// The same, compiled for each architecture and phase.
+fn decide_each<D: AsDecision>(
+    setting: &Setting<'_>,
+    kept: &[KeptGroups],
+    relocations: &[u8],
+    section: &[u8],
+    decisions: &mut [D],
+) -> Result<bool, RewritingError> {
+    of_each!(
+        setting.architecture,
+        setting.phase,
+        decide_all(setting, kept, relocations, section, decisions)
+    )
 }
 
 /// Decides what becomes of each relocation of a section and of its instruction, in the caller's

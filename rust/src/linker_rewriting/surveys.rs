@@ -4,7 +4,7 @@
 
 use crate::linker_rewriting::agreement::contradiction;
 use crate::linker_rewriting::candidates::{candidate, is_matched, is_tls_get_addr};
-use crate::linker_rewriting::codes::{group_bit_of, is_surveyed, table_of};
+use crate::linker_rewriting::codes::{is_surveyed, of_each};
 use crate::linker_rewriting::facts::{NO_ADDRESSES, OutputFacts, Setting, SymbolFacts};
 use crate::linker_rewriting::groups::{Group, KeptGroups, Scope, marks_call, scope_in, symbol_of_group};
 use crate::linker_rewriting::phases::Phase;
@@ -129,52 +129,48 @@ fn needs_mark(
 fn keeps_none(
     architecture: Architecture,
     phase: Phase,
-    table: &'static [u8],
-    bit: u8,
     symbols: &[SymbolFacts],
     relocations: &[u8],
     index: usize,
 ) -> bool {
     let relocation = relocation_in(relocations, index);
-    let surveyed = is_surveyed(architecture, phase, table, bit, relocation.code);
+    let surveyed = is_surveyed(architecture, phase, relocation.code);
     !surveyed && !needs_mark(architecture, phase, symbols, &relocation)
 }
 
 /// The index of the first relocation from an index on that may keep a group, or how many
 /// relocations there are.
-fn next_keeping(
+#[inline(always)]
+fn next_in(
     architecture: Architecture,
     phase: Phase,
-    table: &'static [u8],
-    bit: u8,
-    symbols: &[SymbolFacts],
+    setting: &Setting<'_>,
     relocations: &[u8],
     from: usize,
 ) -> usize {
     let len = relocations_len(relocations);
     for index in from..len {
-        if !keeps_none(architecture, phase, table, bit, symbols, relocations, index) {
+        if !keeps_none(architecture, phase, setting.symbols, relocations, index) {
             return index;
         }
     }
     len
 }
 
+/// The same, compiled for each architecture and phase.
+fn next_keeping(setting: &Setting<'_>, relocations: &[u8], from: usize) -> usize {
+    of_each!(
+        setting.architecture,
+        setting.phase,
+        next_in(setting, relocations, from)
+    )
+}
+
 /// Notes which groups stay in a phase, by a section, as `survey` and `survey_placed_section` say.
 #[inline(always)]
 fn survey_in(setting: &Setting<'_>, relocations: &[u8], section: &[u8], kept: &mut [KeptGroups]) {
-    let table = table_of(setting.architecture);
-    let bit = group_bit_of(setting.phase);
     let len = relocations_len(relocations);
-    let mut index = next_keeping(
-        setting.architecture,
-        setting.phase,
-        table,
-        bit,
-        setting.symbols,
-        relocations,
-        0,
-    );
+    let mut index = next_keeping(setting, relocations, 0);
     while index < len {
         let relocation = relocation_in(relocations, index);
         let group = keeping(setting, relocations, section, index, &relocation);
@@ -188,15 +184,7 @@ fn survey_in(setting: &Setting<'_>, relocations: &[u8], section: &[u8], kept: &m
             &relocation,
         );
         keep_threads(kept, unmarked);
-        index = next_keeping(
-            setting.architecture,
-            setting.phase,
-            table,
-            bit,
-            setting.symbols,
-            relocations,
-            index + 1,
-        );
+        index = next_keeping(setting, relocations, index + 1);
     }
 }
 

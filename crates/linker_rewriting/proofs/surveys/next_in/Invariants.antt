@@ -1,9 +1,9 @@
 use Rattle.std.proofs.Common.{ℕ, ◌≤◌, ◌<◌}
 use Rattle.linker_rewriting.specs.Inner.Codes.{KeepsNone}
 use Rattle.linker_section.specs.Relocations.{relocation_in}
-use Rattle.linker_rewriting.proofs.surveys.next_keeping.Given as goal
+use Rattle.linker_rewriting.proofs.surveys.next_in.Given as goal
 
 abbrev pub invariant-loop-index : goal.invariant-loop-index
 invariant-loop-index l =
     (n : ℕ) → l.from ≤ n → n < l.index
-    → KeepsNone l.architecture l.phase l.symbols (relocation_in l.relocations n)
+    → KeepsNone l.setting.architecture l.setting.phase l.setting.symbols.now (relocation_in l.relocations n)

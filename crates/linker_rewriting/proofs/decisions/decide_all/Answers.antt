@@ -4,13 +4,14 @@ use Rattle.std.proofs.lemmas.List.{length-map, map-set, drop-set-lt, get_or-map}
 use Rattle.linker_riscv64.proofs.Shrunk.{written_more}
 use Rattle.linker_rewriting.proofs.Deciding.{AreDecidedTo, ends_within, more_decided, more_kept, not_surveyed, decided_after, overlapping, IsGrown}
 use Rattle.linker_section.specs.Relocations.{relocation_in}
+use Rattle.linker_rewriting.specs.Inner.Calls.{IsLeft}
 use Rattle.linker_rewriting.specs.Inner.Settings.{setting_of}
 use Rattle.linker_rewriting.specs.Labels.{IsInLabel, IsLabelNote}
 use Rattle.linker_rewriting.specs.Notes.{is_note}
 use Rattle.linker_rewriting.specs.declared.decisions.Decision.TheVariants.{Kept}
 use Rattle.linker_rewriting.proofs.KeptCalls.{left_decided}
 use Rattle.linker_rewriting.specs.Decisions.{decision_at, CanBeMade, IsDecisionAfter, IsEndBehind, start_by, end_by}
-use Rattle.linker_rewriting.proofs.decisions.decide_each.Goals as goal
+use Rattle.linker_rewriting.proofs.decisions.decide_all.Goals as goal
 
 pub returns-in_default-clause-rejected : goal.returns-in_default-clause-rejected
 returns-in_default-clause-rejected g c =
@@ -140,7 +141,10 @@ loop-index-preserved-then-is_left g c =
           (more_kept s a.kept.now a.relocations.now a.section.now ds c.loop-index.end c.loop-index.is_taken k
           c.loop-index.invariant.decided within_map (c.is_left.ensures.not_taken c.if-is_left.true)
           (left_decided a.setting.now.architecture a.setting.now.phase a.setting.now.output.now a.setting.now.symbols.now a.setting.now.addresses.now a.setting.now.values.now a.kept.now a.relocations.now a.section.now k
-          (relocation_in a.relocations.now k) (c.is_left.ensures.left c.if-is_left.true)));
+          (relocation_in a.relocations.now k)
+          (subst (λ x. IsLeft x a.setting.now.phase a.setting.now.symbols.now (relocation_in a.relocations.now k)) c.requires.architecture
+          (subst (λ x. IsLeft a.architecture x a.setting.now.symbols.now (relocation_in a.relocations.now k)) c.requires.phase
+          (c.is_left.ensures.left c.if-is_left.true)))));
       form = written_more g.D.AsDecision.is_written xs k c.from_decision.result within c.from_decision.ensures.form c.loop-index.invariant.form;
       others = drop-set-lt (length a.relocations.now / 24) xs k c.from_decision.result less ∙ c.loop-index.invariant.others;
     }

@@ -2,7 +2,7 @@ use Rattle.std.proofs.Common.{◌≡◌, ◌/◌, length, map, take, drop}
 use Rattle.std.specs.Prelude.{All}
 use Rattle.linker_rewriting.specs.Inner.Settings.{setting_of}
 use Rattle.linker_rewriting.proofs.Deciding.{AreDecidedTo}
-use Rattle.linker_rewriting.proofs.decisions.decide_each.Given as goal
+use Rattle.linker_rewriting.proofs.decisions.decide_all.Given as goal
 
 abbrev pub invariant-loop-index : goal.invariant-loop-index
 invariant-loop-index g l = record {

@@ -1,0 +1,21 @@
+use Rattle.std.proofs.Common.{◌≤◌, arith, refl, subst}
+use Rattle.linker_rewriting.specs.Inner.Codes.{KeepsNone}
+use Rattle.linker_section.specs.Relocations.{relocation_in}
+use Rattle.linker_rewriting.proofs.surveys.next_in.Goals as goal
+use borrow.Author.Count.{below_more}
+
+pub loop-index-preserved : goal.loop-index-preserved
+loop-index-preserved c =
+    let a = c.args in
+    let s = a.setting.now in
+    let r = relocation_in a.relocations.now c.loop-index.index in
+    let all = below_more (λ n. a.from ≤ n → KeepsNone s.architecture s.phase s.symbols.now (relocation_in a.relocations.now n))
+    c.loop-index.index (λ n less from. c.loop-index.invariant n from less)
+    (λ from. subst (λ x. KeepsNone x s.phase s.symbols.now r) c.requires.architecture
+    (subst (λ x. KeepsNone a.architecture x s.symbols.now r) c.requires.phase (c.if-not-keeps_none.ensures refl))) in
+    λ n from less. all n less from
+
+pub returns-clause-between : goal.returns-clause-between
+returns-clause-between c =
+    let t = c.loop-index-test.false in
+    λ n from less. c.loop-index.invariant n from (omega (arith, t, less))
