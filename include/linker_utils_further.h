@@ -100,8 +100,7 @@ static inline uint32_t linker_utils_relocate_all(
  * `linker_utils_find` returns a handle, a number that a linker may keep in place of the machine and
  * the type, also in a file: it depends on nothing else. Each call by a handle does what the call of
  * the same name does by machine and type, with the same statuses. First of these is
- * LINKER_UTILS_UNKNOWN_RELOCATION of a number that is no handle, as 0. A call that is inlined in a
- * loop over random types takes half of the time by `linker_utils_row_apply`. */
+ * LINKER_UTILS_UNKNOWN_RELOCATION of a number that is no handle, as 0. */
 
 /* The handle of a relocation; 0 where the machine or the type is unknown. */
 uint32_t linker_utils_find(uint16_t machine, uint32_t r_type);

@@ -2,10 +2,10 @@
 
 use crate::linker_elf::elf::choice_table::RelocationName;
 use crate::linker_elf::elf::rows::{
-    TableRow, applied_by_name, apply_known, code_of_name, flags_of_name, index_of_name, info_in,
-    name_of_code, row, row_in, table, text_of_name,
+    TableRow, code_of_name, flags_of_name, index_of_name, info_in, name_of_code, row, row_in, table,
+    text_of_name,
 };
-use crate::linker_elf::elf::{ApplyError, Operands, RelocationKindInfo, Row};
+use crate::linker_elf::elf::{RelocationKindInfo, Row};
 use core::fmt;
 
 /// The relocations. Most codes are such as other architectures have for something else.
@@ -129,15 +129,6 @@ pub const fn row(name: SixthRelocation) -> Option<Row> {
 #[inline(always)]
 pub const fn row_flags(name: SixthRelocation) -> u16 {
     relocations!(flags_of_name(SixthRelocation, name))
-}
-
-#[inline(always)]
-pub fn apply(
-    name: SixthRelocation,
-    operands: &Operands,
-    dest: &mut [u8],
-) -> Option<Result<(), ApplyError>> {
-    relocations!(applied_by_name(SixthRelocation, name, operands, dest))
 }
 
 impl RelocationName for SixthRelocation {

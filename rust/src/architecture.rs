@@ -79,12 +79,6 @@ macro_rules! row_of {
     };
 }
 
-macro_rules! applied_of {
-    ($module:ident $names:ident $of:ident ($code:expr, $operands:expr, $dest:expr)) => {
-        crate::linker_elf::$module::apply($names::from_elf($code), $operands, $dest)
-    };
-}
-
 macro_rules! row_flags_of {
     ($module:ident $names:ident $of:ident ($code:expr)) => {
         crate::linker_elf::$module::row_flags($names::from_elf($code))
@@ -298,9 +292,8 @@ impl Architecture {
         by_architecture!(self, row_of(code))
     }
 
-    /// Computes the value of the relocation with a code and writes it, as `Row::apply` does, in
-    /// code of its own for each relocation: faster than by the row where types come at random. None
-    /// of a code without a row, and nothing is written.
+    /// Computes the value of the relocation with a code and writes it, as `Row::apply` does. None of
+    /// a code without a row, and nothing is written.
     ///
     /// ```
     /// use linker_utils::elf::{Architecture, Operands};
@@ -318,7 +311,10 @@ impl Architecture {
         operands: &Operands,
         dest: &mut [u8],
     ) -> Option<Result<(), ApplyError>> {
-        by_architecture!(self, applied_of(code, operands, dest))
+        match self.row(code) {
+            Some(row) => Some(row.apply(operands, dest)),
+            None => None,
+        }
     }
 
     /// The handle of the relocation with a code: a number that names both, by which the library

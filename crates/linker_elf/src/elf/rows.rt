@@ -3,7 +3,7 @@
 ghost use Rattle.std.specs.Prelude.{◌≡◌, ◌-◌, ◌<◌, ◌≤◌, ◌↔◌, IfErr, IfSome, IsTrue, OnOk};
 ghost use Rattle.std.specs.Prelude.{length, true, false};
 ghost use Rattle.linker_elf.specs.Agrees.{RowFits};
-ghost use Rattle.linker_elf.specs.AppliedRows.{IsAppliedBy, IsAppliedIfKnown, IsWrittenOrRejected};
+ghost use Rattle.linker_elf.specs.AppliedRows.{IsAppliedBy, IsWrittenOrRejected};
 ghost use Rattle.linker_elf.specs.Entries.{IsGotAnswer, IsPltAnswer};
 ghost use Rattle.linker_elf.specs.Relocate.{Reaches, IsInReach};
 ghost use Rattle.linker_elf.specs.Numbers.{numbers_of};
@@ -259,7 +259,18 @@ impl Row {
         ensures ok { OnOk result (WritesRow self.now value dest.old dest.new) }
         ensures err { IfErr result (RejectsValue self.now value dest.old dest.new) }
     {
-        write_row(self.entry, value, dest, false)
+        write_row(self.entry, value, dest)
+    }
+
+    /// The same, with `ApplyError`.
+    #[inline(always)]
+    fn write_applied(&self, value: i64, dest: &mut [u8]) -> Result<(), ApplyError>
+        ensures { IsWrittenOrRejected self.now value dest.old dest.new result }
+    {
+        match self.write(value, dest) {
+            Ok(()) => Ok(()),
+            Err(error) => Err(ApplyError::Write(error)),
+        }
     }
 
     /// Computes the relocation's value and writes it, with the errors of `value` and `write`. With
@@ -268,49 +279,10 @@ impl Row {
     pub fn apply(&self, operands: &Operands, dest: &mut [u8]) -> Result<(), ApplyError>
         ensures { IsAppliedBy self.now operands.now dest.old dest.new result }
     {
-        apply_row(self, operands, dest, false)
-    }
-}
-
-/// `Row::apply`. With `in_place` all of a write is inlined: by a constant row little is left of it.
-#[inline(always)]
-fn apply_row(
-    row: &Row,
-    operands: &Operands,
-    dest: &mut [u8],
-    in_place: bool,
-) -> Result<(), ApplyError>
-    ensures { IsAppliedBy row.now operands.now dest.old dest.new result }
-{
-    match row.value(operands) {
-        Ok(value) => write_applied(row, value, dest, in_place),
-        Err(error) => Err(ApplyError::Formula(error)),
-    }
-}
-
-/// The write of `apply_row`.
-#[inline(always)]
-fn write_applied(row: &Row, value: i64, dest: &mut [u8], in_place: bool) -> Result<(), ApplyError>
-    ensures { IsWrittenOrRejected row.now value dest.old dest.new result }
-{
-    match write_row(row.entry, value, dest, in_place) {
-        Ok(()) => Ok(()),
-        Err(error) => Err(ApplyError::Write(error)),
-    }
-}
-
-/// The same of a constant row, if there is one.
-#[inline(always)]
-pub(crate) fn apply_known(
-    row: Option<Row>,
-    operands: &Operands,
-    dest: &mut [u8],
-) -> Option<Result<(), ApplyError>>
-    ensures { IsAppliedIfKnown row operands.now dest.old dest.new result }
-{
-    match row {
-        Some(row) => Some(apply_row(&row, operands, dest, true)),
-        None => None,
+        match self.value(operands) {
+            Ok(value) => self.write_applied(value, dest),
+            Err(error) => Err(ApplyError::Formula(error)),
+        }
     }
 }
 
@@ -326,14 +298,9 @@ fn has_no_bits(low_bits: u8, value: i64, _alignment: u64) -> bool
 }
 
 /// `Row::write`, of the row of an entry. Only rows that don't take all values look at the
-/// instruction. With `in_place` the bits of an instruction are written here.
+/// instruction.
 #[inline(always)]
-fn write_row(
-    entry: &'static TableRow,
-    value: i64,
-    dest: &mut [u8],
-    in_place: bool,
-) -> Result<(), RelocateError>
+fn write_row(entry: &'static TableRow, value: i64, dest: &mut [u8]) -> Result<(), RelocateError>
     requires { IsSound entry.now }
     ensures ok { OnOk result (WritesRow (info_of entry.now) value dest.old dest.new) }
     ensures err { IfErr result (RejectsValue (info_of entry.now) value dest.old dest.new) }
@@ -353,7 +320,7 @@ fn write_row(
     }
     match entry.size {
         RelocationSize::ByteSize(len) => write_bytes(entry.kind, len as usize, value, dest),
-        RelocationSize::BitMasking { .. } => write_form(entry, value, dest, in_place),
+        RelocationSize::BitMasking { .. } => write_plain(entry, value, dest),
     }
     Ok(())
 }
@@ -385,35 +352,6 @@ fn write_plain(entry: &'static TableRow, value: i64, dest: &mut [u8])
             RelocationInstruction::AArch64(insn) => write_aarch64(insn, range, value, dest),
             _ => write_field(insn, range, value, dest),
         },
-    }
-}
-
-/// The same, inlined.
-#[inline(always)]
-fn write_inlined(entry: &'static TableRow, value: i64, dest: &mut [u8])
-    requires sound { IsSound entry.now }
-    requires takes { takes_all (info_of entry.now) ≡ true }
-    requires room { window_len (info_of entry.now) ≤ length dest.old }
-    ensures { IsWritten entry.now.size entry.now.kind value dest.old dest.new }
-{
-    match entry.size {
-        RelocationSize::ByteSize(len) => write_number(entry.kind, len as usize, value, dest),
-        RelocationSize::BitMasking { range, insn } => write_field(insn, range, value, dest),
-    }
-}
-
-/// Either.
-#[inline(always)]
-fn write_form(entry: &'static TableRow, value: i64, dest: &mut [u8], in_place: bool)
-    requires sound { IsSound entry.now }
-    requires takes { takes_all (info_of entry.now) ≡ true }
-    requires room { window_len (info_of entry.now) ≤ length dest.old }
-    ensures { IsWritten entry.now.size entry.now.kind value dest.old dest.new }
-{
-    if in_place {
-        write_inlined(entry, value, dest);
-    } else {
-        write_plain(entry, value, dest);
     }
 }
 
@@ -541,25 +479,6 @@ macro_rules! flags_of_name {
             $($($names::$low_name => $crate::elf::rows::flags!($low_make $($low_row)*),)*)*
             $($names::$name => $crate::elf::rows::flags!($make $($row)*),)*
             $names::Other(_) => 7,
-        }
-    };
-}
-
-/// What is made of a name's row by `apply_known`, for each name in code of its own.
-macro_rules! applied_by_name {
-    (
-        ($names:ident, $value:expr, $operands:expr, $dest:expr)
-        $(below $end:literal { $($low:literal $low_name:ident => $low_row:expr,)* })*
-        { $($number:literal $name:ident => $row:expr,)* }
-    ) => {
-        match $value {
-            $($($names::$low_name => {
-                apply_known(row($names::$low_name), $operands, $dest)
-            })*)*
-            $($names::$name => {
-                apply_known(row($names::$name), $operands, $dest)
-            })*
-            $names::Other(_) => None,
         }
     };
 }
@@ -961,7 +880,6 @@ macro_rules! row {
     };
 }
 
-pub(crate) use applied_by_name;
 pub(crate) use code_of_name;
 pub(crate) use flag;
 pub(crate) use flags;

@@ -3,7 +3,6 @@
 ghost use Rattle.std.specs.Prelude.{◌≡◌, IfSome};
 ghost use denote.Enum.Declared.{tag_of};
 ghost use Rattle.linker_elf.specs.Agrees.{LoongArchRowAgrees, RowFits};
-ghost use Rattle.linker_elf.specs.AppliedRows.{IsAppliedIfKnown};
 ghost use Rattle.linker_elf.specs.ElfNames.{IsNameOf, code_of, text_of};
 ghost use Rattle.linker_elf.specs.Flags.{flags_in};
 ghost use Rattle.linker_elf.specs.Readings.{LoongArchRowReadsNoOther};
@@ -15,12 +14,10 @@ ghost use Rattle.linker_elf.specs.contracts.loongarch64.relocations.LoongArch64R
 
 use crate::elf::choice_table::RelocationName;
 use crate::elf::rows::{
-    TableRow, applied_by_name, apply_known, code_of_name, flags_of_name, index_of_name,
-    name_of_code, raw_info_in, row, row_in, table, text_of_name,
+    TableRow, code_of_name, flags_of_name, index_of_name, name_of_code, raw_info_in, row, row_in,
+    table, text_of_name,
 };
-use crate::elf::{
-    ApplyError, Operands, RelocationKind, RelocationKindInfo, Row, SIZE_2KB, Uleb128Role,
-};
+use crate::elf::{RelocationKind, RelocationKindInfo, Row, SIZE_2KB, Uleb128Role};
 use std::fmt;
 
 /// The relocations of LoongArch, by their names in the LoongArch ELF psABI, "Relocation Types".
@@ -312,18 +309,6 @@ pub fn row_flags(name: LoongArch64Relocation) -> u16
     ensures { result ≡ flags_in (loongarch_row name) }
 {
     relocations!(flags_of_name(LoongArch64Relocation, name))
-}
-
-/// `Row::apply` of a name's row, in code of its own for each name. `None` of a name without a row.
-#[inline(always)]
-pub fn apply(
-    name: LoongArch64Relocation,
-    operands: &Operands,
-    dest: &mut [u8],
-) -> Option<Result<(), ApplyError>>
-    ensures { IsAppliedIfKnown (loongarch_row name) operands.now dest.old dest.new result }
-{
-    relocations!(applied_by_name(LoongArch64Relocation, name, operands, dest))
 }
 
 impl RelocationName for LoongArch64Relocation {

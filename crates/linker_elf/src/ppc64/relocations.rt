@@ -3,7 +3,6 @@
 ghost use Rattle.std.specs.Prelude.{◌≡◌, IfSome};
 ghost use denote.Enum.Declared.{tag_of};
 ghost use Rattle.linker_elf.specs.Agrees.{RowAgrees, RowFits};
-ghost use Rattle.linker_elf.specs.AppliedRows.{IsAppliedIfKnown};
 ghost use Rattle.linker_elf.specs.ElfNames.{IsNameOf, code_of, text_of};
 ghost use Rattle.linker_elf.specs.Flags.{flags_in};
 ghost use Rattle.linker_elf.specs.Readings.{RowReadsNoOther};
@@ -13,10 +12,10 @@ ghost use Rattle.linker_elf.specs.contracts.ppc64.relocations.Ppc64Relocation as
 
 use crate::elf::choice_table::RelocationName;
 use crate::elf::rows::{
-    TableRow, applied_by_name, apply_known, code_of_name, flags_of_name, index_of_name,
-    name_of_code, raw_info_in, row, row_in, table, text_of_name,
+    TableRow, code_of_name, flags_of_name, index_of_name, name_of_code, raw_info_in, row, row_in,
+    table, text_of_name,
 };
-use crate::elf::{ApplyError, Operands, RelocationKindInfo, Row};
+use crate::elf::{RelocationKindInfo, Row};
 use std::fmt;
 
 /// The relocations of PowerPC64, by their names in the 64-bit ELF V2 ABI for Power, "Relocation
@@ -404,18 +403,6 @@ pub fn row_flags(name: Ppc64Relocation) -> u16
     ensures { result ≡ flags_in (ppc64_row name) }
 {
     relocations!(flags_of_name(Ppc64Relocation, name))
-}
-
-/// `Row::apply` of a name's row, in code of its own for each name. `None` of a name without a row.
-#[inline(always)]
-pub fn apply(
-    name: Ppc64Relocation,
-    operands: &Operands,
-    dest: &mut [u8],
-) -> Option<Result<(), ApplyError>>
-    ensures { IsAppliedIfKnown (ppc64_row name) operands.now dest.old dest.new result }
-{
-    relocations!(applied_by_name(Ppc64Relocation, name, operands, dest))
 }
 
 impl RelocationName for Ppc64Relocation {

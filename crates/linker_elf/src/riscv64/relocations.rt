@@ -3,7 +3,6 @@
 ghost use Rattle.std.specs.Prelude.{◌≡◌, IfSome};
 ghost use denote.Enum.Declared.{tag_of};
 ghost use Rattle.linker_elf.specs.Agrees.{RowAgrees, RowFits};
-ghost use Rattle.linker_elf.specs.AppliedRows.{IsAppliedIfKnown};
 ghost use Rattle.linker_elf.specs.ElfNames.{IsNameOf, code_of, text_of};
 ghost use Rattle.linker_elf.specs.Flags.{flags_in};
 ghost use Rattle.linker_elf.specs.Readings.{RowReadsNoOther};
@@ -14,10 +13,10 @@ ghost use Rattle.linker_elf.specs.contracts.riscv64.relocations.RiscVRelocation 
 
 use crate::elf::choice_table::RelocationName;
 use crate::elf::rows::{
-    TableRow, applied_by_name, apply_known, code_of_name, flags_of_name, index_of_name,
-    name_of_code, raw_info_in, row, row_in, table, text_of_name,
+    TableRow, code_of_name, flags_of_name, index_of_name, name_of_code, raw_info_in, row, row_in,
+    table, text_of_name,
 };
-use crate::elf::{ApplyError, Operands, RelocationKindInfo, Row, Uleb128Role};
+use crate::elf::{RelocationKindInfo, Row, Uleb128Role};
 use std::fmt;
 
 /// The relocations of RISC-V, by their names in the RISC-V ELF psABI, "Relocations". `from_elf`
@@ -251,18 +250,6 @@ pub fn row_flags(name: RiscVRelocation) -> u16
     ensures { result ≡ flags_in (riscv_relocation name).row }
 {
     relocations!(flags_of_name(RiscVRelocation, name))
-}
-
-/// `Row::apply` of a name's row, in code of its own for each name. `None` of a name without a row.
-#[inline(always)]
-pub fn apply(
-    name: RiscVRelocation,
-    operands: &Operands,
-    dest: &mut [u8],
-) -> Option<Result<(), ApplyError>>
-    ensures { IsAppliedIfKnown ((riscv_relocation name).row) operands.now dest.old dest.new result }
-{
-    relocations!(applied_by_name(RiscVRelocation, name, operands, dest))
 }
 
 impl RelocationName for RiscVRelocation {

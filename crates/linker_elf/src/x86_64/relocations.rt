@@ -2,7 +2,6 @@
 
 ghost use Rattle.std.specs.Prelude.{◌≡◌};
 ghost use denote.Enum.Declared.{tag_of};
-ghost use Rattle.linker_elf.specs.AppliedRows.{IsAppliedIfKnown};
 ghost use Rattle.linker_elf.specs.ElfNames.{IsNameOf, code_of, text_of};
 ghost use Rattle.linker_elf.specs.Flags.{flags_in};
 ghost use Rattle.linker_elf.specs.Rows.{raw_row};
@@ -11,10 +10,10 @@ ghost use Rattle.linker_elf.specs.contracts.x86_64.relocations.X86_64Relocation 
 
 use crate::elf::choice_table::RelocationName;
 use crate::elf::rows::{
-    TableRow, applied_by_name, apply_known, code_of_name, flags_of_name, index_of_name,
-    name_of_code, raw_info_in, row, row_in, table, text_of_name,
+    TableRow, code_of_name, flags_of_name, index_of_name, name_of_code, raw_info_in, row, row_in,
+    table, text_of_name,
 };
-use crate::elf::{ApplyError, Operands, RelocationKindInfo, Row};
+use crate::elf::{RelocationKindInfo, Row};
 use std::fmt;
 
 /// The relocations of x86-64, by their names in the x86-64 psABI, "Relocation Types". `from_elf`
@@ -182,18 +181,6 @@ pub fn row_flags(name: X86_64Relocation) -> u16
     ensures { result ≡ flags_in (x86_64_row name) }
 {
     relocations!(flags_of_name(X86_64Relocation, name))
-}
-
-/// `Row::apply` of a name's row, in code of its own for each name. `None` of a name without a row.
-#[inline(always)]
-pub fn apply(
-    name: X86_64Relocation,
-    operands: &Operands,
-    dest: &mut [u8],
-) -> Option<Result<(), ApplyError>>
-    ensures { IsAppliedIfKnown (x86_64_row name) operands.now dest.old dest.new result }
-{
-    relocations!(applied_by_name(X86_64Relocation, name, operands, dest))
 }
 
 impl RelocationName for X86_64Relocation {

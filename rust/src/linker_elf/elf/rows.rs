@@ -206,50 +206,26 @@ impl Row {
     /// Writes a value, as `RelocationKindInfo::write` says, with its errors.
     #[inline(always)]
     pub fn write(&self, value: i64, dest: &mut [u8]) -> Result<(), RelocateError> {
-        write_row(self.entry, value, dest, false)
+        write_row(self.entry, value, dest)
+    }
+
+    /// The same, with `ApplyError`.
+    #[inline(always)]
+    fn write_applied(&self, value: i64, dest: &mut [u8]) -> Result<(), ApplyError> {
+        match self.write(value, dest) {
+            Ok(()) => Ok(()),
+            Err(error) => Err(ApplyError::Write(error)),
+        }
     }
 
     /// Computes the relocation's value and writes it, with the errors of `value` and `write`. With
     /// an error nothing is written.
     #[inline(always)]
     pub fn apply(&self, operands: &Operands, dest: &mut [u8]) -> Result<(), ApplyError> {
-        apply_row(self, operands, dest, false)
-    }
-}
-
-/// `Row::apply`. With `in_place` all of a write is inlined: by a constant row little is left of it.
-#[inline(always)]
-fn apply_row(
-    row: &Row,
-    operands: &Operands,
-    dest: &mut [u8],
-    in_place: bool,
-) -> Result<(), ApplyError> {
-    match row.value(operands) {
-        Ok(value) => write_applied(row, value, dest, in_place),
-        Err(error) => Err(ApplyError::Formula(error)),
-    }
-}
-
-/// The write of `apply_row`.
-#[inline(always)]
-fn write_applied(row: &Row, value: i64, dest: &mut [u8], in_place: bool) -> Result<(), ApplyError> {
-    match write_row(row.entry, value, dest, in_place) {
-        Ok(()) => Ok(()),
-        Err(error) => Err(ApplyError::Write(error)),
-    }
-}
-
-/// The same of a constant row, if there is one.
-#[inline(always)]
-pub(crate) fn apply_known(
-    row: Option<Row>,
-    operands: &Operands,
-    dest: &mut [u8],
-) -> Option<Result<(), ApplyError>> {
-    match row {
-        Some(row) => Some(apply_row(&row, operands, dest, true)),
-        None => None,
+        match self.value(operands) {
+            Ok(value) => self.write_applied(value, dest),
+            Err(error) => Err(ApplyError::Formula(error)),
+        }
     }
 }
 
@@ -261,14 +237,9 @@ fn has_no_bits(low_bits: u8, value: i64, _alignment: u64) -> bool {
 }
 
 /// `Row::write`, of the row of an entry. Only rows that don't take all values look at the
-/// instruction. With `in_place` the bits of an instruction are written here.
+/// instruction.
 #[inline(always)]
-fn write_row(
-    entry: &'static TableRow,
-    value: i64,
-    dest: &mut [u8],
-    in_place: bool,
-) -> Result<(), RelocateError> {
+fn write_row(entry: &'static TableRow, value: i64, dest: &mut [u8]) -> Result<(), RelocateError> {
     let tests = &entry.tests;
     if !tests.takes_all {
         return write_looking(entry, value, dest);
@@ -284,7 +255,7 @@ fn write_row(
     }
     match entry.size {
         RelocationSize::ByteSize(len) => write_bytes(entry.kind, len as usize, value, dest),
-        RelocationSize::BitMasking { .. } => write_form(entry, value, dest, in_place),
+        RelocationSize::BitMasking { .. } => write_plain(entry, value, dest),
     }
     Ok(())
 }
@@ -307,25 +278,6 @@ fn write_plain(entry: &'static TableRow, value: i64, dest: &mut [u8]) {
             RelocationInstruction::AArch64(insn) => write_aarch64(insn, range, value, dest),
             _ => write_field(insn, range, value, dest),
         },
-    }
-}
-
-/// The same, inlined.
-#[inline(always)]
-fn write_inlined(entry: &'static TableRow, value: i64, dest: &mut [u8]) {
-    match entry.size {
-        RelocationSize::ByteSize(len) => write_number(entry.kind, len as usize, value, dest),
-        RelocationSize::BitMasking { range, insn } => write_field(insn, range, value, dest),
-    }
-}
-
-/// Either.
-#[inline(always)]
-fn write_form(entry: &'static TableRow, value: i64, dest: &mut [u8], in_place: bool) {
-    if in_place {
-        write_inlined(entry, value, dest);
-    } else {
-        write_plain(entry, value, dest);
     }
 }
 
@@ -441,25 +393,6 @@ macro_rules! flags_of_name {
             $($($names::$low_name => $crate::linker_elf::elf::rows::flags!($low_make $($low_row)*),)*)*
             $($names::$name => $crate::linker_elf::elf::rows::flags!($make $($row)*),)*
             $names::Other(_) => 7,
-        }
-    };
-}
-
-/// What is made of a name's row by `apply_known`, for each name in code of its own.
-macro_rules! applied_by_name {
-    (
-        ($names:ident, $value:expr, $operands:expr, $dest:expr)
-        $(below $end:literal { $($low:literal $low_name:ident => $low_row:expr,)* })*
-        { $($number:literal $name:ident => $row:expr,)* }
-    ) => {
-        match $value {
-            $($($names::$low_name => {
-                apply_known(row($names::$low_name), $operands, $dest)
-            })*)*
-            $($names::$name => {
-                apply_known(row($names::$name), $operands, $dest)
-            })*
-            $names::Other(_) => None,
         }
     };
 }
@@ -861,7 +794,6 @@ macro_rules! row {
     };
 }
 
-pub(crate) use applied_by_name;
 pub(crate) use code_of_name;
 pub(crate) use flag;
 pub(crate) use flags;

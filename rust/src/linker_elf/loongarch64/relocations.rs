@@ -4,12 +4,10 @@
 
 use crate::linker_elf::elf::choice_table::RelocationName;
 use crate::linker_elf::elf::rows::{
-    TableRow, applied_by_name, apply_known, code_of_name, flags_of_name, index_of_name,
-    name_of_code, raw_info_in, row, row_in, table, text_of_name,
+    TableRow, code_of_name, flags_of_name, index_of_name, name_of_code, raw_info_in, row, row_in,
+    table, text_of_name,
 };
-use crate::linker_elf::elf::{
-    ApplyError, Operands, RelocationKind, RelocationKindInfo, Row, SIZE_2KB, Uleb128Role,
-};
+use crate::linker_elf::elf::{RelocationKind, RelocationKindInfo, Row, SIZE_2KB, Uleb128Role};
 use core::fmt;
 
 /// The relocations of LoongArch, by their names in the LoongArch ELF psABI, "Relocation Types".
@@ -291,16 +289,6 @@ pub const fn row(name: LoongArch64Relocation) -> Option<Row> {
 #[inline(always)]
 pub const fn row_flags(name: LoongArch64Relocation) -> u16 {
     relocations!(flags_of_name(LoongArch64Relocation, name))
-}
-
-/// `Row::apply` of a name's row, in code of its own for each name. `None` of a name without a row.
-#[inline(always)]
-pub fn apply(
-    name: LoongArch64Relocation,
-    operands: &Operands,
-    dest: &mut [u8],
-) -> Option<Result<(), ApplyError>> {
-    relocations!(applied_by_name(LoongArch64Relocation, name, operands, dest))
 }
 
 impl RelocationName for LoongArch64Relocation {

@@ -4,10 +4,10 @@
 
 use crate::linker_elf::elf::choice_table::RelocationName;
 use crate::linker_elf::elf::rows::{
-    TableRow, applied_by_name, apply_known, code_of_name, flags_of_name, index_of_name,
-    name_of_code, raw_info_in, row, row_in, table, text_of_name,
+    TableRow, code_of_name, flags_of_name, index_of_name, name_of_code, raw_info_in, row, row_in,
+    table, text_of_name,
 };
-use crate::linker_elf::elf::{ApplyError, Operands, RelocationKindInfo, Row};
+use crate::linker_elf::elf::{RelocationKindInfo, Row};
 use core::fmt;
 
 /// The relocations of PowerPC64, by their names in the 64-bit ELF V2 ABI for Power, "Relocation
@@ -387,16 +387,6 @@ pub const fn row(name: Ppc64Relocation) -> Option<Row> {
 #[inline(always)]
 pub const fn row_flags(name: Ppc64Relocation) -> u16 {
     relocations!(flags_of_name(Ppc64Relocation, name))
-}
-
-/// `Row::apply` of a name's row, in code of its own for each name. `None` of a name without a row.
-#[inline(always)]
-pub fn apply(
-    name: Ppc64Relocation,
-    operands: &Operands,
-    dest: &mut [u8],
-) -> Option<Result<(), ApplyError>> {
-    relocations!(applied_by_name(Ppc64Relocation, name, operands, dest))
 }
 
 impl RelocationName for Ppc64Relocation {

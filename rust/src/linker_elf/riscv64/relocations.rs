@@ -4,10 +4,10 @@
 
 use crate::linker_elf::elf::choice_table::RelocationName;
 use crate::linker_elf::elf::rows::{
-    TableRow, applied_by_name, apply_known, code_of_name, flags_of_name, index_of_name,
-    name_of_code, raw_info_in, row, row_in, table, text_of_name,
+    TableRow, code_of_name, flags_of_name, index_of_name, name_of_code, raw_info_in, row, row_in,
+    table, text_of_name,
 };
-use crate::linker_elf::elf::{ApplyError, Operands, RelocationKindInfo, Row, Uleb128Role};
+use crate::linker_elf::elf::{RelocationKindInfo, Row, Uleb128Role};
 use core::fmt;
 
 /// The relocations of RISC-V, by their names in the RISC-V ELF psABI, "Relocations". `from_elf`
@@ -231,16 +231,6 @@ pub const fn row(name: RiscVRelocation) -> Option<Row> {
 #[inline(always)]
 pub const fn row_flags(name: RiscVRelocation) -> u16 {
     relocations!(flags_of_name(RiscVRelocation, name))
-}
-
-/// `Row::apply` of a name's row, in code of its own for each name. `None` of a name without a row.
-#[inline(always)]
-pub fn apply(
-    name: RiscVRelocation,
-    operands: &Operands,
-    dest: &mut [u8],
-) -> Option<Result<(), ApplyError>> {
-    relocations!(applied_by_name(RiscVRelocation, name, operands, dest))
 }
 
 impl RelocationName for RiscVRelocation {

@@ -4,10 +4,10 @@
 
 use crate::linker_elf::elf::choice_table::RelocationName;
 use crate::linker_elf::elf::rows::{
-    TableRow, applied_by_name, apply_known, code_of_name, flags_of_name, index_of_name,
-    name_of_code, raw_info_in, row, row_in, table, text_of_name,
+    TableRow, code_of_name, flags_of_name, index_of_name, name_of_code, raw_info_in, row, row_in,
+    table, text_of_name,
 };
-use crate::linker_elf::elf::{ApplyError, Operands, RelocationKindInfo, Row};
+use crate::linker_elf::elf::{RelocationKindInfo, Row};
 use core::fmt;
 
 /// The relocations of x86-64, by their names in the x86-64 psABI, "Relocation Types". `from_elf`
@@ -169,16 +169,6 @@ pub const fn row(name: X86_64Relocation) -> Option<Row> {
 #[inline(always)]
 pub const fn row_flags(name: X86_64Relocation) -> u16 {
     relocations!(flags_of_name(X86_64Relocation, name))
-}
-
-/// `Row::apply` of a name's row, in code of its own for each name. `None` of a name without a row.
-#[inline(always)]
-pub fn apply(
-    name: X86_64Relocation,
-    operands: &Operands,
-    dest: &mut [u8],
-) -> Option<Result<(), ApplyError>> {
-    relocations!(applied_by_name(X86_64Relocation, name, operands, dest))
 }
 
 impl RelocationName for X86_64Relocation {
