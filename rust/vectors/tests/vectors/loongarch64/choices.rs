@@ -151,8 +151,7 @@ fn near_entries_are_made_by_pcaddi() {
         (Name::R_LARCH_TLS_LD_PC_HI20, local, 0x21c, 0x1_fff0, 0x180f_eea5),
     ];
     for (high, words, place, got_entry, want) in table {
-        let operands =
-            Operands { place, got_entry, has_got_entry: true, ..Operands::default() };
+        let operands = Operands { place, got_entry, has_got_entry: true, ..Operands::default() };
         let facts = LinkFacts {
             is_relaxable: true,
             has_addresses: true,
