@@ -190,6 +190,7 @@ macro_rules! made {
                         "form" => random.below(12),
                         "rewrite" => random.below(24),
                         "relocation" | "r_type" => random.below(1200),
+                        "handle" => random.below(7) << 16 | random.below(1200),
                         "rd" => random.below(34),
                         "link" => random.below(3),
                         "base" if random.below(2) == 0 => 0,
@@ -288,6 +289,18 @@ fn relocation(random: &mut Random) -> Vec<u8> {
 impl Seen for u8 {
     fn seen(&self) -> String {
         format!("{self:02x}")
+    }
+}
+
+impl<const N: usize> Made for [u8; N] {
+    fn made(random: &mut Random, _name: &str) -> [u8; N] {
+        [0; N].map(|_: u8| random.word() as u8)
+    }
+}
+
+impl<const N: usize> Seen for [u8; N] {
+    fn seen(&self) -> String {
+        format!("{self:02x?}")
     }
 }
 

@@ -74,6 +74,9 @@ macro_rules! made {
                         "form" => input.below(16),
                         "rewrite" => input.below(64),
                         "relocation" | "r_type" => u64::from(u16::from_le_bytes(input.bytes()) % 1200),
+                        "handle" => {
+                            input.below(7) << 16 | u64::from(u16::from_le_bytes(input.bytes()) % 1200)
+                        }
                         _ => input.number(),
                     };
                     number as $kind
@@ -108,6 +111,12 @@ impl Made for u8 {
             return (0..len % 12).flat_map(relocation).collect();
         }
         (0..len).map(|_| input.byte()).collect()
+    }
+}
+
+impl<const N: usize> Made for [u8; N] {
+    fn made(input: &mut Input, _name: &str) -> [u8; N] {
+        input.bytes()
     }
 }
 
