@@ -79,12 +79,6 @@ macro_rules! row_of {
     };
 }
 
-macro_rules! row_flags_of {
-    ($module:ident $names:ident $of:ident ($code:expr)) => {
-        crate::linker_elf::$module::row_flags($names::from_elf($code))
-    };
-}
-
 macro_rules! text_of {
     ($module:ident $names:ident $of:ident ($code:expr)) => {
         match $names::from_elf($code) {
@@ -371,14 +365,6 @@ impl Architecture {
         } else {
             None
         }
-    }
-
-    /// What the relocation with a code requires of a linker and how its value is found, in bits that
-    /// `linker_section` reads. 7 of a code without a row.
-    #[must_use]
-    #[inline(always)]
-    pub const fn row_flags(self, code: u32) -> u16 {
-        by_architecture!(self, row_flags_of(code))
     }
 
     /// The name of a relocation in its psABI, as "R_AARCH64_CALL26", of at most 39 bytes. None of a

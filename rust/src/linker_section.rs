@@ -4,11 +4,9 @@
 //! linker, and the value of each from what is known of symbols and of the output.
 
 mod ascending;
-mod codes;
 mod conditions;
 pub mod facts;
 mod fields;
-mod known;
 pub mod needed;
 mod order;
 mod quick;

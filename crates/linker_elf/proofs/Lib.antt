@@ -25,6 +25,7 @@ pub mod RowsAgree
 pub mod RowsFit
 pub mod SameNames
 pub mod Taken
+pub mod Terms
 pub mod Steps
 pub mod WrittenNumbers
 pub mod WrittenRows

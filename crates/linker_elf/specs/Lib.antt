@@ -8,7 +8,7 @@ pub mod Choices
 pub mod Elf
 pub mod ElfNames
 pub mod Entries
-pub mod Flags
+pub mod Facts
 pub mod Forms
 pub mod Inner
 pub mod LoongArch

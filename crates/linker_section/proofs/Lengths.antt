@@ -4,6 +4,7 @@ use Rattle.std.proofs.lemmas.Bool.{cases_Bool, cases_lt}
 use Rattle.std.proofs.lemmas.List.{get_or-take, length-drop}
 use Rattle.std.specs.Int.{w64, from_le_bytes}
 use Rattle.std.specs.Prelude.{slice_index, ◌↔◌, IsTrue, not, ◌||◌, ◌%◌, ◌^◌}
+use Rattle.linker_elf.specs.Facts.{length_of as length_by}
 use Rattle.linker_elf.specs.Relocate.{size_len, window_len}
 use Rattle.linker_elf.specs.declared.elf.RelocationInstruction.TheVariants.{RiscV, Ppc64, LoongArch64}
 use Rattle.linker_elf.specs.declared.elf.RelocationKindInfo.{RelocationKindInfo}
@@ -16,7 +17,7 @@ use Rattle.linker_elf.specs.declared.elf.relocate.RelocateError.TheVariants.{Out
 use Rattle.linker_section.proofs.Fronts.{some_window, HaveSameWindow}
 use Rattle.linker_section.specs.Conditions.{HasLength, HoldsOffset, holds_offset, is_12_bits, is_thread_based, is_tp_off, riscv_shows, shows_length}
 use Rattle.linker_section.specs.Fields.{is_of_pair}
-use Rattle.linker_section.specs.Inner.Quick.{length_of as length_by, shows}
+use Rattle.linker_section.specs.Inner.Facts.{shows}
 use Rattle.linker_section.specs.Relocations.{relocation_in}
 use Rattle.linker_section.specs.Sections.{HasValue, IsOtherLength, IsUnwritable}
 use Rattle.linker_section.specs.Values.{offset_at}

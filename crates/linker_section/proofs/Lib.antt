@@ -1,6 +1,6 @@
 pub mod All
 pub mod Claims
-pub mod CodeNumbers
+pub mod RowFacts
 pub mod Composing
 pub mod Exact
 pub mod Faults

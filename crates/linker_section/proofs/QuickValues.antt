@@ -1,16 +1,19 @@
--- Values that are found by the numbers of codes.
+-- Values that are found by the facts of rows.
 use Rattle.std.proofs.Common.{◌≡◌, ℕ, ℤ, ◌<◌, ◌/◌, Bool, true, false, true≢false, eqb, not, ◌&&◌, List, length, Option, Some, None, Result, Ok, Err, refl, sym, ap, subst, ◌∙◌}
 use Rattle.std.specs.Prelude.{IfSome, slice_get}
 use Rattle.std.proofs.lemmas.Bool.{cond-true, ltb-true, lt-ltb, or_left, or_right}
+use Rattle.linker_elf.specs.Facts.{way_of}
 use Rattle.linker_elf.specs.Relocate.{window_len}
 use Rattle.linker_elf.specs.Value.{difference_64, value_of}
 use Rattle.linker_elf.specs.declared.elf.RelocationKind.{RelocationKind}
 use Rattle.linker_elf.specs.declared.elf.RelocationKind.TheVariants as kinds
 use Rattle.linker_elf.specs.declared.elf.RelocationKindInfo.{RelocationKindInfo}
+use Rattle.linker_elf.specs.declared.elf.facts.Way.{Way}
+use Rattle.linker_elf.specs.declared.elf.facts.Way.TheVariants as ways
 use Rattle.linker_elf.specs.declared.elf.value.Operands.{Operands}
 use Rattle.linker_section.specs.Conditions.{is_tp_off, lacks_stub, needs_upper}
 use Rattle.linker_section.specs.Fields.{is_of_pair}
-use Rattle.linker_section.specs.Inner.Codes.{When, SaysWay, is_plain, is_high, is_low, is_quick}
+use Rattle.linker_section.specs.Inner.Facts.{When, SaysWay, is_plain_way, is_high_way, is_plain, is_high, is_low, is_quick}
 use Rattle.linker_section.specs.Inner.Quick.{IsPlainValue, IsQuickValue, IsHighValue, HasHighValue}
 use Rattle.linker_section.specs.Relocations.{relocation_in}
 use Rattle.linker_elf.specs.Value.{is_offset}
@@ -44,16 +47,16 @@ plain_some architecture addresses symbols row r operands (Some v) found is =
     record { operands = operands; found = found; value_is = is }
 
 pub plain_quick : (architecture : Architecture) (addresses : Addresses) (bytes : List ℕ)
-    (symbols : List Symbol) (r : Rela) (row : RelocationKindInfo) (number : ℕ) (v : ℤ)
-    → IsRow architecture r.code (Some row) → SaysWay architecture r.code number row
-    → is_plain number ≡ true → lacks_stub architecture symbols r ≡ false
+    (symbols : List Symbol) (r : Rela) (row : RelocationKindInfo) (v : ℤ)
+    → IsRow architecture r.code (Some row) → SaysWay architecture row
+    → is_plain row ≡ true → lacks_stub architecture symbols r ≡ false
     → IsPlainValue architecture addresses symbols row r v → needs_upper architecture r v ≡ false
     → IsQuickValue architecture addresses bytes symbols r row v
-plain_quick architecture addresses bytes symbols r row number v is_row way plain keeps value reached =
-    let quick : is_quick number ≡ true = or_left (is_plain number) (is_low number) plain in
-    let valued = when_true (is_quick number) (has_value row.kind) true way.has_value quick in
-    let label = when_true (is_plain number) (names_label row.size row.kind) false way.unlabelled plain in
-    let offset = when_true (is_quick number) (is_offset row.kind) false way.unthreaded quick in
+plain_quick architecture addresses bytes symbols r row v is_row way plain keeps value reached =
+    let quick : is_quick row ≡ true = or_left (is_plain row) (is_low row) plain in
+    let valued = when_true (is_quick row) (has_value row.kind) true way.has_value quick in
+    let label = when_true (is_plain row) (names_label row.size row.kind) false way.unlabelled plain in
+    let offset = when_true (is_quick row) (is_offset row.kind) false way.unthreaded quick in
     let there : lacks_origin addresses symbols row r ≡ false =
     ap (λ b. b && (not addresses.has_tls && is_defined (slice_get symbols r.symbol))) offset in
     let own : Ok (Some v) ≡ own_value architecture addresses symbols row r =
@@ -68,24 +71,24 @@ plain_quick architecture addresses bytes symbols r row number v is_row way plain
         in_reach = λ needs. absurd (true≢false (sym needs ∙ reached));
       };
       valued = valued;
-      single = when_true (is_quick number) (is_of_pair row) false way.single quick;
-      some = ltb-true 0 (window_len row) (when_true (is_quick number) _ true way.some quick);
+      single = when_true (is_quick row) (is_of_pair row) false way.single quick;
+      some = ltb-true 0 (window_len row) (when_true (is_quick row) _ true way.some quick);
       unthreaded = not_tp_off row.kind offset;
     }
 
 -- ---- a low part of RISC-V
 
 pub low_quick : (architecture : Architecture) (addresses : Addresses) (bytes : List ℕ)
-    (symbols : List Symbol) (r : Rela) (row : RelocationKindInfo) (number : ℕ) (v : ℤ)
+    (symbols : List Symbol) (r : Rela) (row : RelocationKindInfo) (v : ℤ)
     (high : Option HighPart) → IsRow architecture r.code (Some row)
-    → SaysWay architecture r.code number row → is_low number ≡ true
+    → SaysWay architecture row → is_low row ≡ true
     → lacks_stub architecture symbols r ≡ false → IfSome high (IsHighValue architecture addresses bytes symbols)
     → HasHighValue addresses symbols r high v → needs_upper architecture r v ≡ false
     → IsQuickValue architecture addresses bytes symbols r row v
-low_quick architecture addresses bytes symbols r row number v high is_row way low keeps highs value reached =
-    let quick : is_quick number ≡ true = or_right (is_plain number) (is_low number) low in
+low_quick architecture addresses bytes symbols r row v high is_row way low keeps highs value reached =
+    let quick : is_quick row ≡ true = or_right (is_plain row) (is_low row) low in
     let part = subst (λ x. IfSome x (IsHighValue architecture addresses bytes symbols)) value.is_part highs in
-    let kind = when_true (is_low number) row.kind kinds.RelativeRiscVLow12 way.labelled low in
+    let kind = when_true (is_low row) row.kind kinds.RelativeRiscVLow12 way.labelled low in
     let label : names_label row.size row.kind ≡ true = ap (names_label row.size) kind in
     let found : Option (Rela × RelocationKindInfo) = Some (part.r, part.row) in
     let distance = difference_64 value.label.address addresses.section in
@@ -94,7 +97,7 @@ low_quick architecture addresses bytes symbols r row number v high is_row way lo
     (subst (λ o. IsHighPart architecture bytes kinds.RelativeRiscVLow12 o part.r part.row) (sym value.offset_is) part.part) in
     let is : Ok (Some v) ≡ low_value architecture addresses symbols row found =
     sym (ap (low_by row part.row) part.found
-    ∙ ap Ok (when_true (is_low number) _ _ (way.low_value (low_operands part.row part.operands)) low
+    ∙ ap Ok (when_true (is_low row) _ _ (way.low_value (low_operands part.row part.operands)) low
     ∙ (part.low ∙ ap Some (sym value.value_is)))) in
     record {
       has = record {
@@ -104,10 +107,10 @@ low_quick architecture addresses bytes symbols r row number v high is_row way lo
         keeps_toc = keeps;
         in_reach = λ needs. absurd (true≢false (sym needs ∙ reached));
       };
-      valued = when_true (is_quick number) (has_value row.kind) true way.has_value quick;
-      single = when_true (is_quick number) (is_of_pair row) false way.single quick;
-      some = ltb-true 0 (window_len row) (when_true (is_quick number) _ true way.some quick);
-      unthreaded = not_tp_off row.kind (when_true (is_quick number) (is_offset row.kind) false way.unthreaded quick);
+      valued = when_true (is_quick row) (has_value row.kind) true way.has_value quick;
+      single = when_true (is_quick row) (is_of_pair row) false way.single quick;
+      some = ltb-true 0 (window_len row) (when_true (is_quick row) _ true way.some quick);
+      unthreaded = not_tp_off row.kind (when_true (is_quick row) (is_offset row.kind) false way.unthreaded quick);
     }
 
 -- ---- a high part of RISC-V
@@ -128,16 +131,21 @@ operands_found true row v (Ok found) is = absurd (subst (λ x. IsSomeInt x) (sym
 operands_found false row v (Ok found) is = (found, refl, ap value_or_none is)
 operands_found lacks row v (Err error) is = absurd (subst (λ x. IsSomeInt x) (sym (ap value_or_none is)) tt)
 
+plain_high : (way : Way) → is_high_way way ≡ true → is_plain_way way ≡ true
+plain_high ways.High high = refl
+plain_high ways.Plain high = refl
+plain_high way high = absurd (true≢false (sym high))
+
 pub high_is : (architecture : Architecture) (addresses : Addresses) (bytes : List ℕ)
-    (symbols : List Symbol) (i : ℕ) (row : RelocationKindInfo) (number offset : ℕ) (v : ℤ)
+    (symbols : List Symbol) (i : ℕ) (row : RelocationKindInfo) (offset : ℕ) (v : ℤ)
     → i < length bytes / 24 → offset ≡ offset_at bytes i
-    → SaysWay architecture (relocation_in bytes i).code number row → is_high number ≡ true
+    → SaysWay architecture row → is_high row ≡ true
     → IsQuickValue architecture addresses bytes symbols (relocation_in bytes i) row v
     → IsHighValue architecture addresses bytes symbols (record { offset = offset; value = v })
-high_is architecture addresses bytes symbols i row number offset v there same way high value =
+high_is architecture addresses bytes symbols i row offset v there same way high value =
     let r = relocation_in bytes i in
-    let plain : is_plain number ≡ true = or_right (eqb (number / 256) 1) (is_high number) high in
-    let label = when_true (is_plain number) (names_label row.size row.kind) false way.unlabelled plain in
+    let plain : is_plain row ≡ true = plain_high (way_of row.size row.kind) high in
+    let label = when_true (is_plain row) (names_label row.size row.kind) false way.unlabelled plain in
     let own : Ok (Some v) ≡ own_value architecture addresses symbols row r =
     subst (λ b. IsValueBy b architecture addresses bytes symbols row r (Ok (Some v))) label value.has.is_value in
     let found = operands_found (lacks_origin addresses symbols row r) row v (operands_of architecture addresses symbols row r)
@@ -150,11 +158,11 @@ high_is architecture addresses bytes symbols i row number offset v there same wa
         is_there = cond-true _ (Some r) None (lt-ltb i (length bytes / 24) there);
         offset_is = sym same;
         row_is = value.has.is_row;
-        is_high = when_true (is_high number) (is_high_part kinds.RelativeRiscVLow12 (Some row)) true way.high high;
+        is_high = when_true (is_high row) (is_high_part kinds.RelativeRiscVLow12 (Some row)) true way.high high;
       };
       operands = found.0;
       found = found.1;
-      low = when_true (is_high number) _ _ (way.high_value (found.0)) high ∙ found.2;
+      low = when_true (is_high row) _ _ (way.high_value (found.0)) high ∙ found.2;
     }
 
 -- ---- where there is a value

@@ -1,5 +1,5 @@
 pub mod Claims
-pub mod Codes
+pub mod Facts
 pub mod Order
 pub mod Quick
 pub mod Saved

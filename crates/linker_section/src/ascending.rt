@@ -2,7 +2,7 @@
 
 ghost use Rattle.std.specs.Prelude.{◌≡◌, ◌≤◌, ◌<◌, ◌/◌, ℕ, List, length, slice_index, IfErr};
 ghost use Rattle.std.specs.Prelude.{IfOk, IfSome, IfNone};
-ghost use Rattle.linker_section.specs.Inner.Quick.{IsKnown, IsHighValue};
+ghost use Rattle.linker_section.specs.Inner.Quick.{IsHighValue};
 ghost use Rattle.linker_section.specs.Inner.Steps.{IsFront, IsLastOf, IsQuickStep, IsSlowStep};
 ghost use Rattle.linker_section.specs.Inner.Steps.{IsStopped, AreWrittenBelow, AreWrittenOrKept};
 ghost use Rattle.linker_section.specs.Inner.Steps.{IsFirstRun};
@@ -12,7 +12,6 @@ ghost use Rattle.linker_section.specs.declared.fields.Field.{Field};
 use crate::conditions::begins_with;
 use crate::facts::{Addresses, Symbol};
 use crate::fields::Field;
-use crate::known::{KnownCode, NO_CODES, learn, place_of};
 use crate::order::are_runs_apart;
 use crate::quick::{HighPart, high_behind, quick_value};
 use crate::relocations::{
@@ -34,7 +33,6 @@ fn write_quickly(
     relocations: &[u8],
     symbols: &[Symbol],
     relocation: &Rela,
-    known: &KnownCode,
     high: Option<HighPart>,
     index: usize,
     end: u64,
@@ -44,8 +42,6 @@ fn write_quickly(
     requires within { index < length relocations.now / 24 }
     requires room { length relocations.now / 24 ≤ length memory.old }
     requires is { relocation.now ≡ relocation_in relocations.now index }
-    requires known { IsKnown architecture known.now }
-    requires code { known.now.code ≡ relocation.now.code }
     requires high { IfSome high
         (IsHighValue architecture addresses.now relocations.now symbols.now) }
     ensures len { length memory.new ≡ length memory.old }
@@ -60,34 +56,32 @@ fn write_quickly(
     if offset < end {
         return None;
     }
-    let Some(row) = &known.row else {
+    let Some(row) = architecture.row(relocation.code) else {
         return None;
     };
     let Some(word) = whole_word_at(section, offset) else {
         return None;
     };
-    if !begins_with(architecture, known.length, word) {
+    if !begins_with(architecture, &row, word) {
         return None;
     }
     // stored before the value is found, so that the word takes no register
     memory[index] = word;
-    let number = known.number;
     let Some(value) = quick_value(
         architecture,
         addresses,
         relocations,
         symbols,
-        number,
-        row,
+        &row,
         relocation,
         high,
     ) else {
         return None;
     };
-    if write_held_at(row, value, offset, section).is_err() {
+    if write_held_at(&row, value, offset, section).is_err() {
         return None;
     }
-    let high = high_behind(architecture, number, offset, value, high);
+    let high = high_behind(architecture, &row, offset, value, high);
     Some((offset + row.window() as u64, high))
 }
 
@@ -175,7 +169,6 @@ fn write_ascending(
     ensures err { IfErr result (IsStopped architecture addresses.now relocations.now symbols.now
         section.old section.new memory.new) }
 {
-    let mut known = NO_CODES;
     let mut step = FIRST_STEP;
     let mut end = 0;
     let mut high = None;
@@ -183,14 +176,12 @@ fn write_ascending(
     let mut rest = relocations;
     while let Some((entry, behind)) = rest.split_first_chunk::<RELA_LEN>() {
         let relocation = relocation_of(entry);
-        learn(architecture, relocation.code, &mut known);
         if let Some((own_end, part)) = write_quickly(
             architecture,
             addresses,
             relocations,
             symbols,
             &relocation,
-            &known[place_of(relocation.code)],
             high,
             index,
             end,
@@ -252,20 +243,17 @@ pub(crate) fn write_second_run(
         memory.new result }
 {
     let len = relocations_len(relocations);
-    let mut known = NO_CODES;
     let mut end = 0;
     let mut high = None;
     let mut index = start;
     while index < len {
         let relocation = relocation_in(relocations, index);
-        learn(architecture, relocation.code, &mut known);
         let Some((own_end, part)) = write_quickly(
             architecture,
             addresses,
             relocations,
             symbols,
             &relocation,
-            &known[place_of(relocation.code)],
             high,
             index,
             end,

@@ -2,6 +2,7 @@
 
 ghost use Rattle.std.specs.Prelude.{◌≡◌, ◌↔◌, ◌<◌, ◌≤◌, ◌/◌, ◌^◌, ◌==◌, ℕ, IsTrue, slice_index};
 ghost use Rattle.std.specs.Prelude.{◌||◌, not, length, true, false};
+ghost use Rattle.linker_elf.specs.Facts.{length_of};
 ghost use Rattle.linker_elf.specs.Relocate.{size_len, window_len};
 ghost use Rattle.linker_section.specs.Relocations.{relocation_in};
 ghost use Rattle.linker_section.specs.Conditions.{HasLength, changes_toc, is_filled, is_padded};
@@ -9,14 +10,13 @@ ghost use Rattle.linker_section.specs.Conditions.{is_stated, lacks_stub, needed,
 ghost use Rattle.linker_section.specs.Conditions.{shows_length, is_thread_based, holds_offset};
 ghost use Rattle.linker_section.specs.Conditions.{upper_code, is_placed, is_upper, needs_upper};
 ghost use Rattle.linker_section.specs.Conditions.{HasUpper, HoldsOffset, IsInReach};
-ghost use Rattle.linker_section.specs.Inner.Codes.{shows_lengths};
-ghost use Rattle.linker_section.specs.Inner.Quick.{length_of, shows};
+ghost use Rattle.linker_section.specs.Inner.Facts.{shows_lengths, shows};
 
 use crate::facts::{Addresses, Symbol};
 use crate::relocations::{Rela, first_from, relocation_in, relocations_len};
 use linker_base::utils::u32_from_slice;
 use linker_utils::elf::{
-    Architecture, LoongArch64Instruction, Ppc64Instruction, RelocationInstruction, RelocationKind,
+    Architecture, Length, LoongArch64Instruction, Ppc64Instruction, RelocationInstruction, RelocationKind,
     RelocationSize, RiscVInstruction, Row,
 };
 
@@ -173,59 +173,21 @@ pub(crate) fn has_length(row: &Row, offset: u64, section: &[u8]) -> bool
     there.len() < row.window() || shows_length(row.info().size, there)
 }
 
-/// The lengths of instructions that their first 8 bytes show.
-#[derive(Clone, Copy)]
-pub(crate) enum Length {
-    /// Any.
-    Any,
-    /// An instruction of RISC-V of 2 bytes.
-    Two,
-    /// One of 4 bytes.
-    Four,
-    /// An instruction of PowerPC64 of 8 bytes.
-    Prefixed,
-}
-
-impl Length {
-    /// That of the instruction of a row.
-    pub(crate) fn of(size: RelocationSize) -> Length
-        ensures { result ≡ length_of size }
-    {
-        match size {
-            RelocationSize::BitMasking { insn, .. } => match insn {
-                RelocationInstruction::RiscV(insn) => match insn {
-                    RiscVInstruction::CbType
-                    | RiscVInstruction::CjType
-                    | RiscVInstruction::CluiType => Length::Two,
-                    _ => Length::Four,
-                },
-                RelocationInstruction::Ppc64(Ppc64Instruction::Prefixed) => Length::Prefixed,
-                _ => Length::Any,
-            },
-            RelocationSize::ByteSize(_) => Length::Any,
-        }
-    }
-
-    /// Whether a word of 8 bytes begins with an instruction of this length.
-    #[inline(always)]
-    fn is_shown(self, word: u64) -> bool
-        ensures { result ≡ shows self word }
-    {
-        match self {
-            Length::Any => true,
-            Length::Two => word % 4 != 3,
-            Length::Four => word % 4 == 3,
-            Length::Prefixed => word / (1 << 26) % 64 == 1,
-        }
-    }
-}
-
-/// Whether a word begins with an instruction of a length, in an architecture that has several.
+/// Whether a word of 8 bytes begins with an instruction as long as the form of a row, in an
+/// architecture that has several lengths.
 #[inline(always)]
-pub(crate) fn begins_with(architecture: Architecture, length: Length, word: u64) -> bool
-    ensures { result ≡ (not (shows_lengths architecture) || shows length word) }
+pub(crate) fn begins_with(architecture: Architecture, row: &Row, word: u64) -> bool
+    ensures { result ≡ (not (shows_lengths architecture) || shows (length_of row.now.size) word) }
 {
-    !matches!(architecture, Architecture::RiscV | Architecture::Ppc64) || length.is_shown(word)
+    if !matches!(architecture, Architecture::RiscV | Architecture::Ppc64) {
+        return true;
+    }
+    match row.facts().length {
+        Length::Any => true,
+        Length::Two => word % 4 != 3,
+        Length::Four => word % 4 == 3,
+        Length::Prefixed => word / (1 << 26) % 64 == 1,
+    }
 }
 
 /// Whether the base register of an instruction is the thread pointer.

@@ -3,11 +3,9 @@
 #![tactic(auto)]
 
 mod ascending;
-mod codes;
 mod conditions;
 pub mod facts;
 mod fields;
-mod known;
 pub mod needed;
 mod order;
 mod quick;

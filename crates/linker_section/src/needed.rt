@@ -1,15 +1,13 @@
 //! What a relocation requires of a linker before addresses are known.
 
-ghost use Rattle.std.specs.Prelude.{◌≡◌, ◌%◌, Option};
+ghost use Rattle.std.specs.Prelude.{◌≡◌, Option};
 ghost use Rattle.linker_elf.specs.declared.elf.RelocationKindInfo.{RelocationKindInfo};
-ghost use Rattle.linker_section.specs.Inner.Codes.{class_by, entry_by, needs_by};
-ghost use Rattle.linker_section.specs.Inner.Codes.{requirements_by};
+ghost use Rattle.linker_section.specs.Inner.Facts.{class_by, entry_by, requirements_by};
 ghost use Rattle.linker_section.specs.Needed.{class_of_kind, may_use_stub};
 ghost use Rattle.linker_section.specs.Needed.{needs_in};
 ghost use Rattle.linker_utils.specs.Architectures.{IsRow};
 
-use crate::codes::NO_ROW;
-use linker_utils::elf::{Architecture, RelocationKind, RelocationSize};
+use linker_utils::elf::{Architecture, EntryUse, RelocationKind, RelocationSize, RowFacts};
 
 /// What an entry of the GOT holds.
 #[derive(Debug, Clone, Copy, PartialEq, Eq)]
@@ -101,61 +99,52 @@ pub(crate) fn may_use_stub(size: RelocationSize, kind: RelocationKind) -> bool
         ) && !size.loads_plt_word(kind))
 }
 
-/// The class that the low three bits of a code's number are.
+/// The class of the entry that a formula has.
 #[inline(always)]
-fn class_by(number: u16, is_thread_local: bool) -> Option<EntryClass>
-    ensures { result ≡ class_by number is_thread_local }
+fn class_by(entry: EntryUse, is_thread_local: bool) -> Option<EntryClass>
+    ensures { result ≡ class_by is_thread_local entry }
 {
-    match number {
-        0 => Some(EntryClass::Address),
-        1 => Some(EntryClass::ThreadOffset),
-        2 => Some(EntryClass::ModuleOffset),
-        3 => Some(EntryClass::Module),
-        4 => Some(EntryClass::Descriptor),
-        6 if is_thread_local => Some(EntryClass::ModuleOffset),
-        6 => Some(EntryClass::Address),
-        _ => None,
+    let entry = match entry {
+        EntryUse::LowHalf if is_thread_local => EntryUse::ModuleOffset,
+        _ => entry,
+    };
+    // LLVM makes a table of constants alone
+    match entry {
+        EntryUse::Without => None,
+        EntryUse::Address | EntryUse::LowHalf => Some(EntryClass::Address),
+        EntryUse::ThreadOffset => Some(EntryClass::ThreadOffset),
+        EntryUse::ModuleOffset => Some(EntryClass::ModuleOffset),
+        EntryUse::Module => Some(EntryClass::Module),
+        EntryUse::Descriptor => Some(EntryClass::Descriptor),
     }
 }
 
-/// The entry that the number of a code says.
+/// The entry that a row requires.
 #[inline(always)]
-pub(crate) fn entry_by(number: u16, addend: i64, is_thread_local: bool) -> Option<Entry>
-    ensures { result ≡ entry_by number addend (class_by (number % 8) is_thread_local) }
+pub(crate) fn entry_by(facts: &RowFacts, addend: i64, is_thread_local: bool) -> Option<Entry>
+    ensures { result ≡ entry_by facts.now addend (class_by is_thread_local facts.now.entry) }
 {
-    match class_by(number % 8, is_thread_local) {
+    match class_by(facts.entry, is_thread_local) {
         Some(class) => Some(Entry {
             class,
-            addend: if number / 8 % 2 == 1 { addend } else { 0 },
+            addend: if facts.entry_has_addend { addend } else { 0 },
         }),
         None => None,
     }
 }
 
-/// What the number of a code with a row says.
+/// What the facts of a row say.
 #[inline(always)]
-fn requirements_by(number: u16, addend: i64, is_thread_local: bool) -> Requirements
-    ensures { result ≡ requirements_by number addend is_thread_local }
+fn requirements_by(facts: &RowFacts, addend: i64, is_thread_local: bool) -> Requirements
+    ensures { result ≡ requirements_by facts.now addend is_thread_local }
 {
     Requirements {
-        entry: entry_by(number, addend, is_thread_local),
-        is_branch: number / 16 % 2 == 1,
-        may_use_stub: number / 32 % 2 == 1,
-        stub_only_if_undefined: number % 16 == 13,
-        is_word: number / 64 % 2 == 1,
-        depends_on_load: number / 128 % 2 == 1,
-    }
-}
-
-/// The same of any code.
-#[inline(always)]
-fn needs_by(number: u16, addend: i64, is_thread_local: bool) -> Option<Requirements>
-    ensures { result ≡ needs_by number addend is_thread_local }
-{
-    if number == NO_ROW {
-        None
-    } else {
-        Some(requirements_by(number, addend, is_thread_local))
+        entry: entry_by(facts, addend, is_thread_local),
+        is_branch: facts.is_branch,
+        may_use_stub: facts.may_use_stub,
+        stub_only_if_undefined: facts.stub_only_if_undefined,
+        is_word: facts.is_word,
+        depends_on_load: facts.depends_on_load,
     }
 }
 
@@ -187,5 +176,8 @@ pub fn needs(
     ensures { (row : Option RelocationKindInfo) × IsRow architecture code row
         × (result ≡ needs_in row addend is_thread_local) }
 {
-    needs_by(architecture.row_flags(code), addend, is_thread_local)
+    match architecture.row(code) {
+        Some(row) => Some(requirements_by(row.facts(), addend, is_thread_local)),
+        None => None,
+    }
 }

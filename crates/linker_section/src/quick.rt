@@ -1,26 +1,25 @@
-//! The values of most relocations, by the numbers of their codes.
+//! The values of most relocations, by the facts of their rows.
 //!
 //! Few tests find them, so that a section's values take little more time than the formulas. Where
 //! these return nothing, `value_of` says what the value is, and why there is none.
 
-ghost use Rattle.std.specs.Prelude.{◌≡◌, ◌⊎◌, ◌&&◌, ◌==◌, ◌%◌, ◌/◌, true, false, Some, IfSome};
+ghost use Rattle.std.specs.Prelude.{◌≡◌, ◌⊎◌, true, false, Some, IfSome};
 ghost use Rattle.linker_section.specs.Conditions.{needs_upper};
-ghost use Rattle.linker_section.specs.Inner.Codes.{class_by, entry_by, is_high, is_plain, is_ppc64};
-ghost use Rattle.linker_section.specs.Inner.Codes.{IsNumberOf, SaysNeeds, SaysWay};
+ghost use Rattle.linker_section.specs.Inner.Facts.{class_by, entry_by, is_high, is_plain};
+ghost use Rattle.linker_section.specs.Inner.Facts.{SaysBranch, SaysNeeds, SaysWay};
 ghost use Rattle.linker_section.specs.Inner.Quick.{IsHighValue, HasHighValue};
 ghost use Rattle.linker_section.specs.Inner.Quick.{IsPlainValue, IsQuickValue};
 ghost use Rattle.linker_section.specs.Needed.{entry_of};
-ghost use Rattle.linker_section.specs.Values.{address_of, entry_address, is_ppc64_branch};
+ghost use Rattle.linker_section.specs.Values.{address_of, entry_address, is_of_got};
 ghost use Rattle.linker_section.specs.Values.{operands_with, target_of};
 ghost use Rattle.linker_utils.specs.Architectures.{IsRow};
 
-use crate::codes::{HIGH, LOW, NO_ENTRY, PLAIN, way_of};
 use crate::conditions::{lacks_stub, needs_upper};
 use crate::facts::{Addresses, Symbol};
 use crate::needed::entry_by;
 use crate::relocations::Rela;
-use crate::values::{entry_address, local_entry, target_of};
-use linker_utils::elf::{Architecture, Operands, Row};
+use crate::values::{entry_address, is_of_got, local_entry, target_of};
+use linker_utils::elf::{Architecture, EntryUse, Operands, Row, RowFacts, Way};
 
 /// A high part of RISC-V, whose value low parts take.
 #[derive(Clone, Copy)]
@@ -31,48 +30,50 @@ pub(crate) struct HighPart {
     pub(crate) value: i64,
 }
 
-/// The address of a symbol's entry that the number of a code says. By itself, since most
-/// relocations have none.
+/// The address of a symbol's entry that a row requires. By itself, since most relocations have none.
 #[inline(never)]
-fn address_of_entry(addresses: &Addresses, symbol: &Symbol, number: u16, addend: i64) -> Option<u64>
+fn address_of_entry(
+    addresses: &Addresses,
+    symbol: &Symbol,
+    facts: &RowFacts,
+    addend: i64,
+) -> Option<u64>
     ensures { result ≡ entry_address addresses.now symbol.now
-        (entry_by number addend (class_by (number % 8) symbol.now.is_thread_local)) }
+        (entry_by facts.now addend (class_by symbol.now.is_thread_local facts.now.entry)) }
 {
     entry_address(
         addresses,
         symbol,
-        entry_by(number, addend, symbol.is_thread_local),
+        entry_by(facts, addend, symbol.is_thread_local),
     )
 }
 
-/// The address of the entry that a relocation requires; 0 where it requires none. Only the contract
-/// uses `_row`.
+/// The address of the entry that a relocation requires; 0 where it requires none.
 #[inline(always)]
 fn required_address(
     addresses: &Addresses,
     symbol: &Symbol,
-    number: u16,
+    row: &Row,
     addend: i64,
-    _row: &Row,
 ) -> Option<u64>
-    requires { SaysNeeds number _row.now }
+    requires { SaysNeeds row.now }
     ensures { result ≡ entry_address addresses.now symbol.now
-        (entry_of _row.now addend symbol.now.is_thread_local) }
+        (entry_of row.now addend symbol.now.is_thread_local) }
 {
-    if number % 8 == NO_ENTRY {
+    if matches!(row.facts().entry, EntryUse::Without) {
         Some(0)
     } else {
-        address_of_entry(addresses, symbol, number, addend)
+        address_of_entry(addresses, symbol, row.facts(), addend)
     }
 }
 
-/// A symbol's address, or where PowerPC64's branches go. Only the contract uses `_row`.
+/// A symbol's address, or where PowerPC64's branches go.
 #[inline(always)]
-fn own_address(architecture: Architecture, number: u16, symbol: &Symbol, _row: &Row) -> u64
-    requires { is_ppc64_branch _row.now.size ≡ (is_ppc64 architecture && (number / 16 % 2 == 1)) }
-    ensures { result ≡ address_of _row.now symbol.now }
+fn own_address(architecture: Architecture, row: &Row, symbol: &Symbol) -> u64
+    requires { SaysBranch architecture row.now }
+    ensures { result ≡ address_of row.now symbol.now }
 {
-    if matches!(architecture, Architecture::Ppc64) && number / 16 % 2 == 1 {
+    if matches!(architecture, Architecture::Ppc64) && row.facts().is_branch {
         symbol.address.wrapping_add(local_entry(symbol.other))
     } else {
         symbol.address
@@ -84,15 +85,14 @@ fn own_address(architecture: Architecture, number: u16, symbol: &Symbol, _row: &
 fn other_target(
     architecture: Architecture,
     addresses: &Addresses,
-    number: u16,
     row: &Row,
     symbol: &Symbol,
     place: u64,
 ) -> u64
-    requires { SaysNeeds number row.now }
+    requires { SaysNeeds row.now }
     ensures { result ≡ target_of architecture addresses.now row.now symbol.now place }
 {
-    target_of(architecture, addresses, number, &row.info(), symbol, place)
+    target_of(architecture, addresses, row, symbol, place)
 }
 
 /// The same of any symbol.
@@ -100,20 +100,18 @@ fn other_target(
 fn quick_target(
     architecture: Architecture,
     addresses: &Addresses,
-    number: u16,
     row: &Row,
     symbol: &Symbol,
     place: u64,
 ) -> u64
-    requires needs { SaysNeeds number row.now }
-    requires branch { is_ppc64_branch row.now.size
-        ≡ (is_ppc64 architecture && (number / 16 % 2 == 1)) }
+    requires needs { SaysNeeds row.now }
+    requires branch { SaysBranch architecture row.now }
     ensures { result ≡ target_of architecture addresses.now row.now symbol.now place }
 {
     if symbol.stub != 0 || symbol.is_undefined_weak {
-        other_target(architecture, addresses, number, row, symbol, place)
+        other_target(architecture, addresses, row, symbol, place)
     } else {
-        own_address(architecture, number, symbol, row)
+        own_address(architecture, row, symbol)
     }
 }
 
@@ -122,20 +120,20 @@ fn quick_target(
 fn plain_operands(
     architecture: Architecture,
     addresses: &Addresses,
-    number: u16,
     row: &Row,
     symbol: &Symbol,
     relocation: &Rela,
     entry: u64,
 ) -> Operands
-    requires needs { SaysNeeds number row.now }
-    requires way { SaysWay architecture relocation.now.code number row.now }
-    requires plain { is_plain number ≡ true }
+    requires needs { SaysNeeds row.now }
+    requires way { SaysWay architecture row.now }
+    requires plain { is_plain row.now ≡ true }
+    requires symbol { is_of_got architecture relocation.now.code ≡ false }
     ensures { result
         ≡ operands_with architecture addresses.now row.now symbol.now relocation.now entry }
 {
     let place = addresses.section.wrapping_add(relocation.offset);
-    let target = quick_target(architecture, addresses, number, row, symbol, place);
+    let target = quick_target(architecture, addresses, row, symbol, place);
     Operands {
         symbol: target,
         addend: relocation.addend,
@@ -157,31 +155,23 @@ fn plain_value(
     architecture: Architecture,
     addresses: &Addresses,
     symbols: &[Symbol],
-    number: u16,
     row: &Row,
     relocation: &Rela,
 ) -> Option<i64>
-    requires needs { SaysNeeds number row.now }
-    requires way { SaysWay architecture relocation.now.code number row.now }
-    requires plain { is_plain number ≡ true }
+    requires needs { SaysNeeds row.now }
+    requires way { SaysWay architecture row.now }
+    requires plain { is_plain row.now ≡ true }
+    requires symbol { is_of_got architecture relocation.now.code ≡ false }
     ensures { IfSome result (IsPlainValue architecture addresses.now symbols.now row.now
         relocation.now) }
 {
     let Some(symbol) = symbols.get(relocation.symbol as usize) else {
         return None;
     };
-    let Some(entry) = required_address(addresses, symbol, number, relocation.addend, row) else {
+    let Some(entry) = required_address(addresses, symbol, row, relocation.addend) else {
         return None;
     };
-    let operands = plain_operands(
-        architecture,
-        addresses,
-        number,
-        row,
-        symbol,
-        relocation,
-        entry,
-    );
+    let operands = plain_operands(architecture, addresses, row, symbol, relocation, entry);
     row.formula_value(&operands)
 }
 
@@ -215,29 +205,29 @@ fn found_value(
     addresses: &Addresses,
     _relocations: &[u8],
     symbols: &[Symbol],
-    number: u16,
     row: &Row,
     relocation: &Rela,
     high: Option<HighPart>,
 ) -> Option<i64>
     requires row { IsRow architecture relocation.now.code (Some row.now) }
-    requires number { IsNumberOf architecture relocation.now.code number }
     requires high { IfSome high
         (IsHighValue architecture addresses.now _relocations.now symbols.now) }
     ensures { IfSome result (λ v. needs_upper architecture relocation.now v ≡ false
         → IsQuickValue architecture addresses.now _relocations.now symbols.now relocation.now
         row.now v) }
 {
-    if lacks_stub(architecture, symbols, relocation) {
+    if lacks_stub(architecture, symbols, relocation) || is_of_got(architecture, relocation.code) {
         return None;
     }
-    let way = way_of(number);
-    if way == PLAIN || (way == HIGH && matches!(architecture, Architecture::RiscV)) {
-        plain_value(architecture, addresses, symbols, number, row, relocation)
-    } else if way == LOW && matches!(architecture, Architecture::RiscV) {
-        value_of_high(addresses, symbols, relocation, high)
-    } else {
-        None
+    match row.facts().way {
+        Way::Plain => plain_value(architecture, addresses, symbols, row, relocation),
+        Way::High if matches!(architecture, Architecture::RiscV) => {
+            plain_value(architecture, addresses, symbols, row, relocation)
+        }
+        Way::Low if matches!(architecture, Architecture::RiscV) => {
+            value_of_high(addresses, symbols, relocation, high)
+        }
+        _ => None,
     }
 }
 
@@ -248,13 +238,11 @@ pub(crate) fn quick_value(
     addresses: &Addresses,
     relocations: &[u8],
     symbols: &[Symbol],
-    number: u16,
     row: &Row,
     relocation: &Rela,
     high: Option<HighPart>,
 ) -> Option<i64>
     requires row { IsRow architecture relocation.now.code (Some row.now) }
-    requires number { IsNumberOf architecture relocation.now.code number }
     requires high { IfSome high
         (IsHighValue architecture addresses.now relocations.now symbols.now) }
     ensures { IfSome result (IsQuickValue architecture addresses.now relocations.now symbols.now
@@ -265,7 +253,6 @@ pub(crate) fn quick_value(
         addresses,
         relocations,
         symbols,
-        number,
         row,
         relocation,
         high,
@@ -290,15 +277,15 @@ fn new_high(offset: u64, value: i64) -> HighPart
 #[inline(always)]
 pub(crate) fn high_behind(
     architecture: Architecture,
-    number: u16,
+    row: &Row,
     offset: u64,
     value: i64,
     high: Option<HighPart>,
 ) -> Option<HighPart>
-    ensures { (result ≡ high) ⊎ ((is_high number ≡ true)
+    ensures { (result ≡ high) ⊎ ((is_high row.now ≡ true)
         × (result ≡ Some (record { offset = offset; value = value }))) }
 {
-    if way_of(number) == HIGH && matches!(architecture, Architecture::RiscV) {
+    if matches!(row.facts().way, Way::High) && matches!(architecture, Architecture::RiscV) {
         Some(new_high(offset, value))
     } else {
         high

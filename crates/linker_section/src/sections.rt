@@ -19,7 +19,6 @@ ghost use Rattle.linker_utils.specs.Architectures.{IsRow};
 ghost use Rattle.linker_elf.specs.declared.elf.RelocationKindInfo.{RelocationKindInfo};
 
 use crate::ascending::{write_ascending_of, write_second_run};
-use crate::codes::number_of;
 use crate::conditions::{has_length, has_offset, is_filled, is_in_reach, lacks_stub};
 use crate::facts::{Addresses, Symbol};
 use crate::fields::{Field, begins_pair, ends_pair, is_of_pair, uleb_len};
@@ -104,14 +103,12 @@ fn row_value(
     let Some(row) = architecture.row(relocation.code) else {
         return Err(ValueError::UnknownType);
     };
-    let info = row.info();
     match value_of(
         architecture,
         addresses,
         relocations,
         symbols,
-        number_of(architecture, relocation.code),
-        &info,
+        &row,
         relocation,
     ) {
         Ok(Some(value)) => {

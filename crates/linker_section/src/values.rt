@@ -1,7 +1,7 @@
 //! The value of a relocation, by what a linker knows of symbols and of the output.
 
 ghost use Rattle.std.specs.Prelude.{◌≡◌, ◌<◌, ◌/◌, length, Some, IfNone, IfSome, slice_get};
-ghost use Rattle.linker_section.specs.Inner.Codes.{SaysNeeds};
+ghost use Rattle.linker_section.specs.Inner.Facts.{SaysNeeds};
 ghost use Rattle.linker_section.specs.Needed.{entry_of, may_use_stub};
 ghost use Rattle.linker_section.specs.Relocations.{relocation_in};
 ghost use Rattle.linker_section.specs.Values.{entry_in, has_addend, is_there, entry_address};
@@ -15,13 +15,12 @@ ghost use Rattle.linker_section.specs.Values.{IsHighPart, IsHighPartAt, IsNoHigh
 ghost use Rattle.linker_section.specs.Values.{low_value, IsValueBy, IsValue};
 ghost use Rattle.linker_utils.specs.Architectures.{IsRow};
 
-use crate::codes::number_of;
 use crate::facts::{Addresses, Symbol};
 use crate::needed::{Entry, EntryClass, class_of_kind, entry_by, may_use_stub};
 use crate::relocations::{Rela, first_from, offset_at, relocation_in, relocations_len};
 use linker_utils::elf::{
     Architecture, Operands, RelocationInstruction, RelocationKind, RelocationKindInfo,
-    RelocationSize, RiscVInstruction,
+    RelocationSize, RiscVInstruction, Row,
 };
 
 /// Why a relocation has no value.
@@ -214,14 +213,13 @@ fn defined_or_weak(
     }
 }
 
-/// Whether a stub may serve as the target of a relocation, by the number of its code. Only the
-/// contract uses `_info`.
+/// Whether a stub may serve as the target of a relocation.
 #[inline(always)]
-fn serves_stub(number: u16, _info: &RelocationKindInfo) -> bool
-    requires { SaysNeeds number _info.now }
-    ensures { result ≡ may_use_stub _info.now.size _info.now.kind }
+fn serves_stub(row: &Row) -> bool
+    requires { SaysNeeds row.now }
+    ensures { result ≡ may_use_stub row.now.size row.now.kind }
 {
-    number / 32 % 2 == 1
+    row.facts().may_use_stub
 }
 
 /// S, or the stub by which a branch goes.
@@ -229,18 +227,17 @@ fn serves_stub(number: u16, _info: &RelocationKindInfo) -> bool
 pub(crate) fn target_of(
     architecture: Architecture,
     addresses: &Addresses,
-    number: u16,
-    info: &RelocationKindInfo,
+    row: &Row,
     symbol: &Symbol,
     place: u64,
 ) -> u64
-    requires { SaysNeeds number info.now }
-    ensures { result ≡ target_of architecture addresses.now info.now symbol.now place }
+    requires { SaysNeeds row.now }
+    ensures { result ≡ target_of architecture addresses.now row.now symbol.now place }
 {
-    if serves_stub(number, info) && symbol.stub != 0 {
+    if serves_stub(row) && symbol.stub != 0 {
         symbol.stub
     } else {
-        defined_or_weak(architecture, addresses, info, symbol, place)
+        defined_or_weak(architecture, addresses, &row.info(), symbol, place)
     }
 }
 
@@ -249,18 +246,18 @@ pub(crate) fn target_of(
 fn operands_with(
     architecture: Architecture,
     addresses: &Addresses,
-    number: u16,
-    info: &RelocationKindInfo,
+    row: &Row,
     symbol: &Symbol,
     relocation: &Rela,
     entry: u64,
 ) -> Operands
-    requires { SaysNeeds number info.now }
+    requires { SaysNeeds row.now }
     ensures { result
-        ≡ operands_with architecture addresses.now info.now symbol.now relocation.now entry }
+        ≡ operands_with architecture addresses.now row.now symbol.now relocation.now entry }
 {
+    let info = row.info();
     let place = addresses.section.wrapping_add(relocation.offset);
-    let target = target_of(architecture, addresses, number, info, symbol, place);
+    let target = target_of(architecture, addresses, row, symbol, place);
     let loads = info.size.loads_plt_word(info.kind);
     Operands {
         symbol: if is_of_got(architecture, relocation.code) {
@@ -281,20 +278,14 @@ fn operands_with(
     }
 }
 
-/// The entry that a relocation of a symbol requires, by the number of its code. Only
-/// the contract uses `_info`.
+/// The entry that a relocation of a symbol requires.
 #[inline(always)]
-fn required(
-    number: u16,
-    _info: &RelocationKindInfo,
-    relocation: &Rela,
-    symbol: &Symbol,
-) -> Option<Entry>
-    requires { SaysNeeds number _info.now }
+fn required(row: &Row, relocation: &Rela, symbol: &Symbol) -> Option<Entry>
+    requires { SaysNeeds row.now }
     ensures { result
-        ≡ entry_of _info.now relocation.now.addend symbol.now.is_thread_local }
+        ≡ entry_of row.now relocation.now.addend symbol.now.is_thread_local }
 {
-    entry_by(number, relocation.addend, symbol.is_thread_local)
+    entry_by(row.facts(), relocation.addend, symbol.is_thread_local)
 }
 
 /// The same, where there may be no such entry.
@@ -302,22 +293,20 @@ fn required(
 fn operands_by(
     architecture: Architecture,
     addresses: &Addresses,
-    number: u16,
-    info: &RelocationKindInfo,
+    row: &Row,
     relocation: &Rela,
     symbol: &Symbol,
     entry: Option<u64>,
 ) -> Result<Operands, ValueError>
-    requires { SaysNeeds number info.now }
+    requires { SaysNeeds row.now }
     ensures { result
-        ≡ operands_by architecture addresses.now info.now relocation.now symbol.now entry }
+        ≡ operands_by architecture addresses.now row.now relocation.now symbol.now entry }
 {
     match entry {
         Some(entry) => Ok(operands_with(
             architecture,
             addresses,
-            number,
-            info,
+            row,
             symbol,
             relocation,
             entry,
@@ -332,31 +321,18 @@ fn operands_of(
     architecture: Architecture,
     addresses: &Addresses,
     symbols: &[Symbol],
-    number: u16,
-    info: &RelocationKindInfo,
+    row: &Row,
     relocation: &Rela,
 ) -> Result<Operands, ValueError>
-    requires { SaysNeeds number info.now }
+    requires { SaysNeeds row.now }
     ensures { result
-        ≡ operands_of architecture addresses.now symbols.now info.now relocation.now }
+        ≡ operands_of architecture addresses.now symbols.now row.now relocation.now }
 {
     let Some(symbol) = symbols.get(relocation.symbol as usize) else {
         return Err(ValueError::NoSymbol);
     };
-    let entry = entry_address(
-        addresses,
-        symbol,
-        required(number, info, relocation, symbol),
-    );
-    operands_by(
-        architecture,
-        addresses,
-        number,
-        info,
-        relocation,
-        symbol,
-        entry,
-    )
+    let entry = entry_address(addresses, symbol, required(row, relocation, symbol));
+    operands_by(architecture, addresses, row, relocation, symbol, entry)
 }
 
 /// Whether a relocation of a kind has a value.
@@ -386,12 +362,12 @@ fn is_defined(symbols: &[Symbol], index: u32) -> bool
 fn lacks_origin(
     addresses: &Addresses,
     symbols: &[Symbol],
-    info: &RelocationKindInfo,
+    row: &Row,
     relocation: &Rela,
 ) -> bool
-    ensures { result ≡ lacks_origin addresses.now symbols.now info.now relocation.now }
+    ensures { result ≡ lacks_origin addresses.now symbols.now row.now relocation.now }
 {
-    info.kind.is_offset() && !addresses.has_tls && is_defined(symbols, relocation.symbol)
+    row.kind().is_offset() && !addresses.has_tls && is_defined(symbols, relocation.symbol)
 }
 
 /// The value of a relocation that stands alone.
@@ -400,22 +376,21 @@ fn own_value(
     architecture: Architecture,
     addresses: &Addresses,
     symbols: &[Symbol],
-    number: u16,
-    info: &RelocationKindInfo,
+    row: &Row,
     relocation: &Rela,
 ) -> Result<Option<i64>, ValueError>
-    requires { SaysNeeds number info.now }
-    ensures { result ≡ own_value architecture addresses.now symbols.now info.now relocation.now }
+    requires { SaysNeeds row.now }
+    ensures { result ≡ own_value architecture addresses.now symbols.now row.now relocation.now }
 {
-    if !has_value(info.kind) {
+    if !has_value(row.kind()) {
         return Ok(None);
     }
-    match operands_of(architecture, addresses, symbols, number, info, relocation) {
+    match operands_of(architecture, addresses, symbols, row, relocation) {
         Ok(operands) => {
-            if lacks_origin(addresses, symbols, info, relocation) {
+            if lacks_origin(addresses, symbols, row, relocation) {
                 Err(ValueError::NoTlsBase)
             } else {
-                Ok(info.formula_value(&operands))
+                Ok(row.formula_value(&operands))
             }
         }
         Err(error) => Err(error),
@@ -489,7 +464,7 @@ fn high_part_in(
     low: RelocationKind,
     at: u64,
     index: usize,
-) -> Option<(Rela, RelocationKindInfo)>
+) -> Option<(Rela, Row)>
     requires { index < length relocations.now / 24 }
     ensures found { IfSome result (λ high. IsHighPart architecture relocations.now low at (high.0)
         (high.1)) }
@@ -503,9 +478,8 @@ fn high_part_in(
     let Some(row) = architecture.row(relocation.code) else {
         return None;
     };
-    let info = row.info();
-    if is_high_part(low, &info) {
-        Some((relocation, info))
+    if is_high_part(low, &row.info()) {
+        Some((relocation, row))
     } else {
         None
     }
@@ -517,7 +491,7 @@ fn ascending_high_part(
     relocations: &[u8],
     low: RelocationKind,
     at: u64,
-) -> Option<(Rela, RelocationKindInfo)>
+) -> Option<(Rela, Row)>
     ensures { IfSome result (λ high. IsHighPart architecture relocations.now low at (high.0)
         (high.1)) }
 {
@@ -538,7 +512,7 @@ fn high_part(
     relocations: &[u8],
     low: RelocationKind,
     at: u64,
-) -> Option<(Rela, RelocationKindInfo)>
+) -> Option<(Rela, Row)>
     ensures { IsHighPartAt architecture relocations.now low at result }
 {
     if let Some(high) = ascending_high_part(architecture, relocations, low, at) {
@@ -554,10 +528,10 @@ fn high_part(
 
 /// The operands of a low part, of those of its high part.
 #[inline(always)]
-fn low_operands(high: &RelocationKindInfo, operands: Operands) -> Operands
+fn low_operands(high: &Row, operands: Operands) -> Operands
     ensures { result ≡ low_operands high.now operands }
 {
-    if class_of_kind(high.kind).is_some() {
+    if class_of_kind(high.kind()).is_some() {
         Operands {
             symbol: operands.got_entry,
             ..operands
@@ -573,18 +547,17 @@ fn low_value(
     architecture: Architecture,
     addresses: &Addresses,
     symbols: &[Symbol],
-    info: &RelocationKindInfo,
-    high: Option<(Rela, RelocationKindInfo)>,
+    row: &Row,
+    high: Option<(Rela, Row)>,
 ) -> Result<Option<i64>, ValueError>
     requires { IfSome high (λ found. IsRow architecture (found.0).code (Some (found.1))) }
-    ensures { result ≡ low_value architecture addresses.now symbols.now info.now high }
+    ensures { result ≡ low_value architecture addresses.now symbols.now row.now high }
 {
     let Some((relocation, high)) = high else {
         return Err(ValueError::NoHighPart);
     };
-    let number = number_of(architecture, relocation.code);
-    match operands_of(architecture, addresses, symbols, number, &high, &relocation) {
-        Ok(operands) => Ok(info.formula_value(&low_operands(&high, operands))),
+    match operands_of(architecture, addresses, symbols, &high, &relocation) {
+        Ok(operands) => Ok(row.formula_value(&low_operands(&high, operands))),
         Err(error) => Err(error),
     }
 }
@@ -596,23 +569,22 @@ pub(crate) fn value_of(
     addresses: &Addresses,
     relocations: &[u8],
     symbols: &[Symbol],
-    number: u16,
-    info: &RelocationKindInfo,
+    row: &Row,
     relocation: &Rela,
 ) -> Result<Option<i64>, ValueError>
-    requires { SaysNeeds number info.now }
-    ensures { IsValueBy (names_label info.now.size info.now.kind) architecture addresses.now
-        relocations.now symbols.now info.now relocation.now result }
+    requires { SaysNeeds row.now }
+    ensures { IsValueBy (names_label row.now.size row.now.kind) architecture addresses.now
+        relocations.now symbols.now row.now relocation.now result }
 {
-    if !names_label(info.size, info.kind) {
-        return own_value(architecture, addresses, symbols, number, info, relocation);
+    if !names_label(row.info().size, row.kind()) {
+        return own_value(architecture, addresses, symbols, row, relocation);
     }
     let Some(label) = symbols.get(relocation.symbol as usize) else {
         return Err(ValueError::NoSymbol);
     };
     let at = label.address.wrapping_sub(addresses.section);
-    let high = high_part(architecture, relocations, info.kind, at);
-    low_value(architecture, addresses, symbols, info, high)
+    let high = high_part(architecture, relocations, row.kind(), at);
+    low_value(architecture, addresses, symbols, row, high)
 }
 
 /// The value of a relocation among those of its section, which `relocation_at` reads. None of a
@@ -666,8 +638,7 @@ pub fn value(
             addresses,
             relocations,
             symbols,
-            number_of(architecture, relocation.code),
-            &row.info(),
+            &row,
             relocation,
         ),
         None => Err(ValueError::UnknownType),

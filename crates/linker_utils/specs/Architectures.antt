@@ -10,7 +10,6 @@ use Rattle.linker_aarch64.specs.AArch64Rewrites.{aarch64_matches}
 use Rattle.linker_elf.specs.AArch64Relocations.{aarch64_name, aarch64_row}
 use Rattle.linker_elf.specs.Choices.{with_group}
 use Rattle.linker_elf.specs.ElfNames.{ElfName, IsNameOf, code_of}
-use Rattle.linker_elf.specs.Flags.{flags_in}
 use Rattle.linker_elf.specs.LoongArch.{loongarch64_forms}
 use Rattle.linker_loongarch64.specs.LoongArchRewrites.{IsLoongArchChoice}
 use Rattle.linker_loongarch64.specs.LoongArchRewrites.{loongarch_matches}
@@ -72,14 +71,6 @@ IsRow RiscV = IsOf riscv_name (λ name. (riscv_relocation name).row)
 IsRow LoongArch64 = IsOf loongarch_name loongarch_row
 IsRow Ppc64 = IsOf ppc64_name ppc64_row
 IsRow X86_64 = IsOf x86_64_name x86_64_row
-
--- what it requires and how its value is found, in bits
-abbrev pub IsFlags : Architecture → ℕ → ℕ → Type 0
-IsFlags AArch64 = IsOf aarch64_name (λ name. flags_in (aarch64_row name))
-IsFlags RiscV = IsOf riscv_name (λ name. flags_in (riscv_relocation name).row)
-IsFlags LoongArch64 = IsOf loongarch_name (λ name. flags_in (loongarch_row name))
-IsFlags Ppc64 = IsOf ppc64_name (λ name. flags_in (ppc64_row name))
-IsFlags X86_64 = IsOf x86_64_name (λ name. flags_in (x86_64_row name))
 
 -- how ELF names it
 abbrev pub IsElfName : Architecture → ℕ → ElfName → Type 0

@@ -4,7 +4,7 @@
 ghost use Rattle.std.specs.Prelude.{◌≡◌, ◌≤◌, ◌↔◌, ℕ, IsTrue, List};
 ghost use Rattle.std.specs.Prelude.{Option, Some, IfSome, IfNone, length};
 ghost use Rattle.linker_base.specs.Rewrite.{CanRewrite};
-ghost use Rattle.linker_utils.specs.Architectures.{IsRow, IsFlags, IsElfName, IsRole};
+ghost use Rattle.linker_utils.specs.Architectures.{IsRow, IsElfName, IsRole};
 ghost use Rattle.linker_utils.specs.Architectures.{form_of_number};
 ghost use Rattle.linker_utils.specs.Handles.{IsFound, architecture_in, first_handle};
 ghost use Rattle.linker_utils.specs.Architectures.{rewrite_of_number, relaxation_rewrite};
@@ -95,12 +95,6 @@ macro_rules! chosen {
 macro_rules! row_of {
     ($module:ident $names:ident $of:ident ($code:expr)) => {
         $module::row($names::from_elf($code))
-    };
-}
-
-macro_rules! row_flags_of {
-    ($module:ident $names:ident $of:ident ($code:expr)) => {
-        linker_elf::$module::row_flags($names::from_elf($code))
     };
 }
 
@@ -421,15 +415,6 @@ impl Architecture {
         } else {
             None
         }
-    }
-
-    /// What the relocation with a code requires of a linker and how its value is found, in bits that
-    /// `linker_section` reads. 7 of a code without a row.
-    #[inline(always)]
-    pub fn row_flags(self, code: u32) -> u16
-        ensures { IsFlags self code result }
-    {
-        by_architecture!(self, row_flags_of(code))
     }
 
     /// The name of a relocation in its psABI, as "R_AARCH64_CALL26", of at most 39 bytes. None of a

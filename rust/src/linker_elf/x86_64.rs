@@ -4,4 +4,4 @@
 
 mod relocations;
 
-pub use relocations::{X86_64Relocation, relocation_from_raw, row, row_flags};
+pub use relocations::{X86_64Relocation, relocation_from_raw, row};

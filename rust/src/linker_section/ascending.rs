@@ -5,7 +5,6 @@
 use crate::linker_section::conditions::begins_with;
 use crate::linker_section::facts::{Addresses, Symbol};
 use crate::linker_section::fields::Field;
-use crate::linker_section::known::{KnownCode, NO_CODES, learn, place_of};
 use crate::linker_section::order::are_runs_apart;
 use crate::linker_section::quick::{HighPart, high_behind, quick_value};
 use crate::linker_section::relocations::{
@@ -27,7 +26,6 @@ fn write_quickly(
     relocations: &[u8],
     symbols: &[Symbol],
     relocation: &Rela,
-    known: &KnownCode,
     high: Option<HighPart>,
     index: usize,
     end: u64,
@@ -38,34 +36,32 @@ fn write_quickly(
     if offset < end {
         return None;
     }
-    let Some(row) = &known.row else {
+    let Some(row) = architecture.row(relocation.code) else {
         return None;
     };
     let Some(word) = whole_word_at(section, offset) else {
         return None;
     };
-    if !begins_with(architecture, known.length, word) {
+    if !begins_with(architecture, &row, word) {
         return None;
     }
     // stored before the value is found, so that the word takes no register
     memory[index] = word;
-    let number = known.number;
     let Some(value) = quick_value(
         architecture,
         addresses,
         relocations,
         symbols,
-        number,
-        row,
+        &row,
         relocation,
         high,
     ) else {
         return None;
     };
-    if write_held_at(row, value, offset, section).is_err() {
+    if write_held_at(&row, value, offset, section).is_err() {
         return None;
     }
-    let high = high_behind(architecture, number, offset, value, high);
+    let high = high_behind(architecture, &row, offset, value, high);
     Some((offset + row.window() as u64, high))
 }
 
@@ -130,7 +126,6 @@ fn write_ascending(
     section: &mut [u8],
     memory: &mut [u64],
 ) -> Result<usize, Stopped> {
-    let mut known = NO_CODES;
     let mut step = FIRST_STEP;
     let mut end = 0;
     let mut high = None;
@@ -138,14 +133,12 @@ fn write_ascending(
     let mut rest = relocations;
     while let Some((entry, behind)) = rest.split_first_chunk::<RELA_LEN>() {
         let relocation = relocation_of(entry);
-        learn(architecture, relocation.code, &mut known);
         if let Some((own_end, part)) = write_quickly(
             architecture,
             addresses,
             relocations,
             symbols,
             &relocation,
-            &known[place_of(relocation.code)],
             high,
             index,
             end,
@@ -198,20 +191,17 @@ pub(crate) fn write_second_run(
     memory: &mut [u64],
 ) -> Option<usize> {
     let len = relocations_len(relocations);
-    let mut known = NO_CODES;
     let mut end = 0;
     let mut high = None;
     let mut index = start;
     while index < len {
         let relocation = relocation_in(relocations, index);
-        learn(architecture, relocation.code, &mut known);
         let Some((own_end, part)) = write_quickly(
             architecture,
             addresses,
             relocations,
             symbols,
             &relocation,
-            &known[place_of(relocation.code)],
             high,
             index,
             end,

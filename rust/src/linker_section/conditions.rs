@@ -6,7 +6,7 @@ use crate::linker_section::facts::{Addresses, Symbol};
 use crate::linker_section::relocations::{Rela, first_from, relocation_in, relocations_len};
 use crate::linker_base::utils::u32_from_slice;
 use crate::elf::{
-    Architecture, LoongArch64Instruction, Ppc64Instruction, RelocationInstruction, RelocationKind,
+    Architecture, Length, LoongArch64Instruction, Ppc64Instruction, RelocationInstruction, RelocationKind,
     RelocationSize, RiscVInstruction, Row,
 };
 
@@ -136,53 +136,19 @@ pub(crate) fn has_length(row: &Row, offset: u64, section: &[u8]) -> bool {
     there.len() < row.window() || shows_length(row.info().size, there)
 }
 
-/// The lengths of instructions that their first 8 bytes show.
-#[derive(Clone, Copy)]
-pub(crate) enum Length {
-    /// Any.
-    Any,
-    /// An instruction of RISC-V of 2 bytes.
-    Two,
-    /// One of 4 bytes.
-    Four,
-    /// An instruction of PowerPC64 of 8 bytes.
-    Prefixed,
-}
-
-impl Length {
-    /// That of the instruction of a row.
-    pub(crate) fn of(size: RelocationSize) -> Length {
-        match size {
-            RelocationSize::BitMasking { insn, .. } => match insn {
-                RelocationInstruction::RiscV(insn) => match insn {
-                    RiscVInstruction::CbType
-                    | RiscVInstruction::CjType
-                    | RiscVInstruction::CluiType => Length::Two,
-                    _ => Length::Four,
-                },
-                RelocationInstruction::Ppc64(Ppc64Instruction::Prefixed) => Length::Prefixed,
-                _ => Length::Any,
-            },
-            RelocationSize::ByteSize(_) => Length::Any,
-        }
-    }
-
-    /// Whether a word of 8 bytes begins with an instruction of this length.
-    #[inline(always)]
-    fn is_shown(self, word: u64) -> bool {
-        match self {
-            Length::Any => true,
-            Length::Two => word % 4 != 3,
-            Length::Four => word % 4 == 3,
-            Length::Prefixed => word / (1 << 26) % 64 == 1,
-        }
-    }
-}
-
-/// Whether a word begins with an instruction of a length, in an architecture that has several.
+/// Whether a word of 8 bytes begins with an instruction as long as the form of a row, in an
+/// architecture that has several lengths.
 #[inline(always)]
-pub(crate) fn begins_with(architecture: Architecture, length: Length, word: u64) -> bool {
-    !matches!(architecture, Architecture::RiscV | Architecture::Ppc64) || length.is_shown(word)
+pub(crate) fn begins_with(architecture: Architecture, row: &Row, word: u64) -> bool {
+    if !matches!(architecture, Architecture::RiscV | Architecture::Ppc64) {
+        return true;
+    }
+    match row.facts().length {
+        Length::Any => true,
+        Length::Two => word % 4 != 3,
+        Length::Four => word % 4 == 3,
+        Length::Prefixed => word / (1 << 26) % 64 == 1,
+    }
 }
 
 /// Whether the base register of an instruction is the thread pointer.

@@ -2,8 +2,7 @@
 // Made by tools/erase of crates/linker_section/src/needed.rt.
 //! What a relocation requires of a linker before addresses are known.
 
-use crate::linker_section::codes::NO_ROW;
-use crate::elf::{Architecture, RelocationKind, RelocationSize};
+use crate::elf::{Architecture, EntryUse, RelocationKind, RelocationSize, RowFacts};
 
 /// What an entry of the GOT holds.
 #[derive(Debug, Clone, Copy, PartialEq, Eq)]
@@ -91,53 +90,46 @@ pub(crate) fn may_use_stub(size: RelocationSize, kind: RelocationKind) -> bool {
         ) && !size.loads_plt_word(kind))
 }
 
-/// The class that the low three bits of a code's number are.
+/// The class of the entry that a formula has.
 #[inline(always)]
-fn class_by(number: u16, is_thread_local: bool) -> Option<EntryClass> {
-    match number {
-        0 => Some(EntryClass::Address),
-        1 => Some(EntryClass::ThreadOffset),
-        2 => Some(EntryClass::ModuleOffset),
-        3 => Some(EntryClass::Module),
-        4 => Some(EntryClass::Descriptor),
-        6 if is_thread_local => Some(EntryClass::ModuleOffset),
-        6 => Some(EntryClass::Address),
-        _ => None,
+fn class_by(entry: EntryUse, is_thread_local: bool) -> Option<EntryClass> {
+    let entry = match entry {
+        EntryUse::LowHalf if is_thread_local => EntryUse::ModuleOffset,
+        _ => entry,
+    };
+    // LLVM makes a table of constants alone
+    match entry {
+        EntryUse::Without => None,
+        EntryUse::Address | EntryUse::LowHalf => Some(EntryClass::Address),
+        EntryUse::ThreadOffset => Some(EntryClass::ThreadOffset),
+        EntryUse::ModuleOffset => Some(EntryClass::ModuleOffset),
+        EntryUse::Module => Some(EntryClass::Module),
+        EntryUse::Descriptor => Some(EntryClass::Descriptor),
     }
 }
 
-/// The entry that the number of a code says.
+/// The entry that a row requires.
 #[inline(always)]
-pub(crate) fn entry_by(number: u16, addend: i64, is_thread_local: bool) -> Option<Entry> {
-    match class_by(number % 8, is_thread_local) {
+pub(crate) fn entry_by(facts: &RowFacts, addend: i64, is_thread_local: bool) -> Option<Entry> {
+    match class_by(facts.entry, is_thread_local) {
         Some(class) => Some(Entry {
             class,
-            addend: if number / 8 % 2 == 1 { addend } else { 0 },
+            addend: if facts.entry_has_addend { addend } else { 0 },
         }),
         None => None,
     }
 }
 
-/// What the number of a code with a row says.
+/// What the facts of a row say.
 #[inline(always)]
-fn requirements_by(number: u16, addend: i64, is_thread_local: bool) -> Requirements {
+fn requirements_by(facts: &RowFacts, addend: i64, is_thread_local: bool) -> Requirements {
     Requirements {
-        entry: entry_by(number, addend, is_thread_local),
-        is_branch: number / 16 % 2 == 1,
-        may_use_stub: number / 32 % 2 == 1,
-        stub_only_if_undefined: number % 16 == 13,
-        is_word: number / 64 % 2 == 1,
-        depends_on_load: number / 128 % 2 == 1,
-    }
-}
-
-/// The same of any code.
-#[inline(always)]
-fn needs_by(number: u16, addend: i64, is_thread_local: bool) -> Option<Requirements> {
-    if number == NO_ROW {
-        None
-    } else {
-        Some(requirements_by(number, addend, is_thread_local))
+        entry: entry_by(facts, addend, is_thread_local),
+        is_branch: facts.is_branch,
+        may_use_stub: facts.may_use_stub,
+        stub_only_if_undefined: facts.stub_only_if_undefined,
+        is_word: facts.is_word,
+        depends_on_load: facts.depends_on_load,
     }
 }
 
@@ -167,5 +159,8 @@ pub fn needs(
     addend: i64,
     is_thread_local: bool,
 ) -> Option<Requirements> {
-    needs_by(architecture.row_flags(code), addend, is_thread_local)
+    match architecture.row(code) {
+        Some(row) => Some(requirements_by(row.facts(), addend, is_thread_local)),
+        None => None,
+    }
 }

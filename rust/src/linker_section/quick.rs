@@ -1,17 +1,16 @@
 // SPDX-License-Identifier: MIT OR Apache-2.0
 // Made by tools/erase of crates/linker_section/src/quick.rt.
-//! The values of most relocations, by the numbers of their codes.
+//! The values of most relocations, by the facts of their rows.
 //!
 //! Few tests find them, so that a section's values take little more time than the formulas. Where
 //! these return nothing, `value_of` says what the value is, and why there is none.
 
-use crate::linker_section::codes::{HIGH, LOW, NO_ENTRY, PLAIN, way_of};
 use crate::linker_section::conditions::{lacks_stub, needs_upper};
 use crate::linker_section::facts::{Addresses, Symbol};
 use crate::linker_section::needed::entry_by;
 use crate::linker_section::relocations::Rela;
-use crate::linker_section::values::{entry_address, local_entry, target_of};
-use crate::elf::{Architecture, Operands, Row};
+use crate::linker_section::values::{entry_address, is_of_got, local_entry, target_of};
+use crate::elf::{Architecture, EntryUse, Operands, Row, RowFacts, Way};
 
 /// A high part of RISC-V, whose value low parts take.
 #[derive(Clone, Copy)]
@@ -22,38 +21,40 @@ pub(crate) struct HighPart {
     pub(crate) value: i64,
 }
 
-/// The address of a symbol's entry that the number of a code says. By itself, since most
-/// relocations have none.
+/// The address of a symbol's entry that a row requires. By itself, since most relocations have none.
 #[inline(never)]
-fn address_of_entry(addresses: &Addresses, symbol: &Symbol, number: u16, addend: i64) -> Option<u64> {
+fn address_of_entry(
+    addresses: &Addresses,
+    symbol: &Symbol,
+    facts: &RowFacts,
+    addend: i64,
+) -> Option<u64> {
     entry_address(
         addresses,
         symbol,
-        entry_by(number, addend, symbol.is_thread_local),
+        entry_by(facts, addend, symbol.is_thread_local),
     )
 }
 
-/// The address of the entry that a relocation requires; 0 where it requires none. Only the contract
-/// uses `_row`.
+/// The address of the entry that a relocation requires; 0 where it requires none.
 #[inline(always)]
 fn required_address(
     addresses: &Addresses,
     symbol: &Symbol,
-    number: u16,
+    row: &Row,
     addend: i64,
-    _row: &Row,
 ) -> Option<u64> {
-    if number % 8 == NO_ENTRY {
+    if matches!(row.facts().entry, EntryUse::Without) {
         Some(0)
     } else {
-        address_of_entry(addresses, symbol, number, addend)
+        address_of_entry(addresses, symbol, row.facts(), addend)
     }
 }
 
-/// A symbol's address, or where PowerPC64's branches go. Only the contract uses `_row`.
+/// A symbol's address, or where PowerPC64's branches go.
 #[inline(always)]
-fn own_address(architecture: Architecture, number: u16, symbol: &Symbol, _row: &Row) -> u64 {
-    if matches!(architecture, Architecture::Ppc64) && number / 16 % 2 == 1 {
+fn own_address(architecture: Architecture, row: &Row, symbol: &Symbol) -> u64 {
+    if matches!(architecture, Architecture::Ppc64) && row.facts().is_branch {
         symbol.address.wrapping_add(local_entry(symbol.other))
     } else {
         symbol.address
@@ -65,12 +66,11 @@ fn own_address(architecture: Architecture, number: u16, symbol: &Symbol, _row: &
 fn other_target(
     architecture: Architecture,
     addresses: &Addresses,
-    number: u16,
     row: &Row,
     symbol: &Symbol,
     place: u64,
 ) -> u64 {
-    target_of(architecture, addresses, number, &row.info(), symbol, place)
+    target_of(architecture, addresses, row, symbol, place)
 }
 
 /// The same of any symbol.
@@ -78,15 +78,14 @@ fn other_target(
 fn quick_target(
     architecture: Architecture,
     addresses: &Addresses,
-    number: u16,
     row: &Row,
     symbol: &Symbol,
     place: u64,
 ) -> u64 {
     if symbol.stub != 0 || symbol.is_undefined_weak {
-        other_target(architecture, addresses, number, row, symbol, place)
+        other_target(architecture, addresses, row, symbol, place)
     } else {
-        own_address(architecture, number, symbol, row)
+        own_address(architecture, row, symbol)
     }
 }
 
@@ -95,14 +94,13 @@ fn quick_target(
 fn plain_operands(
     architecture: Architecture,
     addresses: &Addresses,
-    number: u16,
     row: &Row,
     symbol: &Symbol,
     relocation: &Rela,
     entry: u64,
 ) -> Operands {
     let place = addresses.section.wrapping_add(relocation.offset);
-    let target = quick_target(architecture, addresses, number, row, symbol, place);
+    let target = quick_target(architecture, addresses, row, symbol, place);
     Operands {
         symbol: target,
         addend: relocation.addend,
@@ -124,25 +122,16 @@ fn plain_value(
     architecture: Architecture,
     addresses: &Addresses,
     symbols: &[Symbol],
-    number: u16,
     row: &Row,
     relocation: &Rela,
 ) -> Option<i64> {
     let Some(symbol) = symbols.get(relocation.symbol as usize) else {
         return None;
     };
-    let Some(entry) = required_address(addresses, symbol, number, relocation.addend, row) else {
+    let Some(entry) = required_address(addresses, symbol, row, relocation.addend) else {
         return None;
     };
-    let operands = plain_operands(
-        architecture,
-        addresses,
-        number,
-        row,
-        symbol,
-        relocation,
-        entry,
-    );
+    let operands = plain_operands(architecture, addresses, row, symbol, relocation, entry);
     row.formula_value(&operands)
 }
 
@@ -174,21 +163,22 @@ fn found_value(
     addresses: &Addresses,
     _relocations: &[u8],
     symbols: &[Symbol],
-    number: u16,
     row: &Row,
     relocation: &Rela,
     high: Option<HighPart>,
 ) -> Option<i64> {
-    if lacks_stub(architecture, symbols, relocation) {
+    if lacks_stub(architecture, symbols, relocation) || is_of_got(architecture, relocation.code) {
         return None;
     }
-    let way = way_of(number);
-    if way == PLAIN || (way == HIGH && matches!(architecture, Architecture::RiscV)) {
-        plain_value(architecture, addresses, symbols, number, row, relocation)
-    } else if way == LOW && matches!(architecture, Architecture::RiscV) {
-        value_of_high(addresses, symbols, relocation, high)
-    } else {
-        None
+    match row.facts().way {
+        Way::Plain => plain_value(architecture, addresses, symbols, row, relocation),
+        Way::High if matches!(architecture, Architecture::RiscV) => {
+            plain_value(architecture, addresses, symbols, row, relocation)
+        }
+        Way::Low if matches!(architecture, Architecture::RiscV) => {
+            value_of_high(addresses, symbols, relocation, high)
+        }
+        _ => None,
     }
 }
 
@@ -199,7 +189,6 @@ pub(crate) fn quick_value(
     addresses: &Addresses,
     relocations: &[u8],
     symbols: &[Symbol],
-    number: u16,
     row: &Row,
     relocation: &Rela,
     high: Option<HighPart>,
@@ -209,7 +198,6 @@ pub(crate) fn quick_value(
         addresses,
         relocations,
         symbols,
-        number,
         row,
         relocation,
         high,
@@ -232,12 +220,12 @@ fn new_high(offset: u64, value: i64) -> HighPart {
 #[inline(always)]
 pub(crate) fn high_behind(
     architecture: Architecture,
-    number: u16,
+    row: &Row,
     offset: u64,
     value: i64,
     high: Option<HighPart>,
 ) -> Option<HighPart> {
-    if way_of(number) == HIGH && matches!(architecture, Architecture::RiscV) {
+    if matches!(row.facts().way, Way::High) && matches!(architecture, Architecture::RiscV) {
         Some(new_high(offset, value))
     } else {
         high

@@ -3,7 +3,6 @@
 //! The values of a section's relocations, written.
 
 use crate::linker_section::ascending::{write_ascending_of, write_second_run};
-use crate::linker_section::codes::number_of;
 use crate::linker_section::conditions::{has_length, has_offset, is_filled, is_in_reach, lacks_stub};
 use crate::linker_section::facts::{Addresses, Symbol};
 use crate::linker_section::fields::{Field, begins_pair, ends_pair, is_of_pair, uleb_len};
@@ -78,14 +77,12 @@ fn row_value(
     let Some(row) = architecture.row(relocation.code) else {
         return Err(ValueError::UnknownType);
     };
-    let info = row.info();
     match value_of(
         architecture,
         addresses,
         relocations,
         symbols,
-        number_of(architecture, relocation.code),
-        &info,
+        &row,
         relocation,
     ) {
         Ok(Some(value)) => {

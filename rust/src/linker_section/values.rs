@@ -2,13 +2,12 @@
 // Made by tools/erase of crates/linker_section/src/values.rt.
 //! The value of a relocation, by what a linker knows of symbols and of the output.
 
-use crate::linker_section::codes::number_of;
 use crate::linker_section::facts::{Addresses, Symbol};
 use crate::linker_section::needed::{Entry, EntryClass, class_of_kind, entry_by, may_use_stub};
 use crate::linker_section::relocations::{Rela, first_from, offset_at, relocation_in, relocations_len};
 use crate::elf::{
     Architecture, Operands, RelocationInstruction, RelocationKind, RelocationKindInfo,
-    RelocationSize, RiscVInstruction,
+    RelocationSize, RiscVInstruction, Row,
 };
 
 /// Why a relocation has no value.
@@ -177,11 +176,10 @@ fn defined_or_weak(
     }
 }
 
-/// Whether a stub may serve as the target of a relocation, by the number of its code. Only the
-/// contract uses `_info`.
+/// Whether a stub may serve as the target of a relocation.
 #[inline(always)]
-fn serves_stub(number: u16, _info: &RelocationKindInfo) -> bool {
-    number / 32 % 2 == 1
+fn serves_stub(row: &Row) -> bool {
+    row.facts().may_use_stub
 }
 
 /// S, or the stub by which a branch goes.
@@ -189,15 +187,14 @@ fn serves_stub(number: u16, _info: &RelocationKindInfo) -> bool {
 pub(crate) fn target_of(
     architecture: Architecture,
     addresses: &Addresses,
-    number: u16,
-    info: &RelocationKindInfo,
+    row: &Row,
     symbol: &Symbol,
     place: u64,
 ) -> u64 {
-    if serves_stub(number, info) && symbol.stub != 0 {
+    if serves_stub(row) && symbol.stub != 0 {
         symbol.stub
     } else {
-        defined_or_weak(architecture, addresses, info, symbol, place)
+        defined_or_weak(architecture, addresses, &row.info(), symbol, place)
     }
 }
 
@@ -206,14 +203,14 @@ pub(crate) fn target_of(
 fn operands_with(
     architecture: Architecture,
     addresses: &Addresses,
-    number: u16,
-    info: &RelocationKindInfo,
+    row: &Row,
     symbol: &Symbol,
     relocation: &Rela,
     entry: u64,
 ) -> Operands {
+    let info = row.info();
     let place = addresses.section.wrapping_add(relocation.offset);
-    let target = target_of(architecture, addresses, number, info, symbol, place);
+    let target = target_of(architecture, addresses, row, symbol, place);
     let loads = info.size.loads_plt_word(info.kind);
     Operands {
         symbol: if is_of_got(architecture, relocation.code) {
@@ -234,16 +231,10 @@ fn operands_with(
     }
 }
 
-/// The entry that a relocation of a symbol requires, by the number of its code. Only
-/// the contract uses `_info`.
+/// The entry that a relocation of a symbol requires.
 #[inline(always)]
-fn required(
-    number: u16,
-    _info: &RelocationKindInfo,
-    relocation: &Rela,
-    symbol: &Symbol,
-) -> Option<Entry> {
-    entry_by(number, relocation.addend, symbol.is_thread_local)
+fn required(row: &Row, relocation: &Rela, symbol: &Symbol) -> Option<Entry> {
+    entry_by(row.facts(), relocation.addend, symbol.is_thread_local)
 }
 
 /// The same, where there may be no such entry.
@@ -251,8 +242,7 @@ fn required(
 fn operands_by(
     architecture: Architecture,
     addresses: &Addresses,
-    number: u16,
-    info: &RelocationKindInfo,
+    row: &Row,
     relocation: &Rela,
     symbol: &Symbol,
     entry: Option<u64>,
@@ -261,8 +251,7 @@ fn operands_by(
         Some(entry) => Ok(operands_with(
             architecture,
             addresses,
-            number,
-            info,
+            row,
             symbol,
             relocation,
             entry,
@@ -277,27 +266,14 @@ fn operands_of(
     architecture: Architecture,
     addresses: &Addresses,
     symbols: &[Symbol],
-    number: u16,
-    info: &RelocationKindInfo,
+    row: &Row,
     relocation: &Rela,
 ) -> Result<Operands, ValueError> {
     let Some(symbol) = symbols.get(relocation.symbol as usize) else {
         return Err(ValueError::NoSymbol);
     };
-    let entry = entry_address(
-        addresses,
-        symbol,
-        required(number, info, relocation, symbol),
-    );
-    operands_by(
-        architecture,
-        addresses,
-        number,
-        info,
-        relocation,
-        symbol,
-        entry,
-    )
+    let entry = entry_address(addresses, symbol, required(row, relocation, symbol));
+    operands_by(architecture, addresses, row, relocation, symbol, entry)
 }
 
 /// Whether a relocation of a kind has a value.
@@ -323,10 +299,10 @@ fn is_defined(symbols: &[Symbol], index: u32) -> bool {
 fn lacks_origin(
     addresses: &Addresses,
     symbols: &[Symbol],
-    info: &RelocationKindInfo,
+    row: &Row,
     relocation: &Rela,
 ) -> bool {
-    info.kind.is_offset() && !addresses.has_tls && is_defined(symbols, relocation.symbol)
+    row.kind().is_offset() && !addresses.has_tls && is_defined(symbols, relocation.symbol)
 }
 
 /// The value of a relocation that stands alone.
@@ -335,19 +311,18 @@ fn own_value(
     architecture: Architecture,
     addresses: &Addresses,
     symbols: &[Symbol],
-    number: u16,
-    info: &RelocationKindInfo,
+    row: &Row,
     relocation: &Rela,
 ) -> Result<Option<i64>, ValueError> {
-    if !has_value(info.kind) {
+    if !has_value(row.kind()) {
         return Ok(None);
     }
-    match operands_of(architecture, addresses, symbols, number, info, relocation) {
+    match operands_of(architecture, addresses, symbols, row, relocation) {
         Ok(operands) => {
-            if lacks_origin(addresses, symbols, info, relocation) {
+            if lacks_origin(addresses, symbols, row, relocation) {
                 Err(ValueError::NoTlsBase)
             } else {
-                Ok(info.formula_value(&operands))
+                Ok(row.formula_value(&operands))
             }
         }
         Err(error) => Err(error),
@@ -413,7 +388,7 @@ fn high_part_in(
     low: RelocationKind,
     at: u64,
     index: usize,
-) -> Option<(Rela, RelocationKindInfo)> {
+) -> Option<(Rela, Row)> {
     let relocation = relocation_in(relocations, index);
     if relocation.offset != at {
         return None;
@@ -421,9 +396,8 @@ fn high_part_in(
     let Some(row) = architecture.row(relocation.code) else {
         return None;
     };
-    let info = row.info();
-    if is_high_part(low, &info) {
-        Some((relocation, info))
+    if is_high_part(low, &row.info()) {
+        Some((relocation, row))
     } else {
         None
     }
@@ -435,7 +409,7 @@ fn ascending_high_part(
     relocations: &[u8],
     low: RelocationKind,
     at: u64,
-) -> Option<(Rela, RelocationKindInfo)> {
+) -> Option<(Rela, Row)> {
     for index in first_from(relocations, at)..relocations_len(relocations) {
         if offset_at(relocations, index) != at {
             return None;
@@ -453,7 +427,7 @@ fn high_part(
     relocations: &[u8],
     low: RelocationKind,
     at: u64,
-) -> Option<(Rela, RelocationKindInfo)> {
+) -> Option<(Rela, Row)> {
     if let Some(high) = ascending_high_part(architecture, relocations, low, at) {
         return Some(high);
     }
@@ -467,8 +441,8 @@ fn high_part(
 
 /// The operands of a low part, of those of its high part.
 #[inline(always)]
-fn low_operands(high: &RelocationKindInfo, operands: Operands) -> Operands {
-    if class_of_kind(high.kind).is_some() {
+fn low_operands(high: &Row, operands: Operands) -> Operands {
+    if class_of_kind(high.kind()).is_some() {
         Operands {
             symbol: operands.got_entry,
             ..operands
@@ -484,15 +458,14 @@ fn low_value(
     architecture: Architecture,
     addresses: &Addresses,
     symbols: &[Symbol],
-    info: &RelocationKindInfo,
-    high: Option<(Rela, RelocationKindInfo)>,
+    row: &Row,
+    high: Option<(Rela, Row)>,
 ) -> Result<Option<i64>, ValueError> {
     let Some((relocation, high)) = high else {
         return Err(ValueError::NoHighPart);
     };
-    let number = number_of(architecture, relocation.code);
-    match operands_of(architecture, addresses, symbols, number, &high, &relocation) {
-        Ok(operands) => Ok(info.formula_value(&low_operands(&high, operands))),
+    match operands_of(architecture, addresses, symbols, &high, &relocation) {
+        Ok(operands) => Ok(row.formula_value(&low_operands(&high, operands))),
         Err(error) => Err(error),
     }
 }
@@ -504,19 +477,18 @@ pub(crate) fn value_of(
     addresses: &Addresses,
     relocations: &[u8],
     symbols: &[Symbol],
-    number: u16,
-    info: &RelocationKindInfo,
+    row: &Row,
     relocation: &Rela,
 ) -> Result<Option<i64>, ValueError> {
-    if !names_label(info.size, info.kind) {
-        return own_value(architecture, addresses, symbols, number, info, relocation);
+    if !names_label(row.info().size, row.kind()) {
+        return own_value(architecture, addresses, symbols, row, relocation);
     }
     let Some(label) = symbols.get(relocation.symbol as usize) else {
         return Err(ValueError::NoSymbol);
     };
     let at = label.address.wrapping_sub(addresses.section);
-    let high = high_part(architecture, relocations, info.kind, at);
-    low_value(architecture, addresses, symbols, info, high)
+    let high = high_part(architecture, relocations, row.kind(), at);
+    low_value(architecture, addresses, symbols, row, high)
 }
 
 /// The value of a relocation among those of its section, which `relocation_at` reads. None of a
@@ -568,8 +540,7 @@ pub fn value(
             addresses,
             relocations,
             symbols,
-            number_of(architecture, relocation.code),
-            &row.info(),
+            &row,
             relocation,
         ),
         None => Err(ValueError::UnknownType),

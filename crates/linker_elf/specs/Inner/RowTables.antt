@@ -1,11 +1,15 @@
 -- Entries of the tables of rows.
 use Rattle.std.specs.Prelude.{◌≡◌, ℕ, ◌-◌, Bool, true, false, ◌&&◌, ◌||◌, Option, Some, None}
-use Rattle.std.specs.Prelude.{if◌then◌else◌, ◌==◌}
+use Rattle.std.specs.Prelude.{if◌then◌else◌, ◌==◌, ◌^◌, bit_and, ℤ, Result, Ok, Err}
+use Rattle.std.specs.Int.{w64, cast_signed, cast_unsigned}
 use Rattle.linker_elf.specs.Agrees.{RowFits}
 use Rattle.linker_elf.specs.Bounds.{least_within, last_within}
+use Rattle.linker_elf.specs.Facts.{facts_of}
 use Rattle.linker_elf.specs.Numbers.{numbers_of}
 use Rattle.linker_elf.specs.Reach.{reach_of}
 use Rattle.linker_elf.specs.Relocate.{is_supported, window_len}
+use Rattle.linker_elf.specs.Value.{sum_64, bias_number, masks_symbol, masks_entry, masks_place}
+use Rattle.linker_elf.specs.Value.{masks_got}
 use Rattle.linker_elf.specs.declared.aarch64.forms.AArch64Instruction.TheVariants.{Movnz}
 use Rattle.linker_elf.specs.declared.loongarch64.forms.LoongArch64Instruction.TheVariants.{Shift10}
 use Rattle.linker_elf.specs.declared.ppc64.forms.Ppc64Instruction.TheVariants.{Ds}
@@ -20,12 +24,16 @@ use Rattle.linker_elf.specs.declared.elf.RelocationKind.TheVariants.{AbsoluteSet
 use Rattle.linker_elf.specs.declared.elf.RelocationKind.TheVariants.{AbsoluteSubtraction}
 use Rattle.linker_elf.specs.declared.elf.RelocationKind.TheVariants.{AbsoluteSubtractionWord6}
 use Rattle.linker_elf.specs.declared.elf.RelocationKind.TheVariants.{Alignment}
-use Rattle.linker_elf.specs.declared.elf.RelocationKind.TheVariants.{None as NoValue}
+use Rattle.linker_elf.specs.declared.elf.RelocationKind.TheVariants.{None as NoKind, Relative}
 use Rattle.linker_elf.specs.declared.elf.RelocationKindInfo.{RelocationKindInfo}
 use Rattle.linker_elf.specs.declared.elf.RelocationSize.{RelocationSize}
-use Rattle.linker_elf.specs.declared.elf.RelocationSize.TheVariants.{BitMasking}
+use Rattle.linker_elf.specs.declared.elf.RelocationSize.TheVariants.{ByteSize, BitMasking}
 use Rattle.linker_elf.specs.declared.elf.rows.TableRow.{TableRow}
 use Rattle.linker_elf.specs.declared.elf.rows.WriteTests.{WriteTests}
+use Rattle.linker_elf.specs.declared.elf.value.FormulaError.{FormulaError}
+use Rattle.linker_elf.specs.declared.elf.value.FormulaError.TheVariants.{NoEntry}
+use Rattle.linker_elf.specs.declared.elf.value.Operands.{Operands}
+use Rattle.linker_elf.specs.declared.elf.value.Terms.{Terms}
 
 -- a relocation of whole bytes that changes the existing number
 abbrev pub is_over : RelocationKind → Bool
@@ -65,6 +73,61 @@ tests_of row =
       last = last_within (reach_of row);
     }
 
+-- the bits of an address that count where it may be that of a page
+abbrev pub bits_of : Bool → ℕ
+bits_of true = 2 ^ 64 - 2 ^ 12
+bits_of false = 2 ^ 64 - 1
+
+abbrev pub adds_to_entry : RelocationSize → Bool
+adds_to_entry (BitMasking bits (AArch64 insn)) = false
+adds_to_entry (BitMasking bits (Ppc64 insn)) = false
+adds_to_entry size = true
+
+-- the first of a pair at a ULEB128 number, whose formula is S + A
+abbrev pub is_set : RelocationKind → RelocationSize → Bool
+is_set Relative (ByteSize n) = n == 0
+is_set kind size = false
+
+-- what a row's formula adds, and which bits of its terms count
+abbrev pub terms_of : RelocationKindInfo → Terms
+terms_of row =
+    record {
+      bias = bias_number row.bias;
+      symbol = bits_of (masks_symbol row.mask);
+      entry = bits_of (masks_entry row.mask);
+      entry_addend = if adds_to_entry row.size then 2 ^ 64 - 1 else 0;
+      place = if is_set row.kind row.size then 0 else bits_of (masks_place row.mask);
+      got = bits_of (masks_got row.mask);
+    }
+
+-- S + A, the address of the entry, and L + A by these
+abbrev pub symbol_of : Terms → Operands → ℕ
+symbol_of terms o =
+    bit_and (sum_64 (sum_64 o.symbol (cast_unsigned w64 o.addend)) terms.bias) terms.symbol
+
+abbrev pub entry_of_terms : Terms → Operands → Result ℕ FormulaError
+entry_of_terms terms o =
+    if o.has_got_entry
+    then Ok (bit_and (sum_64 (sum_64 o.got_entry
+        (bit_and (cast_unsigned w64 o.addend) terms.entry_addend)) terms.bias) terms.entry)
+    else Err NoEntry
+
+abbrev pub plt_of : Terms → Bool → Operands → Result ℕ FormulaError
+plt_of terms is_word o =
+    if o.has_plt_entry
+    then Ok (sum_64 (sum_64 o.plt_entry (cast_unsigned w64 o.addend)) terms.bias)
+    else (if is_word then Err NoEntry
+    else Ok (sum_64 (sum_64 o.symbol (cast_unsigned w64 o.addend)) terms.bias))
+
+abbrev pub signed_in : Result ℕ FormulaError → Result ℤ FormulaError
+signed_in (Ok n) = Ok (cast_signed w64 n)
+signed_in (Err error) = Err error
+
+-- with every entry and origin
+abbrev pub as_given : Operands → Operands
+as_given o =
+    record o { has_got_entry = true; has_plt_entry = true; has_tls_base = true }
+
 -- the entry of a row, which may be one of this library's own
 abbrev pub entry_of : Bool → RelocationKindInfo → TableRow
 entry_of is_own row =
@@ -74,6 +137,8 @@ entry_of is_own row =
       mask = row.mask;
       numbers = numbers_of row;
       tests = tests_of row;
+      terms = terms_of row;
+      facts = facts_of row;
       is_own = is_own;
     }
 
@@ -110,7 +175,7 @@ raw_info_in (Some entry) = if entry.is_own then None else Some (info_of entry)
 
 -- the kind that the crate `linker-utils` has in LoongArch's rows: it has none for alignments
 abbrev pub raw_kind : RelocationKind → RelocationKind
-raw_kind Alignment = NoValue
+raw_kind Alignment = NoKind
 raw_kind kind = kind
 
 abbrev pub with_raw_kind : Option RelocationKindInfo → Option RelocationKindInfo

@@ -4,7 +4,6 @@ ghost use Rattle.std.specs.Prelude.{◌≡◌, IfSome};
 ghost use denote.Enum.Declared.{tag_of};
 ghost use Rattle.linker_elf.specs.Agrees.{RowAgrees, RowFits};
 ghost use Rattle.linker_elf.specs.ElfNames.{IsNameOf, code_of, text_of};
-ghost use Rattle.linker_elf.specs.Flags.{flags_in};
 ghost use Rattle.linker_elf.specs.Readings.{RowReadsNoOther};
 ghost use Rattle.linker_elf.specs.AArch64Relocations.{aarch64_name};
 ghost use Rattle.linker_elf.specs.AArch64Relocations.{aarch64_row};
@@ -12,7 +11,7 @@ ghost use Rattle.linker_elf.specs.contracts.aarch64.relocations.AArch64Relocatio
 
 use crate::elf::choice_table::RelocationName;
 use crate::elf::rows::{
-    TableRow, code_of_name, flags_of_name, index_of_name, info_in, name_of_code, row, row_in,
+    TableRow, code_of_name, index_of_name, info_in, name_of_code, row, row_in,
     table, text_of_name,
 };
 use crate::elf::{RelocationKindInfo, Row};
@@ -426,15 +425,6 @@ pub fn row(name: AArch64Relocation) -> Option<Row>
     ensures others { IfSome result RowReadsNoOther }
 {
     row_in(&ROWS[index(name)])
-}
-
-/// What the relocation requires of a linker and how its value is found, in bits: `linker_section`
-/// reads them. 7 for `Other`.
-#[inline(always)]
-pub fn row_flags(name: AArch64Relocation) -> u16
-    ensures { result ≡ flags_in (aarch64_row name) }
-{
-    relocations!(flags_of_name(AArch64Relocation, name))
 }
 
 impl RelocationName for AArch64Relocation {

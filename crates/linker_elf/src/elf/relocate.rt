@@ -508,22 +508,8 @@ impl RelocationKindInfo {
         Ok(())
     }
 
-    /// Computes the relocation's value from a linker's numbers and writes it. Returns true if
-    /// `value` has no error and `write` accepts the value, and else writes nothing.
-    pub fn apply(&self, operands: &Operands, dest: &mut [u8]) -> bool
-        ensures applied { result ≡ true → (lacks self.now operands.now ≡ false)
-            × IsApplied self.now (completed operands.now) dest.old dest.new }
-        ensures rejected { result ≡ false → lacks self.now operands.now ≡ false
-            → IsRejected self.now (completed operands.now) dest.old }
-        ensures unchanged { result ≡ false → dest.new ≡ dest.old }
-    {
-        if self.lacks(operands) {
-            return false;
-        }
-        self.apply_formula(&operands.completed(), dest)
-    }
-
-    /// The same with what `formula_value` computes.
+    /// Computes the relocation's value, of operands that are all read as they are, and writes it.
+    /// False where it has none or `write` rejects it, and then nothing is written.
     pub fn apply_formula(&self, operands: &Operands, dest: &mut [u8]) -> bool
         ensures applied { result ≡ true → IsApplied self.now operands.now dest.old dest.new }
         ensures rejected { result ≡ false → IsRejected self.now operands.now dest.old }

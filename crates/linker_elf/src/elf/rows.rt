@@ -5,6 +5,7 @@ ghost use Rattle.std.specs.Prelude.{length, true, false};
 ghost use Rattle.linker_elf.specs.Agrees.{RowFits};
 ghost use Rattle.linker_elf.specs.AppliedRows.{IsAppliedBy, IsWrittenOrRejected};
 ghost use Rattle.linker_elf.specs.Entries.{IsGotAnswer, IsPltAnswer};
+ghost use Rattle.linker_elf.specs.Facts.{facts_of};
 ghost use Rattle.linker_elf.specs.Relocate.{Reaches, IsInReach};
 ghost use Rattle.linker_elf.specs.Numbers.{numbers_of};
 ghost use Rattle.linker_elf.specs.Reach.{reach_of};
@@ -15,12 +16,14 @@ ghost use Rattle.linker_elf.specs.Value.{value_of, value_given, completed, lacks
 ghost use Rattle.linker_elf.specs.Inner.RowTables.{info_in, info_of, raw_info_in, IsSound};
 ghost use Rattle.linker_elf.specs.Inner.RowTables.{tests_of, takes_all, is_unit};
 
+use crate::elf::value::Terms;
 use crate::elf::relocate::{
     is_encoded, write_aarch64, write_bits, write_bytes, write_field, write_number,
 };
 use crate::elf::{
     AllowedRange, ApplyError, Bias, FormulaError, Operands, PageMask, RelocateError,
     RelocationInstruction, RelocationKind, RelocationKindInfo, RelocationNumbers, RelocationSize,
+    RowFacts,
 };
 use std::marker::Model;
 
@@ -33,6 +36,8 @@ pub(crate) struct TableRow {
     pub(crate) mask: Option<PageMask>,
     pub(crate) numbers: RelocationNumbers,
     pub(crate) tests: WriteTests,
+    pub(crate) terms: Terms,
+    pub(crate) facts: RowFacts,
     /// Whether the crate `linker-utils` has no such row.
     pub(crate) is_own: bool,
 }
@@ -203,7 +208,7 @@ impl Row {
     pub fn value(&self, operands: &Operands) -> Result<i64, FormulaError>
         ensures { result ≡ value_given self.now operands.now }
     {
-        self.info().value(operands)
+        self.info().value_by(&self.entry.terms, operands)
     }
 
     /// What `value` computes, of operands that are all read as they are.
@@ -211,7 +216,15 @@ impl Row {
     pub fn formula_value(&self, operands: &Operands) -> Option<i64>
         ensures { result ≡ value_of self.now operands.now }
     {
-        self.info().formula_value(operands)
+        self.value(&operands.as_given()).ok()
+    }
+
+    /// What it requires of a linker, and how its value is found.
+    #[inline(always)]
+    pub fn facts(&self) -> &'static RowFacts
+        ensures { result.now ≡ facts_of self.now }
+    {
+        &self.entry.facts
     }
 
     /// Whether the relocation has a value that can be written: one within `reach`, and a multiple
@@ -222,18 +235,18 @@ impl Row {
         ensures { IsTrue result ↔ ((lacks self.now operands.now ≡ false)
             × Reaches self.now (completed operands.now)) }
     {
-        !self.info().lacks(operands) && self.formula_reaches(&operands.completed())
+        match self.value(operands) {
+            Ok(value) => self.info().is_in_reach(&self.entry.tests, value),
+            Err(_) => false,
+        }
     }
 
-    /// The same of `formula_value`.
+    /// The same of operands that are all read as they are.
     #[inline(always)]
     pub fn formula_reaches(&self, operands: &Operands) -> bool
         ensures { IsTrue result ↔ Reaches self.now operands.now }
     {
-        match self.formula_value(operands) {
-            Some(value) => self.info().is_in_reach(&self.entry.tests, value),
-            None => false,
-        }
+        self.reaches(&operands.as_given())
     }
 
     /// Whether the relocation requires a GOT entry, as `RelocationKindInfo::asks_for_got` says.
@@ -466,23 +479,6 @@ macro_rules! text_of_name {
     };
 }
 
-/// The flags of a name's row; 7 without a row.
-macro_rules! flags_of_name {
-    (
-        ($names:ident, $value:expr)
-        $(below $end:literal {
-            $($low:literal $low_name:ident => Some($low_make:ident!($($low_row:tt)*)),)*
-        })*
-        { $($number:literal $name:ident => Some($make:ident!($($row:tt)*)),)* }
-    ) => {
-        match $value {
-            $($($names::$low_name => $crate::elf::rows::flags!($low_make $($low_row)*),)*)*
-            $($names::$name => $crate::elf::rows::flags!($make $($row)*),)*
-            $names::Other(_) => 7,
-        }
-    };
-}
-
 /// The table of rows, by the names' indices. The last entry is that of `Other`.
 macro_rules! table {
     (
@@ -664,106 +660,171 @@ macro_rules! window {
     (($start:literal .. $end:literal $architecture:ident :: $form:ident)) => { 4 };
 }
 
-/// The flags of a row, `flags_of` of `specs/`, by its kind and size.
-macro_rules! flags {
-    (row $kind:ident, $size:tt, $($field:tt)*) => {
-        $crate::elf::rows::flag!(entry $kind, $size) + $crate::elf::rows::flag!(rest $kind, $size)
-    };
-    (pair $kind:ident, $end:literal, $form:ident $(, $($field:tt)*)?) => {
-        $crate::elf::rows::flags!(row $kind, (0..$end RiscV::$form), any)
+/// What a linker asks of a row, `facts_of` of `specs/`, by its kind and size.
+macro_rules! facts {
+    ($kind:ident, $size:tt) => {
+        $crate::elf::RowFacts {
+            entry: $crate::elf::rows::entry!($kind, $size),
+            entry_has_addend: $crate::elf::rows::fact!(addend $kind, $size),
+            is_branch: $crate::elf::rows::fact!(branch $size),
+            may_use_stub: $crate::elf::rows::fact!(stub $kind, $size),
+            stub_only_if_undefined: $crate::elf::rows::fact!(bound $size),
+            is_word: $crate::elf::rows::fact!(word $kind, $size),
+            depends_on_load: $crate::elf::rows::fact!(load $kind, $size),
+            way: $crate::elf::rows::way!($kind, $size),
+            length: $crate::elf::rows::length!($size),
+        }
     };
 }
 
-/// The low bits of the flags, of the entry of the GOT, and the rest.
-macro_rules! flag {
-    (entry $kind:ident, ($start:literal .. $end:literal RiscV :: IType)) => { 5 };
-    (entry PltRelGotBase, ($start:literal .. $end:literal Ppc64 :: $form:ident)) => { 8 };
-    (entry PltRelative, ($start:literal .. $end:literal Ppc64 :: $form:ident)) => { 8 };
-    (entry $kind:ident, ($start:literal .. $end:literal AArch64 :: $form:ident)) => {
-        $crate::elf::rows::flag!(class $kind with_addend)
+/// The entry that a row's formula has.
+macro_rules! entry {
+    ($kind:ident, ($start:literal .. $end:literal RiscV :: IType)) => {
+        $crate::elf::EntryUse::Without
     };
-    (entry $kind:ident, ($start:literal .. $end:literal Ppc64 :: $form:ident)) => {
-        $crate::elf::rows::flag!(class $kind with_addend)
+    (PltRelGotBase, ($start:literal .. $end:literal Ppc64 :: $form:ident)) => {
+        $crate::elf::EntryUse::Address
     };
-    (entry $kind:ident, ($start:literal .. $end:literal LoongArch64 :: $form:ident)) => {
-        $crate::elf::rows::flag!(class $kind low_halves)
+    (PltRelative, ($start:literal .. $end:literal Ppc64 :: $form:ident)) => {
+        $crate::elf::EntryUse::Address
     };
-    (entry $kind:ident, $size:tt) => { $crate::elf::rows::flag!(class $kind plain) };
-    (class GotRelative $of:ident) => { $crate::elf::rows::flag!($of Address) };
-    (class GotRelativeLoongArch64 $of:ident) => { $crate::elf::rows::flag!($of Address) };
-    (class GotRelGotBase $of:ident) => { $crate::elf::rows::flag!($of Address) };
-    (class Got $of:ident) => { $crate::elf::rows::flag!($of Address) };
-    (class GotTpOff $of:ident) => { $crate::elf::rows::flag!($of ThreadOffset) };
-    (class GotTpOffGot $of:ident) => { $crate::elf::rows::flag!($of ThreadOffset) };
-    (class GotTpOffGotBase $of:ident) => { $crate::elf::rows::flag!($of ThreadOffset) };
-    (class GotTpOffLoongArch64 $of:ident) => { $crate::elf::rows::flag!($of ThreadOffset) };
-    (class TlsGd $of:ident) => { $crate::elf::rows::flag!($of ModuleOffset) };
-    (class TlsGdGot $of:ident) => { $crate::elf::rows::flag!($of ModuleOffset) };
-    (class TlsGdGotBase $of:ident) => { $crate::elf::rows::flag!($of ModuleOffset) };
-    (class TlsLd $of:ident) => { $crate::elf::rows::flag!($of Module) };
-    (class TlsLdGot $of:ident) => { $crate::elf::rows::flag!($of Module) };
-    (class TlsLdGotBase $of:ident) => { $crate::elf::rows::flag!($of Module) };
-    (class TlsDesc $of:ident) => { $crate::elf::rows::flag!($of Descriptor) };
-    (class TlsDescGot $of:ident) => { $crate::elf::rows::flag!($of Descriptor) };
-    (class TlsDescGotBase $of:ident) => { $crate::elf::rows::flag!($of Descriptor) };
-    (class TlsDescLoongArch64 $of:ident) => { $crate::elf::rows::flag!($of Descriptor) };
-    (class $kind:ident $of:ident) => { 5 };
-    (plain Address) => { 0 };
-    (plain ThreadOffset) => { 1 };
-    (plain ModuleOffset) => { 2 };
-    (plain Module) => { 3 };
-    (plain Descriptor) => { 4 };
-    (with_addend Module) => { 3 };
-    (with_addend Address) => { 8 };
-    (with_addend ThreadOffset) => { 9 };
-    (with_addend ModuleOffset) => { 10 };
-    (with_addend Descriptor) => { 12 };
-    (low_halves Address) => { 6 };
-    (low_halves $class:ident) => { $crate::elf::rows::flag!(plain $class) };
-    (rest $kind:ident, (0 bytes)) => { 0 };
-    (rest TpOff, $size:tt) => { 0 };
-    (rest DtpOff, $size:tt) => { 0 };
-    (rest PairSubtractionULEB128RiscV, $size:tt) => { 0 };
-    (rest PairSubtractionULEB128LoongArch, $size:tt) => { 0 };
-    (rest RelativeRiscVLow12, $size:tt) => { 0x300 };
-    (rest TlsDesc, ($start:literal .. $end:literal RiscV :: IType)) => { 0 };
-    (rest Relative, ($start:literal .. $end:literal RiscV :: UType)) => { 0x200 };
-    (rest GotRelative, ($start:literal .. $end:literal RiscV :: UType)) => { 0x200 };
-    (rest GotTpOff, ($start:literal .. $end:literal RiscV :: UType)) => { 0x200 };
-    (rest TlsGd, ($start:literal .. $end:literal RiscV :: UType)) => { 0x200 };
-    (rest Absolute, ($start:literal .. $end:literal RiscV :: IType)) => { 0x100 };
-    (rest Absolute, ($start:literal .. $end:literal RiscV :: SType)) => { 0x100 };
-    (rest $kind:ident, ($start:literal .. $end:literal AArch64 :: TstBr)) => { 0x138 };
-    (rest $kind:ident, ($start:literal .. $end:literal AArch64 :: Bcond)) => { 0x138 };
-    (rest $kind:ident, ($start:literal .. $end:literal RiscV :: BType)) => { 0x138 };
-    (rest $kind:ident, ($start:literal .. $end:literal RiscV :: JType)) => { 0x138 };
-    (rest $kind:ident, ($start:literal .. $end:literal RiscV :: CbType)) => { 0x138 };
-    (rest $kind:ident, ($start:literal .. $end:literal RiscV :: CjType)) => { 0x138 };
-    (rest Absolute, ($start:literal .. $end:literal Ppc64 :: Branch14)) => { 0x1b0 };
-    (rest Absolute, ($start:literal .. $end:literal Ppc64 :: Branch24)) => { 0x1b0 };
-    (rest $kind:ident, ($start:literal .. $end:literal AArch64 :: JumpCall)) => { 0x130 };
-    (rest $kind:ident, ($start:literal .. $end:literal RiscV :: UiType)) => { 0x130 };
-    (rest $kind:ident, ($start:literal .. $end:literal Ppc64 :: Branch14)) => { 0x130 };
-    (rest $kind:ident, ($start:literal .. $end:literal Ppc64 :: Branch24)) => { 0x130 };
-    (rest $kind:ident, ($start:literal .. $end:literal LoongArch64 :: Branch21)) => { 0x130 };
-    (rest $kind:ident, ($start:literal .. $end:literal LoongArch64 :: Branch26)) => { 0x130 };
-    (rest $kind:ident, ($start:literal .. $end:literal LoongArch64 :: Call30)) => { 0x130 };
-    (rest $kind:ident, ($start:literal .. $end:literal LoongArch64 :: Call36)) => { 0x130 };
-    (rest $kind:ident, (2 .. 18 LoongArch64 :: Shift10)) => { 0x130 };
-    (rest PltRelGotBase, ($start:literal .. $end:literal Ppc64 :: $form:ident)) => { 0 };
-    (rest PltRelative, ($start:literal .. $end:literal Ppc64 :: $form:ident)) => { 0 };
-    (rest PltRelGotBase, $size:tt) => { 0x120 };
-    (rest PltRelative, $size:tt) => { 0x120 };
-    (rest Absolute, (8 bytes)) => { 0x1c0 };
-    (rest $kind:ident, ($start:literal .. 12 $architecture:ident :: $form:ident)) => { 0x100 };
-    (rest Absolute, $size:tt) => { 0x180 };
-    (rest AbsoluteLowPart, $size:tt) => { 0x180 };
-    (rest Got, $size:tt) => { 0x180 };
-    (rest TlsGdGot, $size:tt) => { 0x180 };
-    (rest TlsLdGot, $size:tt) => { 0x180 };
-    (rest GotTpOffGot, $size:tt) => { 0x180 };
-    (rest TlsDescGot, $size:tt) => { 0x180 };
-    (rest $kind:ident, $size:tt) => { 0x100 };
+    ($kind:ident, ($start:literal .. $end:literal LoongArch64 :: $form:ident)) => {
+        $crate::elf::rows::class!(low_half $kind)
+    };
+    ($kind:ident, $size:tt) => { $crate::elf::rows::class!(use_of $kind) };
+}
+
+/// What is made of the entry that a kind's formula has.
+macro_rules! class {
+    ($make:ident GotRelative) => { $crate::elf::rows::class!(@ $make Address) };
+    ($make:ident GotRelativeLoongArch64) => { $crate::elf::rows::class!(@ $make Address) };
+    ($make:ident GotRelGotBase) => { $crate::elf::rows::class!(@ $make Address) };
+    ($make:ident Got) => { $crate::elf::rows::class!(@ $make Address) };
+    ($make:ident GotTpOff) => { $crate::elf::rows::class!(@ $make ThreadOffset) };
+    ($make:ident GotTpOffGot) => { $crate::elf::rows::class!(@ $make ThreadOffset) };
+    ($make:ident GotTpOffGotBase) => { $crate::elf::rows::class!(@ $make ThreadOffset) };
+    ($make:ident GotTpOffLoongArch64) => { $crate::elf::rows::class!(@ $make ThreadOffset) };
+    ($make:ident TlsGd) => { $crate::elf::rows::class!(@ $make ModuleOffset) };
+    ($make:ident TlsGdGot) => { $crate::elf::rows::class!(@ $make ModuleOffset) };
+    ($make:ident TlsGdGotBase) => { $crate::elf::rows::class!(@ $make ModuleOffset) };
+    ($make:ident TlsLd) => { $crate::elf::rows::class!(@ $make Module) };
+    ($make:ident TlsLdGot) => { $crate::elf::rows::class!(@ $make Module) };
+    ($make:ident TlsLdGotBase) => { $crate::elf::rows::class!(@ $make Module) };
+    ($make:ident TlsDesc) => { $crate::elf::rows::class!(@ $make Descriptor) };
+    ($make:ident TlsDescGot) => { $crate::elf::rows::class!(@ $make Descriptor) };
+    ($make:ident TlsDescGotBase) => { $crate::elf::rows::class!(@ $make Descriptor) };
+    ($make:ident TlsDescLoongArch64) => { $crate::elf::rows::class!(@ $make Descriptor) };
+    ($make:ident $kind:ident) => { $crate::elf::rows::class!(@ $make Without) };
+    (@ low_half Address) => { $crate::elf::EntryUse::LowHalf };
+    (@ low_half $entry:ident) => { $crate::elf::EntryUse::$entry };
+    (@ use_of $entry:ident) => { $crate::elf::EntryUse::$entry };
+    (@ has_addend Module) => { false };
+    (@ has_addend Without) => { false };
+    (@ has_addend $entry:ident) => { true };
+}
+
+/// A fact of a row.
+macro_rules! fact {
+    (addend PltRelGotBase, ($start:literal .. $end:literal Ppc64 :: $form:ident)) => { true };
+    (addend PltRelative, ($start:literal .. $end:literal Ppc64 :: $form:ident)) => { true };
+    (addend $kind:ident, ($start:literal .. $end:literal Ppc64 :: $form:ident)) => {
+        $crate::elf::rows::class!(has_addend $kind)
+    };
+    (addend $kind:ident, ($start:literal .. $end:literal AArch64 :: $form:ident)) => {
+        $crate::elf::rows::class!(has_addend $kind)
+    };
+    (bound ($start:literal .. $end:literal AArch64 :: TstBr)) => { true };
+    (bound ($start:literal .. $end:literal AArch64 :: Bcond)) => { true };
+    (bound ($start:literal .. $end:literal RiscV :: BType)) => { true };
+    (bound ($start:literal .. $end:literal RiscV :: JType)) => { true };
+    (bound ($start:literal .. $end:literal RiscV :: CbType)) => { true };
+    (bound ($start:literal .. $end:literal RiscV :: CjType)) => { true };
+    (branch ($start:literal .. $end:literal AArch64 :: JumpCall)) => { true };
+    (branch ($start:literal .. $end:literal RiscV :: UiType)) => { true };
+    (branch ($start:literal .. $end:literal Ppc64 :: Branch14)) => { true };
+    (branch ($start:literal .. $end:literal Ppc64 :: Branch24)) => { true };
+    (branch ($start:literal .. $end:literal LoongArch64 :: Branch21)) => { true };
+    (branch ($start:literal .. $end:literal LoongArch64 :: Branch26)) => { true };
+    (branch ($start:literal .. $end:literal LoongArch64 :: Call30)) => { true };
+    (branch ($start:literal .. $end:literal LoongArch64 :: Call36)) => { true };
+    (branch (2 .. 18 LoongArch64 :: Shift10)) => { true };
+    (branch $size:tt) => { $crate::elf::rows::fact!(bound $size) };
+    (stub PltRelGotBase, ($start:literal .. $end:literal Ppc64 :: $form:ident)) => { false };
+    (stub PltRelative, ($start:literal .. $end:literal Ppc64 :: $form:ident)) => { false };
+    (stub PltRelGotBase, $size:tt) => { true };
+    (stub PltRelative, $size:tt) => { true };
+    (stub $kind:ident, $size:tt) => { $crate::elf::rows::fact!(branch $size) };
+    (word Absolute, (8 bytes)) => { true };
+    (load $kind:ident, ($start:literal .. 12 $architecture:ident :: $form:ident)) => { false };
+    (load $kind:ident, ($start:literal .. $end:literal RiscV :: IType)) => { false };
+    (load $kind:ident, ($start:literal .. $end:literal RiscV :: SType)) => { false };
+    (load Absolute, $size:tt) => { true };
+    (load AbsoluteLowPart, $size:tt) => { true };
+    (load Got, $size:tt) => { true };
+    (load TlsGdGot, $size:tt) => { true };
+    (load TlsLdGot, $size:tt) => { true };
+    (load GotTpOffGot, $size:tt) => { true };
+    (load TlsDescGot, $size:tt) => { true };
+    ($fact:ident $($given:tt)*) => { false };
+}
+
+/// How the value of a row is found.
+macro_rules! way {
+    ($kind:ident, (0 bytes)) => { $crate::elf::Way::Other };
+    (TpOff, $size:tt) => { $crate::elf::Way::Other };
+    (DtpOff, $size:tt) => { $crate::elf::Way::Other };
+    (PairSubtractionULEB128RiscV, $size:tt) => { $crate::elf::Way::Other };
+    (PairSubtractionULEB128LoongArch, $size:tt) => { $crate::elf::Way::Other };
+    (RelativeRiscVLow12, $size:tt) => { $crate::elf::Way::Low };
+    (TlsDesc, ($start:literal .. $end:literal RiscV :: IType)) => { $crate::elf::Way::Other };
+    (PltRelGotBase, ($start:literal .. $end:literal Ppc64 :: $form:ident)) => {
+        $crate::elf::Way::Other
+    };
+    (PltRelative, ($start:literal .. $end:literal Ppc64 :: $form:ident)) => {
+        $crate::elf::Way::Other
+    };
+    (Relative, ($start:literal .. $end:literal RiscV :: UType)) => { $crate::elf::Way::High };
+    (GotRelative, ($start:literal .. $end:literal RiscV :: UType)) => { $crate::elf::Way::High };
+    (GotTpOff, ($start:literal .. $end:literal RiscV :: UType)) => { $crate::elf::Way::High };
+    (TlsGd, ($start:literal .. $end:literal RiscV :: UType)) => { $crate::elf::Way::High };
+    ($kind:ident, $size:tt) => { $crate::elf::Way::Plain };
+}
+
+/// How long the instruction of a row is.
+macro_rules! length {
+    (($start:literal .. $end:literal RiscV :: CbType)) => { $crate::elf::Length::Two };
+    (($start:literal .. $end:literal RiscV :: CjType)) => { $crate::elf::Length::Two };
+    (($start:literal .. $end:literal RiscV :: CluiType)) => { $crate::elf::Length::Two };
+    (($start:literal .. $end:literal RiscV :: $form:ident)) => { $crate::elf::Length::Four };
+    (($start:literal .. $end:literal Ppc64 :: Prefixed)) => { $crate::elf::Length::Prefixed };
+    ($size:tt) => { $crate::elf::Length::Any };
+}
+
+/// The terms of a row's formula.
+macro_rules! terms {
+    ($kind:ident, $size:tt, ($($mask:ident)?), ($($bias:expr)?)) => {
+        $crate::elf::value::Terms {
+            bias: $crate::elf::rows::number!(bias $($bias)?),
+            symbol: $crate::elf::rows::bits!(symbol $($mask)?),
+            entry: $crate::elf::rows::bits!(entry $($mask)?),
+            entry_addend: $crate::elf::rows::bits!(entry_addend $size),
+            place: $crate::elf::rows::bits!(place $kind, $size, $($mask)?),
+            got: $crate::elf::rows::bits!(got $($mask)?),
+        }
+    };
+}
+
+/// The bits of a term that count: all, those of its page of 4 KiB, or none.
+macro_rules! bits {
+    (symbol PLACE_PAGES) => { !0xfff };
+    (entry ENTRY_PAGES) => { !0xfff };
+    (place Relative, (0 bytes), $($mask:ident)?) => { 0 };
+    (place $kind:ident, $size:tt, PLACE_PAGES) => { !0xfff };
+    (place $kind:ident, $size:tt, ENTRY_PAGES) => { !0xfff };
+    (got GOT_PAGE) => { !0xfff };
+    (entry_addend ($start:literal .. $end:literal AArch64 :: $form:ident)) => { 0 };
+    (entry_addend ($start:literal .. $end:literal Ppc64 :: $form:ident)) => { 0 };
+    ($term:ident $($given:tt)*) => { u64::MAX };
 }
 
 /// Which addresses of a row are cut to their pages of 4 KiB.
@@ -875,19 +936,24 @@ macro_rules! row {
                 least: $least,
                 last: $last,
             },
+            terms: $crate::elf::rows::terms!($kind, $size, ($($mask)?), ($($bias)?)),
+            facts: $crate::elf::rows::facts!($kind, $size),
             is_own: $crate::elf::rows::is_own!($($origin)?),
         }
     };
 }
 
+pub(crate) use bits;
+pub(crate) use class;
 pub(crate) use code_of_name;
-pub(crate) use flag;
-pub(crate) use flags;
-pub(crate) use flags_of_name;
+pub(crate) use entry;
+pub(crate) use fact;
+pub(crate) use facts;
 pub(crate) use index_of_name;
 pub(crate) use insn;
 pub(crate) use is_own;
 pub(crate) use is_supported;
+pub(crate) use length;
 pub(crate) use mask;
 pub(crate) use name_of_code;
 pub(crate) use number;
@@ -895,5 +961,7 @@ pub(crate) use row;
 pub(crate) use size;
 pub(crate) use table;
 pub(crate) use takes_all;
+pub(crate) use terms;
 pub(crate) use text_of_name;
+pub(crate) use way;
 pub(crate) use window;

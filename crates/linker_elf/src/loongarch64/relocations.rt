@@ -4,7 +4,6 @@ ghost use Rattle.std.specs.Prelude.{◌≡◌, IfSome};
 ghost use denote.Enum.Declared.{tag_of};
 ghost use Rattle.linker_elf.specs.Agrees.{LoongArchRowAgrees, RowFits};
 ghost use Rattle.linker_elf.specs.ElfNames.{IsNameOf, code_of, text_of};
-ghost use Rattle.linker_elf.specs.Flags.{flags_in};
 ghost use Rattle.linker_elf.specs.Readings.{LoongArchRowReadsNoOther};
 ghost use Rattle.linker_elf.specs.LoongArchRelocations.{loongarch_name};
 ghost use Rattle.linker_elf.specs.LoongArchRelocations.{loongarch_row, loongarch_uleb128_role};
@@ -14,7 +13,7 @@ ghost use Rattle.linker_elf.specs.contracts.loongarch64.relocations.LoongArch64R
 
 use crate::elf::choice_table::RelocationName;
 use crate::elf::rows::{
-    TableRow, code_of_name, flags_of_name, index_of_name, name_of_code, raw_info_in, row, row_in,
+    TableRow, code_of_name, index_of_name, name_of_code, raw_info_in, row, row_in,
     table, text_of_name,
 };
 use crate::elf::{RelocationKind, RelocationKindInfo, Row, SIZE_2KB, Uleb128Role};
@@ -300,15 +299,6 @@ pub fn row(name: LoongArch64Relocation) -> Option<Row>
     ensures others { IfSome result (LoongArchRowReadsNoOther name) }
 {
     row_in(&ROWS[index(name)])
-}
-
-/// What the relocation requires of a linker and how its value is found, in bits: `linker_section`
-/// reads them. 7 for `Other`.
-#[inline(always)]
-pub fn row_flags(name: LoongArch64Relocation) -> u16
-    ensures { result ≡ flags_in (loongarch_row name) }
-{
-    relocations!(flags_of_name(LoongArch64Relocation, name))
 }
 
 impl RelocationName for LoongArch64Relocation {

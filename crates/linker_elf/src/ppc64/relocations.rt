@@ -4,7 +4,6 @@ ghost use Rattle.std.specs.Prelude.{◌≡◌, IfSome};
 ghost use denote.Enum.Declared.{tag_of};
 ghost use Rattle.linker_elf.specs.Agrees.{RowAgrees, RowFits};
 ghost use Rattle.linker_elf.specs.ElfNames.{IsNameOf, code_of, text_of};
-ghost use Rattle.linker_elf.specs.Flags.{flags_in};
 ghost use Rattle.linker_elf.specs.Readings.{RowReadsNoOther};
 ghost use Rattle.linker_elf.specs.Ppc64Relocations.{ppc64_name, ppc64_relocation, ppc64_row};
 ghost use Rattle.linker_elf.specs.Rows.{raw_row};
@@ -12,7 +11,7 @@ ghost use Rattle.linker_elf.specs.contracts.ppc64.relocations.Ppc64Relocation as
 
 use crate::elf::choice_table::RelocationName;
 use crate::elf::rows::{
-    TableRow, code_of_name, flags_of_name, index_of_name, name_of_code, raw_info_in, row, row_in,
+    TableRow, code_of_name, index_of_name, name_of_code, raw_info_in, row, row_in,
     table, text_of_name,
 };
 use crate::elf::{RelocationKindInfo, Row};
@@ -394,15 +393,6 @@ pub fn row(name: Ppc64Relocation) -> Option<Row>
     ensures others { IfSome result RowReadsNoOther }
 {
     row_in(&ROWS[index(name)])
-}
-
-/// What the relocation requires of a linker and how its value is found, in bits: `linker_section`
-/// reads them. 7 for `Other`.
-#[inline(always)]
-pub fn row_flags(name: Ppc64Relocation) -> u16
-    ensures { result ≡ flags_in (ppc64_row name) }
-{
-    relocations!(flags_of_name(Ppc64Relocation, name))
 }
 
 impl RelocationName for Ppc64Relocation {

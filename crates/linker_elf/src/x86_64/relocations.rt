@@ -3,14 +3,13 @@
 ghost use Rattle.std.specs.Prelude.{◌≡◌};
 ghost use denote.Enum.Declared.{tag_of};
 ghost use Rattle.linker_elf.specs.ElfNames.{IsNameOf, code_of, text_of};
-ghost use Rattle.linker_elf.specs.Flags.{flags_in};
 ghost use Rattle.linker_elf.specs.Rows.{raw_row};
 ghost use Rattle.linker_elf.specs.X86Relocations.{x86_64_name, x86_64_relocation, x86_64_row};
 ghost use Rattle.linker_elf.specs.contracts.x86_64.relocations.X86_64Relocation as names;
 
 use crate::elf::choice_table::RelocationName;
 use crate::elf::rows::{
-    TableRow, code_of_name, flags_of_name, index_of_name, name_of_code, raw_info_in, row, row_in,
+    TableRow, code_of_name, index_of_name, name_of_code, raw_info_in, row, row_in,
     table, text_of_name,
 };
 use crate::elf::{RelocationKindInfo, Row};
@@ -172,15 +171,6 @@ pub fn row(name: X86_64Relocation) -> Option<Row>
     ensures { result ≡ x86_64_row name }
 {
     row_in(&ROWS[index(name)])
-}
-
-/// What the relocation requires of a linker and how its value is found, in bits: `linker_section`
-/// reads them. 7 for `Other`.
-#[inline(always)]
-pub fn row_flags(name: X86_64Relocation) -> u16
-    ensures { result ≡ flags_in (x86_64_row name) }
-{
-    relocations!(flags_of_name(X86_64Relocation, name))
 }
 
 impl RelocationName for X86_64Relocation {

@@ -1,65 +1,21 @@
--- Values that are found by the numbers of codes, with few tests.
-use Rattle.std.specs.Prelude.{◌≡◌, ℕ, ◌/◌, ◌%◌, ◌^◌, ◌<◌, ◌==◌, Bool, not, slice_index_or, true, false}
-use Rattle.std.specs.Prelude.{ℤ, List, slice_get, Option, Some, IfSome, Ok}
-use Rattle.std.specs.List.{All}
+-- Values that are found by the facts of rows, with few tests.
+use Rattle.std.specs.Prelude.{◌≡◌, ◌<◌, true, false}
+use Rattle.std.specs.Prelude.{ℤ, List, slice_get, Option, Some, Ok}
 use Rattle.linker_elf.specs.Relocate.{window_len}
 use Rattle.linker_elf.specs.Value.{difference_64, value_of}
 use Rattle.linker_elf.specs.declared.elf.RelocationKind.TheVariants.{RelativeRiscVLow12}
 use Rattle.linker_elf.specs.declared.elf.RelocationKindInfo.{RelocationKindInfo}
 use Rattle.linker_elf.specs.declared.elf.value.Operands.{Operands}
-use Rattle.linker_elf.specs.declared.elf.RelocationInstruction.TheVariants.{RiscV, Ppc64}
-use Rattle.linker_elf.specs.declared.elf.RelocationSize.{RelocationSize}
-use Rattle.linker_elf.specs.declared.elf.RelocationSize.TheVariants.{BitMasking}
-use Rattle.linker_elf.specs.declared.ppc64.forms.Ppc64Instruction.TheVariants.{Prefixed}
-use Rattle.linker_elf.specs.declared.riscv64.forms.RiscVInstruction.TheVariants.{CbType, CjType}
-use Rattle.linker_elf.specs.declared.riscv64.forms.RiscVInstruction.TheVariants.{CluiType}
 use Rattle.linker_section.specs.Conditions.{is_tp_off}
 use Rattle.linker_section.specs.Fields.{is_of_pair}
-use Rattle.linker_section.specs.Inner.Codes.{IsNumberOf, low_result}
+use Rattle.linker_section.specs.Inner.Facts.{low_result}
 use Rattle.linker_section.specs.Sections.{HasValue}
 use Rattle.linker_section.specs.Values.{has_value, low_operands, operands_of, IsHighPart}
-use Rattle.linker_section.specs.declared.conditions.Length.{Length}
-use Rattle.linker_section.specs.declared.conditions.Length.TheVariants as lengths
 use Rattle.linker_section.specs.declared.facts.Addresses.{Addresses}
 use Rattle.linker_section.specs.declared.facts.Symbol.{Symbol}
-use Rattle.linker_section.specs.declared.known.KnownCode.{KnownCode}
 use Rattle.linker_section.specs.declared.quick.HighPart.{HighPart}
 use Rattle.linker_section.specs.declared.relocations.Rela.{Rela}
-use Rattle.linker_utils.specs.Architectures.{IsRow}
 use Rattle.linker_utils.specs.declared.elf.Architecture.{Architecture}
-
--- the length of the instruction of a row
-abbrev pub length_of : RelocationSize → Length
-length_of (BitMasking bits (RiscV CbType)) = lengths.Two
-length_of (BitMasking bits (RiscV CjType)) = lengths.Two
-length_of (BitMasking bits (RiscV CluiType)) = lengths.Two
-length_of (BitMasking bits (RiscV insn)) = lengths.Four
-length_of (BitMasking bits (Ppc64 Prefixed)) = lengths.Prefixed
-length_of size = lengths.Any
-
--- a word of 8 bytes begins with an instruction of a length
-abbrev pub shows : Length → ℕ → Bool
-shows lengths.Any word = true
-shows lengths.Two word = not (word % 4 == 3)
-shows lengths.Four word = word % 4 == 3
-shows lengths.Prefixed word = word / 2 ^ 26 % 64 == 1
-
--- what is kept of a code is its number, its row and the length of its instruction
-pub record AreOf (architecture : Architecture) (known : KnownCode) (row : RelocationKindInfo)
-    : Type 0 where
-  pub is_row : IsRow architecture known.code (Some row)
-  pub is_number : IsNumberOf architecture known.code known.number
-  pub is_length : known.length ≡ length_of row.size
-
-abbrev pub IsKnown : Architecture → KnownCode → Type 0
-IsKnown architecture known = IfSome known.row (AreOf architecture known)
-
-abbrev pub AreKnown : Architecture → List KnownCode → Type 0
-AreKnown architecture known = All (IsKnown architecture) known
-
--- a code is kept at its low 6 bits
-abbrev pub IsThere : ℕ → List KnownCode → Type 0
-IsThere code known = (d : KnownCode) → (slice_index_or known (code % 64) d).code ≡ code
 
 -- the operands of a relocation give a value
 pub record IsPlainValue (architecture : Architecture) (addresses : Addresses)

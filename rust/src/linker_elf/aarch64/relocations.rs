@@ -4,7 +4,7 @@
 
 use crate::linker_elf::elf::choice_table::RelocationName;
 use crate::linker_elf::elf::rows::{
-    TableRow, code_of_name, flags_of_name, index_of_name, info_in, name_of_code, row, row_in,
+    TableRow, code_of_name, index_of_name, info_in, name_of_code, row, row_in,
     table, text_of_name,
 };
 use crate::linker_elf::elf::{RelocationKindInfo, Row};
@@ -411,14 +411,6 @@ const fn index(name: AArch64Relocation) -> usize {
 #[inline(always)]
 pub const fn row(name: AArch64Relocation) -> Option<Row> {
     row_in(&ROWS[index(name)])
-}
-
-/// What the relocation requires of a linker and how its value is found, in bits: `linker_section`
-/// reads them. 7 for `Other`.
-#[must_use]
-#[inline(always)]
-pub const fn row_flags(name: AArch64Relocation) -> u16 {
-    relocations!(flags_of_name(AArch64Relocation, name))
 }
 
 impl RelocationName for AArch64Relocation {

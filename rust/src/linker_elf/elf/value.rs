@@ -2,9 +2,9 @@
 // Made by tools/erase of crates/linker_elf/src/elf/value.rt.
 //! The value of a relocation, from the addresses that a linker knows.
 
-use crate::linker_elf::elf::entries::{names_got_entry, names_plt_entry};
+use crate::linker_elf::elf::entries::names_plt_entry;
 use crate::linker_elf::elf::{
-    Bias, PAGE_MASK_4KB, PageMask, RelocationInstruction, RelocationKind, RelocationKindInfo,
+    PAGE_MASK_4KB, PageMask, RelocationInstruction, RelocationKind, RelocationKindInfo,
     RelocationSize,
 };
 use crate::linker_elf::loongarch64::highest_relocation_with_bias;
@@ -102,6 +102,17 @@ impl Operands {
         };
         Operands { plt_entry, ..*self }
     }
+
+    /// The same, with every entry and origin that a formula names.
+    #[inline(always)]
+    pub(crate) fn as_given(&self) -> Operands {
+        Operands {
+            has_got_entry: true,
+            has_plt_entry: true,
+            has_tls_base: true,
+            ..*self
+        }
+    }
 }
 
 impl RelocationSize {
@@ -131,36 +142,22 @@ impl RelocationKind {
     }
 }
 
-/// The address of the page of 4 KiB that contains an address, if `masked`.
+/// The bits of a page's address, or all.
 #[inline(always)]
-fn masked_page(masked: bool, address: u64) -> u64 {
-    if masked {
-        address & !PAGE_MASK_4KB
-    } else {
-        address
-    }
+fn bits_of(is_page: bool) -> u64 {
+    if is_page { !PAGE_MASK_4KB } else { u64::MAX }
 }
 
+/// Whether the addend is added to the address of an entry of the GOT.
 #[inline(always)]
-fn bias_or_zero(bias: Option<Bias>) -> u64 {
-    match bias {
-        Some(bias) => bias.value(),
-        None => 0,
-    }
-}
-
-/// The addend that is added to the address of a GOT entry.
-#[inline(always)]
-fn addend_of_entry(size: RelocationSize, addend: i64) -> u64 {
-    match size {
-        RelocationSize::ByteSize(_) => addend as u64,
-        RelocationSize::BitMasking { insn, .. } => match insn {
-            RelocationInstruction::AArch64(_) | RelocationInstruction::Ppc64(_) => 0,
-            RelocationInstruction::RiscV(_) | RelocationInstruction::LoongArch64(_) => {
-                addend as u64
-            }
-        },
-    }
+fn adds_to_entry(size: RelocationSize) -> bool {
+    !matches!(
+        size,
+        RelocationSize::BitMasking {
+            insn: RelocationInstruction::AArch64(_) | RelocationInstruction::Ppc64(_),
+            ..
+        }
+    )
 }
 
 /// What `highest_relocation_with_bias` takes as `pc`.
@@ -172,76 +169,95 @@ fn pc_of_sequence(size: RelocationSize, place: u64) -> u64 {
     }
 }
 
+/// What is added to the first term of a formula, and which bits of its terms count.
+#[derive(Clone, Copy)]
+pub(crate) struct Terms {
+    /// The bias.
+    pub(crate) bias: u64,
+    /// The bits of S + A.
+    pub(crate) symbol: u64,
+    /// The bits of the address of an entry of the GOT.
+    pub(crate) entry: u64,
+    /// The bits of the addend that are added to that: all or none.
+    pub(crate) entry_addend: u64,
+    /// The bits of P.
+    pub(crate) place: u64,
+    /// The bits of the GOT's address.
+    pub(crate) got: u64,
+}
+
+impl Terms {
+    /// A base with the addend and the bias.
+    #[inline(always)]
+    fn sum(&self, base: u64, addend: u64) -> u64 {
+        base.wrapping_add(addend).wrapping_add(self.bias)
+    }
+
+    /// S + A.
+    #[inline(always)]
+    fn symbol(&self, operands: &Operands) -> u64 {
+        self.sum(operands.symbol, operands.addend as u64) & self.symbol
+    }
+
+    /// GOT + G + A, or the same of an entry of TLS.
+    #[inline(always)]
+    fn entry(&self, operands: &Operands) -> Result<u64, FormulaError> {
+        if !operands.has_got_entry {
+            return Err(FormulaError::NoEntry);
+        }
+        let addend = operands.addend as u64 & self.entry_addend;
+        Ok(self.sum(operands.got_entry, addend) & self.entry)
+    }
+
+    /// L + A. Without an entry of the PLT L is S, except for a call that loads a word.
+    #[inline(always)]
+    fn plt(&self, is_word: bool, operands: &Operands) -> Result<u64, FormulaError> {
+        let plt_entry = if operands.has_plt_entry {
+            operands.plt_entry
+        } else if is_word {
+            return Err(FormulaError::NoEntry);
+        } else {
+            operands.symbol
+        };
+        Ok(self.sum(plt_entry, operands.addend as u64))
+    }
+}
+
 impl RelocationKindInfo {
+    /// The terms of the formula.
     #[inline(always)]
-    fn symbol_part(&self, operands: &Operands) -> u64 {
-        let sum = operands
-            .symbol
-            .wrapping_add(operands.addend as u64);
-        masked_page(
-            matches!(self.mask, Some(PageMask::SymbolPlusAddendAndPosition(_))),
-            sum.wrapping_add(bias_or_zero(self.bias)),
-        )
-    }
-
-    #[inline(always)]
-    fn entry_part(&self, operands: &Operands) -> u64 {
-        let addend = addend_of_entry(self.size, operands.addend);
-        let sum = operands.got_entry.wrapping_add(addend);
-        masked_page(
-            matches!(self.mask, Some(PageMask::GotEntryAndPosition(_))),
-            sum.wrapping_add(bias_or_zero(self.bias)),
-        )
-    }
-
-    #[inline(always)]
-    fn plt_part(&self, operands: &Operands) -> u64 {
-        let sum = operands
-            .plt_entry
-            .wrapping_add(operands.addend as u64);
-        sum.wrapping_add(bias_or_zero(self.bias))
-    }
-
-    #[inline(always)]
-    fn size_part(&self, operands: &Operands) -> u64 {
-        let sum = operands
-            .symbol_size
-            .wrapping_add(operands.addend as u64);
-        sum.wrapping_add(bias_or_zero(self.bias))
-    }
-
-    #[inline(always)]
-    fn place_part(&self, operands: &Operands) -> u64 {
-        let masked = matches!(
-            self.mask,
-            Some(PageMask::SymbolPlusAddendAndPosition(_) | PageMask::GotEntryAndPosition(_))
-        );
-        masked_page(masked, operands.place)
-    }
-
-    #[inline(always)]
-    fn got_part(&self, operands: &Operands) -> u64 {
-        masked_page(
-            matches!(self.mask, Some(PageMask::GotBase(_))),
-            operands.got_base,
-        )
-    }
-
-    /// S + A - P, or S + A of the first of a pair at a ULEB128 number, whose row has no bytes.
-    #[inline(always)]
-    fn relative_part(&self, operands: &Operands) -> u64 {
-        let symbol = self.symbol_part(operands);
-        match self.size {
-            RelocationSize::ByteSize(0) => symbol,
-            _ => symbol.wrapping_sub(self.place_part(operands)),
+    fn terms(&self) -> Terms {
+        let symbol = matches!(self.mask, Some(PageMask::SymbolPlusAddendAndPosition(_)));
+        let entry = matches!(self.mask, Some(PageMask::GotEntryAndPosition(_)));
+        let got = matches!(self.mask, Some(PageMask::GotBase(_)));
+        let is_set =
+            self.kind == RelocationKind::Relative && self.size == RelocationSize::ByteSize(0);
+        Terms {
+            bias: match self.bias {
+                Some(bias) => bias.value(),
+                None => 0,
+            },
+            symbol: bits_of(symbol),
+            entry: bits_of(entry),
+            entry_addend: if adds_to_entry(self.size) {
+                u64::MAX
+            } else {
+                0
+            },
+            place: if is_set { 0 } else { bits_of(symbol || entry) },
+            got: bits_of(got),
         }
     }
 
     /// The value modulo 2^64.
     #[inline(always)]
-    fn value_modulo(&self, operands: &Operands) -> Option<u64> {
+    fn value_modulo(&self, terms: &Terms, operands: &Operands) -> Result<u64, FormulaError> {
+        let place = operands.place & terms.place;
+        let got = operands.got_base & terms.got;
         match self.kind {
-            RelocationKind::None | RelocationKind::Alignment | RelocationKind::TlsDescCall => None,
+            RelocationKind::None | RelocationKind::Alignment | RelocationKind::TlsDescCall => {
+                Err(FormulaError::NoValue)
+            }
             RelocationKind::Absolute
             | RelocationKind::AbsoluteLowPart
             | RelocationKind::AbsoluteSet
@@ -251,92 +267,61 @@ impl RelocationKindInfo {
             | RelocationKind::AbsoluteSubtraction
             | RelocationKind::AbsoluteSubtractionWord6
             | RelocationKind::PairSubtractionULEB128RiscV
-            | RelocationKind::PairSubtractionULEB128LoongArch => Some(self.symbol_part(operands)),
-            RelocationKind::Relative => Some(self.relative_part(operands)),
-            RelocationKind::RelativeRiscVLow12 => {
-                let symbol = self.symbol_part(operands);
-                Some(symbol.wrapping_sub(self.place_part(operands)))
+            | RelocationKind::PairSubtractionULEB128LoongArch => Ok(terms.symbol(operands)),
+            RelocationKind::Relative | RelocationKind::RelativeRiscVLow12 => {
+                Ok(terms.symbol(operands).wrapping_sub(place))
             }
-            RelocationKind::RelativeLoongArchHigh => Some(highest_relocation_with_bias(
-                self.symbol_part(operands),
+            RelocationKind::RelativeLoongArchHigh => Ok(highest_relocation_with_bias(
+                terms.symbol(operands),
                 pc_of_sequence(self.size, operands.place),
             )),
             RelocationKind::GotRelative
             | RelocationKind::TlsGd
             | RelocationKind::TlsLd
             | RelocationKind::GotTpOff
-            | RelocationKind::TlsDesc => {
-                let entry = self.entry_part(operands);
-                Some(entry.wrapping_sub(self.place_part(operands)))
-            }
+            | RelocationKind::TlsDesc => Ok(terms.entry(operands)?.wrapping_sub(place)),
             RelocationKind::GotRelativeLoongArch64
             | RelocationKind::GotTpOffLoongArch64
-            | RelocationKind::TlsDescLoongArch64 => Some(highest_relocation_with_bias(
-                self.entry_part(operands),
+            | RelocationKind::TlsDescLoongArch64 => Ok(highest_relocation_with_bias(
+                terms.entry(operands)?,
                 pc_of_sequence(self.size, operands.place),
             )),
             RelocationKind::GotRelGotBase
             | RelocationKind::TlsGdGotBase
             | RelocationKind::TlsLdGotBase
             | RelocationKind::GotTpOffGotBase
-            | RelocationKind::TlsDescGotBase => {
-                let entry = self.entry_part(operands);
-                Some(entry.wrapping_sub(self.got_part(operands)))
-            }
+            | RelocationKind::TlsDescGotBase => Ok(terms.entry(operands)?.wrapping_sub(got)),
             RelocationKind::Got
             | RelocationKind::TlsGdGot
             | RelocationKind::TlsLdGot
             | RelocationKind::GotTpOffGot
-            | RelocationKind::TlsDescGot => Some(self.entry_part(operands)),
-            RelocationKind::SymRelGotBase => {
-                let symbol = self.symbol_part(operands);
-                Some(symbol.wrapping_sub(self.got_part(operands)))
-            }
+            | RelocationKind::TlsDescGot => terms.entry(operands),
+            RelocationKind::SymRelGotBase => Ok(terms.symbol(operands).wrapping_sub(got)),
             RelocationKind::PltRelGotBase => {
-                let plt = self.plt_part(operands);
-                Some(plt.wrapping_sub(self.got_part(operands)))
+                Ok(terms.plt(self.size.loads_plt_word(self.kind), operands)?.wrapping_sub(got))
             }
             RelocationKind::PltRelative => {
-                let plt = self.plt_part(operands);
-                Some(plt.wrapping_sub(self.place_part(operands)))
+                Ok(terms.plt(self.size.loads_plt_word(self.kind), operands)?.wrapping_sub(place))
             }
-            RelocationKind::SymbolSize => Some(self.size_part(operands)),
+            RelocationKind::SymbolSize => {
+                Ok(terms.sum(operands.symbol_size, operands.addend as u64))
+            }
             RelocationKind::DtpOff | RelocationKind::TpOff => {
-                let symbol = self.symbol_part(operands);
-                Some(symbol.wrapping_sub(operands.tls_base))
+                if !operands.has_tls_base {
+                    return Err(FormulaError::NoTlsBase);
+                }
+                Ok(terms.symbol(operands).wrapping_sub(operands.tls_base))
             }
         }
     }
 
-    /// What `value` computes, of operands that are all read as they are. None of a kind without a
-    /// value.
-    #[doc(hidden)]
-    #[must_use]
+    /// `value`, by the row's terms.
     #[inline(always)]
-    pub fn formula_value(&self, operands: &Operands) -> Option<i64> {
-        match self.value_modulo(operands) {
-            Some(value) => Some(value as i64),
-            None => None,
+    pub(crate) fn value_by(&self, terms: &Terms, operands: &Operands) -> Result<i64, FormulaError> {
+        match self.value_modulo(terms, operands) {
+            Ok(value) => Ok(value as i64),
+            Err(error) => Err(error),
         }
-    }
-
-    /// Whether the formula has an entry that there isn't.
-    #[inline(always)]
-    fn lacks_entry(&self, operands: &Operands) -> bool {
-        (names_got_entry(self.kind) && !operands.has_got_entry)
-            || (self.size.loads_plt_word(self.kind) && !operands.has_plt_entry)
-    }
-
-    /// Whether it counts from an origin that there isn't.
-    #[inline(always)]
-    fn lacks_tls_base(&self, operands: &Operands) -> bool {
-        self.kind.is_offset() && !operands.has_tls_base
-    }
-
-    /// Either.
-    #[inline(always)]
-    pub(crate) fn lacks(&self, operands: &Operands) -> bool {
-        self.lacks_entry(operands) || self.lacks_tls_base(operands)
     }
 
     /// The relocation's value: the formula of its kind, with the bias added first and the page mask
@@ -352,15 +337,15 @@ impl RelocationKindInfo {
     /// is of kind `Relative`.
     #[inline(always)]
     pub fn value(&self, operands: &Operands) -> Result<i64, FormulaError> {
-        if self.lacks_entry(operands) {
-            Err(FormulaError::NoEntry)
-        } else if self.lacks_tls_base(operands) {
-            Err(FormulaError::NoTlsBase)
-        } else {
-            match self.formula_value(&operands.completed()) {
-                Some(value) => Ok(value),
-                None => Err(FormulaError::NoValue),
-            }
-        }
+        self.value_by(&self.terms(), operands)
+    }
+
+    /// What `value` computes, of operands that are all read as they are. None of a kind without a
+    /// value.
+    #[doc(hidden)]
+    #[must_use]
+    #[inline(always)]
+    pub fn formula_value(&self, operands: &Operands) -> Option<i64> {
+        self.value(&operands.as_given()).ok()
     }
 }

@@ -4,7 +4,7 @@
 
 use crate::linker_elf::elf::choice_table::RelocationName;
 use crate::linker_elf::elf::rows::{
-    TableRow, code_of_name, flags_of_name, index_of_name, name_of_code, raw_info_in, row, row_in,
+    TableRow, code_of_name, index_of_name, name_of_code, raw_info_in, row, row_in,
     table, text_of_name,
 };
 use crate::linker_elf::elf::{RelocationKindInfo, Row};
@@ -379,14 +379,6 @@ const fn index(name: Ppc64Relocation) -> usize {
 #[inline(always)]
 pub const fn row(name: Ppc64Relocation) -> Option<Row> {
     row_in(&ROWS[index(name)])
-}
-
-/// What the relocation requires of a linker and how its value is found, in bits: `linker_section`
-/// reads them. 7 for `Other`.
-#[must_use]
-#[inline(always)]
-pub const fn row_flags(name: Ppc64Relocation) -> u16 {
-    relocations!(flags_of_name(Ppc64Relocation, name))
 }
 
 impl RelocationName for Ppc64Relocation {

@@ -1,11 +1,8 @@
-use Rattle.std.proofs.Common.{◌≡◌, ◌<◌, ◌^◌, ◌∙◌, refl, sym, ap, subst, arith, rules, length, take, Ok, None}
-use Rattle.std.proofs.lemmas.List.Elements.{All-replicate}
+use Rattle.std.proofs.Common.{◌≡◌, ◌<◌, ◌^◌, ◌∙◌, refl, sym, ap, subst, arith, rules, length, take, Ok}
 use Rattle.std.specs.Prelude.{IfSome, IfNone}
 use Rattle.linker_section.proofs.Reaching.{below_first, below_kept, below_quickly, front_first, front_quickly, front_slowly, end_fits, there_is, there_isnt, rest_behind, first_run, only_run}
-use Rattle.linker_section.specs.Inner.Quick.{IsKnown}
 use Rattle.linker_section.specs.Inner.Steps.{IsFront, IsQuickStep, IsSlowStep}
 use Rattle.linker_section.specs.Relocations.{relocation_of}
-use Rattle.linker_section.specs.declared.conditions.Length.TheVariants.{Any}
 use Rattle.linker_section.proofs.ascending.write_ascending.Goals as goal
 
 pub loop-entry-init : goal.loop-entry-init
@@ -18,7 +15,6 @@ loop-entry-init c =
       rest = refl;
       within = omega arith;
       behind = omega arith;
-      known = All-replicate (IsKnown a.architecture) 64 (record { code = 0; number = 0; row = None; length = Any }) tt;
       high = tt;
     }
 
@@ -49,7 +45,6 @@ loop-entry-preserved-in-Some-write_quickly c =
       rest = cases.1 ∙ rest_behind bytes l.rest.now l.index inv.rest;
       within = omega (arith, there);
       behind = omega (arith, behind);
-      known = c.learn.ensures.known;
       high = c.in-Some-write_quickly.ensures.high;
     }
 
@@ -117,7 +112,6 @@ loop-entry-preserved c =
       rest = c.relocations_from-rest.ensures;
       within = step.1.below.within;
       behind = omega arith;
-      known = c.learn.ensures.known;
       high = inv.high;
     }
 

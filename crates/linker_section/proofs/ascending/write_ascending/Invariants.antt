@@ -1,6 +1,6 @@
 use Rattle.std.proofs.Common.{◌≡◌, ◌-◌, ◌*◌, ◌/◌, ◌≤◌, length, drop}
 use Rattle.std.specs.Prelude.{IfSome}
-use Rattle.linker_section.specs.Inner.Quick.{AreKnown, IsHighValue}
+use Rattle.linker_section.specs.Inner.Quick.{IsHighValue}
 use Rattle.linker_section.specs.Inner.Steps.{AreWrittenBelow, IsFront}
 use Rattle.linker_section.proofs.ascending.write_ascending.Given as goal
 
@@ -13,7 +13,6 @@ invariant-loop-entry l = record {
   rest : l.rest ≡ drop (l.index * 24) l.relocations;
   within : l.index ≤ length l.relocations / 24;
   behind : l.step.index ≤ l.index;
-  known : AreKnown l.architecture l.known;
   high : IfSome l.high (IsHighValue l.architecture l.addresses l.relocations l.symbols);
 }
 

@@ -1,9 +1,11 @@
 use Rattle.std.specs.Int.{from_le_bytes}
 use Rattle.std.specs.Prelude.{IfSome, slice_index, not, ◌||◌}
 use Rattle.std.proofs.lemmas.Bool.{cases_Bool}
-use Rattle.linker_section.proofs.CodeNumbers.{says_way}
+use Rattle.linker_section.proofs.RowFacts.{says_way}
 use Rattle.linker_section.proofs.QuickValues.{high_is}
-use Rattle.linker_section.specs.Inner.Codes.{shows_lengths, SaysWay}
+use Rattle.linker_section.specs.Inner.Facts.{shows_lengths, shows}
+use Rattle.linker_elf.specs.Facts.{length_of}
+use Rattle.linker_utils.specs.Architectures.{IsRow}
 use Rattle.std.proofs.lemmas.List.{get_or-drop}
 use Rattle.std.proofs.Common.{◌≡◌, ℕ, ◌+◌, drop, ◌<◌, ◌^◌, ◌∙◌, refl, sym, ap, subst, arith, rules, length, FitsSigned, to_z, of_z, inl, inr}
 use Rattle.std.specs.Int.{w64}
@@ -11,7 +13,7 @@ use Rattle.std.proofs.lemmas.Int.{to_z-of_z}
 use Rattle.linker_section.proofs.Lengths.{unthreaded_holds, word_shows}
 use Rattle.linker_section.proofs.Local.{one_local}
 use Rattle.linker_section.proofs.Reaching.{is_written, not_written}
-use Rattle.linker_section.specs.Inner.Quick.{AreOf, IsHighValue, IsQuickValue, shows}
+use Rattle.linker_section.specs.Inner.Quick.{IsHighValue, IsQuickValue}
 use Rattle.linker_section.specs.Inner.Saved.{IsSavedAt}
 use Rattle.linker_section.specs.Sections.{IsWrittenAt}
 use Rattle.linker_section.specs.Values.{offset_at}
@@ -28,16 +30,16 @@ write_held_at-requires-clause-length c inside long =
     let o = c.args.relocation.now.offset in
     let row = c.in-Some.row in
     let small : (i : ℕ) → slice_index section i < 256 = λ i. search rules in
-    let known = subst (λ x. IfSome x (AreOf c.args.architecture c.args.known.now)) c.in-Some.is c.requires.known in
+    let way = says_way c.args.architecture c.args.relocation.now.code row
+    (subst (IsRow c.args.architecture c.args.relocation.now.code) c.in-Some.is c.row.ensures) in
     let word = subst (λ x. IfSome x (λ word. word ≡ from_le_bytes w64 (drop o section))) c.in-Some-whole_word_at.is c.whole_word_at.ensures.word in
     let several = shows_lengths c.args.architecture in
     elim (cases_Bool several) [
       | inl is ↦
           sym (word_shows row.size (drop o section) (λ i. subst (λ b. b < 256) (sym (get_or-drop o section i 0)) (small (o + i))))
-          ∙ (ap (λ l. shows l (from_le_bytes w64 (drop o section))) (sym known.is_length)
-          ∙ (ap (shows c.args.known.now.length) (sym word)
-          ∙ (ap (λ b. not b || shows c.args.known.now.length c.in-Some-whole_word_at.word) (sym is) ∙ (sym c.begins_with.ensures ∙ c.if-not-begins_with.false))))
-      | inr isnt ↦ (says_way c.args.architecture c.args.known.now.code c.args.known.now.number row known.is_number known.is_row).shown isnt (drop o section)
+          ∙ (ap (shows (length_of row.size)) (sym word)
+          ∙ (ap (λ b. not b || shows (length_of row.size) c.in-Some-whole_word_at.word) (sym is) ∙ (sym c.begins_with.ensures ∙ c.if-not-begins_with.false)))
+      | inr isnt ↦ way.shown isnt (drop o section)
     ]
 
 pub write_held_at-requires-clause-offset : goal.write_held_at-requires-clause-offset
@@ -94,14 +96,14 @@ returns-clause-high c =
     let same = c.requires.is in
     let fits : FitsSigned w64 v = search rules in
     let Is = IsHighValue a.architecture a.addresses.now bytes a.symbols.now in
-    let known = subst (λ x. IfSome x (AreOf a.architecture a.known.now)) c.in-Some.is c.requires.known in
-    let way = says_way a.architecture a.known.now.code a.known.now.number row known.is_number known.is_row in
+    let way = says_way a.architecture a.relocation.now.code row
+    (subst (IsRow a.architecture a.relocation.now.code) c.in-Some.is c.row.ensures) in
     elim c.high_behind-high.ensures [
       | inl kept ↦ subst (λ x. IfSome x Is) (sym kept) c.requires.high
       | inr new ↦
           subst (λ x. IfSome x Is) (sym (new.1))
           (subst (λ x. Is (record { offset = a.relocation.now.offset; value = x })) (sym (to_z-of_z w64 v fits))
-          (high_is a.architecture a.addresses.now bytes a.symbols.now a.index row a.known.now.number a.relocation.now.offset v
-          c.requires.within (ap (λ r. r.offset) same) (subst (λ code. SaysWay a.architecture code a.known.now.number row) (c.requires.code ∙ ap (λ r. r.code) same) way) (new.0)
+          (high_is a.architecture a.addresses.now bytes a.symbols.now a.index row a.relocation.now.offset v
+          c.requires.within (ap (λ r. r.offset) same) way (new.0)
           (subst (λ r. IsQuickValue a.architecture a.addresses.now bytes a.symbols.now r row v) same c.in-Some-quick_value.ensures)))
     ]

@@ -1,10 +1,7 @@
-use Rattle.std.proofs.Common.{◌≡◌, ◌<◌, ◌/◌, ◌∙◌, refl, subst, arith, length, None}
-use Rattle.std.proofs.lemmas.List.Elements.{All-replicate}
+use Rattle.std.proofs.Common.{◌≡◌, ◌<◌, ◌/◌, ◌∙◌, refl, subst, arith, length}
 use Rattle.std.specs.Prelude.{IfSome, IfNone}
 use Rattle.linker_section.proofs.Reaching.{below_kept, below_quickly, runs_written}
-use Rattle.linker_section.specs.Inner.Quick.{IsKnown}
 use Rattle.linker_section.specs.Inner.Steps.{IsQuickStep}
-use Rattle.linker_section.specs.declared.conditions.Length.TheVariants.{Any}
 use Rattle.linker_section.proofs.ascending.write_second_run.Goals as goal
 
 pub loop-index-init : goal.loop-index-init
@@ -13,7 +10,6 @@ loop-index-init c =
       below = λ before below. below;
       room = refl;
       within = c.requires.within;
-      known = All-replicate (IsKnown c.args.architecture) 64 (record { code = 0; number = 0; row = None; length = Any }) tt;
       high = tt;
     }
 
@@ -36,7 +32,6 @@ loop-index-preserved c =
       below = λ before start. below_quickly a.architecture a.addresses.now bytes a.symbols.now before l.section c.write_quickly.new.section l.memory c.write_quickly.new.memory l.index l.end end there (omega (arith, there, memory, room)) quick (inv.below before start);
       room = c.write_quickly.ensures.len ∙ inv.room;
       within = omega (arith, there);
-      known = c.learn.ensures.known;
       high = c.in-Some.ensures.high;
     }
 

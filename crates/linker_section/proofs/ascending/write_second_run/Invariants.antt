@@ -1,6 +1,6 @@
 use Rattle.std.proofs.Common.{◌≡◌, ◌-◌, ◌/◌, ◌≤◌, List, ℕ, length}
 use Rattle.std.specs.Prelude.{IfSome}
-use Rattle.linker_section.specs.Inner.Quick.{AreKnown, IsHighValue}
+use Rattle.linker_section.specs.Inner.Quick.{IsHighValue}
 use Rattle.linker_section.specs.Inner.Steps.{AreWrittenBelow}
 use Rattle.linker_section.proofs.ascending.write_second_run.Given as goal
 
@@ -11,7 +11,6 @@ invariant-loop-index l = record {
       → AreWrittenBelow l.architecture l.addresses l.relocations l.symbols before l.section l.memory l.index;
   room : length l.memory ≡ length l.fn.memory;
   within : l.index ≤ length l.relocations / 24;
-  known : AreKnown l.architecture l.known;
   high : IfSome l.high (IsHighValue l.architecture l.addresses l.relocations l.symbols);
 }
 

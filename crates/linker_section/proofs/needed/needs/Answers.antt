@@ -1,13 +1,24 @@
-use Rattle.std.proofs.Common.{◌∙◌, ap}
+use Rattle.std.proofs.Common.{◌∙◌, ap, refl, subst, Some, None}
 use Rattle.std.proofs.lemmas.Int.{to_z-of_z}
 use Rattle.std.specs.Int.{w64}
-use Rattle.linker_section.proofs.CodeNumbers.{flags_say}
-use Rattle.linker_section.specs.Inner.Codes.{needs_by}
+use Rattle.linker_section.proofs.RowFacts.{says}
+use Rattle.linker_section.specs.Needed.{needs_in}
+use Rattle.linker_utils.specs.Architectures.{IsRow}
 use Rattle.linker_section.proofs.needed.needs.Goals as goal
 
-pub returns : goal.returns
-returns c =
+pub returns-in-Some : goal.returns-in-Some
+returns-in-Some c =
     let a = c.args in
-    let is = flags_say a.architecture a.code c.row_flags.result c.row_flags.ensures in
-    let same = ap (λ x. needs_by c.row_flags.result x a.is_thread_local) (to_z-of_z w64 a.addend c.ranges.addend) in
-    (is.0, is.1, c.needs_by.ensures ∙ (same ∙ is.2.flags a.addend a.is_thread_local))
+    let row = c.in-Some.row in
+    let is = subst (IsRow a.architecture a.code) c.in-Some.is c.row.ensures in
+    (
+      Some row,
+      is,
+      ap Some c.requirements_by.ensures
+      ∙ (ap Some (says a.architecture a.code row is _ a.is_thread_local)
+      ∙ ap (λ x. needs_in (Some row) x a.is_thread_local) (to_z-of_z w64 a.addend c.ranges.addend)),
+    )
+
+pub returns-in-None : goal.returns-in-None
+returns-in-None c =
+    (None, subst (IsRow c.args.architecture c.args.code) c.in-None.is c.row.ensures, refl)

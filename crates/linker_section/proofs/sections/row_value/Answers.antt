@@ -1,21 +1,18 @@
 use Rattle.std.proofs.Common.{sym, ap, subst, refl, ◌∙◌, rules, true≢false, FitsSigned, Some, None, Ok}
 use Rattle.std.specs.Int.{w64}
 use Rattle.std.proofs.lemmas.Int.{to_z-of_z}
-use Rattle.linker_section.proofs.CodeNumbers.{says}
-use Rattle.linker_section.specs.Inner.Codes.{SaysNeeds}
-use Rattle.linker_elf.specs.declared.elf.RelocationKindInfo.{RelocationKindInfo}
+use Rattle.linker_section.proofs.RowFacts.{says}
 use Rattle.linker_section.specs.Conditions.{IsInReach}
 use Rattle.linker_section.specs.Sections.{HasValue, IsValueless}
-use Rattle.linker_section.specs.Values.{names_label, IsValue, IsValueBy, IsValueIn}
+use Rattle.linker_section.specs.Values.{IsValue, IsValueIn}
 use Rattle.linker_utils.specs.Architectures.{IsRow}
 use Rattle.linker_section.proofs.sections.row_value.Goals as goal
 
 pub value_of-requires : goal.value_of-requires
 value_of-requires c =
     let a = c.args in
-    subst (SaysNeeds c.number_of.result) (sym c.info-info.ensures.row)
-    (says a.architecture a.relocation.now.code c.number_of.result c.in-Some.row c.number_of.ensures
-    (subst (IsRow a.architecture a.relocation.now.code) c.in-Some.is c.row.ensures))
+    says a.architecture a.relocation.now.code c.in-Some.row
+    (subst (IsRow a.architecture a.relocation.now.code) c.in-Some.is c.row.ensures)
 
 pub returns-in_default : goal.returns-in_default
 returns-in_default c =
@@ -28,7 +25,7 @@ returns-then-lacks_stub c =
     let value : IsValue a.architecture a.addresses.now a.relocations.now a.symbols.now a.relocation.now c.value_of.result = (
       Some c.in-Some.row,
       subst (IsRow a.architecture a.relocation.now.code) c.in-Some.is c.row.ensures,
-      subst (λ (info : RelocationKindInfo). IsValueBy (names_label info.size info.kind) a.architecture a.addresses.now a.relocations.now a.symbols.now info a.relocation.now c.value_of.result) c.info-info.ensures.row c.value_of.ensures,
+      c.value_of.ensures,
     ) in
     IsValueless.no_stub
     (subst (IsValue a.architecture a.addresses.now a.relocations.now a.symbols.now a.relocation.now) (c.in-Ok-Some.is ∙ ap Ok c.in-Ok-Some.field-0-is) value)
@@ -40,7 +37,7 @@ returns-then-not-is_in_reach c =
     let value : IsValue a.architecture a.addresses.now a.relocations.now a.symbols.now a.relocation.now c.value_of.result = (
       Some c.in-Some.row,
       subst (IsRow a.architecture a.relocation.now.code) c.in-Some.is c.row.ensures,
-      subst (λ (info : RelocationKindInfo). IsValueBy (names_label info.size info.kind) a.architecture a.addresses.now a.relocations.now a.symbols.now info a.relocation.now c.value_of.result) c.info-info.ensures.row c.value_of.ensures,
+      c.value_of.ensures,
     ) in
     let fits : FitsSigned w64 c.in-Ok-Some.value = search rules in
     IsValueless.beyond
@@ -53,7 +50,7 @@ returns-else-is_filled c =
     let value : IsValue a.architecture a.addresses.now a.relocations.now a.symbols.now a.relocation.now c.value_of.result = (
       Some c.in-Some.row,
       subst (IsRow a.architecture a.relocation.now.code) c.in-Some.is c.row.ensures,
-      subst (λ (info : RelocationKindInfo). IsValueBy (names_label info.size info.kind) a.architecture a.addresses.now a.relocations.now a.symbols.now info a.relocation.now c.value_of.result) c.info-info.ensures.row c.value_of.ensures,
+      c.value_of.ensures,
     ) in
     IsValueless.not_filled
     (subst (IsValue a.architecture a.addresses.now a.relocations.now a.symbols.now a.relocation.now) (c.in-Ok-None.is ∙ ap Ok c.in-Ok-None.field-0-is) value)
@@ -65,7 +62,7 @@ returns-in-Err c =
     let value : IsValue a.architecture a.addresses.now a.relocations.now a.symbols.now a.relocation.now c.value_of.result = (
       Some c.in-Some.row,
       subst (IsRow a.architecture a.relocation.now.code) c.in-Some.is c.row.ensures,
-      subst (λ (info : RelocationKindInfo). IsValueBy (names_label info.size info.kind) a.architecture a.addresses.now a.relocations.now a.symbols.now info a.relocation.now c.value_of.result) c.info-info.ensures.row c.value_of.ensures,
+      c.value_of.ensures,
     ) in
     IsValueless.no_value
     (subst (IsValue a.architecture a.addresses.now a.relocations.now a.symbols.now a.relocation.now) c.in-Err.is value)
@@ -77,7 +74,7 @@ returns-else-not-is_in_reach c =
     let v = c.in-Ok-Some.value in
     let fits : FitsSigned w64 v = search rules in
     let value : IsValueIn a.architecture a.addresses.now a.relocations.now a.symbols.now a.relocation.now (Some row) c.value_of.result =
-    subst (λ (info : RelocationKindInfo). IsValueBy (names_label info.size info.kind) a.architecture a.addresses.now a.relocations.now a.symbols.now info a.relocation.now c.value_of.result) c.info-info.ensures.row c.value_of.ensures in
+    c.value_of.ensures in
     subst (HasValue a.architecture a.addresses.now a.relocations.now a.symbols.now a.relocation.now row) (sym (to_z-of_z w64 v fits))
     (record {
       is_row = subst (IsRow a.architecture a.relocation.now.code) c.in-Some.is c.row.ensures;

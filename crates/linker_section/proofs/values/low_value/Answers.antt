@@ -1,11 +1,11 @@
 use Rattle.std.proofs.Common.{subst, Some}
 use Rattle.std.specs.Prelude.{IfSome}
-use Rattle.linker_section.proofs.CodeNumbers.{says}
+use Rattle.linker_section.proofs.RowFacts.{says}
 use Rattle.linker_utils.specs.Architectures.{IsRow}
 use Rattle.linker_section.proofs.values.low_value.Goals as goal
 
 pub operands_of-requires : goal.operands_of-requires
 operands_of-requires c =
     let a = c.args in
-    says a.architecture c.in-Some.relocation.code c.number_of-number.result c.in-Some.high c.number_of-number.ensures
+    says a.architecture c.in-Some.relocation.code c.in-Some.high
     (subst (λ x. IfSome x (λ found. IsRow a.architecture (found.0).code (Some (found.1)))) c.in-Some.is c.requires)

@@ -1,0 +1,243 @@
+-- The value of a row by the bits that count of its formula's terms.
+use Rattle.std.proofs.Common.{◌≡◌, ℕ, ℤ, ◌+◌, ◌-◌, ◌%◌, ◌^◌, ◌<◌, ◌⊎◌, inl, inr, Bool, true, false, true≢false, not, ◌&&◌, ◌||◌, if◌then◌else◌, eqb, bit_and, Option, Some, None, Result, Ok, Err, refl, sym, ap, subst, ◌∙◌, arith}
+use Rattle.std.proofs.lemmas.Bool.{cases_Bool, cond-true, cond-false}
+use Rattle.std.proofs.lemmas.Nat.{and_mask}
+use Rattle.std.proofs.lemmas.Nat.Bits.{and_high_mask}
+use Rattle.std.specs.Int.{w64, cast_signed, cast_unsigned}
+use Rattle.std.specs.Int.Bits.{and_zero_r}
+use Rattle.linker_elf.specs.Inner.RowTables.{bits_of, adds_to_entry, is_set, terms_of, symbol_of, entry_of_terms, signed_in}
+use Rattle.linker_elf.specs.LoongArch.{page}
+use Rattle.linker_elf.specs.Value.{sum_64, difference_64, page_if, masks_symbol, masks_entry, masks_place, masks_got, bias_number, entry_addend, symbol_term, entry_term, place_term, got_term, relative_term, formula, read_signed, names_got_entry, names_plt_entry, is_offset, loads_plt_word, completed, or_no_value, value_given, value_of, lacks, lacks_entry, lacks_tls_base}
+use Rattle.linker_elf.specs.declared.elf.RelocationInstruction.TheVariants.{RiscV, Ppc64, LoongArch64, AArch64}
+use Rattle.linker_elf.specs.declared.elf.RelocationKind.{RelocationKind}
+use Rattle.linker_elf.specs.declared.elf.RelocationKind.TheVariants.{Relative}
+use Rattle.linker_elf.specs.declared.elf.RelocationKindInfo.{RelocationKindInfo}
+use Rattle.linker_elf.specs.declared.elf.RelocationSize.{RelocationSize}
+use Rattle.linker_elf.specs.declared.elf.RelocationSize.TheVariants.{ByteSize, BitMasking}
+use Rattle.linker_elf.specs.declared.elf.value.FormulaError.{FormulaError}
+use Rattle.linker_elf.specs.declared.elf.value.FormulaError.TheVariants.{NoEntry, NoTlsBase, NoValue}
+use Rattle.linker_elf.specs.declared.elf.value.Operands.{Operands}
+use Rattle.linker_elf.specs.declared.elf.value.Terms.{Terms}
+
+-- ---- terms
+
+all_bits : (x : ℕ) → x < 2 ^ 64 → bit_and x (2 ^ 64 - 1) ≡ x
+all_bits x small = and_mask x 64 ∙ omega (arith, small)
+
+page_bits : (x : ℕ) → x < 2 ^ 64 → bit_and x (2 ^ 64 - 2 ^ 12) ≡ page x
+page_bits x small = and_high_mask 64 12 (omega arith) x small ∙ omega (arith, small)
+
+-- all bits of an address, or those of its page
+pub masked : (is : Bool) (x : ℕ) → x < 2 ^ 64 → bit_and x (bits_of is) ≡ page_if is x
+masked true x small = page_bits x small
+masked false x small = all_bits x small
+
+pub symbol_is : (row : RelocationKindInfo) (o : Operands) → symbol_of (terms_of row) o ≡ symbol_term row o
+symbol_is row o =
+    masked (masks_symbol row.mask) (sum_64 (sum_64 o.symbol (cast_unsigned w64 o.addend)) (bias_number row.bias)) (omega arith)
+
+whole : (base a : ℕ) → sum_64 base (bit_and a (2 ^ 64 - 1)) ≡ sum_64 base a
+whole base a = ap (sum_64 base) (and_mask a 64) ∙ omega arith
+
+added : (size : RelocationSize) (base : ℕ) (addend : ℤ)
+    → sum_64 base (bit_and (cast_unsigned w64 addend) (if adds_to_entry size then 2 ^ 64 - 1 else 0))
+    ≡ sum_64 base (entry_addend size addend)
+added (ByteSize n) base addend = whole base (cast_unsigned w64 addend)
+added (BitMasking bits (AArch64 insn)) base addend = ap (sum_64 base) (and_zero_r (cast_unsigned w64 addend))
+added (BitMasking bits (RiscV insn)) base addend = whole base (cast_unsigned w64 addend)
+added (BitMasking bits (Ppc64 insn)) base addend = ap (sum_64 base) (and_zero_r (cast_unsigned w64 addend))
+added (BitMasking bits (LoongArch64 insn)) base addend = whole base (cast_unsigned w64 addend)
+
+entry_is : (row : RelocationKindInfo) (o : Operands)
+    → bit_and (sum_64 (sum_64 o.got_entry (bit_and (cast_unsigned w64 o.addend) (terms_of row).entry_addend)) (bias_number row.bias)) (terms_of row).entry
+    ≡ entry_term row o
+entry_is row o =
+    ap (λ n. bit_and (sum_64 n (bias_number row.bias)) (terms_of row).entry) (added row.size o.got_entry o.addend)
+    ∙ masked (masks_entry row.mask) (sum_64 (sum_64 o.got_entry (entry_addend row.size o.addend)) (bias_number row.bias)) (omega arith)
+
+pub got_is : (row : RelocationKindInfo) (o : Operands) → o.got_base < 2 ^ 64
+    → bit_and o.got_base (terms_of row).got ≡ got_term row o
+got_is row o small = masked (masks_got row.mask) o.got_base small
+
+placed : (row : RelocationKindInfo) (o : Operands) (set : Bool) → set ≡ false → o.place < 2 ^ 64
+    → bit_and o.place (if set then 0 else bits_of (masks_place row.mask)) ≡ place_term row o
+placed row o set unset small =
+    ap (bit_and o.place) (cond-false set 0 (bits_of (masks_place row.mask)) unset)
+    ∙ masked (masks_place row.mask) o.place small
+
+pub place_is : (row : RelocationKindInfo) (o : Operands) → is_set row.kind row.size ≡ false → o.place < 2 ^ 64
+    → bit_and o.place (terms_of row).place ≡ place_term row o
+place_is row o unset small = placed row o (is_set row.kind row.size) unset small
+
+-- S + A of the first of a pair at a ULEB128 number, and else S + A - P
+relative_by : (row : RelocationKindInfo) (o : Operands) (size : RelocationSize) → o.place < 2 ^ 64
+    → symbol_term row o < 2 ^ 64
+    → difference_64 (symbol_term row o) (bit_and o.place (if is_set Relative size then 0 else bits_of (masks_place row.mask)))
+    ≡ relative_term size row o
+relative_by row o (ByteSize n) small short =
+    let s = symbol_term row o in
+    elim (cases_Bool (eqb n 0)) [
+      | inl none ↦
+          ap (λ b. difference_64 s (bit_and o.place b)) (cond-true (eqb n 0) 0 (bits_of (masks_place row.mask)) none)
+          ∙ (ap (difference_64 s) (and_zero_r o.place)
+          ∙ (omega (arith, short) ∙ sym (cond-true (eqb n 0) s (difference_64 s (place_term row o)) none)))
+      | inr some ↦
+          ap (difference_64 s) (placed row o (eqb n 0) some small)
+          ∙ sym (cond-false (eqb n 0) s (difference_64 s (place_term row o)) some)
+    ]
+relative_by row o (BitMasking bits insn) small short = ap (difference_64 (symbol_term row o)) (placed row o false refl small)
+
+pub relative_is : (row : RelocationKindInfo) (o : Operands) → row.kind ≡ Relative → o.place < 2 ^ 64
+    → symbol_term row o < 2 ^ 64
+    → difference_64 (symbol_term row o) (bit_and o.place (terms_of row).place) ≡ relative_term row.size row o
+relative_is row o is small short =
+    ap (λ k. difference_64 (symbol_term row o) (bit_and o.place (if is_set k row.size then 0 else bits_of (masks_place row.mask)))) is
+    ∙ relative_by row o row.size small short
+
+-- ---- kinds
+
+-- the formula of a kind has a term, all bits of P, and no L and no origin of offsets
+pub record HasTerm (term : RelocationKindInfo → Operands → ℕ) (got : Bool) (kind : RelocationKind) : Type 0 where
+  pub formula_is : (row : RelocationKindInfo) (o : Operands) → formula kind row (completed o) ≡ Some (term row o)
+  pub got_is : names_got_entry kind ≡ got
+  pub no_plt : names_plt_entry kind ≡ false
+  pub no_offset : is_offset kind ≡ false
+  pub unset : (size : RelocationSize) → is_set kind size ≡ false
+
+no_word : (size : RelocationSize) (kind : RelocationKind) → names_plt_entry kind ≡ false → loads_plt_word size kind ≡ false
+no_word (BitMasking bits (Ppc64 insn)) kind none = none
+no_word size kind none = refl
+
+lacks_none : (row : RelocationKindInfo) (o : Operands) (n : ℕ) (got : Bool) → names_got_entry row.kind ≡ got
+    → (got && not o.has_got_entry) ≡ false → names_plt_entry row.kind ≡ false → is_offset row.kind ≡ false
+    → formula row.kind row (completed o) ≡ Some n → value_given row o ≡ Ok (cast_signed w64 n)
+lacks_none row o n got is there no_plt no_offset found =
+    let entry = ap (λ b. (b && not o.has_got_entry) || (loads_plt_word row.size row.kind && not o.has_plt_entry)) is
+    ∙ (ap (λ b. b || (loads_plt_word row.size row.kind && not o.has_plt_entry)) there
+    ∙ ap (λ b. b && not o.has_plt_entry) (no_word row.size row.kind no_plt)) in
+    cond-false _ (Err NoEntry) _ entry
+    ∙ (cond-false _ (Err NoTlsBase) _ (ap (λ b. b && not o.has_tls_base) no_offset)
+    ∙ ap (λ x. or_no_value (read_signed x)) found)
+
+-- the kind whose formula depends on the size
+pub relative_value : (row : RelocationKindInfo) (o : Operands) → row.kind ≡ Relative
+    → value_given row o ≡ Ok (cast_signed w64 (relative_term row.size row o))
+relative_value row o is =
+    lacks_none row o (relative_term row.size row o) false (ap names_got_entry is) refl (ap names_plt_entry is)
+    (ap is_offset is) (ap (λ k. formula k row (completed o)) is ∙ ap Some (same row.size))
+  where
+    same : (size : RelocationSize) → relative_term size row (completed o) ≡ relative_term size row o
+    same (ByteSize n) = refl
+    same (BitMasking bits insn) = refl
+
+-- a kind without an entry
+pub plain_value : (row : RelocationKindInfo) (o : Operands) (term : RelocationKindInfo → Operands → ℕ)
+    → HasTerm term false row.kind → value_given row o ≡ Ok (cast_signed w64 (term row o))
+plain_value row o term has = lacks_none row o (term row o) false has.got_is refl has.no_plt has.no_offset (has.formula_is row o)
+
+-- a kind with one that is there
+pub entry_value : (row : RelocationKindInfo) (o : Operands) (term : RelocationKindInfo → Operands → ℕ)
+    → HasTerm term true row.kind → o.has_got_entry ≡ true → value_given row o ≡ Ok (cast_signed w64 (term row o))
+entry_value row o term has there =
+    lacks_none row o (term row o) true has.got_is (ap not there) has.no_plt has.no_offset (has.formula_is row o)
+
+pub no_entry_value : (row : RelocationKindInfo) (o : Operands) (term : RelocationKindInfo → Operands → ℕ)
+    → HasTerm term true row.kind → o.has_got_entry ≡ false → value_given row o ≡ Err NoEntry
+no_entry_value row o term has none =
+    cond-true _ (Err NoEntry) _
+    (ap (λ b. (b && not o.has_got_entry) || (loads_plt_word row.size row.kind && not o.has_plt_entry)) has.got_is
+    ∙ ap (λ b. not b || (loads_plt_word row.size row.kind && not o.has_plt_entry)) none)
+
+-- ---- one of several kinds
+
+pub one_of : {Rest : Type 0} (P : RelocationKind → Type 0) (kind is : RelocationKind) → P is → (Rest → P kind)
+    → (kind ≡ is) ⊎ Rest → P kind
+one_of P kind is holds rest (inl same) = subst P (sym same) holds
+one_of P kind is holds rest (inr others) = rest others
+
+-- ---- an entry that was found
+
+ok_or : ℕ → Result ℕ FormulaError → ℕ
+ok_or other (Ok n) = n
+ok_or other (Err error) = other
+
+abbrev IsFine : Result ℕ FormulaError → Type 0
+IsFine (Ok n) = Unit
+IsFine (Err error) = ⊥
+
+pub found : (row : RelocationKindInfo) (o : Operands) (terms : Terms) (e : ℕ) → terms ≡ terms_of row
+    → entry_of_terms terms o ≡ Ok e
+    → (o.has_got_entry ≡ true) × (e ≡ entry_term row o)
+unfolding ok_or
+found row o terms e is given =
+    let ours : entry_of_terms (terms_of row) o ≡ Ok e = sym (ap (λ t. entry_of_terms t o) is) ∙ given in
+    elim (cases_Bool o.has_got_entry) [
+      | inl there ↦ (there, ap (ok_or 0) (sym ours ∙ cond-true o.has_got_entry _ (Err NoEntry) there) ∙ entry_is row o)
+      | inr none ↦ absurd (subst (λ x. IsFine x) (sym ours ∙ cond-false o.has_got_entry _ (Err NoEntry) none) tt)
+    ]
+
+-- the entry, or that there is none
+pub entry_given : (row : RelocationKindInfo) (o : Operands) → HasTerm entry_term true row.kind
+    → value_given row o ≡ signed_in (entry_of_terms (terms_of row) o)
+entry_given row o has =
+    elim (cases_Bool o.has_got_entry) [
+      | inl there ↦
+          entry_value row o entry_term has there
+          ∙ sym (ap signed_in (cond-true o.has_got_entry _ (Err NoEntry) there ∙ ap Ok (entry_is row o)))
+      | inr none ↦
+          no_entry_value row o entry_term has none
+          ∙ sym (ap signed_in (cond-false o.has_got_entry _ (Err NoEntry) none))
+    ]
+
+-- ---- a value that is given
+
+abbrev IsNoOk : Result ℤ FormulaError → Type 0
+IsNoOk (Ok n) = ⊥
+IsNoOk (Err error) = Unit
+
+no_ok : (error : FormulaError) (v : ℤ) → Err error ≡ Ok v → ⊥
+no_ok error v is = subst (λ x. IsNoOk x) is tt
+
+value_or : ℤ → Result ℤ FormulaError → ℤ
+value_or other (Ok v) = v
+value_or other (Err error) = other
+
+of_value : (x : Option ℤ) (v : ℤ) → or_no_value x ≡ Ok v → x ≡ Some v
+unfolding value_or
+of_value None v is = absurd (no_ok NoValue v is)
+of_value (Some w) v is = ap (λ r. Some (value_or w r)) is
+
+-- what the formula has is there, and it has that value
+pub given : (row : RelocationKindInfo) (o : Operands) (v : ℤ) → value_given row o ≡ Ok v
+    → (lacks row o ≡ false) × (value_of row (completed o) ≡ Some v)
+given row o v is =
+    elim (cases_Bool (lacks_entry row o)) [
+      | inl entry ↦ absurd (no_ok NoEntry v (sym (cond-true (lacks_entry row o) (Err NoEntry) _ entry) ∙ is))
+      | inr there ↦ elim (cases_Bool (lacks_tls_base row o)) [
+        | inl base ↦
+            absurd (no_ok NoTlsBase v (sym (cond-false (lacks_entry row o) (Err NoEntry) _ there
+            ∙ cond-true (lacks_tls_base row o) (Err NoTlsBase) _ base) ∙ is))
+        | inr also ↦ (
+            ap (λ b. b || lacks_tls_base row o) there ∙ also,
+            of_value (value_of row (completed o)) v (sym (cond-false (lacks_entry row o) (Err NoEntry) _ there
+            ∙ cond-false (lacks_tls_base row o) (Err NoTlsBase) _ also) ∙ is),
+          )
+      ]
+    ]
+
+no_value : (x : Option ℤ) (error : FormulaError) → or_no_value x ≡ Err error → x ≡ None
+no_value None error is = refl
+no_value (Some v) error is = absurd (no_ok error v (sym is))
+
+-- without one it has none of what there is
+pub not_given : (row : RelocationKindInfo) (o : Operands) (error : FormulaError) → value_given row o ≡ Err error
+    → lacks row o ≡ false → value_of row (completed o) ≡ None
+not_given row o error is lacks_none =
+    let parts = or_parts (lacks_entry row o) (lacks_tls_base row o) lacks_none in
+    no_value (value_of row (completed o)) error
+    (sym (cond-false (lacks_entry row o) (Err NoEntry) _ (parts.0)
+    ∙ cond-false (lacks_tls_base row o) (Err NoTlsBase) _ (parts.1)) ∙ is)
+  where
+    or_parts : (a b : Bool) → (a || b) ≡ false → (a ≡ false) × (b ≡ false)
+    or_parts true b is = absurd (true≢false is)
+    or_parts false b is = (refl, is)

@@ -1,0 +1,180 @@
+-- The facts of each row say what it requires, and what its way requires of it: by computation, name by
+-- name.
+use Rattle.std.proofs.Common.{◌≡◌, ℕ, ℤ, refl, sym, subst, true, false, true≢false, Option, Some, None}
+use Rattle.linker_elf.specs.AArch64Relocations.{aarch64_name, aarch64_row}
+use Rattle.linker_elf.specs.ElfNames.{ElfName}
+use Rattle.linker_elf.specs.Facts.{facts_of}
+use Rattle.linker_elf.specs.LoongArchRelocations.{loongarch_name, loongarch_row}
+use Rattle.linker_elf.specs.Ppc64Relocations.{ppc64_name, ppc64_row}
+use Rattle.linker_elf.specs.RiscVRelocations.{riscv_name, riscv_relocation}
+use Rattle.linker_elf.specs.X86Relocations.{x86_64_name, x86_64_row}
+use Rattle.linker_elf.specs.declared.aarch64.relocations.AArch64Relocation.{AArch64Relocation}
+use Rattle.linker_elf.specs.declared.aarch64.relocations.AArch64Relocation.TheVariants as aarch64
+use Rattle.linker_elf.specs.declared.elf.RelocationKindInfo.{RelocationKindInfo}
+use Rattle.linker_elf.specs.declared.loongarch64.relocations.LoongArch64Relocation.{LoongArch64Relocation}
+use Rattle.linker_elf.specs.declared.loongarch64.relocations.LoongArch64Relocation.TheVariants as loongarch64
+use Rattle.linker_elf.specs.declared.ppc64.relocations.Ppc64Relocation.{Ppc64Relocation}
+use Rattle.linker_elf.specs.declared.ppc64.relocations.Ppc64Relocation.TheVariants as ppc64
+use Rattle.linker_elf.specs.declared.riscv64.relocations.RiscVRelocation.{RiscVRelocation}
+use Rattle.linker_elf.specs.declared.riscv64.relocations.RiscVRelocation.TheVariants as riscv64
+use Rattle.linker_elf.specs.declared.x86_64.relocations.X86_64Relocation.{X86_64Relocation}
+use Rattle.linker_elf.specs.declared.x86_64.relocations.X86_64Relocation.TheVariants as x86_64
+use Rattle.linker_section.specs.Inner.Facts.{requirements_by, SaysNeeds, SaysWay}
+use Rattle.linker_section.specs.Needed.{needs_of}
+use Rattle.linker_utils.specs.Architectures.{IsOf, IsRow}
+use Rattle.linker_utils.specs.declared.elf.Architecture.{Architecture}
+use Rattle.linker_utils.specs.declared.elf.Architecture.TheVariants.{AArch64, RiscV, LoongArch64}
+use Rattle.linker_utils.specs.declared.elf.Architecture.TheVariants.{Ppc64, X86_64}
+
+-- ---- names
+
+-- the facts of a row say what it requires, and its way
+abbrev IsSaid : Architecture → Option RelocationKindInfo → Type 0
+IsSaid architecture None = Unit
+IsSaid architecture (Some row) =
+    ((addend : ℤ) → requirements_by (facts_of row) addend true ≡ needs_of row addend true)
+    × ((addend : ℤ) → requirements_by (facts_of row) addend false ≡ needs_of row addend false)
+    × SaysWay architecture row
+
+aarch64_said : (name : AArch64Relocation) → IsSaid AArch64 (aarch64_row name)
+aarch64_said (aarch64.Other code) = tt
+aarch64_said name = (
+  (λ addend. refl),
+  (λ addend. refl),
+  record {
+    has_value = refl;
+    single = refl;
+    some = refl;
+    shown = λ none there. refl;
+    unthreaded = refl;
+    unlabelled = refl;
+    loads_none = refl;
+    branch = refl;
+    origin = λ addresses. refl;
+    high = refl;
+    high_value = λ o. refl;
+    labelled = refl;
+    low_value = λ o. refl;
+  },
+)
+
+riscv64_said : (name : RiscVRelocation) → IsSaid RiscV ((riscv_relocation name).row)
+riscv64_said (riscv64.Other code) = tt
+riscv64_said name = (
+  (λ addend. refl),
+  (λ addend. refl),
+  record {
+    has_value = refl;
+    single = refl;
+    some = refl;
+    shown = λ none there. absurd (true≢false none);
+    unthreaded = refl;
+    unlabelled = refl;
+    loads_none = refl;
+    branch = refl;
+    origin = λ addresses. refl;
+    high = refl;
+    high_value = λ o. refl;
+    labelled = refl;
+    low_value = λ o. refl;
+  },
+)
+
+loongarch64_said : (name : LoongArch64Relocation) → IsSaid LoongArch64 (loongarch_row name)
+loongarch64_said (loongarch64.Other code) = tt
+loongarch64_said name = (
+  (λ addend. refl),
+  (λ addend. refl),
+  record {
+    has_value = refl;
+    single = refl;
+    some = refl;
+    shown = λ none there. refl;
+    unthreaded = refl;
+    unlabelled = refl;
+    loads_none = refl;
+    branch = refl;
+    origin = λ addresses. refl;
+    high = refl;
+    high_value = λ o. refl;
+    labelled = refl;
+    low_value = λ o. refl;
+  },
+)
+
+ppc64_said : (name : Ppc64Relocation) → IsSaid Ppc64 (ppc64_row name)
+ppc64_said (ppc64.Other code) = tt
+ppc64_said name = (
+  (λ addend. refl),
+  (λ addend. refl),
+  record {
+    has_value = refl;
+    single = refl;
+    some = refl;
+    shown = λ none there. absurd (true≢false none);
+    unthreaded = refl;
+    unlabelled = refl;
+    loads_none = refl;
+    branch = refl;
+    origin = λ addresses. refl;
+    high = refl;
+    high_value = λ o. refl;
+    labelled = refl;
+    low_value = λ o. refl;
+  },
+)
+
+x86_64_said : (name : X86_64Relocation) → IsSaid X86_64 (x86_64_row name)
+x86_64_said (x86_64.Other code) = tt
+x86_64_said name = (
+  (λ addend. refl),
+  (λ addend. refl),
+  record {
+    has_value = refl;
+    single = refl;
+    some = refl;
+    shown = λ none there. refl;
+    unthreaded = refl;
+    unlabelled = refl;
+    loads_none = refl;
+    branch = refl;
+    origin = λ addresses. refl;
+    high = refl;
+    high_value = λ o. refl;
+    labelled = refl;
+    low_value = λ o. refl;
+  },
+)
+
+-- ---- rows
+
+by_names : {Name : Type 0} (architecture : Architecture) (elf : Name → ElfName)
+    (row_of : Name → Option RelocationKindInfo) → ((name : Name) → IsSaid architecture (row_of name))
+    → (code : ℕ) (row : RelocationKindInfo) → IsOf elf row_of code (Some row)
+    → IsSaid architecture (Some row)
+by_names architecture elf row_of said code row of =
+    subst (IsSaid architecture) (sym of.value_is) (said of.name)
+
+said : (architecture : Architecture) (code : ℕ) (row : RelocationKindInfo)
+    → IsRow architecture code (Some row) → IsSaid architecture (Some row)
+said AArch64 = by_names AArch64 aarch64_name aarch64_row aarch64_said
+said RiscV = by_names RiscV riscv_name (λ name. (riscv_relocation name).row) riscv64_said
+said LoongArch64 = by_names LoongArch64 loongarch_name loongarch_row loongarch64_said
+said Ppc64 = by_names Ppc64 ppc64_name ppc64_row ppc64_said
+said X86_64 = by_names X86_64 x86_64_name x86_64_row x86_64_said
+
+by_tls : (row : RelocationKindInfo)
+    → ((addend : ℤ) → requirements_by (facts_of row) addend true ≡ needs_of row addend true)
+    → ((addend : ℤ) → requirements_by (facts_of row) addend false ≡ needs_of row addend false)
+    → SaysNeeds row
+by_tls row is isnt addend true = is addend
+by_tls row is isnt addend false = isnt addend
+
+pub says : (architecture : Architecture) (code : ℕ) (row : RelocationKindInfo)
+    → IsRow architecture code (Some row) → SaysNeeds row
+says architecture code row is_row =
+    let is = said architecture code row is_row in by_tls row is.0 is.1
+
+pub says_way : (architecture : Architecture) (code : ℕ) (row : RelocationKindInfo)
+    → IsRow architecture code (Some row) → SaysWay architecture row
+says_way architecture code row is_row = (said architecture code row is_row).2
