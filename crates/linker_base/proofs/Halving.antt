@@ -1,33 +1,63 @@
 -- Steps of a search: what one test says of all other elements, and how many probes they take.
-use Rattle.std.proofs.Common.{pow_mono, ◌≡◌, ℕ, ◌+◌, ◌*◌, ◌<◌, ◌≤◌, false, sym, ◌∙◌, arith, ◌^◌}
-use Rattle.std.proofs.lemmas.Bool.{false_from_ne_true, false≢true}
+use Rattle.std.proofs.Common.{pow_mono, ◌≡◌, ℕ, suc, ◌+◌, ◌-◌, ◌*◌, ◌<◌, ◌≤◌, true, false, sym, ◌∙◌, inl, inr, arith, ◌^◌}
+use Rattle.std.proofs.lemmas.Nat.{pow-add}
+use Rattle.std.proofs.Math.Nat.{mul-le-mul_right, pow-succ'}
+use Rattle.std.proofs.lemmas.Bool.{cases_lt, false_from_ne_true, false≢true}
 use Rattle.linker_base.specs.declared.relaxation.search.Level.{Level}
 use Rattle.linker_base.specs.declared.relaxation.search.Level.TheVariants.{Heads, Deltas}
 use Rattle.linker_base.specs.declared.relaxation.search.Test.{Test}
 use Rattle.linker_base.specs.Inner.Search.{Subject, size_of, passing, IsPartitioned, IsPointOf, IsNarrowed, HeadsAgree}
 
--- a number of at least 2^exponent has more digits
-pub digits_above : (exponent digits n : ℕ) → 2 ^ exponent ≤ n → n < 2 ^ digits → exponent < digits
-digits_above exponent digits n low high =
-    let most : digits ≤ exponent → 2 ^ digits ≤ 2 ^ exponent = λ le. pow_mono le in
-    grind (arith, most)
+-- halves of so many are one index, before the probes are as many as the limit
+pub record CanHalve (limit probes count : ℕ) : Type 0 where
+  pub left : ℕ
+  pub few : count ≤ 2 ^ left
+  pub spent : probes + left ≤ limit
+
+-- a probe halves what is left
+pub can_halve : (limit probes more count width : ℕ) → CanHalve limit probes count → 1 < count
+    → more ≤ probes + 1 → 2 * width ≤ count + 1 → CanHalve limit more width
+can_halve limit probes more count width can some one half = elim (cases_lt 0 can.left) [
+  | inr none ↦ let zero : can.left ≡ 0 = omega arith in absurd (omega (arith, rw zero at can.few))
+  | inl positive ↦
+      let back : suc (can.left - 1) ≡ can.left = omega arith in
+      let twice : 2 ^ can.left ≡ 2 * 2 ^ (can.left - 1) = rw back at (pow-succ' 2 (can.left - 1)) in
+      record { left = can.left - 1; few = omega (arith, twice, can.few); spent = omega (arith, can.spent) }
+]
 
 -- where each step takes a probe only of more indexes than its width, they are as many as the digits
-pub few_spent : (count a b c d e f g : ℕ) → b ≤ a + 1 → c ≤ b + 1 → d ≤ c + 1 → e ≤ d + 1 → f ≤ e + 1 → g ≤ f + 1
-    → (count ≤ 32 → b ≤ a) → (count ≤ 16 → c ≤ b) → (count ≤ 8 → d ≤ c) → (count ≤ 4 → e ≤ d) → (count ≤ 2 → f ≤ e) → (count ≤ 1 → g ≤ f)
-    → (digits : ℕ) → count ≤ 2 ^ digits → g ≤ a + digits
-few_spent count a b c d e f g i1 i2 i3 i4 i5 i6 n1 n2 n3 n4 n5 n6 digits few =
-    let most : (k : ℕ) → digits ≤ k → 2 ^ digits ≤ 2 ^ k = λ k le. pow_mono le in
-    grind (arith, most 0, most 1, most 2, most 3, most 4, most 5)
+pub few_spent : (count width a b c d e f g : ℕ) → b ≤ a + 1 → c ≤ b + 1 → d ≤ c + 1 → e ≤ d + 1 → f ≤ e + 1 → g ≤ f + 1
+    → (count ≤ 32 * width → b ≤ a) → (count ≤ 16 * width → c ≤ b) → (count ≤ 8 * width → d ≤ c) → (count ≤ 4 * width → e ≤ d) → (count ≤ 2 * width → f ≤ e) → (count ≤ width → g ≤ f)
+    → (digits : ℕ) → count ≤ 2 ^ digits * width → g ≤ a + digits
+few_spent count width a b c d e f g i1 i2 i3 i4 i5 i6 n1 n2 n3 n4 n5 n6 digits few =
+    let most : (k : ℕ) → digits ≤ k → 2 ^ digits * width ≤ 2 ^ k * width = λ k le. mul-le-mul_right width (pow_mono le) in
+    grind (arith, few, most 0, most 1, most 2, most 3, most 4, most 5)
+
+-- the last halves, by 64 and then by 1, take no more probes than the limit
+pub halved_spent : (limit probes more most count : ℕ) → CanHalve limit probes count
+    → ((digits : ℕ) → count ≤ 2 ^ digits * 64 → more ≤ probes + digits)
+    → ((digits : ℕ) → count ≤ 2 ^ digits * 1 → most ≤ more + digits) → most ≤ more + 6 → most ≤ limit
+halved_spent limit probes more most count can first last six = elim (cases_lt 64 count) [
+  | inr short ↦ omega (arith, can.spent, first 0 (omega arith), last can.left (omega (arith, can.few)))
+  | inl long ↦
+      let least : can.left ≤ 5 → 2 ^ can.left ≤ 2 ^ 5 = λ le. pow_mono le in
+      let above : 6 ≤ can.left = grind (arith, least, can.few) in
+      let back : can.left - 6 + 6 ≡ can.left = omega arith in
+      let split : 2 ^ can.left ≡ 2 ^ (can.left - 6) * 2 ^ 6 = rw back at (pow-add 2 (can.left - 6) 6) in
+      omega (arith, can.spent, first (can.left - 6) (omega (arith, split, can.few)), six)
+]
 
 module _ (s : Subject) (level : Level) (test : Test) where
   -- one index is left
   pub narrowed_point : (first : ℕ) → IsNarrowed s level test first 1 → IsPointOf s level test first
   narrowed_point first known = record { before = known.before; after = λ k low high. known.after k (omega arith) high }
 
-  -- before the first probe all indexes are left
-  pub narrowed_all : (len : ℕ) → len ≡ size_of s level → IsNarrowed s level test 0 (len + 1)
-  narrowed_all len is = record { before = λ k low. absurd (omega arith); after = λ k low high. absurd (omega arith) }
+  -- where the first passes, any may be the last that does
+  pub narrowed_all : (len : ℕ) → len ≡ size_of s level → passing s level test 0 ≡ true → IsNarrowed s level test 1 len
+  narrowed_all len is passes = record {
+    before = λ k low. let none : k ≡ 0 = omega arith in rw none passes;
+    after = λ k low high. absurd (omega arith);
+  }
 
 -- ---- heads and the deltas of their blocks
 
@@ -44,11 +74,11 @@ module _ (s : Subject) (test : Test) where
       false≢true (sym (point.after h (omega arith) inside) ∙ agree h inside ∙ parted (64 * h) k from high passes))
 
   -- the last head that passes is the first delta of the block in which those that pass end
-  pub block_narrowed : IsPartitioned s Deltas test → HeadsAgree s test → (h b count : ℕ)
-      → b + 1 ≡ h → h ≤ size_of s Heads → IsPointOf s Heads test h
-      → (64 * b + count < size_of s Deltas → 64 ≤ count)
-      → IsNarrowed s Deltas test (64 * b + 1) count
-  block_narrowed parted agree h b count next bound point whole = record {
-    before = λ k low. parted k (64 * b) (omega arith) (omega arith) (sym (agree b (omega arith)) ∙ point.before b (omega arith));
-    after = λ k low high. let full : 64 ≤ count = whole (omega arith) in fails_after parted agree h point k (omega arith) high;
+  pub block_narrowed : IsPartitioned s Deltas test → HeadsAgree s test → (b first count : ℕ)
+      → b < size_of s Heads → IsPointOf s Heads test (b + 1) → first ≤ 64 * b
+      → (first + count < size_of s Deltas → 64 * b + 64 ≤ first + count)
+      → IsNarrowed s Deltas test (first + 1) count
+  block_narrowed parted agree b first count bound point from whole = record {
+    before = λ k low. parted k (64 * b) (omega arith) (omega arith) (sym (agree b bound) ∙ point.before b (omega arith));
+    after = λ k low high. let full : 64 * b + 64 ≤ first + count = whole (omega arith) in fails_after parted agree (b + 1) point k (omega arith) high;
   }
