@@ -47,38 +47,31 @@ halved_spent limit probes more most count can first last six = elim (cases_lt 64
       omega (arith, can.spent, first (can.left - 6) (omega (arith, split, can.few)), six)
 ]
 
-module _ (s : Subject) (level : Level) (test : Test) where
-  -- one index is left
-  pub narrowed_point : (first : ℕ) → IsNarrowed s level test first 1 → IsPointOf s level test first
-  narrowed_point first known = record { before = known.before; after = λ k low high. known.after k (omega arith) high }
-
-  -- where the first passes, any may be the last that does
-  pub narrowed_all : (len : ℕ) → len ≡ size_of s level → passing s level test 0 ≡ true → IsNarrowed s level test 1 len
-  narrowed_all len is passes = record {
-    before = λ k low. let none : k ≡ 0 = omega arith in rw none passes;
-    after = λ k low high. absurd (omega arith);
-  }
+-- where the first passes, any may be the last that does
+pub narrowed_all : (s : Subject) (level : Level) (test : Test) (len : ℕ) → IsPartitioned s level test
+    → len ≡ size_of s level → passing s level test 0 ≡ true → IsNarrowed s level test 1 len
+narrowed_all s level test len parted is passes = record {
+  parted = parted;
+  before = λ k low. let none : k ≡ 0 = omega arith in rw none passes;
+  after = λ k low high. absurd (omega arith);
+}
 
 -- ---- heads and the deltas of their blocks
 
-module _ (s : Subject) (test : Test) where
-  pub heads_partitioned : IsPartitioned s Deltas test → HeadsAgree s test
-      → IsPartitioned s Heads test
-  heads_partitioned parted agree i j le low passes =
+module _ (s : Subject) (test : Test) (parted : IsPartitioned s Deltas test) (agree : HeadsAgree s test) where
+  pub heads_partitioned : IsPartitioned s Heads test
+  heads_partitioned i j le low passes =
       agree i (omega arith) ∙ parted (64 * i) (64 * j) (omega arith) (omega arith) (sym (agree j low) ∙ passes)
 
-  fails_after : IsPartitioned s Deltas test → HeadsAgree s test → (h : ℕ) → IsPointOf s Heads test h
-      → (k : ℕ) → 64 * h ≤ k → k < size_of s Deltas → passing s Deltas test k ≡ false
-  fails_after parted agree h point k from high = false_from_ne_true (passing s Deltas test k) (λ passes.
-      let inside : h < size_of s Heads = omega arith in
-      false≢true (sym (point.after h (omega arith) inside) ∙ agree h inside ∙ parted (64 * h) k from high passes))
-
   -- the last head that passes is the first delta of the block in which those that pass end
-  pub block_narrowed : IsPartitioned s Deltas test → HeadsAgree s test → (b first count : ℕ)
-      → b < size_of s Heads → IsPointOf s Heads test (b + 1) → first ≤ 64 * b
-      → (first + count < size_of s Deltas → 64 * b + 64 ≤ first + count)
+  pub block_narrowed : (b first count : ℕ) → b < size_of s Heads → IsNarrowed s Heads test (b + 1) 1
+      → first ≤ 64 * b → (first + count < size_of s Deltas → 64 * b + 64 ≤ first + count)
       → IsNarrowed s Deltas test (first + 1) count
-  block_narrowed parted agree b first count bound point from whole = record {
-    before = λ k low. parted k (64 * b) (omega arith) (omega arith) (sym (agree b bound) ∙ point.before b (omega arith));
-    after = λ k low high. let full : 64 * b + 64 ≤ first + count = whole (omega arith) in fails_after parted agree (b + 1) point k (omega arith) high;
+  block_narrowed b first count bound found from whole = record {
+    parted = parted;
+    before = λ k low. parted k (64 * b) (omega arith) (omega arith) (sym (agree b bound) ∙ found.before b (omega arith));
+    after = λ k low high. false_from_ne_true (passing s Deltas test k) (λ passes.
+        let full : 64 * b + 64 ≤ first + count = whole (omega arith) in
+        let inside : b + 1 < size_of s Heads = omega arith in
+        false≢true (sym (found.after (b + 1) (omega arith) inside) ∙ agree (b + 1) inside ∙ parted (64 * (b + 1)) k (omega arith) high passes));
   }

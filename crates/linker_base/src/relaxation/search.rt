@@ -75,9 +75,9 @@ fn halve<P: Probe>(
     ensures probes { OnlyProbes 1 (P.state probe.old) (P.state probe.new) }
     ensures none { count ≤ width → (P.state probe.new).probes ≤ (P.state probe.old).probes }
     ensures end { result + min count width ≤ last + min count (2 * width) }
-    ensures narrowed { IsPartitioned (P.state probe.old).subject level test
-        → IsNarrowed (P.state probe.old).subject level test (last + 1) (min count (2 * width))
-        → IsNarrowed (P.state probe.old).subject level test (result + 1) (min count width) }
+    ensures narrowed { (many few : ℕ) → many ≡ min count (2 * width) → few ≡ min count width
+        → IsNarrowed (P.state probe.old).subject level test (last + 1) many
+        → IsNarrowed (P.state probe.new).subject level test (result + 1) few }
 {
     if count > 2 * width {
         let middle = last + width;
@@ -110,9 +110,9 @@ fn narrow<P: Probe>(
     requires room { (P.state probe.old).probes < 2 ^ 62 }
     ensures probes { OnlyProbes 6 (P.state probe.old) (P.state probe.new) }
     ensures end { result + min count width ≤ last + min count (64 * width) }
-    ensures narrowed { IsPartitioned (P.state probe.old).subject level test
-        → IsNarrowed (P.state probe.old).subject level test (last + 1) (min count (64 * width))
-        → IsNarrowed (P.state probe.old).subject level test (result + 1) (min count width) }
+    ensures narrowed { (many few : ℕ) → many ≡ min count (64 * width) → few ≡ min count width
+        → IsNarrowed (P.state probe.old).subject level test (last + 1) many
+        → IsNarrowed (P.state probe.new).subject level test (result + 1) few }
     ensures spent { (digits : ℕ) → count ≤ 2 ^ digits * width
         → (P.state probe.new).probes ≤ (P.state probe.old).probes + digits }
 {
@@ -135,7 +135,7 @@ fn find_block<P: Probe>(probe: &mut P, test: Test, len: usize) -> (usize, usize)
     requires all { len ≡ length (P.state probe.old).subject.deltas }
     requires some { 0 < len }
     requires room { (P.state probe.old).probes < 2 ^ 34 }
-    ensures probes { OnlyProbes 64 (P.state probe.old) (P.state probe.new) }
+    ensures probes { OnlyProbes (2 ^ 59) (P.state probe.old) (P.state probe.new) }
     ensures some { 0 < result.1 }
     ensures few { result.1 ≤ 64 }
     ensures within { result.0 + result.1 ≤ len }
@@ -166,7 +166,7 @@ fn find_block<P: Probe>(probe: &mut P, test: Test, len: usize) -> (usize, usize)
 #[inline(always)]
 pub(super) fn count_passing<P: Probe>(probe: &mut P, test: Test) -> usize
     requires room { (P.state probe.old).probes < 2 ^ 33 }
-    ensures probes { OnlyProbes 128 (P.state probe.old) (P.state probe.new) }
+    ensures probes { OnlyProbes (2 ^ 60) (P.state probe.old) (P.state probe.new) }
     ensures within { result ≤ length (P.state probe.old).subject.deltas }
     ensures point { IsPartitioned (P.state probe.old).subject Deltas test
         → HeadsAgree (P.state probe.old).subject test

@@ -1,7 +1,7 @@
 use Rattle.std.proofs.Common.{◌≡◌, ℕ, ◌+◌, ◌<◌, ◌≤◌, ◌^◌}
 use Rattle.linker_base.specs.Blocks.{blocks_of}
 use Rattle.linker_base.specs.declared.relaxation.search.Level.TheVariants.{Heads}
-use Rattle.linker_base.specs.Inner.Search.{IsPartitioned, IsNarrowed}
+use Rattle.linker_base.specs.Inner.Search.{IsNarrowed}
 use Rattle.linker_base.proofs.Halving.{CanHalve}
 use Rattle.linker_base.proofs.relaxation.search.find_block.Given as goal
 
@@ -14,9 +14,8 @@ invariant-loop-count g l =
       some : 0 < l.count;
       room : now.probes + l.count ≤ before.probes + blocks_of l.len;
       within : l.last + l.count ≤ blocks_of l.len;
-      narrowed : IsPartitioned before.subject Heads l.test
-          → IsNarrowed before.subject Heads l.test 1 (blocks_of l.len)
-          → IsNarrowed before.subject Heads l.test (l.last + 1) l.count;
+      narrowed : IsNarrowed before.subject Heads l.test 1 (blocks_of l.len)
+          → IsNarrowed now.subject Heads l.test (l.last + 1) l.count;
       spent : (digits : ℕ) → blocks_of l.len ≤ 2 ^ digits
           → CanHalve (before.probes + digits) now.probes l.count;
     }
