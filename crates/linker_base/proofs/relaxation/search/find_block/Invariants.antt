@@ -2,7 +2,6 @@ use Rattle.std.proofs.Common.{◌≡◌, ℕ, ◌+◌, ◌<◌, ◌≤◌, ◌^�
 use Rattle.linker_base.specs.Blocks.{blocks_of}
 use Rattle.linker_base.specs.declared.relaxation.search.Level.TheVariants.{Heads}
 use Rattle.linker_base.specs.Inner.Search.{IsNarrowed}
-use Rattle.linker_base.proofs.Halving.{CanHalve}
 use Rattle.linker_base.proofs.relaxation.search.find_block.Given as goal
 
 abbrev pub invariant-loop-count : goal.invariant-loop-count
@@ -17,7 +16,7 @@ invariant-loop-count g l =
       narrowed : IsNarrowed before.subject Heads l.test 1 (blocks_of l.len)
           → IsNarrowed now.subject Heads l.test (l.last + 1) l.count;
       spent : (digits : ℕ) → blocks_of l.len ≤ 2 ^ digits
-          → CanHalve (before.probes + digits) now.probes l.count;
+          → (left : ℕ) × (l.count ≤ 2 ^ left) × (now.probes + left ≤ before.probes + digits);
     }
 
 abbrev pub decreases-loop-count : goal.decreases-loop-count

@@ -1,5 +1,5 @@
-use Rattle.std.proofs.Common.{refl, arith}
-use Rattle.linker_base.proofs.Halving.{few_spent}
+use Rattle.std.proofs.Common.{pow_mono, ℕ, ◌*◌, ◌≤◌, ◌^◌, refl, arith}
+use Rattle.std.proofs.Math.Nat.{mul-le-mul_right}
 use Rattle.linker_base.proofs.relaxation.search.narrow.Goals as goal
 
 pub returns-clause-narrowed : goal.returns-clause-narrowed
@@ -13,5 +13,6 @@ returns-clause-narrowed g c many few are left given =
 
 pub returns-clause-spent : goal.returns-clause-spent
 returns-clause-spent g c digits few =
-    few_spent c.args.count c.args.width _ _ _ _ _ _ _ c.halve-half.ensures.probes.counted c.halve-fourth.ensures.probes.counted c.halve-eighth.ensures.probes.counted c.halve-sixteenth.ensures.probes.counted c.halve-some.ensures.probes.counted c.halve.ensures.probes.counted
-    c.halve-half.ensures.none c.halve-fourth.ensures.none c.halve-eighth.ensures.none c.halve-sixteenth.ensures.none c.halve-some.ensures.none c.halve.ensures.none digits few
+    let w = c.args.width in
+    let most : (k : ℕ) → digits ≤ k → 2 ^ digits * w ≤ 2 ^ k * w = λ k le. mul-le-mul_right w (pow_mono le) in
+    grind (arith, few, most 0, most 1, most 2, most 3, most 4, most 5, c.halve-half.ensures.probes.counted, c.halve-half.ensures.none, c.halve-fourth.ensures.probes.counted, c.halve-fourth.ensures.none, c.halve-eighth.ensures.probes.counted, c.halve-eighth.ensures.none, c.halve-sixteenth.ensures.probes.counted, c.halve-sixteenth.ensures.none, c.halve-some.ensures.probes.counted, c.halve-some.ensures.none, c.halve.ensures.probes.counted, c.halve.ensures.none)
