@@ -150,6 +150,7 @@ fn find_block<P: Probe>(probe: &mut P, test: Test, len: usize) -> (usize, usize)
         return (0, len);
     }
     let (mut last, mut count) = (0, count_blocks(len));
+    // Of more heads, a branch that is mispredicted costs less than the wait for memory.
     while count > BLOCK_LEN * BLOCK_LEN {
         let width = count - count / 2;
         last = halve(probe, Level::Heads, test, last, count, width);

@@ -1,6 +1,5 @@
-use Rattle.std.proofs.Common.{◌<◌, ◌-◌, ◌∙◌, inl, inr, refl, arith, length}
+use Rattle.std.proofs.Common.{◌-◌, ◌∙◌, inl, inr, refl, arith}
 use Rattle.std.proofs.lemmas.Bool.{cases_lt}
-use Rattle.linker_base.specs.Blocks.{blocks_of}
 use Rattle.linker_base.proofs.Halving.{digits_left, heads_narrowed, block_narrowed}
 use Rattle.linker_base.proofs.relaxation.search.find_block.Goals as goal
 
@@ -25,11 +24,9 @@ returns-clause-narrowed g c parted agree passes =
     let s = (g.P.Probe.state c.args.probe.now).subject in
     let at = c.loop-count.invariant in
     let all = at.narrowed (rw c.requires.all (heads_narrowed s c.args.test parted agree passes)) in
-    let some = c.narrow-some.ensures.narrowed _ _ (omega arith) refl all in
-    let block = c.narrow-block.ensures.narrowed _ 1 (omega arith) (omega (arith, at.some)) some in
+    let block = c.narrow-block.ensures.narrowed _ 1 (omega arith) (omega (arith, at.some)) (c.narrow-some.ensures.narrowed _ _ (omega arith) refl all) in
     let same = c.narrow-block.ensures.probes.same ∙ c.narrow-some.ensures.probes.same ∙ at.same in
-    let inside : c.narrow-block.result < blocks_of (length s.deltas) = omega (arith, c.requires.all, at.within, at.some, c.narrow-some.ensures.end, c.narrow-block.ensures.end) in
-    block_narrowed s c.args.test parted agree c.narrow-block.result c.min.result 64 inside (rw same at block) (omega (arith, c.min.ensures)) (λ low. omega (arith, c.requires.all, c.min.ensures, c.if-len-le-BLOCK_LEN.false))
+    block_narrowed s c.args.test parted agree c.narrow-block.result c.min.result 64 (omega (arith, c.requires.all, at.within, at.some, c.narrow-some.ensures.end, c.narrow-block.ensures.end)) (rw same at block) (omega (arith, c.min.ensures)) (λ low. omega (arith, c.requires.all, c.min.ensures, c.if-len-le-BLOCK_LEN.false))
 
 pub returns-clause-spent : goal.returns-clause-spent
 returns-clause-spent g c digits few =
