@@ -178,7 +178,12 @@ fn by_kept(input: &Input) -> Side<'_> {
     let needed = sathunne::relocate_memory(&input.relocations);
     let mut memory = vec![0; needed];
     let output = sathunne::OutputFacts::default();
-    let facts = vec![sathunne::SymbolFacts::default(); input.symbols.len()];
+    // a call of PowerPC64 of a symbol that another file may define needs a stub
+    let own = sathunne::SymbolFacts {
+        is_local: true,
+        ..sathunne::SymbolFacts::default()
+    };
+    let facts = vec![own; input.symbols.len()];
     let kept = sathunne::keep_facts(&output, &facts).expect("memory");
     Side::writes(input.section.clone(), move |section| {
         // SAFETY: a slice's pointer and length are its own, and a reference is of one value.

@@ -75,9 +75,10 @@ pub record IsPointOf (subject : Subject) (level : Level) (test : Test) (point : 
   pub after : (k : ℕ) → point ≤ k → k < size_of subject level
       → passing subject level test k ≡ false
 
--- the point is one of so many indexes from the first on
+-- there is one point, and it is one of so many indexes from the first on
 pub record IsNarrowed (subject : Subject) (level : Level) (test : Test) (first count : ℕ)
     : Type 0 where
+  pub parted : IsPartitioned subject level test
   pub before : (k : ℕ) → k < first → passing subject level test k ≡ true
   pub after : (k : ℕ) → first + count ≤ k + 1 → k < size_of subject level
       → passing subject level test k ≡ false

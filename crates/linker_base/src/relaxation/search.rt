@@ -1,9 +1,9 @@
 //! The search among deltas: by the heads of their blocks, and then in one block.
 
-ghost use Rattle.std.specs.Prelude.{◌≡◌, ◌<◌, ◌≤◌, ◌+◌, ◌*◌, ◌^◌, ℕ, length, min};
-ghost use Rattle.linker_base.specs.declared.relaxation.search.Level.TheVariants.{Deltas};
+ghost use Rattle.std.specs.Prelude.{◌≡◌, ◌<◌, ◌≤◌, ◌+◌, ◌*◌, ◌^◌, ℕ, length, min, true};
+ghost use Rattle.linker_base.specs.declared.relaxation.search.Level.TheVariants.{Heads, Deltas};
 ghost use Rattle.linker_base.specs.Blocks.{blocks_of};
-ghost use Rattle.linker_base.specs.Inner.Search.{Probed, size_of, read_at, passes_test, OnlyProbes};
+ghost use Rattle.linker_base.specs.Inner.Search.{Probed, size_of, read_at, passes_test, passing, OnlyProbes};
 ghost use Rattle.linker_base.specs.Inner.Search.{IsPartitioned, IsNarrowed, IsPointOf, HeadsAgree};
 
 use super::blocks::{BLOCK_LEN, BlockHead, count_blocks};
@@ -54,149 +54,132 @@ pub(super) trait Probe {
         ensures probes { OnlyProbes 1 (state self.old) (state self.new) };
 }
 
-/// Of at most `2 * width` indexes from `first` on, at one of which the point is, the first of those
-/// that are left, `width` at most. No probe is taken where no more are there. Where the widths are
-/// constants, LLVM compiles a step to a comparison and a sum, without a branch.
+/// Of the first `2 * width` of `count` indexes from `last` on, one of which is the last that passes,
+/// the first of those that are left, `width` at most. No probe is taken where no more are there.
+/// Where the widths are constants, LLVM compiles a step to a comparison and a choice, without a
+/// branch.
 #[inline(always)]
 fn halve<P: Probe>(
     probe: &mut P,
     level: Level,
     test: Test,
-    first: usize,
+    last: usize,
     count: usize,
     width: usize,
 ) -> usize
-    requires within { first + min count (2 * width)
-        ≤ size_of (P.state probe.old).subject level + 1 }
-    requires fits { first + min count (2 * width) ≤ 2 ^ 64 }
+    requires within { last + min count (2 * width) ≤ size_of (P.state probe.old).subject level }
+    requires fits { last + min count (2 * width) ≤ 2 ^ 64 }
     requires some { 0 < width }
-    requires small { width ≤ 32 }
+    requires small { width < 2 ^ 63 }
     requires room { (P.state probe.old).probes < 2 ^ 63 }
     ensures probes { OnlyProbes 1 (P.state probe.old) (P.state probe.new) }
     ensures none { count ≤ width → (P.state probe.new).probes ≤ (P.state probe.old).probes }
-    ensures from { first ≤ result }
-    ensures end { result + min count width ≤ first + min count (2 * width) }
-    ensures narrowed { IsPartitioned (P.state probe.old).subject level test
-        → IsNarrowed (P.state probe.old).subject level test first (min count (2 * width))
-        → IsNarrowed (P.state probe.old).subject level test result (min count width) }
+    ensures end { result + min count width ≤ last + min count (2 * width) }
+    ensures narrowed { (many few : ℕ) → many ≡ min count (2 * width) → few ≡ min count width
+        → IsNarrowed (P.state probe.old).subject level test (last + 1) many
+        → IsNarrowed (P.state probe.new).subject level test (result + 1) few }
 {
-    if count >= 2 * width {
-        let passes = test.passes(probe.read(level, first + (width - 1)));
-        return first + width * usize::from(passes);
+    if count > 2 * width {
+        let middle = last + width;
+        let passes = test.passes(probe.read(level, middle));
+        return if passes { middle } else { last };
     }
     if count > width {
-        let others = count - width;
-        let passes = test.passes(probe.read(level, first + (others - 1)));
-        return first + others * usize::from(passes);
+        let middle = last + (count - width);
+        let passes = test.passes(probe.read(level, middle));
+        return if passes { middle } else { last };
     }
-    first
+    last
 }
 
-/// How many pass, where the point is at one of `count` indexes from `first` on, 64 at most. The
-/// steps are written out, as LLVM makes a branch of what a loop selects, and that is mispredicted
-/// half the time.
+/// Six times `halve`, from the first `64 * width` on. The steps are written out, as LLVM makes a
+/// branch of what a loop chooses, and that is mispredicted half the time.
 #[inline(always)]
-fn narrow_few<P: Probe>(
+fn narrow<P: Probe>(
     probe: &mut P,
     level: Level,
     test: Test,
-    first: usize,
+    last: usize,
     count: usize,
+    width: usize,
 ) -> usize
-    requires within { first + count ≤ size_of (P.state probe.old).subject level + 1 }
-    requires fits { first + count ≤ 2 ^ 64 }
-    requires some { 0 < count }
-    requires few { count ≤ 64 }
+    requires within { last + min count (64 * width) ≤ size_of (P.state probe.old).subject level }
+    requires fits { last + min count (64 * width) ≤ 2 ^ 64 }
+    requires some { 0 < width }
+    requires small { width ≤ 64 }
     requires room { (P.state probe.old).probes < 2 ^ 62 }
     ensures probes { OnlyProbes 6 (P.state probe.old) (P.state probe.new) }
-    ensures within { result < first + count }
-    ensures from { first ≤ result }
-    ensures point { IsPartitioned (P.state probe.old).subject level test
-        → IsNarrowed (P.state probe.old).subject level test first count
-        → IsPointOf (P.state probe.old).subject level test result }
-    ensures spent { (digits : ℕ) → count ≤ 2 ^ digits
+    ensures end { result + min count width ≤ last + min count (64 * width) }
+    ensures narrowed { (many few : ℕ) → many ≡ min count (64 * width) → few ≡ min count width
+        → IsNarrowed (P.state probe.old).subject level test (last + 1) many
+        → IsNarrowed (P.state probe.new).subject level test (result + 1) few }
+    ensures spent { (digits : ℕ) → count ≤ 2 ^ digits * width
         → (P.state probe.new).probes ≤ (P.state probe.old).probes + digits }
 {
-    let half = halve(probe, level, test, first, count, 32);
-    let fourth = halve(probe, level, test, half, count, 16);
-    let eighth = halve(probe, level, test, fourth, count, 8);
-    let sixteenth = halve(probe, level, test, eighth, count, 4);
-    let last = halve(probe, level, test, sixteenth, count, 2);
-    halve(probe, level, test, last, count, 1)
+    if count <= width {
+        return last;
+    }
+    let half = halve(probe, level, test, last, count, 32 * width);
+    let fourth = halve(probe, level, test, half, count, 16 * width);
+    let eighth = halve(probe, level, test, fourth, count, 8 * width);
+    let sixteenth = halve(probe, level, test, eighth, count, 4 * width);
+    let some = halve(probe, level, test, sixteenth, count, 2 * width);
+    halve(probe, level, test, some, count, width)
 }
 
-/// The first of 64 indexes, at one of which the point is, where none passes from `len` on. After the
-/// first probe, 2^left indexes are left. What is added is a shift, which LLVM makes no branch of.
+/// Of `len` deltas, the first of which passes, the first and the count of those, 64 at most, one of
+/// which is the last that passes. It takes at most as many probes as there are binary digits in the
+/// number of blocks.
 #[inline(always)]
-#[tactic(auto, using(crate::proofs::Halving::digits_above))]
-fn approach<P: Probe>(probe: &mut P, level: Level, test: Test, len: usize, exponent: u32) -> usize
-    requires within { len ≤ size_of (P.state probe.old).subject level }
-    requires power { 2 ^ exponent ≤ len }
-    requires next_power { len < 2 * 2 ^ exponent }
-    requires long { 6 ≤ exponent }
-    requires small { exponent < 64 }
+fn find_block<P: Probe>(probe: &mut P, test: Test, len: usize) -> (usize, usize)
+    requires all { len ≡ length (P.state probe.old).subject.deltas }
+    requires some { 0 < len }
     requires room { (P.state probe.old).probes < 2 ^ 34 }
-    ensures probes { OnlyProbes 64 (P.state probe.old) (P.state probe.new) }
-    ensures end { result + 64 ≤ len + 1 }
-    ensures narrowed { IsPartitioned (P.state probe.old).subject level test
-        → IsNarrowed (P.state probe.old).subject level test 0 (len + 1)
-        → IsNarrowed (P.state probe.old).subject level test result 64 }
-    ensures spent { (digits : ℕ) → len < 2 ^ digits
-        → (P.state probe.new).probes + 6 ≤ (P.state probe.old).probes + digits }
-{
-    let mut left = exponent;
-    let middle = len - (1 << left);
-    let mut first = 0;
-    if test.passes(probe.read(level, middle)) {
-        first = middle + 1;
-    }
-    while left > 6 {
-        left -= 1;
-        let head = probe.read(level, first + ((1 << left) - 1));
-        first += usize::from(test.passes(head)) << left;
-    }
-    first
-}
-
-/// How many of the `len` pass. It takes as many probes as `len` has binary digits.
-#[inline(always)]
-fn narrow<P: Probe>(probe: &mut P, level: Level, test: Test, len: usize) -> usize
-    requires within { len ≤ size_of (P.state probe.old).subject level }
-    requires room { (P.state probe.old).probes < 2 ^ 34 }
-    ensures probes { OnlyProbes 70 (P.state probe.old) (P.state probe.new) }
-    ensures within { result ≤ len }
-    ensures point { IsPartitioned (P.state probe.old).subject level test
-        → IsNarrowed (P.state probe.old).subject level test 0 (len + 1)
-        → IsPointOf (P.state probe.old).subject level test result }
-    ensures spent { (digits : ℕ) → len < 2 ^ digits
+    ensures probes { OnlyProbes (2 ^ 59) (P.state probe.old) (P.state probe.new) }
+    ensures some { 0 < result.1 }
+    ensures few { result.1 ≤ 64 }
+    ensures within { result.0 + result.1 ≤ len }
+    ensures narrowed { IsPartitioned (P.state probe.old).subject Deltas test
+        → HeadsAgree (P.state probe.old).subject test
+        → passing (P.state probe.old).subject Heads test 0 ≡ true
+        → IsNarrowed (P.state probe.old).subject Deltas test (result.0 + 1) result.1 }
+    ensures spent { (digits : ℕ) → blocks_of len < 2 ^ digits
         → (P.state probe.new).probes ≤ (P.state probe.old).probes + digits }
 {
-    if len < BLOCK_LEN {
-        return narrow_few(probe, level, test, 0, len + 1);
+    if len <= BLOCK_LEN {
+        return (0, len);
     }
-    let first = approach(probe, level, test, len, len.ilog2());
-    narrow_few(probe, level, test, first, BLOCK_LEN)
+    let (mut last, mut count) = (0, count_blocks(len));
+    // Of more heads, a branch that is mispredicted costs less than the wait for memory.
+    while count > BLOCK_LEN * BLOCK_LEN {
+        let width = count - count / 2;
+        last = halve(probe, Level::Heads, test, last, count, width);
+        count = width;
+    }
+    let some = narrow(probe, Level::Heads, test, last, count, BLOCK_LEN);
+    let block = narrow(probe, Level::Heads, test, some, count, 1);
+    // The last block may be shorter. Its search begins in the one before, so that all are alike.
+    ((BLOCK_LEN * block).min(len - BLOCK_LEN), BLOCK_LEN)
 }
 
 /// How many deltas pass. With B blocks it takes at most as many probes as B has binary digits, and
-/// six.
+/// seven.
 #[inline(always)]
 pub(super) fn count_passing<P: Probe>(probe: &mut P, test: Test) -> usize
     requires room { (P.state probe.old).probes < 2 ^ 33 }
-    ensures probes { OnlyProbes 128 (P.state probe.old) (P.state probe.new) }
+    ensures probes { OnlyProbes (2 ^ 60) (P.state probe.old) (P.state probe.new) }
     ensures within { result ≤ length (P.state probe.old).subject.deltas }
     ensures point { IsPartitioned (P.state probe.old).subject Deltas test
         → HeadsAgree (P.state probe.old).subject test
         → IsPointOf (P.state probe.old).subject Deltas test result }
     ensures spent { (digits : ℕ)
         → blocks_of (length (P.state probe.old).subject.deltas) < 2 ^ digits
-        → (P.state probe.new).probes ≤ (P.state probe.old).probes + digits + 6 }
+        → (P.state probe.new).probes ≤ (P.state probe.old).probes + digits + 7 }
 {
     let len = probe.len();
-    let Some(block) = narrow(probe, Level::Heads, test, count_blocks(len)).checked_sub(1) else {
+    if len == 0 || !test.passes(probe.read(Level::Heads, 0)) {
         return 0;
-    };
-    let second = BLOCK_LEN * block + 1;
-    let count = (len - second + 1).min(BLOCK_LEN);
-    narrow_few(probe, Level::Deltas, test, second, count)
+    }
+    let (first, count) = find_block(probe, test, len);
+    narrow(probe, Level::Deltas, test, first, count, 1) + 1
 }

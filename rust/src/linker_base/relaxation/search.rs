@@ -40,86 +40,83 @@ pub(super) trait Probe {
     fn read(&mut self, level: Level, at: usize) -> BlockHead;
 }
 
-/// Of at most `2 * width` indexes from `first` on, at one of which the point is, the first of those
-/// that are left, `width` at most. No probe is taken where no more are there. Where the widths are
-/// constants, LLVM compiles a step to a comparison and a sum, without a branch.
+/// Of the first `2 * width` of `count` indexes from `last` on, one of which is the last that passes,
+/// the first of those that are left, `width` at most. No probe is taken where no more are there.
+/// Where the widths are constants, LLVM compiles a step to a comparison and a choice, without a
+/// branch.
 #[inline(always)]
 fn halve<P: Probe>(
     probe: &mut P,
     level: Level,
     test: Test,
-    first: usize,
+    last: usize,
     count: usize,
     width: usize,
 ) -> usize {
-    if count >= 2 * width {
-        let passes = test.passes(probe.read(level, first + (width - 1)));
-        return first + width * usize::from(passes);
+    if count > 2 * width {
+        let middle = last + width;
+        let passes = test.passes(probe.read(level, middle));
+        return if passes { middle } else { last };
     }
     if count > width {
-        let others = count - width;
-        let passes = test.passes(probe.read(level, first + (others - 1)));
-        return first + others * usize::from(passes);
+        let middle = last + (count - width);
+        let passes = test.passes(probe.read(level, middle));
+        return if passes { middle } else { last };
     }
-    first
+    last
 }
 
-/// How many pass, where the point is at one of `count` indexes from `first` on, 64 at most. The
-/// steps are written out, as LLVM makes a branch of what a loop selects, and that is mispredicted
-/// half the time.
+/// Six times `halve`, from the first `64 * width` on. The steps are written out, as LLVM makes a
+/// branch of what a loop chooses, and that is mispredicted half the time.
 #[inline(always)]
-fn narrow_few<P: Probe>(
+fn narrow<P: Probe>(
     probe: &mut P,
     level: Level,
     test: Test,
-    first: usize,
+    last: usize,
     count: usize,
+    width: usize,
 ) -> usize {
-    let half = halve(probe, level, test, first, count, 32);
-    let fourth = halve(probe, level, test, half, count, 16);
-    let eighth = halve(probe, level, test, fourth, count, 8);
-    let sixteenth = halve(probe, level, test, eighth, count, 4);
-    let last = halve(probe, level, test, sixteenth, count, 2);
-    halve(probe, level, test, last, count, 1)
+    if count <= width {
+        return last;
+    }
+    let half = halve(probe, level, test, last, count, 32 * width);
+    let fourth = halve(probe, level, test, half, count, 16 * width);
+    let eighth = halve(probe, level, test, fourth, count, 8 * width);
+    let sixteenth = halve(probe, level, test, eighth, count, 4 * width);
+    let some = halve(probe, level, test, sixteenth, count, 2 * width);
+    halve(probe, level, test, some, count, width)
 }
 
-/// The first of 64 indexes, at one of which the point is, where none passes from `len` on. After the
-/// first probe, 2^left indexes are left. What is added is a shift, which LLVM makes no branch of.
+/// Of `len` deltas, the first of which passes, the first and the count of those, 64 at most, one of
+/// which is the last that passes. It takes at most as many probes as there are binary digits in the
+/// number of blocks.
 #[inline(always)]
-fn approach<P: Probe>(probe: &mut P, level: Level, test: Test, len: usize, exponent: u32) -> usize {
-    let mut left = exponent;
-    let middle = len - (1 << left);
-    let mut first = 0;
-    if test.passes(probe.read(level, middle)) {
-        first = middle + 1;
+fn find_block<P: Probe>(probe: &mut P, test: Test, len: usize) -> (usize, usize) {
+    if len <= BLOCK_LEN {
+        return (0, len);
     }
-    while left > 6 {
-        left -= 1;
-        let head = probe.read(level, first + ((1 << left) - 1));
-        first += usize::from(test.passes(head)) << left;
+    let (mut last, mut count) = (0, count_blocks(len));
+    // Of more heads, a branch that is mispredicted costs less than the wait for memory.
+    while count > BLOCK_LEN * BLOCK_LEN {
+        let width = count - count / 2;
+        last = halve(probe, Level::Heads, test, last, count, width);
+        count = width;
     }
-    first
-}
-
-/// How many of the `len` pass. It takes as many probes as `len` has binary digits.
-#[inline(always)]
-fn narrow<P: Probe>(probe: &mut P, level: Level, test: Test, len: usize) -> usize {
-    if len < BLOCK_LEN {
-        return narrow_few(probe, level, test, 0, len + 1);
-    }
-    let first = approach(probe, level, test, len, len.ilog2());
-    narrow_few(probe, level, test, first, BLOCK_LEN)
+    let some = narrow(probe, Level::Heads, test, last, count, BLOCK_LEN);
+    let block = narrow(probe, Level::Heads, test, some, count, 1);
+    // The last block may be shorter. Its search begins in the one before, so that all are alike.
+    ((BLOCK_LEN * block).min(len - BLOCK_LEN), BLOCK_LEN)
 }
 
 /// How many deltas pass. With B blocks it takes at most as many probes as B has binary digits, and
-/// six.
+/// seven.
 #[inline(always)]
 pub(super) fn count_passing<P: Probe>(probe: &mut P, test: Test) -> usize {
     let len = probe.len();
-    let Some(block) = narrow(probe, Level::Heads, test, count_blocks(len)).checked_sub(1) else {
+    if len == 0 || !test.passes(probe.read(Level::Heads, 0)) {
         return 0;
-    };
-    let second = BLOCK_LEN * block + 1;
-    let count = (len - second + 1).min(BLOCK_LEN);
-    narrow_few(probe, Level::Deltas, test, second, count)
+    }
+    let (first, count) = find_block(probe, test, len);
+    narrow(probe, Level::Deltas, test, first, count, 1) + 1
 }
