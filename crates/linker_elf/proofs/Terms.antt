@@ -1,11 +1,11 @@
 -- The value of a row by the bits that count of its formula's terms.
-use Rattle.std.proofs.Common.{◌≡◌, ℕ, ℤ, ◌+◌, ◌-◌, ◌%◌, ◌^◌, ◌<◌, ◌⊎◌, inl, inr, Bool, true, false, true≢false, not, ◌&&◌, ◌||◌, if◌then◌else◌, eqb, bit_and, Option, Some, None, Result, Ok, Err, refl, sym, ap, subst, ◌∙◌, arith}
+use Rattle.std.proofs.Common.{◌≡◌, ℕ, ℤ, ◌-◌, ◌^◌, ◌<◌, ◌⊎◌, inl, inr, Bool, true, false, true≢false, not, ◌&&◌, ◌||◌, if◌then◌else◌, eqb, bit_and, Option, Some, None, Result, Ok, Err, refl, sym, ap, subst, ◌∙◌, arith}
 use Rattle.std.proofs.lemmas.Bool.{cases_Bool, cond-true, cond-false}
 use Rattle.std.proofs.lemmas.Nat.{and_mask}
 use Rattle.std.proofs.lemmas.Nat.Bits.{and_high_mask}
 use Rattle.std.specs.Int.{w64, cast_signed, cast_unsigned}
 use Rattle.std.specs.Int.Bits.{and_zero_r}
-use Rattle.linker_elf.specs.Inner.RowTables.{bits_of, adds_to_entry, is_set, terms_of, symbol_of, entry_of_terms, signed_in}
+use Rattle.linker_elf.specs.Inner.RowTables.{bits_of, addend_bits, is_set, terms_of, symbol_of, entry_of_terms, signed_in}
 use Rattle.linker_elf.specs.LoongArch.{page}
 use Rattle.linker_elf.specs.Value.{sum_64, difference_64, page_if, masks_symbol, masks_entry, masks_place, masks_got, bias_number, entry_addend, symbol_term, entry_term, place_term, got_term, relative_term, formula, read_signed, names_got_entry, names_plt_entry, is_offset, loads_plt_word, completed, or_no_value, value_given, value_of, lacks, lacks_entry, lacks_tls_base}
 use Rattle.linker_elf.specs.declared.elf.RelocationInstruction.TheVariants.{RiscV, Ppc64, LoongArch64, AArch64}
@@ -40,7 +40,7 @@ whole : (base a : ℕ) → sum_64 base (bit_and a (2 ^ 64 - 1)) ≡ sum_64 base 
 whole base a = ap (sum_64 base) (and_mask a 64) ∙ omega arith
 
 added : (size : RelocationSize) (base : ℕ) (addend : ℤ)
-    → sum_64 base (bit_and (cast_unsigned w64 addend) (if adds_to_entry size then 2 ^ 64 - 1 else 0))
+    → sum_64 base (bit_and (cast_unsigned w64 addend) (addend_bits size))
     ≡ sum_64 base (entry_addend size addend)
 added (ByteSize n) base addend = whole base (cast_unsigned w64 addend)
 added (BitMasking bits (AArch64 insn)) base addend = ap (sum_64 base) (and_zero_r (cast_unsigned w64 addend))

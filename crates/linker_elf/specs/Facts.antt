@@ -1,7 +1,7 @@
 -- What a relocation requires of a linker before addresses are known, and how its value is found, by
 -- its row's kind and size. `linker_section` proves of each row that its facts say what `Needed` and
 -- `Values` there do.
-use Rattle.std.specs.Prelude.{ℕ, ◌==◌, ◌&&◌, ◌||◌, not, nat_lt, if◌then◌else◌, Bool, true, false}
+use Rattle.std.specs.Prelude.{◌==◌, ◌&&◌, ◌||◌, nat_lt, if◌then◌else◌, Bool, true, false}
 use Rattle.linker_elf.specs.Entries.{is_branch}
 use Rattle.linker_elf.specs.Value.{names_got_entry, names_plt_entry}
 use Rattle.linker_elf.specs.declared.aarch64.forms.AArch64Instruction.TheVariants.{TstBr, Bcond}

@@ -14,6 +14,7 @@ use Rattle.linker_elf.specs.declared.aarch64.forms.AArch64Instruction.TheVariant
 use Rattle.linker_elf.specs.declared.loongarch64.forms.LoongArch64Instruction.TheVariants.{Shift10}
 use Rattle.linker_elf.specs.declared.ppc64.forms.Ppc64Instruction.TheVariants.{Ds}
 use Rattle.linker_elf.specs.declared.riscv64.forms.RiscVInstruction.TheVariants.{CluiType}
+use Rattle.linker_elf.specs.declared.elf.PageMask.{PageMask}
 use Rattle.linker_elf.specs.declared.elf.RelocationInstruction.TheVariants.{RiscV, Ppc64}
 use Rattle.linker_elf.specs.declared.elf.RelocationInstruction.TheVariants.{LoongArch64, AArch64}
 use Rattle.linker_elf.specs.declared.elf.RelocationKind.{RelocationKind}
@@ -78,15 +79,19 @@ abbrev pub bits_of : Bool → ℕ
 bits_of true = 2 ^ 64 - 2 ^ 12
 bits_of false = 2 ^ 64 - 1
 
-abbrev pub adds_to_entry : RelocationSize → Bool
-adds_to_entry (BitMasking bits (AArch64 insn)) = false
-adds_to_entry (BitMasking bits (Ppc64 insn)) = false
-adds_to_entry size = true
+-- the bits of an addend that are added to the address of an entry
+abbrev pub addend_bits : RelocationSize → ℕ
+addend_bits (BitMasking bits (AArch64 insn)) = 0
+addend_bits (BitMasking bits (Ppc64 insn)) = 0
+addend_bits size = 2 ^ 64 - 1
 
 -- the first of a pair at a ULEB128 number, whose formula is S + A
 abbrev pub is_set : RelocationKind → RelocationSize → Bool
 is_set Relative (ByteSize n) = n == 0
 is_set kind size = false
+
+abbrev pub place_bits : RelocationKind → RelocationSize → Option PageMask → ℕ
+place_bits kind size mask = if is_set kind size then 0 else bits_of (masks_place mask)
 
 -- what a row's formula adds, and which bits of its terms count
 abbrev pub terms_of : RelocationKindInfo → Terms
@@ -95,8 +100,8 @@ terms_of row =
       bias = bias_number row.bias;
       symbol = bits_of (masks_symbol row.mask);
       entry = bits_of (masks_entry row.mask);
-      entry_addend = if adds_to_entry row.size then 2 ^ 64 - 1 else 0;
-      place = if is_set row.kind row.size then 0 else bits_of (masks_place row.mask);
+      entry_addend = addend_bits row.size;
+      place = place_bits row.kind row.size row.mask;
       got = bits_of (masks_got row.mask);
     }
 

@@ -1,14 +1,14 @@
 //! The value of a relocation, from the addresses that a linker knows.
 
 ghost use Rattle.std.specs.Prelude.{◌≡◌, false};
-ghost use Rattle.linker_elf.specs.Inner.RowTables.{bits_of, adds_to_entry, terms_of, symbol_of};
-ghost use Rattle.linker_elf.specs.Inner.RowTables.{entry_of_terms, plt_of, signed_in, as_given};
-ghost use Rattle.linker_elf.specs.Value.{sum_64, sequence_pc, value_of, completed, is_offset};
+ghost use Rattle.linker_elf.specs.Inner.RowTables.{bits_of, addend_bits, place_bits, terms_of};
+ghost use Rattle.linker_elf.specs.Inner.RowTables.{symbol_of, entry_of_terms, plt_of, signed_in, as_given};
+ghost use Rattle.linker_elf.specs.Value.{sum_64, bias_number, sequence_pc, value_of, completed, is_offset};
 ghost use Rattle.linker_elf.specs.Value.{loads_plt_word, value_given};
 
 use crate::elf::entries::names_plt_entry;
 use crate::elf::{
-    PAGE_MASK_4KB, PageMask, RelocationInstruction, RelocationKind, RelocationKindInfo,
+    Bias, PAGE_MASK_4KB, PageMask, RelocationInstruction, RelocationKind, RelocationKindInfo,
     RelocationSize,
 };
 use crate::loongarch64::highest_relocation_with_bias;
@@ -169,18 +169,42 @@ fn bits_of(is_page: bool) -> u64
     if is_page { !PAGE_MASK_4KB } else { u64::MAX }
 }
 
-/// Whether the addend is added to the address of an entry of the GOT.
+/// The bits of the addend that are added to the address of an entry of the GOT: all or none.
 #[inline(always)]
-fn adds_to_entry(size: RelocationSize) -> bool
-    ensures { result ≡ adds_to_entry size }
+fn addend_bits(size: RelocationSize) -> u64
+    ensures { result ≡ addend_bits size }
 {
-    !matches!(
-        size,
+    match size {
         RelocationSize::BitMasking {
             insn: RelocationInstruction::AArch64(_) | RelocationInstruction::Ppc64(_),
             ..
-        }
-    )
+        } => 0,
+        _ => u64::MAX,
+    }
+}
+
+/// The bits of P: none of the first of a pair at a ULEB128 number, whose formula is S + A.
+#[inline(always)]
+fn place_bits(kind: RelocationKind, size: RelocationSize, mask: Option<PageMask>) -> u64
+    ensures { result ≡ place_bits kind size mask }
+{
+    match (kind, size) {
+        (RelocationKind::Relative, RelocationSize::ByteSize(0)) => 0,
+        _ => bits_of(matches!(
+            mask,
+            Some(PageMask::SymbolPlusAddendAndPosition(_) | PageMask::GotEntryAndPosition(_))
+        )),
+    }
+}
+
+#[inline(always)]
+fn bias_or_zero(bias: Option<Bias>) -> u64
+    ensures { result ≡ bias_number bias }
+{
+    match bias {
+        Some(bias) => bias.value(),
+        None => 0,
+    }
 }
 
 /// What `highest_relocation_with_bias` takes as `pc`.
@@ -262,25 +286,19 @@ impl RelocationKindInfo {
     fn terms(&self) -> Terms
         ensures { result ≡ terms_of self.now }
     {
-        let symbol = matches!(self.mask, Some(PageMask::SymbolPlusAddendAndPosition(_)));
-        let entry = matches!(self.mask, Some(PageMask::GotEntryAndPosition(_)));
-        let got = matches!(self.mask, Some(PageMask::GotBase(_)));
-        let is_set =
-            self.kind == RelocationKind::Relative && self.size == RelocationSize::ByteSize(0);
         Terms {
-            bias: match self.bias {
-                Some(bias) => bias.value(),
-                None => 0,
-            },
-            symbol: bits_of(symbol),
-            entry: bits_of(entry),
-            entry_addend: if adds_to_entry(self.size) {
-                u64::MAX
-            } else {
-                0
-            },
-            place: if is_set { 0 } else { bits_of(symbol || entry) },
-            got: bits_of(got),
+            bias: bias_or_zero(self.bias),
+            symbol: bits_of(matches!(
+                self.mask,
+                Some(PageMask::SymbolPlusAddendAndPosition(_))
+            )),
+            entry: bits_of(matches!(
+                self.mask,
+                Some(PageMask::GotEntryAndPosition(_))
+            )),
+            entry_addend: addend_bits(self.size),
+            place: place_bits(self.kind, self.size, self.mask),
+            got: bits_of(matches!(self.mask, Some(PageMask::GotBase(_)))),
         }
     }
 
