@@ -9,10 +9,10 @@ use crate::linker_base::utils::Uleb128Error;
 pub use crate::linker_elf::elf::{
     AArch64Instruction, AllowedRange, ApplyError, Bias, Choice, EM_AARCH64, EM_LOONGARCH, EM_PPC64,
     EM_RISCV, EM_X86_64, EntryUse, FormulaError, InstructionForm, InstructionRewrite, Length,
-    LinkFacts, LoongArch64Instruction, Operands, OtherRelocation, PAGE_MASK_4KB, PageMask, PageMaskPattern,
-    Ppc64Instruction, RelocateError, RelocationInstruction, RelocationKind, RelocationKindInfo,
-    RelocationNumbers, RelocationSize, RewriteWindow, RiscVInstruction, Row, RowFacts, SIZE_2GB,
-    SIZE_2KB, SIZE_4GB, SIZE_4KB, Sign, Uleb128Role, Way,
+    LinkFacts, LoongArch64Instruction, Operands, OtherRelocation, PAGE_MASK_4KB, PageMask,
+    PageMaskPattern, Ppc64Instruction, RelocateError, RelocationInstruction, RelocationKind,
+    RelocationKindInfo, RelocationNumbers, RelocationSize, RewriteWindow, RiscVInstruction, Row,
+    RowFacts, SIZE_2GB, SIZE_2KB, SIZE_4GB, SIZE_4KB, Sign, Uleb128Role, Way,
 };
 
 /// Why a relocation's value isn't written, and which values can be.

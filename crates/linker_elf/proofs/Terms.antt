@@ -17,7 +17,7 @@ use Rattle.linker_elf.specs.declared.elf.RelocationSize.TheVariants.{ByteSize, B
 use Rattle.linker_elf.specs.declared.elf.value.FormulaError.{FormulaError}
 use Rattle.linker_elf.specs.declared.elf.value.FormulaError.TheVariants.{NoEntry, NoTlsBase, NoValue}
 use Rattle.linker_elf.specs.declared.elf.value.Operands.{Operands}
-use Rattle.linker_elf.specs.declared.elf.value.Terms.{Terms}
+use Rattle.linker_elf.specs.declared.elf.value.FormulaTerms.{FormulaTerms}
 
 -- ---- terms
 
@@ -165,7 +165,7 @@ abbrev IsFine : Result ℕ FormulaError → Type 0
 IsFine (Ok n) = Unit
 IsFine (Err error) = ⊥
 
-pub found : (row : RelocationKindInfo) (o : Operands) (terms : Terms) (e : ℕ) → terms ≡ terms_of row
+pub found : (row : RelocationKindInfo) (o : Operands) (terms : FormulaTerms) (e : ℕ) → terms ≡ terms_of row
     → entry_of_terms terms o ≡ Ok e
     → (o.has_got_entry ≡ true) × (e ≡ entry_term row o)
 unfolding ok_or
@@ -218,10 +218,10 @@ given row o v is =
             absurd (no_ok NoTlsBase v (sym (cond-false (lacks_entry row o) (Err NoEntry) _ there
             ∙ cond-true (lacks_tls_base row o) (Err NoTlsBase) _ base) ∙ is))
         | inr also ↦ (
-            ap (λ b. b || lacks_tls_base row o) there ∙ also,
-            of_value (value_of row (completed o)) v (sym (cond-false (lacks_entry row o) (Err NoEntry) _ there
-            ∙ cond-false (lacks_tls_base row o) (Err NoTlsBase) _ also) ∙ is),
-          )
+          ap (λ b. b || lacks_tls_base row o) there ∙ also,
+          of_value (value_of row (completed o)) v (sym (cond-false (lacks_entry row o) (Err NoEntry) _ there
+              ∙ cond-false (lacks_tls_base row o) (Err NoTlsBase) _ also) ∙ is),
+        )
       ]
     ]
 

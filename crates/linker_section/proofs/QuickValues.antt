@@ -1,5 +1,5 @@
 -- Values that are found by the facts of rows.
-use Rattle.std.proofs.Common.{◌≡◌, ℕ, ℤ, ◌<◌, ◌/◌, Bool, true, false, true≢false, eqb, not, ◌&&◌, List, length, Option, Some, None, Result, Ok, Err, refl, sym, ap, subst, ◌∙◌}
+use Rattle.std.proofs.Common.{◌≡◌, ℕ, ℤ, ◌<◌, ◌/◌, Bool, true, false, true≢false, not, ◌&&◌, List, length, Option, Some, None, Result, Ok, Err, refl, sym, ap, subst, ◌∙◌}
 use Rattle.std.specs.Prelude.{IfSome, slice_get}
 use Rattle.std.proofs.lemmas.Bool.{cond-true, ltb-true, lt-ltb, or_left, or_right}
 use Rattle.linker_elf.specs.Facts.{way_of}

@@ -16,8 +16,8 @@ use crate::facts::{Addresses, Symbol};
 use crate::relocations::{Rela, first_from, relocation_in, relocations_len};
 use linker_base::utils::u32_from_slice;
 use linker_utils::elf::{
-    Architecture, Length, LoongArch64Instruction, Ppc64Instruction, RelocationInstruction, RelocationKind,
-    RelocationSize, RiscVInstruction, Row,
+    Architecture, Length, LoongArch64Instruction, Ppc64Instruction, RelocationInstruction,
+    RelocationKind, RelocationSize, RiscVInstruction, Row,
 };
 
 /// Whether a symbol is a function of the output that may return with another TOC pointer, and has

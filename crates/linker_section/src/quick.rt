@@ -50,12 +50,7 @@ fn address_of_entry(
 
 /// The address of the entry that a relocation requires; 0 where it requires none.
 #[inline(always)]
-fn required_address(
-    addresses: &Addresses,
-    symbol: &Symbol,
-    row: &Row,
-    addend: i64,
-) -> Option<u64>
+fn required_address(addresses: &Addresses, symbol: &Symbol, row: &Row, addend: i64) -> Option<u64>
     requires { SaysNeeds row.now }
     ensures { result ≡ entry_address addresses.now symbol.now
         (entry_of row.now addend symbol.now.is_thread_local) }

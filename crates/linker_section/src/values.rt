@@ -303,14 +303,7 @@ fn operands_by(
         ≡ operands_by architecture addresses.now row.now relocation.now symbol.now entry }
 {
     match entry {
-        Some(entry) => Ok(operands_with(
-            architecture,
-            addresses,
-            row,
-            symbol,
-            relocation,
-            entry,
-        )),
+        Some(entry) => Ok(operands_with(architecture, addresses, row, symbol, relocation, entry)),
         None => Err(ValueError::NoEntry),
     }
 }
@@ -359,12 +352,7 @@ fn is_defined(symbols: &[Symbol], index: u32) -> bool
 
 /// Whether the formula counts from an origin, and the output has no TLS segment.
 #[inline(always)]
-fn lacks_origin(
-    addresses: &Addresses,
-    symbols: &[Symbol],
-    row: &Row,
-    relocation: &Rela,
-) -> bool
+fn lacks_origin(addresses: &Addresses, symbols: &[Symbol], row: &Row, relocation: &Rela) -> bool
     ensures { result ≡ lacks_origin addresses.now symbols.now row.now relocation.now }
 {
     row.kind().is_offset() && !addresses.has_tls && is_defined(symbols, relocation.symbol)

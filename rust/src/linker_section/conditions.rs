@@ -6,8 +6,8 @@ use crate::linker_section::facts::{Addresses, Symbol};
 use crate::linker_section::relocations::{Rela, first_from, relocation_in, relocations_len};
 use crate::linker_base::utils::u32_from_slice;
 use crate::elf::{
-    Architecture, Length, LoongArch64Instruction, Ppc64Instruction, RelocationInstruction, RelocationKind,
-    RelocationSize, RiscVInstruction, Row,
+    Architecture, Length, LoongArch64Instruction, Ppc64Instruction, RelocationInstruction,
+    RelocationKind, RelocationSize, RiscVInstruction, Row,
 };
 
 /// Whether a symbol is a function of the output that may return with another TOC pointer, and has

@@ -38,12 +38,7 @@ fn address_of_entry(
 
 /// The address of the entry that a relocation requires; 0 where it requires none.
 #[inline(always)]
-fn required_address(
-    addresses: &Addresses,
-    symbol: &Symbol,
-    row: &Row,
-    addend: i64,
-) -> Option<u64> {
+fn required_address(addresses: &Addresses, symbol: &Symbol, row: &Row, addend: i64) -> Option<u64> {
     if matches!(row.facts().entry, EntryUse::Without) {
         Some(0)
     } else {

@@ -248,14 +248,7 @@ fn operands_by(
     entry: Option<u64>,
 ) -> Result<Operands, ValueError> {
     match entry {
-        Some(entry) => Ok(operands_with(
-            architecture,
-            addresses,
-            row,
-            symbol,
-            relocation,
-            entry,
-        )),
+        Some(entry) => Ok(operands_with(architecture, addresses, row, symbol, relocation, entry)),
         None => Err(ValueError::NoEntry),
     }
 }
@@ -296,12 +289,7 @@ fn is_defined(symbols: &[Symbol], index: u32) -> bool {
 
 /// Whether the formula counts from an origin, and the output has no TLS segment.
 #[inline(always)]
-fn lacks_origin(
-    addresses: &Addresses,
-    symbols: &[Symbol],
-    row: &Row,
-    relocation: &Rela,
-) -> bool {
+fn lacks_origin(addresses: &Addresses, symbols: &[Symbol], row: &Row, relocation: &Rela) -> bool {
     row.kind().is_offset() && !addresses.has_tls && is_defined(symbols, relocation.symbol)
 }
 

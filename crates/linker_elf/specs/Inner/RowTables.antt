@@ -34,7 +34,7 @@ use Rattle.linker_elf.specs.declared.elf.rows.WriteTests.{WriteTests}
 use Rattle.linker_elf.specs.declared.elf.value.FormulaError.{FormulaError}
 use Rattle.linker_elf.specs.declared.elf.value.FormulaError.TheVariants.{NoEntry}
 use Rattle.linker_elf.specs.declared.elf.value.Operands.{Operands}
-use Rattle.linker_elf.specs.declared.elf.value.Terms.{Terms}
+use Rattle.linker_elf.specs.declared.elf.value.FormulaTerms.{FormulaTerms}
 
 -- a relocation of whole bytes that changes the existing number
 abbrev pub is_over : RelocationKind → Bool
@@ -94,7 +94,7 @@ abbrev pub place_bits : RelocationKind → RelocationSize → Option PageMask �
 place_bits kind size mask = if is_set kind size then 0 else bits_of (masks_place mask)
 
 -- what a row's formula adds, and which bits of its terms count
-abbrev pub terms_of : RelocationKindInfo → Terms
+abbrev pub terms_of : RelocationKindInfo → FormulaTerms
 terms_of row =
     record {
       bias = bias_number row.bias;
@@ -106,18 +106,18 @@ terms_of row =
     }
 
 -- S + A, the address of the entry, and L + A by these
-abbrev pub symbol_of : Terms → Operands → ℕ
+abbrev pub symbol_of : FormulaTerms → Operands → ℕ
 symbol_of terms o =
     bit_and (sum_64 (sum_64 o.symbol (cast_unsigned w64 o.addend)) terms.bias) terms.symbol
 
-abbrev pub entry_of_terms : Terms → Operands → Result ℕ FormulaError
+abbrev pub entry_of_terms : FormulaTerms → Operands → Result ℕ FormulaError
 entry_of_terms terms o =
     if o.has_got_entry
     then Ok (bit_and (sum_64 (sum_64 o.got_entry
-        (bit_and (cast_unsigned w64 o.addend) terms.entry_addend)) terms.bias) terms.entry)
+    (bit_and (cast_unsigned w64 o.addend) terms.entry_addend)) terms.bias) terms.entry)
     else Err NoEntry
 
-abbrev pub plt_of : Terms → Bool → Operands → Result ℕ FormulaError
+abbrev pub plt_of : FormulaTerms → Bool → Operands → Result ℕ FormulaError
 plt_of terms is_word o =
     if o.has_plt_entry
     then Ok (sum_64 (sum_64 o.plt_entry (cast_unsigned w64 o.addend)) terms.bias)

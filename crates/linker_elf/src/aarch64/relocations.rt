@@ -11,8 +11,7 @@ ghost use Rattle.linker_elf.specs.contracts.aarch64.relocations.AArch64Relocatio
 
 use crate::elf::choice_table::RelocationName;
 use crate::elf::rows::{
-    TableRow, code_of_name, index_of_name, info_in, name_of_code, row, row_in,
-    table, text_of_name,
+    TableRow, code_of_name, index_of_name, info_in, name_of_code, row, row_in, table, text_of_name,
 };
 use crate::elf::{RelocationKindInfo, Row};
 use std::fmt;

@@ -16,10 +16,10 @@ ghost use Rattle.linker_elf.specs.Value.{value_of, value_given, completed, lacks
 ghost use Rattle.linker_elf.specs.Inner.RowTables.{info_in, info_of, raw_info_in, IsSound};
 ghost use Rattle.linker_elf.specs.Inner.RowTables.{tests_of, takes_all, is_unit};
 
-use crate::elf::value::Terms;
 use crate::elf::relocate::{
     is_encoded, write_aarch64, write_bits, write_bytes, write_field, write_number,
 };
+use crate::elf::value::FormulaTerms;
 use crate::elf::{
     AllowedRange, ApplyError, Bias, FormulaError, Operands, PageMask, RelocateError,
     RelocationInstruction, RelocationKind, RelocationKindInfo, RelocationNumbers, RelocationSize,
@@ -36,7 +36,7 @@ pub(crate) struct TableRow {
     pub(crate) mask: Option<PageMask>,
     pub(crate) numbers: RelocationNumbers,
     pub(crate) tests: WriteTests,
-    pub(crate) terms: Terms,
+    pub(crate) terms: FormulaTerms,
     pub(crate) facts: RowFacts,
     /// Whether the crate `linker-utils` has no such row.
     pub(crate) is_own: bool,
@@ -803,7 +803,7 @@ macro_rules! length {
 /// The terms of a row's formula.
 macro_rules! terms {
     ($kind:ident, $size:tt, ($($mask:ident)?), ($($bias:expr)?)) => {
-        $crate::elf::value::Terms {
+        $crate::elf::value::FormulaTerms {
             bias: $crate::elf::rows::number!(bias $($bias)?),
             symbol: $crate::elf::rows::bits!(symbol $($mask)?),
             entry: $crate::elf::rows::bits!(entry $($mask)?),

@@ -220,7 +220,7 @@ fn pc_of_sequence(size: RelocationSize, place: u64) -> u64
 
 /// What is added to the first term of a formula, and which bits of its terms count.
 #[derive(Clone, Copy)]
-pub(crate) struct Terms {
+pub(crate) struct FormulaTerms {
     /// The bias.
     pub(crate) bias: u64,
     /// The bits of S + A.
@@ -235,7 +235,7 @@ pub(crate) struct Terms {
     pub(crate) got: u64,
 }
 
-impl Terms {
+impl FormulaTerms {
     /// A base with the addend and the bias.
     #[inline(always)]
     fn sum(&self, base: u64, addend: u64) -> u64
@@ -283,19 +283,13 @@ impl Terms {
 impl RelocationKindInfo {
     /// The terms of the formula.
     #[inline(always)]
-    fn terms(&self) -> Terms
+    fn terms(&self) -> FormulaTerms
         ensures { result ≡ terms_of self.now }
     {
-        Terms {
+        FormulaTerms {
             bias: bias_or_zero(self.bias),
-            symbol: bits_of(matches!(
-                self.mask,
-                Some(PageMask::SymbolPlusAddendAndPosition(_))
-            )),
-            entry: bits_of(matches!(
-                self.mask,
-                Some(PageMask::GotEntryAndPosition(_))
-            )),
+            symbol: bits_of(matches!(self.mask, Some(PageMask::SymbolPlusAddendAndPosition(_)))),
+            entry: bits_of(matches!(self.mask, Some(PageMask::GotEntryAndPosition(_)))),
             entry_addend: addend_bits(self.size),
             place: place_bits(self.kind, self.size, self.mask),
             got: bits_of(matches!(self.mask, Some(PageMask::GotBase(_)))),
@@ -304,7 +298,7 @@ impl RelocationKindInfo {
 
     /// The value modulo 2^64.
     #[inline(always)]
-    fn value_modulo(&self, terms: &Terms, operands: &Operands) -> Result<u64, FormulaError>
+    fn value_modulo(&self, terms: &FormulaTerms, operands: &Operands) -> Result<u64, FormulaError>
         requires { terms.now ≡ terms_of self.now }
         ensures { value_given self.now operands.now ≡ signed_in result }
     {
@@ -354,10 +348,18 @@ impl RelocationKindInfo {
             | RelocationKind::TlsDescGot => terms.entry(operands),
             RelocationKind::SymRelGotBase => Ok(terms.symbol(operands).wrapping_sub(got)),
             RelocationKind::PltRelGotBase => {
-                Ok(terms.plt(self.size.loads_plt_word(self.kind), operands)?.wrapping_sub(got))
+                Ok(
+                    terms
+                        .plt(self.size.loads_plt_word(self.kind), operands)?
+                        .wrapping_sub(got),
+                )
             }
             RelocationKind::PltRelative => {
-                Ok(terms.plt(self.size.loads_plt_word(self.kind), operands)?.wrapping_sub(place))
+                Ok(
+                    terms
+                        .plt(self.size.loads_plt_word(self.kind), operands)?
+                        .wrapping_sub(place),
+                )
             }
             RelocationKind::SymbolSize => {
                 Ok(terms.sum(operands.symbol_size, operands.addend.cast_unsigned()))
@@ -373,7 +375,11 @@ impl RelocationKindInfo {
 
     /// `value`, by the row's terms.
     #[inline(always)]
-    pub(crate) fn value_by(&self, terms: &Terms, operands: &Operands) -> Result<i64, FormulaError>
+    pub(crate) fn value_by(
+        &self,
+        terms: &FormulaTerms,
+        operands: &Operands,
+    ) -> Result<i64, FormulaError>
         requires { terms.now ≡ terms_of self.now }
         ensures { result ≡ value_given self.now operands.now }
     {

@@ -13,8 +13,8 @@ ghost use Rattle.linker_elf.specs.contracts.loongarch64.relocations.LoongArch64R
 
 use crate::elf::choice_table::RelocationName;
 use crate::elf::rows::{
-    TableRow, code_of_name, index_of_name, name_of_code, raw_info_in, row, row_in,
-    table, text_of_name,
+    TableRow, code_of_name, index_of_name, name_of_code, raw_info_in, row, row_in, table,
+    text_of_name,
 };
 use crate::elf::{RelocationKind, RelocationKindInfo, Row, SIZE_2KB, Uleb128Role};
 use std::fmt;

@@ -11,8 +11,8 @@ ghost use Rattle.linker_elf.specs.contracts.ppc64.relocations.Ppc64Relocation as
 
 use crate::elf::choice_table::RelocationName;
 use crate::elf::rows::{
-    TableRow, code_of_name, index_of_name, name_of_code, raw_info_in, row, row_in,
-    table, text_of_name,
+    TableRow, code_of_name, index_of_name, name_of_code, raw_info_in, row, row_in, table,
+    text_of_name,
 };
 use crate::elf::{RelocationKindInfo, Row};
 use std::fmt;

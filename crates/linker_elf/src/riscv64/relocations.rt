@@ -12,8 +12,8 @@ ghost use Rattle.linker_elf.specs.contracts.riscv64.relocations.RiscVRelocation 
 
 use crate::elf::choice_table::RelocationName;
 use crate::elf::rows::{
-    TableRow, code_of_name, index_of_name, name_of_code, raw_info_in, row, row_in,
-    table, text_of_name,
+    TableRow, code_of_name, index_of_name, name_of_code, raw_info_in, row, row_in, table,
+    text_of_name,
 };
 use crate::elf::{RelocationKindInfo, Row, Uleb128Role};
 use std::fmt;

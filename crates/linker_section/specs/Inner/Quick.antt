@@ -1,5 +1,5 @@
 -- Values that are found by the facts of rows, with few tests.
-use Rattle.std.specs.Prelude.{◌≡◌, ◌<◌, true, false}
+use Rattle.std.specs.Prelude.{◌≡◌, ◌<◌, ℕ, true, false}
 use Rattle.std.specs.Prelude.{ℤ, List, slice_get, Option, Some, Ok}
 use Rattle.linker_elf.specs.Relocate.{window_len}
 use Rattle.linker_elf.specs.Value.{difference_64, value_of}

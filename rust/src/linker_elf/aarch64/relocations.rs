@@ -4,8 +4,7 @@
 
 use crate::linker_elf::elf::choice_table::RelocationName;
 use crate::linker_elf::elf::rows::{
-    TableRow, code_of_name, index_of_name, info_in, name_of_code, row, row_in,
-    table, text_of_name,
+    TableRow, code_of_name, index_of_name, info_in, name_of_code, row, row_in, table, text_of_name,
 };
 use crate::linker_elf::elf::{RelocationKindInfo, Row};
 use core::fmt;

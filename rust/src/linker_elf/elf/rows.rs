@@ -2,10 +2,10 @@
 // Made by tools/erase of crates/linker_elf/src/elf/rows.rt.
 //! Rows of the relocation tables, and the macros that make them from each architecture's list.
 
-use crate::linker_elf::elf::value::Terms;
 use crate::linker_elf::elf::relocate::{
     is_encoded, write_aarch64, write_bits, write_bytes, write_field, write_number,
 };
+use crate::linker_elf::elf::value::FormulaTerms;
 use crate::linker_elf::elf::{
     AllowedRange, ApplyError, Bias, FormulaError, Operands, PageMask, RelocateError,
     RelocationInstruction, RelocationKind, RelocationKindInfo, RelocationNumbers, RelocationSize,
@@ -21,7 +21,7 @@ pub(crate) struct TableRow {
     pub(crate) mask: Option<PageMask>,
     pub(crate) numbers: RelocationNumbers,
     pub(crate) tests: WriteTests,
-    pub(crate) terms: Terms,
+    pub(crate) terms: FormulaTerms,
     pub(crate) facts: RowFacts,
     /// Whether the crate `linker-utils` has no such row.
     pub(crate) is_own: bool,
@@ -715,7 +715,7 @@ macro_rules! length {
 /// The terms of a row's formula.
 macro_rules! terms {
     ($kind:ident, $size:tt, ($($mask:ident)?), ($($bias:expr)?)) => {
-        $crate::linker_elf::elf::value::Terms {
+        $crate::linker_elf::elf::value::FormulaTerms {
             bias: $crate::linker_elf::elf::rows::number!(bias $($bias)?),
             symbol: $crate::linker_elf::elf::rows::bits!(symbol $($mask)?),
             entry: $crate::linker_elf::elf::rows::bits!(entry $($mask)?),

@@ -4,7 +4,7 @@
 
 use crate::linker_elf::elf::entries::names_plt_entry;
 use crate::linker_elf::elf::{
-    PAGE_MASK_4KB, PageMask, RelocationInstruction, RelocationKind, RelocationKindInfo,
+    Bias, PAGE_MASK_4KB, PageMask, RelocationInstruction, RelocationKind, RelocationKindInfo,
     RelocationSize,
 };
 use crate::linker_elf::loongarch64::highest_relocation_with_bias;
@@ -148,16 +148,36 @@ fn bits_of(is_page: bool) -> u64 {
     if is_page { !PAGE_MASK_4KB } else { u64::MAX }
 }
 
-/// Whether the addend is added to the address of an entry of the GOT.
+/// The bits of the addend that are added to the address of an entry of the GOT: all or none.
 #[inline(always)]
-fn adds_to_entry(size: RelocationSize) -> bool {
-    !matches!(
-        size,
+fn addend_bits(size: RelocationSize) -> u64 {
+    match size {
         RelocationSize::BitMasking {
             insn: RelocationInstruction::AArch64(_) | RelocationInstruction::Ppc64(_),
             ..
-        }
-    )
+        } => 0,
+        _ => u64::MAX,
+    }
+}
+
+/// The bits of P: none of the first of a pair at a ULEB128 number, whose formula is S + A.
+#[inline(always)]
+fn place_bits(kind: RelocationKind, size: RelocationSize, mask: Option<PageMask>) -> u64 {
+    match (kind, size) {
+        (RelocationKind::Relative, RelocationSize::ByteSize(0)) => 0,
+        _ => bits_of(matches!(
+            mask,
+            Some(PageMask::SymbolPlusAddendAndPosition(_) | PageMask::GotEntryAndPosition(_))
+        )),
+    }
+}
+
+#[inline(always)]
+fn bias_or_zero(bias: Option<Bias>) -> u64 {
+    match bias {
+        Some(bias) => bias.value(),
+        None => 0,
+    }
 }
 
 /// What `highest_relocation_with_bias` takes as `pc`.
@@ -171,7 +191,7 @@ fn pc_of_sequence(size: RelocationSize, place: u64) -> u64 {
 
 /// What is added to the first term of a formula, and which bits of its terms count.
 #[derive(Clone, Copy)]
-pub(crate) struct Terms {
+pub(crate) struct FormulaTerms {
     /// The bias.
     pub(crate) bias: u64,
     /// The bits of S + A.
@@ -186,7 +206,7 @@ pub(crate) struct Terms {
     pub(crate) got: u64,
 }
 
-impl Terms {
+impl FormulaTerms {
     /// A base with the addend and the bias.
     #[inline(always)]
     fn sum(&self, base: u64, addend: u64) -> u64 {
@@ -226,32 +246,20 @@ impl Terms {
 impl RelocationKindInfo {
     /// The terms of the formula.
     #[inline(always)]
-    fn terms(&self) -> Terms {
-        let symbol = matches!(self.mask, Some(PageMask::SymbolPlusAddendAndPosition(_)));
-        let entry = matches!(self.mask, Some(PageMask::GotEntryAndPosition(_)));
-        let got = matches!(self.mask, Some(PageMask::GotBase(_)));
-        let is_set =
-            self.kind == RelocationKind::Relative && self.size == RelocationSize::ByteSize(0);
-        Terms {
-            bias: match self.bias {
-                Some(bias) => bias.value(),
-                None => 0,
-            },
-            symbol: bits_of(symbol),
-            entry: bits_of(entry),
-            entry_addend: if adds_to_entry(self.size) {
-                u64::MAX
-            } else {
-                0
-            },
-            place: if is_set { 0 } else { bits_of(symbol || entry) },
-            got: bits_of(got),
+    fn terms(&self) -> FormulaTerms {
+        FormulaTerms {
+            bias: bias_or_zero(self.bias),
+            symbol: bits_of(matches!(self.mask, Some(PageMask::SymbolPlusAddendAndPosition(_)))),
+            entry: bits_of(matches!(self.mask, Some(PageMask::GotEntryAndPosition(_)))),
+            entry_addend: addend_bits(self.size),
+            place: place_bits(self.kind, self.size, self.mask),
+            got: bits_of(matches!(self.mask, Some(PageMask::GotBase(_)))),
         }
     }
 
     /// The value modulo 2^64.
     #[inline(always)]
-    fn value_modulo(&self, terms: &Terms, operands: &Operands) -> Result<u64, FormulaError> {
+    fn value_modulo(&self, terms: &FormulaTerms, operands: &Operands) -> Result<u64, FormulaError> {
         let place = operands.place & terms.place;
         let got = operands.got_base & terms.got;
         match self.kind {
@@ -298,10 +306,18 @@ impl RelocationKindInfo {
             | RelocationKind::TlsDescGot => terms.entry(operands),
             RelocationKind::SymRelGotBase => Ok(terms.symbol(operands).wrapping_sub(got)),
             RelocationKind::PltRelGotBase => {
-                Ok(terms.plt(self.size.loads_plt_word(self.kind), operands)?.wrapping_sub(got))
+                Ok(
+                    terms
+                        .plt(self.size.loads_plt_word(self.kind), operands)?
+                        .wrapping_sub(got),
+                )
             }
             RelocationKind::PltRelative => {
-                Ok(terms.plt(self.size.loads_plt_word(self.kind), operands)?.wrapping_sub(place))
+                Ok(
+                    terms
+                        .plt(self.size.loads_plt_word(self.kind), operands)?
+                        .wrapping_sub(place),
+                )
             }
             RelocationKind::SymbolSize => {
                 Ok(terms.sum(operands.symbol_size, operands.addend as u64))
@@ -317,7 +333,11 @@ impl RelocationKindInfo {
 
     /// `value`, by the row's terms.
     #[inline(always)]
-    pub(crate) fn value_by(&self, terms: &Terms, operands: &Operands) -> Result<i64, FormulaError> {
+    pub(crate) fn value_by(
+        &self,
+        terms: &FormulaTerms,
+        operands: &Operands,
+    ) -> Result<i64, FormulaError> {
         match self.value_modulo(terms, operands) {
             Ok(value) => Ok(value as i64),
             Err(error) => Err(error),

@@ -4,8 +4,8 @@
 
 use crate::linker_elf::elf::choice_table::RelocationName;
 use crate::linker_elf::elf::rows::{
-    TableRow, code_of_name, index_of_name, name_of_code, raw_info_in, row, row_in,
-    table, text_of_name,
+    TableRow, code_of_name, index_of_name, name_of_code, raw_info_in, row, row_in, table,
+    text_of_name,
 };
 use crate::linker_elf::elf::{RelocationKindInfo, Row, Uleb128Role};
 use core::fmt;

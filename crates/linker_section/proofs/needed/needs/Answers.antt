@@ -1,7 +1,8 @@
-use Rattle.std.proofs.Common.{◌∙◌, ap, refl, subst, Some, None}
+use Rattle.std.proofs.Common.{◌∙◌, ap, refl, subst, Some, None, to_z, of_z}
 use Rattle.std.proofs.lemmas.Int.{to_z-of_z}
 use Rattle.std.specs.Int.{w64}
 use Rattle.linker_section.proofs.RowFacts.{says}
+use Rattle.linker_section.specs.Inner.Facts.{requirements_by}
 use Rattle.linker_section.specs.Needed.{needs_in}
 use Rattle.linker_utils.specs.Architectures.{IsRow}
 use Rattle.linker_section.proofs.needed.needs.Goals as goal
@@ -10,13 +11,12 @@ pub returns-in-Some : goal.returns-in-Some
 returns-in-Some c =
     let a = c.args in
     let row = c.in-Some.row in
-    let is = subst (IsRow a.architecture a.code) c.in-Some.is c.row.ensures in
-    (
+    let is = subst (IsRow a.architecture a.code) c.in-Some.is c.row.ensures in (
       Some row,
       is,
-      ap Some c.requirements_by.ensures
-      ∙ (ap Some (says a.architecture a.code row is _ a.is_thread_local)
-      ∙ ap (λ x. needs_in (Some row) x a.is_thread_local) (to_z-of_z w64 a.addend c.ranges.addend)),
+      ap Some (c.requirements_by.ensures ∙ ap (λ f. requirements_by f (to_z w64 (of_z w64 a.addend)) a.is_thread_local) c.facts.ensures)
+          ∙ (ap Some (says a.architecture a.code row is (to_z w64 (of_z w64 a.addend)) a.is_thread_local)
+          ∙ ap (λ x. needs_in (Some row) x a.is_thread_local) (to_z-of_z w64 a.addend c.ranges.addend)),
     )
 
 pub returns-in-None : goal.returns-in-None

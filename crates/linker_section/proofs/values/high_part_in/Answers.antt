@@ -1,6 +1,7 @@
-use Rattle.std.proofs.Common.{◌∙◌, ◌/◌, length, sym, ap, subst, arith, Some, None}
+use Rattle.std.proofs.Common.{◌≡◌, ◌∙◌, ◌/◌, length, sym, ap, subst, arith, true, Some, None}
 use Rattle.std.proofs.lemmas.Bool.{cond-true, lt-ltb}
 use Rattle.linker_section.specs.Relocations.{relocation_in}
+use Rattle.linker_section.specs.Values.{is_high_part}
 use Rattle.linker_utils.specs.Architectures.{IsRow}
 use Rattle.linker_section.proofs.values.high_part_in.Goals as goal
 
@@ -15,7 +16,7 @@ returns-then-is_high_part-clause-found c =
       is_there = cond-true _ (Some (relocation_in bytes a.index)) None (lt-ltb a.index (length bytes / 24) c.requires)
           ∙ ap Some (sym c.relocation_in-relocation.ensures);
       offset_is = omega (arith, same);
-      row_is = subst (λ row. IsRow a.architecture r.code (Some row)) (sym c.info-info.ensures.row)
-          (subst (IsRow a.architecture r.code) c.in-Some.is c.row.ensures);
-      is_high = sym c.is_high_part.ensures ∙ c.if-is_high_part.true;
+      row_is = subst (IsRow a.architecture r.code) c.in-Some.is c.row.ensures;
+      is_high = subst (λ info. is_high_part a.low (Some info) ≡ true) c.info.ensures.row
+          (sym c.is_high_part.ensures ∙ c.if-is_high_part.true);
     }

@@ -1,6 +1,7 @@
-use Rattle.std.proofs.Common.{ap, false}
+use Rattle.std.proofs.Common.{ap, false, ◌∙◌}
 use Rattle.std.specs.Prelude.{pos}
 use Rattle.linker_section.proofs.values.serves_stub.Goals as goal
 
 pub returns : goal.returns
-returns c = ap (λ r. r.may_use_stub) (c.requires (pos 0) false)
+returns c =
+    ap (λ f. f.may_use_stub) c.facts.ensures ∙ ap (λ r. r.may_use_stub) (c.requires (pos 0) false)
