@@ -2,8 +2,7 @@
 
 use crate::linker_elf::elf::choice_table::RelocationName;
 use crate::linker_elf::elf::rows::{
-    TableRow, code_of_name, flags_of_name, index_of_name, info_in, name_of_code, row, row_in, table,
-    text_of_name,
+    TableRow, code_of_name, index_of_name, info_in, name_of_code, row, row_in, table, text_of_name,
 };
 use crate::linker_elf::elf::{RelocationKindInfo, Row};
 use core::fmt;
@@ -124,11 +123,6 @@ const fn index(name: SixthRelocation) -> usize {
 #[inline(always)]
 pub const fn row(name: SixthRelocation) -> Option<Row> {
     row_in(&ROWS[index(name)])
-}
-
-#[inline(always)]
-pub const fn row_flags(name: SixthRelocation) -> u16 {
-    relocations!(flags_of_name(SixthRelocation, name))
 }
 
 impl RelocationName for SixthRelocation {
