@@ -3,7 +3,7 @@ use Rattle.std.proofs.Common.{◌≡◌, ℕ, ◌+◌, inl, inr, ◌∙◌, List
 use Rattle.std.specs.Prelude.{slice_get}
 use Rattle.linker_rewriting.specs.Facts.{Setting, setting}
 use Rattle.linker_rewriting.specs.Groups.{stays_at, symbol_of_group}
-use Rattle.linker_rewriting.specs.Inner.Flags.{needs_mark, is_of_group, KeepsNone}
+use Rattle.linker_rewriting.specs.Inner.Codes.{needs_mark, is_of_group, KeepsNone}
 use Rattle.linker_rewriting.specs.Surveys.{AreKeptToo, IsGroupOf, IsOfThreads, IsKeeping, IsUnmarked, IsUnmarkedIn, IsUnmarkedBy, HasRewrite, StaysBy, AllStayIf, IsNoted, IsCause, IsSurveyedIn}
 use Rattle.linker_rewriting.specs.declared.facts.OutputFacts.{OutputFacts}
 use Rattle.linker_rewriting.specs.declared.facts.SymbolFacts.{SymbolFacts}

@@ -3,7 +3,7 @@ use Rattle.std.proofs.Common.{◌≡◌, ℕ, zero, suc, ◌+◌, ◌-◌, ◌�
 use Rattle.linker_rewriting.proofs.Surveying.{one_left}
 use Rattle.linker_rewriting.specs.Decisions.{AreApart, is_taken, takes_next, start_by, end_by, deleted_of, deletion_by, deletions_by}
 use Rattle.linker_rewriting.specs.Facts.{setting}
-use Rattle.linker_rewriting.specs.Inner.Flags.{KeepsNone}
+use Rattle.linker_rewriting.specs.Inner.Codes.{KeepsNone}
 use Rattle.linker_rewriting.specs.Inner.Left.{AreKept}
 use Rattle.linker_rewriting.specs.Rewritten.{relocation_after, AreRelocationsAfter}
 use Rattle.linker_rewriting.specs.Surveys.{IsSurveyedIn}

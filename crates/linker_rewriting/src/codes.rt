@@ -3,7 +3,7 @@
 //! few comparisons of it then.
 
 ghost use Rattle.std.specs.Prelude.{◌≡◌, ◌/◌, length, false};
-ghost use Rattle.linker_rewriting.specs.Inner.Flags.{IsListed, IsAsked};
+ghost use Rattle.linker_rewriting.specs.Inner.Codes.{IsListed, IsAsked};
 ghost use Rattle.linker_rewriting.specs.Inner.Left.{AreUnlisted};
 
 use crate::groups::{Scope, scope_in};
