@@ -470,31 +470,34 @@ fn near_addresses(report: &mut Report, input: &Input) {
     let output = sathunne::OutputFacts { is_executable, is_fixed, has_near_symbols };
     let values = vec![Symbol { address: 0x60_0010, ..Symbol::default() }; SYMBOLS];
     let (section, relocations) = input.bytes.split_at(LEN);
+    let survey = |kept: &mut [bool]| {
+        // SAFETY: a slice's pointer and length are its own, and a reference is of one value.
+        let status = unsafe {
+            linker_utils_survey_global_pointer_nonnull(
+                input.machine,
+                &output,
+                input.symbols.as_ptr(),
+                input.symbols.len(),
+                &PLACED,
+                values.as_ptr(),
+                values.len(),
+                PLACED.got_base,
+                relocations.as_ptr(),
+                relocations.len(),
+                section.as_ptr(),
+                section.len(),
+                kept.as_mut_ptr(),
+                kept.len(),
+            )
+        };
+        assert_eq!(status, 0);
+    };
+    let mut surveyed = [false; SYMBOLS];
+    survey(&mut surveyed);
     let exports = Side::over(
         vec![false; SYMBOLS],
         |kept: &mut Vec<bool>| kept.fill(false),
-        |kept: &mut Vec<bool>| {
-            // SAFETY: a slice's pointer and length are its own, and a reference is of one value.
-            let status = unsafe {
-                linker_utils_survey_global_pointer_nonnull(
-                    input.machine,
-                    &output,
-                    input.symbols.as_ptr(),
-                    input.symbols.len(),
-                    &PLACED,
-                    values.as_ptr(),
-                    values.len(),
-                    PLACED.got_base,
-                    relocations.as_ptr(),
-                    relocations.len(),
-                    section.as_ptr(),
-                    section.len(),
-                    kept.as_mut_ptr(),
-                    kept.len(),
-                )
-            };
-            assert_eq!(status, 0);
-        },
+        |kept: &mut Vec<bool>| survey(kept),
         |kept: &Vec<bool>| kept.iter().filter(|it| **it).count(),
     );
     let name = "`linker_utils_survey_global_pointer`";
@@ -503,7 +506,7 @@ fn near_addresses(report: &mut Report, input: &Input) {
     let mut deleted = vec![sathunne::Deletion::default(); input.count()];
     let rewrite = |bytes: &mut [u8]| {
         let (section, relocations) = bytes.split_at_mut(LEN);
-        let (kept, mut used) = ([false; SYMBOLS], 0);
+        let mut used = 0;
         // SAFETY: a slice's pointer and length are its own, and a reference is of one value.
         let status = unsafe {
             linker_utils_rewrite_global_pointer_nonnull(
@@ -515,8 +518,8 @@ fn near_addresses(report: &mut Report, input: &Input) {
                 values.as_ptr(),
                 values.len(),
                 PLACED.got_base,
-                kept.as_ptr(),
-                kept.len(),
+                surveyed.as_ptr(),
+                surveyed.len(),
                 relocations.as_mut_ptr(),
                 relocations.len(),
                 section.as_ptr(),
