@@ -40,7 +40,7 @@ fn assemble<'a>(
         high.insert(place, operands);
         let value = row.value(&operands).map_err(|error| format!("{label}: {error}"))?;
         let written = row.write(value, &mut code[at..]);
-        written.map_err(|error| format!("{place:#x}: {label}: {}", WriteError::new(&row.info(), value, error)))?;
+        written.map_err(|error| format!("{place:#x}: {label}: {}", WriteError::new(&row, value, error)))?;
     }
     Ok(code)
 }

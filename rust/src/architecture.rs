@@ -375,7 +375,7 @@ impl Architecture {
     }
 
     /// Whether the relocation with a code requires a GOT entry, as
-    /// `RelocationKindInfo::asks_for_got` says. False of a code without a row.
+    /// `Row::asks_for_got` says. False of a code without a row.
     ///
     /// ```
     /// use linker_utils::elf::Architecture;
@@ -393,7 +393,7 @@ impl Architecture {
     }
 
     /// Whether an entry of the PLT may serve as the target of the relocation with a code, as
-    /// `RelocationKindInfo::may_use_plt` says. False of a code without a row.
+    /// `Row::may_use_plt` says. False of a code without a row.
     ///
     /// ```
     /// use linker_utils::elf::Architecture;

@@ -60,7 +60,7 @@ pub mod runs {
 pub mod reading {
     pub use crate::linker_reading::fields::FieldValue;
     pub use crate::linker_reading::operands::{forms_of, operand};
-    pub use crate::linker_reading::reading::{read, read_row};
+    pub use crate::linker_reading::reading::read;
     pub use crate::linker_reading::solving::{Origin, Reference, Terms, join, solve, terms_of};
 }
 

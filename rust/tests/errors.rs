@@ -69,11 +69,11 @@ fn errors_of_values_name_what_can_be_written() {
     ] {
         let row = architecture.row(code).unwrap();
         let error = row.write(value, &mut [0; 8]).unwrap_err();
-        assert_eq!(texts(WriteError::new(&row.info(), value, error)), [text]);
+        assert_eq!(texts(WriteError::new(&row, value, error)), [text]);
     }
     // R_X86_64_64 is whole bytes without bounds
     let row = Architecture::X86_64.row(1).unwrap();
-    let error = WriteError::new(&row.info(), 5, RelocateError::TooShort);
+    let error = WriteError::new(&row, 5, RelocateError::TooShort);
     assert_eq!((error.least, error.greatest, error.alignment), (i64::MIN, i64::MAX, 1));
 }
 

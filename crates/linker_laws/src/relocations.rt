@@ -1,8 +1,8 @@
 //! Laws of relocations: what relocated instructions compute is the target.
 //!
 //! Each law begins with operands, and with the relocations of an instruction, of a pair or of a
-//! sequence. Whenever their values are computed by `RelocationKindInfo::value` of `linker_utils`,
-//! and `RelocationKindInfo::write` accepts and writes each of them, what the machine computes from
+//! sequence. Whenever their values are computed by `Row::value` of `linker_utils`,
+//! and `Row::write` accepts and writes each of them, what the machine computes from
 //! the words is the target, modulo 2^64: the address of the symbol, of the PLT entry or of the GOT
 //! entry, with the addend. The functions do nothing, and the contract of each has the laws of one
 //! architecture. They are in `specs/`, over one scheme (`specs/Schemes`).

@@ -4,20 +4,22 @@ use Rattle.std.proofs.lemmas.Bool.{cases_Bool, cases_lt}
 use Rattle.std.proofs.lemmas.List.{get_or-take, length-drop}
 use Rattle.std.specs.Int.{w64, from_le_bytes}
 use Rattle.std.specs.Prelude.{slice_index, ◌↔◌, IsTrue, not, ◌||◌, ◌%◌, ◌^◌}
-use Rattle.linker_elf.specs.Facts.{length_of as length_by}
 use Rattle.linker_elf.specs.Relocate.{size_len, window_len}
 use Rattle.linker_elf.specs.declared.elf.RelocationInstruction.TheVariants.{RiscV, Ppc64, LoongArch64}
 use Rattle.linker_elf.specs.declared.elf.RelocationKindInfo.{RelocationKindInfo}
 use Rattle.linker_elf.specs.declared.elf.RelocationSize.{RelocationSize}
 use Rattle.linker_elf.specs.declared.elf.RelocationSize.TheVariants.{ByteSize, BitMasking}
+use Rattle.linker_elf.specs.declared.elf.facts.Length.{Length}
+use Rattle.linker_elf.specs.declared.elf.facts.Length.TheVariants as lengths
 use Rattle.linker_elf.specs.declared.loongarch64.forms.LoongArch64Instruction.TheVariants.{Shift10}
 use Rattle.linker_elf.specs.declared.ppc64.forms.Ppc64Instruction.TheVariants.{Prefixed}
+use Rattle.linker_elf.specs.declared.riscv64.forms.RiscVInstruction.{RiscVInstruction}
 use Rattle.linker_elf.specs.declared.riscv64.forms.RiscVInstruction.TheVariants.{IType, SType, CbType, CjType, CluiType}
 use Rattle.linker_elf.specs.declared.elf.relocate.RelocateError.TheVariants.{OutOfReach}
 use Rattle.linker_section.proofs.Fronts.{some_window, HaveSameWindow}
-use Rattle.linker_section.specs.Conditions.{HasLength, HoldsOffset, holds_offset, is_12_bits, is_thread_based, is_tp_off, riscv_shows, shows_length}
+use Rattle.linker_section.specs.Conditions.{HasLength, HoldsOffset, holds_offset, is_12_bits, is_thread_based, is_tp_off, shows, shows_length}
 use Rattle.linker_section.specs.Fields.{is_of_pair}
-use Rattle.linker_section.specs.Inner.Facts.{shows}
+use Rattle.linker_section.specs.Inner.Facts.{word_shows}
 use Rattle.linker_section.specs.Relocations.{relocation_in}
 use Rattle.linker_section.specs.Sections.{HasValue, IsOtherLength, IsUnwritable}
 use Rattle.linker_section.specs.Values.{offset_at}
@@ -67,7 +69,14 @@ pub shows_same : (size : RelocationSize) (xs ys : List ℕ) → IsSameFront size
     → shows_length size xs ≡ shows_length size ys
 shows_same (ByteSize n) xs ys same = refl
 shows_same (BitMasking bits (RiscV insn)) xs ys same =
-    ap (riscv_shows insn) (byte_same (size_len (BitMasking bits (RiscV insn))) 0 xs ys (some_window (RiscV insn)) same)
+    riscv_same insn (byte_same (size_len (BitMasking bits (RiscV insn))) 0 xs ys (some_window (RiscV insn)) same)
+  where
+    riscv_same : (insn : RiscVInstruction) → slice_index xs 0 ≡ slice_index ys 0
+        → shows_length (BitMasking bits (RiscV insn)) xs ≡ shows_length (BitMasking bits (RiscV insn)) ys
+    riscv_same CbType first = ap (λ byte. not (eqb (byte % 4) 3)) first
+    riscv_same CjType first = ap (λ byte. not (eqb (byte % 4) 3)) first
+    riscv_same CluiType first = ap (λ byte. not (eqb (byte % 4) 3)) first
+    riscv_same insn first = ap (λ byte. eqb (byte % 4) 3) first
 shows_same (BitMasking bits (Ppc64 Prefixed)) xs ys same =
     ap (λ byte. eqb (byte / 4) 1) (byte_same 8 3 xs ys (omega arith) same)
 shows_same (BitMasking bits insn) xs ys same = refl
@@ -101,14 +110,12 @@ high_bits bytes small =
     let a = small 0 in let b = small 1 in let c = small 2 in let d = small 3 in
     omega (arith, a, b, c, d)
 
-pub word_shows : (size : RelocationSize) (bytes : List ℕ) → ((i : ℕ) → slice_index bytes i < 256)
-    → shows (length_by size) (from_le_bytes w64 bytes) ≡ shows_length size bytes
-word_shows (BitMasking bits (RiscV CbType)) bytes small = ap (λ n. not (eqb n 3)) (low_bits bytes)
-word_shows (BitMasking bits (RiscV CjType)) bytes small = ap (λ n. not (eqb n 3)) (low_bits bytes)
-word_shows (BitMasking bits (RiscV CluiType)) bytes small = ap (λ n. not (eqb n 3)) (low_bits bytes)
-word_shows (BitMasking bits (RiscV insn)) bytes small = ap (λ n. eqb n 3) (low_bits bytes)
-word_shows (BitMasking bits (Ppc64 Prefixed)) bytes small = ap (λ n. eqb n 1) (high_bits bytes small)
-word_shows size bytes small = refl
+pub word_says : (length : Length) (bytes : List ℕ) → ((i : ℕ) → slice_index bytes i < 256)
+    → word_shows length (from_le_bytes w64 bytes) ≡ shows length bytes
+word_says lengths.Any bytes small = refl
+word_says lengths.Two bytes small = ap (λ n. not (eqb n 3)) (low_bits bytes)
+word_says lengths.Four bytes small = ap (λ n. eqb n 3) (low_bits bytes)
+word_says lengths.Prefixed bytes small = ap (λ n. eqb n 1) (high_bits bytes small)
 
 -- ---- offsets from the thread pointer
 

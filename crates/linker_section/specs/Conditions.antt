@@ -7,21 +7,19 @@ use Rattle.std.specs.Prelude.{List, length, drop, slice_get, slice_index, Option
 use Rattle.std.specs.Prelude.{is_some}
 use Rattle.std.specs.Int.{w32, w64, cast_unsigned, from_le_bytes, leading_zeros}
 use Rattle.std.specs.Ordering.{int_eq}
+use Rattle.linker_elf.specs.Facts.{length_of}
 use Rattle.linker_elf.specs.Relocate.{window_len}
 use Rattle.linker_elf.specs.Value.{sum_64}
-use Rattle.linker_elf.specs.declared.elf.RelocationInstruction.TheVariants.{RiscV, Ppc64}
-use Rattle.linker_elf.specs.declared.elf.RelocationInstruction.TheVariants.{LoongArch64}
+use Rattle.linker_elf.specs.declared.elf.RelocationInstruction.TheVariants.{RiscV, LoongArch64}
 use Rattle.linker_elf.specs.declared.elf.RelocationKind.{RelocationKind}
 use Rattle.linker_elf.specs.declared.elf.RelocationKind.TheVariants.{TpOff}
 use Rattle.linker_elf.specs.declared.elf.RelocationKindInfo.{RelocationKindInfo}
 use Rattle.linker_elf.specs.declared.elf.RelocationSize.{RelocationSize}
 use Rattle.linker_elf.specs.declared.elf.RelocationSize.TheVariants.{BitMasking}
+use Rattle.linker_elf.specs.declared.elf.facts.Length.{Length}
+use Rattle.linker_elf.specs.declared.elf.facts.Length.TheVariants as lengths
 use Rattle.linker_elf.specs.declared.loongarch64.forms.LoongArch64Instruction.TheVariants.{Shift10}
-use Rattle.linker_elf.specs.declared.ppc64.forms.Ppc64Instruction.TheVariants.{Prefixed}
-use Rattle.linker_elf.specs.declared.riscv64.forms.RiscVInstruction.{RiscVInstruction}
-use Rattle.linker_elf.specs.declared.riscv64.forms.RiscVInstruction.TheVariants.{CbType, CjType}
-use Rattle.linker_elf.specs.declared.riscv64.forms.RiscVInstruction.TheVariants.{CluiType, IType}
-use Rattle.linker_elf.specs.declared.riscv64.forms.RiscVInstruction.TheVariants.{SType}
+use Rattle.linker_elf.specs.declared.riscv64.forms.RiscVInstruction.TheVariants.{IType, SType}
 use Rattle.linker_section.specs.Relocations.{relocation_in}
 use Rattle.linker_section.specs.declared.facts.Addresses.{Addresses}
 use Rattle.linker_section.specs.declared.facts.Symbol.{Symbol}
@@ -84,21 +82,19 @@ lacks_stub architecture symbols r = false
 
 -- ---- lengths of instructions
 
--- The low two bits of an instruction are 11 where it has 4 bytes, and others where it has 2 (The
--- RISC-V Instruction Set Manual, volume I, "Expanded Instruction-Length Encoding").
-abbrev pub riscv_shows : RiscVInstruction → ℕ → Bool
-riscv_shows CbType byte = not (byte % 4 == 3)
-riscv_shows CjType byte = not (byte % 4 == 3)
-riscv_shows CluiType byte = not (byte % 4 == 3)
-riscv_shows insn byte = byte % 4 == 3
+-- Bytes begin with an instruction of a length, as far as they show it. RISC-V's low two bits are 11
+-- where it has 4 bytes, and others where it has 2 (The RISC-V Instruction Set Manual, volume I,
+-- "Expanded Instruction-Length Encoding"); the primary opcode of the first 4 bytes of PowerPC64's
+-- instructions of 8 is 1 (Power ISA, "Prefixed Instructions").
+abbrev pub shows : Length → List ℕ → Bool
+shows lengths.Any there = true
+shows lengths.Two there = not (slice_index there 0 % 4 == 3)
+shows lengths.Four there = slice_index there 0 % 4 == 3
+shows lengths.Prefixed there = slice_index there 3 / 4 == 1
 
--- Bytes begin with an instruction as long as a form, as far as they show it: those of RISC-V, and
--- for PowerPC64's instructions of 8 bytes the primary opcode of the first 4, which is 1 (Power ISA,
--- "Prefixed Instructions").
+-- so with the length of a row's form
 abbrev pub shows_length : RelocationSize → List ℕ → Bool
-shows_length (BitMasking bits (RiscV insn)) there = riscv_shows insn (slice_index there 0)
-shows_length (BitMasking bits (Ppc64 Prefixed)) there = slice_index there 3 / 4 == 1
-shows_length size there = true
+shows_length size there = shows (length_of size) there
 
 -- the bytes at an offset are so, if the field of a row is in the section
 abbrev pub HasLength : RelocationKindInfo → ℕ → List ℕ → Type 0

@@ -3,11 +3,10 @@
 ghost use Rattle.std.specs.Prelude.{◌≡◌, Option};
 ghost use Rattle.linker_elf.specs.declared.elf.RelocationKindInfo.{RelocationKindInfo};
 ghost use Rattle.linker_section.specs.Inner.Facts.{class_by, entry_by, requirements_by};
-ghost use Rattle.linker_section.specs.Needed.{class_of_kind, may_use_stub};
 ghost use Rattle.linker_section.specs.Needed.{needs_in};
 ghost use Rattle.linker_utils.specs.Architectures.{IsRow};
 
-use linker_utils::elf::{Architecture, EntryUse, RelocationKind, RelocationSize, RowFacts};
+use linker_utils::elf::{Architecture, EntryUse, RowFacts};
 
 /// What an entry of the GOT holds.
 #[derive(Debug, Clone, Copy, PartialEq, Eq)]
@@ -57,46 +56,6 @@ pub struct Requirements {
     /// 4 KiB beside where it was linked for. Of both halves of a difference of symbols, as
     /// `R_RISCV_ADD32` and `R_RISCV_SUB32`, it doesn't.
     pub depends_on_load: bool,
-}
-
-/// The class of the entry whose address a formula names.
-#[inline(always)]
-pub(crate) fn class_of_kind(kind: RelocationKind) -> Option<EntryClass>
-    ensures { result ≡ class_of_kind kind }
-{
-    match kind {
-        RelocationKind::GotRelative
-        | RelocationKind::GotRelativeLoongArch64
-        | RelocationKind::GotRelGotBase
-        | RelocationKind::Got => Some(EntryClass::Address),
-        RelocationKind::GotTpOff
-        | RelocationKind::GotTpOffGot
-        | RelocationKind::GotTpOffGotBase
-        | RelocationKind::GotTpOffLoongArch64 => Some(EntryClass::ThreadOffset),
-        RelocationKind::TlsGd | RelocationKind::TlsGdGot | RelocationKind::TlsGdGotBase => {
-            Some(EntryClass::ModuleOffset)
-        }
-        RelocationKind::TlsLd | RelocationKind::TlsLdGot | RelocationKind::TlsLdGotBase => {
-            Some(EntryClass::Module)
-        }
-        RelocationKind::TlsDesc
-        | RelocationKind::TlsDescGot
-        | RelocationKind::TlsDescGotBase
-        | RelocationKind::TlsDescLoongArch64 => Some(EntryClass::Descriptor),
-        _ => None,
-    }
-}
-
-/// Whether a stub may serve as the target.
-#[inline(always)]
-pub(crate) fn may_use_stub(size: RelocationSize, kind: RelocationKind) -> bool
-    ensures { result ≡ may_use_stub size kind }
-{
-    size.is_branch()
-        || (matches!(
-            kind,
-            RelocationKind::PltRelGotBase | RelocationKind::PltRelative
-        ) && !size.loads_plt_word(kind))
 }
 
 /// The class of the entry that a formula has.

@@ -16,12 +16,13 @@ ghost use Rattle.linker_section.specs.Values.{low_value, IsValueBy, IsValue};
 ghost use Rattle.linker_utils.specs.Architectures.{IsRow};
 
 use crate::facts::{Addresses, Symbol};
-use crate::needed::{Entry, EntryClass, class_of_kind, entry_by, may_use_stub};
+use crate::needed::{Entry, EntryClass, entry_by};
 use crate::relocations::{Rela, first_from, offset_at, relocation_in, relocations_len};
 use linker_utils::elf::{
     Architecture, Operands, RelocationInstruction, RelocationKind, RelocationKindInfo,
     RelocationSize, RiscVInstruction, Row,
 };
+use linker_utils::x86_64::X86_64Relocation;
 
 /// Why a relocation has no value.
 #[derive(Debug, Clone, Copy, PartialEq, Eq)]
@@ -109,7 +110,9 @@ pub(crate) fn entry_address(
 pub(crate) fn is_of_got(architecture: Architecture, code: u32) -> bool
     ensures { result ≡ is_of_got architecture code }
 {
-    matches!(architecture, Architecture::X86_64) && (code == 26 || code == 29)
+    matches!(architecture, Architecture::X86_64)
+        && (code == X86_64Relocation::R_X86_64_GOTPC64.elf_code()
+            || code == X86_64Relocation::R_X86_64_GOTPC32.elf_code())
 }
 
 /// How far after a function's global entry point its local one is.
@@ -137,10 +140,10 @@ fn is_ppc64_branch(size: RelocationSize) -> bool
 
 /// A symbol's address, or where PowerPC64's branches go.
 #[inline(always)]
-fn address_of(info: &RelocationKindInfo, symbol: &Symbol) -> u64
-    ensures { result ≡ address_of info.now symbol.now }
+fn address_of(row: &Row, symbol: &Symbol) -> u64
+    ensures { result ≡ address_of row.now symbol.now }
 {
-    if is_ppc64_branch(info.size) {
+    if is_ppc64_branch(row.info().size) {
         symbol.address.wrapping_add(local_entry(symbol.other))
     } else {
         symbol.address
@@ -155,30 +158,28 @@ fn is_relative(kind: RelocationKind) -> bool
     matches!(kind, RelocationKind::Relative | RelocationKind::PltRelative)
 }
 
+/// Whether a stub may serve as the target of a relocation.
+#[inline(always)]
+fn serves_stub(row: &Row) -> bool
+    requires { SaysNeeds row.now }
+    ensures { result ≡ may_use_stub row.now.size row.now.kind }
+{
+    row.facts().may_use_stub
+}
+
 /// What an undefined weak symbol counts for.
 #[inline(always)]
-fn weak_address(architecture: Architecture, info: &RelocationKindInfo, place: u64) -> u64
-    ensures { result ≡ weak_address architecture info.now place }
+fn weak_address(architecture: Architecture, row: &Row, place: u64) -> u64
+    requires { SaysNeeds row.now }
+    ensures { result ≡ weak_address architecture row.now place }
 {
+    let is_branch = row.facts().is_branch;
     match architecture {
-        Architecture::AArch64 => {
-            if info.size.is_branch() {
-                place.wrapping_add(4)
-            } else if is_relative(info.kind) {
-                place
-            } else {
-                0
-            }
-        }
-        Architecture::RiscV => {
-            if may_use_stub(info.size, info.kind) {
-                place
-            } else {
-                0
-            }
-        }
-        Architecture::Ppc64 => { if info.size.is_branch() { place } else { 0 } }
-        Architecture::LoongArch64 | Architecture::X86_64 => 0,
+        Architecture::AArch64 if is_branch => place.wrapping_add(4),
+        Architecture::AArch64 if is_relative(row.kind()) => place,
+        Architecture::RiscV if serves_stub(row) => place,
+        Architecture::Ppc64 if is_branch => place,
+        _ => 0,
     }
 }
 
@@ -198,28 +199,20 @@ fn origin_of(addresses: &Addresses, kind: RelocationKind) -> u64
 fn defined_or_weak(
     architecture: Architecture,
     addresses: &Addresses,
-    info: &RelocationKindInfo,
+    row: &Row,
     symbol: &Symbol,
     place: u64,
 ) -> u64
-    ensures { result ≡ defined_or_weak architecture addresses.now info.now symbol.now place }
+    requires { SaysNeeds row.now }
+    ensures { result ≡ defined_or_weak architecture addresses.now row.now symbol.now place }
 {
     if !symbol.is_undefined_weak {
-        address_of(info, symbol)
-    } else if info.kind.is_offset() {
-        origin_of(addresses, info.kind)
+        address_of(row, symbol)
+    } else if row.kind().is_offset() {
+        origin_of(addresses, row.kind())
     } else {
-        weak_address(architecture, info, place)
+        weak_address(architecture, row, place)
     }
-}
-
-/// Whether a stub may serve as the target of a relocation.
-#[inline(always)]
-fn serves_stub(row: &Row) -> bool
-    requires { SaysNeeds row.now }
-    ensures { result ≡ may_use_stub row.now.size row.now.kind }
-{
-    row.facts().may_use_stub
 }
 
 /// S, or the stub by which a branch goes.
@@ -237,7 +230,7 @@ pub(crate) fn target_of(
     if serves_stub(row) && symbol.stub != 0 {
         symbol.stub
     } else {
-        defined_or_weak(architecture, addresses, &row.info(), symbol, place)
+        defined_or_weak(architecture, addresses, row, symbol, place)
     }
 }
 
@@ -519,7 +512,7 @@ fn high_part(
 fn low_operands(high: &Row, operands: Operands) -> Operands
     ensures { result ≡ low_operands high.now operands }
 {
-    if class_of_kind(high.kind()).is_some() {
+    if high.kind().names_got_entry() {
         Operands {
             symbol: operands.got_entry,
             ..operands

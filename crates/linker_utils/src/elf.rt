@@ -40,10 +40,10 @@ impl WriteError {
     /// let row = Architecture::AArch64.row(279).unwrap();
     /// let mut tbz = 0x3600_0000u32.to_le_bytes();
     /// let error = row.write(0x8000, &mut tbz).unwrap_err();
-    /// let error = WriteError::new(&row.info(), 0x8000, error);
+    /// let error = WriteError::new(&row, 0x8000, error);
     /// assert_eq!((error.least, error.greatest, error.alignment), (-0x8000, 0x7fff, 4));
     /// ```
-    pub fn new(row: &RelocationKindInfo, value: i64, error: RelocateError) -> WriteError
+    pub fn new(row: &Row, value: i64, error: RelocateError) -> WriteError
         ensures { result ≡ write_error row.now value error }
     {
         let (least, greatest) = match row.reach().bounds {
@@ -55,7 +55,7 @@ impl WriteError {
             value,
             least,
             greatest,
-            alignment: row.alignment,
+            alignment: row.numbers().alignment,
         }
     }
 }

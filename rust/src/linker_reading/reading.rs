@@ -268,8 +268,7 @@ fn with_alignment(alignment: u64, field: FieldValue) -> FieldValue {
 ///
 /// `None` if there are fewer bytes than the window. Also `None` of rows whose field isn't the
 /// value: those of no bytes, those that add or subtract, those of ULEB128 numbers, and
-/// `R_LARCH_CALL30`; and of rows that the library doesn't return, as those of `MachOLow12` or of
-/// more than 8 bytes.
+/// `R_LARCH_CALL30`.
 ///
 /// ```
 /// use linker_utils::reading::read;
@@ -282,14 +281,8 @@ fn with_alignment(alignment: u64, field: FieldValue) -> FieldValue {
 /// ```
 #[must_use]
 pub fn read(row: &Row, bytes: &[u8]) -> Option<FieldValue> {
-    read_row(&row.info(), bytes)
-}
-
-/// The same, of a row that was read from a table.
-#[must_use]
-pub fn read_row(row: &RelocationKindInfo, bytes: &[u8]) -> Option<FieldValue> {
     // in each arm the compiler knows the architecture, and tests it no more
-    match row.size {
+    match row.info().size {
         RelocationSize::ByteSize(_) => read_as(row, bytes),
         RelocationSize::BitMasking { insn, .. } => match insn {
             RelocationInstruction::AArch64(_) => read_as(row, bytes),
@@ -301,14 +294,15 @@ pub fn read_row(row: &RelocationKindInfo, bytes: &[u8]) -> Option<FieldValue> {
 }
 
 #[inline(always)]
-fn read_as(row: &RelocationKindInfo, bytes: &[u8]) -> Option<FieldValue> {
+fn read_as(row: &Row, bytes: &[u8]) -> Option<FieldValue> {
+    let info = row.info();
     let reach = row.reach();
-    if !holds_field(row.kind, row.size, reach) {
+    if !holds_field(info.kind, info.size, reach) {
         return None;
     }
     if bytes.len() < row.window() {
         return None;
     }
-    let field = field_read(row, reach, bytes);
-    Some(with_alignment(row.alignment, with_reach(reach, field)))
+    let field = field_read(&info, reach, bytes);
+    Some(with_alignment(info.alignment, with_reach(reach, field)))
 }

@@ -161,7 +161,7 @@ fn without_rounding(field: FieldValue) -> FieldValue {
 }
 
 /// What is known of the address that a value comes from: the inverse of
-/// `RelocationKindInfo::value`. `terms_of` says which address it is. `field` is what is known of
+/// `Row::value`. `terms_of` says which address it is. `field` is what is known of
 /// the value, as `read` returns it. Of the operands only the place, the GOT's address and the base
 /// of TLS are read, whichever the formula takes off.
 ///

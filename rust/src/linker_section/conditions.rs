@@ -6,9 +6,12 @@ use crate::linker_section::facts::{Addresses, Symbol};
 use crate::linker_section::relocations::{Rela, first_from, relocation_in, relocations_len};
 use crate::linker_base::utils::u32_from_slice;
 use crate::elf::{
-    Architecture, Length, LoongArch64Instruction, Ppc64Instruction, RelocationInstruction,
-    RelocationKind, RelocationSize, RiscVInstruction, Row,
+    Architecture, Length, LoongArch64Instruction, RelocationInstruction, RelocationKind,
+    RelocationSize, RiscVInstruction, Row,
 };
+use crate::loongarch64::LoongArch64Relocation;
+use crate::ppc64::Ppc64Relocation;
+use crate::riscv64::RiscVRelocation;
 
 /// Whether a symbol is a function of the output that may return with another TOC pointer, and has
 /// no stub that keeps the caller's.
@@ -20,8 +23,9 @@ fn changes_toc(symbol: &Symbol) -> bool {
 /// Whether a relocation is a call that keeps its TOC pointer, of such a symbol.
 #[inline(always)]
 pub(crate) fn lacks_stub(architecture: Architecture, symbols: &[Symbol], relocation: &Rela) -> bool {
-    // R_PPC64_REL24
-    if !matches!(architecture, Architecture::Ppc64) || relocation.code != 10 {
+    if !matches!(architecture, Architecture::Ppc64)
+        || relocation.code != Ppc64Relocation::R_PPC64_REL24.elf_code()
+    {
         return false;
     }
     match symbols.get(relocation.symbol as usize) {
@@ -73,11 +77,11 @@ pub(crate) fn is_filled(
     let place = addresses.section.wrapping_add(relocation.offset);
     let addend = relocation.addend as u64;
     match architecture {
-        // R_RISCV_ALIGN
-        Architecture::RiscV => relocation.code != 43 || is_padded(place, addend),
-        // R_LARCH_ALIGN
+        Architecture::RiscV => {
+            relocation.code != RiscVRelocation::R_RISCV_ALIGN.elf_code() || is_padded(place, addend)
+        }
         Architecture::LoongArch64 => {
-            if relocation.code != 102 {
+            if relocation.code != LoongArch64Relocation::R_LARCH_ALIGN.elf_code() {
                 true
             } else if relocation.symbol == 0 {
                 is_padded(place, addend)
@@ -95,33 +99,14 @@ fn first_byte(there: &[u8]) -> u8 {
     if there.is_empty() { 0 } else { there[0] }
 }
 
-/// Whether an instruction of a form begins with a byte.
+/// Whether bytes begin with an instruction of a length, as far as they show it.
 #[inline(always)]
-fn riscv_shows(insn: RiscVInstruction, byte: u8) -> bool {
-    match insn {
-        RiscVInstruction::CbType | RiscVInstruction::CjType | RiscVInstruction::CluiType => {
-            byte % 4 != 3
-        }
-        _ => byte % 4 == 3,
-    }
-}
-
-/// Whether the first word of bytes is the prefix of an instruction.
-#[inline(always)]
-fn begins_prefixed(there: &[u8]) -> bool {
-    there.len() > 3 && there[3] / 4 == 1
-}
-
-/// Whether bytes begin with an instruction as long as the form of a row, as far as they show it.
-#[inline(always)]
-fn shows_length(size: RelocationSize, there: &[u8]) -> bool {
-    match size {
-        RelocationSize::BitMasking { insn, .. } => match insn {
-            RelocationInstruction::RiscV(insn) => riscv_shows(insn, first_byte(there)),
-            RelocationInstruction::Ppc64(Ppc64Instruction::Prefixed) => begins_prefixed(there),
-            _ => true,
-        },
-        RelocationSize::ByteSize(_) => true,
+fn shows(length: Length, there: &[u8]) -> bool {
+    match length {
+        Length::Any => true,
+        Length::Two => first_byte(there) % 4 != 3,
+        Length::Four => first_byte(there) % 4 == 3,
+        Length::Prefixed => there.len() > 3 && there[3] / 4 == 1,
     }
 }
 
@@ -133,7 +118,7 @@ pub(crate) fn has_length(row: &Row, offset: u64, section: &[u8]) -> bool {
         return true;
     }
     let there = &section[offset as usize..];
-    there.len() < row.window() || shows_length(row.info().size, there)
+    there.len() < row.window() || shows(row.facts().length, there)
 }
 
 /// Whether a word of 8 bytes begins with an instruction as long as the form of a row, in an
@@ -250,8 +235,8 @@ fn has_upper(relocations: &[u8], high: &Rela) -> bool {
 pub(crate) fn needs_upper(architecture: Architecture, relocation: &Rela, value: i64) -> bool {
     matches!(architecture, Architecture::LoongArch64)
         && (value < -0x8000_0000 || 0x7fff_ffff < value)
-        // R_LARCH_TLS_LE_HI20_R
-        && (relocation.code == 121 || upper_code(relocation.code).is_some())
+        && (relocation.code == LoongArch64Relocation::R_LARCH_TLS_LE_HI20_R.elf_code()
+            || upper_code(relocation.code).is_some())
 }
 
 /// Whether a value is one of 32 signed bits, if a relocation begins a sequence of LoongArch without

@@ -2,7 +2,7 @@
 // Made by tools/erase of crates/linker_section/src/needed.rt.
 //! What a relocation requires of a linker before addresses are known.
 
-use crate::elf::{Architecture, EntryUse, RelocationKind, RelocationSize, RowFacts};
+use crate::elf::{Architecture, EntryUse, RowFacts};
 
 /// What an entry of the GOT holds.
 #[derive(Debug, Clone, Copy, PartialEq, Eq)]
@@ -52,42 +52,6 @@ pub struct Requirements {
     /// 4 KiB beside where it was linked for. Of both halves of a difference of symbols, as
     /// `R_RISCV_ADD32` and `R_RISCV_SUB32`, it doesn't.
     pub depends_on_load: bool,
-}
-
-/// The class of the entry whose address a formula names.
-#[inline(always)]
-pub(crate) fn class_of_kind(kind: RelocationKind) -> Option<EntryClass> {
-    match kind {
-        RelocationKind::GotRelative
-        | RelocationKind::GotRelativeLoongArch64
-        | RelocationKind::GotRelGotBase
-        | RelocationKind::Got => Some(EntryClass::Address),
-        RelocationKind::GotTpOff
-        | RelocationKind::GotTpOffGot
-        | RelocationKind::GotTpOffGotBase
-        | RelocationKind::GotTpOffLoongArch64 => Some(EntryClass::ThreadOffset),
-        RelocationKind::TlsGd | RelocationKind::TlsGdGot | RelocationKind::TlsGdGotBase => {
-            Some(EntryClass::ModuleOffset)
-        }
-        RelocationKind::TlsLd | RelocationKind::TlsLdGot | RelocationKind::TlsLdGotBase => {
-            Some(EntryClass::Module)
-        }
-        RelocationKind::TlsDesc
-        | RelocationKind::TlsDescGot
-        | RelocationKind::TlsDescGotBase
-        | RelocationKind::TlsDescLoongArch64 => Some(EntryClass::Descriptor),
-        _ => None,
-    }
-}
-
-/// Whether a stub may serve as the target.
-#[inline(always)]
-pub(crate) fn may_use_stub(size: RelocationSize, kind: RelocationKind) -> bool {
-    size.is_branch()
-        || (matches!(
-            kind,
-            RelocationKind::PltRelGotBase | RelocationKind::PltRelative
-        ) && !size.loads_plt_word(kind))
 }
 
 /// The class of the entry that a formula has.

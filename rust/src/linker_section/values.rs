@@ -3,12 +3,13 @@
 //! The value of a relocation, by what a linker knows of symbols and of the output.
 
 use crate::linker_section::facts::{Addresses, Symbol};
-use crate::linker_section::needed::{Entry, EntryClass, class_of_kind, entry_by, may_use_stub};
+use crate::linker_section::needed::{Entry, EntryClass, entry_by};
 use crate::linker_section::relocations::{Rela, first_from, offset_at, relocation_in, relocations_len};
 use crate::elf::{
     Architecture, Operands, RelocationInstruction, RelocationKind, RelocationKindInfo,
     RelocationSize, RiscVInstruction, Row,
 };
+use crate::x86_64::X86_64Relocation;
 
 /// Why a relocation has no value.
 #[derive(Debug, Clone, Copy, PartialEq, Eq)]
@@ -86,7 +87,9 @@ pub(crate) fn entry_address(
 /// Whether the formula has the GOT's address in place of the symbol's.
 #[inline(always)]
 pub(crate) fn is_of_got(architecture: Architecture, code: u32) -> bool {
-    matches!(architecture, Architecture::X86_64) && (code == 26 || code == 29)
+    matches!(architecture, Architecture::X86_64)
+        && (code == X86_64Relocation::R_X86_64_GOTPC64.elf_code()
+            || code == X86_64Relocation::R_X86_64_GOTPC32.elf_code())
 }
 
 /// How far after a function's global entry point its local one is.
@@ -110,8 +113,8 @@ fn is_ppc64_branch(size: RelocationSize) -> bool {
 
 /// A symbol's address, or where PowerPC64's branches go.
 #[inline(always)]
-fn address_of(info: &RelocationKindInfo, symbol: &Symbol) -> u64 {
-    if is_ppc64_branch(info.size) {
+fn address_of(row: &Row, symbol: &Symbol) -> u64 {
+    if is_ppc64_branch(row.info().size) {
         symbol.address.wrapping_add(local_entry(symbol.other))
     } else {
         symbol.address
@@ -124,28 +127,22 @@ fn is_relative(kind: RelocationKind) -> bool {
     matches!(kind, RelocationKind::Relative | RelocationKind::PltRelative)
 }
 
+/// Whether a stub may serve as the target of a relocation.
+#[inline(always)]
+fn serves_stub(row: &Row) -> bool {
+    row.facts().may_use_stub
+}
+
 /// What an undefined weak symbol counts for.
 #[inline(always)]
-fn weak_address(architecture: Architecture, info: &RelocationKindInfo, place: u64) -> u64 {
+fn weak_address(architecture: Architecture, row: &Row, place: u64) -> u64 {
+    let is_branch = row.facts().is_branch;
     match architecture {
-        Architecture::AArch64 => {
-            if info.size.is_branch() {
-                place.wrapping_add(4)
-            } else if is_relative(info.kind) {
-                place
-            } else {
-                0
-            }
-        }
-        Architecture::RiscV => {
-            if may_use_stub(info.size, info.kind) {
-                place
-            } else {
-                0
-            }
-        }
-        Architecture::Ppc64 => { if info.size.is_branch() { place } else { 0 } }
-        Architecture::LoongArch64 | Architecture::X86_64 => 0,
+        Architecture::AArch64 if is_branch => place.wrapping_add(4),
+        Architecture::AArch64 if is_relative(row.kind()) => place,
+        Architecture::RiscV if serves_stub(row) => place,
+        Architecture::Ppc64 if is_branch => place,
+        _ => 0,
     }
 }
 
@@ -163,23 +160,17 @@ fn origin_of(addresses: &Addresses, kind: RelocationKind) -> u64 {
 fn defined_or_weak(
     architecture: Architecture,
     addresses: &Addresses,
-    info: &RelocationKindInfo,
+    row: &Row,
     symbol: &Symbol,
     place: u64,
 ) -> u64 {
     if !symbol.is_undefined_weak {
-        address_of(info, symbol)
-    } else if info.kind.is_offset() {
-        origin_of(addresses, info.kind)
+        address_of(row, symbol)
+    } else if row.kind().is_offset() {
+        origin_of(addresses, row.kind())
     } else {
-        weak_address(architecture, info, place)
+        weak_address(architecture, row, place)
     }
-}
-
-/// Whether a stub may serve as the target of a relocation.
-#[inline(always)]
-fn serves_stub(row: &Row) -> bool {
-    row.facts().may_use_stub
 }
 
 /// S, or the stub by which a branch goes.
@@ -194,7 +185,7 @@ pub(crate) fn target_of(
     if serves_stub(row) && symbol.stub != 0 {
         symbol.stub
     } else {
-        defined_or_weak(architecture, addresses, &row.info(), symbol, place)
+        defined_or_weak(architecture, addresses, row, symbol, place)
     }
 }
 
@@ -430,7 +421,7 @@ fn high_part(
 /// The operands of a low part, of those of its high part.
 #[inline(always)]
 fn low_operands(high: &Row, operands: Operands) -> Operands {
-    if class_of_kind(high.kind()).is_some() {
+    if high.kind().names_got_entry() {
         Operands {
             symbol: operands.got_entry,
             ..operands

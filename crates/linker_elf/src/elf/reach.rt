@@ -23,32 +23,9 @@ fn reach_of_bytes(kind: RelocationKind, len: u8, range: AllowedRange) -> Allowed
 }
 
 impl RelocationKindInfo {
-    /// Which values, as `value` returns them, can be written. They are those that the machine reads
-    /// back as they are from the written instruction, or from the pair that it is a half of. Where
-    /// the psABI requires an overflow check that `range` lacks, they are also those that pass it.
-    ///
-    /// | Relocations | From | Below |
-    /// |---|--:|--:|
-    /// | RISC-V `HI20`, `LO12` and calls: what the pair holds | -2^31 - 0x800 | 2^31 - 0x800 |
-    /// | `clui_rel_info`, with the low part | -0x20800 | 0x1f800 |
-    /// | `R_LARCH_CALL36` | -2^37 - 0x20000 | 2^37 - 0x20000 |
-    /// | PowerPC64's `_HA`, of the biased value, and `_HI` | -2^31 | 2^31 |
-    /// | AArch64's `Movnz` of bits up to 16, 32 or 48 | -2^16, -2^32, -2^48 | 2^16, 2^32, 2^48 |
-    /// | `R_X86_64_GOT32`, `R_RISCV_PLT32`, `R_RISCV_GOT32_PCREL` | -2^31 | 2^31 |
-    /// | all others | `range` | |
-    ///
-    /// `clui_rel_info` has a hole: the ISA reserves the immediate 0 of a `c.lui`, so that the
-    /// values from -0x800 up, below 0x800, can't be written.
-    ///
-    /// Relocations without a range take a part of every value, which the machine then reads modulo
-    /// the part's size.
-    ///
-    /// No other aligned value is what the machine reads from an instruction of a row, or from its
-    /// pair: see `others` of each `relocation_type_from_raw`. The exception is those relocations of
-    /// LDR and STR of 2 to 16 bytes whose offset the psABI limits to 12 bits, as
-    /// `R_AARCH64_TLSLE_LDST16_TPREL_LO12`: the machine reads 12 bits of such units.
+    /// Which values can be written, as `Row::reach` says.
     #[inline(always)]
-    pub fn reach(&self) -> AllowedRange
+    pub(crate) fn reach(&self) -> AllowedRange
         ensures { result.bounds ≡ reach_of self.now }
     {
         match self.size {

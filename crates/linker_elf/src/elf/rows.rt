@@ -3,6 +3,7 @@
 ghost use Rattle.std.specs.Prelude.{◌≡◌, ◌-◌, ◌<◌, ◌≤◌, ◌↔◌, IfErr, IfSome, IsTrue, OnOk};
 ghost use Rattle.std.specs.Prelude.{length, true, false};
 ghost use Rattle.linker_elf.specs.Agrees.{RowFits};
+ghost use Rattle.linker_elf.specs.Applied.{IsApplied, IsRejected};
 ghost use Rattle.linker_elf.specs.AppliedRows.{IsAppliedBy, IsWrittenOrRejected};
 ghost use Rattle.linker_elf.specs.Entries.{IsGotAnswer, IsPltAnswer};
 ghost use Rattle.linker_elf.specs.Facts.{facts_of};
@@ -16,6 +17,7 @@ ghost use Rattle.linker_elf.specs.Value.{value_of, value_given, completed, lacks
 ghost use Rattle.linker_elf.specs.Inner.RowTables.{info_in, info_of, raw_info_in, IsSound};
 ghost use Rattle.linker_elf.specs.Inner.RowTables.{tests_of, takes_all, is_unit};
 
+use crate::elf::entries::{is_of_high_part, names_plt_entry};
 use crate::elf::relocate::{
     is_encoded, write_aarch64, write_bits, write_bytes, write_field, write_number,
 };
@@ -195,7 +197,30 @@ impl Row {
         self.entry.tests.window
     }
 
-    /// Which values can be written, as `RelocationKindInfo::reach` says.
+    /// Which values, as `value` returns them, can be written. They are those that the machine reads
+    /// back as they are from the written instruction, or from the pair that it is a half of. Where
+    /// the psABI requires an overflow check that `range` lacks, they are also those that pass it.
+    ///
+    /// | Relocations | From | Below |
+    /// |---|--:|--:|
+    /// | RISC-V `HI20`, `LO12` and calls: what the pair holds | -2^31 - 0x800 | 2^31 - 0x800 |
+    /// | `clui_rel_info`, with the low part | -0x20800 | 0x1f800 |
+    /// | `R_LARCH_CALL36` | -2^37 - 0x20000 | 2^37 - 0x20000 |
+    /// | PowerPC64's `_HA`, of the biased value, and `_HI` | -2^31 | 2^31 |
+    /// | AArch64's `Movnz` of bits up to 16, 32 or 48 | -2^16, -2^32, -2^48 | 2^16, 2^32, 2^48 |
+    /// | `R_X86_64_GOT32`, `R_RISCV_PLT32`, `R_RISCV_GOT32_PCREL` | -2^31 | 2^31 |
+    /// | all others | `range` | |
+    ///
+    /// `clui_rel_info` has a hole: the ISA reserves the immediate 0 of a `c.lui`, so that the
+    /// values from -0x800 up, below 0x800, can't be written.
+    ///
+    /// Relocations without a range take a part of every value, which the machine then reads modulo
+    /// the part's size.
+    ///
+    /// No other aligned value is what the machine reads from an instruction of a row, or from its
+    /// pair: see `others` of each `relocation_type_from_raw`. The exception is those relocations of
+    /// LDR and STR of 2 to 16 bytes whose offset the psABI limits to 12 bits, as
+    /// `R_AARCH64_TLSLE_LDST16_TPREL_LO12`: the machine reads 12 bits of such units.
     #[inline(always)]
     pub fn reach(&self) -> AllowedRange
         ensures { result.bounds ≡ reach_of self.now }
@@ -203,7 +228,17 @@ impl Row {
         self.info().reach()
     }
 
-    /// The relocation's value, as `RelocationKindInfo::value` says, with its errors.
+    /// The relocation's value: the formula of its kind, with the bias added first and the page mask
+    /// applied after that, modulo 2^64 and read in two's complement. The first that applies of
+    /// `NoEntry`, `NoTlsBase` and `NoValue`.
+    ///
+    /// Of LoongArch's high halves it is `highest_relocation_with_bias` of the symbol or the GOT
+    /// entry. The place is that of the relocated instruction, which is the third of the sequence of
+    /// five for bits 32 to 51 and the fourth for bits 52 to 63.
+    ///
+    /// Of a pair of relocations of a ULEB128 number, the value of the second is what is subtracted.
+    /// That of the first, `R_RISCV_SET_ULEB128` or `R_LARCH_ADD_ULEB128`, is S + A, though its row
+    /// is of kind `Relative`.
     #[inline(always)]
     pub fn value(&self, operands: &Operands) -> Result<i64, FormulaError>
         ensures { result ≡ value_given self.now operands.now }
@@ -249,24 +284,59 @@ impl Row {
         self.reaches(&operands.as_given())
     }
 
-    /// Whether the relocation requires a GOT entry, as `RelocationKindInfo::asks_for_got` says.
+    /// Whether the relocation requires a GOT entry: the symbol's, or its entries for
+    /// general-dynamic, local-dynamic and initial-exec TLS, or its TLS descriptor. It does where
+    /// its value depends on the entry's address.
+    ///
+    /// It doesn't where the value depends only on the GOT's address, as that of
+    /// `R_X86_64_GOTOFF64` and `R_PPC64_TOC16`, nor where its symbol labels the high part of a
+    /// RISC-V pair, as that of `R_RISCV_TLSDESC_LOAD_LO12`: the high part does.
     #[inline(always)]
     pub fn asks_for_got(&self) -> bool
         ensures { IsGotAnswer self.now result }
     {
-        self.info().asks_for_got()
+        let info = self.info();
+        !is_of_high_part(info.size) && info.kind.names_got_entry()
     }
 
-    /// Whether an entry of the PLT may serve as the relocation's target, as
-    /// `RelocationKindInfo::may_use_plt` says.
+    /// Whether an entry of the PLT may serve as the relocation's target: its value depends on the
+    /// PLT entry's address, or it is that of a branch, conditional or not, which does nothing with
+    /// the address but go there. Where the formula of a branch has no L, the entry's address is
+    /// passed as S.
+    ///
+    /// Compilers write calls of functions that may be elsewhere only with some of these: not with
+    /// `R_RISCV_JAL` and RISC-V's conditional branches, of which the psABI says nothing.
+    /// `R_X86_64_PC32` is none of them, since a load may have it too.
     #[inline(always)]
     pub fn may_use_plt(&self) -> bool
         ensures { IsPltAnswer self.now result }
     {
-        self.info().may_use_plt()
+        let info = self.info();
+        info.size.is_branch() || names_plt_entry(info.kind)
     }
 
-    /// Writes a value, as `RelocationKindInfo::write` says, with its errors.
+    /// Writes a value, as `value` returns it, to the bytes that `dest` begins with. The first that
+    /// applies of `Unsupported`, `TooShort`, `Misaligned` and `OutOfReach` is returned, and then
+    /// nothing is written.
+    ///
+    /// - Whole bytes become the lowest bytes of the value, the lowest first. Relocations that add
+    ///   or subtract start from the existing number. Relocations of 6 bits keep the upper 2 bits of
+    ///   the byte. The bytes' little-endian number is then that value, sum or difference, modulo
+    ///   2^8 for each byte.
+    /// - Of an instruction, the form's bits become those bits of the value that the relocation
+    ///   takes, and the machine reads them from there; modulo their size if `reach` has no bounds.
+    ///   The bits that the form only ORs need not be 0 before. All others are unchanged, except
+    ///   for the opcode that `Movnz` sets by the value's sign; its shift has to be the first of the
+    ///   relocation's bits. MOVN and MOVZ of 32 bits (bit 31 is 0) keep their size. A MOVK stays
+    ///   one, and gets the bits as they are.
+    /// - A `jirl` at `R_LARCH_PCALA_LO12` gets bits 2 to 17 of the value's low 12 bits in two's
+    ///   complement, as a branch of 16 bits does.
+    /// - A PowerPC64 instruction of DQ-form keeps its low 4 bits at a relocation of DS-form.
+    /// - RISC-V's `UiType`, or a high half and a low half of one value, make the value itself, and
+    ///   so does LoongArch's `Call36`. A `c.lui` is such a high half too. The ISA reserves its
+    ///   immediate 0, so the values from -0x800 up, below 0x800, are `OutOfReach`.
+    /// - PowerPC64's low half and the high half of the value plus 0x8000 make the value itself.
+    /// - The bytes after `window` are unchanged. A relocation without a value writes nothing.
     #[inline(always)]
     pub fn write(&self, value: i64, dest: &mut [u8]) -> Result<(), RelocateError>
         ensures ok { OnOk result (WritesRow self.now value dest.old dest.new) }
@@ -295,6 +365,19 @@ impl Row {
         match self.value(operands) {
             Ok(value) => self.write_applied(value, dest),
             Err(error) => Err(ApplyError::Formula(error)),
+        }
+    }
+
+    /// Computes the relocation's value, of operands that are all read as they are, and writes it.
+    /// False where it has none or `write` rejects it, and then nothing is written.
+    pub fn apply_formula(&self, operands: &Operands, dest: &mut [u8]) -> bool
+        ensures applied { result ≡ true → IsApplied self.now operands.now dest.old dest.new }
+        ensures rejected { result ≡ false → IsRejected self.now operands.now dest.old }
+        ensures unchanged { result ≡ false → dest.new ≡ dest.old }
+    {
+        match self.formula_value(operands) {
+            Some(value) => self.write(value, dest).is_ok(),
+            None => false,
         }
     }
 }

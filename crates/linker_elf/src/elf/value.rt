@@ -1,16 +1,13 @@
 //! The value of a relocation, from the addresses that a linker knows.
 
 ghost use Rattle.std.specs.Prelude.{◌≡◌, false};
-ghost use Rattle.linker_elf.specs.Inner.RowTables.{bits_of, addend_bits, place_bits, terms_of};
+ghost use Rattle.linker_elf.specs.Inner.RowTables.{terms_of};
 ghost use Rattle.linker_elf.specs.Inner.RowTables.{symbol_of, entry_of_terms, plt_of, signed_in, as_given};
-ghost use Rattle.linker_elf.specs.Value.{sum_64, bias_number, sequence_pc, value_of, completed, is_offset};
+ghost use Rattle.linker_elf.specs.Value.{sum_64, sequence_pc, completed, is_offset};
 ghost use Rattle.linker_elf.specs.Value.{loads_plt_word, value_given};
 
 use crate::elf::entries::names_plt_entry;
-use crate::elf::{
-    Bias, PAGE_MASK_4KB, PageMask, RelocationInstruction, RelocationKind, RelocationKindInfo,
-    RelocationSize,
-};
+use crate::elf::{RelocationInstruction, RelocationKind, RelocationKindInfo, RelocationSize};
 use crate::loongarch64::highest_relocation_with_bias;
 
 /// What the value of a relocation is computed from. All but the addend and the flags are addresses
@@ -161,52 +158,6 @@ impl RelocationKind {
     }
 }
 
-/// The bits of a page's address, or all.
-#[inline(always)]
-fn bits_of(is_page: bool) -> u64
-    ensures { result ≡ bits_of is_page }
-{
-    if is_page { !PAGE_MASK_4KB } else { u64::MAX }
-}
-
-/// The bits of the addend that are added to the address of an entry of the GOT: all or none.
-#[inline(always)]
-fn addend_bits(size: RelocationSize) -> u64
-    ensures { result ≡ addend_bits size }
-{
-    match size {
-        RelocationSize::BitMasking {
-            insn: RelocationInstruction::AArch64(_) | RelocationInstruction::Ppc64(_),
-            ..
-        } => 0,
-        _ => u64::MAX,
-    }
-}
-
-/// The bits of P: none of the first of a pair at a ULEB128 number, whose formula is S + A.
-#[inline(always)]
-fn place_bits(kind: RelocationKind, size: RelocationSize, mask: Option<PageMask>) -> u64
-    ensures { result ≡ place_bits kind size mask }
-{
-    match (kind, size) {
-        (RelocationKind::Relative, RelocationSize::ByteSize(0)) => 0,
-        _ => bits_of(matches!(
-            mask,
-            Some(PageMask::SymbolPlusAddendAndPosition(_) | PageMask::GotEntryAndPosition(_))
-        )),
-    }
-}
-
-#[inline(always)]
-fn bias_or_zero(bias: Option<Bias>) -> u64
-    ensures { result ≡ bias_number bias }
-{
-    match bias {
-        Some(bias) => bias.value(),
-        None => 0,
-    }
-}
-
 /// What `highest_relocation_with_bias` takes as `pc`.
 #[inline(always)]
 fn pc_of_sequence(size: RelocationSize, place: u64) -> u64
@@ -281,21 +232,6 @@ impl FormulaTerms {
 }
 
 impl RelocationKindInfo {
-    /// The terms of the formula.
-    #[inline(always)]
-    fn terms(&self) -> FormulaTerms
-        ensures { result ≡ terms_of self.now }
-    {
-        FormulaTerms {
-            bias: bias_or_zero(self.bias),
-            symbol: bits_of(matches!(self.mask, Some(PageMask::SymbolPlusAddendAndPosition(_)))),
-            entry: bits_of(matches!(self.mask, Some(PageMask::GotEntryAndPosition(_)))),
-            entry_addend: addend_bits(self.size),
-            place: place_bits(self.kind, self.size, self.mask),
-            got: bits_of(matches!(self.mask, Some(PageMask::GotBase(_)))),
-        }
-    }
-
     /// The value modulo 2^64.
     #[inline(always)]
     fn value_modulo(&self, terms: &FormulaTerms, operands: &Operands) -> Result<u64, FormulaError>
@@ -373,7 +309,7 @@ impl RelocationKindInfo {
         }
     }
 
-    /// `value`, by the row's terms.
+    /// `Row::value`, by the row's terms.
     #[inline(always)]
     pub(crate) fn value_by(
         &self,
@@ -387,32 +323,5 @@ impl RelocationKindInfo {
             Ok(value) => Ok(value.cast_signed()),
             Err(error) => Err(error),
         }
-    }
-
-    /// The relocation's value: the formula of its kind, with the bias added first and the page mask
-    /// applied after that, modulo 2^64 and read in two's complement. The first that applies of
-    /// `NoEntry`, `NoTlsBase` and `NoValue`.
-    ///
-    /// Of LoongArch's high halves it is `highest_relocation_with_bias` of the symbol or the GOT
-    /// entry. The place is that of the relocated instruction, which is the third of the sequence of
-    /// five for bits 32 to 51 and the fourth for bits 52 to 63.
-    ///
-    /// Of a pair of relocations of a ULEB128 number, the value of the second is what is subtracted.
-    /// That of the first, `R_RISCV_SET_ULEB128` or `R_LARCH_ADD_ULEB128`, is S + A, though its row
-    /// is of kind `Relative`.
-    #[inline(always)]
-    pub fn value(&self, operands: &Operands) -> Result<i64, FormulaError>
-        ensures { result ≡ value_given self.now operands.now }
-    {
-        self.value_by(&self.terms(), operands)
-    }
-
-    /// What `value` computes, of operands that are all read as they are. None of a kind without a
-    /// value.
-    #[inline(always)]
-    pub fn formula_value(&self, operands: &Operands) -> Option<i64>
-        ensures { result ≡ value_of self.now operands.now }
-    {
-        self.value(&operands.as_given()).ok()
     }
 }

@@ -5,7 +5,7 @@ ghost use Rattle.linker_elf.specs.Applied.{IsApplied, IsRejected};
 ghost use Rattle.linker_runs.specs.Sites.{operands_of};
 ghost use Rattle.linker_runs.specs.Inner.Pieces.{code_bytes};
 
-use linker_elf::elf::{Operands, RelocationKindInfo};
+use linker_elf::elf::{Operands, Row};
 
 /// The bytes of an instruction or of two.
 #[derive(Clone, Copy)]
@@ -16,9 +16,9 @@ pub(crate) enum Code {
 }
 
 /// An instruction that goes nowhere yet, and the relocation that gives it its target.
-#[derive(Clone, Copy)]
+#[derive(Drop)]
 pub(crate) struct Template {
-    pub(crate) row: RelocationKindInfo,
+    pub(crate) row: Row,
     pub(crate) code: Code,
 }
 

@@ -4,7 +4,7 @@ ghost use Rattle.std.specs.Prelude.{◌≡◌, ◌+◌, ◌≤◌, ◌<◌, ◌*
 ghost use Rattle.std.specs.Prelude.{IfOk, IfErr, OnOk, IfSome, MatchOption, IsSomeAnd};
 ghost use Rattle.std.specs.Prelude.{length, take, drop};
 ghost use Rattle.std.specs.Int.{w32, to_le_bytes};
-ghost use Rattle.linker_elf.specs.LoongArchRelocations.{loongarch_raw_row};
+ghost use Rattle.linker_elf.specs.LoongArchRelocations.{loongarch_row};
 ghost use Rattle.linker_runs.specs.LoongArchSites.{IsSiteAt, destination};
 ghost use Rattle.linker_runs.specs.LoongArchSites.{ArePagesNear, IsAddressOutOfReach};
 ghost use Rattle.linker_runs.specs.LoongArchSites.{LoongArchBecomes, LoongArchAccepts};
@@ -20,8 +20,8 @@ use crate::packing::code::{Code, Template, operands_of, pair_at, relocated};
 use crate::relaxation::Shapes;
 use crate::shapes::loongarch64::{CALL36, PCALA};
 use linker_base::utils::u32_from_slice;
-use linker_elf::elf::{AllowedRange, RelocationKindInfo, Sign};
-use linker_loongarch64::{LoongArch64Relocation, relocation_type_from_raw};
+use linker_elf::elf::{AllowedRange, Row, Sign};
+use linker_loongarch64::{self, LoongArch64Relocation};
 
 /// The instructions of a site.
 #[derive(Clone, Copy)]
@@ -34,11 +34,11 @@ pub(crate) enum Kind {
 
 /// What a relocation means that has a row.
 #[inline(always)]
-fn row_of(name: LoongArch64Relocation) -> RelocationKindInfo
-    requires { IsSomeAnd (loongarch_raw_row name) (λ _. ⊤) }
-    ensures { loongarch_raw_row name ≡ Some result }
+fn row_of(name: LoongArch64Relocation) -> Row
+    requires { IsSomeAnd (loongarch_row name) (λ _. ⊤) }
+    ensures { loongarch_row name ≡ Some result }
 {
-    match relocation_type_from_raw(name) {
+    match linker_loongarch64::row(name) {
         Some(row) => row,
         None => unreachable!(),
     }
@@ -109,8 +109,8 @@ fn short_of(section: &[u8], offset: u64, kind: Kind) -> Template
 
 /// Whether the distance of the pages is a number of 32 bits.
 #[inline(always)]
-fn are_pages_near(row: &RelocationKindInfo, place: u64, target: u64) -> bool
-    requires { loongarch_raw_row LoongArch64Relocation.R_LARCH_PCALA_HI20 ≡ Some row.now }
+fn are_pages_near(row: &Row, place: u64, target: u64) -> bool
+    requires { loongarch_row LoongArch64Relocation.R_LARCH_PCALA_HI20 ≡ Some row.now }
     ensures { IsTrue result ↔ ArePagesNear place target }
 {
     match row.formula_value(&operands_of(place, target)) {

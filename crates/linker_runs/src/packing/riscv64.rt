@@ -4,7 +4,7 @@ ghost use Rattle.std.specs.Prelude.{◌≡◌, ◌↔◌, ◌+◌, ◌≤◌, �
 ghost use Rattle.std.specs.Prelude.{None, IfOk, IfErr, OnOk, length, IsTrue, ◌⊎◌};
 ghost use Rattle.std.specs.Prelude.{IsSomeAnd, IfSome, IfNone, ⊤};
 ghost use Rattle.std.specs.Int.{w32, to_le_bytes};
-ghost use Rattle.linker_elf.specs.RiscVRelocations.{riscv_row};
+ghost use Rattle.linker_elf.specs.RiscVRelocations.{riscv_relocation};
 ghost use Rattle.linker_riscv64.specs.RiscVCalls.{link_register};
 ghost use Rattle.linker_riscv64.specs.declared.calls.LinkRegister.TheVariants.{OfJalr};
 ghost use Rattle.linker_runs.specs.RiscVSites.{riscv_template, RiscVBecomes, RiscVAccepts};
@@ -17,16 +17,16 @@ use crate::packing::code::{Code, Template, pair_at, relocated};
 use crate::relaxation::Shapes;
 use crate::riscv64::link_at;
 use crate::shapes::riscv64::{CALL, TAIL_C};
-use linker_elf::elf::RelocationKindInfo;
-use linker_riscv64::{RiscVRelocation, relocation_type_from_raw};
+use linker_elf::elf::Row;
+use linker_riscv64::{self, RiscVRelocation};
 
 /// What a relocation means that has a row.
 #[inline(always)]
-fn row_of(name: RiscVRelocation) -> RelocationKindInfo
-    requires { IsSomeAnd (riscv_row name) (λ _. ⊤) }
-    ensures { riscv_row name ≡ Some result }
+fn row_of(name: RiscVRelocation) -> Row
+    requires { IsSomeAnd ((riscv_relocation name).row) (λ _. ⊤) }
+    ensures { (riscv_relocation name).row ≡ Some result }
 {
-    match relocation_type_from_raw(name) {
+    match linker_riscv64::row(name) {
         Some(row) => row,
         None => unreachable!(),
     }

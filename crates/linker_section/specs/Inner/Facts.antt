@@ -112,11 +112,11 @@ shows_lengths architectures.Ppc64 = true
 shows_lengths architecture = false
 
 -- a word of 8 bytes begins with an instruction of a length
-abbrev pub shows : Length → ℕ → Bool
-shows lengths.Any word = true
-shows lengths.Two word = not (word % 4 == 3)
-shows lengths.Four word = word % 4 == 3
-shows lengths.Prefixed word = word / 2 ^ 26 % 64 == 1
+abbrev pub word_shows : Length → ℕ → Bool
+word_shows lengths.Any word = true
+word_shows lengths.Two word = not (word % 4 == 3)
+word_shows lengths.Four word = word % 4 == 3
+word_shows lengths.Prefixed word = word / 2 ^ 26 % 64 == 1
 
 -- the facts of an architecture's row say whether it is a branch of PowerPC64
 abbrev pub SaysBranch : Architecture → RelocationKindInfo → Type 0

@@ -2,35 +2,7 @@
 // Made by tools/erase of crates/linker_elf/src/elf/entries.rt.
 //! For which relocations a linker makes an entry of the GOT or of the PLT.
 
-use crate::linker_elf::elf::{
-    RelocationInstruction, RelocationKind, RelocationKindInfo, RelocationSize, RiscVInstruction,
-};
-
-/// Whether the formula names the address of a GOT entry.
-#[inline(always)]
-pub(crate) fn names_got_entry(kind: RelocationKind) -> bool {
-    matches!(
-        kind,
-        RelocationKind::GotRelative
-            | RelocationKind::GotRelativeLoongArch64
-            | RelocationKind::GotRelGotBase
-            | RelocationKind::Got
-            | RelocationKind::TlsGd
-            | RelocationKind::TlsGdGot
-            | RelocationKind::TlsGdGotBase
-            | RelocationKind::TlsLd
-            | RelocationKind::TlsLdGot
-            | RelocationKind::TlsLdGotBase
-            | RelocationKind::GotTpOff
-            | RelocationKind::GotTpOffGot
-            | RelocationKind::GotTpOffGotBase
-            | RelocationKind::GotTpOffLoongArch64
-            | RelocationKind::TlsDesc
-            | RelocationKind::TlsDescGot
-            | RelocationKind::TlsDescGotBase
-            | RelocationKind::TlsDescLoongArch64
-    )
-}
+use crate::linker_elf::elf::{RelocationInstruction, RelocationKind, RelocationSize, RiscVInstruction};
 
 /// Whether the formula names the address of a PLT entry.
 #[inline(always)]
@@ -43,7 +15,7 @@ pub(crate) fn names_plt_entry(kind: RelocationKind) -> bool {
 
 /// Whether the symbol labels a high part, whose value is taken.
 #[inline(always)]
-fn is_of_high_part(size: RelocationSize) -> bool {
+pub(crate) fn is_of_high_part(size: RelocationSize) -> bool {
     matches!(
         size,
         RelocationSize::BitMasking {
@@ -51,6 +23,35 @@ fn is_of_high_part(size: RelocationSize) -> bool {
             ..
         }
     )
+}
+
+impl RelocationKind {
+    /// Whether the formula has the address of an entry of the GOT.
+    #[must_use]
+    #[inline(always)]
+    pub fn names_got_entry(self) -> bool {
+        matches!(
+            self,
+            RelocationKind::GotRelative
+                | RelocationKind::GotRelativeLoongArch64
+                | RelocationKind::GotRelGotBase
+                | RelocationKind::Got
+                | RelocationKind::TlsGd
+                | RelocationKind::TlsGdGot
+                | RelocationKind::TlsGdGotBase
+                | RelocationKind::TlsLd
+                | RelocationKind::TlsLdGot
+                | RelocationKind::TlsLdGotBase
+                | RelocationKind::GotTpOff
+                | RelocationKind::GotTpOffGot
+                | RelocationKind::GotTpOffGotBase
+                | RelocationKind::GotTpOffLoongArch64
+                | RelocationKind::TlsDesc
+                | RelocationKind::TlsDescGot
+                | RelocationKind::TlsDescGotBase
+                | RelocationKind::TlsDescLoongArch64
+        )
+    }
 }
 
 impl RelocationSize {
@@ -62,32 +63,5 @@ impl RelocationSize {
             RelocationSize::ByteSize(_) => false,
             RelocationSize::BitMasking { range, insn } => insn.is_branch(range),
         }
-    }
-}
-
-impl RelocationKindInfo {
-    /// Whether the relocation requires a GOT entry: the symbol's, or its entries for
-    /// general-dynamic, local-dynamic and initial-exec TLS, or its TLS descriptor. It does where
-    /// its value depends on the entry's address.
-    ///
-    /// It doesn't where the value depends only on the GOT's address, as that of
-    /// `R_X86_64_GOTOFF64` and `R_PPC64_TOC16`, nor where its symbol labels the high part of a
-    /// RISC-V pair, as that of `R_RISCV_TLSDESC_LOAD_LO12`: the high part does.
-    #[must_use]
-    pub fn asks_for_got(&self) -> bool {
-        !is_of_high_part(self.size) && names_got_entry(self.kind)
-    }
-
-    /// Whether an entry of the PLT may serve as the relocation's target: its value depends on the
-    /// PLT entry's address, or it is that of a branch, conditional or not, which does nothing with
-    /// the address but go there. Where the formula of a branch has no L, the entry's address is
-    /// passed as S.
-    ///
-    /// Compilers write calls of functions that may be elsewhere only with some of these: not with
-    /// `R_RISCV_JAL` and RISC-V's conditional branches, of which the psABI says nothing.
-    /// `R_X86_64_PC32` is none of them, since a load may have it too.
-    #[must_use]
-    pub fn may_use_plt(&self) -> bool {
-        self.size.is_branch() || names_plt_entry(self.kind)
     }
 }

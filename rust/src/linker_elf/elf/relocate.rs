@@ -5,7 +5,7 @@
 use crate::linker_elf::aarch64::is_movk;
 use crate::linker_elf::elf::engine::Window;
 use crate::linker_elf::elf::{
-    AArch64Instruction, FormulaError, InstructionForm, LoongArch64Instruction, Operands,
+    AArch64Instruction, FormulaError, InstructionForm, LoongArch64Instruction,
     RelocationInstruction, RelocationKind, RelocationKindInfo, RelocationSize, RiscVInstruction,
 };
 use crate::linker_elf::loongarch64::is_jirl;
@@ -18,9 +18,7 @@ use crate::linker_base::bit_misc::{BitExtraction, BitRange};
 pub enum RelocateError {
     /// The relocation is one of a pair that computes a ULEB128 number, whose length is not the
     /// row's to know: `utils::write_uleb128` writes it. Or it is `R_LARCH_CALL30`: no manual says
-    /// how far its pair of instructions goes. Or the row is none that the library returns: it has
-    /// more than 8 bytes, a bit range that isn't within 64 bits, or an alignment that is 0 or above
-    /// 2^63 - 1.
+    /// how far its pair of instructions goes.
     Unsupported,
     /// There are fewer bytes than the relocation writes.
     TooShort,
@@ -28,8 +26,7 @@ pub enum RelocateError {
     /// instruction of DQ-form (`lq`, `lxv`, `stxv`, `lxvp`, `stxvp`) is at a relocation of
     /// DS-form, or not one of 4 where a `jirl` is at `R_LARCH_PCALA_LO12`.
     Misaligned,
-    /// The value is outside `reach`, or its high part in a `c.lui` is 0. Or the row is none that
-    /// the library returns, and its bits don't fit its instruction.
+    /// The value is outside `reach`, or its high part in a `c.lui` is 0.
     OutOfReach,
 }
 
@@ -293,40 +290,6 @@ fn is_in_units(size: RelocationSize, value: i64, dest: &[u8]) -> bool {
 }
 
 impl RelocationKindInfo {
-    /// Whether `write` writes values of this row, whatever their number.
-    #[inline(always)]
-    pub(crate) fn is_supported(&self) -> bool {
-        let takes_size = match self.size {
-            RelocationSize::ByteSize(len) => {
-                // the length is tested first: a processor predicts it
-                let is_of_uleb128 = match self.kind {
-                    RelocationKind::PairSubtractionULEB128RiscV
-                    | RelocationKind::PairSubtractionULEB128LoongArch => true,
-                    kind => len == 0 && kind == RelocationKind::Relative,
-                };
-                len <= 8 && !is_of_uleb128
-            }
-            RelocationSize::BitMasking { range, insn } => {
-                let is_call30 = matches!(
-                    insn,
-                    RelocationInstruction::LoongArch64(LoongArch64Instruction::Call30)
-                );
-                range.start < range.end && range.end <= 64 && !is_call30
-            }
-        };
-        takes_size && 0 < self.alignment && self.alignment < 1 << 63
-    }
-
-    /// How many bytes `write` writes.
-    #[must_use]
-    #[inline(always)]
-    pub fn window(&self) -> usize {
-        match self.size {
-            RelocationSize::ByteSize(len) => len as usize,
-            RelocationSize::BitMasking { insn, .. } => insn.window(),
-        }
-    }
-
     /// Whether a value is a multiple of the row's alignment.
     #[inline(always)]
     pub(crate) fn is_aligned(&self, value: i64) -> bool {
@@ -346,92 +309,5 @@ impl RelocationKindInfo {
         self.is_aligned(value)
             && is_in_units(self.size, value, dest)
             && is_in_words(self.size, self.kind, value, dest)
-    }
-
-    /// Whether the row's instruction holds the bits of a value that it takes.
-    #[inline(always)]
-    fn holds_bits(&self, value: i64, dest: &[u8]) -> bool {
-        match self.size {
-            RelocationSize::ByteSize(_) => true,
-            RelocationSize::BitMasking { range, insn } => {
-                insn.fits(taken_bits(range, value), dest)
-            }
-        }
-    }
-
-    /// Writes a value, as `value` returns it, to the bytes that `dest` begins with. The first that
-    /// applies of `Unsupported`, `TooShort`, `Misaligned` and `OutOfReach` is returned, and then
-    /// nothing is written.
-    ///
-    /// - Whole bytes become the lowest bytes of the value, the lowest first. Relocations that add
-    ///   or subtract start from the existing number. Relocations of 6 bits keep the upper 2 bits of
-    ///   the byte. The bytes' little-endian number is then that value, sum or difference, modulo
-    ///   2^8 for each byte.
-    /// - Of an instruction, the form's bits become those bits of the value that the relocation
-    ///   takes, and the machine reads them from there; modulo their size if `reach` has no bounds.
-    ///   The bits that the form only ORs need not be 0 before. All others are unchanged, except
-    ///   for the opcode that `Movnz` sets by the value's sign; its shift has to be the first of the
-    ///   relocation's bits. MOVN and MOVZ of 32 bits (bit 31 is 0) keep their size. A MOVK stays
-    ///   one, and gets the bits as they are.
-    /// - A `jirl` at `R_LARCH_PCALA_LO12` gets bits 2 to 17 of the value's low 12 bits in two's
-    ///   complement, as a branch of 16 bits does.
-    /// - A PowerPC64 instruction of DQ-form keeps its low 4 bits at a relocation of DS-form.
-    /// - RISC-V's `UiType`, or a high half and a low half of one value, make the value itself, and
-    ///   so does LoongArch's `Call36`. A `c.lui` is such a high half too. The ISA reserves its
-    ///   immediate 0, so the values from -0x800 up, below 0x800, are `OutOfReach`.
-    /// - PowerPC64's low half and the high half of the value plus 0x8000 make the value itself.
-    /// - The bytes after `window` are unchanged. A relocation without a value writes nothing.
-    ///
-    /// ```
-    /// use linker_utils::elf::Operands;
-    /// use linker_utils::riscv64::{RiscVRelocation, relocation_type_from_raw};
-    ///
-    /// // `jal ra, 0` at 0x1000 that calls 0x1008
-    /// let mut jal = 0x0000_00efu32.to_le_bytes();
-    /// let row = relocation_type_from_raw(RiscVRelocation::R_RISCV_JAL).unwrap();
-    /// let operands = Operands {
-    ///     symbol: 0x1008,
-    ///     place: 0x1000,
-    ///     ..Operands::default()
-    /// };
-    /// let value = row.value(&operands).unwrap();
-    /// row.write(value, &mut jal).unwrap();
-    /// assert_eq!(u32::from_le_bytes(jal), 0x0080_00ef);
-    /// ```
-    #[inline(always)]
-    pub fn write(&self, value: i64, dest: &mut [u8]) -> Result<(), RelocateError> {
-        if !self.is_supported() {
-            return Err(RelocateError::Unsupported);
-        }
-        if dest.len() < self.window() {
-            return Err(RelocateError::TooShort);
-        }
-        if !self.is_multiple(value, dest) {
-            return Err(RelocateError::Misaligned);
-        }
-        if !self.reach().contains(value) || !is_encoded(self.size, value) {
-            return Err(RelocateError::OutOfReach);
-        }
-        if !self.holds_bits(value, dest) {
-            return Err(RelocateError::OutOfReach);
-        }
-        match self.size {
-            RelocationSize::ByteSize(len) => write_bytes(self.kind, len as usize, value, dest),
-            RelocationSize::BitMasking { range, insn } => {
-                write_bits(self.kind, insn, range, value, dest)
-            }
-        }
-        Ok(())
-    }
-
-    /// Computes the relocation's value, of operands that are all read as they are, and writes it.
-    /// False where it has none or `write` rejects it, and then nothing is written.
-    #[doc(hidden)]
-    #[inline(always)]
-    pub fn apply_formula(&self, operands: &Operands, dest: &mut [u8]) -> bool {
-        match self.formula_value(operands) {
-            Some(value) => self.write(value, dest).is_ok(),
-            None => false,
-        }
     }
 }

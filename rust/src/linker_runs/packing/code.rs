@@ -2,7 +2,7 @@
 // Made by tools/erase of crates/linker_runs/src/packing/code.rt.
 //! Instructions, and the relocations that are applied to them.
 
-use crate::linker_elf::elf::{Operands, RelocationKindInfo};
+use crate::linker_elf::elf::{Operands, Row};
 
 /// The bytes of an instruction or of two.
 #[derive(Clone, Copy)]
@@ -13,9 +13,8 @@ pub(crate) enum Code {
 }
 
 /// An instruction that goes nowhere yet, and the relocation that gives it its target.
-#[derive(Clone, Copy)]
 pub(crate) struct Template {
-    pub(crate) row: RelocationKindInfo,
+    pub(crate) row: Row,
     pub(crate) code: Code,
 }
 

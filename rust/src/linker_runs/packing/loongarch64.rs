@@ -8,8 +8,8 @@ use crate::linker_runs::packing::code::{Code, Template, operands_of, pair_at, re
 use crate::linker_runs::relaxation::Shapes;
 use crate::linker_runs::shapes::loongarch64::{CALL36, PCALA};
 use crate::linker_base::utils::u32_from_slice;
-use crate::linker_elf::elf::{AllowedRange, RelocationKindInfo, Sign};
-use crate::loongarch64::{LoongArch64Relocation, relocation_type_from_raw};
+use crate::linker_elf::elf::{AllowedRange, Row, Sign};
+use crate::loongarch64::{self, LoongArch64Relocation};
 
 /// The instructions of a site.
 #[derive(Clone, Copy)]
@@ -22,8 +22,8 @@ pub(crate) enum Kind {
 
 /// What a relocation means that has a row.
 #[inline(always)]
-fn row_of(name: LoongArch64Relocation) -> RelocationKindInfo {
-    match relocation_type_from_raw(name) {
+fn row_of(name: LoongArch64Relocation) -> Row {
+    match crate::loongarch64::row(name) {
         Some(row) => row,
         None => unreachable!(),
     }
@@ -77,7 +77,7 @@ fn short_of(section: &[u8], offset: u64, kind: Kind) -> Template {
 
 /// Whether the distance of the pages is a number of 32 bits.
 #[inline(always)]
-fn are_pages_near(row: &RelocationKindInfo, place: u64, target: u64) -> bool {
+fn are_pages_near(row: &Row, place: u64, target: u64) -> bool {
     match row.formula_value(&operands_of(place, target)) {
         Some(distance) => AllowedRange::from_bit_size(32, Sign::Signed).contains(distance),
         None => false,

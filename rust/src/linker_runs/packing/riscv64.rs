@@ -7,13 +7,13 @@ use crate::linker_runs::packing::code::{Code, Template, pair_at, relocated};
 use crate::linker_runs::relaxation::Shapes;
 use crate::linker_runs::riscv64::link_at;
 use crate::linker_runs::shapes::riscv64::{CALL, TAIL_C};
-use crate::linker_elf::elf::RelocationKindInfo;
-use crate::riscv64::{RiscVRelocation, relocation_type_from_raw};
+use crate::linker_elf::elf::Row;
+use crate::riscv64::{self, RiscVRelocation};
 
 /// What a relocation means that has a row.
 #[inline(always)]
-fn row_of(name: RiscVRelocation) -> RelocationKindInfo {
-    match relocation_type_from_raw(name) {
+fn row_of(name: RiscVRelocation) -> Row {
+    match crate::riscv64::row(name) {
         Some(row) => row,
         None => unreachable!(),
     }

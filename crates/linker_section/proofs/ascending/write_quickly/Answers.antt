@@ -3,14 +3,14 @@ use Rattle.std.specs.Prelude.{IfSome, slice_index, not, ◌||◌}
 use Rattle.std.proofs.lemmas.Bool.{cases_Bool}
 use Rattle.linker_section.proofs.RowFacts.{says_way}
 use Rattle.linker_section.proofs.QuickValues.{high_is}
-use Rattle.linker_section.specs.Inner.Facts.{shows_lengths, shows}
+use Rattle.linker_section.specs.Inner.Facts.{shows_lengths, word_shows}
 use Rattle.linker_elf.specs.Facts.{length_of}
 use Rattle.linker_utils.specs.Architectures.{IsRow}
 use Rattle.std.proofs.lemmas.List.{get_or-drop}
 use Rattle.std.proofs.Common.{◌≡◌, ℕ, ◌+◌, drop, ◌<◌, ◌^◌, ◌∙◌, refl, sym, ap, subst, arith, rules, length, FitsSigned, to_z, of_z, inl, inr}
 use Rattle.std.specs.Int.{w64}
 use Rattle.std.proofs.lemmas.Int.{to_z-of_z}
-use Rattle.linker_section.proofs.Lengths.{unthreaded_holds, word_shows}
+use Rattle.linker_section.proofs.Lengths.{unthreaded_holds, word_says}
 use Rattle.linker_section.proofs.Local.{one_local}
 use Rattle.linker_section.proofs.Reaching.{is_written, not_written}
 use Rattle.linker_section.specs.Inner.Quick.{IsHighValue, IsQuickValue}
@@ -36,9 +36,9 @@ write_held_at-requires-clause-length c inside long =
     let several = shows_lengths c.args.architecture in
     elim (cases_Bool several) [
       | inl is ↦
-          sym (word_shows row.size (drop o section) (λ i. subst (λ b. b < 256) (sym (get_or-drop o section i 0)) (small (o + i))))
-          ∙ (ap (shows (length_of row.size)) (sym word)
-          ∙ (ap (λ b. not b || shows (length_of row.size) c.in-Some-whole_word_at.word) (sym is) ∙ (sym c.begins_with.ensures ∙ c.if-not-begins_with.false)))
+          sym (word_says (length_of row.size) (drop o section) (λ i. subst (λ b. b < 256) (sym (get_or-drop o section i 0)) (small (o + i))))
+          ∙ (ap (word_shows (length_of row.size)) (sym word)
+          ∙ (ap (λ b. not b || word_shows (length_of row.size) c.in-Some-whole_word_at.word) (sym is) ∙ (sym c.begins_with.ensures ∙ c.if-not-begins_with.false)))
       | inr isnt ↦ way.shown isnt (drop o section)
     ]
 
