@@ -1,13 +1,12 @@
 //! Calls of RISC-V that become jumps, and sections without the bytes that this frees, worked by hand
 //! from the RISC-V unprivileged ISA's `jal`, which reaches even distances from -1048576 to 1048574.
 
-use crate::rows::{expect, expect_eq};
-use linker_utils::relaxation::{
-    PackError, SectionRelaxDeltas, calls_apart, calls_shrinkable, pack_section, shrink_calls,
-};
+use crate::rows::{deltas_of, expect_eq};
+use linker_utils::relaxation::{PackError, calls_apart, calls_shrinkable};
 use linker_utils::riscv64::{CallError, RelaxationKind, distance_fits_jal, jal_site, relax_call};
 use linker_utils::utils::u32_from_slice;
-use std::test::Fail;
+use std::fmt::Debug;
+use std::process::Abort;
 
 type Pairs = &'static [(u64, u32)];
 
@@ -36,25 +35,40 @@ static JUMPS: [(u64, i64, Result<u32, CallError>); 12] = [
     (u64::MAX - 3, 8, Err(CallError::OutOfSection)),
 ];
 
+/// Requires that the first word of `CALL` became a jump, or that it is unchanged.
+fn expect_jump<R: Copy + Debug>(
+    rt: &impl Abort,
+    row: R,
+    section: &[u8; 12],
+    found: Result<(), CallError>,
+    word: Result<u32, CallError>,
+) {
+    match found {
+        Ok(()) => {
+            expect_eq(rt, row, Ok(u32_from_slice(section)), word);
+            expect_eq(rt, row, &section[4..], &CALL[4..]);
+        }
+        Err(error) => expect_eq(rt, row, (Err(error), *section), (word, CALL)),
+    }
+}
+
+/// Distances, and whether `jal` reaches them.
+static REACHED: [(i64, bool); 4] = [
+    (-1_048_577, false),
+    (-1_048_576, true),
+    (1_048_575, true),
+    (1_048_576, false),
+];
+
 #[test]
 fn sites_jump_by_their_distance(rt: HostRuntime) {
     for (site, distance, word) in &JUMPS {
-        let (row, mut section) = ((site, distance), CALL);
+        let mut section = CALL;
         let found = jal_site(&mut section, *site, *distance);
-        expect_eq(&rt, row, found.map(|()| u32_from_slice(&section)), *word);
-        if word.is_ok() {
-            expect_eq(&rt, row, &section[4..], &CALL[4..]);
-        } else {
-            expect_eq(&rt, row, section, CALL);
-        }
+        expect_jump(&rt, (site, distance), &section, found, *word);
     }
-    for (distance, fits) in [
-        (-1_048_577, false),
-        (-1_048_576, true),
-        (1_048_575, true),
-        (1_048_576, false),
-    ] {
-        expect_eq(&rt, distance, distance_fits_jal(distance), fits);
+    for (distance, fits) in &REACHED {
+        expect_eq(&rt, distance, distance_fits_jal(*distance), *fits);
     }
 }
 
@@ -75,29 +89,22 @@ static RELAXED: [(Pairs, u64, u64, Result<u32, CallError>); 12] = [
 ];
 
 #[test]
-fn calls_jump_to_their_translated_target(rt: HostRuntime) -> Result<(), Fail> {
+fn calls_jump_to_their_translated_target(rt: HostRuntime) {
     for (raw, site, target, word) in &RELAXED {
-        let (row, mut section) = ((raw, site, target), CALL);
-        expect(&rt, row, SectionRelaxDeltas::is_valid(raw));
-        let deltas = SectionRelaxDeltas::new(rt.alloc(), raw)?;
+        let mut section = CALL;
+        let deltas = deltas_of(&rt, rt.alloc(), raw);
         let found = relax_call(&mut section, &deltas, *site, *target);
-        expect_eq(&rt, row, found.map(|()| u32_from_slice(&section)), *word);
-        if word.is_ok() {
-            expect_eq(&rt, row, &section[4..], &CALL[4..]);
-        } else {
-            expect_eq(&rt, row, section, CALL);
-        }
+        expect_jump(&rt, (raw, site, target), &section, found, *word);
     }
-    Ok(())
 }
 
 /// A section, deletions, calls, and the section without the deleted bytes.
-static PACKED: [(
+pub static PACKED: [(
     &'static [u8],
     Pairs,
     Calls,
     Result<&'static [u8], PackError>,
-); 8] = [
+); 9] = [
     (&CALL, &[(4, 4)], &[(0, 8)], Ok(b"\xef\x00\x40\0\x13\0\0\0")),
     (&CALL, &[(4, 4)], &[(0, 6)], Ok(b"\xef\x00\x40\0\x13\0\0\0")),
     (
@@ -118,6 +125,15 @@ static PACKED: [(
             error: CallError::OutOfSection,
         }),
     ),
+    (
+        &CALL,
+        &[(4, 4)],
+        &[(4, 0)],
+        Err(PackError::Call {
+            index: 0,
+            error: CallError::SiteDeleted,
+        }),
+    ),
     (&CALL, &[(10, 4)], &[], Ok(b"\x97\0\0\0\xe7\x80\0\0\x13\0")),
     (&CALL, &[(12, 4)], &[], Ok(&CALL)),
     (
@@ -129,28 +145,14 @@ static PACKED: [(
     (&[], &[], &[], Ok(&[])),
 ];
 
-#[test]
-fn sections_are_packed(rt: HostRuntime) -> Result<(), Fail> {
-    for (section, raw, calls, packed) in &PACKED {
-        expect(&rt, *calls, SectionRelaxDeltas::is_valid(raw));
-        expect(&rt, *calls, calls_apart(calls));
-        let deltas = SectionRelaxDeltas::new(rt.alloc(), raw)?;
-        let found = pack_section(rt.alloc(), section, &deltas, calls);
-        match &found {
-            Ok(found) => expect_eq(&rt, *calls, Ok(found.as_slice()), *packed),
-            Err(error) => expect_eq(&rt, *calls, Err(*error), *packed),
-        }
-    }
-    Ok(())
-}
-
 /// Deletions, calls, and which of them lose the four bytes after their first instruction.
-static SHRUNK: [(Pairs, Calls, &'static [bool]); 7] = [
+pub static SHRUNK: [(Pairs, Calls, &'static [bool]); 8] = [
     (&[], &[(0, 8)], &[true]),
     (&[], &[(0, 1_048_578)], &[true]),
     (&[], &[(0, 1_048_580)], &[false]),
     (&[], &[(0, 9)], &[false]),
     (&[(16, 8)], &[(0, 1_048_586)], &[true]),
+    (&[], &[(0, 1_048_578), (8, 1_048_600)], &[true, false]),
     // each of the two needs the other
     (&[], &[(100, 1_048_680), (1_048_580, 0)], &[true, true]),
     (&[], &[(100, 1_048_688), (1_048_580, 0)], &[false, false]),
@@ -173,26 +175,12 @@ static ASKED: [(Pairs, Calls, bool, bool); 12] = [
 ];
 
 #[test]
-fn choices_are_the_greatest_in_reach(rt: HostRuntime) -> Result<(), Fail> {
-    for (raw, calls, chosen) in &SHRUNK {
-        expect(&rt, *calls, SectionRelaxDeltas::is_valid(raw));
-        let deltas = SectionRelaxDeltas::new(rt.alloc(), raw)?;
-        expect(&rt, *calls, calls_shrinkable(&deltas, calls));
-        let found = shrink_calls(rt.alloc(), &deltas, calls)?;
-        expect_eq(&rt, *calls, found.as_slice(), *chosen);
-    }
+fn calls_apart_may_be_shrinkable(rt: HostRuntime) {
     for (raw, calls, is_apart, is_shrinkable) in &ASKED {
-        expect(&rt, *calls, SectionRelaxDeltas::is_valid(raw));
-        let deltas = SectionRelaxDeltas::new(rt.alloc(), raw)?;
-        expect_eq(&rt, *calls, calls_apart(calls), *is_apart);
-        expect_eq(
-            &rt,
-            *calls,
-            calls_shrinkable(&deltas, calls),
-            *is_shrinkable,
-        );
+        let deltas = deltas_of(&rt, rt.alloc(), raw);
+        let found = (calls_apart(calls), calls_shrinkable(&deltas, calls));
+        expect_eq(&rt, *calls, found, (*is_apart, *is_shrinkable));
     }
-    Ok(())
 }
 
 /// A value, whether its high part is 0, and whether it is an immediate of `c.lui`.
@@ -211,19 +199,21 @@ static HIGH_PARTS: [(i64, bool, bool); 12] = [
     (0x20000, false, false),
 ];
 
+/// Registers, and whether `c.lui` can write them.
+static REGISTERS: [(u32, bool); 4] = [(0, false), (1, true), (2, false), (31, true)];
+
 #[test]
 fn high_parts_are_zero_or_fit_c_lui(rt: HostRuntime) {
     for (value, is_zero, fits) in &HIGH_PARTS {
         let number = value.cast_unsigned();
-        expect_eq(&rt, *value, RelaxationKind::hi20_is_zero(number), *is_zero);
-        expect_eq(&rt, *value, RelaxationKind::hi20_fits_clui(number), *fits);
-    }
-    for (register, is_valid) in [(0, false), (1, true), (2, false), (31, true)] {
-        expect_eq(
-            &rt,
-            register,
-            RelaxationKind::rd_valid_for_clui(register),
-            is_valid,
+        let found = (
+            RelaxationKind::hi20_is_zero(number),
+            RelaxationKind::hi20_fits_clui(number),
         );
+        expect_eq(&rt, value, found, (*is_zero, *fits));
+    }
+    for (register, is_valid) in &REGISTERS {
+        let found = RelaxationKind::rd_valid_for_clui(*register);
+        expect_eq(&rt, register, found, *is_valid);
     }
 }

@@ -1,11 +1,13 @@
 //! Deletions and offsets, worked by hand: an offset's place is the count of kept bytes below it.
 
-use crate::rows::{expect, expect_eq};
+use crate::refused_growth::batches_of;
+use crate::rows::{deltas_of, expect, expect_eq};
 use linker_utils::relaxation::{
-    Looks, RelaxDelta, RelaxDeltaMap, SectionRelaxDeltas, input_to_output_counted,
-    opt_input_to_output, output_to_input_counted,
+    Looks, SectionRelaxDeltas, input_to_output_counted, opt_input_to_output,
+    output_to_input_counted,
 };
-use std::test::Fail;
+use std::fmt::Debug;
+use std::process::Abort;
 
 type Pairs = &'static [(u64, u32)];
 
@@ -35,27 +37,71 @@ static TRANSLATED: [(Pairs, Offsets, Offsets); 7] = [
     ),
 ];
 
-#[test]
-fn offsets_are_translated_both_ways(rt: HostRuntime) -> Result<(), Fail> {
-    for (raw, outputs, inputs) in &TRANSLATED {
-        expect(&rt, *raw, SectionRelaxDeltas::is_valid(raw));
-        let deltas = SectionRelaxDeltas::new(rt.alloc(), raw)?;
-        for (from, to) in *outputs {
-            expect_eq(&rt, (raw, from), deltas.input_to_output_offset(*from), *to);
-            expect_eq(
-                &rt,
-                (raw, from),
-                opt_input_to_output(Some(&deltas), *from),
-                *to,
-            );
-            expect_eq(&rt, (raw, from), opt_input_to_output(None, *from), *from);
-        }
-        for (from, to) in *inputs {
-            expect(&rt, (raw, from), deltas.output_fits(*from));
-            expect_eq(&rt, (raw, from), deltas.output_to_input_offset(*from), *to);
-        }
+/// Requires that the deltas list the deletions, each with the sum of the bytes up to it.
+pub fn expect_listed(rt: &impl Abort, deltas: &SectionRelaxDeltas, deletions: &[(u64, u32)]) {
+    let listed = deltas.deltas();
+    let mut sum = 0u64;
+    for (delta, &(offset, bytes)) in listed.iter().zip(deletions) {
+        sum = sum.wrapping_add(u64::from(bytes));
+        let asked = (deltas.has_delta_at(offset), deltas.delta_bytes_at(offset));
+        let found = (delta.bytes_deleted, delta.cumulative_deleted, asked);
+        expect_eq(rt, (deletions, offset), delta.input_offset, offset);
+        expect_eq(rt, (deletions, offset), found, (bytes, sum, (true, bytes)));
     }
-    Ok(())
+    let found = (listed.len(), deltas.total_deleted());
+    expect_eq(rt, deletions, found, (deletions.len(), sum));
+}
+
+/// Requires that input offsets become these output offsets, by at most so many looks each.
+fn expect_outputs<R: Copy + Debug>(
+    rt: &impl Abort,
+    row: R,
+    deltas: &SectionRelaxDeltas,
+    most: u64,
+    outputs: &[(u64, u64)],
+) {
+    for &(from, to) in outputs {
+        let mut looks = deltas.counted();
+        let found = (
+            input_to_output_counted(&mut looks, from),
+            looks.count() <= most,
+            deltas.input_to_output_offset(from),
+            opt_input_to_output(Some(deltas), from),
+            opt_input_to_output(None, from),
+        );
+        expect_eq(rt, (row, from), found, (to, true, to, to, from));
+    }
+}
+
+/// The same of output offsets.
+fn expect_inputs<R: Copy + Debug>(
+    rt: &impl Abort,
+    row: R,
+    deltas: &SectionRelaxDeltas,
+    most: u64,
+    inputs: &[(u64, u64)],
+) {
+    for &(from, to) in inputs {
+        expect(rt, (row, from), deltas.output_fits(from));
+        let mut looks = deltas.counted();
+        let found = (
+            output_to_input_counted(&mut looks, from),
+            looks.count() <= most,
+            deltas.output_to_input_offset(from),
+        );
+        expect_eq(rt, (row, from), found, (to, true, to));
+    }
+}
+
+#[test]
+fn offsets_are_translated_both_ways(rt: HostRuntime) {
+    for (raw, outputs, inputs) in &TRANSLATED {
+        let deltas = deltas_of(&rt, rt.alloc(), raw);
+        expect_listed(&rt, &deltas, raw);
+        // all are in one block, as in the first row of `LONG`
+        expect_outputs(&rt, raw, &deltas, 9, outputs);
+        expect_inputs(&rt, raw, &deltas, 9, inputs);
+    }
 }
 
 /// Deletions, and whether they ascend and lie apart.
@@ -82,151 +128,84 @@ static MERGEABLE: [(Pairs, bool); 8] = [
     (&[(20, 1), (20, 1)], false),
 ];
 
-#[test]
-fn deletions_that_overlap_are_rejected(rt: HostRuntime) -> Result<(), Fail> {
-    for (raw, is_valid) in &VALID {
-        expect_eq(&rt, *raw, SectionRelaxDeltas::is_valid(raw), *is_valid);
-    }
-    let raw = [(4, 4)];
-    expect(&rt, 0, SectionRelaxDeltas::is_valid(&raw));
-    let deltas = SectionRelaxDeltas::new(rt.alloc(), &raw)?;
-    for (pairs, is_mergeable) in &MERGEABLE {
-        expect_eq(&rt, *pairs, deltas.is_mergeable(pairs), *is_mergeable);
-    }
-    let none = SectionRelaxDeltas::new(rt.alloc(), &[])?;
-    let batches = vec![in rt.alloc(); [(0, 4)].to_vec(rt.alloc())?, [(2, 1)].to_vec(rt.alloc())?]?;
-    expect(&rt, 1, !none.are_mergeable(&batches));
-    let first = [(0, 4)];
-    expect(&rt, 2, SectionRelaxDeltas::is_valid(&first));
-    let deltas = SectionRelaxDeltas::new(rt.alloc(), &first)?;
-    for (offset, is_inside) in [(0, false), (1, true), (3, true), (4, false)] {
-        expect_eq(&rt, offset, deltas.is_inside(offset), is_inside);
-    }
-    let last = [(u64::MAX - 3, 3)];
-    expect(&rt, 2, SectionRelaxDeltas::is_valid(&last));
-    let deltas = SectionRelaxDeltas::new(rt.alloc(), &last)?;
-    expect(&rt, 3, !deltas.output_fits(u64::MAX - 2));
-    Ok(())
-}
-
-fn delta(input_offset: u64, cumulative_deleted: u64, bytes_deleted: u32) -> RelaxDelta {
-    RelaxDelta {
-        input_offset,
-        cumulative_deleted,
-        bytes_deleted,
-    }
-}
-
-#[test]
-fn merges_sort_and_sum(rt: HostRuntime) -> Result<(), Fail> {
-    let (raw, pairs) = ([(8, 4)], [(16, 4), (0, 2)]);
-    for is_batched in [false, true] {
-        expect(&rt, is_batched, SectionRelaxDeltas::is_valid(&raw));
-        let mut merged = SectionRelaxDeltas::new(rt.alloc(), &raw)?;
-        if is_batched {
-            let batches = vec![in rt.alloc();
-                [(16, 4)].to_vec(rt.alloc())?,
-                [(0, 2)].to_vec(rt.alloc())?,
-            ]?;
-            expect(&rt, is_batched, merged.are_mergeable(&batches));
-            merged.merge_all(&batches)?;
-        } else {
-            expect(&rt, is_batched, merged.is_mergeable(&pairs));
-            merged.merge_additional(&pairs)?;
-        }
-        let copy = merged.clone()?;
-        let listed = [delta(0, 2, 2), delta(8, 6, 4), delta(16, 10, 4)];
-        expect_eq(&rt, is_batched, copy.deltas(), &listed);
-        expect_eq(&rt, is_batched, copy.total_deleted(), 10);
-        expect_eq(&rt, is_batched, copy.input_to_output_offset(20), 10);
-        expect(&rt, is_batched, copy.output_fits(0));
-        expect_eq(&rt, is_batched, copy.output_to_input_offset(0), 2);
-        for (offset, bytes) in [(8, Some(4)), (0, Some(2)), (4, None)] {
-            expect_eq(&rt, offset, copy.has_delta_at(offset), bytes.is_some());
-            expect_eq(&rt, offset, copy.delta_bytes_at(offset), bytes.unwrap_or(0));
-        }
-    }
-    let empty = [(4, 0), (6, 2)];
-    expect(&rt, 0, SectionRelaxDeltas::is_valid(&empty));
-    let deltas = SectionRelaxDeltas::new(rt.alloc(), &empty)?;
-    expect_eq(
-        &rt,
-        4,
-        (deltas.has_delta_at(4), deltas.delta_bytes_at(4)),
-        (true, 0),
-    );
-    Ok(())
-}
-
-/// Queries of a cursor over 4 bytes at 4 and 2 at 12, and what they become.
-static WALKED: [[(u64, u64); 5]; 2] = [
-    [(4, 4), (8, 4), (8, 4), (14, 8), (20, 14)],
-    [(5, 4), (7, 4), (13, 8), (13, 8), (20, 14)],
+/// Deletions, an offset, whether it is inside one of them, and whether there is an input offset that
+/// becomes it.
+static ASKED: [(Pairs, u64, bool, bool); 5] = [
+    (&[(0, 4)], 0, false, true),
+    (&[(0, 4)], 1, true, true),
+    (&[(0, 4)], 3, true, true),
+    (&[(0, 4)], 4, false, true),
+    (&[(u64::MAX - 3, 3)], u64::MAX - 2, true, false),
 ];
 
 #[test]
-fn cursors_pass_each_deletion_once(rt: HostRuntime) -> Result<(), Fail> {
-    let raw = [(4, 4), (12, 2)];
-    expect(&rt, 0, SectionRelaxDeltas::is_valid(&raw));
-    let deltas = SectionRelaxDeltas::new(rt.alloc(), &raw)?;
-    for row in &WALKED {
-        let mut cursor = deltas.cursor();
-        for (query, translated) in *row {
-            expect(&rt, query, cursor.can_translate(query));
-            expect_eq(&rt, query, cursor.translate(query), translated);
-        }
-        expect_eq(&rt, row, cursor.turns(), 2);
-        // back again: what is passed stays passed
-        expect(&rt, row, cursor.can_translate(12));
-        expect_eq(&rt, row, cursor.translate(12), 6);
-        expect_eq(&rt, row, cursor.can_translate(5), false);
-        expect_eq(&rt, row, cursor.can_translate(6), true);
-
-        let mut walker = deltas.cursor();
-        let queries = row.map(|(query, _)| query);
-        let mut translated = [0; 5];
-        expect(&rt, row, walker.can_translate_all(&queries));
-        walker.translate_all(&queries, &mut translated);
-        expect_eq(&rt, row, translated, row.map(|(_, translated)| translated));
-        expect_eq(&rt, row, walker.turns(), 2);
+fn deletions_that_overlap_are_rejected(rt: HostRuntime) {
+    for (raw, is_valid) in &VALID {
+        expect_eq(&rt, raw, SectionRelaxDeltas::is_valid(raw), *is_valid);
     }
-    Ok(())
+    let deltas = deltas_of(&rt, rt.alloc(), &[(4, 4)]);
+    for (pairs, is_mergeable) in &MERGEABLE {
+        expect_eq(&rt, pairs, deltas.is_mergeable(pairs), *is_mergeable);
+    }
 }
 
 #[test]
-fn maps_keep_each_section(rt: HostRuntime) -> Result<(), Fail> {
-    let mut map = RelaxDeltaMap::new(rt.alloc());
-    expect(&rt, 0, map.is_empty() && map.last_index().is_none());
-    for (index, raw) in [(3, [(8, 2)]), (1, [(4, 4)])] {
-        expect(&rt, index, SectionRelaxDeltas::is_valid(&raw));
-        let deltas = SectionRelaxDeltas::new(rt.alloc(), &raw)?;
-        expect(&rt, index, map.get(index).is_none());
-        let is_refused = if map.is_empty() {
-            map.insert(index, deltas).is_err()
-        } else {
-            map.insert_sorted(index, deltas).is_err()
-        };
-        if is_refused {
-            return Err(Fail::from("no memory"));
-        }
+fn batches_that_overlap_are_rejected(rt: HostRuntime) {
+    let batches = batches_of(&rt, rt.alloc(), &[(0, 4), (2, 1)]);
+    let none = deltas_of(&rt, rt.alloc(), &[]);
+    expect(&rt, 1, !none.are_mergeable(&batches));
+}
+
+#[test]
+fn offsets_are_inside_or_have_inputs(rt: HostRuntime) {
+    for (raw, offset, is_inside, fits) in &ASKED {
+        let deltas = deltas_of(&rt, rt.alloc(), raw);
+        let found = (deltas.is_inside(*offset), deltas.output_fits(*offset));
+        expect_eq(&rt, (raw, offset), found, (*is_inside, *fits));
     }
-    let one = [delta(4, 4, 4)];
-    let two = [delta(0, 2, 2), delta(4, 6, 4)];
-    for (at, first) in [one.as_slice(), &two].into_iter().enumerate() {
-        let copy = map.clone()?;
-        let other = [delta(8, 2, 2)];
-        for (index, deltas) in [(1, Some(first)), (2, None), (3, Some(other.as_slice()))] {
-            let found = copy.get(index).map(|deltas| deltas.deltas());
-            expect_eq(&rt, (at, index), found, deltas);
-        }
-        expect_eq(&rt, at, copy.last_index(), Some(3));
-        if let Some(lent) = map.get_mut(1)
-            && lent.is_mergeable(&[(0, 2)])
-        {
-            lent.merge_additional(&[(0, 2)])?;
-        }
+}
+
+/// Queries of a cursor over 4 bytes at 4 and 2 at 12, and what they become.
+static WALKED: [([u64; 5], [u64; 5]); 2] = [
+    ([4, 8, 8, 14, 20], [4, 4, 4, 8, 14]),
+    ([5, 7, 13, 13, 20], [4, 4, 8, 8, 14]),
+];
+
+/// Requires that a cursor passes each deletion once, by one query after the other.
+fn expect_walk(
+    rt: &impl Abort,
+    deltas: &SectionRelaxDeltas,
+    queries: &[u64; 5],
+    outputs: &[u64; 5],
+) {
+    let mut cursor = deltas.cursor();
+    for at in 0..5 {
+        expect(rt, queries, cursor.can_translate(queries[at]));
+        let found = cursor.translate(queries[at]);
+        expect_eq(rt, (queries, at), found, outputs[at]);
     }
-    Ok(())
+    // back again: what is passed stays passed
+    let turns = cursor.turns();
+    expect(rt, queries, cursor.can_translate(12));
+    let found = (
+        turns,
+        cursor.translate(12),
+        cursor.can_translate(5),
+        cursor.can_translate(6),
+    );
+    expect_eq(rt, queries, found, (2, 6, false, true));
+}
+
+#[test]
+fn cursors_pass_each_deletion_once(rt: HostRuntime) {
+    let deltas = deltas_of(&rt, rt.alloc(), &[(4, 4), (12, 2)]);
+    for (queries, outputs) in &WALKED {
+        expect_walk(&rt, &deltas, queries, outputs);
+        let (mut cursor, mut found) = (deltas.cursor(), [0; 5]);
+        expect(&rt, queries, cursor.can_translate_all(queries));
+        cursor.translate_all(queries, &mut found);
+        expect_eq(&rt, queries, (found, cursor.turns()), (*outputs, 2));
+    }
 }
 
 /// How many deletions of 4 bytes, one each 8 bytes; how many looks a translation takes at most, which
@@ -238,42 +217,16 @@ static LONG: [(usize, u64, Offsets, Offsets); 2] = [
 ];
 
 #[test]
-fn long_lists_are_searched_by_blocks(rt: HostRuntime) -> Result<(), Fail> {
+fn long_lists_are_searched_by_blocks(rt: HostRuntime) {
     let mut raw = [(0, 4); 65];
     for at in 0..65 {
         raw[at] = (8 * at as u64, 4);
     }
-    for (count, most, outputs, inputs) in &LONG {
-        expect(&rt, *count, *count <= 65);
-        let raw = &raw[..*count];
-        expect(&rt, *count, SectionRelaxDeltas::is_valid(raw));
-        let deltas = SectionRelaxDeltas::new(rt.alloc(), raw)?;
-        expect_eq(&rt, *count, deltas.total_deleted(), 4 * *count as u64);
-        for (input, output) in *outputs {
-            let mut looks = deltas.counted();
-            let found = input_to_output_counted(&mut looks, *input);
-            expect_eq(&rt, (count, input), found, *output);
-            expect(&rt, (count, input), looks.count() <= *most);
-            expect_eq(
-                &rt,
-                (count, input),
-                deltas.input_to_output_offset(*input),
-                found,
-            );
-        }
-        for (output, input) in *inputs {
-            expect(&rt, (count, output), deltas.output_fits(*output));
-            let mut looks = deltas.counted();
-            let found = output_to_input_counted(&mut looks, *output);
-            expect_eq(&rt, (count, output), found, *input);
-            expect(&rt, (count, output), looks.count() <= *most);
-            expect_eq(
-                &rt,
-                (count, output),
-                deltas.output_to_input_offset(*output),
-                found,
-            );
-        }
+    for &(count, most, outputs, inputs) in &LONG {
+        expect(&rt, count, count <= 65);
+        let deltas = deltas_of(&rt, rt.alloc(), &raw[..count]);
+        expect_eq(&rt, count, deltas.total_deleted(), 4 * count as u64);
+        expect_outputs(&rt, count, &deltas, most, outputs);
+        expect_inputs(&rt, count, &deltas, most, inputs);
     }
-    Ok(())
 }

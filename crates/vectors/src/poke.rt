@@ -16,6 +16,8 @@ ghost use Rattle.std.specs.Int.{byte_len};
 ghost use Rattle.linker_utils.specs.Form.{window_of};
 ghost use Rattle.vectors.specs.Poke.{window_at, HasWindow, CanPoke, IsPoked, value_at, flag_at};
 
+#[cfg(test)]
+use crate::rows::expect_eq;
 use linker_utils::elf::InstructionForm;
 #[cfg(test)]
 use linker_utils::elf::RiscVInstruction;
@@ -45,11 +47,11 @@ pub fn poke<F: InstructionForm>(
         → IsPoked (F.form form) value negative offset section.old section.new }
     ensures unchanged { result ≡ false → section.new ≡ section.old }
 {
-    let fits = has_window(form, section, offset) && form.fits(value, &section[offset..]);
-    if fits {
-        form.write(value, negative, &mut section[offset..]);
+    if !has_window(form, section, offset) || !form.fits(value, &section[offset..]) {
+        return false;
     }
-    fits
+    form.write(value, negative, &mut section[offset..]);
+    true
 }
 
 /// The low bits of a value, as many as the form's width.
@@ -91,10 +93,10 @@ pub fn write_back<F: InstructionForm>(form: F, section: &mut [u8], offset: usize
 // jal x0, 0 at offset 4 becomes jal x0, 8, and stays so
 #[test]
 fn a_jump_is_poked_and_written_back(rt: HostRuntime) {
-    let mut section = [0, 0, 0, 0, 0x6f, 0, 0, 0];
-    let jump = [0, 0, 0, 0, 0x6f, 0, 0x80, 0];
-    assert!(rt; poke(RiscVInstruction::JType, 8, false, &mut section, 4));
-    assert_eq!(rt; section, jump);
-    assert!(rt; write_back(RiscVInstruction::JType, &mut section, 4));
-    assert_eq!(rt; section, jump);
+    let (mut section, jump) = ([0, 0, 0, 0, 0x6f, 0, 0, 0], [0, 0, 0, 0, 0x6f, 0, 0x80, 0]);
+    let is_poked = poke(RiscVInstruction::JType, 8, false, &mut section, 4);
+    let poked = section;
+    let is_written = write_back(RiscVInstruction::JType, &mut section, 4);
+    let found = (is_poked, poked, is_written, section);
+    expect_eq(&rt, 4, found, (true, jump, true, jump));
 }

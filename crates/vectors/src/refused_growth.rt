@@ -2,24 +2,25 @@
 //! in turn, one a run. So a call that has failed once succeeds when it is tried again, and each
 //! test passes whichever allocation fails.
 
-use crate::rows::expect_eq;
+use crate::calls::{PACKED, SHRUNK};
+use crate::deltas::expect_listed;
+use crate::readers::TEXTS;
+use crate::rows::{copy_of, deltas_of, expect, expect_eq};
 use linker_utils::relaxation::{
     OutOfMemory, PackError, RelaxDeltaMap, SectionRelaxDeltas, calls_apart, calls_shrinkable,
     pack_section, shrink_calls,
 };
-use linker_utils::riscv64::CallError;
 use linker_utils::utils::read_string;
 use std::alloc::Global;
 use std::fmt::InlineText;
 use std::process::Abort;
-use std::test::Fail;
 
-/// Deletions, and where some kept bytes go.
+/// Deletions, and where some kept bytes go, at which no deletion begins.
 #[derive(Clone, Copy)]
-struct Listing {
-    deletions: &'static [(u64, u32)],
+struct Listing<'a> {
+    deletions: &'a [(u64, u32)],
     // input offset and output offset
-    kept: &'static [(u64, u64)],
+    kept: &'a [(u64, u64)],
 }
 
 const ONE: Listing = Listing {
@@ -32,230 +33,298 @@ const THREE: Listing = Listing {
     kept: &[(3, 3), (12, 4), (15, 7), (20, 8), (8800, 8788)],
 };
 
-fn deltas_of(
-    rt: &impl Abort,
-    alloc: Global,
-    raw: &[(u64, u32)],
-) -> Result<SectionRelaxDeltas, OutOfMemory> {
-    assert!(rt; SectionRelaxDeltas::is_valid(raw));
-    SectionRelaxDeltas::new(alloc, raw).or_else(|_| SectionRelaxDeltas::new(alloc, raw))
-}
-
-/// Requires that the deltas list the deletions, each with the sum of the bytes up to it.
-fn expect_listed(rt: &impl Abort, deltas: &SectionRelaxDeltas, deletions: &[(u64, u32)]) {
-    let listed = deltas.deltas();
-    expect_eq(rt, "deletions", listed.len(), deletions.len());
-    let mut sum = 0u64;
-    for (delta, &(offset, bytes)) in listed.iter().zip(deletions) {
-        sum = sum.wrapping_add(u64::from(bytes));
-        let pair = (delta.input_offset, delta.bytes_deleted);
-        expect_eq(rt, offset, pair, (offset, bytes));
-        expect_eq(rt, offset, delta.cumulative_deleted, sum);
-    }
-}
-
-/// The same, and that the kept bytes are translated both ways.
+/// Requires that the deltas list the deletions, and that the kept bytes are translated both ways.
 fn expect_listing(rt: &impl Abort, deltas: &SectionRelaxDeltas, listing: Listing) {
     expect_listed(rt, deltas, listing.deletions);
     for &(input, output) in listing.kept {
-        expect_eq(rt, input, deltas.input_to_output_offset(input), output);
-        assert!(rt; deltas.output_fits(output));
-        expect_eq(rt, output, deltas.output_to_input_offset(output), input);
+        expect(rt, output, deltas.output_fits(output));
+        let found = (
+            deltas.input_to_output_offset(input),
+            deltas.output_to_input_offset(output),
+            deltas.has_delta_at(input),
+            deltas.delta_bytes_at(input),
+        );
+        expect_eq(
+            rt,
+            (listing.deletions, input),
+            found,
+            (output, input, false, 0),
+        );
     }
 }
 
-/// Merges pairs into the deltas of `ONE`. A merge that has failed leaves them.
-fn merge_into_one(
-    rt: &impl Abort,
-    alloc: Global,
-    more: &[(u64, u32)],
-) -> Result<SectionRelaxDeltas, OutOfMemory> {
-    let mut deltas = deltas_of(rt, alloc, ONE.deletions)?;
-    assert!(rt; deltas.is_mergeable(more));
+/// Deltas, two pairs merged into them, and the deltas then.
+static MERGED: [(Listing<'static>, [(u64, u32); 2], Listing<'static>); 3] = [
+    (ONE, [(8, 4), (16, 4)], THREE),
+    (ONE, [(16, 4), (8, 4)], THREE),
+    (
+        Listing {
+            deletions: &[(8, 4)],
+            kept: &[(3, 3), (12, 8), (20, 16)],
+        },
+        [(16, 4), (0, 2)],
+        Listing {
+            deletions: &[(0, 2), (8, 4), (16, 4)],
+            kept: &[(2, 0), (4, 2), (20, 10)],
+        },
+    ),
+];
+
+/// Merges pairs into deltas. A merge that has failed leaves them.
+fn merge(rt: &impl Abort, deltas: &mut SectionRelaxDeltas, before: Listing, more: &[(u64, u32)]) {
+    expect(rt, more, deltas.is_mergeable(more));
     if deltas.merge_additional(more).is_err() {
-        expect_listing(rt, &deltas, ONE);
-        assert!(rt; deltas.is_mergeable(more));
-        deltas.merge_additional(more)?;
+        expect_listing(rt, deltas, before);
+        expect(rt, more, deltas.is_mergeable(more));
+        expect(rt, more, deltas.merge_additional(more).is_ok());
     }
-    Ok(deltas)
 }
 
-/// Deletions of many blocks: of each eight bytes the last four.
-fn many() -> [(u64, u32); 1100] {
-    let mut deletions = [(0, 4); 1100];
+/// Deletions of many blocks: of each eight bytes the last four. And where the bytes before them go.
+fn many() -> ([(u64, u32); 1100], [(u64, u64); 1100]) {
+    let (mut deletions, mut kept) = ([(0, 4); 1100], [(0, 0); 1100]);
     for at in 0..1100 {
         deletions[at] = (8 * at as u64 + 4, 4);
+        kept[at] = (8 * at as u64 + 3, 4 * at as u64 + 3);
     }
-    deletions
+    (deletions, kept)
 }
 
-fn expect_many(rt: &impl Abort, deltas: &SectionRelaxDeltas) {
-    expect_listed(rt, deltas, &many());
-    for block in 0..1100u64 {
-        let (input, output) = (8 * block + 3, 4 * block + 3);
-        expect_eq(rt, input, deltas.input_to_output_offset(input), output);
-        assert!(rt; deltas.output_fits(output));
-        expect_eq(rt, output, deltas.output_to_input_offset(output), input);
+#[test]
+fn a_failed_merge_leaves_the_deltas(rt: HostRuntime) {
+    for (before, more, after) in &MERGED {
+        let mut merged = deltas_of(&rt, rt.alloc(), before.deletions);
+        merge(&rt, &mut merged, *before, more);
+        expect_listing(&rt, &copy_of(&rt, &merged), *after);
     }
 }
 
 #[test]
-fn a_failed_merge_leaves_the_deltas(rt: HostRuntime) -> Result<(), Fail> {
-    let pairs: [&[(u64, u32)]; 2] = [&[(8, 4), (16, 4)], &[(16, 4), (8, 4)]];
-    for more in pairs {
-        let merged = merge_into_one(&rt, rt.alloc(), more)?;
-        expect_listing(&rt, &merged, THREE);
-    }
-    let merged = merge_into_one(&rt, rt.alloc(), &many()[1..])?;
-    expect_many(&rt, &merged);
-    Ok(())
+fn many_blocks_are_merged_and_copied(rt: HostRuntime) {
+    let (deletions, kept) = many();
+    let many = Listing {
+        deletions: &deletions,
+        kept: &kept,
+    };
+    let mut merged = deltas_of(&rt, rt.alloc(), ONE.deletions);
+    merge(&rt, &mut merged, ONE, &deletions[1..]);
+    expect_listing(&rt, &merged, many);
+    let listed = deltas_of(&rt, rt.alloc(), &deletions);
+    expect_listing(&rt, &copy_of(&rt, &listed), many);
+    expect_listing(&rt, &listed, many);
 }
 
-fn batches(alloc: Global) -> Result<Vec<Vec<(u64, u32)>>, OutOfMemory> {
-    let (second, third) = ([(16, 4)].to_vec(alloc)?, [(8, 4)].to_vec(alloc)?);
-    Ok(vec![in alloc; Vec::new(alloc), second, third]?)
+/// A batch of no pairs, and one of each of two.
+fn batches(alloc: Global, pairs: &[(u64, u32); 2]) -> Result<Vec<Vec<(u64, u32)>>, OutOfMemory> {
+    let (first, second) = ([pairs[0]].to_vec(alloc)?, [pairs[1]].to_vec(alloc)?);
+    Ok(vec![in alloc; Vec::new(alloc), first, second]?)
+}
+
+/// The same, tried again.
+pub fn batches_of(rt: &impl Abort, alloc: Global, pairs: &[(u64, u32); 2]) -> Vec<Vec<(u64, u32)>> {
+    match batches(alloc, pairs) {
+        Ok(batches) => batches,
+        Err(_) => batches(alloc, pairs).expect(rt, "no memory"),
+    }
+}
+
+/// Merges batches into deltas. A merge that has failed leaves them.
+fn merge_batches(
+    rt: &impl Abort,
+    deltas: &mut SectionRelaxDeltas,
+    before: Listing,
+    batches: &[Vec<(u64, u32)>],
+) {
+    expect(rt, batches, deltas.are_mergeable(batches));
+    if deltas.merge_all(batches).is_err() {
+        expect_listing(rt, deltas, before);
+        expect(rt, batches, deltas.are_mergeable(batches));
+        expect(rt, batches, deltas.merge_all(batches).is_ok());
+    }
 }
 
 #[test]
-fn failed_batches_leave_the_deltas(rt: HostRuntime) -> Result<(), Fail> {
-    let batches = batches(rt.alloc()).or_else(|_| batches(rt.alloc()))?;
-    let mut deltas = deltas_of(&rt, rt.alloc(), ONE.deletions)?;
-    assert!(rt; deltas.are_mergeable(&batches));
-    if deltas.merge_all(&batches).is_err() {
-        expect_listing(&rt, &deltas, ONE);
-        assert!(rt; deltas.are_mergeable(&batches));
-        deltas.merge_all(&batches)?;
+fn failed_batches_leave_the_deltas(rt: HostRuntime) {
+    for (before, more, after) in &MERGED {
+        let batches = batches_of(&rt, rt.alloc(), more);
+        let mut merged = deltas_of(&rt, rt.alloc(), before.deletions);
+        merge_batches(&rt, &mut merged, *before, &batches);
+        expect_listing(&rt, &copy_of(&rt, &merged), *after);
     }
-    expect_listing(&rt, &deltas, THREE);
-    Ok(())
 }
 
 #[test]
-fn a_failed_copy_leaves_the_deltas(rt: HostRuntime) -> Result<(), Fail> {
-    let few = deltas_of(&rt, rt.alloc(), THREE.deletions)?;
-    let many = deltas_of(&rt, rt.alloc(), &many())?;
-    let (few_copied, many_copied) = (few.clone(), many.clone());
+fn a_failed_copy_leaves_the_deltas(rt: HostRuntime) {
+    let few = deltas_of(&rt, rt.alloc(), THREE.deletions);
+    let copy = copy_of(&rt, &few);
     expect_listing(&rt, &few, THREE);
-    expect_many(&rt, &many);
-    expect_listing(&rt, &few_copied.or_else(|_| few.clone())?, THREE);
-    expect_many(&rt, &many_copied.or_else(|_| many.clone())?);
-    Ok(())
+    expect_listing(&rt, &copy, THREE);
 }
 
-/// Requires that the map has the sections, each with four bytes deleted at four times its index,
-/// and no others up to 12.
-fn expect_sections(rt: &impl Abort, map: &RelaxDeltaMap, sections: &[usize]) {
-    for index in 0..12usize {
-        let found = map.get(index);
-        expect_eq(rt, index, found.is_some(), sections.contains(&index));
-        if let Some(deltas) = found {
-            expect_listed(rt, deltas, &[(4 * index as u64, 4)]);
+/// A section's index, and its deletions.
+type Section = (usize, &'static [(u64, u32)]);
+
+/// Requires that the map has the sections, and no others up to 12.
+fn expect_sections(rt: &impl Abort, map: &RelaxDeltaMap, sections: &[Section]) {
+    let mut last = None;
+    for &(index, deletions) in sections {
+        match map.get(index) {
+            Some(deltas) => expect_listed(rt, deltas, deletions),
+            None => expect(rt, index, false),
+        }
+        if last < Some(index) {
+            last = Some(index);
         }
     }
-    expect_eq(rt, "last", map.last_index(), sections.iter().max().copied());
+    let mut count = 0usize;
+    for index in 0..12 {
+        count = count.wrapping_add(usize::from(map.get(index).is_some()));
+    }
+    let found = (count, map.is_empty(), map.last_index());
+    expect_eq(rt, last, found, (sections.len(), sections.is_empty(), last));
 }
 
-#[test]
-fn a_failed_insertion_hands_the_section_back(rt: HostRuntime) -> Result<(), Fail> {
-    let order = [9, 7, 5, 3, 1];
-    let mut map = RelaxDeltaMap::new(rt.alloc());
-    for (at, &index) in order.iter().enumerate() {
-        let raw = [(4 * index as u64, 4)];
-        let deltas = deltas_of(&rt, rt.alloc(), &raw)?;
-        assert!(rt; map.get(index).is_none());
-        if let Err(back) = map.insert_sorted(index, deltas) {
-            expect_sections(&rt, &map, &order[..at]);
-            expect_listed(&rt, &back, &raw);
-            assert!(rt; map.get(index).is_none());
-            assert!(rt; map.insert_sorted(index, back).is_ok());
-        }
-    }
-    assert_eq!(rt; map.last_index(), Some(9));
-    if let Err(back) = map.insert(11, deltas_of(&rt, rt.alloc(), &[(44, 4)])?) {
-        expect_sections(&rt, &map, &order);
-        expect_listed(&rt, &back, &[(44, 4)]);
-        assert_eq!(rt; map.last_index(), Some(9));
-        assert!(rt; map.insert(11, back).is_ok());
-    }
+/// The same of a copy too.
+fn expect_copied(rt: &impl Abort, map: &RelaxDeltaMap, sections: &[Section]) {
     let copied = map.clone();
-    let all = [9, 7, 5, 3, 1, 11];
-    expect_sections(&rt, &map, &all);
-    expect_sections(&rt, &copied.or_else(|_| map.clone())?, &all);
-    Ok(())
+    expect_sections(rt, map, sections);
+    match copied {
+        Ok(copy) => expect_sections(rt, &copy, sections),
+        Err(_) => expect_sections(rt, &map.clone().expect(rt, "no memory"), sections),
+    }
 }
 
-/// `auipc ra, 0` and `jalr ra, 0(ra)`, and `nop`.
-const CALL: [u8; 12] = [
-    0x97, 0x00, 0x00, 0x00, 0xe7, 0x80, 0x00, 0x00, 0x13, 0x00, 0x00, 0x00,
+/// Inserts a section, which a failed insertion hands back.
+fn put(
+    rt: &impl Abort,
+    map: &mut RelaxDeltaMap,
+    index: usize,
+    deltas: SectionRelaxDeltas,
+    is_sorted: bool,
+) -> Option<SectionRelaxDeltas> {
+    if is_sorted {
+        expect(rt, index, map.get(index).is_none());
+        return map.insert_sorted(index, deltas).err();
+    }
+    match map.last_index() {
+        Some(last) => {
+            expect(rt, index, last < index);
+            map.insert(index, deltas).err()
+        }
+        None => map.insert(index, deltas).err(),
+    }
+}
+
+/// Inserts a section into a map of those before it.
+fn add_section(
+    rt: &impl Abort,
+    alloc: Global,
+    map: &mut RelaxDeltaMap,
+    before: &[Section],
+    section: Section,
+    is_sorted: bool,
+) {
+    let (index, deletions) = section;
+    let deltas = deltas_of(rt, alloc, deletions);
+    if let Some(back) = put(rt, map, index, deltas, is_sorted) {
+        expect_sections(rt, map, before);
+        expect_listed(rt, &back, deletions);
+        let again = put(rt, map, index, back, is_sorted);
+        expect(rt, index, again.is_none());
+    }
+}
+
+static SECTIONS: [Section; 6] = [
+    (9, &[(36, 4)]),
+    (7, &[(28, 4)]),
+    (5, &[(20, 4)]),
+    (3, &[(12, 4)]),
+    (1, &[(4, 4)]),
+    (11, &[(44, 4)]),
 ];
 
 #[test]
-fn a_section_is_packed_when_tried_again(rt: HostRuntime) -> Result<(), Fail> {
-    let deltas = deltas_of(&rt, rt.alloc(), &[(4, 4)])?;
-    let packed = [0xef, 0x00, 0x40, 0x00, 0x13, 0x00, 0x00, 0x00];
-    let deleted = PackError::Call {
-        index: 0,
-        error: CallError::SiteDeleted,
-    };
-    // out of memory comes before the first call that can't become a jump
-    for (call, want) in [((0, 8), Ok(packed.as_slice())), ((4, 0), Err(deleted))] {
-        assert!(rt; calls_apart(&[call]));
-        let mut found = pack_section(rt.alloc(), &CALL, &deltas, &[call]);
+fn a_failed_insertion_hands_the_section_back(rt: HostRuntime) {
+    let mut map = RelaxDeltaMap::new(rt.alloc());
+    for at in 0..6 {
+        add_section(
+            &rt,
+            rt.alloc(),
+            &mut map,
+            &SECTIONS[..at],
+            SECTIONS[at],
+            at < 5,
+        );
+    }
+    expect_copied(&rt, &map, &SECTIONS);
+}
+
+#[test]
+fn a_section_of_a_map_is_merged_into(rt: HostRuntime) {
+    let mut map = RelaxDeltaMap::new(rt.alloc());
+    expect_copied(&rt, &map, &[]);
+    let (third, first): (Section, Section) = ((3, &[(8, 2)]), (1, &[(4, 4)]));
+    add_section(&rt, rt.alloc(), &mut map, &[], third, false);
+    add_section(&rt, rt.alloc(), &mut map, &[third], first, true);
+    expect_copied(&rt, &map, &[third, first]);
+    if let Some(lent) = map.get_mut(1) {
+        merge(&rt, lent, ONE, &[(0, 2)]);
+    }
+    expect_copied(&rt, &map, &[third, (1, &[(0, 2), (4, 4)])]);
+}
+
+#[test]
+fn sections_are_packed(rt: HostRuntime) {
+    for (section, raw, calls, packed) in &PACKED {
+        let deltas = deltas_of(&rt, rt.alloc(), raw);
+        expect(&rt, *calls, calls_apart(calls));
+        let mut found = pack_section(rt.alloc(), section, &deltas, calls);
+        // out of memory comes before the first call that can't become a jump
         if let Err(PackError::OutOfMemory) = found {
-            found = pack_section(rt.alloc(), &CALL, &deltas, &[call]);
+            found = pack_section(rt.alloc(), section, &deltas, calls);
         }
-        match found {
-            Ok(found) => expect_eq(&rt, call, Ok(found.as_slice()), want),
-            Err(error) => expect_eq(&rt, call, Err(error), want),
+        match &found {
+            Ok(found) => expect_eq(&rt, *calls, Ok(found.as_slice()), *packed),
+            Err(error) => expect_eq(&rt, *calls, Err(*error), *packed),
         }
     }
-    Ok(())
 }
 
 #[test]
-fn a_choice_is_made_when_tried_again(rt: HostRuntime) -> Result<(), Fail> {
-    let none = deltas_of(&rt, rt.alloc(), &[])?;
-    let calls = [(0, 1048578), (8, 1048600)];
-    assert!(rt; calls_shrinkable(&none, &calls));
-    let chosen = shrink_calls(rt.alloc(), &none, &calls);
-    let chosen = chosen.or_else(|_| shrink_calls(rt.alloc(), &none, &calls))?;
-    expect_eq(
-        &rt,
-        "chosen.as_slice()",
-        chosen.as_slice(),
-        [true, false].as_slice(),
-    );
-    Ok(())
+fn choices_are_the_greatest_in_reach(rt: HostRuntime) {
+    for (raw, calls, chosen) in &SHRUNK {
+        let deltas = deltas_of(&rt, rt.alloc(), raw);
+        expect(&rt, *calls, calls_shrinkable(&deltas, calls));
+        let found = match shrink_calls(rt.alloc(), &deltas, calls) {
+            Ok(found) => found,
+            Err(_) => shrink_calls(rt.alloc(), &deltas, calls).expect(&rt, "no memory"),
+        };
+        expect_eq(&rt, *calls, found.as_slice(), *chosen);
+    }
 }
 
 #[test]
-fn an_error_leaves_the_text_unread(rt: HostRuntime) -> Result<(), Fail> {
-    let mut endless: &[u8] = b"ab";
-    let error = read_string(rt.alloc(), &mut endless).expect_err(&rt, "no NUL");
-    expect_eq(
-        &rt,
-        "InlineText::<120>::of(error).as_str()",
-        InlineText::<120>::of(error).as_str(),
-        "No null terminator found in string",
-    );
-    expect_eq(&rt, "endless", endless, b"ab".as_slice());
-
-    let texts: [(&[u8], &str); 2] = [(b"a\0b", "a"), (b"a\xff\0b", "a\u{fffd}")];
-    for (bytes, text) in texts {
-        let mut content = bytes;
-        let mut read = read_string(rt.alloc(), &mut content);
-        if let Err(error) = read {
+fn texts_end_at_a_nul(rt: HostRuntime) {
+    for (bytes, text, rest) in &TEXTS {
+        let mut content = *bytes;
+        let mut found = read_string(rt.alloc(), &mut content);
+        if let Err(error) = found {
+            let text = InlineText::<120>::of(error);
             expect_eq(
                 &rt,
-                "InlineText::<120>::of(error).as_str()",
-                InlineText::<120>::of(error).as_str(),
-                "Out of memory",
+                *bytes,
+                (text.as_str(), content),
+                ("Out of memory", *bytes),
             );
-            expect_eq(&rt, bytes, content, bytes);
-            read = read_string(rt.alloc(), &mut content);
+            found = read_string(rt.alloc(), &mut content);
         }
-        expect_eq(&rt, bytes, read?.as_str(), text);
-        expect_eq(&rt, bytes, content, b"b".as_slice());
+        let found = found.expect(&rt, "no memory");
+        expect_eq(&rt, *bytes, (found.as_str(), content), (*text, *rest));
     }
-    Ok(())
+    let endless: &[u8] = b"ab";
+    let mut content = endless;
+    let error = read_string(rt.alloc(), &mut content).expect_err(&rt, "no NUL");
+    let text = InlineText::<120>::of(error);
+    let expected = ("No null terminator found in string", endless);
+    expect_eq(&rt, endless, (text.as_str(), content), expected);
 }

@@ -2,12 +2,13 @@
 // Made by tools/erase of crates/vectors/src/deltas.rt.
 //! Deletions and offsets, worked by hand: an offset's place is the count of kept bytes below it.
 
-use crate::support::*;
-use crate::rows::{expect, expect_eq};
+use crate::refused_growth::batches_of;
+use crate::rows::{deltas_of, expect, expect_eq};
 use linker_utils::relaxation::{
-    Looks, RelaxDelta, RelaxDeltaMap, SectionRelaxDeltas, input_to_output_counted,
-    opt_input_to_output, output_to_input_counted,
+    Looks, SectionRelaxDeltas, input_to_output_counted, opt_input_to_output,
+    output_to_input_counted,
 };
+use core::fmt::Debug;
 
 type Pairs = &'static [(u64, u32)];
 
@@ -37,26 +38,69 @@ static TRANSLATED: [(Pairs, Offsets, Offsets); 7] = [
     ),
 ];
 
-#[test]
-fn offsets_are_translated_both_ways() -> Result<(), Fail> {
-    for (raw, outputs, inputs) in &TRANSLATED {
-        expect(*raw, SectionRelaxDeltas::is_valid(raw));
-        let deltas = SectionRelaxDeltas::new(raw)?;
-        for (from, to) in *outputs {
-            expect_eq((raw, from), deltas.input_to_output_offset(*from), *to);
-            expect_eq(
-                (raw, from),
-                opt_input_to_output(Some(&deltas), *from),
-                *to,
-            );
-            expect_eq((raw, from), opt_input_to_output(None, *from), *from);
-        }
-        for (from, to) in *inputs {
-            expect((raw, from), deltas.output_fits(*from));
-            expect_eq((raw, from), deltas.output_to_input_offset(*from), *to);
-        }
+/// Requires that the deltas list the deletions, each with the sum of the bytes up to it.
+pub fn expect_listed(deltas: &SectionRelaxDeltas, deletions: &[(u64, u32)]) {
+    let listed = deltas.deltas();
+    let mut sum = 0u64;
+    for (delta, &(offset, bytes)) in listed.iter().zip(deletions) {
+        sum = sum.wrapping_add(u64::from(bytes));
+        let asked = (deltas.has_delta_at(offset), deltas.delta_bytes_at(offset));
+        let found = (delta.bytes_deleted, delta.cumulative_deleted, asked);
+        expect_eq((deletions, offset), delta.input_offset, offset);
+        expect_eq((deletions, offset), found, (bytes, sum, (true, bytes)));
     }
-    Ok(())
+    let found = (listed.len(), deltas.total_deleted());
+    expect_eq(deletions, found, (deletions.len(), sum));
+}
+
+/// Requires that input offsets become these output offsets, by at most so many looks each.
+fn expect_outputs<R: Copy + Debug>(
+    row: R,
+    deltas: &SectionRelaxDeltas,
+    most: u64,
+    outputs: &[(u64, u64)],
+) {
+    for &(from, to) in outputs {
+        let mut looks = deltas.counted();
+        let found = (
+            input_to_output_counted(&mut looks, from),
+            looks.count() <= most,
+            deltas.input_to_output_offset(from),
+            opt_input_to_output(Some(deltas), from),
+            opt_input_to_output(None, from),
+        );
+        expect_eq((row, from), found, (to, true, to, to, from));
+    }
+}
+
+/// The same of output offsets.
+fn expect_inputs<R: Copy + Debug>(
+    row: R,
+    deltas: &SectionRelaxDeltas,
+    most: u64,
+    inputs: &[(u64, u64)],
+) {
+    for &(from, to) in inputs {
+        expect((row, from), deltas.output_fits(from));
+        let mut looks = deltas.counted();
+        let found = (
+            output_to_input_counted(&mut looks, from),
+            looks.count() <= most,
+            deltas.output_to_input_offset(from),
+        );
+        expect_eq((row, from), found, (to, true, to));
+    }
+}
+
+#[test]
+fn offsets_are_translated_both_ways() {
+    for (raw, outputs, inputs) in &TRANSLATED {
+        let deltas = deltas_of(raw);
+        expect_listed(&deltas, raw);
+        // all are in one block, as in the first row of `LONG`
+        expect_outputs(raw, &deltas, 9, outputs);
+        expect_inputs(raw, &deltas, 9, inputs);
+    }
 }
 
 /// Deletions, and whether they ascend and lie apart.
@@ -83,150 +127,83 @@ static MERGEABLE: [(Pairs, bool); 8] = [
     (&[(20, 1), (20, 1)], false),
 ];
 
-#[test]
-fn deletions_that_overlap_are_rejected() -> Result<(), Fail> {
-    for (raw, is_valid) in &VALID {
-        expect_eq(*raw, SectionRelaxDeltas::is_valid(raw), *is_valid);
-    }
-    let raw = [(4, 4)];
-    expect(0, SectionRelaxDeltas::is_valid(&raw));
-    let deltas = SectionRelaxDeltas::new(&raw)?;
-    for (pairs, is_mergeable) in &MERGEABLE {
-        expect_eq(*pairs, deltas.is_mergeable(pairs), *is_mergeable);
-    }
-    let none = SectionRelaxDeltas::new(&[])?;
-    let batches = try_vec![[(0, 4)].fallible_to_vec()?, [(2, 1)].fallible_to_vec()?]?;
-    expect(1, !none.are_mergeable(&batches));
-    let first = [(0, 4)];
-    expect(2, SectionRelaxDeltas::is_valid(&first));
-    let deltas = SectionRelaxDeltas::new(&first)?;
-    for (offset, is_inside) in [(0, false), (1, true), (3, true), (4, false)] {
-        expect_eq(offset, deltas.is_inside(offset), is_inside);
-    }
-    let last = [(u64::MAX - 3, 3)];
-    expect(2, SectionRelaxDeltas::is_valid(&last));
-    let deltas = SectionRelaxDeltas::new(&last)?;
-    expect(3, !deltas.output_fits(u64::MAX - 2));
-    Ok(())
-}
-
-fn delta(input_offset: u64, cumulative_deleted: u64, bytes_deleted: u32) -> RelaxDelta {
-    RelaxDelta {
-        input_offset,
-        cumulative_deleted,
-        bytes_deleted,
-    }
-}
-
-#[test]
-fn merges_sort_and_sum() -> Result<(), Fail> {
-    let (raw, pairs) = ([(8, 4)], [(16, 4), (0, 2)]);
-    for is_batched in [false, true] {
-        expect(is_batched, SectionRelaxDeltas::is_valid(&raw));
-        let mut merged = SectionRelaxDeltas::new(&raw)?;
-        if is_batched {
-            let batches = try_vec![
-                [(16, 4)].fallible_to_vec()?,
-                [(0, 2)].fallible_to_vec()?,
-            ]?;
-            expect(is_batched, merged.are_mergeable(&batches));
-            merged.merge_all(&batches)?;
-        } else {
-            expect(is_batched, merged.is_mergeable(&pairs));
-            merged.merge_additional(&pairs)?;
-        }
-        let copy = merged.try_clone()?;
-        let listed = [delta(0, 2, 2), delta(8, 6, 4), delta(16, 10, 4)];
-        expect_eq(is_batched, copy.deltas(), &listed);
-        expect_eq(is_batched, copy.total_deleted(), 10);
-        expect_eq(is_batched, copy.input_to_output_offset(20), 10);
-        expect(is_batched, copy.output_fits(0));
-        expect_eq(is_batched, copy.output_to_input_offset(0), 2);
-        for (offset, bytes) in [(8, Some(4)), (0, Some(2)), (4, None)] {
-            expect_eq(offset, copy.has_delta_at(offset), bytes.is_some());
-            expect_eq(offset, copy.delta_bytes_at(offset), bytes.unwrap_or(0));
-        }
-    }
-    let empty = [(4, 0), (6, 2)];
-    expect(0, SectionRelaxDeltas::is_valid(&empty));
-    let deltas = SectionRelaxDeltas::new(&empty)?;
-    expect_eq(
-        4,
-        (deltas.has_delta_at(4), deltas.delta_bytes_at(4)),
-        (true, 0),
-    );
-    Ok(())
-}
-
-/// Queries of a cursor over 4 bytes at 4 and 2 at 12, and what they become.
-static WALKED: [[(u64, u64); 5]; 2] = [
-    [(4, 4), (8, 4), (8, 4), (14, 8), (20, 14)],
-    [(5, 4), (7, 4), (13, 8), (13, 8), (20, 14)],
+/// Deletions, an offset, whether it is inside one of them, and whether there is an input offset that
+/// becomes it.
+static ASKED: [(Pairs, u64, bool, bool); 5] = [
+    (&[(0, 4)], 0, false, true),
+    (&[(0, 4)], 1, true, true),
+    (&[(0, 4)], 3, true, true),
+    (&[(0, 4)], 4, false, true),
+    (&[(u64::MAX - 3, 3)], u64::MAX - 2, true, false),
 ];
 
 #[test]
-fn cursors_pass_each_deletion_once() -> Result<(), Fail> {
-    let raw = [(4, 4), (12, 2)];
-    expect(0, SectionRelaxDeltas::is_valid(&raw));
-    let deltas = SectionRelaxDeltas::new(&raw)?;
-    for row in &WALKED {
-        let mut cursor = deltas.cursor();
-        for (query, translated) in *row {
-            expect(query, cursor.can_translate(query));
-            expect_eq(query, cursor.translate(query), translated);
-        }
-        expect_eq(row, cursor.turns(), 2);
-        // back again: what is passed stays passed
-        expect(row, cursor.can_translate(12));
-        expect_eq(row, cursor.translate(12), 6);
-        expect_eq(row, cursor.can_translate(5), false);
-        expect_eq(row, cursor.can_translate(6), true);
-
-        let mut walker = deltas.cursor();
-        let queries = row.map(|(query, _)| query);
-        let mut translated = [0; 5];
-        expect(row, walker.can_translate_all(&queries));
-        walker.translate_all(&queries, &mut translated);
-        expect_eq(row, translated, row.map(|(_, translated)| translated));
-        expect_eq(row, walker.turns(), 2);
+fn deletions_that_overlap_are_rejected() {
+    for (raw, is_valid) in &VALID {
+        expect_eq(raw, SectionRelaxDeltas::is_valid(raw), *is_valid);
     }
-    Ok(())
+    let deltas = deltas_of(&[(4, 4)]);
+    for (pairs, is_mergeable) in &MERGEABLE {
+        expect_eq(pairs, deltas.is_mergeable(pairs), *is_mergeable);
+    }
 }
 
 #[test]
-fn maps_keep_each_section() -> Result<(), Fail> {
-    let mut map = RelaxDeltaMap::new();
-    expect(0, map.is_empty() && map.last_index().is_none());
-    for (index, raw) in [(3, [(8, 2)]), (1, [(4, 4)])] {
-        expect(index, SectionRelaxDeltas::is_valid(&raw));
-        let deltas = SectionRelaxDeltas::new(&raw)?;
-        expect(index, map.get(index).is_none());
-        let is_refused = if map.is_empty() {
-            map.insert(index, deltas).is_err()
-        } else {
-            map.insert_sorted(index, deltas).is_err()
-        };
-        if is_refused {
-            return Err(Fail::from("no memory"));
-        }
+fn batches_that_overlap_are_rejected() {
+    let batches = batches_of(&[(0, 4), (2, 1)]);
+    let none = deltas_of(&[]);
+    expect(1, !none.are_mergeable(&batches));
+}
+
+#[test]
+fn offsets_are_inside_or_have_inputs() {
+    for (raw, offset, is_inside, fits) in &ASKED {
+        let deltas = deltas_of(raw);
+        let found = (deltas.is_inside(*offset), deltas.output_fits(*offset));
+        expect_eq((raw, offset), found, (*is_inside, *fits));
     }
-    let one = [delta(4, 4, 4)];
-    let two = [delta(0, 2, 2), delta(4, 6, 4)];
-    for (at, first) in [one.as_slice(), &two].into_iter().enumerate() {
-        let copy = map.try_clone()?;
-        let other = [delta(8, 2, 2)];
-        for (index, deltas) in [(1, Some(first)), (2, None), (3, Some(other.as_slice()))] {
-            let found = copy.get(index).map(|deltas| deltas.deltas());
-            expect_eq((at, index), found, deltas);
-        }
-        expect_eq(at, copy.last_index(), Some(3));
-        if let Some(lent) = map.get_mut(1)
-            && lent.is_mergeable(&[(0, 2)])
-        {
-            lent.merge_additional(&[(0, 2)])?;
-        }
+}
+
+/// Queries of a cursor over 4 bytes at 4 and 2 at 12, and what they become.
+static WALKED: [([u64; 5], [u64; 5]); 2] = [
+    ([4, 8, 8, 14, 20], [4, 4, 4, 8, 14]),
+    ([5, 7, 13, 13, 20], [4, 4, 8, 8, 14]),
+];
+
+/// Requires that a cursor passes each deletion once, by one query after the other.
+fn expect_walk(
+    deltas: &SectionRelaxDeltas,
+    queries: &[u64; 5],
+    outputs: &[u64; 5],
+) {
+    let mut cursor = deltas.cursor();
+    for at in 0..5 {
+        expect(queries, cursor.can_translate(queries[at]));
+        let found = cursor.translate(queries[at]);
+        expect_eq((queries, at), found, outputs[at]);
     }
-    Ok(())
+    // back again: what is passed stays passed
+    let turns = cursor.turns();
+    expect(queries, cursor.can_translate(12));
+    let found = (
+        turns,
+        cursor.translate(12),
+        cursor.can_translate(5),
+        cursor.can_translate(6),
+    );
+    expect_eq(queries, found, (2, 6, false, true));
+}
+
+#[test]
+fn cursors_pass_each_deletion_once() {
+    let deltas = deltas_of(&[(4, 4), (12, 2)]);
+    for (queries, outputs) in &WALKED {
+        expect_walk(&deltas, queries, outputs);
+        let (mut cursor, mut found) = (deltas.cursor(), [0; 5]);
+        expect(queries, cursor.can_translate_all(queries));
+        cursor.translate_all(queries, &mut found);
+        expect_eq(queries, (found, cursor.turns()), (*outputs, 2));
+    }
 }
 
 /// How many deletions of 4 bytes, one each 8 bytes; how many looks a translation takes at most, which
@@ -238,40 +215,16 @@ static LONG: [(usize, u64, Offsets, Offsets); 2] = [
 ];
 
 #[test]
-fn long_lists_are_searched_by_blocks() -> Result<(), Fail> {
+fn long_lists_are_searched_by_blocks() {
     let mut raw = [(0, 4); 65];
     for at in 0..65 {
         raw[at] = (8 * at as u64, 4);
     }
-    for (count, most, outputs, inputs) in &LONG {
-        expect(*count, *count <= 65);
-        let raw = &raw[..*count];
-        expect(*count, SectionRelaxDeltas::is_valid(raw));
-        let deltas = SectionRelaxDeltas::new(raw)?;
-        expect_eq(*count, deltas.total_deleted(), 4 * *count as u64);
-        for (input, output) in *outputs {
-            let mut looks = deltas.counted();
-            let found = input_to_output_counted(&mut looks, *input);
-            expect_eq((count, input), found, *output);
-            expect((count, input), looks.count() <= *most);
-            expect_eq(
-                (count, input),
-                deltas.input_to_output_offset(*input),
-                found,
-            );
-        }
-        for (output, input) in *inputs {
-            expect((count, output), deltas.output_fits(*output));
-            let mut looks = deltas.counted();
-            let found = output_to_input_counted(&mut looks, *output);
-            expect_eq((count, output), found, *input);
-            expect((count, output), looks.count() <= *most);
-            expect_eq(
-                (count, output),
-                deltas.output_to_input_offset(*output),
-                found,
-            );
-        }
+    for &(count, most, outputs, inputs) in &LONG {
+        expect(count, count <= 65);
+        let deltas = deltas_of(&raw[..count]);
+        expect_eq(count, deltas.total_deleted(), 4 * count as u64);
+        expect_outputs(count, &deltas, most, outputs);
+        expect_inputs(count, &deltas, most, inputs);
     }
-    Ok(())
 }

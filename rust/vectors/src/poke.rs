@@ -13,6 +13,8 @@
 //! assert_eq!(section[4..], [0x6f, 0x00, 0x80, 0x00]);
 //! ```
 
+#[cfg(test)]
+use crate::rows::expect_eq;
 use linker_utils::elf::InstructionForm;
 #[cfg(test)]
 use linker_utils::elf::RiscVInstruction;
@@ -35,11 +37,11 @@ pub fn poke<F: InstructionForm>(
     section: &mut [u8],
     offset: usize,
 ) -> bool {
-    let fits = has_window(form, section, offset) && form.fits(value, &section[offset..]);
-    if fits {
-        form.write(value, negative, &mut section[offset..]);
+    if !has_window(form, section, offset) || !form.fits(value, &section[offset..]) {
+        return false;
     }
-    fits
+    form.write(value, negative, &mut section[offset..]);
+    true
 }
 
 /// The low bits of a value, as many as the form's width.
@@ -70,10 +72,10 @@ pub fn write_back<F: InstructionForm>(form: F, section: &mut [u8], offset: usize
 // jal x0, 0 at offset 4 becomes jal x0, 8, and stays so
 #[test]
 fn a_jump_is_poked_and_written_back() {
-    let mut section = [0, 0, 0, 0, 0x6f, 0, 0, 0];
-    let jump = [0, 0, 0, 0, 0x6f, 0, 0x80, 0];
-    assert!(poke(RiscVInstruction::JType, 8, false, &mut section, 4));
-    assert_eq!(section, jump);
-    assert!(write_back(RiscVInstruction::JType, &mut section, 4));
-    assert_eq!(section, jump);
+    let (mut section, jump) = ([0, 0, 0, 0, 0x6f, 0, 0, 0], [0, 0, 0, 0, 0x6f, 0, 0x80, 0]);
+    let is_poked = poke(RiscVInstruction::JType, 8, false, &mut section, 4);
+    let poked = section;
+    let is_written = write_back(RiscVInstruction::JType, &mut section, 4);
+    let found = (is_poked, poked, is_written, section);
+    expect_eq(4, found, (true, jump, true, jump));
 }

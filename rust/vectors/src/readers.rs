@@ -6,8 +6,7 @@ use crate::support::*;
 use crate::rows::expect_eq;
 use linker_utils::bit_misc::BitExtraction;
 use linker_utils::utils::{
-    and_from_slice, or_from_slice, read_string, read_u32, read_uleb128, u32_from_slice,
-    u64_from_slice,
+    and_from_slice, or_from_slice, read_u32, read_uleb128, u32_from_slice, u64_from_slice,
 };
 
 const ENDED: &str = "Failed to read ULEB128 value: ended";
@@ -44,51 +43,43 @@ fn numbers_are_read_or_left() {
             Ok(found) => expect_eq(*bytes, Ok((found, content)), *number),
             Err(error) => {
                 let text = InlineText::<120>::of(error);
-                expect_eq(*bytes, Err(text.as_str()), *number);
-                expect_eq(*bytes, content, *bytes);
+                expect_eq(
+                    *bytes,
+                    (Err(text.as_str()), content),
+                    (*number, *bytes),
+                );
             }
         }
     }
-    let mut content: &[u8] = &[1, 2, 3, 4, 5];
-    expect_eq(4, read_u32(&mut content).ok(), Some(0x0403_0201));
-    expect_eq(4, content, [5].as_slice());
-    let mut short: &[u8] = &[1, 2, 3];
-    match read_u32(&mut short) {
-        Ok(found) => expect_eq(3, Some(found), None),
-        Err(error) => {
-            let text = InlineText::<120>::of(error);
-            expect_eq(3, text.as_str(), "Not enough bytes to read u32");
-            expect_eq(3, short, [1, 2, 3].as_slice());
+}
+
+/// Bytes, and the word in them with what follows it, or the error's text.
+static FIRST_WORDS: [(&'static [u8], Result<(u32, &'static [u8]), &'static str>); 2] = [
+    (b"\x01\x02\x03\x04\x05", Ok((0x0403_0201, b"\x05"))),
+    (b"\x01\x02\x03", Err("Not enough bytes to read u32")),
+];
+
+#[test]
+fn words_are_read_or_left() {
+    for (bytes, word) in &FIRST_WORDS {
+        let mut content = *bytes;
+        match read_u32(&mut content) {
+            Ok(found) => expect_eq(*bytes, Ok((found, content)), *word),
+            Err(error) => {
+                let text = InlineText::<120>::of(error);
+                expect_eq(*bytes, (Err(text.as_str()), content), (*word, *bytes));
+            }
         }
     }
 }
 
 /// Bytes, and the text in them with what follows its NUL.
-static TEXTS: [(&'static [u8], &'static str, &'static [u8]); 3] = [
+pub static TEXTS: [(&'static [u8], &'static str, &'static [u8]); 4] = [
     (b"a\0b", "a", b"b"),
+    (b"a\xff\0b", "a\u{fffd}", b"b"),
     (b"a\xffb\0c", "a\u{fffd}b", b"c"),
     (b"\0", "", b""),
 ];
-
-#[test]
-fn texts_end_at_a_nul() -> Result<(), Fail> {
-    for (bytes, text, rest) in &TEXTS {
-        let mut content = *bytes;
-        let found = read_string(&mut content)?;
-        expect_eq(*bytes, found.as_str(), *text);
-        expect_eq(*bytes, content, *rest);
-    }
-    let mut content: &[u8] = b"ab";
-    match read_string(&mut content) {
-        Ok(_) => return Err(Fail::from("there is no NUL")),
-        Err(error) => {
-            let text = InlineText::<120>::of(error);
-            expect_eq(0, text.as_str(), "No null terminator found in string");
-            expect_eq(0, content, b"ab".as_slice());
-        }
-    }
-    Ok(())
-}
 
 /// A number, and the bits from the first position up, below the second.
 static BITS: [(u64, u32, u32, u64); 6] = [
@@ -115,31 +106,36 @@ static SIGNED: [(u64, u32, i64); 7] = [
 fn bits_and_signs_are_extracted() {
     for (number, start, end, bits) in &BITS {
         if *start < *end && *end <= 64 {
-            expect_eq(
-                (number, start),
-                number.extract_bit_range(*start..*end),
-                *bits,
-            );
+            let found = number.extract_bit_range(*start..*end);
+            expect_eq((number, start), found, *bits);
         }
     }
     for (number, sign, extended) in &SIGNED {
         if *sign <= 63 {
-            expect_eq(
-                *number,
-                number.sign_extend(*sign),
-                u64::from_le_bytes(extended.to_le_bytes()),
-            );
+            let found = i64::from_le_bytes(number.sign_extend(*sign).to_le_bytes());
+            expect_eq(number, found, *extended);
         }
     }
-    expect_eq(2, 0b100u64.extract_bit(2), 1);
-    expect_eq(3, 0b1110u64.low_bits(3), 0b110);
-    expect_eq(3, 0b1110u64.low_bits_signed(3), 0u64.wrapping_sub(2));
+    let found = (
+        0b100u64.extract_bit(2),
+        0b1110u64.low_bits(3),
+        0b1110u64.low_bits_signed(3),
+    );
+    expect_eq(3, found, (1, 0b110, 0u64.wrapping_sub(2)));
+}
+
+#[test]
+fn words_are_read_and_masked() {
     let bytes = [1, 2, 3, 4, 5, 6, 7, 0x88, 9];
-    expect_eq(4, u32_from_slice(&bytes), 0x0403_0201);
-    expect_eq(8, u64_from_slice(&bytes), 0x8807_0605_0403_0201);
+    let found = (u32_from_slice(&bytes), u64_from_slice(&bytes));
+    expect_eq(bytes, found, (0x0403_0201, 0x8807_0605_0403_0201));
     let mut dest = [0x0f, 0x30, 0x55];
     or_from_slice(&mut dest, &[0x81, 0x02]);
-    expect_eq(2, dest, [0x8f, 0x32, 0x55]);
+    let ored = dest;
     and_from_slice(&mut dest, &[0x7f, 0xf0]);
-    expect_eq(2, dest, [0x0f, 0x30, 0x55]);
+    expect_eq(
+        2,
+        (ored, dest),
+        ([0x8f, 0x32, 0x55], [0x0f, 0x30, 0x55]),
+    );
 }

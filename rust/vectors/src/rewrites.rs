@@ -4,277 +4,192 @@
 //! from the manuals.
 
 use crate::rows::{expect, expect_eq};
+use linker_utils::aarch64::RelaxationKind as AArch64Kind;
 use linker_utils::architecture::Relaxation::{self, AArch64, LoongArch64, Ppc64, RiscV, X86_64};
 use linker_utils::elf::InstructionRewrite;
+use linker_utils::loongarch64::RelaxationKind as LoongArch64Kind;
+use linker_utils::ppc64::RelaxationKind as Ppc64Kind;
 use linker_utils::relaxation::RelocationModifier;
-use linker_utils::{aarch64, loongarch64, ppc64, riscv64, x86_64};
+use linker_utils::riscv64::RelaxationKind as RiscVKind;
+use linker_utils::x86_64::RelaxationKind as X86Kind;
 
-/// A rewrite; bytes, an offset and an addend before; and these after.
-type Rewritten = (Relaxation, &'static [u8], u64, i64, &'static [u8], u64, i64);
+/// Bytes, an offset and an addend.
+type State = (&'static [u8], u64, i64);
 
-static REWRITTEN: [Rewritten; 16] = [
+/// A rewrite, and what is before and after it.
+static REWRITTEN: [(Relaxation, State, State); 16] = [
     (
-        AArch64(aarch64::RelaxationKind::AdrpAddToNopAdr),
-        b"\x03\0\0\x90\x63\0\0\x91",
-        4,
-        7,
-        b"\x1f\x20\x03\xd5\x03\0\0\x10",
-        4,
-        7,
+        AArch64(AArch64Kind::AdrpAddToNopAdr),
+        (b"\x03\0\0\x90\x63\0\0\x91", 4, 7),
+        (b"\x1f\x20\x03\xd5\x03\0\0\x10", 4, 7),
     ),
     (
-        AArch64(aarch64::RelaxationKind::LdrToAdd),
-        b"\x21\x04\x40\xf9",
-        0,
-        7,
-        b"\x21\x04\0\x91",
-        0,
-        7,
+        AArch64(AArch64Kind::LdrToAdd),
+        (b"\x21\x04\x40\xf9", 0, 7),
+        (b"\x21\x04\0\x91", 0, 7),
     ),
     (
-        AArch64(aarch64::RelaxationKind::MovkXn),
-        b"\x21\0\x40\xf9",
-        0,
-        7,
-        b"\x01\0\x80\xf2",
-        0,
-        7,
+        AArch64(AArch64Kind::MovkXn),
+        (b"\x21\0\x40\xf9", 0, 7),
+        (b"\x01\0\x80\xf2", 0, 7),
     ),
     (
-        AArch64(aarch64::RelaxationKind::LdrToAdr),
-        b"\0\0\x40\xf9",
-        0,
-        7,
-        b"\0\0\x40\x70",
-        0,
-        7,
+        AArch64(AArch64Kind::LdrToAdr),
+        (b"\0\0\x40\xf9", 0, 7),
+        (b"\0\0\x40\x70", 0, 7),
     ),
     (
-        RiscV(riscv64::RelaxationKind::Hi20ToCLui),
-        b"\x37\x05\0\0",
-        0,
-        7,
-        b"\x01\x65\0\0",
-        0,
-        7,
+        RiscV(RiscVKind::Hi20ToCLui),
+        (b"\x37\x05\0\0", 0, 7),
+        (b"\x01\x65\0\0", 0, 7),
     ),
     (
-        RiscV(riscv64::RelaxationKind::Lo12Rs1ToZero),
-        b"\x13\x05\x05\0",
-        0,
-        7,
-        b"\x13\x05\0\0",
-        0,
-        7,
+        RiscV(RiscVKind::Lo12Rs1ToZero),
+        (b"\x13\x05\x05\0", 0, 7),
+        (b"\x13\x05\0\0", 0, 7),
     ),
     (
-        RiscV(riscv64::RelaxationKind::ReplaceWithNop),
-        b"\x13\x05\x05\0",
-        0,
-        7,
-        b"\x01\0\x01\0",
-        0,
-        7,
+        RiscV(RiscVKind::ReplaceWithNop),
+        (b"\x13\x05\x05\0", 0, 7),
+        (b"\x01\0\x01\0", 0, 7),
     ),
     (
-        RiscV(riscv64::RelaxationKind::CallToJal),
-        b"\x97\0\0\0",
-        0,
-        7,
-        b"\xef\0\0\0",
-        0,
-        7,
+        RiscV(RiscVKind::CallToJal),
+        (b"\x97\0\0\0", 0, 7),
+        (b"\xef\0\0\0", 0, 7),
     ),
     (
-        LoongArch64(loongarch64::RelaxationKind::ReplaceWithNop),
-        &[0xff; 4],
-        0,
-        7,
-        b"\0\0\x40\x03",
-        0,
-        7,
+        LoongArch64(LoongArch64Kind::ReplaceWithNop),
+        (&[0xff; 4], 0, 7),
+        (b"\0\0\x40\x03", 0, 7),
+    ),
+    (Ppc64(Ppc64Kind::NoOp), (b"\x01", 9, 7), (b"\x01", 9, 7)),
+    (
+        X86_64(X86Kind::RexMovIndirectToAbsolute(3)),
+        (b"\x4c\x8b\x15\0\0\0\0", 3, 7),
+        (b"\x49\xc7\xc2\0\0\0\0", 3, 0),
     ),
     (
-        Ppc64(ppc64::RelaxationKind::NoOp),
-        b"\x01",
-        9,
-        7,
-        b"\x01",
-        9,
-        7,
+        X86_64(X86Kind::JmpIndirectToRelative),
+        (b"\xff\x25\0\0\0\0", 2, -4),
+        (b"\xe9\0\0\0\0\x90", 1, -4),
     ),
     (
-        X86_64(x86_64::RelaxationKind::RexMovIndirectToAbsolute(3)),
-        b"\x4c\x8b\x15\0\0\0\0",
-        3,
-        7,
-        b"\x49\xc7\xc2\0\0\0\0",
-        3,
-        0,
+        X86_64(X86Kind::RexAddIndirectToAbsolute(6)),
+        (b"\x64\0\0\x03\x15", 5, 7),
+        (b"\xdc\0\0\x81\xc2", 5, 0),
     ),
     (
-        X86_64(x86_64::RelaxationKind::JmpIndirectToRelative),
-        b"\xff\x25\0\0\0\0",
-        2,
-        -4,
-        b"\xe9\0\0\0\0\x90",
-        1,
-        -4,
+        X86_64(X86Kind::RexSubIndirectToAbsolute(4)),
+        (b"\x44\x2b\x0d", 3, 7),
+        (b"\x11\x81\xe9", 3, 0),
     ),
     (
-        X86_64(x86_64::RelaxationKind::RexAddIndirectToAbsolute(6)),
-        b"\x64\0\0\x03\x15",
-        5,
-        7,
-        b"\xdc\0\0\x81\xc2",
-        5,
-        0,
+        X86_64(X86Kind::RexCmpIndirectToAbsolute(3)),
+        (b"\x4c\x3b\x3d", 3, 7),
+        (b"\x49\x81\xff", 3, 0),
     ),
     (
-        X86_64(x86_64::RelaxationKind::RexSubIndirectToAbsolute(4)),
-        b"\x44\x2b\x0d",
-        3,
-        7,
-        b"\x11\x81\xe9",
-        3,
-        0,
-    ),
-    (
-        X86_64(x86_64::RelaxationKind::RexCmpIndirectToAbsolute(3)),
-        b"\x4c\x3b\x3d",
-        3,
-        7,
-        b"\x49\x81\xff",
-        3,
-        0,
-    ),
-    (
-        X86_64(x86_64::RelaxationKind::TlsGdToLocalExec),
-        &[0; 12],
-        4,
-        7,
-        b"\x64\x48\x8b\x04\x25\0\0\0\0\x48\x8d\x80",
-        12,
-        0,
+        X86_64(X86Kind::TlsGdToLocalExec),
+        (&[0; 12], 4, 7),
+        (b"\x64\x48\x8b\x04\x25\0\0\0\0\x48\x8d\x80", 12, 0),
     ),
 ];
 
+/// Rewrites, and what they do to the relocation after their own.
+static MODIFIERS: [(Relaxation, RelocationModifier); 3] = [
+    (
+        X86_64(X86Kind::TlsGdToLocalExec),
+        RelocationModifier::SkipNextRelocation,
+    ),
+    (X86_64(X86Kind::SkipTlsDescCall), RelocationModifier::Normal),
+    (
+        RiscV(RiscVKind::CallToJal),
+        RelocationModifier::SkipNextRelocation,
+    ),
+];
+
+/// Requires that a rewrite of a section at an offset with an addend leaves what is after it.
+fn expect_rewritten(
+    kind: Relaxation,
+    section: &mut [u8],
+    mut offset: u64,
+    mut addend: i64,
+    after: State,
+) {
+    expect(kind, kind.can_apply(section, offset));
+    kind.apply(section, &mut offset, &mut addend);
+    expect_eq(kind, (&*section, offset, addend), after);
+}
+
 #[test]
 fn rewrites_leave_their_bytes() {
-    for (kind, before, offset, addend, after, offset_after, addend_after) in &REWRITTEN {
-        let (len, mut section) = (before.len(), [0; 12]);
+    for (kind, (before, offset, addend), after) in &REWRITTEN {
+        let (len, mut bytes) = (before.len(), [0; 12]);
         expect(*kind, len <= 12);
-        section[..len].copy_from_slice(before);
-        expect(*kind, kind.can_apply(&section[..len], *offset));
-        let (mut offset, mut addend) = (*offset, *addend);
-        kind.apply(&mut section[..len], &mut offset, &mut addend);
-        expect_eq(*kind, &section[..len], *after);
-        expect_eq(*kind, (offset, addend), (*offset_after, *addend_after));
+        let section = &mut bytes[..len];
+        section.copy_from_slice(before);
+        expect_rewritten(*kind, section, *offset, *addend, *after);
     }
-    for (kind, modifier) in [
-        (
-            X86_64(x86_64::RelaxationKind::TlsGdToLocalExec),
-            RelocationModifier::SkipNextRelocation,
-        ),
-        (
-            X86_64(x86_64::RelaxationKind::SkipTlsDescCall),
-            RelocationModifier::Normal,
-        ),
-        (
-            RiscV(riscv64::RelaxationKind::CallToJal),
-            RelocationModifier::SkipNextRelocation,
-        ),
-    ] {
-        expect_eq(kind, kind.next_modifier(), modifier);
+    for (kind, modifier) in &MODIFIERS {
+        expect_eq(kind, kind.next_modifier(), *modifier);
     }
 }
 
 /// Rewrites of one instruction of AArch64: `ldr x1, [x1]` can be all of them.
-static OF_A_LOAD: [aarch64::RelaxationKind; 11] = [
-    aarch64::RelaxationKind::ReplaceWithNop,
-    aarch64::RelaxationKind::MovzX0Lsl16,
-    aarch64::RelaxationKind::MovkX0,
-    aarch64::RelaxationKind::MovzXnLsl16,
-    aarch64::RelaxationKind::AdrpToAdr,
-    aarch64::RelaxationKind::AdrpX0,
-    aarch64::RelaxationKind::LdrX0,
-    aarch64::RelaxationKind::AddToAdr,
-    aarch64::RelaxationKind::LdrToAdr,
-    aarch64::RelaxationKind::MovkXn,
-    aarch64::RelaxationKind::LdrToAdd,
+static OF_A_LOAD: [AArch64Kind; 11] = [
+    AArch64Kind::ReplaceWithNop,
+    AArch64Kind::MovzX0Lsl16,
+    AArch64Kind::MovkX0,
+    AArch64Kind::MovzXnLsl16,
+    AArch64Kind::AdrpToAdr,
+    AArch64Kind::AdrpX0,
+    AArch64Kind::LdrX0,
+    AArch64Kind::AddToAdr,
+    AArch64Kind::LdrToAdr,
+    AArch64Kind::MovkXn,
+    AArch64Kind::LdrToAdd,
 ];
 
 /// Other rewrites, the offset in a section that is just their window, and the section's length.
 static WINDOWS: [(Relaxation, u64, usize); 27] = [
-    (AArch64(aarch64::RelaxationKind::AdrpAddToNopAdr), 4, 8),
-    (RiscV(riscv64::RelaxationKind::ReplaceWithNop), 0, 4),
-    (RiscV(riscv64::RelaxationKind::CallToJal), 0, 4),
-    (RiscV(riscv64::RelaxationKind::Lo12Rs1ToZero), 0, 4),
-    (RiscV(riscv64::RelaxationKind::Hi20ToCLui), 0, 2),
-    (
-        LoongArch64(loongarch64::RelaxationKind::ReplaceWithNop),
-        0,
-        4,
-    ),
-    (X86_64(x86_64::RelaxationKind::MovIndirectToLea), 2, 1),
-    (X86_64(x86_64::RelaxationKind::MovIndirectToAbsolute), 2, 2),
-    (
-        X86_64(x86_64::RelaxationKind::RexMovIndirectToAbsolute(3)),
-        3,
-        3,
-    ),
-    (
-        X86_64(x86_64::RelaxationKind::RexAddIndirectToAbsolute(0)),
-        2,
-        2,
-    ),
-    (
-        X86_64(x86_64::RelaxationKind::RexAddIndirectToAbsolute(3)),
-        3,
-        3,
-    ),
-    (
-        X86_64(x86_64::RelaxationKind::RexAddIndirectToAbsolute(4)),
-        3,
-        3,
-    ),
-    (
-        X86_64(x86_64::RelaxationKind::RexAddIndirectToAbsolute(6)),
-        5,
-        5,
-    ),
-    (
-        X86_64(x86_64::RelaxationKind::RexSubIndirectToAbsolute(4)),
-        3,
-        3,
-    ),
-    (
-        X86_64(x86_64::RelaxationKind::RexCmpIndirectToAbsolute(5)),
-        3,
-        3,
-    ),
-    (X86_64(x86_64::RelaxationKind::CallIndirectToRelative), 2, 2),
-    (X86_64(x86_64::RelaxationKind::JmpIndirectToRelative), 2, 6),
-    (X86_64(x86_64::RelaxationKind::TlsGdToLocalExec), 4, 12),
-    (X86_64(x86_64::RelaxationKind::TlsGdToLocalExecLarge), 3, 22),
-    (X86_64(x86_64::RelaxationKind::TlsLdToLocalExec), 3, 12),
-    (X86_64(x86_64::RelaxationKind::TlsLdToLocalExecNoPlt), 3, 13),
-    (X86_64(x86_64::RelaxationKind::TlsLdToLocalExec64), 3, 22),
-    (X86_64(x86_64::RelaxationKind::TlsGdToInitialExec), 4, 12),
-    (X86_64(x86_64::RelaxationKind::TlsDescToLocalExec(3)), 3, 3),
-    (X86_64(x86_64::RelaxationKind::TlsDescToLocalExec(4)), 3, 3),
-    (X86_64(x86_64::RelaxationKind::TlsDescToInitialExec), 2, 1),
-    (X86_64(x86_64::RelaxationKind::SkipTlsDescCall), 0, 2),
+    (AArch64(AArch64Kind::AdrpAddToNopAdr), 4, 8),
+    (RiscV(RiscVKind::ReplaceWithNop), 0, 4),
+    (RiscV(RiscVKind::CallToJal), 0, 4),
+    (RiscV(RiscVKind::Lo12Rs1ToZero), 0, 4),
+    (RiscV(RiscVKind::Hi20ToCLui), 0, 2),
+    (LoongArch64(LoongArch64Kind::ReplaceWithNop), 0, 4),
+    (X86_64(X86Kind::MovIndirectToLea), 2, 1),
+    (X86_64(X86Kind::MovIndirectToAbsolute), 2, 2),
+    (X86_64(X86Kind::RexMovIndirectToAbsolute(3)), 3, 3),
+    (X86_64(X86Kind::RexAddIndirectToAbsolute(0)), 2, 2),
+    (X86_64(X86Kind::RexAddIndirectToAbsolute(3)), 3, 3),
+    (X86_64(X86Kind::RexAddIndirectToAbsolute(4)), 3, 3),
+    (X86_64(X86Kind::RexAddIndirectToAbsolute(6)), 5, 5),
+    (X86_64(X86Kind::RexSubIndirectToAbsolute(4)), 3, 3),
+    (X86_64(X86Kind::RexCmpIndirectToAbsolute(5)), 3, 3),
+    (X86_64(X86Kind::CallIndirectToRelative), 2, 2),
+    (X86_64(X86Kind::JmpIndirectToRelative), 2, 6),
+    (X86_64(X86Kind::TlsGdToLocalExec), 4, 12),
+    (X86_64(X86Kind::TlsGdToLocalExecLarge), 3, 22),
+    (X86_64(X86Kind::TlsLdToLocalExec), 3, 12),
+    (X86_64(X86Kind::TlsLdToLocalExecNoPlt), 3, 13),
+    (X86_64(X86Kind::TlsLdToLocalExec64), 3, 22),
+    (X86_64(X86Kind::TlsGdToInitialExec), 4, 12),
+    (X86_64(X86Kind::TlsDescToLocalExec(3)), 3, 3),
+    (X86_64(X86Kind::TlsDescToLocalExec(4)), 3, 3),
+    (X86_64(X86Kind::TlsDescToInitialExec), 2, 1),
+    (X86_64(X86Kind::SkipTlsDescCall), 0, 2),
 ];
 
 /// Rewrites of no bytes.
 static OF_NOTHING: [Relaxation; 6] = [
-    AArch64(aarch64::RelaxationKind::NoOp),
-    RiscV(riscv64::RelaxationKind::NoOp),
-    RiscV(riscv64::RelaxationKind::Hi20Delete),
-    LoongArch64(loongarch64::RelaxationKind::NoOp),
-    Ppc64(ppc64::RelaxationKind::NoOp),
-    X86_64(x86_64::RelaxationKind::NoOp),
+    AArch64(AArch64Kind::NoOp),
+    RiscV(RiscVKind::NoOp),
+    RiscV(RiscVKind::Hi20Delete),
+    LoongArch64(LoongArch64Kind::NoOp),
+    Ppc64(Ppc64Kind::NoOp),
+    X86_64(X86Kind::NoOp),
 ];
 
 /// Requires that a rewrite may be applied to a section that is just its window, of which the bytes
@@ -313,8 +228,8 @@ fn rewrites_require_their_window() {
     }
     // `ldr w1, [x1]`, and `ldr x1, [x2]`
     for (kind, word) in [
-        (aarch64::RelaxationKind::LdrToAdd, b"\x21\x04\x40\xb9"),
-        (aarch64::RelaxationKind::MovkXn, b"\x41\0\x40\xf9"),
+        (AArch64Kind::LdrToAdd, b"\x21\x04\x40\xb9"),
+        (AArch64Kind::MovkXn, b"\x41\0\x40\xf9"),
     ] {
         expect_eq(kind, kind.can_apply(word, 0), false);
     }

@@ -3,86 +3,79 @@
 //! How often calls allocate. Each test allocates as often as its name says:
 //! `tools/test_refused_growth` counts.
 
-use crate::support::*;
-use crate::rows::expect_eq;
+use crate::refused_growth::batches_of;
+use crate::rows::{copy_of, deltas_of, expect, expect_eq};
 use linker_utils::relaxation::{
-    RelaxDeltaMap, SectionRelaxDeltas, calls_apart, calls_shrinkable, pack_section, shrink_calls,
+    RelaxDeltaMap, calls_apart, calls_shrinkable, pack_section, shrink_calls,
 };
 
 const FEW: [(u64, u32); 2] = [(8, 4), (16, 4)];
 
 // none of no deletions, and else the deltas and the heads of their blocks
 #[test]
-fn lists_and_their_copies_take_4() -> Result<(), Fail> {
+fn lists_and_their_copies_take_4() {
     for raw in [[].as_slice(), &FEW] {
-        assert!(SectionRelaxDeltas::is_valid(raw));
-        let copy = SectionRelaxDeltas::new(raw)?.try_clone()?;
+        let copy = copy_of(&deltas_of(raw));
         expect_eq(raw, copy.deltas().len(), raw.len());
     }
-    Ok(())
 }
 
 // the deltas and the heads of their blocks, and a copy of pairs that don't ascend
 #[test]
-fn merges_take_5() -> Result<(), Fail> {
+fn merges_take_5() {
     for more in [[].as_slice(), &FEW, &[(16, 4), (8, 4)]] {
-        let mut deltas = SectionRelaxDeltas::new(&[])?;
-        assert!(deltas.is_mergeable(more));
-        deltas.merge_additional(more)?;
-        expect_eq(more, deltas.deltas().len(), more.len());
+        let mut deltas = deltas_of(&[]);
+        expect(more, deltas.is_mergeable(more));
+        let is_merged = deltas.merge_additional(more).is_ok();
+        expect_eq(
+            more,
+            (is_merged, deltas.deltas().len()),
+            (true, more.len()),
+        );
     }
-    Ok(())
 }
 
-// the batches themselves, which are two; then none of empty ones, and the deltas, the heads of
+// the batches themselves, which are three; then none of empty ones, and the deltas, the heads of
 // their blocks and a copy
 #[test]
-fn batches_take_5() -> Result<(), Fail> {
-    let batches = try_vec![Vec::new(), FEW.fallible_to_vec()?]?;
+fn batches_take_6() {
+    let batches = batches_of(&FEW);
+    expect(3, batches.len() == 3);
     for (first, count) in [(&batches[..1], 0), (&batches[..], 2)] {
-        let mut deltas = SectionRelaxDeltas::new(&[])?;
-        assert!(deltas.are_mergeable(first));
-        deltas.merge_all(first)?;
-        expect_eq(first.len(), deltas.deltas().len(), count);
+        let mut deltas = deltas_of(&[]);
+        expect(count, deltas.are_mergeable(first));
+        let is_merged = deltas.merge_all(first).is_ok();
+        expect_eq(
+            count,
+            (is_merged, deltas.deltas().len()),
+            (true, count),
+        );
     }
-    Ok(())
 }
 
 // the deltas of a section, the heads of their blocks and the map's entries, and the same of a copy
 #[test]
-fn maps_and_their_copies_take_6() -> Result<(), Fail> {
+fn maps_and_their_copies_take_6() {
     let mut map = RelaxDeltaMap::new();
-    assert!(map.try_clone()?.is_empty());
-    assert!(SectionRelaxDeltas::is_valid(&FEW));
-    let deltas = SectionRelaxDeltas::new(&FEW)?;
-    assert_eq!(map.last_index(), None);
-    if map.insert(3, deltas).is_err() {
-        return Err(Fail::from("no memory"));
-    }
-    expect_eq(
-        "map.clone()?.last_index()",
-        map.try_clone()?.last_index(),
-        Some(3),
-    );
-    Ok(())
+    let empty = map.try_clone().expect("no memory");
+    expect(0, empty.is_empty());
+    expect(0, map.last_index().is_none());
+    let is_inserted = map.insert(3, deltas_of(&FEW)).is_ok();
+    let copy = map.try_clone().expect("no memory");
+    expect_eq(3, (is_inserted, copy.last_index()), (true, Some(3)));
 }
 
 // both vectors of what each returns
 #[test]
-fn packing_and_choosing_take_2() -> Result<(), Fail> {
-    let none = SectionRelaxDeltas::new(&[])?;
-    let calls = [(0, 8)];
-    assert!(calls_apart(&calls) && calls_shrinkable(&none, &calls));
+fn packing_and_choosing_take_2() {
+    let (none, calls) = (deltas_of(&[]), [(0, 8)]);
+    expect(calls, calls_apart(&calls));
+    expect(calls, calls_shrinkable(&none, &calls));
     let packed = pack_section(
         &[0x97, 0, 0, 0, 0xe7, 0x80, 0, 0],
         &none,
         &calls,
     );
-    assert!(packed.is_ok());
-    expect_eq(
-        "shrink_calls(rt.alloc(), &none, &calls)?.len()",
-        shrink_calls(&none, &calls)?.len(),
-        1,
-    );
-    Ok(())
+    let chosen = shrink_calls(&none, &calls).expect("no memory");
+    expect_eq(calls, (packed.is_ok(), chosen.len()), (true, 1));
 }

@@ -1,17 +1,24 @@
-use Rattle.std.proofs.Common.{rules, ◌≡◌, ◌+◌, ◌≤◌, ◌<◌, ◌*◌, ◌^◌, ◌++◌, ◌↔◌, Some, IsTrue, IfOk, IfErr, OnOk, IfSome, MatchOption, IsSomeAnd, length, take, drop, ℕ, ◌-◌, ◌/◌, ◌%◌, Bool, true, false, nat_eq, nat_lt, List, [], ◌∷◌, slice_index_or, slice_set, bit_and, bit_or, Fits, w8, w64, Bor, MutBor}
-use Rattle.std.specs.Prelude.{⊤}
-use Rattle.std.specs.Int.{w32, to_le_bytes}
-use Rattle.linker_elf.specs.LoongArchRelocations.{loongarch_row}
-use Rattle.linker_runs.specs.LoongArchSites.{IsSiteAt, destination, ArePagesNear, IsAddressOutOfReach, LoongArchBecomes, LoongArchAccepts, LoongArchCause}
-use Rattle.linker_runs.specs.Inner.LoongArch.{IsKindAt, short_template, AreRelocated, IsLongOf, IsLongOutOfReach}
-use Rattle.linker_runs.specs.Origins.{HasLoongArchShapes}
-use Rattle.linker_runs.specs.Inner.Pieces.{template_is, code_bytes}
+use Rattle.std.proofs.Common.{◌+◌, IsSomeAnd, subst, sym, take, drop}
+use Rattle.linker_elf.specs.Applied.{IsRejected}
+use Rattle.linker_elf.specs.Value.{sum_64}
+use Rattle.linker_runs.specs.LoongArchSites.{far_high, far_low}
+use Rattle.linker_runs.specs.Sites.{operands_of}
 use Rattle.linker_runs.proofs.packing.loongarch64.address_of.Goals as goal
 
--- src/packing/loongarch64.rt:159:9
 pub returns-then-not-apply_formula : goal.returns-then-not-apply_formula
-returns-then-not-apply_formula c = ?
+returns-then-not-apply_formula c =
+    let a = c.args in
+    let row = c.row_of-row.result in
+    far_high (subst (λ x. IsSomeAnd x (λ r. IsRejected r (operands_of a.place a.target) (take 4 (drop a.offset a.section.now)))) (sym c.row_of-row.ensures)
+    (subst (λ o. IsRejected row o (take 4 (drop a.offset a.section.now))) c.operands_of.ensures
+    (subst (IsRejected row c.operands_of.result) c.word_at-high.ensures
+    (c.apply_formula.ensures.rejected c.if-not-apply_formula.true))))
 
--- src/packing/loongarch64.rt:164:9
 pub returns-then-not-apply_formula-2 : goal.returns-then-not-apply_formula-2
-returns-then-not-apply_formula-2 c = ?
+returns-then-not-apply_formula-2 c =
+    let a = c.args in
+    let row = c.row_of-row-2.result in
+    far_low (subst (λ x. IsSomeAnd x (λ r. IsRejected r (operands_of (sum_64 a.place 4) a.target) (take 4 (drop (a.offset + 4) a.section.now)))) (sym c.row_of-row-2.ensures)
+    (subst (λ o. IsRejected row o (take 4 (drop (a.offset + 4) a.section.now))) c.operands_of-2.ensures
+    (subst (IsRejected row c.operands_of-2.result) c.word_at-low.ensures
+    (c.apply_formula-2.ensures.rejected c.if-not-apply_formula-2.true))))
