@@ -72,7 +72,9 @@ pub record IsWalked (deletions : List (ℕ × ℕ)) (reached : Reached) : Type 0
   pub end : IsEndOf deletions reached.passed reached.end
 
 -- what holds of a cursor's fields
-pub record IsWalking (deltas : List RelaxDelta) (reached : Reached) : Type 0 where
+pub record IsWalking (deltas : List RelaxDelta) (reached : Reached) (next : ℕ) : Type 0 where
   pub listed : AreValidDeltas deltas
   pub within : reached.passed ≤ length deltas
   pub walked : IsWalked (map deletion_of deltas) reached
+  pub begin : (d : RelaxDelta) → reached.passed < length deltas
+      → next ≡ (slice_index_or deltas reached.passed d).input_offset
