@@ -210,3 +210,23 @@ pub mod utils {
         items.expect("bytes that are aligned").0
     }
 }
+
+#[cfg(test)]
+mod tests {
+    #[test]
+    fn rows_are_those_of_names() {
+        macro_rules! compare {
+            ($module:ident, $row:ident, $names:ident) => {
+                for code in (0..1 << 16).chain([u32::MAX]) {
+                    let named = crate::$module::$row(crate::$module::$names::from_elf(code));
+                    assert_eq!(super::$module::$row(code), named, "{} {code}", stringify!($module));
+                }
+            };
+        }
+        compare!(aarch64, relocation_type_from_raw, AArch64Relocation);
+        compare!(loongarch64, relocation_type_from_raw, LoongArch64Relocation);
+        compare!(ppc64, relocation_type_from_raw, Ppc64Relocation);
+        compare!(riscv64, relocation_type_from_raw, RiscVRelocation);
+        compare!(x86_64, relocation_from_raw, X86_64Relocation);
+    }
+}
