@@ -11,9 +11,9 @@ use linker_utils::relaxation::{
 
 const FEW: [(u64, u32); 2] = [(8, 4), (16, 4)];
 
-// none of no deletions, and else the deltas and the heads of their blocks
+// none of no deletions, and else the deltas: one block has no heads
 #[test]
-fn lists_and_their_copies_take_4() -> Result<(), Fail> {
+fn lists_and_their_copies_take_2() -> Result<(), Fail> {
     for raw in [[].as_slice(), &FEW] {
         assert!(SectionRelaxDeltas::is_valid(raw));
         let copy = SectionRelaxDeltas::new(raw)?.try_clone()?;
@@ -22,9 +22,9 @@ fn lists_and_their_copies_take_4() -> Result<(), Fail> {
     Ok(())
 }
 
-// the deltas and the heads of their blocks, and a copy of pairs that don't ascend
+// the deltas, and a copy of pairs that don't ascend
 #[test]
-fn merges_take_5() -> Result<(), Fail> {
+fn merges_take_3() -> Result<(), Fail> {
     for more in [[].as_slice(), &FEW, &[(16, 4), (8, 4)]] {
         let mut deltas = SectionRelaxDeltas::new(&[])?;
         assert!(deltas.is_mergeable(more));
@@ -34,10 +34,9 @@ fn merges_take_5() -> Result<(), Fail> {
     Ok(())
 }
 
-// the batches themselves, which are two; then none of empty ones, and the deltas, the heads of
-// their blocks and a copy
+// the batches themselves, which are two; then none of empty ones, and the deltas and a copy
 #[test]
-fn batches_take_5() -> Result<(), Fail> {
+fn batches_take_4() -> Result<(), Fail> {
     let batches = try_vec![Vec::new(), FEW.fallible_to_vec()?]?;
     for (first, count) in [(&batches[..1], 0), (&batches[..], 2)] {
         let mut deltas = SectionRelaxDeltas::new(&[])?;
@@ -48,9 +47,9 @@ fn batches_take_5() -> Result<(), Fail> {
     Ok(())
 }
 
-// the deltas of a section, the heads of their blocks and the map's entries, and the same of a copy
+// the deltas of a section and the map's entries, and the same of a copy
 #[test]
-fn maps_and_their_copies_take_6() -> Result<(), Fail> {
+fn maps_and_their_copies_take_4() -> Result<(), Fail> {
     let mut map = RelaxDeltaMap::new();
     assert!(map.try_clone()?.is_empty());
     assert!(SectionRelaxDeltas::is_valid(&FEW));
