@@ -25,13 +25,31 @@ macro_rules! by_code {
     ($module:ident, $row:ident, $names:ident $(, $more:item)*) => {
         #[doc = concat!("`", stringify!($module), "`, where relocations are numbers.")]
         pub mod $module {
+            use crate::elf::RelocationKindInfo;
             pub use crate::$module::*;
+
+            /// Above the codes of all names, which ascend.
+            const END: usize = $names::ALL[$names::ALL.len() - 1].elf_code() as usize + 1;
+
+            /// The rows by their codes, and after them that of all other codes. A code that has no
+            /// row takes no branch of its own.
+            static ROWS: [Option<RelocationKindInfo>; END + 1] = {
+                let mut rows = [None; END + 1];
+                let mut at = 0;
+                while at < $names::ALL.len() {
+                    let name = $names::ALL[at];
+                    rows[name.elf_code() as usize] = crate::$module::$row(name);
+                    at += 1;
+                }
+                rows
+            };
 
             /// What the relocation with a code, `r_type` in ELF files, means.
             #[must_use]
             #[inline]
-            pub const fn $row(r_type: u32) -> Option<crate::elf::RelocationKindInfo> {
-                crate::$module::$row($names::from_elf(r_type))
+            pub const fn $row(r_type: u32) -> Option<RelocationKindInfo> {
+                let code = r_type as usize;
+                ROWS[if code < END { code } else { END }]
             }
 
             $($more)*
@@ -54,7 +72,6 @@ pub mod relaxation {
     use crate::relaxation as own;
     pub use crate::relaxation::*;
     use alloc::alloc::{Layout, handle_alloc_error};
-    use alloc::collections::BTreeMap;
     use alloc::vec::Vec;
     use core::ops::Deref;
 
@@ -85,8 +102,16 @@ pub mod relaxation {
         ///
         /// - `self.is_mergeable(&additional)`
         #[cfg_attr(debug_assertions, track_caller)]
-        pub fn merge_additional(&mut self, additional: Vec<(u64, u32)>) {
-            or_abort(self.0.merge_additional(&additional));
+        pub fn merge_additional(&mut self, mut additional: Vec<(u64, u32)>) {
+            // in place: the crate's own call sorts a copy
+            if !additional.is_sorted_by_key(|pair| pair.0) {
+                additional.sort_unstable_by_key(|pair| pair.0);
+            }
+            if self.is_empty() {
+                *self = SectionRelaxDeltas::new(additional);
+            } else {
+                or_abort(self.0.merge_additional(&additional));
+            }
         }
     }
 
@@ -111,10 +136,10 @@ pub mod relaxation {
         own::opt_input_to_output(deltas.map(Deref::deref), input_offset)
     }
 
-    /// The deltas of the sections of a file that have any, by section index. It is std's map, since
-    /// the crate's own holds the crate's own deltas.
+    /// The deltas of the sections of a file that have any, by section index. The crate's own map
+    /// holds the crate's own deltas.
     #[derive(Debug, Clone, Default, PartialEq, Eq)]
-    pub struct RelaxDeltaMap(BTreeMap<usize, SectionRelaxDeltas>);
+    pub struct RelaxDeltaMap(Vec<(usize, SectionRelaxDeltas)>);
 
     impl RelaxDeltaMap {
         /// An empty map.
@@ -126,33 +151,39 @@ pub mod relaxation {
         /// Adds a section. Requires an index above all that are there.
         #[cfg_attr(debug_assertions, track_caller)]
         pub fn insert(&mut self, section_index: usize, deltas: SectionRelaxDeltas) {
-            debug_assert!(self.0.last_key_value().is_none_or(|(last, _)| *last < section_index));
-            self.0.insert(section_index, deltas);
+            debug_assert!(self.0.last().is_none_or(|(last, _)| *last < section_index));
+            self.0.push((section_index, deltas));
         }
 
         /// Adds a section. Requires an index that isn't there.
         #[cfg_attr(debug_assertions, track_caller)]
         pub fn insert_sorted(&mut self, section_index: usize, deltas: SectionRelaxDeltas) {
-            debug_assert!(!self.0.contains_key(&section_index));
-            self.0.insert(section_index, deltas);
+            let found = self.find(section_index);
+            debug_assert!(found.is_err());
+            self.0.insert(found.unwrap_or_else(|at| at), (section_index, deltas));
         }
 
         /// The deltas of the section, if it is there.
         #[must_use]
         pub fn get(&self, section_index: usize) -> Option<&SectionRelaxDeltas> {
-            self.0.get(&section_index)
+            self.find(section_index).ok().map(|at| &self.0[at].1)
         }
 
         /// The deltas of the section to change, if it is there.
         #[must_use]
         pub fn get_mut(&mut self, section_index: usize) -> Option<&mut SectionRelaxDeltas> {
-            self.0.get_mut(&section_index)
+            self.find(section_index).ok().map(|at| &mut self.0[at].1)
         }
 
         /// Whether no section is there.
         #[must_use]
         pub fn is_empty(&self) -> bool {
             self.0.is_empty()
+        }
+
+        /// The place of the section, or the one that it would have.
+        fn find(&self, section_index: usize) -> Result<usize, usize> {
+            self.0.binary_search_by_key(&section_index, |(index, _)| *index)
         }
     }
 }
@@ -177,5 +208,25 @@ pub mod utils {
     pub fn slice_from_all_bytes_mut<T: Pod>(data: &mut [u8]) -> &mut [T] {
         let items = object::slice_from_bytes_mut(data, data.len() / size_of::<T>());
         items.expect("bytes that are aligned").0
+    }
+}
+
+#[cfg(test)]
+mod tests {
+    #[test]
+    fn rows_are_those_of_names() {
+        macro_rules! compare {
+            ($module:ident, $row:ident, $names:ident) => {
+                for code in (0..1 << 16).chain([u32::MAX]) {
+                    let named = crate::$module::$row(crate::$module::$names::from_elf(code));
+                    assert_eq!(super::$module::$row(code), named, "{} {code}", stringify!($module));
+                }
+            };
+        }
+        compare!(aarch64, relocation_type_from_raw, AArch64Relocation);
+        compare!(loongarch64, relocation_type_from_raw, LoongArch64Relocation);
+        compare!(ppc64, relocation_type_from_raw, Ppc64Relocation);
+        compare!(riscv64, relocation_type_from_raw, RiscVRelocation);
+        compare!(x86_64, relocation_from_raw, X86_64Relocation);
     }
 }

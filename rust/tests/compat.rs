@@ -50,6 +50,10 @@ fn deletions_are_vectors() {
     assert_eq!(opt_input_to_output(Some(deltas), 32), 24);
     assert_eq!(opt_input_to_output(map.get(3), 32), 32);
     assert_eq!(deltas.output_to_input_offset(24), 32);
+    let mut merged = SectionRelaxDeltas::default();
+    merged.merge_additional(vec![(16, 2), (4, 4)]);
+    merged.merge_additional(vec![]);
+    assert_eq!(merged, SectionRelaxDeltas::new(vec![(4, 4), (16, 2)]));
     let mut cursor = deltas.cursor();
     assert_eq!((cursor.translate(4), cursor.translate(18)), (4, 12));
     assert_eq!(map.clone().get(2).map(|deltas| deltas.is_empty()), Some(true));

@@ -11,10 +11,11 @@ use Rattle.linker_base.specs.Deltas.{deletion_of}
 use Rattle.linker_base.specs.Blocks.{AreHeads}
 use Rattle.linker_base.specs.Listed.{AreValidDeltas}
 
--- what holds of the fields of a section's deltas
+-- what holds of the fields of a section's deltas: none of one block has heads
 pub record IsSound (list : List RelaxDelta) (blocks : List BlockHead) : Type 0 where
   pub deltas : AreValidDeltas list
-  pub heads : AreHeads list blocks
+  pub heads : 64 < length list → AreHeads list blocks
+  pub one : length list ≤ 64 → length blocks ≡ 0
 
 -- the first `passed` deletions are those whose output offset, the offset less the bytes deleted
 -- before, is at most y
@@ -72,7 +73,9 @@ pub record IsWalked (deletions : List (ℕ × ℕ)) (reached : Reached) : Type 0
   pub end : IsEndOf deletions reached.passed reached.end
 
 -- what holds of a cursor's fields
-pub record IsWalking (deltas : List RelaxDelta) (reached : Reached) : Type 0 where
+pub record IsWalking (deltas : List RelaxDelta) (reached : Reached) (next : ℕ) : Type 0 where
   pub listed : AreValidDeltas deltas
   pub within : reached.passed ≤ length deltas
   pub walked : IsWalked (map deletion_of deltas) reached
+  pub begin : (d : RelaxDelta) → reached.passed < length deltas
+      → next ≡ (slice_index_or deltas reached.passed d).input_offset

@@ -122,6 +122,7 @@ pub struct Counted<'a> {
 }
 
 impl<'a> Model for Counted<'a> {
+    ghost use Rattle.std.specs.Prelude.{◌<◌, length};
     ghost use Rattle.linker_base.specs.Blocks.{Counts, AreHeads};
     ghost use Rattle.linker_base.specs.Listed.{AreValidDeltas};
 
@@ -130,14 +131,14 @@ impl<'a> Model for Counted<'a> {
     ghost view = { λ counted. record { listed = counted.deltas.now; looked = counted.count } };
 
     ghost invariant = { λ counted. AreValidDeltas counted.deltas.now
-        × AreHeads counted.deltas.now counted.heads.now };
+        × (64 < length counted.deltas.now → AreHeads counted.deltas.now counted.heads.now) };
 }
 
 impl<'a> Counted<'a> {
     #[inline(always)]
     pub(super) fn new(deltas: &'a [RelaxDelta], heads: &'a [BlockHead]) -> Counted<'a>
         requires valid { AreValidDeltas deltas.now }
-        requires heads { AreHeads deltas.now heads.now }
+        requires heads { 64 < length deltas.now → AreHeads deltas.now heads.now }
         ensures { result ≡ record { listed = deltas.now; looked = 0 } }
     {
         Counted {
@@ -166,7 +167,11 @@ impl<'a> Looks for Counted<'a> {
     #[inline(always)]
     fn head(&mut self, block: usize) -> (u64, u64) {
         self.count += 1;
-        let head = self.heads[block];
+        let head = if self.deltas.len() > BLOCK_LEN {
+            self.heads[block]
+        } else {
+            BlockHead::of(&self.deltas[BLOCK_LEN * block])
+        };
         (head.input_offset, head.output_offset)
     }
 
@@ -177,15 +182,18 @@ impl<'a> Looks for Counted<'a> {
     }
 }
 
-/// Puts the heads of the other blocks after those of the first blocks.
+/// Puts the heads of the other blocks after those of the first blocks, as many as are kept.
 pub(super) fn fill_heads(deltas: &[RelaxDelta], heads: &mut Vec<BlockHead>)
     requires first { (b : ℕ) (h : BlockHead) (d : RelaxDelta) → b < vec_len heads.old
         → slice_index_or heads.old.items b h ≡ head_of (slice_index_or deltas.now (64 * b) d) }
     requires within { vec_len heads.old ≤ blocks_of (length deltas.now) }
-    requires room { blocks_of (length deltas.now) ≤ vec_capacity heads.old }
-    ensures { AreHeads deltas.now heads.new.items }
+    requires one { length deltas.now ≤ 64 → vec_len heads.old ≡ 0 }
+    requires room { 64 < length deltas.now
+        → blocks_of (length deltas.now) ≤ vec_capacity heads.old }
+    ensures heads { 64 < length deltas.now → AreHeads deltas.now heads.new.items }
+    ensures one { length deltas.now ≤ 64 → vec_len heads.new ≡ 0 }
 {
-    for block in heads.len()..count_blocks(deltas.len()) {
+    for block in heads.len()..count_heads(deltas.len()) {
         heads.push_reserved(BlockHead::of(&deltas[BLOCK_LEN * block]));
     }
 }
@@ -206,6 +214,19 @@ pub(super) fn count_blocks(len: usize) -> usize
     ensures { result ≡ blocks_of len }
 {
     len / BLOCK_LEN + usize::from(len % BLOCK_LEN > 0)
+}
+
+/// How many heads are kept of so many deltas: none of one block, in which a search needs none.
+#[inline(always)]
+pub(super) fn count_heads(len: usize) -> usize
+    ensures one { len ≤ 64 → result ≡ 0 }
+    ensures more { 64 < len → result ≡ blocks_of len }
+{
+    if len > BLOCK_LEN {
+        count_blocks(len)
+    } else {
+        0
+    }
 }
 
 /// The output offset of `input_offset`, as `SectionRelaxDeltas::input_to_output_offset` returns it.

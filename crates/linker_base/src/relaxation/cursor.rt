@@ -9,7 +9,7 @@ ghost use Rattle.linker_base.specs.Walk.{CanTranslate, AreAhead};
 
 use super::RelaxDelta;
 use super::delta_slice::DeltaSlice;
-use super::walk::{Reached, pass, walk};
+use super::walk::{Reached, next_offset, pass, walk};
 use std::marker::Model;
 
 /// A walk through the deletions of a section, for offsets that are translated in order.
@@ -21,6 +21,8 @@ use std::marker::Model;
 pub struct RelaxCursor<'a> {
     deltas: &'a [RelaxDelta],
     reached: Reached,
+    // Where the first delta begins that isn't passed, or `u64::MAX` where there is none.
+    next: u64,
 }
 
 impl<'a> Model for RelaxCursor<'a> {
@@ -36,7 +38,7 @@ impl<'a> Model for RelaxCursor<'a> {
       passed = cursor.reached.passed;
     } };
 
-    ghost invariant = { λ cursor. IsWalking cursor.deltas.now cursor.reached };
+    ghost invariant = { λ cursor. IsWalking cursor.deltas.now cursor.reached cursor.next };
 }
 
 impl<'a> RelaxCursor<'a> {
@@ -48,6 +50,7 @@ impl<'a> RelaxCursor<'a> {
         RelaxCursor {
             deltas,
             reached: Reached::START,
+            next: next_offset(deltas, 0),
         }
     }
 
@@ -66,7 +69,26 @@ impl<'a> RelaxCursor<'a> {
         ensures step_back { ¬ (IsAhead self.old input_offset)
             → result ≡ input_offset - passed_bytes self.new }
     {
+        // It passes none, and lies past the last that was passed.
+        if self.reached.end <= input_offset && input_offset <= self.next {
+            return input_offset - self.reached.deleted;
+        }
+        self.advance(input_offset)
+    }
+
+    // The same for any offset.
+    #[inline(always)]
+    fn advance(&mut self, input_offset: u64) -> u64
+        requires { CanTranslate self.old input_offset }
+        ensures walks { self.new ≡ walk_to self.old input_offset }
+        ensures keeps { self.new.deletions ≡ self.old.deletions }
+        ensures ahead { IsAhead self.old input_offset
+            → result ≡ rank self.old.deletions input_offset }
+        ensures step_back { ¬ (IsAhead self.old input_offset)
+            → result ≡ input_offset - passed_bytes self.new }
+    {
         self.reached = pass(self.deltas, self.reached, input_offset);
+        self.next = next_offset(self.deltas, self.reached.passed);
         // A step back passes none.
         if input_offset < self.reached.end && self.is_ahead(input_offset) {
             return self.reached.end - self.reached.deleted;
@@ -95,6 +117,7 @@ impl<'a> RelaxCursor<'a> {
         ensures keeps { self.new.deletions ≡ self.old.deletions }
     {
         self.reached = walk(self.deltas, self.reached, queries, out);
+        self.next = next_offset(self.deltas, self.reached.passed);
     }
 
     /// Whether the queries may be given to `translate_all`, with as long an `out`.

@@ -1,6 +1,8 @@
 //! A walk through deltas, for offsets that don't decrease.
 
 ghost use Rattle.std.specs.Prelude.{◌≡◌, ◌+◌, ◌%◌, ◌^◌, ◌<◌, ◌≤◌, length, map, max};
+ghost use Rattle.std.specs.Prelude.{slice_index_or};
+ghost use Rattle.linker_base.specs.declared.relaxation.RelaxDelta.{RelaxDelta};
 ghost use Rattle.linker_base.specs.Deletions.{begun_below, rank};
 ghost use Rattle.linker_base.specs.Deltas.{deletion_of};
 ghost use Rattle.linker_base.specs.Listed.{AreValidDeltas};
@@ -41,6 +43,19 @@ impl Reached {
                 .input_offset
                 .wrapping_add(u64::from(delta.bytes_deleted)),
         }
+    }
+}
+
+// Where the first delta begins that isn't passed, or `u64::MAX` where there is none.
+#[inline(always)]
+pub(super) fn next_offset(deltas: &[RelaxDelta], passed: usize) -> u64
+    ensures { (d : RelaxDelta) → passed < length deltas.now
+        → result ≡ (slice_index_or deltas.now passed d).input_offset }
+{
+    if passed < deltas.len() {
+        deltas[passed].input_offset
+    } else {
+        u64::MAX
     }
 }
 

@@ -124,6 +124,22 @@ impl LoongArch64Instruction {
         ensures flag { result.1
             ≡ (loongarch_form self).flag (window_of (loongarch_form self) bytes.now) }
     {
+        match self {
+            // the form of most relocations: LLVM makes a shift and a mask of what its table has
+            LoongArch64Instruction::Shift10 => LoongArch64Instruction::Shift10.read_by_table(bytes),
+            _ => self.read_by_table(bytes),
+        }
+    }
+
+    // The same of any form.
+    #[inline(always)]
+    fn read_by_table(self, bytes: &[u8]) -> (u64, bool)
+        requires { byte_len (loongarch_form self).window ≤ length bytes.now }
+        ensures number { result.0 ≡ cast_unsigned w64
+            ((loongarch_form self).reading (window_of (loongarch_form self) bytes.now)) }
+        ensures flag { result.1
+            ≡ (loongarch_form self).flag (window_of (loongarch_form self) bytes.now) }
+    {
         engine::read(
             RelocationInstruction::LoongArch64(self),
             self.code(),

@@ -4,7 +4,7 @@
 
 use super::RelaxDelta;
 use super::delta_slice::DeltaSlice;
-use super::walk::{Reached, pass, walk};
+use super::walk::{Reached, next_offset, pass, walk};
 
 /// A walk through the deletions of a section, for offsets that are translated in order.
 ///
@@ -14,6 +14,8 @@ use super::walk::{Reached, pass, walk};
 pub struct RelaxCursor<'a> {
     deltas: &'a [RelaxDelta],
     reached: Reached,
+    // Where the first delta begins that isn't passed, or `u64::MAX` where there is none.
+    next: u64,
 }
 
 impl<'a> RelaxCursor<'a> {
@@ -22,6 +24,7 @@ impl<'a> RelaxCursor<'a> {
         RelaxCursor {
             deltas,
             reached: Reached::START,
+            next: next_offset(deltas, 0),
         }
     }
 
@@ -38,7 +41,18 @@ impl<'a> RelaxCursor<'a> {
     #[inline]
     pub fn translate(&mut self, input_offset: u64) -> u64 {
         debug_assert!(self.can_translate(input_offset));
+        // It passes none, and lies past the last that was passed.
+        if self.reached.end <= input_offset && input_offset <= self.next {
+            return input_offset - self.reached.deleted;
+        }
+        self.advance(input_offset)
+    }
+
+    // The same for any offset.
+    #[inline(always)]
+    fn advance(&mut self, input_offset: u64) -> u64 {
         self.reached = pass(self.deltas, self.reached, input_offset);
+        self.next = next_offset(self.deltas, self.reached.passed);
         // A step back passes none.
         if input_offset < self.reached.end && self.is_ahead(input_offset) {
             return self.reached.end - self.reached.deleted;
@@ -68,6 +82,7 @@ impl<'a> RelaxCursor<'a> {
         debug_assert!(queries.len() == out.len());
         debug_assert!(self.can_translate_all(queries));
         self.reached = walk(self.deltas, self.reached, queries, out);
+        self.next = next_offset(self.deltas, self.reached.passed);
     }
 
     /// Whether the queries may be given to `translate_all`, with as long an `out`.

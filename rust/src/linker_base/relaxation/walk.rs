@@ -32,6 +32,16 @@ impl Reached {
     }
 }
 
+// Where the first delta begins that isn't passed, or `u64::MAX` where there is none.
+#[inline(always)]
+pub(super) fn next_offset(deltas: &[RelaxDelta], passed: usize) -> u64 {
+    if passed < deltas.len() {
+        deltas[passed].input_offset
+    } else {
+        u64::MAX
+    }
+}
+
 // Passes the deltas that begin strictly below the offset.
 #[inline(always)]
 pub(super) fn pass(deltas: &[RelaxDelta], from: Reached, offset: u64) -> Reached {

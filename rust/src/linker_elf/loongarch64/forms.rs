@@ -102,6 +102,16 @@ impl LoongArch64Instruction {
     #[inline]
     pub fn read_value(self, bytes: &[u8]) -> (u64, bool) {
         debug_assert!(self.window() <= bytes.len());
+        match self {
+            // the form of most relocations: LLVM makes a shift and a mask of what its table has
+            LoongArch64Instruction::Shift10 => LoongArch64Instruction::Shift10.read_by_table(bytes),
+            _ => self.read_by_table(bytes),
+        }
+    }
+
+    // The same of any form.
+    #[inline(always)]
+    fn read_by_table(self, bytes: &[u8]) -> (u64, bool) {
         engine::read(
             RelocationInstruction::LoongArch64(self),
             self.code(),
