@@ -15,7 +15,7 @@ mod walk;
 
 use alloc::vec::Vec;
 use crate::support::*;
-use blocks::{count_heads, fill_heads};
+use blocks::{count_blocks, fill_heads};
 pub use blocks::{
     BLOCK_LEN, BlockHead, Counted, Looks, input_to_output_counted, output_to_input_counted,
 };
@@ -77,8 +77,8 @@ pub struct SectionRelaxDeltas {
 impl SectionRelaxDeltas {
     /// The deletions that `raw` lists, each as an offset and a count of bytes.
     ///
-    /// It allocates the deltas, and of more than 64 the heads of their blocks, but nothing where `raw`
-    /// is empty. `is_valid` tests what it requires.
+    /// It allocates twice, for the deltas and the heads of their blocks, and not at all where `raw` is
+    /// empty. `is_valid` tests what it requires.
     ///
     /// # Requires
     ///
@@ -87,7 +87,7 @@ impl SectionRelaxDeltas {
     pub fn new(raw: &[(u64, u32)]) -> Result<Self, OutOfMemory> {
         debug_assert!(SectionRelaxDeltas::is_valid(raw));
         let mut deltas = Vec::fallible_with_capacity(raw.len())?;
-        let mut heads = Vec::fallible_with_capacity(count_heads(raw.len()))?;
+        let mut heads = Vec::fallible_with_capacity(count_blocks(raw.len()))?;
         append(&mut deltas, raw);
         fill_heads(&deltas, &mut heads);
         Ok(SectionRelaxDeltas { deltas, heads })
@@ -174,8 +174,8 @@ impl SectionRelaxDeltas {
         can_batches_be_merged(&self.deltas, batches)
     }
 
-    /// A copy of the deltas and of the heads of their blocks. It allocates each of both that isn't
-    /// empty.
+    /// A copy of the deltas and of the heads of their blocks. It allocates twice, and not at all
+    /// where there are none.
     pub fn try_clone(&self) -> Result<Self, OutOfMemory> {
         let mut deltas = Vec::fallible_with_capacity(self.deltas.len())?;
         let mut heads = Vec::fallible_with_capacity(self.heads.len())?;

@@ -11,11 +11,10 @@ use Rattle.linker_base.specs.Deltas.{deletion_of}
 use Rattle.linker_base.specs.Blocks.{AreHeads}
 use Rattle.linker_base.specs.Listed.{AreValidDeltas}
 
--- what holds of the fields of a section's deltas: none of one block has heads
+-- what holds of the fields of a section's deltas
 pub record IsSound (list : List RelaxDelta) (blocks : List BlockHead) : Type 0 where
   pub deltas : AreValidDeltas list
-  pub heads : 64 < length list → AreHeads list blocks
-  pub one : length list ≤ 64 → length blocks ≡ 0
+  pub heads : AreHeads list blocks
 
 -- the first `passed` deletions are those whose output offset, the offset less the bytes deleted
 -- before, is at most y

@@ -122,7 +122,6 @@ pub struct Counted<'a> {
 }
 
 impl<'a> Model for Counted<'a> {
-    ghost use Rattle.std.specs.Prelude.{◌<◌, length};
     ghost use Rattle.linker_base.specs.Blocks.{Counts, AreHeads};
     ghost use Rattle.linker_base.specs.Listed.{AreValidDeltas};
 
@@ -131,14 +130,14 @@ impl<'a> Model for Counted<'a> {
     ghost view = { λ counted. record { listed = counted.deltas.now; looked = counted.count } };
 
     ghost invariant = { λ counted. AreValidDeltas counted.deltas.now
-        × (64 < length counted.deltas.now → AreHeads counted.deltas.now counted.heads.now) };
+        × AreHeads counted.deltas.now counted.heads.now };
 }
 
 impl<'a> Counted<'a> {
     #[inline(always)]
     pub(super) fn new(deltas: &'a [RelaxDelta], heads: &'a [BlockHead]) -> Counted<'a>
         requires valid { AreValidDeltas deltas.now }
-        requires heads { 64 < length deltas.now → AreHeads deltas.now heads.now }
+        requires heads { AreHeads deltas.now heads.now }
         ensures { result ≡ record { listed = deltas.now; looked = 0 } }
     {
         Counted {
@@ -167,11 +166,7 @@ impl<'a> Looks for Counted<'a> {
     #[inline(always)]
     fn head(&mut self, block: usize) -> (u64, u64) {
         self.count += 1;
-        let head = if self.deltas.len() > BLOCK_LEN {
-            self.heads[block]
-        } else {
-            BlockHead::of(&self.deltas[BLOCK_LEN * block])
-        };
+        let head = self.heads[block];
         (head.input_offset, head.output_offset)
     }
 
@@ -182,18 +177,15 @@ impl<'a> Looks for Counted<'a> {
     }
 }
 
-/// Puts the heads of the other blocks after those of the first blocks, as many as are kept.
+/// Puts the heads of the other blocks after those of the first blocks.
 pub(super) fn fill_heads(deltas: &[RelaxDelta], heads: &mut Vec<BlockHead>)
     requires first { (b : ℕ) (h : BlockHead) (d : RelaxDelta) → b < vec_len heads.old
         → slice_index_or heads.old.items b h ≡ head_of (slice_index_or deltas.now (64 * b) d) }
     requires within { vec_len heads.old ≤ blocks_of (length deltas.now) }
-    requires one { length deltas.now ≤ 64 → vec_len heads.old ≡ 0 }
-    requires room { 64 < length deltas.now
-        → blocks_of (length deltas.now) ≤ vec_capacity heads.old }
-    ensures heads { 64 < length deltas.now → AreHeads deltas.now heads.new.items }
-    ensures one { length deltas.now ≤ 64 → vec_len heads.new ≡ 0 }
+    requires room { blocks_of (length deltas.now) ≤ vec_capacity heads.old }
+    ensures { AreHeads deltas.now heads.new.items }
 {
-    for block in heads.len()..count_heads(deltas.len()) {
+    for block in heads.len()..count_blocks(deltas.len()) {
         heads.push_reserved(BlockHead::of(&deltas[BLOCK_LEN * block]));
     }
 }
@@ -214,19 +206,6 @@ pub(super) fn count_blocks(len: usize) -> usize
     ensures { result ≡ blocks_of len }
 {
     len / BLOCK_LEN + usize::from(len % BLOCK_LEN > 0)
-}
-
-/// How many heads are kept of so many deltas: none of one block, in which a search needs none.
-#[inline(always)]
-pub(super) fn count_heads(len: usize) -> usize
-    ensures one { len ≤ 64 → result ≡ 0 }
-    ensures more { 64 < len → result ≡ blocks_of len }
-{
-    if len > BLOCK_LEN {
-        count_blocks(len)
-    } else {
-        0
-    }
 }
 
 /// The output offset of `input_offset`, as `SectionRelaxDeltas::input_to_output_offset` returns it.

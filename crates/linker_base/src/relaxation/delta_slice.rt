@@ -72,10 +72,10 @@ impl<'a> DeltaSlice<'a> {
         DeltaSlice { deltas, heads: &[] }
     }
 
-    // Requires as many heads as blocks, or none.
+    // Requires as many heads as blocks.
     #[inline(always)]
     pub(super) fn over(deltas: &'a [RelaxDelta], heads: &'a [BlockHead]) -> DeltaSlice<'a>
-        requires { 0 < length heads.now → length heads.now ≡ blocks_of (length deltas.now) }
+        requires { length heads.now ≡ blocks_of (length deltas.now) }
         ensures { result ≡ record { deltas = deltas.now; heads = heads.now } }
     {
         DeltaSlice { deltas, heads }

@@ -125,11 +125,7 @@ impl<'a> Looks for Counted<'a> {
         debug_assert!(64 * (block as u128) < (Looks::len(self) as u128));
         debug_assert!((self.count() as u128) + 1 < 1 << 64);
         self.count += 1;
-        let head = if self.deltas.len() > BLOCK_LEN {
-            self.heads[block]
-        } else {
-            BlockHead::of(&self.deltas[BLOCK_LEN * block])
-        };
+        let head = self.heads[block];
         (head.input_offset, head.output_offset)
     }
 
@@ -143,9 +139,9 @@ impl<'a> Looks for Counted<'a> {
     }
 }
 
-/// Puts the heads of the other blocks after those of the first blocks, as many as are kept.
+/// Puts the heads of the other blocks after those of the first blocks.
 pub(super) fn fill_heads(deltas: &[RelaxDelta], heads: &mut Vec<BlockHead>) {
-    for block in heads.len()..count_heads(deltas.len()) {
+    for block in heads.len()..count_blocks(deltas.len()) {
         heads.push_reserved(BlockHead::of(&deltas[BLOCK_LEN * block]));
     }
 }
@@ -161,16 +157,6 @@ pub(super) fn write_heads(deltas: &[RelaxDelta], heads: &mut [BlockHead]) {
 #[inline(always)]
 pub(super) fn count_blocks(len: usize) -> usize {
     len / BLOCK_LEN + usize::from(len % BLOCK_LEN > 0)
-}
-
-/// How many heads are kept of so many deltas: none of one block, in which a search needs none.
-#[inline(always)]
-pub(super) fn count_heads(len: usize) -> usize {
-    if len > BLOCK_LEN {
-        count_blocks(len)
-    } else {
-        0
-    }
 }
 
 /// The output offset of `input_offset`, as `SectionRelaxDeltas::input_to_output_offset` returns it.

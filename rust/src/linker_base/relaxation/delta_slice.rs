@@ -44,7 +44,7 @@ impl<'a> DeltaSlice<'a> {
         DeltaSlice { deltas, heads: &[] }
     }
 
-    // Requires as many heads as blocks, or none.
+    // Requires as many heads as blocks.
     #[inline(always)]
     pub(super) fn over(deltas: &'a [RelaxDelta], heads: &'a [BlockHead]) -> DeltaSlice<'a> {
         DeltaSlice { deltas, heads }

@@ -114,7 +114,7 @@ fn find_block<P: Probe>(probe: &mut P, test: Test, len: usize) -> (usize, usize)
 #[inline(always)]
 pub(super) fn count_passing<P: Probe>(probe: &mut P, test: Test) -> usize {
     let len = probe.len();
-    if len == 0 || !test.passes(probe.read(Level::Deltas, 0)) {
+    if len == 0 || !test.passes(probe.read(Level::Heads, 0)) {
         return 0;
     }
     let (first, count) = find_block(probe, test, len);

@@ -1,5 +1,7 @@
-use Rattle.std.proofs.Common.{map, ap, arith}
+use Rattle.std.proofs.Common.{◌≡◌, ◌≤◌, map, length, ap, arith}
+use Rattle.std.specs.Prelude.{max}
 use Rattle.std.proofs.lemmas.List.{length-map}
+use Rattle.linker_base.specs.Deletions.{begun_below}
 use Rattle.linker_base.specs.Deltas.{deletion_of}
 use Rattle.linker_base.specs.Walk.{walk_at}
 use Rattle.linker_base.proofs.Search.{blank}
