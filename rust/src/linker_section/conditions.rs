@@ -5,10 +5,13 @@
 use crate::linker_section::facts::{Addresses, Symbol};
 use crate::linker_section::relocations::{Rela, first_from, relocation_in, relocations_len};
 use crate::linker_base::utils::u32_from_slice;
-use crate::elf::{
-    Architecture, Length, LoongArch64Instruction, Ppc64Instruction, RelocationInstruction,
-    RelocationKind, RelocationSize, RiscVInstruction, Row,
-};
+use crate::elf::{Architecture, Length, RelocationInstruction, RelocationKind, RelocationSize, Row};
+#[cfg(feature = "loongarch64")]
+use crate::elf::LoongArch64Instruction;
+#[cfg(feature = "ppc64")]
+use crate::elf::Ppc64Instruction;
+#[cfg(feature = "riscv64")]
+use crate::elf::RiscVInstruction;
 
 /// Whether a symbol is a function of the output that may return with another TOC pointer, and has
 /// no stub that keeps the caller's.
@@ -21,7 +24,7 @@ fn changes_toc(symbol: &Symbol) -> bool {
 #[inline(always)]
 pub(crate) fn lacks_stub(architecture: Architecture, symbols: &[Symbol], relocation: &Rela) -> bool {
     // R_PPC64_REL24
-    if !matches!(architecture, Architecture::Ppc64) || relocation.code != 10 {
+    if !matches_any!(architecture, #[cfg(feature = "ppc64")] Architecture::Ppc64) || relocation.code != 10 {
         return false;
     }
     match symbols.get(relocation.symbol as usize) {
@@ -74,8 +77,10 @@ pub(crate) fn is_filled(
     let addend = relocation.addend as u64;
     match architecture {
         // R_RISCV_ALIGN
+        #[cfg(feature = "riscv64")]
         Architecture::RiscV => relocation.code != 43 || is_padded(place, addend),
         // R_LARCH_ALIGN
+        #[cfg(feature = "loongarch64")]
         Architecture::LoongArch64 => {
             if relocation.code != 102 {
                 true
@@ -96,9 +101,11 @@ fn first_byte(there: &[u8]) -> u8 {
 }
 
 /// Whether an instruction of a form begins with a byte.
+#[cfg(feature = "riscv64")]
 #[inline(always)]
 fn riscv_shows(insn: RiscVInstruction, byte: u8) -> bool {
     match insn {
+        #[cfg(feature = "riscv64")]
         RiscVInstruction::CbType | RiscVInstruction::CjType | RiscVInstruction::CluiType => {
             byte % 4 != 3
         }
@@ -117,7 +124,9 @@ fn begins_prefixed(there: &[u8]) -> bool {
 fn shows_length(size: RelocationSize, there: &[u8]) -> bool {
     match size {
         RelocationSize::BitMasking { insn, .. } => match insn {
+            #[cfg(feature = "riscv64")]
             RelocationInstruction::RiscV(insn) => riscv_shows(insn, first_byte(there)),
+            #[cfg(feature = "ppc64")]
             RelocationInstruction::Ppc64(Ppc64Instruction::Prefixed) => begins_prefixed(there),
             _ => true,
         },
@@ -140,7 +149,7 @@ pub(crate) fn has_length(row: &Row, offset: u64, section: &[u8]) -> bool {
 /// architecture that has several lengths.
 #[inline(always)]
 pub(crate) fn begins_with(architecture: Architecture, row: &Row, word: u64) -> bool {
-    if !matches!(architecture, Architecture::RiscV | Architecture::Ppc64) {
+    if !matches_any!(architecture, #[cfg(feature = "ppc64")] Architecture::Ppc64, #[cfg(feature = "riscv64")] Architecture::RiscV) {
         return true;
     }
     match row.facts().length {
@@ -156,9 +165,11 @@ pub(crate) fn begins_with(architecture: Architecture, row: &Row, word: u64) -> b
 fn is_thread_based(size: RelocationSize, there: &[u8]) -> bool {
     match size {
         RelocationSize::BitMasking { range, insn } => match insn {
+            #[cfg(feature = "riscv64")]
             RelocationInstruction::RiscV(RiscVInstruction::IType | RiscVInstruction::SType) => {
                 u32_from_slice(there) / (1 << 15) % 32 == 4
             }
+            #[cfg(feature = "loongarch64")]
             RelocationInstruction::LoongArch64(LoongArch64Instruction::Shift10) => {
                 range.start == 0 && u32_from_slice(there) / (1 << 5) % 32 == 2
             }
@@ -248,7 +259,7 @@ fn has_upper(relocations: &[u8], high: &Rela) -> bool {
 /// Whether a value needs more than the instructions for 32 bits.
 #[inline(always)]
 pub(crate) fn needs_upper(architecture: Architecture, relocation: &Rela, value: i64) -> bool {
-    matches!(architecture, Architecture::LoongArch64)
+    matches_any!(architecture, #[cfg(feature = "loongarch64")] Architecture::LoongArch64)
         && (value < -0x8000_0000 || 0x7fff_ffff < value)
         // R_LARCH_TLS_LE_HI20_R
         && (relocation.code == 121 || upper_code(relocation.code).is_some())

@@ -59,13 +59,15 @@ pub struct Requirements {
 pub(crate) fn class_of_kind(kind: RelocationKind) -> Option<EntryClass> {
     match kind {
         RelocationKind::GotRelative
-        | RelocationKind::GotRelativeLoongArch64
-        | RelocationKind::GotRelGotBase
-        | RelocationKind::Got => Some(EntryClass::Address),
+            | RelocationKind::GotRelGotBase
+            | RelocationKind::Got => Some(EntryClass::Address),
+        #[cfg(feature = "loongarch64")]
+        RelocationKind::GotRelativeLoongArch64 => Some(EntryClass::Address),
         RelocationKind::GotTpOff
-        | RelocationKind::GotTpOffGot
-        | RelocationKind::GotTpOffGotBase
-        | RelocationKind::GotTpOffLoongArch64 => Some(EntryClass::ThreadOffset),
+            | RelocationKind::GotTpOffGot
+            | RelocationKind::GotTpOffGotBase => Some(EntryClass::ThreadOffset),
+        #[cfg(feature = "loongarch64")]
+        RelocationKind::GotTpOffLoongArch64 => Some(EntryClass::ThreadOffset),
         RelocationKind::TlsGd | RelocationKind::TlsGdGot | RelocationKind::TlsGdGotBase => {
             Some(EntryClass::ModuleOffset)
         }
@@ -73,9 +75,10 @@ pub(crate) fn class_of_kind(kind: RelocationKind) -> Option<EntryClass> {
             Some(EntryClass::Module)
         }
         RelocationKind::TlsDesc
-        | RelocationKind::TlsDescGot
-        | RelocationKind::TlsDescGotBase
-        | RelocationKind::TlsDescLoongArch64 => Some(EntryClass::Descriptor),
+            | RelocationKind::TlsDescGot
+            | RelocationKind::TlsDescGotBase => Some(EntryClass::Descriptor),
+        #[cfg(feature = "loongarch64")]
+        RelocationKind::TlsDescLoongArch64 => Some(EntryClass::Descriptor),
         _ => None,
     }
 }

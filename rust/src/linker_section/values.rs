@@ -7,8 +7,10 @@ use crate::linker_section::needed::{Entry, EntryClass, class_of_kind, entry_by, 
 use crate::linker_section::relocations::{Rela, first_from, offset_at, relocation_in, relocations_len};
 use crate::elf::{
     Architecture, Operands, RelocationInstruction, RelocationKind, RelocationKindInfo,
-    RelocationSize, RiscVInstruction, Row,
+    RelocationSize, Row,
 };
+#[cfg(feature = "riscv64")]
+use crate::elf::RiscVInstruction;
 
 /// Why a relocation has no value.
 #[derive(Debug, Clone, Copy, PartialEq, Eq)]
@@ -86,7 +88,7 @@ pub(crate) fn entry_address(
 /// Whether the formula has the GOT's address in place of the symbol's.
 #[inline(always)]
 pub(crate) fn is_of_got(architecture: Architecture, code: u32) -> bool {
-    matches!(architecture, Architecture::X86_64) && (code == 26 || code == 29)
+    matches_any!(architecture, #[cfg(feature = "x86_64")] Architecture::X86_64) && (code == 26 || code == 29)
 }
 
 /// How far after a function's global entry point its local one is.
@@ -97,24 +99,30 @@ pub(crate) fn local_entry(other: u8) -> u64 {
 }
 
 /// Whether it is a branch of PowerPC64.
+#[cfg(feature = "ppc64")]
 #[inline(always)]
 fn is_ppc64_branch(size: RelocationSize) -> bool {
-    matches!(
+    matches_any!(
         size,
-        RelocationSize::BitMasking {
-            insn: RelocationInstruction::Ppc64(_),
-            ..
-        }
+        #[cfg(feature = "ppc64")]
+        RelocationSize::BitMasking { insn: RelocationInstruction::Ppc64(_), .. }
     ) && size.is_branch()
 }
 
 /// A symbol's address, or where PowerPC64's branches go.
 #[inline(always)]
 fn address_of(info: &RelocationKindInfo, symbol: &Symbol) -> u64 {
+    #[cfg(not(feature = "ppc64"))]
+    {
+        symbol.address
+    }
+    #[cfg(feature = "ppc64")]
+    {
     if is_ppc64_branch(info.size) {
         symbol.address.wrapping_add(local_entry(symbol.other))
     } else {
         symbol.address
+    }
     }
 }
 
@@ -128,6 +136,7 @@ fn is_relative(kind: RelocationKind) -> bool {
 #[inline(always)]
 fn weak_address(architecture: Architecture, info: &RelocationKindInfo, place: u64) -> u64 {
     match architecture {
+        #[cfg(feature = "aarch64")]
         Architecture::AArch64 => {
             if info.size.is_branch() {
                 place.wrapping_add(4)
@@ -137,6 +146,7 @@ fn weak_address(architecture: Architecture, info: &RelocationKindInfo, place: u6
                 0
             }
         }
+        #[cfg(feature = "riscv64")]
         Architecture::RiscV => {
             if may_use_stub(info.size, info.kind) {
                 place
@@ -144,8 +154,12 @@ fn weak_address(architecture: Architecture, info: &RelocationKindInfo, place: u6
                 0
             }
         }
+        #[cfg(feature = "ppc64")]
         Architecture::Ppc64 => { if info.size.is_branch() { place } else { 0 } }
-        Architecture::LoongArch64 | Architecture::X86_64 => 0,
+        #[cfg(feature = "loongarch64")]
+        Architecture::LoongArch64 => 0,
+        #[cfg(feature = "x86_64")]
+        Architecture::X86_64 => 0,
     }
 }
 
@@ -321,15 +335,12 @@ fn own_value(
 #[inline(always)]
 fn names_label(size: RelocationSize, kind: RelocationKind) -> bool {
     match kind {
+        #[cfg(feature = "riscv64")]
         RelocationKind::RelativeRiscVLow12 => true,
-        RelocationKind::TlsDesc => matches!(
+        RelocationKind::TlsDesc => matches_any!(
             size,
-            RelocationSize::BitMasking {
-                insn: RelocationInstruction::RiscV(
-                    RiscVInstruction::IType | RiscVInstruction::SType
-                ),
-                ..
-            }
+            #[cfg(feature = "riscv64")]
+            RelocationSize::BitMasking { insn: RelocationInstruction::RiscV( RiscVInstruction::IType | RiscVInstruction::SType ), .. }
         ),
         _ => false,
     }
@@ -338,12 +349,10 @@ fn names_label(size: RelocationSize, kind: RelocationKind) -> bool {
 /// Whether it is an `auipc` of RISC-V.
 #[inline(always)]
 fn is_auipc(size: RelocationSize) -> bool {
-    matches!(
+    matches_any!(
         size,
-        RelocationSize::BitMasking {
-            insn: RelocationInstruction::RiscV(RiscVInstruction::UType),
-            ..
-        }
+        #[cfg(feature = "riscv64")]
+        RelocationSize::BitMasking { insn: RelocationInstruction::RiscV(RiscVInstruction::UType), .. }
     )
 }
 

@@ -3,16 +3,17 @@
 //! For which relocations a linker makes an entry of the GOT or of the PLT.
 
 use crate::linker_elf::elf::{
-    RelocationInstruction, RelocationKind, RelocationKindInfo, RelocationSize, RiscVInstruction,
+    RelocationInstruction, RelocationKind, RelocationKindInfo, RelocationSize,
 };
+#[cfg(feature = "riscv64")]
+use crate::linker_elf::elf::RiscVInstruction;
 
 /// Whether the formula names the address of a GOT entry.
 #[inline(always)]
 pub(crate) fn names_got_entry(kind: RelocationKind) -> bool {
-    matches!(
+    matches_any!(
         kind,
         RelocationKind::GotRelative
-            | RelocationKind::GotRelativeLoongArch64
             | RelocationKind::GotRelGotBase
             | RelocationKind::Got
             | RelocationKind::TlsGd
@@ -24,10 +25,12 @@ pub(crate) fn names_got_entry(kind: RelocationKind) -> bool {
             | RelocationKind::GotTpOff
             | RelocationKind::GotTpOffGot
             | RelocationKind::GotTpOffGotBase
-            | RelocationKind::GotTpOffLoongArch64
             | RelocationKind::TlsDesc
             | RelocationKind::TlsDescGot
-            | RelocationKind::TlsDescGotBase
+            | RelocationKind::TlsDescGotBase,
+        #[cfg(feature = "loongarch64")]
+        RelocationKind::GotRelativeLoongArch64
+            | RelocationKind::GotTpOffLoongArch64
             | RelocationKind::TlsDescLoongArch64
     )
 }
@@ -44,12 +47,10 @@ pub(crate) fn names_plt_entry(kind: RelocationKind) -> bool {
 /// Whether the symbol labels a high part, whose value is taken.
 #[inline(always)]
 fn is_of_high_part(size: RelocationSize) -> bool {
-    matches!(
+    matches_any!(
         size,
-        RelocationSize::BitMasking {
-            insn: RelocationInstruction::RiscV(RiscVInstruction::IType | RiscVInstruction::SType),
-            ..
-        }
+        #[cfg(feature = "riscv64")]
+        RelocationSize::BitMasking { insn: RelocationInstruction::RiscV(RiscVInstruction::IType | RiscVInstruction::SType), .. }
     )
 }
 

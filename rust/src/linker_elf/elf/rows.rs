@@ -3,8 +3,10 @@
 //! Rows of the relocation tables, and the macros that make them from each architecture's list.
 
 use crate::linker_elf::elf::relocate::{
-    is_encoded, write_aarch64, write_bits, write_bytes, write_field, write_number,
+    is_encoded, write_bits, write_bytes, write_field, write_number,
 };
+#[cfg(feature = "aarch64")]
+use crate::linker_elf::elf::relocate::write_aarch64;
 use crate::linker_elf::elf::value::FormulaTerms;
 use crate::linker_elf::elf::{
     AllowedRange, ApplyError, Bias, FormulaError, Operands, PageMask, RelocateError,
@@ -286,6 +288,7 @@ fn write_plain(entry: &'static TableRow, value: i64, dest: &mut [u8]) {
     match entry.size {
         RelocationSize::ByteSize(len) => write_number(entry.kind, len as usize, value, dest),
         RelocationSize::BitMasking { range, insn } => match insn {
+            #[cfg(feature = "aarch64")]
             RelocationInstruction::AArch64(insn) => write_aarch64(insn, range, value, dest),
             _ => write_field(insn, range, value, dest),
         },

@@ -7,6 +7,7 @@ use crate::linker_elf::elf::{
     Bias, PAGE_MASK_4KB, PageMask, RelocationInstruction, RelocationKind, RelocationKindInfo,
     RelocationSize,
 };
+#[cfg(feature = "loongarch64")]
 use crate::linker_elf::loongarch64::highest_relocation_with_bias;
 
 /// What the value of a relocation is computed from. All but the addend and the flags are addresses
@@ -122,12 +123,10 @@ impl RelocationSize {
     #[must_use]
     #[inline(always)]
     pub fn loads_plt_word(self, kind: RelocationKind) -> bool {
-        matches!(
+        matches_any!(
             self,
-            RelocationSize::BitMasking {
-                insn: RelocationInstruction::Ppc64(_),
-                ..
-            }
+            #[cfg(feature = "ppc64")]
+            RelocationSize::BitMasking { insn: RelocationInstruction::Ppc64(_), .. }
         ) && names_plt_entry(kind)
     }
 }
@@ -152,10 +151,10 @@ fn bits_of(is_page: bool) -> u64 {
 #[inline(always)]
 fn addend_bits(size: RelocationSize) -> u64 {
     match size {
-        RelocationSize::BitMasking {
-            insn: RelocationInstruction::AArch64(_) | RelocationInstruction::Ppc64(_),
-            ..
-        } => 0,
+        #[cfg(feature = "aarch64")]
+        RelocationSize::BitMasking { insn: RelocationInstruction::AArch64(_), .. } => 0,
+        #[cfg(feature = "ppc64")]
+        RelocationSize::BitMasking { insn: RelocationInstruction::Ppc64(_), .. } => 0,
         _ => u64::MAX,
     }
 }
@@ -267,18 +266,25 @@ impl RelocationKindInfo {
                 Err(FormulaError::NoValue)
             }
             RelocationKind::Absolute
-            | RelocationKind::AbsoluteLowPart
-            | RelocationKind::AbsoluteSet
-            | RelocationKind::AbsoluteSetWord6
-            | RelocationKind::AbsoluteAddition
-            | RelocationKind::AbsoluteAdditionWord6
-            | RelocationKind::AbsoluteSubtraction
-            | RelocationKind::AbsoluteSubtractionWord6
-            | RelocationKind::PairSubtractionULEB128RiscV
-            | RelocationKind::PairSubtractionULEB128LoongArch => Ok(terms.symbol(operands)),
-            RelocationKind::Relative | RelocationKind::RelativeRiscVLow12 => {
+                | RelocationKind::AbsoluteLowPart
+                | RelocationKind::AbsoluteSet
+                | RelocationKind::AbsoluteSetWord6
+                | RelocationKind::AbsoluteAddition
+                | RelocationKind::AbsoluteAdditionWord6
+                | RelocationKind::AbsoluteSubtraction
+                | RelocationKind::AbsoluteSubtractionWord6 => Ok(terms.symbol(operands)),
+            #[cfg(feature = "loongarch64")]
+            RelocationKind::PairSubtractionULEB128LoongArch => Ok(terms.symbol(operands)),
+            #[cfg(feature = "riscv64")]
+            RelocationKind::PairSubtractionULEB128RiscV => Ok(terms.symbol(operands)),
+            RelocationKind::Relative => {
                 Ok(terms.symbol(operands).wrapping_sub(place))
             }
+            #[cfg(feature = "riscv64")]
+            RelocationKind::RelativeRiscVLow12 => {
+                Ok(terms.symbol(operands).wrapping_sub(place))
+            }
+            #[cfg(feature = "loongarch64")]
             RelocationKind::RelativeLoongArchHigh => Ok(highest_relocation_with_bias(
                 terms.symbol(operands),
                 pc_of_sequence(self.size, operands.place),
@@ -288,6 +294,7 @@ impl RelocationKindInfo {
             | RelocationKind::TlsLd
             | RelocationKind::GotTpOff
             | RelocationKind::TlsDesc => Ok(terms.entry(operands)?.wrapping_sub(place)),
+            #[cfg(feature = "loongarch64")]
             RelocationKind::GotRelativeLoongArch64
             | RelocationKind::GotTpOffLoongArch64
             | RelocationKind::TlsDescLoongArch64 => Ok(highest_relocation_with_bias(
