@@ -45,6 +45,7 @@ by_code!(aarch64, relocation_type_from_raw, AArch64Relocation);
 by_code!(loongarch64, relocation_type_from_raw, LoongArch64Relocation);
 #[cfg(feature = "ppc64")]
 by_code!(ppc64, relocation_type_from_raw, Ppc64Relocation);
+#[cfg(feature = "riscv64")]
 by_code! {
     riscv64, relocation_type_from_raw, RiscVRelocation,
     /// The distances that `distance_fits_jal` accepts.
