@@ -32,8 +32,7 @@ class Names:
 
 
 def alternatives(source, first, past):
-    """The alternatives of a pattern, as texts with the range of each: also those within an
-    alternative that need several features."""
+    """The ranges of the alternatives of a pattern."""
     bars, at = [], first
     while at < past:
         bars += [at] if source[at] == "|" else []
@@ -43,7 +42,7 @@ def alternatives(source, first, past):
 
 
 def spread(source, names, first, past):
-    """An alternative as those that need one feature each, with the feature: the text of each."""
+    """The texts of an alternative, or of those within it, that need one feature each, with the feature."""
     needed = names.of(source, first, past)
     if len(needed) < 2:
         return [(source.slice(first, past), next(iter(needed), None))]
@@ -72,7 +71,7 @@ def patterns(source, names, first, past):
 
 
 def arms(source, brace):
-    """The arms of a `match`: where each begins, its guard or arrow, its arrow and its end."""
+    """Of each arm of a `match` where it begins, its guard or else its arrow, its arrow, and its end."""
     at = brace + 1
     while at < source.close[brace]:
         arrow = source.past(at, "=>")
@@ -252,7 +251,7 @@ def gate(made, make_source, added):
     """The texts of files, where what names an architecture has the attribute of its feature."""
     known = {name: word.split('"')[1] for name, words in added.items() for word in words
              if re.fullmatch(r'cfg\(feature = "(' + "|".join(WORDS) + r')"\)', word)}
-    without = {(name, found[1]): found[2].replace("~", " ") for name, words in added.items()
+    without = {(name, found[1]): found[2] for name, words in added.items()
                for found in map(WITHOUT.fullmatch, words) if found}
     of_one = re.compile(rf"(^|/)({'|'.join(WORDS)}|{'|'.join(known) or '-'})(/|\.rs$)")
     texts = {name: text for name, text in made.items() if not of_one.search(name)}

@@ -104,7 +104,8 @@ class Source:
             head, word, name = at, self[at], self[at + 1]
             if word == "ghost":
                 at = self.ghost(at, owner or trait)
-            elif word in ("use", "static", "type") or (word, name) == ("extern", "crate") or word == "const" and name != "fn":
+            elif (word in ("use", "static", "type") or (word, name) == ("extern", "crate")
+                  or word == "const" and name != "fn"):
                 at = self.past(at, ";")
             elif word in ("mod", "struct", "enum", "macro_rules"):
                 at = self.past(at, "; {")
