@@ -104,7 +104,8 @@ class Source:
             head, word, name = at, self[at], self[at + 1]
             if word == "ghost":
                 at = self.ghost(at, owner or trait)
-            elif word in ("use", "static", "type") or word == "const" and name != "fn":
+            elif (word in ("use", "static", "type") or (word, name) == ("extern", "crate")
+                  or word == "const" and name != "fn"):
                 at = self.past(at, ";")
             elif word in ("mod", "struct", "enum", "macro_rules"):
                 at = self.past(at, "; {")
@@ -120,7 +121,7 @@ class Source:
             else:
                 at = self.function(first, at, is_public or is_shown, owner, trait)
             at += 1
-            self.items.append(SimpleNamespace(first=first, head=head, word=word, name=name))
+            self.items.append(SimpleNamespace(first=first, head=head, last=at - 1, word=word, name=name))
 
     def ghost(self, at, in_block):
         """A `ghost use`, or a ghost member of a block. Returns its last token."""

@@ -4,6 +4,24 @@
 #![allow(non_camel_case_types, reason = "a relocation has the name that its psABI gives it")]
 #![allow(unused_imports, unused_variables, reason = "some are there for contracts alone")]
 #![allow(clippy::complexity, clippy::style, reason = "the text is that of the proved source")]
+#![cfg_attr(
+    not(all(
+        feature = "aarch64",
+        feature = "loongarch64",
+        feature = "ppc64",
+        feature = "riscv64",
+        feature = "x86_64"
+    )),
+    allow(
+        dead_code,
+        irrefutable_let_patterns,
+        unreachable_code,
+        unreachable_patterns,
+        unused_macros,
+        unused_mut,
+        reason = "what is of several architectures, and of none that is compiled"
+    )
+)]
 
 extern crate alloc;
 

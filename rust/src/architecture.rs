@@ -5,17 +5,30 @@
 //!
 #![doc = include_str!("../doc/architecture.md")]
 
+#[cfg(feature = "aarch64")]
 use crate::aarch64::{self, AArch64Relocation};
 use crate::elf::{
-    AArch64Instruction, ApplyError, Architecture, Choice, InstructionRewrite, LinkFacts,
-    LoongArch64Instruction, Operands, OtherRelocation, Ppc64Instruction, RelocationInstruction,
-    RewriteWindow, RiscVInstruction, Row, Uleb128PairError, Uleb128Role,
+    ApplyError, Architecture, Choice, InstructionRewrite, LinkFacts, Operands, OtherRelocation,
+    RelocationInstruction, RewriteWindow, Row, Uleb128PairError, Uleb128Role,
 };
+#[cfg(feature = "aarch64")]
+use crate::elf::AArch64Instruction;
+#[cfg(feature = "loongarch64")]
+use crate::elf::LoongArch64Instruction;
+#[cfg(feature = "ppc64")]
+use crate::elf::Ppc64Instruction;
+#[cfg(feature = "riscv64")]
+use crate::elf::RiscVInstruction;
+#[cfg(feature = "loongarch64")]
 use crate::loongarch64::{self, LoongArch64Relocation};
+#[cfg(feature = "ppc64")]
 use crate::ppc64::{self, Ppc64Relocation};
 use crate::relaxation::RelocationModifier;
-use crate::riscv64::{self, DeletedBytes, RiscVRelocation};
+use crate::linker_base::rewrite::DeletedBytes;
+#[cfg(feature = "riscv64")]
+use crate::riscv64::{self, RiscVRelocation};
 use crate::utils;
+#[cfg(feature = "x86_64")]
 use crate::x86_64::{self, X86_64Relocation};
 
 /// How many handles an architecture has: one for each code below.
@@ -25,10 +38,15 @@ pub const HANDLE_UNIT: u32 = 0x1_0000;
 #[cfg_attr(not(exhaustive), non_exhaustive)]
 #[derive(Debug, Clone, Copy, PartialEq, Eq, Hash, PartialOrd, Ord)]
 pub enum Relaxation {
+    #[cfg(feature = "aarch64")]
     AArch64(aarch64::RelaxationKind),
+    #[cfg(feature = "riscv64")]
     RiscV(riscv64::RelaxationKind),
+    #[cfg(feature = "loongarch64")]
     LoongArch64(loongarch64::RelaxationKind),
+    #[cfg(feature = "ppc64")]
     Ppc64(ppc64::RelaxationKind),
+    #[cfg(feature = "x86_64")]
     X86_64(x86_64::RelaxationKind),
 }
 
@@ -36,10 +54,15 @@ pub enum Relaxation {
 macro_rules! of_kind {
     ($relaxation:expr, $kind:ident => $made:expr) => {
         match $relaxation {
+            #[cfg(feature = "aarch64")]
             Relaxation::AArch64($kind) => $made,
+            #[cfg(feature = "riscv64")]
             Relaxation::RiscV($kind) => $made,
+            #[cfg(feature = "loongarch64")]
             Relaxation::LoongArch64($kind) => $made,
+            #[cfg(feature = "ppc64")]
             Relaxation::Ppc64($kind) => $made,
+            #[cfg(feature = "x86_64")]
             Relaxation::X86_64($kind) => $made,
         }
     };
@@ -50,12 +73,17 @@ macro_rules! of_kind {
 macro_rules! by_architecture {
     ($architecture:expr, $make:ident $given:tt) => {
         match $architecture {
+            #[cfg(feature = "aarch64")]
             Architecture::AArch64 => $make!(aarch64 AArch64Relocation AArch64 $given),
+            #[cfg(feature = "riscv64")]
             Architecture::RiscV => $make!(riscv64 RiscVRelocation RiscV $given),
+            #[cfg(feature = "loongarch64")]
             Architecture::LoongArch64 => {
                 $make!(loongarch64 LoongArch64Relocation LoongArch64 $given)
             }
+            #[cfg(feature = "ppc64")]
             Architecture::Ppc64 => $make!(ppc64 Ppc64Relocation Ppc64 $given),
+            #[cfg(feature = "x86_64")]
             Architecture::X86_64 => $make!(x86_64 X86_64Relocation X86_64 $given),
         }
     };
@@ -95,10 +123,15 @@ impl Relaxation {
     #[inline]
     pub fn number(self) -> (u32, u8) {
         match self {
+            #[cfg(feature = "aarch64")]
             Relaxation::AArch64(kind) => (kind.number(), 0),
+            #[cfg(feature = "riscv64")]
             Relaxation::RiscV(kind) => (kind.number(), 0),
+            #[cfg(feature = "loongarch64")]
             Relaxation::LoongArch64(kind) => (kind.number(), 0),
+            #[cfg(feature = "ppc64")]
             Relaxation::Ppc64(kind) => (kind.number(), 0),
+            #[cfg(feature = "x86_64")]
             Relaxation::X86_64(kind) => kind.number(),
         }
     }
@@ -120,7 +153,9 @@ impl Relaxation {
     #[inline]
     pub fn deleted(self) -> Option<DeletedBytes> {
         match self {
+            #[cfg(feature = "riscv64")]
             Relaxation::RiscV(kind) => kind.deleted(),
+            #[cfg(feature = "loongarch64")]
             Relaxation::LoongArch64(kind) => kind.deleted(),
             _ => None,
         }
@@ -134,6 +169,12 @@ impl Relaxation {
     #[must_use]
     #[inline]
     pub fn other_relocation(self) -> Option<OtherRelocation<u32>> {
+        #[cfg(not(feature = "aarch64"))]
+        {
+            None
+        }
+        #[cfg(feature = "aarch64")]
+        {
         let Relaxation::AArch64(kind) = self else {
             return None;
         };
@@ -143,6 +184,7 @@ impl Relaxation {
                 relocation: other.relocation.elf_code(),
             }),
             None => None,
+        }
         }
     }
 }
@@ -175,8 +217,11 @@ impl Relaxation {
     #[inline]
     pub fn skipped_offset(self) -> Option<u64> {
         match self {
+            #[cfg(feature = "riscv64")]
             Relaxation::RiscV(kind) => kind.skipped_offset(),
+            #[cfg(feature = "ppc64")]
             Relaxation::Ppc64(kind) => kind.skipped_offset(),
+            #[cfg(feature = "x86_64")]
             Relaxation::X86_64(kind) => kind.skipped_offset(),
             _ => None,
         }
@@ -336,10 +381,15 @@ impl Architecture {
     #[inline(always)]
     fn first_handle(self) -> u32 {
         match self {
+            #[cfg(feature = "riscv64")]
             Architecture::RiscV => 0x1_0000,
+            #[cfg(feature = "aarch64")]
             Architecture::AArch64 => 0x2_0000,
+            #[cfg(feature = "x86_64")]
             Architecture::X86_64 => 0x3_0000,
+            #[cfg(feature = "loongarch64")]
             Architecture::LoongArch64 => 0x4_0000,
+            #[cfg(feature = "ppc64")]
             Architecture::Ppc64 => 0x5_0000,
         }
     }
@@ -353,15 +403,50 @@ impl Architecture {
         if handle < 0x1_0000 {
             None
         } else if handle < 0x2_0000 {
-            Some(Architecture::RiscV)
+            #[cfg(feature = "riscv64")]
+            {
+                Some(Architecture::RiscV)
+            }
+            #[cfg(not(feature = "riscv64"))]
+            {
+                None
+            }
         } else if handle < 0x3_0000 {
-            Some(Architecture::AArch64)
+            #[cfg(feature = "aarch64")]
+            {
+                Some(Architecture::AArch64)
+            }
+            #[cfg(not(feature = "aarch64"))]
+            {
+                None
+            }
         } else if handle < 0x4_0000 {
-            Some(Architecture::X86_64)
+            #[cfg(feature = "x86_64")]
+            {
+                Some(Architecture::X86_64)
+            }
+            #[cfg(not(feature = "x86_64"))]
+            {
+                None
+            }
         } else if handle < 0x5_0000 {
-            Some(Architecture::LoongArch64)
+            #[cfg(feature = "loongarch64")]
+            {
+                Some(Architecture::LoongArch64)
+            }
+            #[cfg(not(feature = "loongarch64"))]
+            {
+                None
+            }
         } else if handle < 0x6_0000 {
-            Some(Architecture::Ppc64)
+            #[cfg(feature = "ppc64")]
+            {
+                Some(Architecture::Ppc64)
+            }
+            #[cfg(not(feature = "ppc64"))]
+            {
+                None
+            }
         } else {
             None
         }
@@ -424,8 +509,11 @@ impl Architecture {
     #[must_use]
     pub fn may_be_skipped(self, code: u32) -> bool {
         match self {
+            #[cfg(feature = "riscv64")]
             Architecture::RiscV => riscv64::may_be_skipped(RiscVRelocation::from_elf(code)),
+            #[cfg(feature = "ppc64")]
             Architecture::Ppc64 => ppc64::may_be_skipped(Ppc64Relocation::from_elf(code)),
+            #[cfg(feature = "x86_64")]
             Architecture::X86_64 => x86_64::may_be_skipped(X86_64Relocation::from_elf(code)),
             _ => false,
         }
@@ -436,7 +524,9 @@ impl Architecture {
     #[must_use]
     pub fn uleb128_role(self, code: u32) -> Option<Uleb128Role> {
         match self {
+            #[cfg(feature = "riscv64")]
             Architecture::RiscV => RiscVRelocation::from_elf(code).uleb128_role(),
+            #[cfg(feature = "loongarch64")]
             Architecture::LoongArch64 => LoongArch64Relocation::from_elf(code).uleb128_role(),
             _ => None,
         }
@@ -478,18 +568,23 @@ impl Architecture {
     #[inline(always)]
     pub fn form(self, number: u32) -> Option<RelocationInstruction> {
         match self {
+            #[cfg(feature = "aarch64")]
             Architecture::AArch64 => {
                 AArch64Instruction::from_number(number).map(RelocationInstruction::AArch64)
             }
+            #[cfg(feature = "riscv64")]
             Architecture::RiscV => {
                 RiscVInstruction::from_number(number).map(RelocationInstruction::RiscV)
             }
+            #[cfg(feature = "loongarch64")]
             Architecture::LoongArch64 => {
                 LoongArch64Instruction::from_number(number).map(RelocationInstruction::LoongArch64)
             }
+            #[cfg(feature = "ppc64")]
             Architecture::Ppc64 => {
                 Ppc64Instruction::from_number(number).map(RelocationInstruction::Ppc64)
             }
+            #[cfg(feature = "x86_64")]
             Architecture::X86_64 => None,
         }
     }
@@ -500,18 +595,23 @@ impl Architecture {
     #[inline(always)]
     pub fn rewrite(self, number: u32, opcode_len: u8) -> Option<Relaxation> {
         match self {
+            #[cfg(feature = "aarch64")]
             Architecture::AArch64 => {
                 aarch64::RelaxationKind::from_number(number).map(Relaxation::AArch64)
             }
+            #[cfg(feature = "riscv64")]
             Architecture::RiscV => {
                 riscv64::RelaxationKind::from_number(number).map(Relaxation::RiscV)
             }
+            #[cfg(feature = "loongarch64")]
             Architecture::LoongArch64 => {
                 loongarch64::RelaxationKind::from_number(number).map(Relaxation::LoongArch64)
             }
+            #[cfg(feature = "ppc64")]
             Architecture::Ppc64 => {
                 ppc64::RelaxationKind::from_number(number).map(Relaxation::Ppc64)
             }
+            #[cfg(feature = "x86_64")]
             Architecture::X86_64 => {
                 x86_64::RelaxationKind::from_number(number, opcode_len).map(Relaxation::X86_64)
             }

@@ -57,14 +57,19 @@ macro_rules! by_code {
     };
 }
 
+#[cfg(feature = "aarch64")]
 by_code!(aarch64, relocation_type_from_raw, AArch64Relocation);
+#[cfg(feature = "loongarch64")]
 by_code!(loongarch64, relocation_type_from_raw, LoongArch64Relocation);
+#[cfg(feature = "ppc64")]
 by_code!(ppc64, relocation_type_from_raw, Ppc64Relocation);
+#[cfg(feature = "riscv64")]
 by_code! {
     riscv64, relocation_type_from_raw, RiscVRelocation,
     /// The distances that `distance_fits_jal` accepts.
     pub const JAL_RANGE: core::ops::RangeInclusive<i64> = JAL_MIN..=JAL_MAX;
 }
+#[cfg(feature = "x86_64")]
 by_code!(x86_64, relocation_from_raw, X86_64Relocation);
 
 /// `relaxation`, where deletions are taken as vectors and calls that allocate return no `Result`.

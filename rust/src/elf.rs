@@ -7,13 +7,22 @@
 
 use crate::linker_base::utils::Uleb128Error;
 pub use crate::linker_elf::elf::{
-    AArch64Instruction, AllowedRange, ApplyError, Bias, Choice, EM_AARCH64, EM_LOONGARCH, EM_PPC64,
-    EM_RISCV, EM_X86_64, EntryUse, FormulaError, InstructionForm, InstructionRewrite, Length,
-    LinkFacts, LoongArch64Instruction, Operands, OtherRelocation, PAGE_MASK_4KB, PageMask,
-    PageMaskPattern, Ppc64Instruction, RelocateError, RelocationInstruction, RelocationKind,
-    RelocationKindInfo, RelocationNumbers, RelocationSize, RewriteWindow, RiscVInstruction, Row,
-    RowFacts, SIZE_2GB, SIZE_2KB, SIZE_4GB, SIZE_4KB, Sign, Uleb128Role, Way,
+    AllowedRange, ApplyError, Bias, Choice, EntryUse, FormulaError, InstructionForm,
+    InstructionRewrite, Length, LinkFacts, Operands, OtherRelocation, PAGE_MASK_4KB, PageMask,
+    PageMaskPattern, RelocateError, RelocationInstruction, RelocationKind, RelocationKindInfo,
+    RelocationNumbers, RelocationSize, RewriteWindow, Row, RowFacts, SIZE_2GB, SIZE_2KB, SIZE_4GB,
+    SIZE_4KB, Sign, Uleb128Role, Way,
 };
+#[cfg(feature = "aarch64")]
+pub use crate::linker_elf::elf::{AArch64Instruction, EM_AARCH64};
+#[cfg(feature = "loongarch64")]
+pub use crate::linker_elf::elf::{EM_LOONGARCH, LoongArch64Instruction};
+#[cfg(feature = "ppc64")]
+pub use crate::linker_elf::elf::{EM_PPC64, Ppc64Instruction};
+#[cfg(feature = "riscv64")]
+pub use crate::linker_elf::elf::{EM_RISCV, RiscVInstruction};
+#[cfg(feature = "x86_64")]
+pub use crate::linker_elf::elf::EM_X86_64;
 
 /// Why a relocation's value isn't written, and which values can be.
 #[derive(Debug, Clone, Copy, PartialEq, Eq)]
@@ -75,14 +84,19 @@ pub enum Uleb128PairError {
 #[derive(Debug, Clone, Copy, PartialEq, Eq, Hash, PartialOrd, Ord)]
 pub enum Architecture {
     /// AArch64, little-endian.
+    #[cfg(feature = "aarch64")]
     AArch64 = 183,
     /// RV64, with or without the C extension.
+    #[cfg(feature = "riscv64")]
     RiscV = 243,
     /// LoongArch64.
+    #[cfg(feature = "loongarch64")]
     LoongArch64 = 258,
     /// 64-bit Power, little-endian (ELFv2).
+    #[cfg(feature = "ppc64")]
     Ppc64 = 21,
     /// x86-64.
+    #[cfg(feature = "x86_64")]
     X86_64 = 62,
 }
 
@@ -91,12 +105,24 @@ impl Architecture {
     #[must_use]
     pub const fn from_machine(e_machine: u16) -> Option<Architecture> {
         match e_machine {
+            #[cfg(feature = "aarch64")]
             number if number == Architecture::AArch64.machine() => Some(Architecture::AArch64),
+            #[cfg(feature = "riscv64")]
             number if number == Architecture::RiscV.machine() => Some(Architecture::RiscV),
+            #[cfg(feature = "loongarch64")]
             number if number == Architecture::LoongArch64.machine() => {
-                Some(Architecture::LoongArch64)
+                #[cfg(feature = "loongarch64")]
+                {
+                    Some(Architecture::LoongArch64)
+                }
+                #[cfg(not(feature = "loongarch64"))]
+                {
+                    None
+                }
             }
+            #[cfg(feature = "ppc64")]
             number if number == Architecture::Ppc64.machine() => Some(Architecture::Ppc64),
+            #[cfg(feature = "x86_64")]
             number if number == Architecture::X86_64.machine() => Some(Architecture::X86_64),
             _ => None,
         }
@@ -110,12 +136,17 @@ impl Architecture {
     }
 }
 
+#[cfg(feature = "aarch64")]
 const _: () = assert!(Architecture::AArch64 as u16 == EM_AARCH64);
 
+#[cfg(feature = "riscv64")]
 const _: () = assert!(Architecture::RiscV as u16 == EM_RISCV);
 
+#[cfg(feature = "loongarch64")]
 const _: () = assert!(Architecture::LoongArch64 as u16 == EM_LOONGARCH);
 
+#[cfg(feature = "ppc64")]
 const _: () = assert!(Architecture::Ppc64 as u16 == EM_PPC64);
 
+#[cfg(feature = "x86_64")]
 const _: () = assert!(Architecture::X86_64 as u16 == EM_X86_64);

@@ -4,9 +4,10 @@
 use crate::elf::{ApplyError, FormulaError, RelocateError, Uleb128PairError, WriteError};
 use crate::output::{RouteError, StubError};
 use crate::placement::PlaceError;
-use crate::relaxation::{OutOfMemory, PackError, RejectedCall, SectionRelaxDeltas};
+use crate::relaxation::{OutOfMemory, SectionRelaxDeltas};
 use crate::rewriting::{RewritingError, WritingError};
-use crate::riscv64::{CallError, JumpError};
+#[cfg(feature = "riscv64")]
+use crate::riscv64::{CallError, JumpError, PackError, RejectedCall};
 use crate::runs::items::{ItemsError, RewrittenItemsError};
 use crate::runs::packing::{ItemError, RejectedItem};
 use crate::runs::relaxation::{Fault, ItemFault};
@@ -175,6 +176,7 @@ impl Display for Uleb128PairError {
 
 impl Error for Uleb128PairError {}
 
+#[cfg(feature = "riscv64")]
 impl Display for CallError {
     fn fmt(&self, f: &mut Formatter<'_>) -> Result {
         f.write_str(match self {
@@ -189,9 +191,11 @@ impl Display for CallError {
     }
 }
 
+#[cfg(feature = "riscv64")]
 impl Error for CallError {}
 
 // The same error where the cause is that of a call, so that it has no cause of its own.
+#[cfg(feature = "riscv64")]
 impl Display for JumpError {
     fn fmt(&self, f: &mut Formatter<'_>) -> Result {
         match self {
@@ -204,20 +208,24 @@ impl Display for JumpError {
     }
 }
 
+#[cfg(feature = "riscv64")]
 impl Error for JumpError {}
 
+#[cfg(feature = "riscv64")]
 impl Display for RejectedCall {
     fn fmt(&self, f: &mut Formatter<'_>) -> Result {
         write!(f, "the call at index {} does not become a jump", self.index)
     }
 }
 
+#[cfg(feature = "riscv64")]
 impl Error for RejectedCall {
     fn source(&self) -> Option<&(dyn Error + 'static)> {
         Some(&self.error)
     }
 }
 
+#[cfg(feature = "riscv64")]
 impl Display for PackError {
     fn fmt(&self, f: &mut Formatter<'_>) -> Result {
         match *self {
@@ -231,6 +239,7 @@ impl Display for PackError {
     }
 }
 
+#[cfg(feature = "riscv64")]
 impl Error for PackError {
     fn source(&self) -> Option<&(dyn Error + 'static)> {
         match self {

@@ -11,6 +11,24 @@
 #![allow(non_camel_case_types, reason = "a relocation has the name that its psABI gives it")]
 #![allow(unused_imports, unused_variables, reason = "some are there for contracts alone")]
 #![allow(clippy::complexity, clippy::style, reason = "the text is that of the proved source")]
+#![cfg_attr(
+    not(all(
+        feature = "aarch64",
+        feature = "loongarch64",
+        feature = "ppc64",
+        feature = "riscv64",
+        feature = "x86_64"
+    )),
+    allow(
+        dead_code,
+        irrefutable_let_patterns,
+        unreachable_code,
+        unreachable_patterns,
+        unused_macros,
+        unused_mut,
+        reason = "what is of several architectures, and of none that is compiled"
+    )
+)]
 
 extern crate alloc;
 
@@ -96,6 +114,7 @@ pub mod rewriting {
         AsDecision, Decision, FromDeletion, RewritingError, Subject,
     };
     pub use crate::linker_rewriting::facts::{OutputFacts, SymbolFacts};
+    #[cfg(feature = "riscv64")]
     pub use crate::linker_rewriting::global_pointer::{
         GPREL_I, GPREL_S, from_global_pointer, rewrite_global_pointer, survey_global_pointer,
     };
@@ -141,9 +160,14 @@ pub mod architecture;
 pub mod elf;
 pub mod relaxation;
 
+#[cfg(feature = "aarch64")]
 pub mod aarch64;
 pub use crate::linker_base::{bit_misc, utils};
+#[cfg(feature = "loongarch64")]
 pub mod loongarch64;
+#[cfg(feature = "ppc64")]
 pub mod ppc64;
+#[cfg(feature = "riscv64")]
 pub mod riscv64;
+#[cfg(feature = "x86_64")]
 pub mod x86_64;

@@ -4,6 +4,7 @@
 //! GOT, origins of thread-local storage, `e_flags`, lazy PLTs, and the code of stubs; how a branch
 //! goes, and where stubs stand.
 
+#[cfg(feature = "aarch64")]
 mod aarch64;
 pub mod addresses;
 mod codes;
@@ -14,10 +15,14 @@ pub mod got;
 pub mod layout;
 pub mod lazy_plt;
 mod lazy_plts;
+#[cfg(feature = "loongarch64")]
 mod loongarch64;
 pub mod placement;
+#[cfg(feature = "ppc64")]
 mod ppc64;
+#[cfg(feature = "riscv64")]
 mod riscv64;
 pub mod routes;
 pub mod stubs;
+#[cfg(feature = "x86_64")]
 mod x86_64;

@@ -10,6 +10,7 @@ mod codes;
 mod covered;
 pub mod decisions;
 pub mod facts;
+#[cfg(feature = "riscv64")]
 pub mod global_pointer;
 pub mod groups;
 pub mod kept;

@@ -5,8 +5,10 @@
 //! bytes that they lose.
 
 pub mod items;
+#[cfg(feature = "loongarch64")]
 mod loongarch64;
 pub mod packing;
 pub mod relaxation;
+#[cfg(feature = "riscv64")]
 mod riscv64;
 pub mod shapes;

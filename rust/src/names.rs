@@ -11,15 +11,19 @@
 //! # Ok::<(), linker_utils::names::UnknownName>(())
 //! ```
 
-use crate::aarch64::AArch64Relocation;
 use crate::elf::Architecture;
-use crate::loongarch64::LoongArch64Relocation;
-use crate::ppc64::Ppc64Relocation;
-use crate::riscv64::RiscVRelocation;
-use crate::x86_64::X86_64Relocation;
 use core::error::Error;
 use core::fmt::{Display, Formatter, Result as FmtResult};
 use core::str::FromStr;
+
+#[cfg(not(any(
+    feature = "aarch64",
+    feature = "loongarch64",
+    feature = "ppc64",
+    feature = "riscv64",
+    feature = "x86_64"
+)))]
+compile_error!("one of the features aarch64, loongarch64, ppc64, riscv64 and x86_64 is required");
 
 /// No relocation of the architecture has this name.
 #[derive(Debug, Clone, Copy, PartialEq, Eq, Hash)]
@@ -64,10 +68,15 @@ impl From<Architecture> for u16 {
 impl Display for Architecture {
     fn fmt(&self, f: &mut Formatter<'_>) -> FmtResult {
         f.pad(match self {
+            #[cfg(feature = "aarch64")]
             Architecture::AArch64 => "AArch64",
+            #[cfg(feature = "riscv64")]
             Architecture::RiscV => "RISC-V",
+            #[cfg(feature = "loongarch64")]
             Architecture::LoongArch64 => "LoongArch",
+            #[cfg(feature = "ppc64")]
             Architecture::Ppc64 => "PowerPC64",
+            #[cfg(feature = "x86_64")]
             Architecture::X86_64 => "x86-64",
         })
     }
@@ -77,7 +86,9 @@ impl Display for Architecture {
 const END: u32 = 2048;
 
 macro_rules! names {
-    ($($names:ident)*) => {$(
+    ($module:ident $names:ident) => {
+        use crate::$module::$names;
+
         impl $names {
             /// All relocations that have a name, by ascending code.
             pub const ALL: &[$names] = {
@@ -138,7 +149,16 @@ macro_rules! names {
                 $names::ALL.iter().find(|name| name.name() == text).copied().ok_or(UnknownName)
             }
         }
-    )*};
+    };
 }
 
-names! { AArch64Relocation LoongArch64Relocation Ppc64Relocation RiscVRelocation X86_64Relocation }
+#[cfg(feature = "aarch64")]
+names!(aarch64 AArch64Relocation);
+#[cfg(feature = "loongarch64")]
+names!(loongarch64 LoongArch64Relocation);
+#[cfg(feature = "ppc64")]
+names!(ppc64 Ppc64Relocation);
+#[cfg(feature = "riscv64")]
+names!(riscv64 RiscVRelocation);
+#[cfg(feature = "x86_64")]
+names!(x86_64 X86_64Relocation);

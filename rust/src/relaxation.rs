@@ -5,6 +5,7 @@
 //!
 #![doc = include_str!("../doc/relaxation.md")]
 
+#[cfg(feature = "riscv64")]
 pub use crate::riscv64::{
     AsChoice, Call, PackError, RejectedCall, calls_apart, calls_shrinkable, first_not_apart,
     first_not_shrinkable, pack_into, pack_section, packed_calls_reach_targets, packed_len,

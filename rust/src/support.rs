@@ -81,6 +81,16 @@ macro_rules! try_vec {
     };
 }
 
+/// Whether a value matches one of several patterns, of which some are of an architecture.
+macro_rules! matches_any {
+    ($value:expr, $($(#[$of:meta])* $pattern:pat $(if $guard:expr)?),+) => {
+        match $value {
+            $($(#[$of])* $pattern $(if $guard)? => true,)+
+            _ => false,
+        }
+    };
+}
+
 pub(crate) fn listed<T, const N: usize>(items: [T; N]) -> Result<Vec<T>, AllocError> {
     let mut list = Vec::fallible_with_capacity(N)?;
     list.extend(items);

@@ -15,9 +15,13 @@ mod relocate;
 pub(crate) mod rows;
 pub(crate) mod value;
 
+#[cfg(feature = "aarch64")]
 pub use crate::linker_elf::aarch64::AArch64Instruction;
+#[cfg(feature = "loongarch64")]
 pub use crate::linker_elf::loongarch64::LoongArch64Instruction;
+#[cfg(feature = "ppc64")]
 pub use crate::linker_elf::ppc64::Ppc64Instruction;
+#[cfg(feature = "riscv64")]
 pub use crate::linker_elf::riscv64::RiscVInstruction;
 pub use choice::{Choice, LinkFacts, OtherRelocation};
 pub use facts::{EntryUse, Length, RowFacts, Way};
@@ -45,18 +49,23 @@ pub const SIZE_4GB: u64 = 1 << 32;
 pub const PAGE_MASK_4KB: u64 = 0xfff;
 
 /// `e_machine` in the ELF header of AArch64's files (ELF specification, "ELF Header").
+#[cfg(feature = "aarch64")]
 pub const EM_AARCH64: u16 = 183;
 
 /// That of RISC-V's files.
+#[cfg(feature = "riscv64")]
 pub const EM_RISCV: u16 = 243;
 
 /// That of LoongArch's files.
+#[cfg(feature = "loongarch64")]
 pub const EM_LOONGARCH: u16 = 258;
 
 /// That of files of 64-bit Power.
+#[cfg(feature = "ppc64")]
 pub const EM_PPC64: u16 = 21;
 
 /// That of x86-64's files.
+#[cfg(feature = "x86_64")]
 pub const EM_X86_64: u16 = 62;
 
 /// The formula of a relocation's value. The letters are those of the psABIs: S is the symbol's
@@ -84,19 +93,24 @@ pub enum RelocationKind {
     AbsoluteSubtractionWord6,
     /// The second of a pair of RISC-V relocations that set a ULEB128 number to a difference of
     /// symbols.
+    #[cfg(feature = "riscv64")]
     PairSubtractionULEB128RiscV,
     /// The second of a pair of LoongArch relocations that add a difference of symbols to a ULEB128
     /// number.
+    #[cfg(feature = "loongarch64")]
     PairSubtractionULEB128LoongArch,
     /// S + A - P.
     Relative,
     /// The low 12 bits of the value of the high part that the symbol labels.
+    #[cfg(feature = "riscv64")]
     RelativeRiscVLow12,
     /// The high 32 bits of a LoongArch address relative to the place.
+    #[cfg(feature = "loongarch64")]
     RelativeLoongArchHigh,
     /// The GOT entry's address relative to the place.
     GotRelative,
     /// The high 32 bits of that, of LoongArch.
+    #[cfg(feature = "loongarch64")]
     GotRelativeLoongArch64,
     /// The GOT entry's address relative to the GOT.
     GotRelGotBase,
@@ -133,6 +147,7 @@ pub enum RelocationKind {
     /// The address of that entry relative to the GOT.
     GotTpOffGotBase,
     /// The high 32 bits of that entry's address relative to the place, of LoongArch.
+    #[cfg(feature = "loongarch64")]
     GotTpOffLoongArch64,
     /// The offset from the thread pointer.
     TpOff,
@@ -143,6 +158,7 @@ pub enum RelocationKind {
     /// The address of the TLS descriptor relative to the GOT.
     TlsDescGotBase,
     /// The high 32 bits of the descriptor's address relative to the place, of LoongArch.
+    #[cfg(feature = "loongarch64")]
     TlsDescLoongArch64,
     /// The call through a TLS descriptor; no value.
     TlsDescCall,
@@ -182,6 +198,7 @@ pub enum RelocationSize {
 
 impl RelocationSize {
     /// Bits `start` and up, below `end`, into an AArch64 instruction.
+    #[cfg(feature = "aarch64")]
     #[must_use]
     pub const fn bit_mask_aarch64(start: u8, end: u8, insn: AArch64Instruction) -> RelocationSize {
         RelocationSize::BitMasking {
@@ -191,6 +208,7 @@ impl RelocationSize {
     }
 
     /// Bits `start` and up, below `end`, into a RISC-V instruction.
+    #[cfg(feature = "riscv64")]
     #[must_use]
     pub const fn bit_mask_riscv(start: u8, end: u8, insn: RiscVInstruction) -> RelocationSize {
         RelocationSize::BitMasking {
@@ -200,6 +218,7 @@ impl RelocationSize {
     }
 
     /// Bits `start` and up, below `end`, into a PowerPC64 instruction.
+    #[cfg(feature = "ppc64")]
     #[must_use]
     pub const fn bit_mask_ppc64(start: u8, end: u8, insn: Ppc64Instruction) -> RelocationSize {
         RelocationSize::BitMasking {
@@ -209,6 +228,7 @@ impl RelocationSize {
     }
 
     /// Bits `start` and up, below `end`, into a LoongArch instruction.
+    #[cfg(feature = "loongarch64")]
     #[must_use]
     pub const fn bit_mask_loongarch64(start: u8, end: u8, insn: LoongArch64Instruction) -> RelocationSize {
         RelocationSize::BitMasking {
@@ -221,9 +241,13 @@ impl RelocationSize {
 /// An instruction form of one of the architectures.
 #[derive(Debug, Clone, Copy, PartialEq, Eq, Hash, PartialOrd, Ord)]
 pub enum RelocationInstruction {
+    #[cfg(feature = "aarch64")]
     AArch64(AArch64Instruction),
+    #[cfg(feature = "riscv64")]
     RiscV(RiscVInstruction),
+    #[cfg(feature = "ppc64")]
     Ppc64(Ppc64Instruction),
+    #[cfg(feature = "loongarch64")]
     LoongArch64(LoongArch64Instruction),
 }
 
@@ -443,9 +467,13 @@ impl InstructionForm for RelocationInstruction {
     #[inline]
     fn window(self) -> usize {
         match self {
+            #[cfg(feature = "aarch64")]
             RelocationInstruction::AArch64(insn) => insn.window(),
+            #[cfg(feature = "riscv64")]
             RelocationInstruction::RiscV(insn) => insn.window(),
+            #[cfg(feature = "ppc64")]
             RelocationInstruction::Ppc64(insn) => insn.window(),
+            #[cfg(feature = "loongarch64")]
             RelocationInstruction::LoongArch64(insn) => insn.window(),
         }
     }
@@ -455,9 +483,13 @@ impl InstructionForm for RelocationInstruction {
     fn fits(self, value: u64, bytes: &[u8]) -> bool {
         debug_assert!(self.window() <= bytes.len());
         match self {
+            #[cfg(feature = "aarch64")]
             RelocationInstruction::AArch64(insn) => insn.fits(value, bytes),
+            #[cfg(feature = "riscv64")]
             RelocationInstruction::RiscV(insn) => insn.fits(value, bytes),
+            #[cfg(feature = "ppc64")]
             RelocationInstruction::Ppc64(insn) => insn.fits(value, bytes),
+            #[cfg(feature = "loongarch64")]
             RelocationInstruction::LoongArch64(insn) => insn.fits(value, bytes),
         }
     }
@@ -468,9 +500,13 @@ impl InstructionForm for RelocationInstruction {
         debug_assert!(self.window() <= dest.len());
         debug_assert!(self.fits(value, dest));
         match self {
+            #[cfg(feature = "aarch64")]
             RelocationInstruction::AArch64(insn) => insn.write(value, negative, dest),
+            #[cfg(feature = "riscv64")]
             RelocationInstruction::RiscV(insn) => insn.write(value, negative, dest),
+            #[cfg(feature = "ppc64")]
             RelocationInstruction::Ppc64(insn) => insn.write(value, negative, dest),
+            #[cfg(feature = "loongarch64")]
             RelocationInstruction::LoongArch64(insn) => insn.write(value, negative, dest),
         }
     }
@@ -480,9 +516,13 @@ impl InstructionForm for RelocationInstruction {
     fn read(self, bytes: &[u8]) -> (u64, bool) {
         debug_assert!(self.window() <= bytes.len());
         match self {
+            #[cfg(feature = "aarch64")]
             RelocationInstruction::AArch64(insn) => insn.read(bytes),
+            #[cfg(feature = "riscv64")]
             RelocationInstruction::RiscV(insn) => insn.read(bytes),
+            #[cfg(feature = "ppc64")]
             RelocationInstruction::Ppc64(insn) => insn.read(bytes),
+            #[cfg(feature = "loongarch64")]
             RelocationInstruction::LoongArch64(insn) => insn.read(bytes),
         }
     }

@@ -8,7 +8,16 @@ use crate::linker_output::flags::FlagRules;
 use crate::linker_output::got::{GotLayout, ThreadPointer};
 use crate::linker_output::layout::{CodeUnit, Interpreter, ProvidedRun, ProvidedSymbol};
 use crate::linker_output::stubs::Stub;
-use crate::linker_output::{aarch64, loongarch64, ppc64, riscv64, x86_64};
+#[cfg(feature = "aarch64")]
+use crate::linker_output::aarch64;
+#[cfg(feature = "loongarch64")]
+use crate::linker_output::loongarch64;
+#[cfg(feature = "ppc64")]
+use crate::linker_output::ppc64;
+#[cfg(feature = "riscv64")]
+use crate::linker_output::riscv64;
+#[cfg(feature = "x86_64")]
+use crate::linker_output::x86_64;
 use crate::elf::Architecture;
 
 /// What a linker adds to an output of an architecture, in numbers and texts.
@@ -66,10 +75,15 @@ impl Target {
     #[must_use]
     pub fn of(architecture: Architecture) -> &'static Target {
         match architecture {
+            #[cfg(feature = "aarch64")]
             Architecture::AArch64 => &aarch64::TARGET,
+            #[cfg(feature = "riscv64")]
             Architecture::RiscV => &riscv64::TARGET,
+            #[cfg(feature = "loongarch64")]
             Architecture::LoongArch64 => &loongarch64::TARGET,
+            #[cfg(feature = "ppc64")]
             Architecture::Ppc64 => &ppc64::TARGET,
+            #[cfg(feature = "x86_64")]
             Architecture::X86_64 => &x86_64::TARGET,
         }
     }

@@ -194,10 +194,15 @@ impl LazyPlt {
     #[must_use]
     pub fn of(architecture: Architecture) -> &'static LazyPlt {
         match architecture {
+            #[cfg(feature = "aarch64")]
             Architecture::AArch64 => &lazy_plts::AARCH64,
+            #[cfg(feature = "riscv64")]
             Architecture::RiscV => &lazy_plts::RISCV64,
+            #[cfg(feature = "loongarch64")]
             Architecture::LoongArch64 => &lazy_plts::LOONGARCH64,
+            #[cfg(feature = "ppc64")]
             Architecture::Ppc64 => &lazy_plts::PPC64,
+            #[cfg(feature = "x86_64")]
             Architecture::X86_64 => &lazy_plts::X86_64,
         }
     }

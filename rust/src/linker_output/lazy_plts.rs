@@ -77,6 +77,7 @@ macro_rules! opcode {
 }
 
 /// AArch64.
+#[cfg(feature = "aarch64")]
 pub(crate) static AARCH64: LazyPlt = LazyPlt {
     instructions: Architecture::AArch64,
     alignment: 16,
@@ -99,6 +100,7 @@ pub(crate) static AARCH64: LazyPlt = LazyPlt {
 };
 
 /// LoongArch.
+#[cfg(feature = "loongarch64")]
 pub(crate) static LOONGARCH64: LazyPlt = LazyPlt {
     instructions: Architecture::LoongArch64,
     alignment: 16,
@@ -121,6 +123,7 @@ pub(crate) static LOONGARCH64: LazyPlt = LazyPlt {
 };
 
 /// PowerPC64.
+#[cfg(feature = "ppc64")]
 pub(crate) static PPC64: LazyPlt = LazyPlt {
     instructions: Architecture::Ppc64,
     alignment: 4,
@@ -143,6 +146,7 @@ pub(crate) static PPC64: LazyPlt = LazyPlt {
 };
 
 /// RISC-V.
+#[cfg(feature = "riscv64")]
 pub(crate) static RISCV64: LazyPlt = LazyPlt {
     instructions: Architecture::RiscV,
     alignment: 16,
@@ -165,6 +169,7 @@ pub(crate) static RISCV64: LazyPlt = LazyPlt {
 };
 
 /// x86-64.
+#[cfg(feature = "x86_64")]
 pub(crate) static X86_64: LazyPlt = LazyPlt {
     instructions: Architecture::X86_64,
     alignment: 16,

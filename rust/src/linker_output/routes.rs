@@ -11,9 +11,15 @@ use crate::linker_section::needed::needs;
 use crate::linker_section::relocations::Rela;
 use crate::linker_section::values::{ValueError, value};
 use crate::elf::{
-    AArch64Instruction, Architecture, LoongArch64Instruction, Ppc64Instruction, RelocateError,
-    RelocationInstruction, RelocationKind, RelocationSize, Row,
+    Architecture, RelocateError, RelocationInstruction, RelocationKind, RelocationSize, Row,
 };
+#[cfg(feature = "aarch64")]
+use crate::elf::AArch64Instruction;
+#[cfg(feature = "loongarch64")]
+use crate::elf::LoongArch64Instruction;
+#[cfg(feature = "ppc64")]
+use crate::elf::Ppc64Instruction;
+#[cfg(feature = "ppc64")]
 use crate::ppc64::Ppc64Relocation;
 
 /// How a branch goes.
@@ -67,11 +73,14 @@ fn has_call_form(size: RelocationSize) -> bool {
     let RelocationSize::BitMasking { insn, .. } = size else {
         return false;
     };
-    matches!(
+    matches_any!(
         insn,
-        RelocationInstruction::AArch64(AArch64Instruction::JumpCall)
-            | RelocationInstruction::LoongArch64(LoongArch64Instruction::Branch26)
-            | RelocationInstruction::Ppc64(Ppc64Instruction::Branch24)
+        #[cfg(feature = "aarch64")]
+        RelocationInstruction::AArch64(AArch64Instruction::JumpCall),
+        #[cfg(feature = "loongarch64")]
+        RelocationInstruction::LoongArch64(LoongArch64Instruction::Branch26),
+        #[cfg(feature = "ppc64")]
+        RelocationInstruction::Ppc64(Ppc64Instruction::Branch24)
     )
 }
 
@@ -79,6 +88,7 @@ fn has_call_form(size: RelocationSize) -> bool {
 #[inline(always)]
 fn has_toc(architecture: Architecture, code: u32) -> bool {
     match architecture {
+        #[cfg(feature = "ppc64")]
         Architecture::Ppc64 => {
             code == Ppc64Relocation::R_PPC64_REL24.elf_code()
                 || code == Ppc64Relocation::R_PPC64_REL14.elf_code()
@@ -91,6 +101,7 @@ fn has_toc(architecture: Architecture, code: u32) -> bool {
 #[inline(always)]
 fn has_no_toc(architecture: Architecture, code: u32) -> bool {
     match architecture {
+        #[cfg(feature = "ppc64")]
         Architecture::Ppc64 => code == Ppc64Relocation::R_PPC64_REL24_NOTOC.elf_code(),
         _ => false,
     }

@@ -2,18 +2,25 @@
 // Made by tools/erase of crates/linker_reading/src/operands.rt.
 //! Which forms the immediate of an instruction has, and the number that the machine makes of it.
 
+#[cfg(feature = "aarch64")]
 mod aarch64;
+#[cfg(feature = "loongarch64")]
 mod loongarch64;
+#[cfg(feature = "ppc64")]
 mod ppc64;
+#[cfg(feature = "riscv64")]
 mod riscv64;
 
 use crate::linker_reading::reading::{number_held, number_of_bytes};
 use crate::linker_base::bit_misc::BitExtraction;
 use crate::linker_base::utils::u32_from_slice;
-use crate::linker_elf::elf::{
-    AArch64Instruction, InstructionForm, LoongArch64Instruction, Ppc64Instruction,
-    RelocationInstruction,
-};
+use crate::linker_elf::elf::{InstructionForm, RelocationInstruction};
+#[cfg(feature = "aarch64")]
+use crate::linker_elf::elf::AArch64Instruction;
+#[cfg(feature = "loongarch64")]
+use crate::linker_elf::elf::LoongArch64Instruction;
+#[cfg(feature = "ppc64")]
+use crate::linker_elf::elf::Ppc64Instruction;
 use crate::elf::Architecture;
 
 /// Which registers of two instructions have to be the same: the destination of the first, and the
@@ -61,10 +68,15 @@ pub(crate) use encoding;
 /// The encodings of an architecture. x86-64's values are whole bytes, which no form has.
 fn encodings(architecture: Architecture) -> &'static [Encoding] {
     match architecture {
+        #[cfg(feature = "aarch64")]
         Architecture::AArch64 => aarch64::ENCODINGS,
+        #[cfg(feature = "riscv64")]
         Architecture::RiscV => riscv64::ENCODINGS,
+        #[cfg(feature = "loongarch64")]
         Architecture::LoongArch64 => loongarch64::ENCODINGS,
+        #[cfg(feature = "ppc64")]
         Architecture::Ppc64 => ppc64::ENCODINGS,
+        #[cfg(feature = "x86_64")]
         Architecture::X86_64 => &[],
     }
 }
@@ -130,9 +142,13 @@ pub fn forms_of(architecture: Architecture, bytes: &[u8]) -> &'static [Relocatio
 /// Whose forms these are.
 fn architecture_of(form: RelocationInstruction) -> Architecture {
     match form {
+        #[cfg(feature = "aarch64")]
         RelocationInstruction::AArch64(_) => Architecture::AArch64,
+        #[cfg(feature = "riscv64")]
         RelocationInstruction::RiscV(_) => Architecture::RiscV,
+        #[cfg(feature = "ppc64")]
         RelocationInstruction::Ppc64(_) => Architecture::Ppc64,
+        #[cfg(feature = "loongarch64")]
         RelocationInstruction::LoongArch64(_) => Architecture::LoongArch64,
     }
 }
@@ -158,9 +174,11 @@ fn is_one_of(form: RelocationInstruction, forms: &'static [RelocationInstruction
 /// The number in an immediate, modulo 2^64.
 fn immediate_number(form: RelocationInstruction, bytes: &[u8]) -> u64 {
     match form {
+        #[cfg(feature = "aarch64")]
         RelocationInstruction::AArch64(AArch64Instruction::Movnz) => {
             aarch64::moved_number(u32_from_slice(bytes) as u64)
         }
+        #[cfg(feature = "loongarch64")]
         RelocationInstruction::LoongArch64(LoongArch64Instruction::Shift10) => {
             loongarch64::shift10_number(u32_from_slice(bytes) as u64)
         }
@@ -171,12 +189,19 @@ fn immediate_number(form: RelocationInstruction, bytes: &[u8]) -> u64 {
 /// Log2 of what an immediate counts.
 fn scale_of(form: RelocationInstruction, bytes: &[u8]) -> u64 {
     match form {
+        #[cfg(feature = "aarch64")]
         RelocationInstruction::AArch64(form) => aarch64::scale(form, u32_from_slice(bytes) as u64),
+        #[cfg(feature = "riscv64")]
         RelocationInstruction::RiscV(_) => 0,
+        #[cfg(feature = "ppc64")]
         RelocationInstruction::Ppc64(Ppc64Instruction::Prefixed) => 0,
+        #[cfg(feature = "ppc64")]
         RelocationInstruction::Ppc64(form) => ppc64::scale(form, u32_from_slice(bytes) as u64),
+        #[cfg(feature = "loongarch64")]
         RelocationInstruction::LoongArch64(LoongArch64Instruction::Call30) => 0,
+        #[cfg(feature = "loongarch64")]
         RelocationInstruction::LoongArch64(LoongArch64Instruction::Call36) => 2,
+        #[cfg(feature = "loongarch64")]
         RelocationInstruction::LoongArch64(form) => {
             loongarch64::scale(form, u32_from_slice(bytes) as u64)
         }

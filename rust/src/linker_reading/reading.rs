@@ -2,31 +2,44 @@
 // Made by tools/erase of crates/linker_reading/src/reading.rt.
 //! The value of a relocation, read from the bytes at its place.
 
+#[cfg(feature = "aarch64")]
 mod aarch64;
+#[cfg(feature = "loongarch64")]
 mod loongarch64;
+#[cfg(feature = "ppc64")]
 mod ppc64;
+#[cfg(feature = "riscv64")]
 mod riscv64;
 
 use crate::linker_reading::fields::{FieldValue, bits_of, power_of_two};
 use crate::linker_base::bit_misc::{BitExtraction, BitRange};
 use crate::linker_base::utils::u32_from_slice;
 use crate::linker_elf::elf::{
-    AArch64Instruction, AllowedRange, LoongArch64Instruction, Ppc64Instruction,
-    RelocationInstruction, RelocationKind, RelocationKindInfo, RelocationSize, RiscVInstruction,
-    Row, Sign,
+    AllowedRange, RelocationInstruction, RelocationKind, RelocationKindInfo, RelocationSize, Row,
+    Sign,
 };
+#[cfg(feature = "aarch64")]
+use crate::linker_elf::elf::AArch64Instruction;
+#[cfg(feature = "loongarch64")]
+use crate::linker_elf::elf::LoongArch64Instruction;
+#[cfg(feature = "ppc64")]
+use crate::linker_elf::elf::Ppc64Instruction;
+#[cfg(feature = "riscv64")]
+use crate::linker_elf::elf::RiscVInstruction;
 
 /// Whether bytes hold the value, or its low bits, and not a sum of it and what stood there.
 #[inline(always)]
 fn holds_value(kind: RelocationKind) -> bool {
-    !matches!(
+    !matches_any!(
         kind,
         RelocationKind::AbsoluteAddition
             | RelocationKind::AbsoluteAdditionWord6
             | RelocationKind::AbsoluteSubtraction
-            | RelocationKind::AbsoluteSubtractionWord6
-            | RelocationKind::PairSubtractionULEB128RiscV
-            | RelocationKind::PairSubtractionULEB128LoongArch
+            | RelocationKind::AbsoluteSubtractionWord6,
+        #[cfg(feature = "loongarch64")]
+        RelocationKind::PairSubtractionULEB128LoongArch,
+        #[cfg(feature = "riscv64")]
+        RelocationKind::PairSubtractionULEB128RiscV
     )
 }
 
@@ -34,13 +47,18 @@ fn holds_value(kind: RelocationKind) -> bool {
 #[inline(always)]
 fn holds_bits(insn: RelocationInstruction, bits: BitRange) -> bool {
     match insn {
+        #[cfg(feature = "aarch64")]
         RelocationInstruction::AArch64(AArch64Instruction::Movnz) => {
             bits.end as u32 == bits.start as u32 + 16
         }
-        RelocationInstruction::AArch64(AArch64Instruction::MachOLow12)
-        | RelocationInstruction::LoongArch64(LoongArch64Instruction::Call30) => false,
-        RelocationInstruction::RiscV(RiscVInstruction::UType | RiscVInstruction::CluiType)
-        | RelocationInstruction::Ppc64(Ppc64Instruction::Ds) => bits.start == 0,
+        #[cfg(feature = "aarch64")]
+        RelocationInstruction::AArch64(AArch64Instruction::MachOLow12) => false,
+        #[cfg(feature = "loongarch64")]
+        RelocationInstruction::LoongArch64(LoongArch64Instruction::Call30) => false,
+        #[cfg(feature = "ppc64")]
+        RelocationInstruction::Ppc64(Ppc64Instruction::Ds) => bits.start == 0,
+        #[cfg(feature = "riscv64")]
+        RelocationInstruction::RiscV(RiscVInstruction::UType | RiscVInstruction::CluiType) => bits.start == 0,
         _ => true,
     }
 }
@@ -49,9 +67,13 @@ fn holds_bits(insn: RelocationInstruction, bits: BitRange) -> bool {
 #[inline(always)]
 pub(crate) fn number_held(insn: RelocationInstruction, bytes: &[u8]) -> u64 {
     match insn {
+        #[cfg(feature = "aarch64")]
         RelocationInstruction::AArch64(insn) => aarch64::number(insn, bytes),
+        #[cfg(feature = "riscv64")]
         RelocationInstruction::RiscV(insn) => riscv64::number(insn, bytes),
+        #[cfg(feature = "ppc64")]
         RelocationInstruction::Ppc64(insn) => ppc64::number(insn, bytes),
+        #[cfg(feature = "loongarch64")]
         RelocationInstruction::LoongArch64(insn) => loongarch64::number(insn, bytes),
     }
 }
@@ -84,6 +106,7 @@ fn bits_within(immediate: BitRange, bits: BitRange) -> BitRange {
 #[inline(always)]
 fn bits_held(insn: RelocationInstruction, bits: BitRange, reach: AllowedRange) -> BitRange {
     match insn {
+        #[cfg(feature = "aarch64")]
         RelocationInstruction::AArch64(AArch64Instruction::Movnz) => {
             if bits.end < 49 && are_signed(bits.end as u32 + 1, reach) {
                 BitRange {
@@ -120,6 +143,7 @@ fn holds_field(kind: RelocationKind, size: RelocationSize, reach: AllowedRange) 
 #[inline(always)]
 fn rounding_of(insn: RelocationInstruction) -> u64 {
     match insn {
+        #[cfg(feature = "riscv64")]
         RelocationInstruction::RiscV(RiscVInstruction::UType | RiscVInstruction::CluiType) => 0x800,
         _ => 0,
     }
@@ -285,9 +309,13 @@ pub fn read(row: &Row, bytes: &[u8]) -> Option<FieldValue> {
     match row.info().size {
         RelocationSize::ByteSize(_) => read_as(row, bytes),
         RelocationSize::BitMasking { insn, .. } => match insn {
+            #[cfg(feature = "aarch64")]
             RelocationInstruction::AArch64(_) => read_as(row, bytes),
+            #[cfg(feature = "riscv64")]
             RelocationInstruction::RiscV(_) => read_as(row, bytes),
+            #[cfg(feature = "ppc64")]
             RelocationInstruction::Ppc64(_) => read_as(row, bytes),
+            #[cfg(feature = "loongarch64")]
             RelocationInstruction::LoongArch64(_) => read_as(row, bytes),
         },
     }

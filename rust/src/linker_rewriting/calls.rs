@@ -6,8 +6,10 @@
 use crate::linker_rewriting::facts::{SymbolFacts, may_change_toc};
 use crate::linker_rewriting::phases::Phase;
 use crate::linker_section::relocations::Rela;
+#[cfg(feature = "aarch64")]
 use crate::aarch64::AArch64Relocation;
 use crate::elf::Architecture;
+#[cfg(feature = "ppc64")]
 use crate::ppc64::Ppc64Relocation;
 
 /// Whether the symbol at an index is undefined and weak.
@@ -30,6 +32,7 @@ fn changes_toc(symbols: &[SymbolFacts], symbol: u32) -> bool {
 
 /// Whether a relocation of AArch64 is of a branch that is no `nop`: only one to what is undefined
 /// and weak becomes one.
+#[cfg(feature = "aarch64")]
 #[inline(always)]
 fn aarch64_keeps(symbols: &[SymbolFacts], relocation: &Rela) -> bool {
     let is_call = relocation.code == AArch64Relocation::R_AARCH64_CALL26.elf_code();
@@ -38,6 +41,7 @@ fn aarch64_keeps(symbols: &[SymbolFacts], relocation: &Rela) -> bool {
 }
 
 /// Whether a relocation of PowerPC64 is of a call that returns with the same TOC pointer.
+#[cfg(feature = "ppc64")]
 #[inline(always)]
 fn ppc64_keeps(symbols: &[SymbolFacts], relocation: &Rela) -> bool {
     let is_call = relocation.code == Ppc64Relocation::R_PPC64_REL24.elf_code();
@@ -53,7 +57,9 @@ pub(crate) fn keeps_call(
     relocation: &Rela,
 ) -> bool {
     match (phase, architecture) {
+        #[cfg(feature = "aarch64")]
         (Phase::Early, Architecture::AArch64) => aarch64_keeps(symbols, relocation),
+        #[cfg(feature = "ppc64")]
         (Phase::Early, Architecture::Ppc64) => ppc64_keeps(symbols, relocation),
         _ => false,
     }

@@ -14,10 +14,15 @@ use crate::elf::Architecture;
 macro_rules! of_each {
     ($architecture:expr, $phase:expr, $call:ident $given:tt) => {
         match $architecture {
+            #[cfg(feature = "aarch64")]
             Architecture::AArch64 => of_each!(of $phase, AArch64, $call $given),
+            #[cfg(feature = "riscv64")]
             Architecture::RiscV => of_each!(of $phase, RiscV, $call $given),
+            #[cfg(feature = "loongarch64")]
             Architecture::LoongArch64 => of_each!(of $phase, LoongArch64, $call $given),
+            #[cfg(feature = "ppc64")]
             Architecture::Ppc64 => of_each!(of $phase, Ppc64, $call $given),
+            #[cfg(feature = "x86_64")]
             Architecture::X86_64 => of_each!(of $phase, X86_64, $call $given),
         }
     };

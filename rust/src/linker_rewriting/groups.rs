@@ -4,11 +4,16 @@
 //! are rewritten, or none is.
 
 use crate::linker_rewriting::phases::Phase;
+#[cfg(feature = "aarch64")]
 use crate::aarch64::AArch64Relocation;
 use crate::elf::Architecture;
+#[cfg(feature = "loongarch64")]
 use crate::loongarch64::LoongArch64Relocation;
+#[cfg(feature = "ppc64")]
 use crate::ppc64::Ppc64Relocation;
+#[cfg(feature = "riscv64")]
 use crate::riscv64::RiscVRelocation;
+#[cfg(feature = "x86_64")]
 use crate::x86_64::X86_64Relocation;
 
 /// A kind of groups. The relocations of a group are those of one kind and one symbol in an object,
@@ -111,14 +116,18 @@ impl KeptGroups {
 }
 
 /// The scope of a relocation of AArch64.
+#[cfg(feature = "aarch64")]
 #[inline(always)]
 fn aarch64_scope(name: AArch64Relocation) -> Scope {
     match name {
+        #[cfg(feature = "aarch64")]
         AArch64Relocation::R_AARCH64_CALL26 | AArch64Relocation::R_AARCH64_JUMP26 => Scope::Alone,
+        #[cfg(feature = "aarch64")]
         AArch64Relocation::R_AARCH64_TLSIE_ADR_GOTTPREL_PAGE21
         | AArch64Relocation::R_AARCH64_TLSIE_LD64_GOTTPREL_LO12_NC => {
             Scope::Grouped(Group::InitialExec)
         }
+        #[cfg(feature = "aarch64")]
         AArch64Relocation::R_AARCH64_TLSDESC_ADR_PAGE21
         | AArch64Relocation::R_AARCH64_TLSDESC_LD64_LO12
         | AArch64Relocation::R_AARCH64_TLSDESC_ADD_LO12
@@ -128,15 +137,19 @@ fn aarch64_scope(name: AArch64Relocation) -> Scope {
 }
 
 /// That of a relocation of LoongArch.
+#[cfg(feature = "loongarch64")]
 #[inline(always)]
 fn loongarch_scope(name: LoongArch64Relocation) -> Scope {
     match name {
+        #[cfg(feature = "loongarch64")]
         LoongArch64Relocation::R_LARCH_GOT_PC_HI20 | LoongArch64Relocation::R_LARCH_GOT_PC_LO12 =>
             Scope::Alone,
+        #[cfg(feature = "loongarch64")]
         LoongArch64Relocation::R_LARCH_TLS_IE_PC_HI20
         | LoongArch64Relocation::R_LARCH_TLS_IE_PC_LO12
         | LoongArch64Relocation::R_LARCH_TLS_IE64_PC_LO20
         | LoongArch64Relocation::R_LARCH_TLS_IE64_PC_HI12 => Scope::Grouped(Group::InitialExec),
+        #[cfg(feature = "loongarch64")]
         LoongArch64Relocation::R_LARCH_TLS_DESC_PC_HI20
         | LoongArch64Relocation::R_LARCH_TLS_DESC_PC_LO12
         | LoongArch64Relocation::R_LARCH_TLS_DESC64_PC_LO20
@@ -148,28 +161,34 @@ fn loongarch_scope(name: LoongArch64Relocation) -> Scope {
 }
 
 /// That of a relocation of PowerPC64.
+#[cfg(feature = "ppc64")]
 #[inline(always)]
 fn ppc64_scope(name: Ppc64Relocation) -> Scope {
     match name {
+        #[cfg(feature = "ppc64")]
         Ppc64Relocation::R_PPC64_REL24 | Ppc64Relocation::R_PPC64_GOT_PCREL34 => Scope::Alone,
+        #[cfg(feature = "ppc64")]
         Ppc64Relocation::R_PPC64_GOT16
         | Ppc64Relocation::R_PPC64_GOT16_DS
         | Ppc64Relocation::R_PPC64_GOT16_LO
         | Ppc64Relocation::R_PPC64_GOT16_LO_DS
         | Ppc64Relocation::R_PPC64_GOT16_HI
         | Ppc64Relocation::R_PPC64_GOT16_HA => Scope::Grouped(Group::GotLoad),
+        #[cfg(feature = "ppc64")]
         Ppc64Relocation::R_PPC64_GOT_TPREL16_DS
         | Ppc64Relocation::R_PPC64_GOT_TPREL16_LO_DS
         | Ppc64Relocation::R_PPC64_GOT_TPREL16_HI
         | Ppc64Relocation::R_PPC64_GOT_TPREL16_HA
         | Ppc64Relocation::R_PPC64_GOT_TPREL_PCREL34
         | Ppc64Relocation::R_PPC64_TLS => Scope::Grouped(Group::InitialExec),
+        #[cfg(feature = "ppc64")]
         Ppc64Relocation::R_PPC64_GOT_TLSGD16
         | Ppc64Relocation::R_PPC64_GOT_TLSGD16_LO
         | Ppc64Relocation::R_PPC64_GOT_TLSGD16_HI
         | Ppc64Relocation::R_PPC64_GOT_TLSGD16_HA
         | Ppc64Relocation::R_PPC64_GOT_TLSGD_PCREL34
         | Ppc64Relocation::R_PPC64_TLSGD => Scope::Grouped(Group::GeneralDynamic),
+        #[cfg(feature = "ppc64")]
         Ppc64Relocation::R_PPC64_GOT_TLSLD16
         | Ppc64Relocation::R_PPC64_GOT_TLSLD16_LO
         | Ppc64Relocation::R_PPC64_GOT_TLSLD16_HI
@@ -181,9 +200,11 @@ fn ppc64_scope(name: Ppc64Relocation) -> Scope {
 }
 
 /// That of a relocation of x86-64.
+#[cfg(feature = "x86_64")]
 #[inline(always)]
 fn x86_64_scope(name: X86_64Relocation) -> Scope {
     match name {
+        #[cfg(feature = "x86_64")]
         X86_64Relocation::R_X86_64_GOTPCREL
         | X86_64Relocation::R_X86_64_GOTPCRELX
         | X86_64Relocation::R_X86_64_REX_GOTPCRELX
@@ -193,9 +214,11 @@ fn x86_64_scope(name: X86_64Relocation) -> Scope {
         | X86_64Relocation::R_X86_64_CODE_4_GOTTPOFF
         | X86_64Relocation::R_X86_64_CODE_6_GOTTPOFF
         | X86_64Relocation::R_X86_64_TLSGD => Scope::Alone,
+        #[cfg(feature = "x86_64")]
         X86_64Relocation::R_X86_64_TLSLD
         | X86_64Relocation::R_X86_64_DTPOFF32
         | X86_64Relocation::R_X86_64_DTPOFF64 => Scope::Grouped(Group::LocalDynamic),
+        #[cfg(feature = "x86_64")]
         X86_64Relocation::R_X86_64_GOTPC32_TLSDESC
         | X86_64Relocation::R_X86_64_CODE_4_GOTPC32_TLSDESC
         | X86_64Relocation::R_X86_64_CODE_5_GOTPC32_TLSDESC
@@ -206,17 +229,21 @@ fn x86_64_scope(name: X86_64Relocation) -> Scope {
 }
 
 /// The scope of a relocation of AArch64 in a phase.
+#[cfg(feature = "aarch64")]
 #[inline(always)]
 fn aarch64_scope_in(phase: Phase, name: AArch64Relocation) -> Scope {
     match phase {
         Phase::Early => aarch64_scope(name),
         Phase::GotLoads => match name {
+            #[cfg(feature = "aarch64")]
             AArch64Relocation::R_AARCH64_ADR_GOT_PAGE
             | AArch64Relocation::R_AARCH64_LD64_GOT_LO12_NC => Scope::Grouped(Group::GotLoad),
             _ => Scope::Unlisted,
         },
         Phase::Distances => match name {
+            #[cfg(feature = "aarch64")]
             AArch64Relocation::R_AARCH64_ADR_PREL_PG_HI21 => Scope::Ahead,
+            #[cfg(feature = "aarch64")]
             AArch64Relocation::R_AARCH64_ADD_ABS_LO12_NC => Scope::Alone,
             _ => Scope::Unlisted,
         },
@@ -225,14 +252,17 @@ fn aarch64_scope_in(phase: Phase, name: AArch64Relocation) -> Scope {
 }
 
 /// That of a relocation of RISC-V, whose rewrites all wait for addresses.
+#[cfg(feature = "riscv64")]
 #[inline(always)]
 fn riscv_scope_in(phase: Phase, name: RiscVRelocation) -> Scope {
     match phase {
         Phase::ThreadOffsets => match name {
+            #[cfg(feature = "riscv64")]
             RiscVRelocation::R_RISCV_TPREL_HI20
             | RiscVRelocation::R_RISCV_TPREL_ADD
             | RiscVRelocation::R_RISCV_TPREL_LO12_I
             | RiscVRelocation::R_RISCV_TPREL_LO12_S => Scope::Grouped(Group::InitialExec),
+            #[cfg(feature = "riscv64")]
             RiscVRelocation::R_RISCV_TLSDESC_HI20
             | RiscVRelocation::R_RISCV_TLSDESC_LOAD_LO12
             | RiscVRelocation::R_RISCV_TLSDESC_ADD_LO12
@@ -240,6 +270,7 @@ fn riscv_scope_in(phase: Phase, name: RiscVRelocation) -> Scope {
             _ => Scope::Unlisted,
         },
         Phase::GotLoads => match name {
+            #[cfg(feature = "riscv64")]
             RiscVRelocation::R_RISCV_GOT_HI20
             | RiscVRelocation::R_RISCV_PCREL_LO12_I
             | RiscVRelocation::R_RISCV_PCREL_LO12_S => Scope::Labelled,
@@ -250,11 +281,13 @@ fn riscv_scope_in(phase: Phase, name: RiscVRelocation) -> Scope {
 }
 
 /// That of a relocation of LoongArch.
+#[cfg(feature = "loongarch64")]
 #[inline(always)]
 fn loongarch_scope_in(phase: Phase, name: LoongArch64Relocation) -> Scope {
     match phase {
         Phase::Early => loongarch_scope(name),
         Phase::ThreadOffsets => match name {
+            #[cfg(feature = "loongarch64")]
             LoongArch64Relocation::R_LARCH_TLS_LE_HI20_R
             | LoongArch64Relocation::R_LARCH_TLS_LE_ADD_R
             | LoongArch64Relocation::R_LARCH_TLS_LE_LO12_R => Scope::Grouped(Group::InitialExec),
@@ -265,17 +298,20 @@ fn loongarch_scope_in(phase: Phase, name: LoongArch64Relocation) -> Scope {
 }
 
 /// That of a relocation of PowerPC64.
+#[cfg(feature = "ppc64")]
 #[inline(always)]
 fn ppc64_scope_in(phase: Phase, name: Ppc64Relocation) -> Scope {
     match phase {
         Phase::Early => ppc64_scope(name),
         Phase::ThreadOffsets => match name {
+            #[cfg(feature = "ppc64")]
             Ppc64Relocation::R_PPC64_TPREL16_HA
             | Ppc64Relocation::R_PPC64_TPREL16_LO
             | Ppc64Relocation::R_PPC64_TPREL16_LO_DS => Scope::Grouped(Group::InitialExec),
             _ => Scope::Unlisted,
         },
         Phase::Distances => match name {
+            #[cfg(feature = "ppc64")]
             Ppc64Relocation::R_PPC64_TOC16_HA
             | Ppc64Relocation::R_PPC64_TOC16_LO
             | Ppc64Relocation::R_PPC64_TOC16_LO_DS => Scope::Matched(Group::GotLoad),
@@ -286,6 +322,7 @@ fn ppc64_scope_in(phase: Phase, name: Ppc64Relocation) -> Scope {
 }
 
 /// That of a relocation of x86-64, whose rewrites all are made before addresses are known.
+#[cfg(feature = "x86_64")]
 #[inline(always)]
 fn x86_64_scope_in(phase: Phase, name: X86_64Relocation) -> Scope {
     match phase {
@@ -310,12 +347,17 @@ fn x86_64_scope_in(phase: Phase, name: X86_64Relocation) -> Scope {
 #[inline(always)]
 pub fn scope_in(architecture: Architecture, phase: Phase, code: u32) -> Scope {
     match architecture {
+        #[cfg(feature = "aarch64")]
         Architecture::AArch64 => aarch64_scope_in(phase, AArch64Relocation::from_elf(code)),
+        #[cfg(feature = "loongarch64")]
         Architecture::LoongArch64 => {
             loongarch_scope_in(phase, LoongArch64Relocation::from_elf(code))
         }
+        #[cfg(feature = "ppc64")]
         Architecture::Ppc64 => ppc64_scope_in(phase, Ppc64Relocation::from_elf(code)),
+        #[cfg(feature = "x86_64")]
         Architecture::X86_64 => x86_64_scope_in(phase, X86_64Relocation::from_elf(code)),
+        #[cfg(feature = "riscv64")]
         Architecture::RiscV => riscv_scope_in(phase, RiscVRelocation::from_elf(code)),
     }
 }
@@ -324,10 +366,15 @@ pub fn scope_in(architecture: Architecture, phase: Phase, code: u32) -> Scope {
 #[inline(always)]
 fn is_listed(architecture: Architecture, phase: Phase) -> bool {
     match architecture {
+        #[cfg(feature = "aarch64")]
         Architecture::AArch64 => !matches!(phase, Phase::ThreadOffsets),
+        #[cfg(feature = "riscv64")]
         Architecture::RiscV => matches!(phase, Phase::ThreadOffsets | Phase::GotLoads),
+        #[cfg(feature = "loongarch64")]
         Architecture::LoongArch64 => matches!(phase, Phase::Early | Phase::ThreadOffsets),
+        #[cfg(feature = "ppc64")]
         Architecture::Ppc64 => !matches!(phase, Phase::GotLoads),
+        #[cfg(feature = "x86_64")]
         Architecture::X86_64 => matches!(phase, Phase::Early),
     }
 }
@@ -367,15 +414,19 @@ pub fn scope_of(architecture: Architecture, code: u32) -> Scope {
 }
 
 /// Whether a name of PowerPC64 marks a call of `__tls_get_addr`.
+#[cfg(feature = "ppc64")]
 #[inline(always)]
 fn is_mark(name: Ppc64Relocation) -> bool {
-    matches!(
+    matches_any!(
         name,
-        Ppc64Relocation::R_PPC64_TLSGD | Ppc64Relocation::R_PPC64_TLSLD
+        #[cfg(feature = "ppc64")]
+        Ppc64Relocation::R_PPC64_TLSGD
+            | Ppc64Relocation::R_PPC64_TLSLD
     )
 }
 
 /// Whether a relocation with a code of PowerPC64 marks a call of `__tls_get_addr`.
+#[cfg(feature = "ppc64")]
 #[inline(always)]
 pub(crate) fn marks_call(code: u32) -> bool {
     is_mark(Ppc64Relocation::from_elf(code))

@@ -10,6 +10,7 @@ use crate::linker_section::facts::{Addresses, Symbol};
 use crate::linker_section::relocations::{Rela, relocations_len};
 use crate::linker_section::sections::{SectionError, relocate_section};
 use crate::elf::Architecture;
+#[cfg(feature = "ppc64")]
 use crate::ppc64::Ppc64Relocation;
 
 /// What choices read of a symbol and of the output, a bit for each fact; 0 where nothing is kept. A
@@ -130,14 +131,21 @@ fn lacks_stub(
     symbols: &[Symbol],
     relocation: &Rela,
 ) -> bool {
+    #[cfg(not(feature = "ppc64"))]
+    {
+        false
+    }
+    #[cfg(feature = "ppc64")]
+    {
     let call = Ppc64Relocation::R_PPC64_REL24.elf_code();
-    if !matches!(architecture, Architecture::Ppc64) || relocation.code != call {
+    if !matches_any!(architecture, #[cfg(feature = "ppc64")] Architecture::Ppc64) || relocation.code != call {
         return false;
     }
     let index = relocation.symbol as usize;
     match (facts.get(index), symbols.get(index)) {
         (Some(facts), Some(symbol)) => needs_stub(facts, symbol),
         _ => false,
+    }
     }
 }
 

@@ -13,14 +13,22 @@ use crate::linker_section::facts::{Addresses, Symbol};
 use crate::linker_section::relocations::{Rela, first_from, is_ascending, relocations_len};
 use crate::architecture::Relaxation;
 use crate::elf::{Architecture, Choice, LinkFacts, Operands};
+#[cfg(feature = "riscv64")]
 use crate::riscv64::RiscVRelocation;
 
 /// The code of the high parts whose groups a phase rewrites.
 #[inline(always)]
 fn high_code(phase: Phase) -> u32 {
+    #[cfg(not(feature = "riscv64"))]
+    {
+        0
+    }
+    #[cfg(feature = "riscv64")]
+    {
     match phase {
         Phase::ThreadOffsets => RiscVRelocation::R_RISCV_TLSDESC_HI20.elf_code(),
         _ => RiscVRelocation::R_RISCV_GOT_HI20.elf_code(),
+    }
     }
 }
 
@@ -270,6 +278,7 @@ fn copy_notes<D: AsDecision>(
 #[inline(always)]
 fn has_labels(architecture: Architecture, phase: Phase) -> bool {
     match architecture {
+        #[cfg(feature = "riscv64")]
         Architecture::RiscV => matches!(phase, Phase::ThreadOffsets | Phase::GotLoads),
         _ => false,
     }

@@ -4,10 +4,14 @@
 
 use crate::linker_rewriting::phases::Phase;
 use crate::linker_section::relocations::{Rela, relocation_at};
+#[cfg(feature = "aarch64")]
 use crate::aarch64::AArch64Relocation;
 use crate::elf::Architecture;
+#[cfg(feature = "loongarch64")]
 use crate::loongarch64::LoongArch64Relocation;
+#[cfg(feature = "ppc64")]
 use crate::ppc64::Ppc64Relocation;
+#[cfg(feature = "riscv64")]
 use crate::riscv64::RiscVRelocation;
 
 /// A sequence of AArch64 whose relocations are next to each other.
@@ -25,7 +29,9 @@ pub(crate) enum Sequence {
 #[inline(always)]
 fn mark_code(architecture: Architecture) -> Option<u32> {
     match architecture {
+        #[cfg(feature = "riscv64")]
         Architecture::RiscV => Some(RiscVRelocation::R_RISCV_RELAX.elf_code()),
+        #[cfg(feature = "loongarch64")]
         Architecture::LoongArch64 => Some(LoongArch64Relocation::R_LARCH_RELAX.elf_code()),
         _ => None,
     }
@@ -60,8 +66,16 @@ pub(crate) fn is_marked_at(
 #[inline(always)]
 fn mark_code_in(phase: Phase, architecture: Architecture) -> Option<u32> {
     match (phase, architecture) {
+        #[cfg(feature = "ppc64")]
         (Phase::Early, Architecture::Ppc64) => {
-            Some(Ppc64Relocation::R_PPC64_REL24_NOTOC.elf_code())
+            #[cfg(feature = "ppc64")]
+            {
+                Some(Ppc64Relocation::R_PPC64_REL24_NOTOC.elf_code())
+            }
+            #[cfg(not(feature = "ppc64"))]
+            {
+                None
+            }
         }
         (Phase::Early, _) => None,
         _ => mark_code(architecture),
@@ -83,16 +97,25 @@ pub(crate) fn is_marked_in(
 }
 
 /// The sequence that a relocation of AArch64 is of, and its place there.
+#[cfg(feature = "aarch64")]
 #[inline(always)]
 fn place_in(name: AArch64Relocation) -> Option<(Sequence, usize)> {
     match name {
+        #[cfg(feature = "aarch64")]
         AArch64Relocation::R_AARCH64_TLSDESC_ADR_PAGE21 => Some((Sequence::Descriptor, 0)),
+        #[cfg(feature = "aarch64")]
         AArch64Relocation::R_AARCH64_TLSDESC_LD64_LO12 => Some((Sequence::Descriptor, 1)),
+        #[cfg(feature = "aarch64")]
         AArch64Relocation::R_AARCH64_TLSDESC_ADD_LO12 => Some((Sequence::Descriptor, 2)),
+        #[cfg(feature = "aarch64")]
         AArch64Relocation::R_AARCH64_TLSDESC_CALL => Some((Sequence::Descriptor, 3)),
+        #[cfg(feature = "aarch64")]
         AArch64Relocation::R_AARCH64_ADR_GOT_PAGE => Some((Sequence::EntryLoad, 0)),
+        #[cfg(feature = "aarch64")]
         AArch64Relocation::R_AARCH64_LD64_GOT_LO12_NC => Some((Sequence::EntryLoad, 1)),
+        #[cfg(feature = "aarch64")]
         AArch64Relocation::R_AARCH64_ADR_PREL_PG_HI21 => Some((Sequence::PageAndOffset, 0)),
+        #[cfg(feature = "aarch64")]
         AArch64Relocation::R_AARCH64_ADD_ABS_LO12_NC => Some((Sequence::PageAndOffset, 1)),
         _ => None,
     }
@@ -112,6 +135,7 @@ fn is_part(code: u32, offset: u64, distance: u64, relocation: &Rela, part: Optio
 }
 
 /// The same by a name of AArch64.
+#[cfg(feature = "aarch64")]
 #[inline(always)]
 fn is_aarch64_part(
     name: AArch64Relocation,
@@ -125,6 +149,7 @@ fn is_aarch64_part(
 
 /// Whether the relocations from an index on are those of a TLS descriptor that begins at an offset,
 /// of the symbol and the addend of a relocation.
+#[cfg(feature = "aarch64")]
 fn is_descriptor(relocations: &[u8], first: usize, offset: u64, relocation: &Rela) -> bool {
     is_aarch64_part(
         AArch64Relocation::R_AARCH64_TLSDESC_ADR_PAGE21,
@@ -155,6 +180,7 @@ fn is_descriptor(relocations: &[u8], first: usize, offset: u64, relocation: &Rel
 
 /// Whether the relocations from an index on are a pair with these names at an offset, of the symbol
 /// of a relocation and without an addend.
+#[cfg(feature = "aarch64")]
 fn is_pair(
     high: AArch64Relocation,
     low: AArch64Relocation,
@@ -181,6 +207,7 @@ fn is_pair(
 }
 
 /// Whether the relocations from an index on are all of a sequence at an offset.
+#[cfg(feature = "aarch64")]
 #[inline(always)]
 fn is_all(
     sequence: Sequence,
@@ -211,6 +238,7 @@ fn is_all(
 }
 
 /// Whether a relocation with an index, at a place of a sequence of AArch64, is among all of it.
+#[cfg(feature = "aarch64")]
 fn is_whole_at(
     relocations: &[u8],
     index: usize,
@@ -237,10 +265,13 @@ fn is_whole_at(
 }
 
 /// The place of a relocation of a load from LoongArch's GOT.
+#[cfg(feature = "loongarch64")]
 #[inline(always)]
 fn place_in_load(name: LoongArch64Relocation) -> Option<usize> {
     match name {
+        #[cfg(feature = "loongarch64")]
         LoongArch64Relocation::R_LARCH_GOT_PC_HI20 => Some(0),
+        #[cfg(feature = "loongarch64")]
         LoongArch64Relocation::R_LARCH_GOT_PC_LO12 => Some(1),
         _ => None,
     }
@@ -248,6 +279,7 @@ fn place_in_load(name: LoongArch64Relocation) -> Option<usize> {
 
 /// Whether a relocation is so many bytes after an offset, has a name of LoongArch, and is of the
 /// symbol and the addend of another one.
+#[cfg(feature = "loongarch64")]
 #[inline(always)]
 fn is_loongarch_part(
     name: LoongArch64Relocation,
@@ -261,6 +293,7 @@ fn is_loongarch_part(
 
 /// Whether the relocations from an index on are those of a load from LoongArch's GOT at an offset,
 /// each with its mark after it.
+#[cfg(feature = "loongarch64")]
 fn is_marked_load(relocations: &[u8], first: usize, offset: u64, relocation: &Rela) -> bool {
     let mark = mark_code(Architecture::LoongArch64);
     is_loongarch_part(
@@ -282,6 +315,7 @@ fn is_marked_load(relocations: &[u8], first: usize, offset: u64, relocation: &Re
 
 /// Whether a relocation with an index, at a place of a load from LoongArch's GOT, is among all of
 /// it.
+#[cfg(feature = "loongarch64")]
 fn is_load_at(relocations: &[u8], index: usize, relocation: &Rela, place: Option<usize>) -> bool {
     let Some(place) = place else {
         return true;
@@ -311,10 +345,12 @@ pub(crate) fn is_whole(
     relocation: &Rela,
 ) -> bool {
     match architecture {
+        #[cfg(feature = "aarch64")]
         Architecture::AArch64 => {
             let place = place_in(AArch64Relocation::from_elf(relocation.code));
             is_whole_at(relocations, index, relocation, place)
         }
+        #[cfg(feature = "loongarch64")]
         Architecture::LoongArch64 => {
             let place = place_in_load(LoongArch64Relocation::from_elf(relocation.code));
             is_load_at(relocations, index, relocation, place)

@@ -6,7 +6,9 @@ use crate::linker_rewriting::agreement::contradiction;
 use crate::linker_rewriting::candidates::{candidate, is_matched, is_tls_get_addr};
 use crate::linker_rewriting::codes::{is_surveyed, of_each};
 use crate::linker_rewriting::facts::{NO_ADDRESSES, OutputFacts, Setting, SymbolFacts};
-use crate::linker_rewriting::groups::{Group, KeptGroups, Scope, marks_call, scope_in, symbol_of_group};
+use crate::linker_rewriting::groups::{Group, KeptGroups, Scope, scope_in, symbol_of_group};
+#[cfg(feature = "ppc64")]
+use crate::linker_rewriting::groups::marks_call;
 use crate::linker_rewriting::phases::Phase;
 use crate::linker_rewriting::relocations::relocation_in;
 use crate::linker_section::facts::{Addresses, Symbol};
@@ -68,6 +70,7 @@ fn keeping(
 }
 
 /// PowerPC64: whether the relocation before is a mark of a call at the same place.
+#[cfg(feature = "ppc64")]
 #[inline(always)]
 fn is_marked(relocations: &[u8], index: usize, relocation: &Rela) -> bool {
     if index == 0 {
@@ -79,6 +82,7 @@ fn is_marked(relocations: &[u8], index: usize, relocation: &Rela) -> bool {
 }
 
 /// PowerPC64: whether a relocation is of `__tls_get_addr` and has no mark.
+#[cfg(feature = "ppc64")]
 #[inline(always)]
 fn ppc64_is_unmarked(
     symbols: &[SymbolFacts],
@@ -103,6 +107,7 @@ fn is_unmarked(
     relocation: &Rela,
 ) -> bool {
     match (phase, architecture) {
+        #[cfg(feature = "ppc64")]
         (Phase::Early, Architecture::Ppc64) => {
             ppc64_is_unmarked(symbols, relocations, index, relocation)
         }
@@ -119,6 +124,7 @@ fn needs_mark(
     relocation: &Rela,
 ) -> bool {
     match (phase, architecture) {
+        #[cfg(feature = "ppc64")]
         (Phase::Early, Architecture::Ppc64) => is_tls_get_addr(symbols, relocation.symbol),
         _ => false,
     }

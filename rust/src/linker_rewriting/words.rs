@@ -17,19 +17,42 @@ use crate::linker_section::facts::{Addresses, Symbol};
 use crate::linker_section::relocations::{Rela, relocations_len};
 use crate::architecture::Relaxation;
 use crate::elf::{Architecture, Choice};
+#[cfg(feature = "ppc64")]
 use crate::ppc64::Ppc64Relocation;
 
 /// The code of a relocation for an entry of the GOT in place of one for a word.
 #[inline(always)]
 fn entry_code(architecture: Architecture, code: u32) -> Option<u32> {
     match architecture {
+        #[cfg(feature = "ppc64")]
         Architecture::Ppc64 => {
             if Ppc64Relocation::R_PPC64_TOC16_HA.elf_code() == code {
-                Some(Ppc64Relocation::R_PPC64_GOT16_HA.elf_code())
+                #[cfg(feature = "ppc64")]
+                {
+                    Some(Ppc64Relocation::R_PPC64_GOT16_HA.elf_code())
+                }
+                #[cfg(not(feature = "ppc64"))]
+                {
+                    None
+                }
             } else if Ppc64Relocation::R_PPC64_TOC16_LO.elf_code() == code {
-                Some(Ppc64Relocation::R_PPC64_GOT16_LO.elf_code())
+                #[cfg(feature = "ppc64")]
+                {
+                    Some(Ppc64Relocation::R_PPC64_GOT16_LO.elf_code())
+                }
+                #[cfg(not(feature = "ppc64"))]
+                {
+                    None
+                }
             } else if Ppc64Relocation::R_PPC64_TOC16_LO_DS.elf_code() == code {
-                Some(Ppc64Relocation::R_PPC64_GOT16_LO_DS.elf_code())
+                #[cfg(feature = "ppc64")]
+                {
+                    Some(Ppc64Relocation::R_PPC64_GOT16_LO_DS.elf_code())
+                }
+                #[cfg(not(feature = "ppc64"))]
+                {
+                    None
+                }
             } else {
                 None
             }
@@ -41,7 +64,14 @@ fn entry_code(architecture: Architecture, code: u32) -> Option<u32> {
 /// The code of a word's own relocation.
 #[inline(always)]
 fn word_code() -> u32 {
+    #[cfg(not(feature = "ppc64"))]
+    {
+        0
+    }
+    #[cfg(feature = "ppc64")]
+    {
     Ppc64Relocation::R_PPC64_ADDR64.elf_code()
+    }
 }
 
 /// How far what a relocation refers to is after the start of the section of words.

@@ -9,7 +9,10 @@ use alloc::vec::Vec;
 use crate::support::*;
 use crate::linker_runs::packing::Machine;
 use crate::linker_runs::relaxation::Item;
-use crate::linker_runs::{loongarch64, riscv64};
+#[cfg(feature = "loongarch64")]
+use crate::linker_runs::loongarch64;
+#[cfg(feature = "riscv64")]
+use crate::linker_runs::riscv64;
 pub(crate) use list::ItemList;
 pub use rewritten::{RewrittenItemsError, rewritten_items_into};
 
@@ -130,7 +133,9 @@ pub(crate) fn unsigned_addend(relocation: &Relocation) -> Option<u64> {
 #[inline(always)]
 fn is_formed(machine: Machine, section: &[u8], relocation: &Relocation) -> bool {
     match machine {
+        #[cfg(feature = "riscv64")]
         Machine::RiscV64 => riscv64::is_formed(section, relocation),
+        #[cfg(feature = "loongarch64")]
         Machine::LoongArch64 => loongarch64::is_formed(section, relocation),
     }
 }
@@ -162,6 +167,7 @@ pub fn first_malformed<R: AsRelocation>(
 #[inline(always)]
 fn ahead<R: AsRelocation>(machine: Machine, relocations: &[R], index: usize, known: usize) -> usize {
     match machine {
+        #[cfg(feature = "riscv64")]
         Machine::RiscV64 => {
             if known <= index {
                 riscv64::next_alignment(relocations, index)
@@ -169,6 +175,7 @@ fn ahead<R: AsRelocation>(machine: Machine, relocations: &[R], index: usize, kno
                 known
             }
         }
+        #[cfg(feature = "loongarch64")]
         Machine::LoongArch64 => known,
     }
 }
@@ -184,7 +191,9 @@ fn item_at<R: AsRelocation>(
     ahead: usize,
 ) -> Option<Item> {
     match machine {
+        #[cfg(feature = "riscv64")]
         Machine::RiscV64 => riscv64::item_at(section, base, relocations, index, ahead),
+        #[cfg(feature = "loongarch64")]
         Machine::LoongArch64 => loongarch64::item_at(section, base, relocations, index),
     }
 }

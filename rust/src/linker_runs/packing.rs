@@ -3,8 +3,10 @@
 //! A section of a relaxed run, packed.
 
 mod code;
+#[cfg(feature = "loongarch64")]
 mod loongarch64;
 mod moved;
+#[cfg(feature = "riscv64")]
 mod riscv64;
 
 use crate::linker_runs::items::{AsItem, ItemList};
@@ -19,8 +21,10 @@ use crate::elf::Architecture;
 #[derive(Debug, Clone, Copy, PartialEq, Eq)]
 pub enum Machine {
     /// RISC-V of 64 bits.
+    #[cfg(feature = "riscv64")]
     RiscV64,
     /// LoongArch of 64 bits.
+    #[cfg(feature = "loongarch64")]
     LoongArch64,
 }
 
@@ -30,9 +34,16 @@ impl Machine {
     #[inline]
     pub fn of(architecture: Architecture) -> Option<Machine> {
         match architecture {
+            #[cfg(feature = "riscv64")]
             Architecture::RiscV => Some(Machine::RiscV64),
+            #[cfg(feature = "loongarch64")]
             Architecture::LoongArch64 => Some(Machine::LoongArch64),
-            Architecture::AArch64 | Architecture::Ppc64 | Architecture::X86_64 => None,
+            #[cfg(feature = "aarch64")]
+            Architecture::AArch64 => None,
+            #[cfg(feature = "ppc64")]
+            Architecture::Ppc64 => None,
+            #[cfg(feature = "x86_64")]
+            Architecture::X86_64 => None,
         }
     }
 }
@@ -120,7 +131,9 @@ fn code_of_site(
     let place = start.wrapping_add(at.output_offset);
     let target = start.wrapping_add(position_of(deltas, site.target).output_offset);
     match machine {
+        #[cfg(feature = "riscv64")]
         Machine::RiscV64 => riscv64::code_of(section, site.offset - base, kept, place, target),
+        #[cfg(feature = "loongarch64")]
         Machine::LoongArch64 => {
             loongarch64::code_of(section, site.offset - base, kept, place, target)
         }
@@ -131,7 +144,9 @@ fn code_of_site(
 #[inline(always)]
 fn nop_len(machine: Machine) -> u64 {
     match machine {
+        #[cfg(feature = "riscv64")]
         Machine::RiscV64 => 2,
+        #[cfg(feature = "loongarch64")]
         Machine::LoongArch64 => 4,
     }
 }
@@ -286,12 +301,14 @@ fn put_words(packed: &mut [u8], at: u64, word: [u8; 4], count: u64) {
 /// Puts so many bytes of nops at an offset, where they fit there.
 fn put_nops(machine: Machine, packed: &mut [u8], at: u64, len: u64) {
     match machine {
+        #[cfg(feature = "riscv64")]
         Machine::RiscV64 => {
             put_words(packed, at, [0x13, 0x00, 0x00, 0x00], len / 4);
             if len % 4 == 2 {
                 put_bytes(packed, at.wrapping_add(len - 2), &[0x01, 0x00]);
             }
         }
+        #[cfg(feature = "loongarch64")]
         Machine::LoongArch64 => put_words(packed, at, [0x00, 0x00, 0x40, 0x03], len / 4),
     }
 }
@@ -373,7 +390,9 @@ pub fn has_its_instructions(machine: Machine, section: &[u8], base: u64, item: &
     }
     let offset = site.offset - base;
     match machine {
+        #[cfg(feature = "riscv64")]
         Machine::RiscV64 => riscv64::has_shapes(section, offset, &site.shapes),
+        #[cfg(feature = "loongarch64")]
         Machine::LoongArch64 => loongarch64::has_shapes(section, offset, &site.shapes),
     }
 }

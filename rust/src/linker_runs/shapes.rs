@@ -4,7 +4,9 @@
 
 use crate::linker_runs::relaxation::{Shape, Shapes};
 
+#[cfg(feature = "loongarch64")]
 pub mod loongarch64;
+#[cfg(feature = "riscv64")]
 pub mod riscv64;
 
 /// No short shape.

@@ -225,10 +225,15 @@ pub(crate) fn write_second_run(
 macro_rules! of_each {
     ($architecture:ident, $call:ident($($given:ident),*)) => {
         match $architecture {
+            #[cfg(feature = "aarch64")]
             Architecture::AArch64 => $call(Architecture::AArch64, $($given),*),
+            #[cfg(feature = "riscv64")]
             Architecture::RiscV => $call(Architecture::RiscV, $($given),*),
+            #[cfg(feature = "loongarch64")]
             Architecture::LoongArch64 => $call(Architecture::LoongArch64, $($given),*),
+            #[cfg(feature = "ppc64")]
             Architecture::Ppc64 => $call(Architecture::Ppc64, $($given),*),
+            #[cfg(feature = "x86_64")]
             Architecture::X86_64 => $call(Architecture::X86_64, $($given),*),
         }
     };

@@ -5,12 +5,16 @@
 use crate::linker_section::facts::{Addresses, Symbol};
 use crate::linker_section::relocations::{Rela, first_from, relocation_in, relocations_len};
 use crate::linker_base::utils::u32_from_slice;
-use crate::elf::{
-    Architecture, Length, LoongArch64Instruction, RelocationInstruction, RelocationKind,
-    RelocationSize, RiscVInstruction, Row,
-};
+use crate::elf::{Architecture, Length, RelocationInstruction, RelocationKind, RelocationSize, Row};
+#[cfg(feature = "loongarch64")]
+use crate::elf::LoongArch64Instruction;
+#[cfg(feature = "riscv64")]
+use crate::elf::RiscVInstruction;
+#[cfg(feature = "loongarch64")]
 use crate::loongarch64::LoongArch64Relocation;
+#[cfg(feature = "ppc64")]
 use crate::ppc64::Ppc64Relocation;
+#[cfg(feature = "riscv64")]
 use crate::riscv64::RiscVRelocation;
 
 /// Whether a symbol is a function of the output that may return with another TOC pointer, and has
@@ -23,7 +27,13 @@ fn changes_toc(symbol: &Symbol) -> bool {
 /// Whether a relocation is a call that keeps its TOC pointer, of such a symbol.
 #[inline(always)]
 pub(crate) fn lacks_stub(architecture: Architecture, symbols: &[Symbol], relocation: &Rela) -> bool {
-    if !matches!(architecture, Architecture::Ppc64)
+    #[cfg(not(feature = "ppc64"))]
+    {
+        false
+    }
+    #[cfg(feature = "ppc64")]
+    {
+    if !matches_any!(architecture, #[cfg(feature = "ppc64")] Architecture::Ppc64)
         || relocation.code != Ppc64Relocation::R_PPC64_REL24.elf_code()
     {
         return false;
@@ -31,6 +41,7 @@ pub(crate) fn lacks_stub(architecture: Architecture, symbols: &[Symbol], relocat
     match symbols.get(relocation.symbol as usize) {
         Some(symbol) => changes_toc(symbol),
         None => false,
+    }
     }
 }
 
@@ -77,9 +88,11 @@ pub(crate) fn is_filled(
     let place = addresses.section.wrapping_add(relocation.offset);
     let addend = relocation.addend as u64;
     match architecture {
+        #[cfg(feature = "riscv64")]
         Architecture::RiscV => {
             relocation.code != RiscVRelocation::R_RISCV_ALIGN.elf_code() || is_padded(place, addend)
         }
+        #[cfg(feature = "loongarch64")]
         Architecture::LoongArch64 => {
             if relocation.code != LoongArch64Relocation::R_LARCH_ALIGN.elf_code() {
                 true
@@ -125,7 +138,7 @@ pub(crate) fn has_length(row: &Row, offset: u64, section: &[u8]) -> bool {
 /// architecture that has several lengths.
 #[inline(always)]
 pub(crate) fn begins_with(architecture: Architecture, row: &Row, word: u64) -> bool {
-    if !matches!(architecture, Architecture::RiscV | Architecture::Ppc64) {
+    if !matches_any!(architecture, #[cfg(feature = "ppc64")] Architecture::Ppc64, #[cfg(feature = "riscv64")] Architecture::RiscV) {
         return true;
     }
     match row.facts().length {
@@ -141,9 +154,11 @@ pub(crate) fn begins_with(architecture: Architecture, row: &Row, word: u64) -> b
 fn is_thread_based(size: RelocationSize, there: &[u8]) -> bool {
     match size {
         RelocationSize::BitMasking { range, insn } => match insn {
+            #[cfg(feature = "riscv64")]
             RelocationInstruction::RiscV(RiscVInstruction::IType | RiscVInstruction::SType) => {
                 u32_from_slice(there) / (1 << 15) % 32 == 4
             }
+            #[cfg(feature = "loongarch64")]
             RelocationInstruction::LoongArch64(LoongArch64Instruction::Shift10) => {
                 range.start == 0 && u32_from_slice(there) / (1 << 5) % 32 == 2
             }
@@ -233,10 +248,17 @@ fn has_upper(relocations: &[u8], high: &Rela) -> bool {
 /// Whether a value needs more than the instructions for 32 bits.
 #[inline(always)]
 pub(crate) fn needs_upper(architecture: Architecture, relocation: &Rela, value: i64) -> bool {
-    matches!(architecture, Architecture::LoongArch64)
+    #[cfg(not(feature = "loongarch64"))]
+    {
+        false
+    }
+    #[cfg(feature = "loongarch64")]
+    {
+    matches_any!(architecture, #[cfg(feature = "loongarch64")] Architecture::LoongArch64)
         && (value < -0x8000_0000 || 0x7fff_ffff < value)
         && (relocation.code == LoongArch64Relocation::R_LARCH_TLS_LE_HI20_R.elf_code()
             || upper_code(relocation.code).is_some())
+    }
 }
 
 /// Whether a value is one of 32 signed bits, if a relocation begins a sequence of LoongArch without

@@ -49,7 +49,7 @@ fn required_address(addresses: &Addresses, symbol: &Symbol, row: &Row, addend: i
 /// A symbol's address, or where PowerPC64's branches go.
 #[inline(always)]
 fn own_address(architecture: Architecture, row: &Row, symbol: &Symbol) -> u64 {
-    if matches!(architecture, Architecture::Ppc64) && row.facts().is_branch {
+    if matches_any!(architecture, #[cfg(feature = "ppc64")] Architecture::Ppc64) && row.facts().is_branch {
         symbol.address.wrapping_add(local_entry(symbol.other))
     } else {
         symbol.address
@@ -167,10 +167,12 @@ fn found_value(
     }
     match row.facts().way {
         Way::Plain => plain_value(architecture, addresses, symbols, row, relocation),
-        Way::High if matches!(architecture, Architecture::RiscV) => {
+        #[cfg(feature = "riscv64")]
+        Way::High if matches_any!(architecture, #[cfg(feature = "riscv64")] Architecture::RiscV) => {
             plain_value(architecture, addresses, symbols, row, relocation)
         }
-        Way::Low if matches!(architecture, Architecture::RiscV) => {
+        #[cfg(feature = "riscv64")]
+        Way::Low if matches_any!(architecture, #[cfg(feature = "riscv64")] Architecture::RiscV) => {
             value_of_high(addresses, symbols, relocation, high)
         }
         _ => None,
@@ -220,7 +222,7 @@ pub(crate) fn high_behind(
     value: i64,
     high: Option<HighPart>,
 ) -> Option<HighPart> {
-    if matches!(row.facts().way, Way::High) && matches!(architecture, Architecture::RiscV) {
+    if matches!(row.facts().way, Way::High) && matches_any!(architecture, #[cfg(feature = "riscv64")] Architecture::RiscV) {
         Some(new_high(offset, value))
     } else {
         high

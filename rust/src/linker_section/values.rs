@@ -7,8 +7,11 @@ use crate::linker_section::needed::{Entry, EntryClass, entry_by};
 use crate::linker_section::relocations::{Rela, first_from, offset_at, relocation_in, relocations_len};
 use crate::elf::{
     Architecture, Operands, RelocationInstruction, RelocationKind, RelocationKindInfo,
-    RelocationSize, RiscVInstruction, Row,
+    RelocationSize, Row,
 };
+#[cfg(feature = "riscv64")]
+use crate::elf::RiscVInstruction;
+#[cfg(feature = "x86_64")]
 use crate::x86_64::X86_64Relocation;
 
 /// Why a relocation has no value.
@@ -87,9 +90,16 @@ pub(crate) fn entry_address(
 /// Whether the formula has the GOT's address in place of the symbol's.
 #[inline(always)]
 pub(crate) fn is_of_got(architecture: Architecture, code: u32) -> bool {
-    matches!(architecture, Architecture::X86_64)
+    #[cfg(not(feature = "x86_64"))]
+    {
+        false
+    }
+    #[cfg(feature = "x86_64")]
+    {
+    matches_any!(architecture, #[cfg(feature = "x86_64")] Architecture::X86_64)
         && (code == X86_64Relocation::R_X86_64_GOTPC64.elf_code()
             || code == X86_64Relocation::R_X86_64_GOTPC32.elf_code())
+    }
 }
 
 /// How far after a function's global entry point its local one is.
@@ -100,24 +110,30 @@ pub(crate) fn local_entry(other: u8) -> u64 {
 }
 
 /// Whether it is a branch of PowerPC64.
+#[cfg(feature = "ppc64")]
 #[inline(always)]
 fn is_ppc64_branch(size: RelocationSize) -> bool {
-    matches!(
+    matches_any!(
         size,
-        RelocationSize::BitMasking {
-            insn: RelocationInstruction::Ppc64(_),
-            ..
-        }
+        #[cfg(feature = "ppc64")]
+        RelocationSize::BitMasking { insn: RelocationInstruction::Ppc64(_), .. }
     ) && size.is_branch()
 }
 
 /// A symbol's address, or where PowerPC64's branches go.
 #[inline(always)]
 fn address_of(row: &Row, symbol: &Symbol) -> u64 {
+    #[cfg(not(feature = "ppc64"))]
+    {
+        symbol.address
+    }
+    #[cfg(feature = "ppc64")]
+    {
     if is_ppc64_branch(row.info().size) {
         symbol.address.wrapping_add(local_entry(symbol.other))
     } else {
         symbol.address
+    }
     }
 }
 
@@ -138,9 +154,13 @@ fn serves_stub(row: &Row) -> bool {
 fn weak_address(architecture: Architecture, row: &Row, place: u64) -> u64 {
     let is_branch = row.facts().is_branch;
     match architecture {
+        #[cfg(feature = "aarch64")]
         Architecture::AArch64 if is_branch => place.wrapping_add(4),
+        #[cfg(feature = "aarch64")]
         Architecture::AArch64 if is_relative(row.kind()) => place,
+        #[cfg(feature = "riscv64")]
         Architecture::RiscV if serves_stub(row) => place,
+        #[cfg(feature = "ppc64")]
         Architecture::Ppc64 if is_branch => place,
         _ => 0,
     }
@@ -312,15 +332,12 @@ fn own_value(
 #[inline(always)]
 fn names_label(size: RelocationSize, kind: RelocationKind) -> bool {
     match kind {
+        #[cfg(feature = "riscv64")]
         RelocationKind::RelativeRiscVLow12 => true,
-        RelocationKind::TlsDesc => matches!(
+        RelocationKind::TlsDesc => matches_any!(
             size,
-            RelocationSize::BitMasking {
-                insn: RelocationInstruction::RiscV(
-                    RiscVInstruction::IType | RiscVInstruction::SType
-                ),
-                ..
-            }
+            #[cfg(feature = "riscv64")]
+            RelocationSize::BitMasking { insn: RelocationInstruction::RiscV( RiscVInstruction::IType | RiscVInstruction::SType ), .. }
         ),
         _ => false,
     }
@@ -329,12 +346,10 @@ fn names_label(size: RelocationSize, kind: RelocationKind) -> bool {
 /// Whether it is an `auipc` of RISC-V.
 #[inline(always)]
 fn is_auipc(size: RelocationSize) -> bool {
-    matches!(
+    matches_any!(
         size,
-        RelocationSize::BitMasking {
-            insn: RelocationInstruction::RiscV(RiscVInstruction::UType),
-            ..
-        }
+        #[cfg(feature = "riscv64")]
+        RelocationSize::BitMasking { insn: RelocationInstruction::RiscV(RiscVInstruction::UType), .. }
     )
 }
 

@@ -258,10 +258,11 @@ impl<R: RelocationName> ValueCondition<R> {
     }
 }
 
-/// Whether all conditions on values hold.
+/// Whether all conditions on values hold. By reference, so that LLVM sees those of a constant entry,
+/// and doesn't compile each kind of condition for each entry.
 #[inline(always)]
 fn all_hold<R: RelocationName>(
-    values: ValueConditions<R>,
+    values: &ValueConditions<R>,
     facts: &LinkFacts,
     after: &Operands,
 ) -> bool {
@@ -304,7 +305,7 @@ fn applies<K: ChosenKind>(
         return false;
     }
     let after = entry.kind.operands_after(offset, &facts.operands);
-    all_hold(conditions.values, facts, &after)
+    all_hold(&conditions.values, facts, &after)
 }
 
 /// The choice of the entry with an index, if there is one and it applies.

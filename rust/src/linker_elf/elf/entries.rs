@@ -2,7 +2,9 @@
 // Made by tools/erase of crates/linker_elf/src/elf/entries.rt.
 //! For which relocations a linker makes an entry of the GOT or of the PLT.
 
-use crate::linker_elf::elf::{RelocationInstruction, RelocationKind, RelocationSize, RiscVInstruction};
+use crate::linker_elf::elf::{RelocationInstruction, RelocationKind, RelocationSize};
+#[cfg(feature = "riscv64")]
+use crate::linker_elf::elf::RiscVInstruction;
 
 /// Whether the formula names the address of a PLT entry.
 #[inline(always)]
@@ -16,12 +18,10 @@ pub(crate) fn names_plt_entry(kind: RelocationKind) -> bool {
 /// Whether the symbol labels a high part, whose value is taken.
 #[inline(always)]
 pub(crate) fn is_of_high_part(size: RelocationSize) -> bool {
-    matches!(
+    matches_any!(
         size,
-        RelocationSize::BitMasking {
-            insn: RelocationInstruction::RiscV(RiscVInstruction::IType | RiscVInstruction::SType),
-            ..
-        }
+        #[cfg(feature = "riscv64")]
+        RelocationSize::BitMasking { insn: RelocationInstruction::RiscV(RiscVInstruction::IType | RiscVInstruction::SType), .. }
     )
 }
 
@@ -30,10 +30,9 @@ impl RelocationKind {
     #[must_use]
     #[inline(always)]
     pub fn names_got_entry(self) -> bool {
-        matches!(
+        matches_any!(
             self,
             RelocationKind::GotRelative
-                | RelocationKind::GotRelativeLoongArch64
                 | RelocationKind::GotRelGotBase
                 | RelocationKind::Got
                 | RelocationKind::TlsGd
@@ -45,10 +44,12 @@ impl RelocationKind {
                 | RelocationKind::GotTpOff
                 | RelocationKind::GotTpOffGot
                 | RelocationKind::GotTpOffGotBase
-                | RelocationKind::GotTpOffLoongArch64
                 | RelocationKind::TlsDesc
                 | RelocationKind::TlsDescGot
-                | RelocationKind::TlsDescGotBase
+                | RelocationKind::TlsDescGotBase,
+            #[cfg(feature = "loongarch64")]
+            RelocationKind::GotRelativeLoongArch64
+                | RelocationKind::GotTpOffLoongArch64
                 | RelocationKind::TlsDescLoongArch64
         )
     }

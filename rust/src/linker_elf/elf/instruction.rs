@@ -19,9 +19,13 @@ impl RelocationInstruction {
     pub fn field_mask(self, range: BitRange, bytes: &[u8]) -> u64 {
         debug_assert!(self.window() <= bytes.len());
         match self {
+            #[cfg(feature = "aarch64")]
             RelocationInstruction::AArch64(insn) => insn.field_mask(),
+            #[cfg(feature = "riscv64")]
             RelocationInstruction::RiscV(insn) => insn.field_mask(),
+            #[cfg(feature = "ppc64")]
             RelocationInstruction::Ppc64(insn) => insn.field_mask(bytes),
+            #[cfg(feature = "loongarch64")]
             RelocationInstruction::LoongArch64(insn) => insn.field_mask(range),
         }
     }
@@ -32,9 +36,13 @@ impl RelocationInstruction {
     #[inline]
     pub fn value_bits(self) -> BitRange {
         match self {
+            #[cfg(feature = "aarch64")]
             RelocationInstruction::AArch64(insn) => insn.value_bits(),
+            #[cfg(feature = "riscv64")]
             RelocationInstruction::RiscV(insn) => insn.value_bits(),
+            #[cfg(feature = "ppc64")]
             RelocationInstruction::Ppc64(insn) => insn.value_bits(),
+            #[cfg(feature = "loongarch64")]
             RelocationInstruction::LoongArch64(insn) => insn.value_bits(),
         }
     }
@@ -43,9 +51,13 @@ impl RelocationInstruction {
     #[inline(always)]
     pub(crate) fn is_branch(self, range: BitRange) -> bool {
         match self {
+            #[cfg(feature = "aarch64")]
             RelocationInstruction::AArch64(insn) => insn.is_branch(),
+            #[cfg(feature = "riscv64")]
             RelocationInstruction::RiscV(insn) => insn.is_branch(),
+            #[cfg(feature = "ppc64")]
             RelocationInstruction::Ppc64(insn) => insn.is_branch(),
+            #[cfg(feature = "loongarch64")]
             RelocationInstruction::LoongArch64(insn) => insn.is_branch(range),
         }
     }

@@ -26,9 +26,13 @@ impl RelocationKindInfo {
         match self.size {
             RelocationSize::ByteSize(len) => reach_of_bytes(self.kind, len, self.range),
             RelocationSize::BitMasking { range, insn } => match insn {
+                #[cfg(feature = "aarch64")]
                 RelocationInstruction::AArch64(insn) => insn.reach(range, self.range),
+                #[cfg(feature = "riscv64")]
                 RelocationInstruction::RiscV(insn) => insn.reach(self.range),
+                #[cfg(feature = "ppc64")]
                 RelocationInstruction::Ppc64(insn) => insn.reach(range, self.range),
+                #[cfg(feature = "loongarch64")]
                 RelocationInstruction::LoongArch64(insn) => insn.reach(self.range),
             },
         }

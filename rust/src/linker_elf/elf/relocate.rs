@@ -2,13 +2,22 @@
 // Made by tools/erase of crates/linker_elf/src/elf/relocate.rt.
 //! Writes the value of a relocation.
 
+#[cfg(feature = "aarch64")]
 use crate::linker_elf::aarch64::is_movk;
 use crate::linker_elf::elf::engine::Window;
 use crate::linker_elf::elf::{
-    AArch64Instruction, FormulaError, InstructionForm, LoongArch64Instruction,
-    RelocationInstruction, RelocationKind, RelocationKindInfo, RelocationSize, RiscVInstruction,
+    FormulaError, InstructionForm, RelocationInstruction, RelocationKind, RelocationKindInfo,
+    RelocationSize,
 };
+#[cfg(feature = "aarch64")]
+use crate::linker_elf::elf::AArch64Instruction;
+#[cfg(feature = "loongarch64")]
+use crate::linker_elf::elf::LoongArch64Instruction;
+#[cfg(feature = "riscv64")]
+use crate::linker_elf::elf::RiscVInstruction;
+#[cfg(feature = "loongarch64")]
 use crate::linker_elf::loongarch64::is_jirl;
+#[cfg(feature = "ppc64")]
 use crate::linker_elf::ppc64::DQ_UNIT;
 use crate::linker_base::bit_misc::{BitExtraction, BitRange};
 
@@ -125,6 +134,7 @@ pub(crate) fn write_field(insn: RelocationInstruction, bits: BitRange, value: i6
     let number = taken_bits(bits, value);
     let negative = value < 0;
     match insn {
+        #[cfg(feature = "aarch64")]
         RelocationInstruction::AArch64(insn) => {
             let old = Window::Four.load(dest);
             let word = insn.word_with(number, negative, insn.clear_immediate(old));
@@ -136,11 +146,14 @@ pub(crate) fn write_field(insn: RelocationInstruction, bits: BitRange, value: i6
             };
             Window::Four.store(new, dest);
         }
+        #[cfg(feature = "riscv64")]
         RelocationInstruction::RiscV(insn) => insn.write_to_value(number, negative, dest),
+        #[cfg(feature = "ppc64")]
         RelocationInstruction::Ppc64(insn) => {
             let number = insn.number_placed(number, dest);
             insn.write_to_value(number, negative, dest);
         }
+        #[cfg(feature = "loongarch64")]
         RelocationInstruction::LoongArch64(insn) => {
             insn.clear_immediate(bits, dest);
             insn.write_to_value(number, negative, dest);
@@ -150,6 +163,7 @@ pub(crate) fn write_field(insn: RelocationInstruction, bits: BitRange, value: i6
 
 /// Writes bits of a number into an instruction of AArch64. By itself: with it LLVM compiles the
 /// match of the architectures in `rows::write_plain` to a jump.
+#[cfg(feature = "aarch64")]
 #[inline(never)]
 pub(crate) fn write_aarch64(insn: AArch64Instruction, bits: BitRange, value: i64, dest: &mut [u8]) {
     write_field(RelocationInstruction::AArch64(insn), bits, value, dest);
@@ -159,6 +173,7 @@ pub(crate) fn write_aarch64(insn: AArch64Instruction, bits: BitRange, value: i64
 #[inline(always)]
 fn stays_movk(insn: RelocationInstruction, bits: BitRange, dest: &[u8]) -> bool {
     match insn {
+        #[cfg(feature = "aarch64")]
         RelocationInstruction::AArch64(AArch64Instruction::Movnz) => {
             is_movk(Window::Four.load(dest)) && bits.end.saturating_sub(bits.start) < 17
         }
@@ -178,11 +193,18 @@ impl RelocationInstruction {
     #[cfg_attr(debug_assertions, track_caller)]
     #[inline(always)]
     pub fn written_at(self, bits: BitRange, dest: &[u8]) -> RelocationInstruction {
+        #[cfg(not(feature = "aarch64"))]
+        {
+            self
+        }
+        #[cfg(feature = "aarch64")]
+        {
         debug_assert!(self.window() <= dest.len());
         if stays_movk(self, bits, dest) {
             RelocationInstruction::AArch64(AArch64Instruction::Movkz)
         } else {
             self
+        }
         }
     }
 
@@ -198,6 +220,7 @@ impl RelocationInstruction {
     pub fn is_low_jump(self, kind: RelocationKind, dest: &[u8]) -> bool {
         debug_assert!(self.window() <= dest.len());
         match self {
+            #[cfg(feature = "loongarch64")]
             RelocationInstruction::LoongArch64(LoongArch64Instruction::Shift10) => {
                 kind == RelocationKind::AbsoluteLowPart && is_jirl(Window::Four.load(dest))
             }
@@ -269,6 +292,7 @@ fn is_in_words(size: RelocationSize, kind: RelocationKind, value: i64, dest: &[u
 #[inline(always)]
 pub(crate) fn is_encoded(size: RelocationSize, value: i64) -> bool {
     match size {
+        #[cfg(feature = "riscv64")]
         RelocationSize::BitMasking {
             insn: RelocationInstruction::RiscV(RiscVInstruction::CluiType),
             ..
@@ -281,6 +305,7 @@ pub(crate) fn is_encoded(size: RelocationSize, value: i64) -> bool {
 #[inline(always)]
 fn is_in_units(size: RelocationSize, value: i64, dest: &[u8]) -> bool {
     match size {
+        #[cfg(feature = "ppc64")]
         RelocationSize::BitMasking {
             insn: RelocationInstruction::Ppc64(insn),
             ..

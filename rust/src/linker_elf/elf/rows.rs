@@ -4,8 +4,10 @@
 
 use crate::linker_elf::elf::entries::{is_of_high_part, names_plt_entry};
 use crate::linker_elf::elf::relocate::{
-    is_encoded, write_aarch64, write_bits, write_bytes, write_field, write_number,
+    is_encoded, write_bits, write_bytes, write_field, write_number,
 };
+#[cfg(feature = "aarch64")]
+use crate::linker_elf::elf::relocate::write_aarch64;
 use crate::linker_elf::elf::value::FormulaTerms;
 use crate::linker_elf::elf::{
     AllowedRange, ApplyError, Bias, FormulaError, Operands, PageMask, RelocateError,
@@ -366,6 +368,7 @@ fn write_plain(entry: &'static TableRow, value: i64, dest: &mut [u8]) {
     match entry.size {
         RelocationSize::ByteSize(len) => write_number(entry.kind, len as usize, value, dest),
         RelocationSize::BitMasking { range, insn } => match insn {
+            #[cfg(feature = "aarch64")]
             RelocationInstruction::AArch64(insn) => write_aarch64(insn, range, value, dest),
             _ => write_field(insn, range, value, dest),
         },

@@ -4,6 +4,7 @@
 
 use crate::linker_elf::elf::entries::names_plt_entry;
 use crate::linker_elf::elf::{RelocationInstruction, RelocationKind, RelocationKindInfo, RelocationSize};
+#[cfg(feature = "loongarch64")]
 use crate::linker_elf::loongarch64::highest_relocation_with_bias;
 
 /// What the value of a relocation is computed from. All but the addend and the flags are addresses
@@ -119,12 +120,10 @@ impl RelocationSize {
     #[must_use]
     #[inline(always)]
     pub fn loads_plt_word(self, kind: RelocationKind) -> bool {
-        matches!(
+        matches_any!(
             self,
-            RelocationSize::BitMasking {
-                insn: RelocationInstruction::Ppc64(_),
-                ..
-            }
+            #[cfg(feature = "ppc64")]
+            RelocationSize::BitMasking { insn: RelocationInstruction::Ppc64(_), .. }
         ) && names_plt_entry(kind)
     }
 }
@@ -213,18 +212,25 @@ impl RelocationKindInfo {
                 Err(FormulaError::NoValue)
             }
             RelocationKind::Absolute
-            | RelocationKind::AbsoluteLowPart
-            | RelocationKind::AbsoluteSet
-            | RelocationKind::AbsoluteSetWord6
-            | RelocationKind::AbsoluteAddition
-            | RelocationKind::AbsoluteAdditionWord6
-            | RelocationKind::AbsoluteSubtraction
-            | RelocationKind::AbsoluteSubtractionWord6
-            | RelocationKind::PairSubtractionULEB128RiscV
-            | RelocationKind::PairSubtractionULEB128LoongArch => Ok(terms.symbol(operands)),
-            RelocationKind::Relative | RelocationKind::RelativeRiscVLow12 => {
+                | RelocationKind::AbsoluteLowPart
+                | RelocationKind::AbsoluteSet
+                | RelocationKind::AbsoluteSetWord6
+                | RelocationKind::AbsoluteAddition
+                | RelocationKind::AbsoluteAdditionWord6
+                | RelocationKind::AbsoluteSubtraction
+                | RelocationKind::AbsoluteSubtractionWord6 => Ok(terms.symbol(operands)),
+            #[cfg(feature = "loongarch64")]
+            RelocationKind::PairSubtractionULEB128LoongArch => Ok(terms.symbol(operands)),
+            #[cfg(feature = "riscv64")]
+            RelocationKind::PairSubtractionULEB128RiscV => Ok(terms.symbol(operands)),
+            RelocationKind::Relative => {
                 Ok(terms.symbol(operands).wrapping_sub(place))
             }
+            #[cfg(feature = "riscv64")]
+            RelocationKind::RelativeRiscVLow12 => {
+                Ok(terms.symbol(operands).wrapping_sub(place))
+            }
+            #[cfg(feature = "loongarch64")]
             RelocationKind::RelativeLoongArchHigh => Ok(highest_relocation_with_bias(
                 terms.symbol(operands),
                 pc_of_sequence(self.size, operands.place),
@@ -234,6 +240,7 @@ impl RelocationKindInfo {
             | RelocationKind::TlsLd
             | RelocationKind::GotTpOff
             | RelocationKind::TlsDesc => Ok(terms.entry(operands)?.wrapping_sub(place)),
+            #[cfg(feature = "loongarch64")]
             RelocationKind::GotRelativeLoongArch64
             | RelocationKind::GotTpOffLoongArch64
             | RelocationKind::TlsDescLoongArch64 => Ok(highest_relocation_with_bias(

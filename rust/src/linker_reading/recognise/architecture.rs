@@ -6,25 +6,35 @@ use crate::linker_reading::recognise::engine::{self, CANDIDATES, Recognised, Rec
 use crate::linker_reading::recognise::fields::FieldBits;
 use crate::linker_reading::windows;
 pub use crate::linker_reading::windows::{Destination, destination_of};
+#[cfg(feature = "aarch64")]
 use crate::aarch64::AArch64Relocation;
 use crate::architecture::Relaxation;
 use crate::elf::{Architecture, Choice, LinkFacts, RewriteWindow};
+#[cfg(feature = "loongarch64")]
 use crate::loongarch64::LoongArch64Relocation;
+#[cfg(feature = "ppc64")]
 use crate::ppc64::Ppc64Relocation;
+#[cfg(feature = "riscv64")]
 use crate::riscv64::RiscVRelocation;
+#[cfg(feature = "x86_64")]
 use crate::x86_64::X86_64Relocation;
 
 /// What is found of the relocation's name that an architecture has for a code.
 macro_rules! of_name {
     ($architecture:expr, $code:expr, $name:ident => $found:expr) => {
         match $architecture {
+            #[cfg(feature = "aarch64")]
             Architecture::AArch64 => { let $name = AArch64Relocation::from_elf($code); $found }
+            #[cfg(feature = "riscv64")]
             Architecture::RiscV => { let $name = RiscVRelocation::from_elf($code); $found }
+            #[cfg(feature = "loongarch64")]
             Architecture::LoongArch64 => {
                 let $name = LoongArch64Relocation::from_elf($code);
                 $found
             }
+            #[cfg(feature = "ppc64")]
             Architecture::Ppc64 => { let $name = Ppc64Relocation::from_elf($code); $found }
+            #[cfg(feature = "x86_64")]
             Architecture::X86_64 => { let $name = X86_64Relocation::from_elf($code); $found }
         }
     };

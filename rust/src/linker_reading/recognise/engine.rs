@@ -9,7 +9,7 @@ use crate::linker_elf::elf::choice_table::{ChoiceEntry, ChosenByTable, ChosenKin
 use crate::linker_elf::elf::{InstructionRewrite, Row};
 use crate::architecture::Relaxation;
 use crate::elf::{Choice, LinkFacts};
-use crate::riscv64::DeletedBytes;
+use crate::linker_base::rewrite::DeletedBytes;
 
 /// How many choices a relocation may have.
 pub const CANDIDATES: usize = 6;

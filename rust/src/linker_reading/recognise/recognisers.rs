@@ -2,10 +2,15 @@
 // Made by tools/erase of crates/linker_reading/src/recognise/recognisers.rt.
 //! What is recognised of each architecture.
 
+#[cfg(feature = "aarch64")]
 mod aarch64;
+#[cfg(feature = "loongarch64")]
 mod loongarch64;
+#[cfg(feature = "ppc64")]
 mod ppc64;
+#[cfg(feature = "riscv64")]
 mod riscv64;
+#[cfg(feature = "x86_64")]
 mod x86_64;
 
 /// Where a rewrite is applied, the value of the relocation after it is written, and the deleted

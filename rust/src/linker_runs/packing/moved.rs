@@ -8,7 +8,9 @@ use crate::linker_runs::relaxation::Item;
 use crate::linker_base::packing::{Position, position_from, position_of};
 use crate::linker_base::relaxation::RelaxDelta;
 use crate::linker_base::rewrite::overwrite;
+#[cfg(feature = "loongarch64")]
 use crate::loongarch64::LoongArch64Relocation;
+#[cfg(feature = "riscv64")]
 use crate::riscv64::RiscVRelocation;
 use crate::linker_section::relocations::{RELA_LEN, Rela, relocation_at, relocations_len};
 
@@ -17,6 +19,7 @@ use crate::linker_section::relocations::{RELA_LEN, Rela, relocation_at, relocati
 #[inline]
 fn short_code(machine: Machine, kept: u64, code: u32) -> u32 {
     match machine {
+        #[cfg(feature = "riscv64")]
         Machine::RiscV64 => {
             if code != RiscVRelocation::R_RISCV_CALL.elf_code()
                 && code != RiscVRelocation::R_RISCV_CALL_PLT.elf_code()
@@ -28,6 +31,7 @@ fn short_code(machine: Machine, kept: u64, code: u32) -> u32 {
                 RiscVRelocation::R_RISCV_JAL.elf_code()
             }
         }
+        #[cfg(feature = "loongarch64")]
         Machine::LoongArch64 => {
             if code == LoongArch64Relocation::R_LARCH_CALL36.elf_code() {
                 LoongArch64Relocation::R_LARCH_B26.elf_code()
@@ -44,7 +48,9 @@ fn short_code(machine: Machine, kept: u64, code: u32) -> u32 {
 #[inline]
 fn align_code(machine: Machine) -> u32 {
     match machine {
+        #[cfg(feature = "riscv64")]
         Machine::RiscV64 => RiscVRelocation::R_RISCV_ALIGN.elf_code(),
+        #[cfg(feature = "loongarch64")]
         Machine::LoongArch64 => LoongArch64Relocation::R_LARCH_ALIGN.elf_code(),
     }
 }

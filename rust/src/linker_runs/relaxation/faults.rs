@@ -5,6 +5,7 @@
 use super::validity::{has_its_nops, is_clear, run_granularity};
 use super::{Alignment, Item, Shapes, Site};
 use crate::linker_runs::items::{AsItem, ItemList};
+#[cfg(feature = "loongarch64")]
 use crate::linker_runs::shapes::loongarch64::CALL36;
 
 /// Why a run can't be relaxed: what is wrong with one of its items. Of an item that has several
@@ -106,10 +107,17 @@ impl Site {
     /// Whether its target is a multiple of 4 bytes away, if it is an `R_LARCH_CALL36`.
     #[inline]
     fn is_in_words(&self) -> bool {
+        #[cfg(not(feature = "loongarch64"))]
+        {
+            true
+        }
+        #[cfg(feature = "loongarch64")]
+        {
         if self.shapes == CALL36 {
             self.target % 4 == self.offset % 4
         } else {
             true
+        }
         }
     }
 }
