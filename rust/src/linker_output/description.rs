@@ -8,8 +8,14 @@ use crate::linker_output::flags::FlagRules;
 use crate::linker_output::got::{GotLayout, ThreadPointer};
 use crate::linker_output::layout::{CodeUnit, Interpreter, ProvidedRun, ProvidedSymbol};
 use crate::linker_output::stubs::Stub;
-use crate::linker_output::{aarch64, loongarch64, ppc64, riscv64, x86_64};
+use crate::architecture::by_architecture;
 use crate::elf::Architecture;
+
+macro_rules! target_of {
+    ($of:ident $module:ident $names:ident ()) => {
+        &crate::linker_output::$module::TARGET
+    };
+}
 
 /// What a linker adds to an output of an architecture, in numbers and texts.
 ///
@@ -65,12 +71,6 @@ impl Target {
     /// ```
     #[must_use]
     pub fn of(architecture: Architecture) -> &'static Target {
-        match architecture {
-            Architecture::AArch64 => &aarch64::TARGET,
-            Architecture::RiscV => &riscv64::TARGET,
-            Architecture::LoongArch64 => &loongarch64::TARGET,
-            Architecture::Ppc64 => &ppc64::TARGET,
-            Architecture::X86_64 => &x86_64::TARGET,
-        }
+        by_architecture!(architecture, target_of())
     }
 }
