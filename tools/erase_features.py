@@ -10,6 +10,20 @@ WORDS = {"aarch64": "AArch64|AARCH64|aarch64", "loongarch64": "LoongArch|LARCH|L
 WITHOUT = re.compile(r"without\((\w+)\):(.*)")
 
 
+# The list of the architectures, how macros are given it, and what they make of each.
+LISTED = re.compile(r"(?m)^( +)(\w+ (\w+) \w+Relocation \d+,)$")
+GIVEN = "$($of:ident $module:ident $names:ident $handles:literal,)*"
+MADE = re.compile(r"\$\((?=(?:(?!\)\*)[^#])*\$of\b(?!:))")
+
+
+def gate_list(text):
+    """What is made of each architecture has the attribute of its feature."""
+    text = LISTED.sub(lambda it: f"{it[1]}{attribute(it[3])}\n{it[0]}" if it[3] in WORDS else it[0], text)
+    parts = text.split(GIVEN)
+    return "$(#[$gate:meta] $of:ident $module:ident $names:ident $handles:literal,)*".join(
+        [parts[0], *(MADE.sub("$(#[$gate] ", part, count=1) for part in parts[1:])])
+
+
 def attribute(feature, is_without=False):
     return f'#[cfg({"not(" * is_without}feature = "{feature}"{")" * is_without})]'
 
@@ -95,7 +109,7 @@ def gate_arms(source, names, first, past):
     """Gates arms whose patterns name an architecture, and `matches!`. What else does, by features."""
     left, at = set(), first
     while at < past:
-        if source[at] == "{" and is_match(source, at):
+        if source[at] == "{" and is_match(source, at) and source[at + 1] != "$":
             for begin, guard, arrow, end in list(arms(source, at)):
                 found, of_guard = patterns(source, names, begin, guard), names.of(source, guard, arrow)
                 if len(of_guard) == 1 and len(found) == 1:
@@ -254,7 +268,7 @@ def gate(made, make_source, added):
     without = {(name, found[1]): found[2] for name, words in added.items()
                for found in map(WITHOUT.fullmatch, words) if found}
     of_one = re.compile(rf"(^|/)({'|'.join(WORDS)}|{'|'.join(known) or '-'})(/|\.rs$)")
-    texts = {name: text for name, text in made.items() if not of_one.search(name)}
+    texts = {name: gate_list(text) for name, text in made.items() if not of_one.search(name)}
     # what an architecture's module has of another one
     moved = {name: path for feature in WORDS for path, name in re.findall(
         r"(?m)^pub use (crate::linker_base::[\w:]+)::(\w+);", made[f"rust/src/{feature}.rs"])}

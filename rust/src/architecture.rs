@@ -5,11 +5,9 @@
 //!
 #![doc = include_str!("../doc/architecture.md")]
 
-#[cfg(feature = "aarch64")]
-use crate::aarch64::{self, AArch64Relocation};
 use crate::elf::{
     ApplyError, Architecture, Choice, InstructionRewrite, LinkFacts, Operands, OtherRelocation,
-    RelocationInstruction, RewriteWindow, Row, Uleb128PairError, Uleb128Role,
+    RelocationInstruction, RewriteWindow, Row, Uleb128PairError, Uleb128Role, architectures,
 };
 #[cfg(feature = "aarch64")]
 use crate::elf::AArch64Instruction;
@@ -27,9 +25,11 @@ use crate::relaxation::RelocationModifier;
 use crate::linker_base::rewrite::DeletedBytes;
 #[cfg(feature = "riscv64")]
 use crate::riscv64::{self, RiscVRelocation};
-use crate::utils;
 #[cfg(feature = "x86_64")]
 use crate::x86_64::{self, X86_64Relocation};
+use crate::utils;
+#[cfg(feature = "aarch64")]
+use crate::aarch64;
 
 /// How many handles an architecture has: one for each code below.
 pub const HANDLE_UNIT: u32 = 0x1_0000;
@@ -52,48 +52,44 @@ pub enum Relaxation {
 
 /// What is made of a rewrite, whichever architecture it is of.
 macro_rules! of_kind {
-    ($relaxation:expr, $kind:ident => $made:expr) => {
+    (
+        ($relaxation:expr, $kind:ident => $made:expr)
+        $(#[$gate:meta] $of:ident $module:ident $names:ident $handles:literal,)*
+    ) => {
         match $relaxation {
-            #[cfg(feature = "aarch64")]
-            Relaxation::AArch64($kind) => $made,
-            #[cfg(feature = "riscv64")]
-            Relaxation::RiscV($kind) => $made,
-            #[cfg(feature = "loongarch64")]
-            Relaxation::LoongArch64($kind) => $made,
-            #[cfg(feature = "ppc64")]
-            Relaxation::Ppc64($kind) => $made,
-            #[cfg(feature = "x86_64")]
-            Relaxation::X86_64($kind) => $made,
+            $(#[$gate] Relaxation::$of($kind) => $made,)*
         }
+    };
+    ($relaxation:expr, $kind:ident => $made:expr) => {
+        architectures!([of_kind] ($relaxation, $kind => $made))
     };
 }
 
-/// What a macro makes of an architecture's module, of the enum of its relocations, of its variant
-/// of `Relaxation`, and of what it is given.
+/// What a macro makes of an architecture's variant, of its module, of the enum of its relocations,
+/// and of what it is given.
 macro_rules! by_architecture {
-    ($architecture:expr, $make:ident $given:tt) => {
+    (
+        ($architecture:expr, $make:ident $given:tt)
+        $(#[$gate:meta] $of:ident $module:ident $names:ident $handles:literal,)*
+    ) => {
         match $architecture {
-            #[cfg(feature = "aarch64")]
-            Architecture::AArch64 => $make!(aarch64 AArch64Relocation AArch64 $given),
-            #[cfg(feature = "riscv64")]
-            Architecture::RiscV => $make!(riscv64 RiscVRelocation RiscV $given),
-            #[cfg(feature = "loongarch64")]
-            Architecture::LoongArch64 => {
-                $make!(loongarch64 LoongArch64Relocation LoongArch64 $given)
-            }
-            #[cfg(feature = "ppc64")]
-            Architecture::Ppc64 => $make!(ppc64 Ppc64Relocation Ppc64 $given),
-            #[cfg(feature = "x86_64")]
-            Architecture::X86_64 => $make!(x86_64 X86_64Relocation X86_64 $given),
+            $(#[$gate] Architecture::$of => $make!($of $module $names $given),)*
         }
     };
+    ($architecture:expr, $($made:tt)+) => {
+        $crate::elf::architectures!(
+            [$crate::architecture::by_architecture] ($architecture, $($made)+)
+        )
+    };
 }
+
+pub(crate) use by_architecture;
 
 macro_rules! chosen {
-    ($module:ident $names:ident $of:ident
+    ($of:ident $module:ident $names:ident
         ($code:expr, $section:expr, $offset:expr, $facts:expr)) => {{
-        let name = $names::from_elf($code);
-        let chosen = $module::choose(name, $section, $offset, $facts);
+        let name = crate::$module::$names::from_elf($code);
+        let chosen = crate::$module::choose(name, $section, $offset, $facts);
         Choice {
             kind: Relaxation::$of(chosen.kind),
             relocation: chosen.relocation.elf_code(),
@@ -102,18 +98,46 @@ macro_rules! chosen {
 }
 
 macro_rules! row_of {
-    ($module:ident $names:ident $of:ident ($code:expr)) => {
-        $module::row($names::from_elf($code))
+    ($of:ident $module:ident $names:ident ($code:expr)) => {
+        crate::$module::row(crate::$module::$names::from_elf($code))
     };
 }
 
 macro_rules! text_of {
-    ($module:ident $names:ident $of:ident ($code:expr)) => {
-        match $names::from_elf($code) {
-            $names::Other(_) => None,
+    ($of:ident $module:ident $names:ident ($code:expr)) => {
+        match crate::$module::$names::from_elf($code) {
+            crate::$module::$names::Other(_) => None,
             name => Some(name.name()),
         }
     };
+}
+
+macro_rules! rewrite_of {
+    (X86_64 $module:ident $names:ident ($number:expr, $opcode_len:expr)) => {
+        crate::$module::RelaxationKind::from_number($number, $opcode_len).map(Relaxation::X86_64)
+    };
+    ($of:ident $module:ident $names:ident ($number:expr, $opcode_len:expr)) => {
+        crate::$module::RelaxationKind::from_number($number).map(Relaxation::$of)
+    };
+}
+
+/// The first of an architecture's handles.
+macro_rules! first_of {
+    (($architecture:expr) $(#[$gate:meta] $of:ident $module:ident $names:ident $handles:literal,)*) => {
+        match $architecture {
+            $(#[$gate] Architecture::$of => $handles * HANDLE_UNIT,)*
+        }
+    };
+}
+
+/// The architecture of a handle.
+macro_rules! of_handle {
+    (($handle:expr) $(#[$gate:meta] $of:ident $module:ident $names:ident $handles:literal,)*) => {{
+        $(#[$gate] if $handle / HANDLE_UNIT == $handles {
+            return Some(Architecture::$of);
+        })*
+        None
+    }};
 }
 
 impl Relaxation {
@@ -380,18 +404,7 @@ impl Architecture {
 
     #[inline(always)]
     fn first_handle(self) -> u32 {
-        match self {
-            #[cfg(feature = "riscv64")]
-            Architecture::RiscV => 0x1_0000,
-            #[cfg(feature = "aarch64")]
-            Architecture::AArch64 => 0x2_0000,
-            #[cfg(feature = "x86_64")]
-            Architecture::X86_64 => 0x3_0000,
-            #[cfg(feature = "loongarch64")]
-            Architecture::LoongArch64 => 0x4_0000,
-            #[cfg(feature = "ppc64")]
-            Architecture::Ppc64 => 0x5_0000,
-        }
+        architectures!([first_of](self))
     }
 
     /// The architecture of a handle, whose code is the rest by `HANDLE_UNIT`. None of a number that
@@ -399,57 +412,11 @@ impl Architecture {
     #[must_use]
     #[inline(always)]
     pub fn of_handle(handle: u32) -> Option<Architecture> {
-        // a match of the quotient is a jump, which takes more instructions
-        if handle < 0x1_0000 {
-            None
-        } else if handle < 0x2_0000 {
-            #[cfg(feature = "riscv64")]
-            {
-                Some(Architecture::RiscV)
-            }
-            #[cfg(not(feature = "riscv64"))]
-            {
-                None
-            }
-        } else if handle < 0x3_0000 {
-            #[cfg(feature = "aarch64")]
-            {
-                Some(Architecture::AArch64)
-            }
-            #[cfg(not(feature = "aarch64"))]
-            {
-                None
-            }
-        } else if handle < 0x4_0000 {
-            #[cfg(feature = "x86_64")]
-            {
-                Some(Architecture::X86_64)
-            }
-            #[cfg(not(feature = "x86_64"))]
-            {
-                None
-            }
-        } else if handle < 0x5_0000 {
-            #[cfg(feature = "loongarch64")]
-            {
-                Some(Architecture::LoongArch64)
-            }
-            #[cfg(not(feature = "loongarch64"))]
-            {
-                None
-            }
-        } else if handle < 0x6_0000 {
-            #[cfg(feature = "ppc64")]
-            {
-                Some(Architecture::Ppc64)
-            }
-            #[cfg(not(feature = "ppc64"))]
-            {
-                None
-            }
-        } else {
-            None
+        // without this test the others become a jump by the quotient, which takes more instructions
+        if handle < HANDLE_UNIT {
+            return None;
         }
+        architectures!([of_handle](handle))
     }
 
     /// The name of a relocation in its psABI, as "R_AARCH64_CALL26", of at most 39 bytes. None of a
@@ -594,28 +561,7 @@ impl Architecture {
     #[must_use]
     #[inline(always)]
     pub fn rewrite(self, number: u32, opcode_len: u8) -> Option<Relaxation> {
-        match self {
-            #[cfg(feature = "aarch64")]
-            Architecture::AArch64 => {
-                aarch64::RelaxationKind::from_number(number).map(Relaxation::AArch64)
-            }
-            #[cfg(feature = "riscv64")]
-            Architecture::RiscV => {
-                riscv64::RelaxationKind::from_number(number).map(Relaxation::RiscV)
-            }
-            #[cfg(feature = "loongarch64")]
-            Architecture::LoongArch64 => {
-                loongarch64::RelaxationKind::from_number(number).map(Relaxation::LoongArch64)
-            }
-            #[cfg(feature = "ppc64")]
-            Architecture::Ppc64 => {
-                ppc64::RelaxationKind::from_number(number).map(Relaxation::Ppc64)
-            }
-            #[cfg(feature = "x86_64")]
-            Architecture::X86_64 => {
-                x86_64::RelaxationKind::from_number(number, opcode_len).map(Relaxation::X86_64)
-            }
-        }
+        by_architecture!(self, rewrite_of(number, opcode_len))
     }
 }
 

@@ -100,32 +100,43 @@ pub enum Architecture {
     X86_64 = 62,
 }
 
+/// What a macro makes of what it is given and of all architectures: of each its variant, its module,
+/// the enum of its relocations, and the quotient of its handles by `HANDLE_UNIT`.
+macro_rules! architectures {
+    ([$($make:tt)+] $given:tt) => {
+        $($make)+!(
+            $given
+            #[cfg(feature = "aarch64")]
+            AArch64 aarch64 AArch64Relocation 2,
+            #[cfg(feature = "riscv64")]
+            RiscV riscv64 RiscVRelocation 1,
+            #[cfg(feature = "loongarch64")]
+            LoongArch64 loongarch64 LoongArch64Relocation 4,
+            #[cfg(feature = "ppc64")]
+            Ppc64 ppc64 Ppc64Relocation 5,
+            #[cfg(feature = "x86_64")]
+            X86_64 x86_64 X86_64Relocation 3,
+        )
+    };
+}
+
+pub(crate) use architectures;
+
+/// That whose machine a number is.
+macro_rules! of_machine {
+    (($machine:expr) $(#[$gate:meta] $of:ident $module:ident $names:ident $handles:literal,)*) => {
+        match $machine {
+            $(#[$gate] number if number == Architecture::$of.machine() => Some(Architecture::$of),)*
+            _ => None,
+        }
+    };
+}
+
 impl Architecture {
     /// The architecture of a file by `e_machine` of its ELF header. `None` for any other machine.
     #[must_use]
     pub const fn from_machine(e_machine: u16) -> Option<Architecture> {
-        match e_machine {
-            #[cfg(feature = "aarch64")]
-            number if number == Architecture::AArch64.machine() => Some(Architecture::AArch64),
-            #[cfg(feature = "riscv64")]
-            number if number == Architecture::RiscV.machine() => Some(Architecture::RiscV),
-            #[cfg(feature = "loongarch64")]
-            number if number == Architecture::LoongArch64.machine() => {
-                #[cfg(feature = "loongarch64")]
-                {
-                    Some(Architecture::LoongArch64)
-                }
-                #[cfg(not(feature = "loongarch64"))]
-                {
-                    None
-                }
-            }
-            #[cfg(feature = "ppc64")]
-            number if number == Architecture::Ppc64.machine() => Some(Architecture::Ppc64),
-            #[cfg(feature = "x86_64")]
-            number if number == Architecture::X86_64.machine() => Some(Architecture::X86_64),
-            _ => None,
-        }
+        architectures!([of_machine](e_machine))
     }
 
     /// `e_machine` in the ELF header of the architecture's files.

@@ -237,7 +237,7 @@ pub record IsDescriptorSequence (section : List ℕ) (o : ℕ) : Type 0 where
       AreOfDescriptor (word_at section o) (word_at section (o + 4)) (word_at section (o + 8))
       (word_at section (o + 12))
 
--- the same, of which the first instruction is so many bytes before the offset
+-- the same, of which the first instruction is n bytes before the offset
 abbrev pub IsOfDescriptor : ℕ → List ℕ → ℕ → Type 0
 IsOfDescriptor back section o = (back ≤ o) × IsDescriptorSequence section (o - back)
 
@@ -263,7 +263,7 @@ IsAskedFor name section o = ⊤
 
 -- ---- the table
 
--- The address itself in place of that of the GOT entry: `adrp` is so many bytes before.
+-- The address itself in place of that of the GOT entry: `adrp` is n bytes before.
 abbrev pub to_address : ℕ → List (Condition AArch64Relocation)
 to_address back =
     bound ∷ fixed_distance ∷ in_reach_if_known r.R_AARCH64_ADR_PREL_PG_HI21 back ∷ []
@@ -281,7 +281,7 @@ abbrev pub halves_to_local_exec : List (Condition AArch64Relocation)
 halves_to_local_exec =
     bound ∷ executable ∷ group_fits ∷ in_reach_if_known r.R_AARCH64_TLSLE_MOVW_TPREL_G1 0 ∷ []
 
--- the offset from the thread pointer in the GOT: `adrp` is so many bytes before
+-- the offset from the thread pointer in the GOT: `adrp` is n bytes before
 abbrev pub to_initial_exec : ℕ → List (Condition AArch64Relocation)
 to_initial_exec back =
     executable ∷ in_reach_if_known r.R_AARCH64_TLSIE_ADR_GOTTPREL_PAGE21 back ∷ []

@@ -74,7 +74,7 @@ pub enum AskedFor {
     AdrpOfPair,
     /// The `ldr` of such a pair.
     LdrOfPair,
-    /// The one so many bytes after the start of the sequence of a TLS descriptor.
+    /// The one n bytes after the start of the sequence of a TLS descriptor.
     OfDescriptor(u64),
     /// `bl`.
     Bl,
@@ -121,7 +121,7 @@ impl ChosenKind for RelaxationKind {
 
 /// The conditions of entries, by the names that the definition has for them.
 macro_rules! when {
-    // the address itself in place of that of the GOT entry: `adrp` is so many bytes before
+    // the address itself in place of that of the GOT entry: `adrp` is n bytes before
     (to_address $back:literal) => {
         conditions!(BOUND + FIXED_DISTANCE, InReachIfKnown(R_AARCH64_ADR_PREL_PG_HI21, $back))
     };
@@ -137,7 +137,7 @@ macro_rules! when {
             InReachIfKnown(R_AARCH64_TLSLE_MOVW_TPREL_G1)
         )
     };
-    // that offset in the GOT: `adrp` is so many bytes before
+    // that offset in the GOT: `adrp` is n bytes before
     (to_initial_exec $back:literal) => {
         conditions!(EXECUTABLE, InReachIfKnown(R_AARCH64_TLSIE_ADR_GOTTPREL_PAGE21, $back))
     };

@@ -24,7 +24,7 @@ pub record IsFront (ds ps : List (ℕ × ℕ)) (i j : ℕ) (front : List RelaxDe
   pub below_added : j < length ps → All (λ d. d.0 ≤ (get_or ps j (0, 0)).0) (map deletion_of front)
   pub listing : RecordsDeletions (map deletion_of front) front
 
--- so far is written, and so many bytes are deleted there
+-- so far is written, and n bytes are deleted there
 pub record IsMergedUpTo (ds ps : List (ℕ × ℕ)) (i j : ℕ) (merged : List RelaxDelta) (bytes : ℕ) : Type 0 where
   pub old_within : i ≤ length ds
   pub added_within : j ≤ length ps

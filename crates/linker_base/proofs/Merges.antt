@@ -92,7 +92,7 @@ IsTail-left : (ds ps : List (ℕ × ℕ)) (i j : ℕ) (tail : List RelaxDelta) (
 IsTail-left ds ps i j tail delta valid rises within inside merged is above sum =
     tail_swapped ps ds j i (delta ∷ tail) (IsTail-old ps ds j i tail delta rises valid inside within (tail_swapped ds ps i (j + 1) tail merged) is above (omega (arith, sum)))
 
--- what isn't free is merged, so many bytes are left, and the first i deltas are read as at first
+-- what isn't free is merged, n bytes are left, and the first i deltas are read as at first
 pub record IsMerging (start : List RelaxDelta) (ps : List (ℕ × ℕ)) (i j : ℕ) (merged : List RelaxDelta) (bytes : ℕ) : Type 0 where
   pub old_within : i ≤ length start
   pub left_within : j ≤ length ps

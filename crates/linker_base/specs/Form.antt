@@ -215,7 +215,7 @@ pub record Field : Type 0 where
   pub window : Width
   -- values below 2 to the width can be written, every value where it is 64
   pub width : ℕ
-  -- the field's number has so many bits, of which those below bit `low` stand nowhere and are 0
+  -- the field's number has n bits, of which those below bit `low` stand nowhere and are 0
   pub bits : ℕ
   pub low : ℕ
   -- how `read_value` reads the number, and whether its flag says that the number is below 0

@@ -9,7 +9,7 @@ pub record Walk : Type 0 where
   pub deletions : List (ℕ × ℕ)
   pub passed : ℕ
 
--- the walk that has passed so many of the deletions
+-- the walk that has passed n of the deletions
 abbrev pub walk_at : List (ℕ × ℕ) → ℕ → Walk
 walk_at deletions passed = record { deletions = deletions; passed = passed }
 

@@ -29,7 +29,7 @@ fn count_begun(deltas: &[RelaxDelta], offset: u64) -> usize
     DeltaSlice::new(deltas).count_below(offset)
 }
 
-/// The position of an input offset that so many of the deltas begin below.
+/// The position of an input offset that n of the deltas begin below.
 #[inline(always)]
 fn position_at(deltas: &[RelaxDelta], begun: usize, input_offset: u64) -> Position
     ensures offset { result.input_offset ≡ input_offset }

@@ -41,13 +41,13 @@ pub data Condition (R : Type 0) : Type 0 where
   addend : ℤ → Condition R
   -- S + A is known, and is a number of 12 bits in two's complement
   low_12 : Condition R
-  -- the value of a relocation is known and can be written: after the rewrite, so many bytes before
+  -- the value of a relocation is known and can be written: after the rewrite, n bytes before
   -- the place
   in_reach : R → ℕ → Condition R
   -- the same, unless no address is known
   in_reach_if_known : R → ℕ → Condition R
   -- the value of a relocation is known, and is from one number up and below another: after the
-  -- rewrite, so many bytes before the place
+  -- rewrite, n bytes before the place
   within : R → ℤ × ℤ → ℕ → Condition R
   -- the same, unless no address is known
   within_if_known : R → ℤ × ℤ → ℕ → Condition R
@@ -88,11 +88,11 @@ operands_after rewrite o operands =
       addend = addend_after rewrite operands.addend;
     }
 
--- those of a field so many bytes before the place
+-- those of a field n bytes before the place
 abbrev pub operands_before : ℕ → Operands → Operands
 operands_before n operands = record operands { place = difference_64 operands.place n }
 
--- the facts of a relocation so many bytes on
+-- the facts of a relocation n bytes on
 abbrev pub facts_on : ℕ → LinkFacts → LinkFacts
 facts_on n facts =
     record facts {

@@ -59,16 +59,16 @@ pub const PAGE_MASK_4KB: u64 = 0xfff;
 /// `e_machine` in the ELF header of AArch64's files (ELF specification, "ELF Header").
 pub const EM_AARCH64: u16 = 183;
 
-/// That of RISC-V's files.
+/// `e_machine` of RISC-V's files.
 pub const EM_RISCV: u16 = 243;
 
-/// That of LoongArch's files.
+/// `e_machine` of LoongArch's files.
 pub const EM_LOONGARCH: u16 = 258;
 
-/// That of files of 64-bit Power.
+/// `e_machine` of files of 64-bit Power.
 pub const EM_PPC64: u16 = 21;
 
-/// That of x86-64's files.
+/// `e_machine` of x86-64's files.
 pub const EM_X86_64: u16 = 62;
 
 /// The formula of a relocation's value. The letters are those of the psABIs: S is the symbol's

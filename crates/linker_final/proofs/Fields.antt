@@ -20,7 +20,7 @@ use Rattle.linker_utils.specs.declared.elf.Architecture.{Architecture}
 
 -- ---- bytes that hold a number
 
--- of so many bytes a list is the lowest of the number that they are
+-- of n bytes a list is the lowest of the number that they are
 abbrev pub AreLowest : ℕ → Type 0
 AreLowest n =
     (xs : List ℕ) (number : ℕ) → length xs ≡ n → ((i : ℕ) → get_or xs i 0 < 256)

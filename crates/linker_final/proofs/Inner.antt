@@ -6,7 +6,7 @@ use Rattle.linker_x86_64.specs.X86Rewrites.{absolute, operand, prefixed_operand,
 use Rattle.linker_x86_64.specs.declared.rewrites.RelaxationKind.TheVariants as kinds
 
 -- Another rewrite does the same, whose window is in an instruction or a sequence: from at most n bytes
--- before a field to so many bytes after where the field begins.
+-- before a field to n bytes after where the field begins.
 pub record HasWindow (n end : ℕ) (rewrite : Option Rewrite) : Type 0 where
   pub made : Rewrite
   pub is : rewrite ≡ Some made

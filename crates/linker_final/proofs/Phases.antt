@@ -53,7 +53,7 @@ phases_spare (p ∷ phases) relocations section relocations_last last is at none
     ∙ ((is.1).others at (All-head (RewritesNone at) p phases none)
     ∙ ap (λ bytes. get_or bytes at 0) (is.0).same_section)
 
--- so many bytes
+-- n bytes
 same_window : (start len : ℕ) (xs ys : List ℕ) → length xs ≡ length ys
     → ((at : ℕ) → start ≤ at → at < start + len → get_or xs at 0 ≡ get_or ys at 0)
     → take len (drop start xs) ≡ take len (drop start ys)

@@ -6,7 +6,7 @@ use Rattle.linker_base.specs.Rewrite.{Rewrite, rewritten, rewrite_window}
 use Rattle.linker_final.specs.Final.{put_back}
 use Rattle.linker_rewriting.proofs.Windows.{IsReplaced, in_window, outside_window}
 
--- a byte of so many from a start on
+-- a byte of n from a start on
 pub window_byte : (start len at : ℕ) (bytes : List ℕ) → start ≤ at → at < start + len
     → get_or (take len (drop start bytes)) (at - start) 0 ≡ get_or bytes at 0
 window_byte start len at bytes from below =
@@ -25,7 +25,7 @@ pub window_length : (start len : ℕ) (bytes : List ℕ) → start + len ≤ len
 window_length start len bytes inside =
     length-take-le len (drop start bytes) (let d = length-drop start bytes in omega (arith, d, inside))
 
--- so many other bytes in a window
+-- n other bytes in a window
 pub replaced : (start len : ℕ) (bytes before : List ℕ) → start + len ≤ length before
     → length bytes ≡ len
     → IsReplaced start len bytes before (take start before ++ bytes ++ drop (start + len) before)

@@ -24,7 +24,7 @@ use Rattle.linker_x86_64.specs.declared.rewrites.RelaxationKind.TheVariants as k
 
 -- ---- the shape of a rewrite
 
--- an instruction or a sequence of at most n bytes before its field, and so many from there on
+-- an instruction or a sequence of at most n bytes before its field, and n from there on
 abbrev pub HasShape : ℕ → ℕ → Original → Type 0
 HasShape n end r = (r.back ≤ n) × (length r.bytes ≤ r.back + end)
 

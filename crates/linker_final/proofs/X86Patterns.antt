@@ -42,7 +42,7 @@ begins_long (p ∷ ps) (x ∷ xs) is =
     let rest = begins_long ps xs ((and_parts (eqb (bit_and x (p.0)) (p.1)) (begins ps xs) is).1) in
     omega (arith, rest)
 
--- ---- an instruction or a sequence with n bytes before its field, and so many from there on
+-- ---- an instruction or a sequence with n bytes before its field, and n from there on
 
 pub there_inside : (n end : ℕ) → 0 < end → (rs : List Original) (section : List ℕ) (o : ℕ) → AreOf n end rs
     → IsTrue (is_one_at rs section o) → (n ≤ o) × (o + end ≤ length section)

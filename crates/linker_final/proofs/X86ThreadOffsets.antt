@@ -61,7 +61,7 @@ continues_none kind = refl
 never : false ≡ true → ⊥
 never is = cc
 
--- a row of so many bytes
+-- a row of n bytes
 abbrev IsOffsetOf : RelocationKindInfo → Type 0
 IsOffsetOf row =
     (row.kind ≡ values.TpOff) × (begins_pair row.size row.kind ≡ false) × (ends_pair row.size row.kind ≡ false)

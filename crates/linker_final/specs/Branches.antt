@@ -46,7 +46,7 @@ final_number p i row =
     number_at row.size
     (take (window_len row) (drop (place_of p (offset_at p.relocations i)) p.final))
 
--- What the machine reads of a final branch, in units of so many bytes, and adds to the address
+-- What the machine reads of a final branch, in units of n bytes, and adds to the address
 -- where the branch goes, leads to the target of its relocation's formula.
 abbrev pub Goes : Machine → Option RelocationKindInfo → (ℕ → ℤ) → ℕ → (Operands → ℕ) → Type 0
 Goes machine row reads unit target =

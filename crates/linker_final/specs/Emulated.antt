@@ -6,7 +6,7 @@ use Rattle.std.specs.List.{list_all}
 use Rattle.std.specs.Int.{w64, cast_unsigned}
 
 -- Words of one instruction, each with the number of 64 bits that came of it. What is read counts
--- units of it, and so many of its low bits are compared.
+-- units of it, and n of its low bits are compared.
 pub record Words : Type 0 where
   pub unit : ℕ
   pub bits : ℕ

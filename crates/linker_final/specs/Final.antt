@@ -93,7 +93,7 @@ RewritesNone at p = (j : ℕ) → j < count_of p → IsOutside p.relocations p.d
 abbrev pub Keeps : ℕ → RewritingPhase → Type 0
 Keeps i p = decision_at p.decisions i ≡ Kept
 
--- A phase leaves alone the relocation at an index and so many bytes from a start on.
+-- A phase leaves alone the relocation at an index and n bytes from a start on.
 pub record LeavesAlone (i start len : ℕ) (p : RewritingPhase) : Type 0 where
   pub kept : Keeps i p
   pub apart : (at : ℕ) → start ≤ at → at < start + len → RewritesNone at p
@@ -254,7 +254,7 @@ IsPhaseCause first groups second placed_groups kept addresses symbols relocation
     × IsWritingCause second.architecture second.output second.symbols kept addresses
     relocations_after symbols bytes error
 
--- Later phases leave alone the relocation at an index and so many bytes from a start on. Where
+-- Later phases leave alone the relocation at an index and n bytes from a start on. Where
 -- there are none, they do.
 abbrev pub IsLeftAlone : Linked → ℕ → ℕ → ℕ → Type 0
 IsLeftAlone l i start len = All (LeavesAlone i start len) l.later
@@ -267,7 +267,7 @@ HasNoByte l j at =
     → IsField l.setting.architecture l.relocations_last l.last j row
     → (at < offset_at l.relocations_last j) ⊎ (field_end l.relocations_last l.last j row ≤ at))
 
--- No rewrite and no field of another relocation has one of so many bytes from a start on, and later
+-- No rewrite and no field of another relocation has one of n bytes from a start on, and later
 -- phases leave them alone.
 pub record AreAlone (l : Linked) (i start len : ℕ) : Type 0 where
   pub others :
@@ -307,7 +307,7 @@ IsWrittenByNoOther l i o =
     → IsField l.setting.architecture l.relocations_last l.last j row
     → (at < offset_at l.relocations_last j) ⊎ (field_end l.relocations_last l.last j row ≤ at)
 
--- bytes with so many of others, from a start on
+-- bytes with n of others, from a start on
 abbrev pub put_back : ℕ → ℕ → List ℕ → List ℕ → List ℕ
 put_back start len others bytes =
     take start bytes ++ take len (drop start others) ++ drop (start + len) bytes

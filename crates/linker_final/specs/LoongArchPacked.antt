@@ -31,7 +31,7 @@ use Rattle.linker_section.specs.Values.{offset_at, operands_with}
 use Rattle.linker_section.specs.declared.facts.Symbol.{Symbol}
 use Rattle.linker_utils.specs.declared.elf.Architecture.TheVariants as architectures
 
--- the words of so many bytes of a site: one instruction, or both
+-- the words of n bytes of a site: one instruction, or both
 abbrev pub words_in : ℕ → List ℕ → List ℕ
 words_in kept bytes =
     if kept == 8 then pair bytes (drop 4 bytes) else word_of bytes ∷ []
@@ -96,7 +96,7 @@ LoadedAddressesAreMade =
 
 -- ---- what stays
 
--- The relocation at an index has a name, and is of so many bytes that stay.
+-- The relocation at an index has a name, and is of n bytes that stay.
 pub record StaysAs (p : Packed) (i : ℕ) (name : LoongArch64Relocation) (len : ℕ) : Type 0 where
   pub within : i < count p
   pub is_name : IsNameOf loongarch_name (relocation_in p.relocations_after i).code name

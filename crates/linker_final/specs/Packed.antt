@@ -118,11 +118,11 @@ pub record Stays (p : Packed) (o : ℕ) : Type 0 where
   pub own : (i : ℕ) → i < length p.items
       → IsNotIn p.section.deletions (p.section.base + o) (item_at p.items i)
 
--- so many from an offset on do
+-- n from an offset on do
 abbrev pub StayTogether : Packed → ℕ → ℕ → Type 0
 StayTogether p o len = (k : ℕ) → k < len → Stays p (o + k)
 
--- no field of a relocation has one of so many final bytes from a place on
+-- no field of a relocation has one of n final bytes from a place on
 abbrev pub IsUnwritten : Packed → ℕ → ℕ → Type 0
 IsUnwritten p start len =
     (at : ℕ) → start ≤ at → at < start + len
@@ -205,7 +205,7 @@ site_target p here = address_of p.section here.target
 
 -- ---- deleted bytes
 
--- so many bytes from an offset of the section before on are deleted
+-- n bytes from an offset of the section before on are deleted
 abbrev pub AreDeleted : Packed → ℕ → ℕ → Type 0
 AreDeleted p o len =
     (k : ℕ) → k < len → is_kept p.section.deletions (p.section.base + (o + k)) ≡ false

@@ -70,7 +70,7 @@ ForOperands name l i Holds =
 abbrev pub By : RelaxationKind → Choice Relaxation ℕ → Type 0 → Type 0
 By kind chosen P = (chosen.kind ≡ relaxations.Ppc64 kind) × P
 
--- It holds where later phases leave the relocation and so many bytes from an offset on alone.
+-- It holds where later phases leave the relocation and n bytes from an offset on alone.
 abbrev pub IfLeft : ℕ → Linked → ℕ → ℕ → Type 0 → Type 0
 IfLeft len l i o Holds = IsLeftAlone l i o len → Holds
 
@@ -82,7 +82,7 @@ EachChosen name Holds =
     → IsNameOf ppc64_name (relocation_in l.relocations i).code name
     → decision_at l.decisions i ≡ Rewritten chosen → Holds l i chosen
 
--- where later phases leave it and so many bytes from its offset on alone
+-- where later phases leave it and n bytes from its offset on alone
 abbrev pub EachRewritten : ℕ → Ppc64Relocation → (Linked → ℕ → Choice Relaxation ℕ → Type 0)
     → Type 0
 EachRewritten len name Holds =

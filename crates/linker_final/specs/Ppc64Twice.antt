@@ -37,7 +37,7 @@ use Rattle.linker_utils.specs.declared.architecture.Relaxation.TheVariants as re
 use Rattle.linker_utils.specs.declared.elf.Architecture.TheVariants.{Ppc64}
 
 -- Both calls rewrite at the relocation at an index, which has a name in the object. Phases between
--- leave it and so many bytes from its offset on alone.
+-- leave it and n bytes from its offset on alone.
 pub record IsRewrittenTwice (len : ℕ) (name : Ppc64Relocation) (l m : Linked) (i : ℕ) : Type 0
   where
     pub calls : AreTwoCalls Ppc64 l m
@@ -250,7 +250,7 @@ NearArgumentsTwice =
 
 -- ---- in the final bytes
 
--- In the final bytes after the second call, and after later ones that leave so many bytes from a
+-- In the final bytes after the second call, and after later ones that leave n bytes from a
 -- start on alone, it holds of the operands that the formula of a name has, wherever a GOT entry is.
 abbrev pub ForFinalOperands : ℕ → ℕ → Ppc64Relocation → Linked → Linked → ℕ → (Operands → Type 0)
     → Type 0

@@ -31,7 +31,7 @@ pub record IsOfRun (p : Packed) (run : Run) : Type 0 where
 
 -- ---- alignments
 
--- So many bytes from an address on lead to a multiple of a number, and no fewer do.
+-- N bytes from an address on lead to a multiple of a number, and no fewer do.
 pub record IsAligned (power address padding : ℕ) : Type 0 where
   pub multiple : (address + padding) % power ≡ 0
   pub least : (n : ℕ) → n < padding → (address + n) % power ≢ 0
@@ -41,7 +41,7 @@ pub record IsSkipped (power address padding most : ℕ) : Type 0 where
   pub none : padding ≡ 0
   pub far : (n : ℕ) → n ≤ most → (address + n) % power ≢ 0
 
--- So many bytes of padding from an address on are what an alignment requires there. One with a
+-- N bytes of padding from an address on are what an alignment requires there. One with a
 -- limit has at most as many, or none.
 abbrev pub Holds : Alignment → ℕ → ℕ → Type 0
 Holds alignment address padding =

@@ -152,7 +152,7 @@ SumGoes l i =
 
 -- ---- TLS descriptors
 
--- The relocation at an index has a name, and is so many bytes after the high part of a TLS
+-- The relocation at an index has a name, and is n bytes after the high part of a TLS
 -- descriptor, that at another index, which its symbol labels. It is rewritten by a kind, and gets
 -- the symbol of the high part.
 pub record IsOfDescriptor (l : Linked) (high : ℕ) (name : RiscVRelocation) (distance : ℕ)
@@ -188,7 +188,7 @@ EndsAsReturned l o call c h auipc_of ld_of addi_of n new k =
 
 -- Two harts are alike, one before the sequence whose high part is at an index, and one wherever its
 -- last instructions are. The first runs the object's sequence with the values of its relocations to
--- the call. The second runs so many instructions of the final bytes, which are some distance after
+-- the call. The second runs n instructions of the final bytes, which are some distance after
 -- the high part, and ends as the function returns to the first. What is said of the operands holds.
 abbrev pub OffsetIsTheSame : ℕ → (ℕ → List ℕ) → (Operands → Type 0) → Linked → ℕ
     → RelocationKindInfo → Type 0

@@ -64,11 +64,11 @@ CallsTheSame p o n final_call place target behind =
 
 -- ---- calls of sites
 
--- how many instructions so many bytes of a call are: `c.j` and `jal` alone, or both
+-- how many instructions n bytes of a call are: `c.j` and `jal` alone, or both
 abbrev pub instructions_in : ℕ → ℕ
 instructions_in kept = if kept == 8 then 2 else 1
 
--- where so many bytes of a call go: `jalr` clears bit 0
+-- where n bytes of a call go: `jalr` clears bit 0
 abbrev pub landing : ℕ → ℕ → ℕ
 landing kept target = if kept == 8 then target - target % 2 else target
 

@@ -71,7 +71,7 @@ functions words rows = record { words = words; rows = rows }
 
 -- ---- before
 
--- a pseudo-random number of so many bits: the middle of a square
+-- a pseudo-random number of n bits: the middle of a square
 abbrev pub noise : ℕ → ℕ → ℕ
 noise bits k =
     let n = k * 0x9e3779b97f4a7c15f39cc0605cedc8341082276bf3a27251f86c6a11d0c18e95 % 2 ^ bits in
@@ -110,7 +110,7 @@ before made e place = listed_or (made e.row place) e.given place
 abbrev pub after : Numbers → Executed → Numbers
 after numbers e place = listed_or (numbers place) e.left place
 
--- the memory at so many places as one number, whose low byte is the first
+-- the memory at n places as one number, whose low byte is the first
 abbrev pub memory_from : ℕ → ℕ → Numbers → ℕ
 memory_from zero place numbers = 0
 memory_from (suc n) place numbers = numbers place + 2 ^ 64 * memory_from n (place + 1) numbers
@@ -118,7 +118,7 @@ memory_from (suc n) place numbers = numbers place + 2 ^ 64 * memory_from n (plac
 abbrev pub memory_in : Numbers → ℕ
 memory_in numbers = memory_from 4 m0 numbers
 
--- the bytes of such a memory by their addresses, where it has so many and begins at an address; it
+-- the bytes of such a memory by their addresses, where it has n and begins at an address; it
 -- is 0 elsewhere
 abbrev pub bytes_of : ℕ → ℕ → ℕ → Numbers
 bytes_of length start memory address =
@@ -134,12 +134,12 @@ abbrev pub all_below : ℕ → (ℕ → Bool) → Bool
 all_below zero test = true
 all_below (suc n) test = test n && all_below n test
 
--- So many bytes from an address on are those of a number.
+-- N bytes from an address on are those of a number.
 abbrev pub are_bytes : ℕ → ℕ → ℕ → Numbers → Bool
 are_bytes length start number memory =
     all_below length (λ k. memory (sum_64 start k) == byte_at k number)
 
--- Of a row, by the numbers before, and an instruction of so many bytes: each of so many registers,
+-- Of a row, by the numbers before, and an instruction of n bytes: each of n registers,
 -- the memory and the flags are as the row leaves them, or else as before. The next address is the
 -- one that the row leaves, or else that after the instruction.
 abbrev pub is_left : ℕ → ℕ → ℕ → Executed → Numbers → Numbers → ℕ → Numbers → ℕ → Bool

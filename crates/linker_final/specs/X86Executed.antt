@@ -42,7 +42,7 @@ begun e =
       fs = numbers e 16;
     }
 
--- the bytes of a number, at most so many, of which the first is the highest
+-- the bytes of a number, at most n, of which the first is the highest
 abbrev pub bytes_before : ℕ → ℕ → List ℕ → List ℕ
 bytes_before zero n others = others
 bytes_before (suc k) n others =

@@ -33,12 +33,12 @@ use Rattle.linker_utils.specs.declared.architecture.Relaxation.TheVariants as re
 use Rattle.linker_utils.specs.declared.elf.Architecture.TheVariants.{X86_64}
 use Rattle.linker_x86_64.specs.declared.rewrites.RelaxationKind.TheVariants as kinds
 
--- the object's bytes from so many before an offset to so many after it, in their place in the
+-- the object's bytes from n before an offset to n after it, in their place in the
 -- final section
 abbrev pub object_in : Linked → ℕ → ℕ → ℕ → List ℕ
 object_in l o back end = put_back (o - back) (back + end) l.section l.final
 
--- No rewrite and no field of a relocation has one of so many bytes from a start on, but those at an
+-- No rewrite and no field of a relocation has one of n bytes from a start on, but those at an
 -- index and at the next one. Later phases leave them and both relocations alone.
 pub record AreAloneWithNext (l : Linked) (i start len : ℕ) : Type 0 where
   pub others : (j at : ℕ) → j < count l → j ≢ i → j ≢ i + 1 → start ≤ at → at < start + len

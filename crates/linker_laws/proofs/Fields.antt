@@ -24,7 +24,7 @@ use Rattle.linker_laws.proofs.Applied.{fits, value_is}
 use Rattle.linker_laws.proofs.Instructions.{IsNumber}
 use Rattle.linker_laws.proofs.Sums.{goes, cast_low, cast_is, once}
 
--- so many whole bytes
+-- n whole bytes
 abbrev pub bytes_of : RelocationKind → ℕ → Option PageMask → AllowedRange → ℕ → Option ℕ → Bool
     → Bool → RelocationKindInfo
 bytes_of kind n mask range a bias thunkable implicit =

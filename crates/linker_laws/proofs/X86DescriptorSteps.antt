@@ -104,7 +104,7 @@ lea2_there (b ∷ p ∷ rest) bytes h =
 
 -- ---- states
 
--- after an instruction of so many bytes that puts a number in a register
+-- after an instruction of n bytes that puts a number in a register
 abbrev put : ℕ → ℕ → ℕ → State → State
 put size r number s =
     record s { ip = sum_64 s.ip size; register = with_register r number s.register }

@@ -31,7 +31,7 @@ row_anywhere name = anywhere (aarch64_row name)
 -- ---- a page and an offset in it ("ADRP", "ADD (immediate)", "LDR (immediate)", "STR (immediate)")
 
 -- ADRP adds its immediate, in pages, to the page of its own address. ADD adds its own to that, and
--- a load or a store, whose unsigned offset is in units of so many bytes, adds that.
+-- a load or a store, whose unsigned offset is in units of n bytes, adds that.
 abbrev pub page_and_offset : AArch64Instruction → ℕ → Operands → ℕ → ℕ → ℤ
 page_and_offset f unit o x y =
     (pos (page o.place) +ℤ ((aarch64_form Adr).machine x *ℤ pos 4096))
@@ -226,7 +226,7 @@ SignedMoves =
     (row_anywhere names.R_AARCH64_MOVW_UABS_G1_NC) (row_anywhere names.R_AARCH64_MOVW_UABS_G0_NC)
     zero movn_or_movz symbol_address
 
--- a move so many bytes after the first
+-- a move n bytes after the first
 abbrev pub relative_move : ℕ → AArch64Relocation → Step
 relative_move n name = moved_on n (aarch64_row name)
 

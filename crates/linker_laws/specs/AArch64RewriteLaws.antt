@@ -64,7 +64,7 @@ InSections =
     (kind : RelaxationKind) (section : List ℕ) (o : ℕ)
     → BeginsRewrittenAt (aarch64_rewrite kind) section o
 
--- the operands of an instruction so many bytes after the first
+-- the operands of an instruction n bytes after the first
 abbrev pub behind : ℕ → Operands → Operands
 behind n o = record o { place = sum_64 o.place n }
 

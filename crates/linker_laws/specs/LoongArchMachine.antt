@@ -18,7 +18,7 @@ pub record Floats : Type 0 where
   -- the vector registers of 256 bits by their numbers: their low 64 bits are the floating-point
   -- registers, and their low 128 bits the registers of `vld` and `vst`
   pub numbers : ℕ → ℕ
-  -- What a register with a number has after a load of so many bytes. "FLD.{S/D}" and "VLD" say
+  -- What a register with a number has after a load of n bytes. "FLD.{S/D}" and "VLD" say
   -- nothing of the bits above.
   pub widened : ℕ → ℕ → ℕ → ℕ
 

@@ -47,7 +47,7 @@ abbrev pub IsRewritten : RelaxationKind → List ℕ → List ℕ → Type 0
 IsRewritten kind before after =
     IsSomeAnd (loongarch_rewrite kind) (λ r. BeginsRewritten r before after)
 
--- the operands of an instruction so many bytes after the first
+-- the operands of an instruction n bytes after the first
 abbrev pub behind : ℕ → Operands → Operands
 behind n o = record o { place = sum_64 o.place n }
 

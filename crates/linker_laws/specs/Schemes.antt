@@ -93,7 +93,7 @@ here row = record { row = row; operands = λ o at. o; premise = none }
 abbrev pub anywhere : Option RelocationKindInfo → Step
 anywhere row = record { row = row; operands = λ o at. record o { place = at }; premise = none }
 
--- one of an instruction so many bytes after the first
+-- one of an instruction n bytes after the first
 abbrev pub next : ℕ → Option RelocationKindInfo → Step
 next n row =
     record {
@@ -102,7 +102,7 @@ next n row =
       premise = none;
     }
 
--- one so many bytes after the first, with as many more in its addend, so that S + A is more too
+-- one n bytes after the first, with as many more in its addend, so that S + A is more too
 abbrev pub moved_on : ℕ → Option RelocationKindInfo → Step
 moved_on n row =
     record (here row) {
@@ -138,7 +138,7 @@ abbrev pub Law : (steps : List Step) → (Operands → Computed steps) → (Oper
 Law steps computed target =
     (o : Operands) → AreAddresses o → Reaches steps o (computed o) (target o)
 
--- An instruction adds the number that it holds, in units of so many bytes, to what it begins with.
+-- An instruction adds the number that it holds, in units of n bytes, to what it begins with.
 abbrev pub Adds : Step → (Operands → ℕ) → (ℕ → ℤ) → ℕ → (Operands → ℕ) → Type 0
 Adds step begin reads unit target =
     Law (step ∷ []) (λ o word. pos (begin o) +ℤ (reads word *ℤ pos unit)) target

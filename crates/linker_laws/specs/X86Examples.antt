@@ -255,7 +255,7 @@ with_carry carry =
       overflow = false;
     }
 
--- an operation of so many bits with CF before leaves the first register and flags, by two numbers
+-- an operation of n bits with CF before leaves the first register and flags, by two numbers
 abbrev pub made : Operation → ℕ → ℕ → ℕ → ℕ → ℕ → ℕ → Bool
 made op n carry a b r flags =
     ((if writes op then result op n (with_carry carry) a b else a) == r)

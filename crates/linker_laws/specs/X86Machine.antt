@@ -151,11 +151,11 @@ pub data Target : Type 0 where
   indirect : ℕ → Target
 
 pub data Instruction : Type 0 where
-  -- of so many bits, into the first operand
+  -- of n bits, into the first operand
   operate : Operation → ℕ → Operand → Operand → Instruction
   -- the same, but into a register; the flags stay where the test is true
   operate_into : ℕ → Bool → Operation → ℕ → Operand → Operand → Instruction
-  -- of so many bits, into a register, the address so far from the next instruction
+  -- of n bits, into a register, the address so far from the next instruction
   lea : ℕ → ℕ → ℕ → Instruction
   -- the same of a register and 32 bits
   lea_from : ℕ → ℕ → ℕ → ℕ → Instruction
@@ -557,7 +557,7 @@ run_decoded others (Some d) bytes s =
     if is_branch d.instruction then None
     else others (drop d.size bytes) (execute d.instruction (sum_64 s.ip d.size) s)
 
--- the state after so many instructions, each after the one before it; none where one is a branch
+-- the state after n instructions, each after the one before it; none where one is a branch
 abbrev pub run : ℕ → List ℕ → State → Option State
 run zero bytes s = Some s
 run (suc n) bytes s = run_decoded (run n) (decode bytes) bytes s

@@ -44,7 +44,7 @@ AgreeAfterCall changed s t = AgreeForCaller changed s t × (s.register 0 ≡ t.r
 abbrev pub WritesNothing : State → State → Type 0
 WritesNothing s t = (a : ℕ) → t.memory a ≡ s.memory a
 
--- What a call of `__tls_get_addr` by instructions of so many bytes does, from the state before them
+-- What a call of `__tls_get_addr` by instructions of n bytes does, from the state before them
 -- to the one when it has returned. It takes rdi and returns rax. Flags and all other registers may
 -- change, and memory below the stack pointer. So may the bytes from there up that `changed` names,
 -- whichever these are: where the thread has no block yet, the function makes one.
@@ -71,8 +71,8 @@ EndAlike size count old new s changed returned Alike =
     WritesNothing s after
     × ((t : State) → IsTlsCall size changed returned before t → Alike t after)))
 
--- A `lea` of the GOT entry's address into rdi, whose field is so many bytes after its first, and a
--- call of so many bytes, which returns the symbol's address in this thread for the entry; and so
+-- A `lea` of the GOT entry's address into rdi, whose field is n bytes after its first, and a
+-- call of n bytes, which returns the symbol's address in this thread for the entry; and so
 -- many instructions, with a relocation.
 abbrev pub ReplacesCall : ℕ → ℕ → ℕ → RelaxationKind → X86_64Relocation → (Operands → Operands)
     → (Operands → State → Type 0) → Type 0
@@ -140,8 +140,8 @@ pub record ReachTheSame (changed : ℕ → Bool) (image pointed : ℕ) (s t : St
   pub long_offsets : AddToTheSame 8 (λ offset. offset) names.R_X86_64_DTPOFF64
       names.R_X86_64_TPOFF64 image pointed (s.register 0) (t.register 0)
 
--- `lea x@tlsld(%rip), %rdi` and a call of so many bytes, which returns the address of the module's
--- block in this thread for the GOT entry; and so many instructions, in which nothing is relocated
+-- `lea x@tlsld(%rip), %rdi` and a call of n bytes, which returns the address of the module's
+-- block in this thread for the GOT entry; and n instructions, in which nothing is relocated
 abbrev pub ReplacesModuleCall : ℕ → ℕ → RelaxationKind → Type 0
 ReplacesModuleCall size count kind =
     (x86_64_relocation_after kind names.R_X86_64_TLSLD ≡ Some names.R_X86_64_NONE)

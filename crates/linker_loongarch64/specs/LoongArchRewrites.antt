@@ -216,7 +216,7 @@ IsCallOfDescriptor word = word ≡ 0x4c000021
 abbrev pub IsSingle : (ℕ → Type 0) → List ℕ → ℕ → Type 0
 IsSingle P section o = HasWord section o P
 
--- What P says is at an offset so many bytes before.
+-- What P says is at an offset n bytes before.
 abbrev pub IsBehind : ℕ → (List ℕ → ℕ → Type 0) → List ℕ → ℕ → Type 0
 IsBehind back P section o = (back ≤ o) × P section (o - back)
 
@@ -256,7 +256,7 @@ signed_12 = (neg_ℤ (pos (2 ^ 11)), pos (2 ^ 11))
 abbrev pub Conditions : Type 0
 Conditions = List (Condition LoongArch64Relocation)
 
--- by `pcaddi` alone, which is so many bytes before
+-- by `pcaddi` alone, which is n bytes before
 abbrev pub by_pcaddi : ℕ → Conditions
 by_pcaddi back = fixed_distance ∷ marked ∷ in_reach r.R_LARCH_PCREL20_S2 back ∷ []
 
@@ -265,13 +265,13 @@ abbrev pub bound_by_pcaddi : ℕ → Conditions
 bound_by_pcaddi back =
     bound ∷ fixed_distance ∷ marked ∷ addend (pos 0) ∷ in_reach r.R_LARCH_PCREL20_S2 back ∷ []
 
--- The GOT entry of general- or local-dynamic by `pcaddi`, which is so many bytes before. Its low
+-- The GOT entry of general- or local-dynamic by `pcaddi`, which is n bytes before. Its low
 -- half has the relocation of any GOT entry's: `group_fits` says that its high half can be
 -- rewritten.
 abbrev pub entry_by_pcaddi : LoongArch64Relocation → ℕ → Conditions
 entry_by_pcaddi name back = marked ∷ group_fits ∷ in_reach name back ∷ []
 
--- the definition by the distance in pages from `pcalau12i`, which is so many bytes before
+-- the definition by the distance in pages from `pcalau12i`, which is n bytes before
 abbrev pub bound_by_pages : ℕ → Conditions
 bound_by_pages back =
     bound ∷ fixed_distance ∷ addend (pos 0)

@@ -38,7 +38,7 @@ below_at P (suc n) all i less =
 abbrev word_at : Run → ℕ → ℕ
 word_at r i = (r.word + r.step * i) % 2 ^ 32
 
--- what so many registers leave, up to the last
+-- what n registers leave, up to the last
 abbrev pub after : (ℕ → Counted → Counted) → ℕ → Counted → Counted
 after one zero c = c
 after one (suc k) c = after one k (one (17 - k) c)

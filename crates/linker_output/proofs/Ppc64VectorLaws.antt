@@ -73,12 +73,12 @@ lvx f i less =
 
 -- ---- runs over registers
 
--- what so many registers leave, up to the last
+-- what n registers leave, up to the last
 abbrev after : (ℕ → Vectored → Vectored) → ℕ → Vectored → Vectored
 after one zero v = v
 after one (suc k) v = after one k (one (11 - k) v)
 
--- the code of so many registers, and the end
+-- the code of n registers, and the end
 abbrev code : ℕ → ℕ → List ℕ
 code access zero = blr ∷ []
 code access (suc k) = place_word (11 - k) ∷ access_word access (11 - k) ∷ code access k

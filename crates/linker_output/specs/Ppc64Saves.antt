@@ -31,7 +31,7 @@ abbrev pub word_or_0 : Option ℕ → ℕ
 word_or_0 None = 0
 word_or_0 (Some word) = word
 
--- so many words of functions in a run, from one on
+-- n words of functions in a run, from one on
 abbrev pub words_from : Run → ℕ → ℕ → List ℕ
 words_from run index zero = []
 words_from run index (suc n) = word_or_0 (run_word run index) ∷ words_from run (index + 1) n

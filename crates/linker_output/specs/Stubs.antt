@@ -133,7 +133,7 @@ WritesStub architecture (Some stub) place target before after =
     (code : List ℕ) × IsStub architecture stub place target code
     × (after ≡ code ++ drop (stub_len stub) before)
 
--- why there is none, in so many bytes
+-- why there is none, in n bytes
 abbrev pub IsCauseOf : Architecture → StubCode → ℕ → ℕ → ℕ → StubError → Type 0
 IsCauseOf architecture stub place target len errors.Missing = ⊥
 IsCauseOf architecture stub place target len errors.TooShort = len < stub_len stub

@@ -20,7 +20,7 @@ kind code name = record { code = code; name = name }
 abbrev pub kind_of : ElfName → DynamicKind
 kind_of name = kind (code_of name) (text_of name)
 
--- instructions of so many bytes, whatever `e_flags` is
+-- instructions of n bytes, whatever `e_flags` is
 abbrev pub units_of : ℕ → CodeUnit
 units_of n = record { len = n; flag = 0; flagged_len = n }
 

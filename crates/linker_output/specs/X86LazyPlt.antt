@@ -45,7 +45,7 @@ abbrev pub and_then : (State → Option State) → Option State → Option State
 and_then rest None = None
 and_then rest (Some s) = rest s
 
--- so many instructions of code, from the one at the state's address on, whose first byte has an
+-- n instructions of code, from the one at the state's address on, whose first byte has an
 -- address
 abbrev pub run : ℕ → List ℕ → ℕ → State → Option State
 run zero code start s = Some s

@@ -10,8 +10,14 @@ use crate::flags::FlagRules;
 use crate::got::{GotLayout, ThreadPointer};
 use crate::layout::{CodeUnit, Interpreter, ProvidedRun, ProvidedSymbol};
 use crate::stubs::Stub;
-use crate::{aarch64, loongarch64, ppc64, riscv64, x86_64};
+use linker_utils::architecture::by_architecture;
 use linker_utils::elf::Architecture;
+
+macro_rules! target_of {
+    ($of:ident $module:ident $names:ident ()) => {
+        &crate::$module::TARGET
+    };
+}
 
 /// What a linker adds to an output of an architecture, in numbers and texts.
 ///
@@ -68,12 +74,6 @@ impl Target {
     pub fn of(architecture: Architecture) -> &'static Target
         ensures { view result.now ≡ target_of architecture }
     {
-        match architecture {
-            Architecture::AArch64 => &aarch64::TARGET,
-            Architecture::RiscV => &riscv64::TARGET,
-            Architecture::LoongArch64 => &loongarch64::TARGET,
-            Architecture::Ppc64 => &ppc64::TARGET,
-            Architecture::X86_64 => &x86_64::TARGET,
-        }
+        by_architecture!(architecture, target_of())
     }
 }

@@ -108,7 +108,7 @@ total_below h w k e few small order =
 
 module _ (high low : FieldValue) (a : IsProper high) (b : IsProper low)
     (start : low.known.start ≡ 0) (end : low.known.end ≡ high.known.start) where
-  -- a low half has so many bits
+  -- a low half has n bits
   pub few : low.bits < 2 ^ low.known.end
   few =
       let size : low.known.end - low.known.start ≡ low.known.end = omega arith in

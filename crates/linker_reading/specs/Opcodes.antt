@@ -34,7 +34,7 @@ abbrev pub have_same : Option (ℕ × ℕ) → ℕ → Bool
 have_same None x = true
 have_same (Some at) x = field x at.0 (at.0 + 5) == field x at.1 (at.1 + 5)
 
--- the instruction is there, in a number of so many bytes
+-- the instruction is there, in a number of n bytes
 abbrev pub is_encoded : Encoding → ℕ → ℕ → Bool
 is_encoded e len x =
     nat_le e.len len && (bit_and x e.mask == e.bits && have_same e.registers x)

@@ -51,7 +51,7 @@ struct Encoding {
     forms: &'static [RelocationInstruction],
 }
 
-/// An encoding of so many bytes of an architecture.
+/// An encoding of n bytes of an architecture.
 macro_rules! encoding {
     ($len:literal, $mask:expr, $bits:expr, $architecture:ident [$($form:expr),*]) => {
         Encoding {
@@ -80,7 +80,7 @@ fn encodings(architecture: Architecture) -> &'static [Encoding]
 }
 
 impl Encoding {
-    /// Whether it is in a number of so many bytes.
+    /// Whether it is in a number of n bytes.
     fn is_in(&self, len: usize, number: u64) -> bool
         ensures { result ≡ is_encoded (encoding_of self.now) len number }
     {
@@ -98,7 +98,7 @@ impl Encoding {
     }
 }
 
-/// The forms of the first encoding that is in a number of so many bytes.
+/// The forms of the first encoding that is in a number of n bytes.
 fn first_forms(
     encodings: &'static [Encoding],
     len: usize,

@@ -18,7 +18,7 @@ abbrev pub calls_tls_get_addr : Option SymbolFacts → Bool
 calls_tls_get_addr None = false
 calls_tls_get_addr (Some symbol) = symbol.is_tls_get_addr
 
--- A relocation is that of a call of `__tls_get_addr`, so many bytes after an offset: it is there,
+-- A relocation is that of a call of `__tls_get_addr`, n bytes after an offset: it is there,
 -- its type is one that such a call has, and so is its symbol.
 abbrev pub IsCallIn : Architecture → List SymbolFacts → ℕ → ℕ → Option Rela → Bool → Type 0
 IsCallIn architecture symbols offset distance None found = found ≡ false
@@ -27,7 +27,7 @@ IsCallIn architecture symbols offset distance (Some next) found =
     × (found ≡ ((next.offset == offset + distance) && (is_of_call
     && calls_tls_get_addr (slice_get symbols next.symbol))))
 
--- what a rewrite takes along, so many bytes after its offset, is the relocation with the next
+-- what a rewrite takes along, n bytes after its offset, is the relocation with the next
 -- index
 abbrev pub IsTaken : Architecture → List SymbolFacts → List ℕ → ℕ → ℕ → Option ℕ → Bool → Type 0
 IsTaken architecture symbols bytes n offset None found = found ≡ true

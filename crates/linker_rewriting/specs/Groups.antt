@@ -106,7 +106,7 @@ x86_64_scope x86_64.R_X86_64_DTPOFF32 = Grouped LocalDynamic
 x86_64_scope x86_64.R_X86_64_DTPOFF64 = Grouped LocalDynamic
 x86_64_scope x86_64.R_X86_64_GOTPC32_TLSDESC = Grouped Descriptor
 x86_64_scope x86_64.R_X86_64_CODE_4_GOTPC32_TLSDESC = Grouped Descriptor
--- No `lea` has so many bytes before its field. One that claims to keeps the descriptors of its
+-- No `lea` has n bytes before its field. One that claims to keeps the descriptors of its
 -- symbol.
 x86_64_scope x86_64.R_X86_64_CODE_5_GOTPC32_TLSDESC = Grouped Descriptor
 x86_64_scope x86_64.R_X86_64_CODE_6_GOTPC32_TLSDESC = Grouped Descriptor

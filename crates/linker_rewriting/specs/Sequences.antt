@@ -37,7 +37,7 @@ mark_code RiscV = Some (code_of (riscv_name riscv64.R_RISCV_RELAX))
 mark_code LoongArch64 = Some (code_of (loongarch_name loongarch64.R_LARCH_RELAX))
 mark_code architecture = None
 
--- a relocation is a mark, so many bytes after an offset
+-- a relocation is a mark, n bytes after an offset
 abbrev pub is_mark_of : Option ℕ → ℕ → ℕ → Option Rela → Bool
 is_mark_of None offset distance r = false
 is_mark_of (Some code) offset distance None = false
@@ -74,7 +74,7 @@ place_in aarch64.R_AARCH64_ADR_PREL_PG_HI21 = Some (PageAndOffset, 0)
 place_in aarch64.R_AARCH64_ADD_ABS_LO12_NC = Some (PageAndOffset, 1)
 place_in name = None
 
--- a relocation is so many bytes after an offset, has a code, and is of the symbol and the addend
+-- a relocation is n bytes after an offset, has a code, and is of the symbol and the addend
 -- of another one
 abbrev pub is_part : ℕ → ℕ → ℕ → Rela → Option Rela → Bool
 is_part code offset distance r None = false

@@ -30,7 +30,7 @@ pub(crate) fn is_tls_get_addr(symbols: &[SymbolFacts], symbol: u32) -> bool
     }
 }
 
-/// Whether a relocation is that of a call of `__tls_get_addr` so many bytes after an offset.
+/// Whether a relocation is that of a call of `__tls_get_addr` n bytes after an offset.
 #[inline(always)]
 fn is_call(
     architecture: Architecture,

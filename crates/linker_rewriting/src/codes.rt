@@ -15,15 +15,9 @@ use linker_utils::elf::Architecture;
 /// A call for an architecture and a phase, which is compiled for each pair by itself.
 macro_rules! of_each {
     ($architecture:expr, $phase:expr, $call:ident $given:tt) => {
-        match $architecture {
-            Architecture::AArch64 => of_each!(of $phase, AArch64, $call $given),
-            Architecture::RiscV => of_each!(of $phase, RiscV, $call $given),
-            Architecture::LoongArch64 => of_each!(of $phase, LoongArch64, $call $given),
-            Architecture::Ppc64 => of_each!(of $phase, Ppc64, $call $given),
-            Architecture::X86_64 => of_each!(of $phase, X86_64, $call $given),
-        }
+        linker_utils::architecture::by_architecture!($architecture, of_each($phase, $call $given))
     };
-    (of $phase:expr, $of:ident, $call:ident $given:tt) => {
+    ($of:ident $module:ident $names:ident ($phase:expr, $call:ident $given:tt)) => {
         match $phase {
             Phase::Early => of_each!(in $of, Early, $call $given),
             Phase::ThreadOffsets => of_each!(in $of, ThreadOffsets, $call $given),

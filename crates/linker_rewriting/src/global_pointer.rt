@@ -66,7 +66,7 @@ pub(crate) enum Part {
 /// The type of a low part of the I format until its base is known, `R_RISCV_GPREL_I` of `elf.h`.
 pub const GPREL_I: u32 = 47;
 
-/// That of the S format, `R_RISCV_GPREL_S`.
+/// The same of the S format, `R_RISCV_GPREL_S`.
 pub const GPREL_S: u32 = 48;
 
 /// What the instruction of a relocation is of an address.
@@ -870,7 +870,7 @@ fn base_for(gp: u64, address: u64) -> Option<(u32, u64)>
     }
 }
 
-/// That of what a relocation refers to.
+/// The base of what a relocation refers to.
 #[inline(always)]
 fn base_of(
     addresses: &Addresses,

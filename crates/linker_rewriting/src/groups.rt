@@ -138,7 +138,7 @@ fn aarch64_scope(name: AArch64Relocation) -> Scope
     }
 }
 
-/// That of a relocation of LoongArch.
+/// The scope of a relocation of LoongArch.
 #[inline(always)]
 fn loongarch_scope(name: LoongArch64Relocation) -> Scope
     ensures { result ≡ loongarch_scope name }
@@ -160,7 +160,7 @@ fn loongarch_scope(name: LoongArch64Relocation) -> Scope
     }
 }
 
-/// That of a relocation of PowerPC64.
+/// The scope of a relocation of PowerPC64.
 #[inline(always)]
 fn ppc64_scope(name: Ppc64Relocation) -> Scope
     ensures { result ≡ ppc64_scope name }
@@ -195,7 +195,7 @@ fn ppc64_scope(name: Ppc64Relocation) -> Scope
     }
 }
 
-/// That of a relocation of x86-64.
+/// The scope of a relocation of x86-64.
 #[inline(always)]
 fn x86_64_scope(name: X86_64Relocation) -> Scope
     ensures { result ≡ x86_64_scope name }
@@ -243,7 +243,7 @@ fn aarch64_scope_in(phase: Phase, name: AArch64Relocation) -> Scope
     }
 }
 
-/// That of a relocation of RISC-V, whose rewrites all wait for addresses.
+/// The scope of a relocation of RISC-V, whose rewrites all wait for addresses.
 #[inline(always)]
 fn riscv_scope_in(phase: Phase, name: RiscVRelocation) -> Scope
     ensures { result ≡ riscv_scope_in phase name }
@@ -270,7 +270,7 @@ fn riscv_scope_in(phase: Phase, name: RiscVRelocation) -> Scope
     }
 }
 
-/// That of a relocation of LoongArch.
+/// The scope of a relocation of LoongArch.
 #[inline(always)]
 fn loongarch_scope_in(phase: Phase, name: LoongArch64Relocation) -> Scope
     ensures { result ≡ loongarch_scope_in phase name }
@@ -287,7 +287,7 @@ fn loongarch_scope_in(phase: Phase, name: LoongArch64Relocation) -> Scope
     }
 }
 
-/// That of a relocation of PowerPC64.
+/// The scope of a relocation of PowerPC64.
 #[inline(always)]
 fn ppc64_scope_in(phase: Phase, name: Ppc64Relocation) -> Scope
     ensures { result ≡ ppc64_scope_in phase name }
@@ -310,7 +310,7 @@ fn ppc64_scope_in(phase: Phase, name: Ppc64Relocation) -> Scope
     }
 }
 
-/// That of a relocation of x86-64, whose rewrites all are made before addresses are known.
+/// The scope of a relocation of x86-64, whose rewrites all are made before addresses are known.
 #[inline(always)]
 fn x86_64_scope_in(phase: Phase, name: X86_64Relocation) -> Scope
     ensures { result ≡ x86_64_scope_in phase name }

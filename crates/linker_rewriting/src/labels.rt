@@ -53,7 +53,7 @@ pub(crate) fn is_beyond(relocations: &[u8], at: u64, index: usize) -> bool
     SEARCHED <= index && relocation_in(relocations, index - SEARCHED).offset == at
 }
 
-/// Where a search ends that begins at an index, of so many relocations.
+/// Where a search ends that begins at an index, of n relocations.
 #[inline(always)]
 fn search_end(first: usize, len: usize) -> usize
     requires { first ≤ len }

@@ -39,7 +39,7 @@ fn mark_code(architecture: Architecture) -> Option<u32>
     }
 }
 
-/// Whether a relocation is a mark with a code, so many bytes after an offset.
+/// Whether a relocation is a mark with a code, n bytes after an offset.
 #[inline(always)]
 fn is_mark_of(code: Option<u32>, offset: u64, distance: u64, relocation: Option<Rela>) -> bool
     ensures { result ≡ is_mark_of code offset distance relocation }
@@ -119,7 +119,7 @@ fn place_in(name: AArch64Relocation) -> Option<(Sequence, usize)>
     }
 }
 
-/// Whether a relocation is so many bytes after an offset, has a code, and is of the symbol and the
+/// Whether a relocation is n bytes after an offset, has a code, and is of the symbol and the
 /// addend of another one.
 #[inline(always)]
 fn is_part(code: u32, offset: u64, distance: u64, relocation: &Rela, part: Option<Rela>) -> bool
@@ -287,7 +287,7 @@ fn place_in_load(name: LoongArch64Relocation) -> Option<usize>
     }
 }
 
-/// Whether a relocation is so many bytes after an offset, has a name of LoongArch, and is of the
+/// Whether a relocation is n bytes after an offset, has a name of LoongArch, and is of the
 /// symbol and the addend of another one.
 #[inline(always)]
 fn is_loongarch_part(

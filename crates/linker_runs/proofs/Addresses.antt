@@ -32,7 +32,7 @@ padding_all need limit h = grind (arith, nat_tests)
 pub padding_none : (need limit : ℕ) → limit < need → padding need limit ≡ 0
 padding_none need limit h = grind (arith, nat_tests)
 
--- An alignment without a limit, before which so many bytes are freed, has as many nops as it needs.
+-- An alignment without a limit, before which n bytes are freed, has as many nops as it needs.
 abbrev pub HoldsAt : ℕ → Item → ℕ → Type 0
 HoldsAt start (Site site) freed = ⊤
 HoldsAt start (Aligned alignment) freed = MatchOption alignment.max_skip (needed alignment.alignment (start + alignment.offset - freed) ≤ alignment.nops) (λ most. ⊤)

@@ -23,7 +23,7 @@ pub made_more : (Makes : ℕ → Item → Type 0) (i : ℕ) (items after : List 
 made_more Makes i items after makers new item before e f is =
     rw add-one (subst (λ items. AreMade Makes (suc i) items new) (sym e) (subst (AreMade Makes (suc i) (items ++ item ∷ [])) (sym f) (made before is)))
 
--- The items so far, and their relocations, are the first so many elements of two arrays, and the others
+-- The items so far, and their relocations, are the first n elements of two arrays, and the others
 -- are as they were.
 pub record ArePut {A : Type 0} (f : A → Item) (IsWritten : A → Type 0) (Makes : ℕ → Item → Type 0) (i count : ℕ) (out before : List A) (makers known : List ℕ) : Type 0 where
   pub few : count ≤ i

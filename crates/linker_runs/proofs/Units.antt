@@ -33,7 +33,7 @@ max_power a b pa pb = ⊎_elim
     (λ (more : b ≤ a). let e : max a b ≡ a = grind (arith, nat_tests) in subst IsPowerOfTwo (sym e) pa)
     (cases_lt a b)
 
--- the greatest granularity of so many items is a power of two, and no less than that before nor than each
+-- the greatest granularity of n items is a power of two, and no less than that before nor than each
 record IsUnitOf (before : ℕ) (items : List Item) (granularity : ℕ) : Type 0 where
   power : IsPowerOfTwo granularity
   least : before ≤ granularity

@@ -52,7 +52,7 @@ abbrev pub IsFormed : Item → Type 0
 IsFormed (Site site) = AreNested site.shapes
 IsFormed (Aligned alignment) = IsPowerOfTwo alignment.alignment
 
--- each shape of a site of so many bytes frees a multiple of u
+-- each shape of a site of n bytes frees a multiple of u
 abbrev pub ShapesFit : ℕ → ℕ → Shapes → Type 0
 ShapesFit u len shapes = (k : ℕ) → (len - shape_len shapes k) % u ≡ 0
 

@@ -7,7 +7,7 @@ use Rattle.linker_runs.specs.Relaxing.{offset_of, len_of, target_of, item_at, pl
 use Rattle.linker_runs.specs.Relaxing.{freed_before}
 use Rattle.linker_runs.specs.Choosing.{AreItems, IsRelaxation}
 
--- what an item loses of which so many bytes stay
+-- what an item loses of which n bytes stay
 abbrev pub deletion_at : Item → ℕ → List (ℕ × ℕ)
 deletion_at item kept =
     if nat_lt kept (len_of item) then (offset_of item + kept, len_of item - kept) ∷ [] else []

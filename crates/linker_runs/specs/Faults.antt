@@ -45,7 +45,7 @@ number_of UnevenNops = 13
 number_of TargetInside = 14
 number_of MayBeMisaligned = 15
 
--- what the shapes of a site of so many bytes meet that doesn't have the fault
+-- what the shapes of a site of n bytes meet that doesn't have the fault
 abbrev pub ShapesMeet : Shapes → ℕ → Fault → Type 0
 ShapesMeet shapes len TooManyShapes = shapes.count ≤ 2
 ShapesMeet shapes len ShapeTooLong = (shapes.longest ≤ len)

@@ -136,7 +136,7 @@ pub data IsAddressOutOfReach (section : List ℕ) (o place target : ℕ) : Type 
   far_low : IsOutOfReach (low_template section o) (sum_64 place 4) target
       → IsAddressOutOfReach section o place target
 
--- A site is at the offset, and of so many bytes there are instructions that reach the target.
+-- A site is at the offset, and of n bytes there are instructions that reach the target.
 pub data LoongArchAccepts (section : List ℕ) (o kept place target : ℕ) : Type 0 where
   short_call : IsCall36At section o → kept ≡ 4
       → IsInReach (branch_template (destination section o)) place target
@@ -149,7 +149,7 @@ pub data LoongArchAccepts (section : List ℕ) (o kept place target : ℕ) : Typ
   long_address : IsPcalaAt section o → kept ≡ 8 → IsAddressInReach section o place target
       → LoongArchAccepts section o kept place target
 
--- A site is at the offset, and its instructions of so many bytes don't reach the target.
+-- A site is at the offset, and its instructions of n bytes don't reach the target.
 pub data LoongArchIsFar (section : List ℕ) (o kept place target : ℕ) : Type 0 where
   far_from_branch : IsCall36At section o → kept ≡ 4
       → IsOutOfReach (branch_template (destination section o)) place target
@@ -163,7 +163,7 @@ pub data LoongArchIsFar (section : List ℕ) (o kept place target : ℕ) : Type 
   far_from_pair : IsPcalaAt section o → kept ≡ 8 → IsAddressOutOfReach section o place target
       → LoongArchIsFar section o kept place target
 
--- why nothing is written of the eight bytes at an offset of which so many stay
+-- why nothing is written of the eight bytes at an offset of which n stay
 abbrev pub LoongArchCause : List ℕ → ℕ → ℕ → ℕ → ℕ → ItemError → Type 0
 LoongArchCause section o kept place target NotItsInstructions = ¬ IsSiteAt section o
 LoongArchCause section o kept place target NoShape =

@@ -19,7 +19,7 @@ use Rattle.linker_section.specs.declared.relocations.Rela.{Rela}
 
 -- ---- types
 
--- What the type of a relocation becomes at a site whose instructions became one of so many bytes:
+-- What the type of a relocation becomes at a site whose instructions became one of n bytes:
 -- that of the one instruction. A relocation of another type has none then.
 abbrev pub short_code : Machine → ℕ → ℕ → ℕ
 short_code RiscV64 kept code =
@@ -40,7 +40,7 @@ abbrev pub align_code : Machine → ℕ
 align_code RiscV64 = code_of (riscv_name riscv.R_RISCV_ALIGN)
 align_code LoongArch64 = code_of (loongarch_name loongarch.R_LARCH_ALIGN)
 
--- What the type of a relocation at the begin of an item becomes of which so many bytes stay. At a
+-- What the type of a relocation at the begin of an item becomes of which n bytes stay. At a
 -- site that stays whole, or of which the linker has decided, it is as it was. An alignment was made
 -- by the packing.
 abbrev pub code_at_item : Machine → Item → ℕ → ℕ → ℕ

@@ -104,7 +104,7 @@ abbrev pub nop_len : Machine → ℕ
 nop_len RiscV64 = 2
 nop_len LoongArch64 = 4
 
--- so many bytes of nops: of RISC-V `nop`, and at most one `c.nop` at the end; of LoongArch
+-- n bytes of nops: of RISC-V `nop`, and at most one `c.nop` at the end; of LoongArch
 -- `andi zero, zero, 0`
 abbrev pub nops : Machine → ℕ → List ℕ
 nops RiscV64 n = repeated (0x13 ∷ 0x00 ∷ 0x00 ∷ 0x00 ∷ []) (n / 4)
@@ -146,7 +146,7 @@ pub record IsPackedRun (machine : Machine) (s : Section) (items : List Item) (pa
 
 -- ---- what is accepted and rejected
 
--- there are instructions for a site in the section of which so many bytes stay
+-- there are instructions for a site in the section of which n bytes stay
 abbrev pub SiteAccepts : Machine → Section → site → ℕ → Type 0
 SiteAccepts RiscV64 s site kept =
     (site.len ≡ 8) × RiscVAccepts s.bytes (site.offset - s.base) kept (address_of s site.offset)
@@ -155,7 +155,7 @@ SiteAccepts LoongArch64 s site kept =
     (site.len ≡ 8) × LoongArchAccepts s.bytes (site.offset - s.base) kept
     (address_of s site.offset) (address_of s site.target)
 
--- there is something to write of an item of which so many bytes stay: of an alignment whole nops
+-- there is something to write of an item of which n bytes stay: of an alignment whole nops
 abbrev pub ItemAccepts : Machine → Section → Item → ℕ → Type 0
 ItemAccepts machine s (Site site) kept = SiteAccepts machine s site kept
 ItemAccepts machine s (Aligned alignment) kept = kept % nop_len machine ≡ 0
@@ -172,13 +172,13 @@ pub record CanWrite (machine : Machine) (s : Section) (items : List Item) (i : �
   pub gap : KeepsGap s items i
   pub writable : is_fixed (item_at items i) ≡ false → IsWritable machine s (item_at items i)
 
--- why the instructions at an offset aren't written, of which so many bytes stay
+-- why the instructions at an offset aren't written, of which n bytes stay
 abbrev pub CodeCause : Machine → List ℕ → ℕ → ℕ → ℕ → ℕ → ItemError → Type 0
 CodeCause RiscV64 section o kept place target error = RiscVCause section o kept place target error
 CodeCause LoongArch64 section o kept place target error =
     LoongArchCause section o kept place target error
 
--- why nothing is written of a site in the section of which so many bytes stay
+-- why nothing is written of a site in the section of which n bytes stay
 abbrev pub SiteCause : Machine → Section → site → ℕ → ItemError → Type 0
 SiteCause machine s site kept NotItsInstructions =
     site.len ≡ 8 → CodeCause machine s.bytes (site.offset - s.base) kept

@@ -103,8 +103,8 @@ abbrev pub target_of : Item → ℕ
 target_of (Site site) = if nat_lt 0 site.shapes.count then site.target else site.offset
 target_of (Aligned alignment) = alignment.offset
 
--- whether an item that has the shape at an index reaches its target, where so many bytes are freed
--- before the item, and so many before the target
+-- whether an item that has the shape at an index reaches its target, where n bytes are freed
+-- before the item, and n before the target
 abbrev pub item_reaches : Item → ℕ → ℕ → ℕ → Bool
 item_reaches (Site site) k here there =
     shape_reaches site.shapes k (site.offset - here) (target_of (Site site) - there)
@@ -121,7 +121,7 @@ abbrev pub lengthened : ℕ → List Item → (ℕ → ℕ) → ℕ → ℕ
 lengthened start items choice i =
     if is_in_reach start items choice i then choice i else choice i + 1
 
--- the choice after so many rounds: at first each site has its shortest shape
+-- the choice after n rounds: at first each site has its shortest shape
 unfoldable pub after_rounds : ℕ → List Item → ℕ → ℕ → ℕ
 after_rounds start items zero i = 0
 after_rounds start items (suc r) i = lengthened start items (after_rounds start items r) i

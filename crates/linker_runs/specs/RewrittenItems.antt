@@ -28,7 +28,7 @@ abbrev pub deleted_before : List (ℕ × ℕ) → ℕ → ℕ
 deleted_before deletions zero = 0
 deleted_before deletions (suc k) = deleted_end deletions k
 
--- it begins there or above, and ends in a section of so many bytes
+-- it begins there or above, and ends in a section of n bytes
 abbrev pub IsPlaced : ℕ → List (ℕ × ℕ) → ℕ → Type 0
 IsPlaced len deletions k = (deleted_before deletions k ≤ (deleted_at deletions k).0)
     × (deleted_end deletions k ≤ len)

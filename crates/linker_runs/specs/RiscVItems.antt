@@ -30,7 +30,7 @@ IsOfCall relocation =
 
 -- ---- alignments
 
--- So many bytes of nops are those of an `R_RISCV_ALIGN`: its addend. They are whole nops, of which
+-- N bytes of nops are those of an `R_RISCV_ALIGN`: its addend. They are whole nops, of which
 -- the C extension's have 2 bytes, and lie in the section.
 pub record AreRiscVNops (section : List ℕ) (relocation : Relocation) (nops : ℕ) : Type 0 where
   pub addend : relocation.addend ≡ pos nops
@@ -66,7 +66,7 @@ pub record AreEnoughAt (nops w : ℕ) : Type 0 where
   pub aligned : IsNextPowerOfTwo (nops + 1) power
   pub least : IsNextPowerOfTwo (power - nops) w
 
--- The relocation at an index may free so many bytes, and the next alignment has its nops wherever
+-- The relocation at an index may free n bytes, and the next alignment has its nops wherever
 -- it had them: w divides them.
 abbrev pub MayFree : ℕ → List Relocation → ℕ → Type 0
 MayFree freed relocations i = (j nops w : ℕ) → IsNextAlignment relocations i j

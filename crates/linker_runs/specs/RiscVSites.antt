@@ -59,7 +59,7 @@ pub data RiscVBecomes (section : List ℕ) (o place target : ℕ) (written : Lis
 
 -- ---- what is accepted and rejected
 
--- the instruction of so many bytes before its relocation
+-- the instruction of n bytes before its relocation
 abbrev pub riscv_template : List ℕ → ℕ → ℕ → Option Template
 riscv_template section o kept =
     if kept == 2 && link_register OfJalr section o == 0
@@ -76,12 +76,12 @@ riscv_template section o kept =
     })
     else None
 
--- A call is at the offset, and of so many bytes there is an instruction that reaches the target.
+-- A call is at the offset, and of n bytes there is an instruction that reaches the target.
 pub record RiscVAccepts (section : List ℕ) (o kept place target : ℕ) : Type 0 where
   pub call : IsCallAt section o
   pub reached : IsSomeAnd (riscv_template section o kept) (λ t. IsInReach t place target)
 
--- why nothing is written of the eight bytes at an offset of which so many stay
+-- why nothing is written of the eight bytes at an offset of which n stay
 abbrev pub RiscVCause : List ℕ → ℕ → ℕ → ℕ → ℕ → ItemError → Type 0
 RiscVCause section o kept place target NotItsInstructions = ¬ IsCallAt section o
 RiscVCause section o kept place target NoShape =

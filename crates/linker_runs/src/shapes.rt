@@ -16,7 +16,7 @@ const NONE: Shape = Shape {
     granularity: 1,
 };
 
-/// A deletion that is decided already: so many bytes stay wherever the target is.
+/// A deletion that is decided already: n bytes stay wherever the target is.
 pub fn fixed(kept: u32) -> Shapes
     ensures none { result.count ≡ 0 }
     ensures longest { result.longest ≡ kept }

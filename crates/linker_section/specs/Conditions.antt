@@ -29,7 +29,7 @@ use Rattle.linker_utils.specs.declared.elf.Architecture.TheVariants as architect
 
 -- ---- alignments
 
--- What is after so many bytes of nops is at a multiple of the next power of two above their count,
+-- What is after n bytes of nops is at a multiple of the next power of two above their count,
 -- which is at most 2 ^ 32.
 abbrev pub is_padded : ℕ → ℕ → Bool
 is_padded place nops =

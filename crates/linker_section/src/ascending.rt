@@ -13,7 +13,7 @@ use crate::conditions::begins_with;
 use crate::facts::{Addresses, Symbol};
 use crate::fields::Field;
 use crate::order::are_runs_apart;
-use crate::quick::{HighPart, high_behind, quick_value};
+use crate::quick::{HighPart, high_after, quick_value};
 use crate::relocations::{
     RELA_LEN, Rela, offset_at, relocation_in, relocation_of, relocations_from, relocations_len,
 };
@@ -81,7 +81,7 @@ fn write_quickly(
     if write_held_at(&row, value, offset, section).is_err() {
         return None;
     }
-    let high = high_behind(architecture, &row, offset, value, high);
+    let high = high_after(architecture, &row, offset, value, high);
     Some((offset + row.window() as u64, high))
 }
 

@@ -25,18 +25,17 @@ ghost use Rattle.linker_elf.specs.declared.elf.Uleb128Role.{Uleb128Role};
 ghost use Rattle.linker_utils.specs.Uleb128.{IsNumberWritten, IsPairNumber, IsPairWritten};
 ghost use Rattle.linker_utils.specs.Uleb128.{IsPairOutcome};
 
-use crate::aarch64::{self, AArch64Relocation};
 use crate::elf::{
     AArch64Instruction, ApplyError, Architecture, Choice, InstructionRewrite, LinkFacts,
     LoongArch64Instruction, Operands, OtherRelocation, Ppc64Instruction, RelocationInstruction,
-    RewriteWindow, RiscVInstruction, Row, Uleb128PairError, Uleb128Role,
+    RewriteWindow, RiscVInstruction, Row, Uleb128PairError, Uleb128Role, architectures,
 };
 use crate::loongarch64::{self, LoongArch64Relocation};
 use crate::ppc64::{self, Ppc64Relocation};
 use crate::relaxation::RelocationModifier;
 use crate::riscv64::{self, DeletedBytes, RiscVRelocation};
-use crate::utils;
 use crate::x86_64::{self, X86_64Relocation};
+use crate::{aarch64, utils};
 
 /// How many handles an architecture has: one for each code below.
 pub const HANDLE_UNIT: u32 = 0x1_0000;
@@ -53,38 +52,45 @@ pub enum Relaxation {
 
 /// What is made of a rewrite, whichever architecture it is of.
 macro_rules! of_kind {
-    ($relaxation:expr, $kind:ident => $made:expr) => {
+    (
+        ($relaxation:expr, $kind:ident => $made:expr)
+        $($of:ident $module:ident $names:ident $handles:literal,)*
+    ) => {
         match $relaxation {
-            Relaxation::AArch64($kind) => $made,
-            Relaxation::RiscV($kind) => $made,
-            Relaxation::LoongArch64($kind) => $made,
-            Relaxation::Ppc64($kind) => $made,
-            Relaxation::X86_64($kind) => $made,
+            $(Relaxation::$of($kind) => $made,)*
         }
+    };
+    ($relaxation:expr, $kind:ident => $made:expr) => {
+        architectures!([of_kind] ($relaxation, $kind => $made))
     };
 }
 
-/// What a macro makes of an architecture's module, of the enum of its relocations, of its variant
-/// of `Relaxation`, and of what it is given.
+/// What a macro makes of an architecture's variant, of its module, of the enum of its relocations,
+/// and of what it is given.
+#[macro_export]
 macro_rules! by_architecture {
-    ($architecture:expr, $make:ident $given:tt) => {
+    (
+        ($architecture:expr, $make:ident $given:tt)
+        $($of:ident $module:ident $names:ident $handles:literal,)*
+    ) => {
         match $architecture {
-            Architecture::AArch64 => $make!(aarch64 AArch64Relocation AArch64 $given),
-            Architecture::RiscV => $make!(riscv64 RiscVRelocation RiscV $given),
-            Architecture::LoongArch64 => {
-                $make!(loongarch64 LoongArch64Relocation LoongArch64 $given)
-            }
-            Architecture::Ppc64 => $make!(ppc64 Ppc64Relocation Ppc64 $given),
-            Architecture::X86_64 => $make!(x86_64 X86_64Relocation X86_64 $given),
+            $(Architecture::$of => $make!($of $module $names $given),)*
         }
     };
+    ($architecture:expr, $($made:tt)+) => {
+        $crate::elf::architectures!(
+            [$crate::architecture::by_architecture] ($architecture, $($made)+)
+        )
+    };
 }
+
+pub use by_architecture;
 
 macro_rules! chosen {
-    ($module:ident $names:ident $of:ident
+    ($of:ident $module:ident $names:ident
         ($code:expr, $section:expr, $offset:expr, $facts:expr)) => {{
-        let name = $names::from_elf($code);
-        let chosen = $module::choose(name, $section, $offset, $facts);
+        let name = crate::$module::$names::from_elf($code);
+        let chosen = crate::$module::choose(name, $section, $offset, $facts);
         Choice {
             kind: Relaxation::$of(chosen.kind),
             relocation: chosen.relocation.elf_code(),
@@ -93,18 +99,46 @@ macro_rules! chosen {
 }
 
 macro_rules! row_of {
-    ($module:ident $names:ident $of:ident ($code:expr)) => {
-        $module::row($names::from_elf($code))
+    ($of:ident $module:ident $names:ident ($code:expr)) => {
+        crate::$module::row(crate::$module::$names::from_elf($code))
     };
 }
 
 macro_rules! text_of {
-    ($module:ident $names:ident $of:ident ($code:expr)) => {
-        match $names::from_elf($code) {
-            $names::Other(_) => None,
+    ($of:ident $module:ident $names:ident ($code:expr)) => {
+        match crate::$module::$names::from_elf($code) {
+            crate::$module::$names::Other(_) => None,
             name => Some(name.name()),
         }
     };
+}
+
+macro_rules! rewrite_of {
+    (X86_64 $module:ident $names:ident ($number:expr, $opcode_len:expr)) => {
+        crate::$module::RelaxationKind::from_number($number, $opcode_len).map(Relaxation::X86_64)
+    };
+    ($of:ident $module:ident $names:ident ($number:expr, $opcode_len:expr)) => {
+        crate::$module::RelaxationKind::from_number($number).map(Relaxation::$of)
+    };
+}
+
+/// The first of an architecture's handles.
+macro_rules! first_of {
+    (($architecture:expr) $($of:ident $module:ident $names:ident $handles:literal,)*) => {
+        match $architecture {
+            $(Architecture::$of => $handles * HANDLE_UNIT,)*
+        }
+    };
+}
+
+/// The architecture of a handle.
+macro_rules! of_handle {
+    (($handle:expr) $($of:ident $module:ident $names:ident $handles:literal,)*) => {{
+        $(if $handle / HANDLE_UNIT == $handles {
+            return Some(Architecture::$of);
+        })*
+        None
+    }};
 }
 
 impl Relaxation {
@@ -384,13 +418,7 @@ impl Architecture {
     fn first_handle(self) -> u32
         ensures { result ≡ first_handle self }
     {
-        match self {
-            Architecture::RiscV => 0x1_0000,
-            Architecture::AArch64 => 0x2_0000,
-            Architecture::X86_64 => 0x3_0000,
-            Architecture::LoongArch64 => 0x4_0000,
-            Architecture::Ppc64 => 0x5_0000,
-        }
+        architectures!([first_of](self))
     }
 
     /// The architecture of a handle, whose code is the rest by `HANDLE_UNIT`. None of a number that
@@ -399,22 +427,11 @@ impl Architecture {
     pub fn of_handle(handle: u32) -> Option<Architecture>
         ensures { result ≡ architecture_in handle }
     {
-        // a match of the quotient is a jump, which takes more instructions
-        if handle < 0x1_0000 {
-            None
-        } else if handle < 0x2_0000 {
-            Some(Architecture::RiscV)
-        } else if handle < 0x3_0000 {
-            Some(Architecture::AArch64)
-        } else if handle < 0x4_0000 {
-            Some(Architecture::X86_64)
-        } else if handle < 0x5_0000 {
-            Some(Architecture::LoongArch64)
-        } else if handle < 0x6_0000 {
-            Some(Architecture::Ppc64)
-        } else {
-            None
+        // without this test the others become a jump by the quotient, which takes more instructions
+        if handle < HANDLE_UNIT {
+            return None;
         }
+        architectures!([of_handle](handle))
     }
 
     /// The name of a relocation in its psABI, as "R_AARCH64_CALL26", of at most 39 bytes. None of a
@@ -563,23 +580,7 @@ impl Architecture {
     pub fn rewrite(self, number: u32, opcode_len: u8) -> Option<Relaxation>
         ensures { result ≡ rewrite_of_number self number opcode_len }
     {
-        match self {
-            Architecture::AArch64 => {
-                aarch64::RelaxationKind::from_number(number).map(Relaxation::AArch64)
-            }
-            Architecture::RiscV => {
-                riscv64::RelaxationKind::from_number(number).map(Relaxation::RiscV)
-            }
-            Architecture::LoongArch64 => {
-                loongarch64::RelaxationKind::from_number(number).map(Relaxation::LoongArch64)
-            }
-            Architecture::Ppc64 => {
-                ppc64::RelaxationKind::from_number(number).map(Relaxation::Ppc64)
-            }
-            Architecture::X86_64 => {
-                x86_64::RelaxationKind::from_number(number, opcode_len).map(Relaxation::X86_64)
-            }
-        }
+        by_architecture!(self, rewrite_of(number, opcode_len))
     }
 }
 

@@ -86,21 +86,40 @@ pub enum Architecture {
     X86_64 = 62,
 }
 
+/// What a macro makes of what it is given and of all architectures: of each its variant, its module,
+/// the enum of its relocations, and the quotient of its handles by `HANDLE_UNIT`.
+#[macro_export]
+macro_rules! architectures {
+    ([$($make:tt)+] $given:tt) => {
+        $($make)+!(
+            $given
+            AArch64 aarch64 AArch64Relocation 2,
+            RiscV riscv64 RiscVRelocation 1,
+            LoongArch64 loongarch64 LoongArch64Relocation 4,
+            Ppc64 ppc64 Ppc64Relocation 5,
+            X86_64 x86_64 X86_64Relocation 3,
+        )
+    };
+}
+
+pub use architectures;
+
+/// That whose machine a number is.
+macro_rules! of_machine {
+    (($machine:expr) $($of:ident $module:ident $names:ident $handles:literal,)*) => {
+        match $machine {
+            $(number if number == Architecture::$of.machine() => Some(Architecture::$of),)*
+            _ => None,
+        }
+    };
+}
+
 impl Architecture {
     /// The architecture of a file by `e_machine` of its ELF header. `None` for any other machine.
     pub fn from_machine(e_machine: u16) -> Option<Architecture>
         ensures { result ≡ architecture_of e_machine }
     {
-        match e_machine {
-            number if number == Architecture::AArch64.machine() => Some(Architecture::AArch64),
-            number if number == Architecture::RiscV.machine() => Some(Architecture::RiscV),
-            number if number == Architecture::LoongArch64.machine() => {
-                Some(Architecture::LoongArch64)
-            }
-            number if number == Architecture::Ppc64.machine() => Some(Architecture::Ppc64),
-            number if number == Architecture::X86_64.machine() => Some(Architecture::X86_64),
-            _ => None,
-        }
+        architectures!([of_machine](e_machine))
     }
 
     /// `e_machine` in the ELF header of the architecture's files.

@@ -82,7 +82,7 @@ pub record IsRunFault (start : ℕ) (items : List Item) (at status : ℕ) : Type
   pub says : status ≡ code (fault_status fault)
   pub first : IsFirstFault start items (record { index = at; fault = fault })
 
--- the arrays of a run of so many items have as many elements, and the last one has one more
+-- the arrays of a run of n items have as many elements, and the last one has one more
 pub record HaveLengths (len shapes kept places freed : ℕ) : Type 0 where
   pub each_shape : shapes ≡ len
   pub each_kept : kept ≡ len

@@ -9,15 +9,11 @@ ghost use Rattle.linker_elf.specs.declared.elf.choice.Choice.{Choice};
 ghost use Rattle.linker_utils_c.specs.Choices.{facts_of, IsChoiceInNumbers, IsUnchanged};
 ghost use Rattle.linker_utils_c.specs.Status.{code};
 
+use crate::architectures::by_architecture;
 use crate::rewrites::number_of;
 use crate::status::Status;
-use linker_utils::aarch64::{self, AArch64Relocation};
 use linker_utils::architecture::Relaxation;
 use linker_utils::elf::{Architecture, Choice, InstructionRewrite, LinkFacts, Operands};
-use linker_utils::loongarch64::{self, LoongArch64Relocation};
-use linker_utils::ppc64::{self, Ppc64Relocation};
-use linker_utils::riscv64::{self, RiscVRelocation};
-use linker_utils::x86_64::{self, X86_64Relocation};
 
 /// What a linker knows of a relocation's symbol and of its output: `LinkFacts`. A fact holds where
 /// its number is not 0.
@@ -127,10 +123,10 @@ pub(crate) fn in_numbers(chosen: Choice<Relaxation, u32>) -> ChoiceNumbers
 
 /// The choice of an architecture's rewrites, in numbers.
 macro_rules! chosen_in_numbers {
-    ($module:ident $names:ident $of:ident
+    ($of:ident $module:ident $names:ident
         ($code:expr, $section:expr, $offset:expr, $facts:expr)) => {{
-        let name = $names::from_elf($code);
-        let chosen = $module::choose(name, $section, $offset, $facts);
+        let name = linker_utils::$module::$names::from_elf($code);
+        let chosen = linker_utils::$module::choose(name, $section, $offset, $facts);
         in_numbers(Choice {
             kind: Relaxation::$of(chosen.kind),
             relocation: chosen.relocation.elf_code(),
@@ -152,25 +148,10 @@ pub(crate) fn choose_in_numbers(
         × IsArchitectureChoice architecture code section.now offset facts.now chosen
         × IsChoiceInNumbers architecture chosen result }
 {
-    match architecture {
-        Architecture::AArch64 => {
-            chosen_in_numbers!(aarch64 AArch64Relocation AArch64 (code, section, offset, facts))
-        }
-        Architecture::RiscV => {
-            chosen_in_numbers!(riscv64 RiscVRelocation RiscV (code, section, offset, facts))
-        }
-        Architecture::LoongArch64 => {
-            chosen_in_numbers!(
-                loongarch64 LoongArch64Relocation LoongArch64 (code, section, offset, facts)
-            )
-        }
-        Architecture::Ppc64 => {
-            chosen_in_numbers!(ppc64 Ppc64Relocation Ppc64 (code, section, offset, facts))
-        }
-        Architecture::X86_64 => {
-            chosen_in_numbers!(x86_64 X86_64Relocation X86_64 (code, section, offset, facts))
-        }
-    }
+    by_architecture!(
+        architecture,
+        chosen_in_numbers(code, section, offset, facts)
+    )
 }
 
 /// Which rewrite a linker makes of the instruction at a relocation, and the relocation after it.

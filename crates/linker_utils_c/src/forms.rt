@@ -1,28 +1,39 @@
 //! Values in the immediates of instructions, by `e_machine` and a form's number.
 
-ghost use Rattle.std.specs.Prelude.{◌≡◌, ◌≢◌, ◌≤◌, IfOk, IfErr, IfSome, IfNone, slice_get};
+ghost use Rattle.std.specs.Prelude.{◌≡◌, ◌≢◌, ◌≤◌, IfOk, IfErr, IfSome, IfNone, Some};
 ghost use Rattle.std.specs.Int.{byte_len, cast_unsigned, w64};
 ghost use Rattle.linker_base.specs.Form.{window_of};
 ghost use Rattle.linker_elf.specs.Elf.{relocation_form};
 ghost use Rattle.linker_elf.specs.Numbers.{flag_number};
-ghost use Rattle.linker_elf.specs.RiscV.{riscv_form, riscv_forms};
-ghost use Rattle.linker_utils_c.specs.Forms.{named_form, TakesValue, HasValue};
+ghost use Rattle.linker_utils_c.specs.Forms.{form_among, named_form, TakesValue, HasValue};
 ghost use Rattle.linker_utils_c.specs.Status.{code, HasRoom};
 
+use crate::architectures::{by_architecture, known};
 use crate::status::Status;
 use linker_utils::elf::{
     AArch64Instruction, Architecture, InstructionForm, LoongArch64Instruction, Ppc64Instruction,
     RelocationInstruction, RiscVInstruction,
 };
 
-/// The form of a machine and a number, or which of the two is unknown.
+/// The form of an architecture and a number, or which of the two is unknown.
+#[inline(always)]
+fn form_in(architecture: Architecture, form: u32) -> Result<RelocationInstruction, Status>
+    ensures { result ≡ form_among (Some architecture) form }
+{
+    match architecture {
+        Architecture::X86_64 => Err(Status::UnknownArchitecture),
+        _ => architecture.form(form).ok_or(Status::UnknownForm),
+    }
+}
+
+/// The same by a machine.
 #[inline(always)]
 pub(crate) fn form_of(machine: u16, form: u32) -> Result<RelocationInstruction, Status>
     ensures { result ≡ named_form machine form }
 {
     match Architecture::from_machine(machine) {
-        None | Some(Architecture::X86_64) => Err(Status::UnknownArchitecture),
-        Some(architecture) => architecture.form(form).ok_or(Status::UnknownForm),
+        Some(architecture) => form_in(architecture, form),
+        None => Err(Status::UnknownArchitecture),
     }
 }
 
@@ -159,26 +170,27 @@ const LONGEST_WINDOW: usize = 8;
 
 // Reads a value by a form, if there is one.
 #[inline(always)]
-fn read_by<F: InstructionForm>(
-    form: Option<F>,
+fn read_by(
+    form: Result<RelocationInstruction, Status>,
     bytes: &[u8],
     value: &mut u64,
     negative: &mut u8,
 ) -> Status
-    requires { (named : F) → byte_len (F.form named).window ≤ 8 }
-    ensures known { IfSome form
-        (λ named. HasRoom (byte_len (F.form named).window) bytes.now (code result)) }
-    ensures number { IfSome form (λ named. result ≡ Status.Success
-        → value.new ≡ cast_unsigned w64
-        ((F.form named).reading (window_of (F.form named) bytes.now))) }
-    ensures flag { IfSome form (λ named. result ≡ Status.Success
-        → negative.new ≡ flag_number ((F.form named).flag (window_of (F.form named) bytes.now))) }
-    ensures unknown { IfNone form (result ≡ Status.UnknownForm) }
+    ensures known { IfOk form
+        (λ named. HasRoom (byte_len (relocation_form named).window) bytes.now (code result)) }
+    ensures number { IfOk form (λ named. result ≡ Status.Success
+        → value.new ≡ cast_unsigned w64 ((relocation_form named).reading
+        (window_of (relocation_form named) bytes.now))) }
+    ensures flag { IfOk form (λ named. result ≡ Status.Success
+        → negative.new ≡ flag_number ((relocation_form named).flag
+        (window_of (relocation_form named) bytes.now))) }
+    ensures unknown { IfErr form (λ status. result ≡ status) }
     ensures value_stays { result ≢ Status.Success → value.new ≡ value.old }
     ensures flag_stays { result ≢ Status.Success → negative.new ≡ negative.old }
 {
-    let Some(named) = form else {
-        return Status::UnknownForm;
+    let named = match form {
+        Ok(named) => named,
+        Err(status) => return status,
     };
     if bytes.len() < LONGEST_WINDOW && bytes.len() < named.window() {
         return Status::TooShort;
@@ -187,25 +199,6 @@ fn read_by<F: InstructionForm>(
     *value = number;
     *negative = u8::from(flag);
     Status::Success
-}
-
-// Reads a value by a form of RISC-V. It isn't inlined, and jumps by the form, so that
-// `linker_utils_read` saves no registers for it.
-#[inline(never)]
-fn read_riscv(form: u32, bytes: &[u8], value: &mut u64, negative: &mut u8) -> u32
-    ensures known { IfSome (slice_get riscv_forms form)
-        (λ named. HasRoom (byte_len (riscv_form named).window) bytes.now result) }
-    ensures number { IfSome (slice_get riscv_forms form) (λ named. result ≡ code Status.Success
-        → value.new ≡ cast_unsigned w64
-        ((riscv_form named).reading (window_of (riscv_form named) bytes.now))) }
-    ensures flag { IfSome (slice_get riscv_forms form) (λ named. result ≡ code Status.Success
-        → negative.new
-        ≡ flag_number ((riscv_form named).flag (window_of (riscv_form named) bytes.now))) }
-    ensures unknown { IfNone (slice_get riscv_forms form) (result ≡ code Status.UnknownForm) }
-    ensures value_stays { result ≢ code Status.Success → value.new ≡ value.old }
-    ensures flag_stays { result ≢ code Status.Success → negative.new ≡ negative.old }
-{
-    read_by(RiscVInstruction::from_number(form), bytes, value, negative).number()
 }
 
 /// Reads the value in the instruction that `bytes` begins with, modulo 2^64, and the form's flag,
@@ -234,28 +227,7 @@ pub extern "C" fn linker_utils_read_nonnull(
     let Some(architecture) = Architecture::from_machine(machine) else {
         return Status::UnknownArchitecture.number();
     };
-    match architecture {
-        Architecture::AArch64 => read_by(
-            AArch64Instruction::from_number(form),
-            bytes,
-            value,
-            negative,
-        )
-        .number(),
-        Architecture::RiscV => read_riscv(form, bytes, value, negative),
-        Architecture::LoongArch64 => read_by(
-            LoongArch64Instruction::from_number(form),
-            bytes,
-            value,
-            negative,
-        )
-        .number(),
-        Architecture::Ppc64 => read_by(
-            Ppc64Instruction::from_number(form),
-            bytes,
-            value,
-            negative,
-        ).number(),
-        Architecture::X86_64 => Status::UnknownArchitecture.number(),
-    }
+    by_architecture!(architecture, known(of => {
+        read_by(form_in(of, form), bytes, value, negative).number()
+    }))
 }

@@ -1,6 +1,7 @@
 //! The core of a linker for programs in C and C++: numbers and slices of bytes in, a status out.
 #![tactic(auto)]
 
+mod architectures;
 mod calls;
 mod choices;
 mod deltas;

@@ -9,10 +9,11 @@ ghost use Rattle.linker_utils_c.specs.Rewrites.{IsRewritten, MatchesRewrite};
 ghost use Rattle.linker_base.specs.RewriteWindow.{window_of_rewrite};
 ghost use Rattle.linker_utils_c.specs.Status.{code};
 
+use crate::architectures::{by_architecture, known};
 use crate::status::Status;
 use linker_utils::elf::{Architecture, EM_X86_64, InstructionRewrite, RewriteWindow};
 use linker_utils::relaxation::RelocationModifier;
-use linker_utils::{aarch64, loongarch64, ppc64, riscv64, x86_64};
+use linker_utils::{riscv64, x86_64};
 
 // Whether a rewrite, if there is one, can be applied.
 #[inline(always)]
@@ -139,29 +140,11 @@ fn apply_of(
         return Status::UnknownArchitecture.number();
     };
     match architecture {
-        Architecture::AArch64 => apply_by(
-            aarch64::RelaxationKind::from_number(rewrite),
-            section,
-            offset,
-            addend,
-        )
-        .number(),
         Architecture::RiscV => apply_riscv(rewrite, section, offset, addend),
-        Architecture::LoongArch64 => apply_by(
-            loongarch64::RelaxationKind::from_number(rewrite),
-            section,
-            offset,
-            addend,
-        )
-        .number(),
-        Architecture::Ppc64 => apply_by(
-            ppc64::RelaxationKind::from_number(rewrite),
-            section,
-            offset,
-            addend,
-        )
-        .number(),
         Architecture::X86_64 => apply_x86_64(opcode_len, rewrite, section, addend, offset),
+        _ => by_architecture!(architecture, known(of => {
+            apply_by(of.rewrite(rewrite, opcode_len), section, offset, addend).number()
+        })),
     }
 }
 
@@ -200,21 +183,6 @@ pub(crate) fn number_of(modifier: RelocationModifier) -> u32
     }
 }
 
-// What becomes of the relocation after a rewrite, if there is one.
-#[inline(always)]
-fn modifier_by<R: InstructionRewrite>(rewrite: Option<R>, modifier: &mut u32) -> Status
-    ensures found { IfSome rewrite (λ named. (result ≡ Status.Success)
-        × (modifier.new ≡ modifier_number (R.modifier named))) }
-    ensures unknown { IfNone rewrite ((result ≡ Status.UnknownRewrite)
-        × (modifier.new ≡ modifier.old)) }
-{
-    let Some(named) = rewrite else {
-        return Status::UnknownRewrite;
-    };
-    *modifier = number_of(named.next_modifier());
-    Status::Success
-}
-
 /// Whether `linker_utils_apply` at this offset would succeed: the status is that of the rewrite.
 #[unsafe(no_mangle)]
 pub extern "C" fn linker_utils_can_apply_nonnull(
@@ -232,34 +200,9 @@ pub extern "C" fn linker_utils_can_apply_nonnull(
     let Some(architecture) = Architecture::from_machine(machine) else {
         return Status::UnknownArchitecture.number();
     };
-    let status = match architecture {
-        Architecture::AArch64 => test_by(
-            aarch64::RelaxationKind::from_number(rewrite),
-            section,
-            offset,
-        ),
-        Architecture::RiscV => test_by(
-            riscv64::RelaxationKind::from_number(rewrite),
-            section,
-            offset,
-        ),
-        Architecture::LoongArch64 => test_by(
-            loongarch64::RelaxationKind::from_number(rewrite),
-            section,
-            offset,
-        ),
-        Architecture::Ppc64 => test_by(
-            ppc64::RelaxationKind::from_number(rewrite),
-            section,
-            offset,
-        ),
-        Architecture::X86_64 => test_by(
-            x86_64::RelaxationKind::from_number(rewrite, opcode_len),
-            section,
-            offset,
-        ),
-    };
-    status.number()
+    by_architecture!(architecture, known(of => {
+        test_by(of.rewrite(rewrite, opcode_len), section, offset).number()
+    }))
 }
 
 /// Whether the bytes at an offset of a section are an instruction, or a sequence of some, that the
@@ -372,21 +315,9 @@ pub extern "C" fn linker_utils_next_modifier(
     let Some(architecture) = Architecture::from_machine(machine) else {
         return Status::UnknownArchitecture.number();
     };
-    let status = match architecture {
-        Architecture::AArch64 => modifier_by(
-            aarch64::RelaxationKind::from_number(rewrite),
-            modifier,
-        ),
-        Architecture::RiscV => modifier_by(riscv64::RelaxationKind::from_number(rewrite), modifier),
-        Architecture::LoongArch64 => modifier_by(
-            loongarch64::RelaxationKind::from_number(rewrite),
-            modifier,
-        ),
-        Architecture::Ppc64 => modifier_by(ppc64::RelaxationKind::from_number(rewrite), modifier),
-        Architecture::X86_64 => modifier_by(
-            x86_64::RelaxationKind::from_number(rewrite, opcode_len),
-            modifier,
-        ),
+    let Some(named) = architecture.rewrite(rewrite, opcode_len) else {
+        return Status::UnknownRewrite.number();
     };
-    status.number()
+    *modifier = number_of(named.next_modifier());
+    Status::Success.number()
 }

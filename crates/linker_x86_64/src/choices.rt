@@ -20,10 +20,10 @@ use linker_elf::elf::{Choice, LinkFacts, Operands};
 pub enum AskedFor {
     /// Those that its rewrite is for.
     OfRewrite,
-    /// Of them those with an operand relative to the instruction pointer, so many bytes before the
+    /// Of them those with an operand relative to the instruction pointer, n bytes before the
     /// field and this opcode.
     Legacy(u8, u8),
-    /// Of them the `lea` of a TLS descriptor, with so many bytes before the field.
+    /// Of them the `lea` of a TLS descriptor, with n bytes before the field.
     LeaOfDescriptor(u8),
 }
 
@@ -270,7 +270,7 @@ fn choice_by_opcode(
     choice_by(table, name, section, offset, facts)
 }
 
-/// The byte so many before an offset, if there is one.
+/// The byte n before an offset, if there is one.
 #[inline(always)]
 fn byte_before(section: &[u8], offset: u64, n: u64) -> u8
     ensures { result ≡ slice_index section.now (offset - n) }

@@ -52,7 +52,7 @@ pub fn expect_listed(rt: &impl Abort, deltas: &SectionRelaxDeltas, deletions: &[
     expect_eq(rt, deletions, found, (deletions.len(), sum));
 }
 
-/// Requires that input offsets become these output offsets, by at most so many looks each.
+/// Requires that input offsets become these output offsets, by at most n looks each.
 fn expect_outputs<R: Copy + Debug>(
     rt: &impl Abort,
     row: R,

@@ -2,15 +2,11 @@
 // Made by tools/erase of crates/linker_utils_c/src/choices.rt.
 //! Which rewrite a linker chooses, by `e_machine` and `r_type` of ELF files.
 
+use crate::architectures::by_architecture;
 use crate::rewrites::number_of;
 use crate::status::Status;
-use linker_utils::aarch64::{self, AArch64Relocation};
 use linker_utils::architecture::Relaxation;
 use linker_utils::elf::{Architecture, Choice, InstructionRewrite, LinkFacts, Operands};
-use linker_utils::loongarch64::{self, LoongArch64Relocation};
-use linker_utils::ppc64::{self, Ppc64Relocation};
-use linker_utils::riscv64::{self, RiscVRelocation};
-use linker_utils::x86_64::{self, X86_64Relocation};
 
 /// What a linker knows of a relocation's symbol and of its output: `LinkFacts`. A fact holds where
 /// its number is not 0.
@@ -116,10 +112,10 @@ pub(crate) fn in_numbers(chosen: Choice<Relaxation, u32>) -> ChoiceNumbers {
 
 /// The choice of an architecture's rewrites, in numbers.
 macro_rules! chosen_in_numbers {
-    ($module:ident $names:ident $of:ident
+    ($of:ident $module:ident $names:ident
         ($code:expr, $section:expr, $offset:expr, $facts:expr)) => {{
-        let name = $names::from_elf($code);
-        let chosen = $module::choose(name, $section, $offset, $facts);
+        let name = linker_utils::$module::$names::from_elf($code);
+        let chosen = linker_utils::$module::choose(name, $section, $offset, $facts);
         in_numbers(Choice {
             kind: Relaxation::$of(chosen.kind),
             relocation: chosen.relocation.elf_code(),
@@ -137,25 +133,10 @@ pub(crate) fn choose_in_numbers(
     offset: u64,
     facts: &LinkFacts,
 ) -> ChoiceNumbers {
-    match architecture {
-        Architecture::AArch64 => {
-            chosen_in_numbers!(aarch64 AArch64Relocation AArch64 (code, section, offset, facts))
-        }
-        Architecture::RiscV => {
-            chosen_in_numbers!(riscv64 RiscVRelocation RiscV (code, section, offset, facts))
-        }
-        Architecture::LoongArch64 => {
-            chosen_in_numbers!(
-                loongarch64 LoongArch64Relocation LoongArch64 (code, section, offset, facts)
-            )
-        }
-        Architecture::Ppc64 => {
-            chosen_in_numbers!(ppc64 Ppc64Relocation Ppc64 (code, section, offset, facts))
-        }
-        Architecture::X86_64 => {
-            chosen_in_numbers!(x86_64 X86_64Relocation X86_64 (code, section, offset, facts))
-        }
-    }
+    by_architecture!(
+        architecture,
+        chosen_in_numbers(code, section, offset, facts)
+    )
 }
 
 /// Which rewrite a linker makes of the instruction at a relocation, and the relocation after it.

@@ -2,18 +2,28 @@
 // Made by tools/erase of crates/linker_utils_c/src/forms.rt.
 //! Values in the immediates of instructions, by `e_machine` and a form's number.
 
+use crate::architectures::{by_architecture, known};
 use crate::status::Status;
 use linker_utils::elf::{
     AArch64Instruction, Architecture, InstructionForm, LoongArch64Instruction, Ppc64Instruction,
     RelocationInstruction, RiscVInstruction,
 };
 
-/// The form of a machine and a number, or which of the two is unknown.
+/// The form of an architecture and a number, or which of the two is unknown.
+#[inline(always)]
+fn form_in(architecture: Architecture, form: u32) -> Result<RelocationInstruction, Status> {
+    match architecture {
+        Architecture::X86_64 => Err(Status::UnknownArchitecture),
+        _ => architecture.form(form).ok_or(Status::UnknownForm),
+    }
+}
+
+/// The same by a machine.
 #[inline(always)]
 pub(crate) fn form_of(machine: u16, form: u32) -> Result<RelocationInstruction, Status> {
     match Architecture::from_machine(machine) {
-        None | Some(Architecture::X86_64) => Err(Status::UnknownArchitecture),
-        Some(architecture) => architecture.form(form).ok_or(Status::UnknownForm),
+        Some(architecture) => form_in(architecture, form),
+        None => Err(Status::UnknownArchitecture),
     }
 }
 
@@ -123,14 +133,15 @@ const LONGEST_WINDOW: usize = 8;
 
 // Reads a value by a form, if there is one.
 #[inline(always)]
-fn read_by<F: InstructionForm>(
-    form: Option<F>,
+fn read_by(
+    form: Result<RelocationInstruction, Status>,
     bytes: &[u8],
     value: &mut u64,
     negative: &mut u8,
 ) -> Status {
-    let Some(named) = form else {
-        return Status::UnknownForm;
+    let named = match form {
+        Ok(named) => named,
+        Err(status) => return status,
     };
     if bytes.len() < LONGEST_WINDOW && bytes.len() < named.window() {
         return Status::TooShort;
@@ -139,13 +150,6 @@ fn read_by<F: InstructionForm>(
     *value = number;
     *negative = u8::from(flag);
     Status::Success
-}
-
-// Reads a value by a form of RISC-V. It isn't inlined, and jumps by the form, so that
-// `linker_utils_read` saves no registers for it.
-#[inline(never)]
-fn read_riscv(form: u32, bytes: &[u8], value: &mut u64, negative: &mut u8) -> u32 {
-    read_by(RiscVInstruction::from_number(form), bytes, value, negative).number()
 }
 
 /// Reads the value in the instruction that `bytes` begins with, modulo 2^64, and the form's flag,
@@ -161,28 +165,7 @@ pub fn linker_utils_read_nonnull(
     let Some(architecture) = Architecture::from_machine(machine) else {
         return Status::UnknownArchitecture.number();
     };
-    match architecture {
-        Architecture::AArch64 => read_by(
-            AArch64Instruction::from_number(form),
-            bytes,
-            value,
-            negative,
-        )
-        .number(),
-        Architecture::RiscV => read_riscv(form, bytes, value, negative),
-        Architecture::LoongArch64 => read_by(
-            LoongArch64Instruction::from_number(form),
-            bytes,
-            value,
-            negative,
-        )
-        .number(),
-        Architecture::Ppc64 => read_by(
-            Ppc64Instruction::from_number(form),
-            bytes,
-            value,
-            negative,
-        ).number(),
-        Architecture::X86_64 => Status::UnknownArchitecture.number(),
-    }
+    by_architecture!(architecture, known(of => {
+        read_by(form_in(of, form), bytes, value, negative).number()
+    }))
 }

@@ -20,6 +20,7 @@ mod exported;
 #[cfg(feature = "archive")]
 mod runtime;
 
+pub mod architectures;
 pub mod calls;
 pub mod choices;
 pub mod deltas;

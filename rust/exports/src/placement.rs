@@ -17,7 +17,7 @@ pub struct PlacedStub {
     pub target: usize,
 }
 
-/// How many stubs there are at most for so many branches: two for each, or the largest number if
+/// How many stubs there are at most for n branches: two for each, or the largest number if
 /// those are more.
 pub fn linker_utils_most_stubs(branches_len: usize) -> usize {
     branches_len.saturating_mul(2)

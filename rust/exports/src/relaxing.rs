@@ -204,7 +204,7 @@ fn have_lengths(len: usize, shapes: usize, kept: usize, places: usize, freed: us
     shapes == len && kept == len && places == len && freed > 0 && freed - 1 == len
 }
 
-/// Writes the deltas of what a run loses where so many bytes of each item stay: one for each item
+/// Writes the deltas of what a run loses where n bytes of each item stay: one for each item
 /// that loses some. `len` is how many there are, and the elements of `deltas` from there on are
 /// unchanged.
 ///
@@ -224,7 +224,7 @@ pub fn linker_utils_run_deltas_nonnull(
     Status::Success.number()
 }
 
-/// The delta of an item of which so many bytes stay, after deletions of so many bytes.
+/// The delta of an item of which n bytes stay, after deletions of n bytes.
 #[inline(always)]
 fn delta_of(item: &ItemNumbers, stay: u64, before: u64) -> RelaxDelta {
     let bytes_deleted = item.len - stay as u32;

@@ -2,10 +2,11 @@
 // Made by tools/erase of crates/linker_utils_c/src/rewrites.rt.
 //! Rewrites of instructions, by `e_machine` and a rewrite's number.
 
+use crate::architectures::{by_architecture, known};
 use crate::status::Status;
 use linker_utils::elf::{Architecture, EM_X86_64, InstructionRewrite, RewriteWindow};
 use linker_utils::relaxation::RelocationModifier;
-use linker_utils::{aarch64, loongarch64, ppc64, riscv64, x86_64};
+use linker_utils::{riscv64, x86_64};
 
 // Whether a rewrite, if there is one, can be applied.
 #[inline(always)]
@@ -83,29 +84,11 @@ fn apply_of(
         return Status::UnknownArchitecture.number();
     };
     match architecture {
-        Architecture::AArch64 => apply_by(
-            aarch64::RelaxationKind::from_number(rewrite),
-            section,
-            offset,
-            addend,
-        )
-        .number(),
         Architecture::RiscV => apply_riscv(rewrite, section, offset, addend),
-        Architecture::LoongArch64 => apply_by(
-            loongarch64::RelaxationKind::from_number(rewrite),
-            section,
-            offset,
-            addend,
-        )
-        .number(),
-        Architecture::Ppc64 => apply_by(
-            ppc64::RelaxationKind::from_number(rewrite),
-            section,
-            offset,
-            addend,
-        )
-        .number(),
         Architecture::X86_64 => apply_x86_64(opcode_len, rewrite, section, addend, offset),
+        _ => by_architecture!(architecture, known(of => {
+            apply_by(of.rewrite(rewrite, opcode_len), section, offset, addend).number()
+        })),
     }
 }
 
@@ -130,16 +113,6 @@ pub(crate) fn number_of(modifier: RelocationModifier) -> u32 {
     }
 }
 
-// What becomes of the relocation after a rewrite, if there is one.
-#[inline(always)]
-fn modifier_by<R: InstructionRewrite>(rewrite: Option<R>, modifier: &mut u32) -> Status {
-    let Some(named) = rewrite else {
-        return Status::UnknownRewrite;
-    };
-    *modifier = number_of(named.next_modifier());
-    Status::Success
-}
-
 /// Whether `linker_utils_apply` at this offset would succeed: the status is that of the rewrite.
 pub fn linker_utils_can_apply_nonnull(
     machine: u16,
@@ -151,34 +124,9 @@ pub fn linker_utils_can_apply_nonnull(
     let Some(architecture) = Architecture::from_machine(machine) else {
         return Status::UnknownArchitecture.number();
     };
-    let status = match architecture {
-        Architecture::AArch64 => test_by(
-            aarch64::RelaxationKind::from_number(rewrite),
-            section,
-            offset,
-        ),
-        Architecture::RiscV => test_by(
-            riscv64::RelaxationKind::from_number(rewrite),
-            section,
-            offset,
-        ),
-        Architecture::LoongArch64 => test_by(
-            loongarch64::RelaxationKind::from_number(rewrite),
-            section,
-            offset,
-        ),
-        Architecture::Ppc64 => test_by(
-            ppc64::RelaxationKind::from_number(rewrite),
-            section,
-            offset,
-        ),
-        Architecture::X86_64 => test_by(
-            x86_64::RelaxationKind::from_number(rewrite, opcode_len),
-            section,
-            offset,
-        ),
-    };
-    status.number()
+    by_architecture!(architecture, known(of => {
+        test_by(of.rewrite(rewrite, opcode_len), section, offset).number()
+    }))
 }
 
 /// Whether the bytes at an offset of a section are an instruction, or a sequence of some, that the
@@ -255,21 +203,9 @@ pub fn linker_utils_next_modifier(
     let Some(architecture) = Architecture::from_machine(machine) else {
         return Status::UnknownArchitecture.number();
     };
-    let status = match architecture {
-        Architecture::AArch64 => modifier_by(
-            aarch64::RelaxationKind::from_number(rewrite),
-            modifier,
-        ),
-        Architecture::RiscV => modifier_by(riscv64::RelaxationKind::from_number(rewrite), modifier),
-        Architecture::LoongArch64 => modifier_by(
-            loongarch64::RelaxationKind::from_number(rewrite),
-            modifier,
-        ),
-        Architecture::Ppc64 => modifier_by(ppc64::RelaxationKind::from_number(rewrite), modifier),
-        Architecture::X86_64 => modifier_by(
-            x86_64::RelaxationKind::from_number(rewrite, opcode_len),
-            modifier,
-        ),
+    let Some(named) = architecture.rewrite(rewrite, opcode_len) else {
+        return Status::UnknownRewrite.number();
     };
-    status.number()
+    *modifier = number_of(named.next_modifier());
+    Status::Success.number()
 }

@@ -52,19 +52,19 @@ pub const PAGE_MASK_4KB: u64 = 0xfff;
 #[cfg(feature = "aarch64")]
 pub const EM_AARCH64: u16 = 183;
 
-/// That of RISC-V's files.
+/// `e_machine` of RISC-V's files.
 #[cfg(feature = "riscv64")]
 pub const EM_RISCV: u16 = 243;
 
-/// That of LoongArch's files.
+/// `e_machine` of LoongArch's files.
 #[cfg(feature = "loongarch64")]
 pub const EM_LOONGARCH: u16 = 258;
 
-/// That of files of 64-bit Power.
+/// `e_machine` of files of 64-bit Power.
 #[cfg(feature = "ppc64")]
 pub const EM_PPC64: u16 = 21;
 
-/// That of x86-64's files.
+/// `e_machine` of x86-64's files.
 #[cfg(feature = "x86_64")]
 pub const EM_X86_64: u16 = 62;
 

@@ -8,17 +8,14 @@ use crate::linker_output::flags::FlagRules;
 use crate::linker_output::got::{GotLayout, ThreadPointer};
 use crate::linker_output::layout::{CodeUnit, Interpreter, ProvidedRun, ProvidedSymbol};
 use crate::linker_output::stubs::Stub;
-#[cfg(feature = "aarch64")]
-use crate::linker_output::aarch64;
-#[cfg(feature = "loongarch64")]
-use crate::linker_output::loongarch64;
-#[cfg(feature = "ppc64")]
-use crate::linker_output::ppc64;
-#[cfg(feature = "riscv64")]
-use crate::linker_output::riscv64;
-#[cfg(feature = "x86_64")]
-use crate::linker_output::x86_64;
+use crate::architecture::by_architecture;
 use crate::elf::Architecture;
+
+macro_rules! target_of {
+    ($of:ident $module:ident $names:ident ()) => {
+        &crate::linker_output::$module::TARGET
+    };
+}
 
 /// What a linker adds to an output of an architecture, in numbers and texts.
 ///
@@ -74,17 +71,6 @@ impl Target {
     /// ```
     #[must_use]
     pub fn of(architecture: Architecture) -> &'static Target {
-        match architecture {
-            #[cfg(feature = "aarch64")]
-            Architecture::AArch64 => &aarch64::TARGET,
-            #[cfg(feature = "riscv64")]
-            Architecture::RiscV => &riscv64::TARGET,
-            #[cfg(feature = "loongarch64")]
-            Architecture::LoongArch64 => &loongarch64::TARGET,
-            #[cfg(feature = "ppc64")]
-            Architecture::Ppc64 => &ppc64::TARGET,
-            #[cfg(feature = "x86_64")]
-            Architecture::X86_64 => &x86_64::TARGET,
-        }
+        by_architecture!(architecture, target_of())
     }
 }

@@ -51,7 +51,7 @@ pub struct ProvidedSymbol {
 /// A word of each function of a run.
 #[derive(Debug, Clone, Copy, PartialEq, Eq)]
 pub struct RunWord {
-    /// That of the first function.
+    /// The word of the first function.
     pub word: u32,
     /// What that of each further function has more than that of the one before it.
     pub step: u32,

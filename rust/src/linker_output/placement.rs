@@ -29,7 +29,7 @@ pub struct Branch {
     pub target: usize,
     /// How far below the branch what it reaches may lie, in bytes.
     pub max_backward: u64,
-    /// What it reaches has to lie less than so many bytes above the branch, or at it.
+    /// What it reaches has to lie less than this many bytes above the branch, or at it.
     pub max_forward: u64,
 }
 
@@ -39,12 +39,12 @@ pub struct Branch {
 pub struct StubShape {
     /// How many bytes it has.
     pub len: u64,
-    /// The stubs at a boundary take a multiple of so many bytes, so that the sections after them
+    /// The stubs at a boundary take a multiple of this many bytes, so that the sections after them
     /// stay aligned.
     pub unit: u64,
     /// How far below the stub its target may lie, in bytes.
     pub max_backward: u64,
-    /// The target has to lie less than so many bytes above the stub.
+    /// The target has to lie less than this many bytes above the stub.
     pub max_forward: u64,
 }
 
@@ -272,7 +272,7 @@ fn are_used(stubs: &[Option<usize>], len: usize) -> Result<bool, OutOfMemory> {
     Ok(true)
 }
 
-/// One number more than so many, each 0.
+/// `len` + 1 zeros.
 fn zeros(len: usize) -> Result<Vec<u64>, OutOfMemory> {
     Ok(try_vec![0; len + 1]?)
 }

@@ -13,20 +13,9 @@ use crate::elf::Architecture;
 /// A call for an architecture and a phase, which is compiled for each pair by itself.
 macro_rules! of_each {
     ($architecture:expr, $phase:expr, $call:ident $given:tt) => {
-        match $architecture {
-            #[cfg(feature = "aarch64")]
-            Architecture::AArch64 => of_each!(of $phase, AArch64, $call $given),
-            #[cfg(feature = "riscv64")]
-            Architecture::RiscV => of_each!(of $phase, RiscV, $call $given),
-            #[cfg(feature = "loongarch64")]
-            Architecture::LoongArch64 => of_each!(of $phase, LoongArch64, $call $given),
-            #[cfg(feature = "ppc64")]
-            Architecture::Ppc64 => of_each!(of $phase, Ppc64, $call $given),
-            #[cfg(feature = "x86_64")]
-            Architecture::X86_64 => of_each!(of $phase, X86_64, $call $given),
-        }
+        crate::architecture::by_architecture!($architecture, of_each($phase, $call $given))
     };
-    (of $phase:expr, $of:ident, $call:ident $given:tt) => {
+    ($of:ident $module:ident $names:ident ($phase:expr, $call:ident $given:tt)) => {
         match $phase {
             Phase::Early => of_each!(in $of, Early, $call $given),
             Phase::ThreadOffsets => of_each!(in $of, ThreadOffsets, $call $given),

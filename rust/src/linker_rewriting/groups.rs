@@ -136,7 +136,7 @@ fn aarch64_scope(name: AArch64Relocation) -> Scope {
     }
 }
 
-/// That of a relocation of LoongArch.
+/// The scope of a relocation of LoongArch.
 #[cfg(feature = "loongarch64")]
 #[inline(always)]
 fn loongarch_scope(name: LoongArch64Relocation) -> Scope {
@@ -160,7 +160,7 @@ fn loongarch_scope(name: LoongArch64Relocation) -> Scope {
     }
 }
 
-/// That of a relocation of PowerPC64.
+/// The scope of a relocation of PowerPC64.
 #[cfg(feature = "ppc64")]
 #[inline(always)]
 fn ppc64_scope(name: Ppc64Relocation) -> Scope {
@@ -199,7 +199,7 @@ fn ppc64_scope(name: Ppc64Relocation) -> Scope {
     }
 }
 
-/// That of a relocation of x86-64.
+/// The scope of a relocation of x86-64.
 #[cfg(feature = "x86_64")]
 #[inline(always)]
 fn x86_64_scope(name: X86_64Relocation) -> Scope {
@@ -251,7 +251,7 @@ fn aarch64_scope_in(phase: Phase, name: AArch64Relocation) -> Scope {
     }
 }
 
-/// That of a relocation of RISC-V, whose rewrites all wait for addresses.
+/// The scope of a relocation of RISC-V, whose rewrites all wait for addresses.
 #[cfg(feature = "riscv64")]
 #[inline(always)]
 fn riscv_scope_in(phase: Phase, name: RiscVRelocation) -> Scope {
@@ -280,7 +280,7 @@ fn riscv_scope_in(phase: Phase, name: RiscVRelocation) -> Scope {
     }
 }
 
-/// That of a relocation of LoongArch.
+/// The scope of a relocation of LoongArch.
 #[cfg(feature = "loongarch64")]
 #[inline(always)]
 fn loongarch_scope_in(phase: Phase, name: LoongArch64Relocation) -> Scope {
@@ -297,7 +297,7 @@ fn loongarch_scope_in(phase: Phase, name: LoongArch64Relocation) -> Scope {
     }
 }
 
-/// That of a relocation of PowerPC64.
+/// The scope of a relocation of PowerPC64.
 #[cfg(feature = "ppc64")]
 #[inline(always)]
 fn ppc64_scope_in(phase: Phase, name: Ppc64Relocation) -> Scope {
@@ -321,7 +321,7 @@ fn ppc64_scope_in(phase: Phase, name: Ppc64Relocation) -> Scope {
     }
 }
 
-/// That of a relocation of x86-64, whose rewrites all are made before addresses are known.
+/// The scope of a relocation of x86-64, whose rewrites all are made before addresses are known.
 #[cfg(feature = "x86_64")]
 #[inline(always)]
 fn x86_64_scope_in(phase: Phase, name: X86_64Relocation) -> Scope {

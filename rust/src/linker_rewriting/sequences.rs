@@ -37,7 +37,7 @@ fn mark_code(architecture: Architecture) -> Option<u32> {
     }
 }
 
-/// Whether a relocation is a mark with a code, so many bytes after an offset.
+/// Whether a relocation is a mark with a code, n bytes after an offset.
 #[inline(always)]
 fn is_mark_of(code: Option<u32>, offset: u64, distance: u64, relocation: Option<Rela>) -> bool {
     let Some(code) = code else {
@@ -121,7 +121,7 @@ fn place_in(name: AArch64Relocation) -> Option<(Sequence, usize)> {
     }
 }
 
-/// Whether a relocation is so many bytes after an offset, has a code, and is of the symbol and the
+/// Whether a relocation is n bytes after an offset, has a code, and is of the symbol and the
 /// addend of another one.
 #[inline(always)]
 fn is_part(code: u32, offset: u64, distance: u64, relocation: &Rela, part: Option<Rela>) -> bool {
@@ -277,7 +277,7 @@ fn place_in_load(name: LoongArch64Relocation) -> Option<usize> {
     }
 }
 
-/// Whether a relocation is so many bytes after an offset, has a name of LoongArch, and is of the
+/// Whether a relocation is n bytes after an offset, has a name of LoongArch, and is of the
 /// symbol and the addend of another one.
 #[cfg(feature = "loongarch64")]
 #[inline(always)]

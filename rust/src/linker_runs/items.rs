@@ -102,7 +102,7 @@ pub(crate) fn relocation_at<R: AsRelocation>(relocations: &[R], index: usize) ->
     relocations[index].as_relocation()
 }
 
-/// Whether so many bytes from an offset on lie in the section.
+/// Whether n bytes from an offset on lie in the section.
 #[inline(always)]
 pub(crate) fn has_bytes(section: &[u8], offset: u64, len: u64) -> bool {
     let section_len = section.len() as u64;

@@ -59,7 +59,7 @@ pub enum ItemError {
     /// item is missing. The index is that after the last item where bytes between that and the
     /// section's end are.
     DeletedOutside,
-    /// So many bytes of it stay, but they aren't its first ones.
+    /// N bytes of it stay, but they aren't its first ones.
     NotItsFirstBytes,
     /// The instructions of the site aren't those that its shapes stand for.
     NotItsInstructions,
@@ -84,7 +84,7 @@ pub struct RejectedItem {
 pub(crate) enum Piece {
     /// Nothing: they stay as they are.
     Nothing,
-    /// So many bytes of nops.
+    /// N bytes of nops.
     Nops(u64),
     /// An instruction.
     Code(Code),
@@ -113,7 +113,7 @@ fn stay_whole(from: &Position, to: &Position) -> bool {
     to.output_offset.saturating_sub(from.output_offset) == to.input_offset - from.input_offset
 }
 
-/// What the instructions of a site become of which so many bytes stay.
+/// What the instructions of a site become of which n bytes stay.
 #[inline(always)]
 fn code_of_site(
     machine: Machine,
@@ -175,7 +175,7 @@ fn kept_of(deltas: &[RelaxDelta], at: &Position, end: &Position, item: &Item) ->
     }
 }
 
-/// What is written of an item of which so many bytes stay.
+/// What is written of an item of which n bytes stay.
 #[inline(always)]
 fn piece_for(
     machine: Machine,
@@ -287,7 +287,7 @@ pub(crate) fn put_bytes(packed: &mut [u8], at: u64, bytes: &[u8]) {
     packed[from..from + bytes.len()].copy_from_slice(bytes);
 }
 
-/// Puts so many of the same four bytes at an offset, where they fit there.
+/// Puts n of the same four bytes at an offset, where they fit there.
 fn put_words(packed: &mut [u8], at: u64, word: [u8; 4], count: u64) {
     let len = packed.len() as u64;
     if count > len / 4 || at > len - 4 * count {
@@ -298,7 +298,7 @@ fn put_words(packed: &mut [u8], at: u64, word: [u8; 4], count: u64) {
     }
 }
 
-/// Puts so many bytes of nops at an offset, where they fit there.
+/// Puts n bytes of nops at an offset, where they fit there.
 fn put_nops(machine: Machine, packed: &mut [u8], at: u64, len: u64) {
     match machine {
         #[cfg(feature = "riscv64")]

@@ -24,7 +24,7 @@ use validity::is_power_of_two;
 pub struct Shape {
     /// How far below its output offset the target may lie, in bytes.
     pub max_backward: u64,
-    /// The target has to lie less than so many bytes above its output offset, or at it.
+    /// The target has to lie less than this many bytes above its output offset, or at it.
     pub max_forward: u64,
     /// How many bytes of the site stay, from its first one on.
     pub kept: u32,
@@ -158,7 +158,7 @@ impl Item {
         self.offset() <= offset && self.len() <= offset - self.offset()
     }
 
-    /// How many of its bytes go where so many stay.
+    /// How many of its bytes go where n stay.
     #[inline(always)]
     fn lost(&self, kept: u64) -> u32 {
         match self {
@@ -176,7 +176,7 @@ impl Item {
         }
     }
 
-    /// How many of its bytes stay with the shape at an index, where so many before it are freed.
+    /// How many of its bytes stay with the shape at an index, where n before it are freed.
     #[inline(always)]
     fn kept_by(&self, start: u64, shape: u8, freed: u64) -> u64 {
         match self {
@@ -185,8 +185,8 @@ impl Item {
         }
     }
 
-    /// Whether it reaches its target with the shape at an index, where so many bytes are freed
-    /// before it, and so many before the target.
+    /// Whether it reaches its target with the shape at an index, where n bytes are freed
+    /// before it, and n before the target.
     #[inline(always)]
     fn reaches(&self, shape: u8, here: u64, there: u64) -> bool {
         match self {
@@ -292,7 +292,7 @@ pub struct Plan {
     pub deletions: SectionRelaxDeltas,
 }
 
-/// What a run loses, where so many bytes of each item stay from its first one on: a deletion for
+/// What a run loses, where n bytes of each item stay from its first one on: a deletion for
 /// each item that loses some. It allocates two times, and once more for more than 1,024 deletions.
 ///
 /// # Requires

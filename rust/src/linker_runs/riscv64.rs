@@ -37,7 +37,7 @@ fn nops_of(section: &[u8], relocation: &Relocation) -> Option<u32> {
     }
 }
 
-/// The alignment of an `R_RISCV_ALIGN` with so many bytes of nops.
+/// The alignment of an `R_RISCV_ALIGN` with n bytes of nops.
 #[inline]
 fn alignment_of(nops: u32, offset: u64) -> Alignment {
     Alignment {
@@ -65,14 +65,14 @@ pub(crate) fn next_alignment<R: AsRelocation>(relocations: &[R], index: usize) -
     relocations.len()
 }
 
-/// What has to divide the address of the first of so many bytes of nops, so that they are enough:
+/// What has to divide the address of the first of n bytes of nops, so that they are enough:
 /// the least power of two that leaves no more to fill.
 #[inline]
 fn enough_at(nops: u64) -> u64 {
     ((nops + 1).next_power_of_two() - nops).next_power_of_two()
 }
 
-/// Whether the relocation at an index may free so many bytes, and the next alignment, at an index,
+/// Whether the relocation at an index may free n bytes, and the next alignment, at an index,
 /// has its nops wherever it had them.
 #[inline]
 fn may_free<R: AsRelocation>(freed: u64, relocations: &[R], index: usize, next: usize) -> bool {

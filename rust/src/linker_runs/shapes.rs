@@ -17,7 +17,7 @@ const NONE: Shape = Shape {
     granularity: 1,
 };
 
-/// A deletion that is decided already: so many bytes stay wherever the target is.
+/// A deletion that is decided already: n bytes stay wherever the target is.
 #[must_use]
 pub fn fixed(kept: u32) -> Shapes {
     Shapes {

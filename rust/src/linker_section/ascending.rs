@@ -6,7 +6,7 @@ use crate::linker_section::conditions::begins_with;
 use crate::linker_section::facts::{Addresses, Symbol};
 use crate::linker_section::fields::Field;
 use crate::linker_section::order::are_runs_apart;
-use crate::linker_section::quick::{HighPart, high_behind, quick_value};
+use crate::linker_section::quick::{HighPart, high_after, quick_value};
 use crate::linker_section::relocations::{
     RELA_LEN, Rela, offset_at, relocation_in, relocation_of, relocations_from, relocations_len,
 };
@@ -61,7 +61,7 @@ fn write_quickly(
     if write_held_at(&row, value, offset, section).is_err() {
         return None;
     }
-    let high = high_behind(architecture, &row, offset, value, high);
+    let high = high_after(architecture, &row, offset, value, high);
     Some((offset + row.window() as u64, high))
 }
 

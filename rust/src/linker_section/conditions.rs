@@ -51,7 +51,7 @@ fn power(exponent: u64) -> u64 {
     1 << exponent
 }
 
-/// Whether what is after so many bytes of nops is at a multiple of the next power of two above
+/// Whether what is after n bytes of nops is at a multiple of the next power of two above
 /// their count.
 fn is_padded(place: u64, nops: u64) -> bool {
     let exponent = 64u32.saturating_sub(nops.leading_zeros()) as u64;

@@ -20,11 +20,11 @@ pub struct Symbol {
     pub stub: u64,
     /// The address of its entry of the GOT of the class `Address`.
     pub address_entry: u64,
-    /// That of the class `ThreadOffset`.
+    /// The address of its entry of the class `ThreadOffset`.
     pub thread_entry: u64,
-    /// That of the class `ModuleOffset`.
+    /// The address of its entry of the class `ModuleOffset`.
     pub module_entry: u64,
-    /// That of the class `Descriptor`.
+    /// The address of its entry of the class `Descriptor`.
     pub descriptor: u64,
     /// The addend of these four entries: they are of S + `entry_addend`. 0 except for AArch64 and
     /// PowerPC64, where a relocation may require an entry of S + A. A linker with entries of a

@@ -215,7 +215,7 @@ fn new_high(offset: u64, value: i64) -> HighPart {
 
 /// The last high part after a relocation with a value.
 #[inline(always)]
-pub(crate) fn high_behind(
+pub(crate) fn high_after(
     architecture: Architecture,
     row: &Row,
     offset: u64,

@@ -24,7 +24,7 @@ fn is_pair(section: &[u8], offset: u64, opcode: u32) -> bool {
     second >> 22 == opcode && are_of_one_register(word_at(section, offset), second)
 }
 
-/// The instructions that an entry is for, of which the first is so many bytes before the offset.
+/// The instructions that an entry is for, of which the first is n bytes before the offset.
 #[derive(Debug)]
 pub enum AskedFor {
     /// Those that its rewrite is meant for.

@@ -61,7 +61,7 @@ pub(super) fn word_at(section: &[u8], offset: u64) -> u32 {
     u32_from_slice(&section[offset as usize..])
 }
 
-/// That of the four bytes alone.
+/// The number of the four bytes alone.
 #[inline(always)]
 fn window_at(section: &[u8], offset: u64) -> u32 {
     u32_from_slice(&section[offset as usize..])

@@ -53,7 +53,7 @@ pub fn expect_listed(deltas: &SectionRelaxDeltas, deletions: &[(u64, u32)]) {
     expect_eq(deletions, found, (deletions.len(), sum));
 }
 
-/// Requires that input offsets become these output offsets, by at most so many looks each.
+/// Requires that input offsets become these output offsets, by at most n looks each.
 fn expect_outputs<R: Copy + Debug>(
     row: R,
     deltas: &SectionRelaxDeltas,

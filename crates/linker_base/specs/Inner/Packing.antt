@@ -13,7 +13,7 @@ no_delta = record { input_offset = 0; cumulative_deleted = 0; bytes_deleted = 0 
 abbrev pub delta_at : List RelaxDelta → ℕ → RelaxDelta
 delta_at deltas k = slice_index_or deltas k no_delta
 
--- so many of the deltas, which ascend, begin below an offset
+-- n of the deltas, which ascend, begin below an offset
 pub record AreBegun (deltas : List RelaxDelta) (offset begun : ℕ) : Type 0 where
   pub within : begun ≤ length deltas
   pub below : 0 < begun → (delta_at deltas (begun - 1)).input_offset < offset

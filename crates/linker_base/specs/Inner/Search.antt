@@ -26,7 +26,7 @@ pub record Probed : Type 0 where
   pub subject : Subject
   pub probes : ℕ
 
--- at most so many are read, and nothing changes
+-- at most n are read, and nothing changes
 pub record OnlyProbes (most : ℕ) (before after : Probed) : Type 0 where
   pub same : after.subject ≡ before.subject
   pub counted : after.probes ≤ before.probes + most
@@ -75,7 +75,7 @@ pub record IsPointOf (subject : Subject) (level : Level) (test : Test) (point : 
   pub after : (k : ℕ) → point ≤ k → k < size_of subject level
       → passing subject level test k ≡ false
 
--- there is one point, and it is one of so many indexes from the first on
+-- there is one point, and it is one of n indexes from the first on
 pub record IsNarrowed (subject : Subject) (level : Level) (test : Test) (first count : ℕ)
     : Type 0 where
   pub parted : IsPartitioned subject level test

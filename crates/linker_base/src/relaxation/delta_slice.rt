@@ -480,7 +480,7 @@ pub(super) fn rank_after(last: RelaxDelta, offset: u64) -> u64
     offset.max(end).wrapping_sub(last.cumulative_deleted)
 }
 
-// The rank of an offset, where so many deltas begin below it.
+// The rank of an offset, where n deltas begin below it.
 #[inline(always)]
 pub(crate) fn rank_past(deltas: &[RelaxDelta], below: usize, offset: u64) -> u64
     ensures { AreValidDeltas deltas.now → below ≤ length deltas.now

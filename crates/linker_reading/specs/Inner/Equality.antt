@@ -80,7 +80,7 @@ number_is_equality x y =
     let both = unsigned_Decides x.0 y.0 in
     (λ e i. (both.0 e i, tt), λ e. both.1 (ap (λ (v : ℕ × ⊤). v.0) e))
 
--- so many of these
+-- n of these
 abbrev Numbers : ℕ → Type 0
 Numbers zero = ⊤
 Numbers (suc n) = IsEquality equal_number × Numbers n

@@ -93,7 +93,7 @@ fn shift5_scale(word: u64) -> u64
     }
 }
 
-/// That of an immediate of 12 or 16 bits.
+/// The scale of an immediate of 12 or 16 bits.
 fn shift10_scale(word: u64) -> u64
     ensures value { result ≡ shift10_scale word }
     ensures small { result < 64 }
@@ -107,7 +107,7 @@ fn shift10_scale(word: u64) -> u64
     if has_si16(word) { 2 } else { 0 }
 }
 
-/// That of an instruction.
+/// The scale of an instruction.
 pub(super) fn scale(form: LoongArch64Instruction, word: u64) -> u64
     ensures value { result ≡ loongarch_scale form word }
     ensures small { result < 64 }

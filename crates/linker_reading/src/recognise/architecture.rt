@@ -9,28 +9,15 @@ use crate::recognise::engine::{self, CANDIDATES, Recognised, RecognisedName};
 use crate::recognise::fields::FieldBits;
 use crate::windows;
 pub use crate::windows::{Destination, destination_of};
-use linker_utils::aarch64::AArch64Relocation;
-use linker_utils::architecture::Relaxation;
+use linker_utils::architecture::{Relaxation, by_architecture};
 use linker_utils::elf::{Architecture, Choice, LinkFacts, RewriteWindow};
-use linker_utils::loongarch64::LoongArch64Relocation;
-use linker_utils::ppc64::Ppc64Relocation;
-use linker_utils::riscv64::RiscVRelocation;
-use linker_utils::x86_64::X86_64Relocation;
 
 /// What is found of the relocation's name that an architecture has for a code.
-macro_rules! of_name {
-    ($architecture:expr, $code:expr, $name:ident => $found:expr) => {
-        match $architecture {
-            Architecture::AArch64 => { let $name = AArch64Relocation::from_elf($code); $found }
-            Architecture::RiscV => { let $name = RiscVRelocation::from_elf($code); $found }
-            Architecture::LoongArch64 => {
-                let $name = LoongArch64Relocation::from_elf($code);
-                $found
-            }
-            Architecture::Ppc64 => { let $name = Ppc64Relocation::from_elf($code); $found }
-            Architecture::X86_64 => { let $name = X86_64Relocation::from_elf($code); $found }
-        }
-    };
+macro_rules! found_of {
+    ($of:ident $module:ident $names:ident ($code:expr, $name:ident => $found:expr)) => {{
+        let $name = linker_utils::$module::$names::from_elf($code);
+        $found
+    }};
 }
 
 /// The same with the rewrite as one of all architectures', and the relocation's code.
@@ -97,9 +84,9 @@ pub fn recognise(
     requires { length original.now ≤ 64 }
     ensures found { AreFound architecture code original.now offset others.now linked.now result }
 {
-    of_name!(architecture, code, name => {
+    by_architecture!(architecture, found_of(code, name => {
         all_by_code(engine::recognise(name, original, offset, others, linked))
-    })
+    }))
 }
 
 /// The choice that `choose` makes by what the linker knows, if it leaves the linked bytes, as
@@ -117,9 +104,9 @@ pub fn recognise_chosen(
     ensures found { IsFoundChosen architecture code original.now offset others.now linked.now
         facts.now result }
 {
-    of_name!(architecture, code, name => {
+    by_architecture!(architecture, found_of(code, name => {
         coded(engine::recognise_chosen(name, original, offset, others, linked, facts))
-    })
+    }))
 }
 
 /// The window that `recognise` wants, in bytes of an object around the relocation with a code at an
@@ -141,8 +128,8 @@ pub fn window_of(
     requires { length original.now ≤ 64 }
     ensures { IsWindowOf architecture code original.now offset result }
 {
-    of_name!(architecture, code, name => {
+    by_architecture!(architecture, found_of(code, name => {
         let there = windows::those_there(name, original, offset);
         windows::least_window(name, &there, original, offset)
-    })
+    }))
 }

@@ -23,7 +23,7 @@ pub record AreRunsOf (runs : Runs) (chosen : List Bool) : Type 0 where
       → slice_index_or runs.counts r d
       ≡ chosen_between chosen (r * runs.len) (r * runs.len + runs.len)
 
--- the distance of two output offsets, once so many calls between them have given up four bytes each
+-- the distance of two output offsets, once n calls between them have given up four bytes each
 abbrev pub distance_over : ℕ → ℕ → ℕ → ℕ → ℕ → ℤ
 distance_over from to index split count =
     if nat_le index split then pos (to - 4 * count) -ℤ pos from
@@ -56,7 +56,7 @@ KeepsOthers deletions calls before after =
     (other : List Bool) → length other ≡ length calls → AreInReach deletions calls other
     → IsPartOf other before → IsPartOf other after
 
--- the call at the index has had its turn in a sweep of so many turns, down from the last call or up
+-- the call at the index has had its turn in a sweep of n turns, down from the last call or up
 abbrev pub HadTurn : Bool → ℕ → ℕ → ℕ → Type 0
 HadTurn true len turns i = len ≤ i + turns
 HadTurn false len turns i = i < turns

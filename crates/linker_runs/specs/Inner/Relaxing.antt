@@ -17,7 +17,7 @@ pub record IsAlwaysInReach (start : ℕ) (items : List Item) (i : ℕ) : Type 0 
   pub cautiously : (choice : ℕ → ℕ) → is_in_reach_cautiously items choice i ≡ true
 
 -- The numbers are what the items before each index free where each alignment keeps all, and from an
--- index on so many more.
+-- index on n more.
 pub record AreCautious (items : List Item) (shapes freed : List ℕ) (split more : ℕ) : Type 0 where
   pub below : (j : ℕ) → j < split
       → slice_index_or freed j 0 ≡ cautious_before items (choice_of shapes) j

@@ -6,7 +6,7 @@ use Rattle.linker_runs.specs.declared.relaxation.Item.TheVariants.{Site, Aligned
 use Rattle.linker_runs.specs.Relaxing.{shape_len, short_shape, item_at, place_of, offset_of}
 use Rattle.linker_runs.specs.Choosing.{least_len, AlignmentFits, IsStill}
 
--- Shapes of a site of so many bytes in a run of granularity u: each frees a multiple of u, none
+-- Shapes of a site of n bytes in a run of granularity u: each frees a multiple of u, none
 -- keeps more than the next, each short one reaches itself, and its granularity divides u.
 pub record ShapesSuit (u len : ℕ) (shapes : Shapes) : Type 0 where
   pub freed : (k : ℕ) → (len - shape_len shapes k) % u ≡ 0

@@ -190,7 +190,7 @@ fn long_of(section: &[u8], offset: u64, kind: Kind, place: u64, target: u64) -> 
     }
 }
 
-/// What a site becomes of which so many bytes stay, at an address and for a target's.
+/// What a site becomes of which n bytes stay, at an address and for a target's.
 #[inline(always)]
 pub(crate) fn code_of(
     section: &[u8],

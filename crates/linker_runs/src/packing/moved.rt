@@ -22,7 +22,7 @@ use linker_loongarch64::LoongArch64Relocation;
 use linker_riscv64::RiscVRelocation;
 use linker_section::relocations::{RELA_LEN, Rela, relocation_at, relocations_len};
 
-/// The type of a relocation at a site whose instructions became one of so many bytes: that of the
+/// The type of a relocation at a site whose instructions became one of n bytes: that of the
 /// one instruction. 0 where it isn't that of the site.
 #[inline]
 fn short_code(machine: Machine, kept: u64, code: u32) -> u32
@@ -63,7 +63,7 @@ fn align_code(machine: Machine) -> u32
     }
 }
 
-/// The type of a relocation at the begin of an item of which so many bytes stay.
+/// The type of a relocation at the begin of an item of which n bytes stay.
 #[inline]
 fn code_at_item(machine: Machine, item: &Item, kept: u64, code: u32) -> u32
     ensures { result ≡ code_at_item machine item.now kept code }

@@ -41,7 +41,7 @@ fn jal(link: u32) -> [u8; 4]
     (0x6f + link * 128).to_le_bytes()
 }
 
-/// The instruction of which so many bytes stay of a call that links a register.
+/// The instruction of which n bytes stay of a call that links a register.
 #[inline(always)]
 fn template_of(section: &[u8], offset: u64, link: u32, kept: u64) -> Option<Template>
     requires inside { offset + 8 ≤ length section.now }
@@ -68,7 +68,7 @@ fn template_of(section: &[u8], offset: u64, link: u32, kept: u64) -> Option<Temp
     }
 }
 
-/// What a call becomes of which so many bytes stay, at an address and for a target's.
+/// What a call becomes of which n bytes stay, at an address and for a target's.
 #[inline(always)]
 pub(crate) fn code_of(
     section: &[u8],

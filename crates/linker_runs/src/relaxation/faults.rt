@@ -67,7 +67,7 @@ pub struct ItemFault {
 }
 
 impl Shapes {
-    /// What is wrong with shapes of a site of so many bytes.
+    /// What is wrong with shapes of a site of n bytes.
     #[inline]
     fn fault(&self, len: u64) -> Option<Fault>
         ensures { IsFirstIn (ShapesMeet self.now len) result }

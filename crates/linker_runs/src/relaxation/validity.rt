@@ -31,7 +31,7 @@ pub(super) fn is_power_of_two(number: u64) -> bool
 }
 
 impl Shapes {
-    /// Whether no shape keeps more than so many bytes.
+    /// Whether no shape keeps more than n bytes.
     #[inline]
     pub(super) fn are_within(&self, len: u64) -> bool
         requires { self.now.count ≤ 2 }
@@ -107,7 +107,7 @@ impl Shapes {
                     && first.max_forward <= second.max_forward)
     }
 
-    /// Whether each shape of a site of so many bytes frees a multiple of a granularity.
+    /// Whether each shape of a site of n bytes frees a multiple of a granularity.
     #[inline]
     pub(super) fn are_even(&self, granularity: u64, len: u64) -> bool
         requires granularity { 0 < granularity }

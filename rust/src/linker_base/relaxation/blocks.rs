@@ -153,7 +153,7 @@ pub(super) fn write_heads(deltas: &[RelaxDelta], heads: &mut [BlockHead]) {
     }
 }
 
-/// How many blocks so many deltas take.
+/// How many blocks n deltas take.
 #[inline(always)]
 pub(super) fn count_blocks(len: usize) -> usize {
     len / BLOCK_LEN + usize::from(len % BLOCK_LEN > 0)

@@ -51,7 +51,7 @@ pub const GROUP_FITS: u32 = 1 << 13;
 /// The numbers of 12 bits in two's complement, for `ValueCondition::Within`.
 pub const SIGNED_12: (i64, i64) = (-0x800, 0x800);
 
-/// What an entry requires of the value of a relocation, so many bytes before
+/// What an entry requires of the value of a relocation, n bytes before
 /// the place, or of S + A.
 #[derive(Clone, Copy)]
 pub enum ValueCondition<R> {

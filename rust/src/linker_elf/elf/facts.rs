@@ -7,13 +7,13 @@
 pub enum EntryUse {
     /// None.
     Without,
-    /// That of the symbol's address.
+    /// The entry of the symbol's address.
     Address,
-    /// That of its offset from the thread pointer.
+    /// The entry of its offset from the thread pointer.
     ThreadOffset,
-    /// Those of its module and its offset there.
+    /// The entries of its module and of its offset there.
     ModuleOffset,
-    /// Those of the module.
+    /// The entries of the module.
     Module,
     /// Its TLS descriptor.
     Descriptor,

@@ -193,7 +193,7 @@ impl Row {
     /// five for bits 32 to 51 and the fourth for bits 52 to 63.
     ///
     /// Of a pair of relocations of a ULEB128 number, the value of the second is what is subtracted.
-    /// That of the first, `R_RISCV_SET_ULEB128` or `R_LARCH_ADD_ULEB128`, is S + A, though its row
+    /// The value of the first, `R_RISCV_SET_ULEB128` or `R_LARCH_ADD_ULEB128`, is S + A, though its row
     /// is of kind `Relative`.
     #[inline(always)]
     pub fn value(&self, operands: &Operands) -> Result<i64, FormulaError> {
@@ -839,7 +839,7 @@ macro_rules! mask {
 }
 
 /// A row: its kind, its `size!`, its range, and the fields that most rows don't have. Ranges are
-/// `any`; `signed`, `unsigned` or `signed_or_unsigned` numbers of so many bits; or those `within`
+/// `any`; `signed`, `unsigned` or `signed_or_unsigned` numbers of n bits; or those `within`
 /// two bounds, the second one excluded. `reach` gives the row's reach where that isn't its range.
 macro_rules! row {
     ($kind:ident, $size:tt, any $(, $($field:tt)*)?) => {

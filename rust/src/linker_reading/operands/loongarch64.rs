@@ -80,7 +80,7 @@ fn shift5_scale(word: u64) -> u64 {
     }
 }
 
-/// That of an immediate of 12 or 16 bits.
+/// The scale of an immediate of 12 or 16 bits.
 fn shift10_scale(word: u64) -> u64 {
     if word.extract_bit_range(22..32) == 12 {
         return 52;
@@ -91,7 +91,7 @@ fn shift10_scale(word: u64) -> u64 {
     if has_si16(word) { 2 } else { 0 }
 }
 
-/// That of an instruction.
+/// The scale of an instruction.
 pub(super) fn scale(form: LoongArch64Instruction, word: u64) -> u64 {
     match form {
         LoongArch64Instruction::Shift5 => shift5_scale(word),

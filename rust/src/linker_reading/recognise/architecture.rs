@@ -6,38 +6,15 @@ use crate::linker_reading::recognise::engine::{self, CANDIDATES, Recognised, Rec
 use crate::linker_reading::recognise::fields::FieldBits;
 use crate::linker_reading::windows;
 pub use crate::linker_reading::windows::{Destination, destination_of};
-#[cfg(feature = "aarch64")]
-use crate::aarch64::AArch64Relocation;
-use crate::architecture::Relaxation;
+use crate::architecture::{Relaxation, by_architecture};
 use crate::elf::{Architecture, Choice, LinkFacts, RewriteWindow};
-#[cfg(feature = "loongarch64")]
-use crate::loongarch64::LoongArch64Relocation;
-#[cfg(feature = "ppc64")]
-use crate::ppc64::Ppc64Relocation;
-#[cfg(feature = "riscv64")]
-use crate::riscv64::RiscVRelocation;
-#[cfg(feature = "x86_64")]
-use crate::x86_64::X86_64Relocation;
 
 /// What is found of the relocation's name that an architecture has for a code.
-macro_rules! of_name {
-    ($architecture:expr, $code:expr, $name:ident => $found:expr) => {
-        match $architecture {
-            #[cfg(feature = "aarch64")]
-            Architecture::AArch64 => { let $name = AArch64Relocation::from_elf($code); $found }
-            #[cfg(feature = "riscv64")]
-            Architecture::RiscV => { let $name = RiscVRelocation::from_elf($code); $found }
-            #[cfg(feature = "loongarch64")]
-            Architecture::LoongArch64 => {
-                let $name = LoongArch64Relocation::from_elf($code);
-                $found
-            }
-            #[cfg(feature = "ppc64")]
-            Architecture::Ppc64 => { let $name = Ppc64Relocation::from_elf($code); $found }
-            #[cfg(feature = "x86_64")]
-            Architecture::X86_64 => { let $name = X86_64Relocation::from_elf($code); $found }
-        }
-    };
+macro_rules! found_of {
+    ($of:ident $module:ident $names:ident ($code:expr, $name:ident => $found:expr)) => {{
+        let $name = crate::$module::$names::from_elf($code);
+        $found
+    }};
 }
 
 /// The same with the rewrite as one of all architectures', and the relocation's code.
@@ -103,9 +80,9 @@ pub fn recognise(
     linked: &[u8],
 ) -> [Option<Recognised<Relaxation, u32>>; CANDIDATES] {
     debug_assert!(original.len() <= 64);
-    of_name!(architecture, code, name => {
+    by_architecture!(architecture, found_of(code, name => {
         all_by_code(engine::recognise(name, original, offset, others, linked))
-    })
+    }))
 }
 
 /// The choice that `choose` makes by what the linker knows, if it leaves the linked bytes, as
@@ -126,9 +103,9 @@ pub fn recognise_chosen(
     facts: &LinkFacts,
 ) -> Option<Recognised<Relaxation, u32>> {
     debug_assert!(original.len() <= 64);
-    of_name!(architecture, code, name => {
+    by_architecture!(architecture, found_of(code, name => {
         coded(engine::recognise_chosen(name, original, offset, others, linked, facts))
-    })
+    }))
 }
 
 /// The window that `recognise` wants, in bytes of an object around the relocation with a code at an
@@ -154,8 +131,8 @@ pub fn window_of(
     offset: u64,
 ) -> RewriteWindow {
     debug_assert!(original.len() <= 64);
-    of_name!(architecture, code, name => {
+    by_architecture!(architecture, found_of(code, name => {
         let there = windows::those_there(name, original, offset);
         windows::least_window(name, &there, original, offset)
-    })
+    }))
 }

@@ -15,7 +15,7 @@ pub struct FieldBits {
     pub bits: u64,
 }
 
-/// The lowest bits of a number of so many bytes, of at most 8.
+/// The lowest bits of a number of n bytes, of at most 8.
 #[inline(always)]
 fn bits_of_bytes(len: usize) -> u64 {
     if len < 8 {

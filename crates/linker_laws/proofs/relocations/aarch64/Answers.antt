@@ -156,7 +156,7 @@ returns-clause-from_got c = (
   adds (entry_from got_page got_page_small) refl refl (λ o. refl),
 )
 
--- the value of a move so many bytes on
+-- the value of a move n bytes on
 moved : (n : ℕ) → n < 2 ^ 64 → (o : Operands) → AreAddresses o → (at : ℕ)
     → Some (cast_signed w64
     (difference_64 (sum_64 (sum_64 (sum_64 o.symbol n) (cast_unsigned w64 o.addend)) 0)

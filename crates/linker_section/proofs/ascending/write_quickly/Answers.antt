@@ -98,7 +98,7 @@ returns-clause-high c =
     let Is = IsHighValue a.architecture a.addresses.now bytes a.symbols.now in
     let way = says_way a.architecture a.relocation.now.code row
     (subst (IsRow a.architecture a.relocation.now.code) c.in-Some.is c.row.ensures) in
-    elim c.high_behind-high.ensures [
+    elim c.high_after-high.ensures [
       | inl kept ↦ subst (λ x. IfSome x Is) (sym kept) c.requires.high
       | inr new ↦
           subst (λ x. IfSome x Is) (sym (new.1))
