@@ -193,8 +193,8 @@ impl Row {
     /// five for bits 32 to 51 and the fourth for bits 52 to 63.
     ///
     /// Of a pair of relocations of a ULEB128 number, the value of the second is what is subtracted.
-    /// The value of the first, `R_RISCV_SET_ULEB128` or `R_LARCH_ADD_ULEB128`, is S + A, though its row
-    /// is of kind `Relative`.
+    /// The first, `R_RISCV_SET_ULEB128` or `R_LARCH_ADD_ULEB128`, has the value S + A, though its
+    /// row is of kind `Relative`.
     #[inline(always)]
     pub fn value(&self, operands: &Operands) -> Result<i64, FormulaError> {
         self.info().value_by(&self.entry.terms, operands)
