@@ -6,6 +6,8 @@ import textwrap
 # The words of an identifier that names an architecture, by the feature.
 WORDS = {"aarch64": "AArch64|AARCH64|aarch64", "loongarch64": "LoongArch|LARCH|LOONGARCH|loongarch",
          "ppc64": "Ppc64|PPC64|ppc64", "riscv64": "RiscV|RISCV|riscv", "x86_64": "X86_64|x86_64"}
+# Kinds that stand in one arm with others: by a feature of their own their code would be there twice.
+SHARED = {"RelativeRiscVLow12", "PairSubtractionULEB128RiscV", "PairSubtractionULEB128LoongArch"}
 # What a word of `rust/additions.txt` says of a function: what it returns without a feature.
 WITHOUT = re.compile(r"without\((\w+)\):(.*)")
 
@@ -38,6 +40,8 @@ class Names:
         found = set()
         for at in range(first, past):
             token = source[at]
+            if token in SHARED:
+                continue
             if token in self.own and source[at - 1] != ".":
                 found.add(self.own[token])
             found |= {name for name, words in WORDS.items() if re.search(words, token)}

@@ -93,16 +93,13 @@ pub enum RelocationKind {
     AbsoluteSubtractionWord6,
     /// The second of a pair of RISC-V relocations that set a ULEB128 number to a difference of
     /// symbols.
-    #[cfg(feature = "riscv64")]
     PairSubtractionULEB128RiscV,
     /// The second of a pair of LoongArch relocations that add a difference of symbols to a ULEB128
     /// number.
-    #[cfg(feature = "loongarch64")]
     PairSubtractionULEB128LoongArch,
     /// S + A - P.
     Relative,
     /// The low 12 bits of the value of the high part that the symbol labels.
-    #[cfg(feature = "riscv64")]
     RelativeRiscVLow12,
     /// The high 32 bits of a LoongArch address relative to the place.
     #[cfg(feature = "loongarch64")]

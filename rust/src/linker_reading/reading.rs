@@ -30,16 +30,14 @@ use crate::linker_elf::elf::RiscVInstruction;
 /// Whether bytes hold the value, or its low bits, and not a sum of it and what stood there.
 #[inline(always)]
 fn holds_value(kind: RelocationKind) -> bool {
-    !matches_any!(
+    !matches!(
         kind,
         RelocationKind::AbsoluteAddition
             | RelocationKind::AbsoluteAdditionWord6
             | RelocationKind::AbsoluteSubtraction
-            | RelocationKind::AbsoluteSubtractionWord6,
-        #[cfg(feature = "loongarch64")]
-        RelocationKind::PairSubtractionULEB128LoongArch,
-        #[cfg(feature = "riscv64")]
-        RelocationKind::PairSubtractionULEB128RiscV
+            | RelocationKind::AbsoluteSubtractionWord6
+            | RelocationKind::PairSubtractionULEB128RiscV
+            | RelocationKind::PairSubtractionULEB128LoongArch
     )
 }
 

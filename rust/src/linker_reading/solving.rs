@@ -54,11 +54,7 @@ fn terms_of_kind(kind: RelocationKind) -> Option<Terms> {
         | RelocationKind::AbsoluteLowPart
         | RelocationKind::AbsoluteSet
         | RelocationKind::AbsoluteSetWord6 => make_terms(Reference::Symbol, Origin::Zero),
-        RelocationKind::Relative => {
-            make_terms(Reference::Symbol, Origin::Place)
-        }
-        #[cfg(feature = "riscv64")]
-        RelocationKind::RelativeRiscVLow12 => {
+        RelocationKind::Relative | RelocationKind::RelativeRiscVLow12 => {
             make_terms(Reference::Symbol, Origin::Place)
         }
         RelocationKind::SymRelGotBase => make_terms(Reference::Symbol, Origin::Got),

@@ -14,12 +14,10 @@ pub(crate) fn begins_pair(size: RelocationSize, kind: RelocationKind) -> bool {
 /// Whether a row is that of the second of such a pair.
 #[inline(always)]
 pub(crate) fn ends_pair(size: RelocationSize, kind: RelocationKind) -> bool {
-    matches_any!(
+    matches!(
         kind,
-        #[cfg(feature = "loongarch64")]
-        RelocationKind::PairSubtractionULEB128LoongArch,
-        #[cfg(feature = "riscv64")]
         RelocationKind::PairSubtractionULEB128RiscV
+            | RelocationKind::PairSubtractionULEB128LoongArch
     ) && matches!(size, RelocationSize::ByteSize(_))
 }
 

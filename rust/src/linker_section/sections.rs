@@ -116,7 +116,6 @@ fn number_or_zero(bytes: &[u8]) -> u64 {
 fn pair_number(kind: RelocationKind, bytes: &[u8], first: i64, second: i64) -> u64 {
     let difference = (first as u64).wrapping_sub(second as u64);
     match kind {
-        #[cfg(feature = "loongarch64")]
         RelocationKind::PairSubtractionULEB128LoongArch => {
             number_or_zero(bytes).wrapping_add(difference)
         }

@@ -332,7 +332,6 @@ fn own_value(
 #[inline(always)]
 fn names_label(size: RelocationSize, kind: RelocationKind) -> bool {
     match kind {
-        #[cfg(feature = "riscv64")]
         RelocationKind::RelativeRiscVLow12 => true,
         RelocationKind::TlsDesc => matches_any!(
             size,

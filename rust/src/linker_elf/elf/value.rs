@@ -212,22 +212,16 @@ impl RelocationKindInfo {
                 Err(FormulaError::NoValue)
             }
             RelocationKind::Absolute
-                | RelocationKind::AbsoluteLowPart
-                | RelocationKind::AbsoluteSet
-                | RelocationKind::AbsoluteSetWord6
-                | RelocationKind::AbsoluteAddition
-                | RelocationKind::AbsoluteAdditionWord6
-                | RelocationKind::AbsoluteSubtraction
-                | RelocationKind::AbsoluteSubtractionWord6 => Ok(terms.symbol(operands)),
-            #[cfg(feature = "loongarch64")]
-            RelocationKind::PairSubtractionULEB128LoongArch => Ok(terms.symbol(operands)),
-            #[cfg(feature = "riscv64")]
-            RelocationKind::PairSubtractionULEB128RiscV => Ok(terms.symbol(operands)),
-            RelocationKind::Relative => {
-                Ok(terms.symbol(operands).wrapping_sub(place))
-            }
-            #[cfg(feature = "riscv64")]
-            RelocationKind::RelativeRiscVLow12 => {
+            | RelocationKind::AbsoluteLowPart
+            | RelocationKind::AbsoluteSet
+            | RelocationKind::AbsoluteSetWord6
+            | RelocationKind::AbsoluteAddition
+            | RelocationKind::AbsoluteAdditionWord6
+            | RelocationKind::AbsoluteSubtraction
+            | RelocationKind::AbsoluteSubtractionWord6
+            | RelocationKind::PairSubtractionULEB128RiscV
+            | RelocationKind::PairSubtractionULEB128LoongArch => Ok(terms.symbol(operands)),
+            RelocationKind::Relative | RelocationKind::RelativeRiscVLow12 => {
                 Ok(terms.symbol(operands).wrapping_sub(place))
             }
             #[cfg(feature = "loongarch64")]
