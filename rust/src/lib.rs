@@ -37,10 +37,6 @@ mod support;
 #[cfg(test)]
 mod tests;
 
-#[cfg(doctest)]
-#[doc = include_str!("../README.md")]
-mod readme {}
-
 #[cfg(feature = "compat")]
 pub mod compat;
 mod errors;
