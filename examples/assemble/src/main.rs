@@ -163,7 +163,7 @@ fn assemble(machine: Architecture, source: &str, address: u64) -> Result<Vec<Vec
         for (at, row, operands) in relocations(machine, &statements, end, statement) {
             let value = row.value(&operands).expect("a relocation with a value");
             row.write(value, &mut bytes[at..]).map_err(|error| {
-                let error = WriteError::new(&row.info(), value, error);
+                let error = WriteError::new(&row, value, error);
                 format!("line {}: {}: {error}", statement.line, statement.label)
             })?;
         }
