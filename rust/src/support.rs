@@ -3,6 +3,9 @@
 //! memory and return an error where there is none, a push that takes none, and what tests name.
 #![allow(dead_code, unused_macros, reason = "each of three crates uses a part")]
 
+#[cfg(any(target_pointer_width = "16", target_pointer_width = "32"))]
+compile_error!("linker_utils is for targets of 64 bits: it is proved for a `usize` of 64 bits");
+
 use alloc::boxed::Box;
 pub(crate) use alloc::collections::TryReserveError as AllocError;
 use alloc::string::{String, ToString};

@@ -1,14 +1,15 @@
 -- How far a cursor's walk goes at a query.
-use Rattle.std.proofs.Common.{◌≡◌, ℕ, ◌+◌, ◌-◌, ◌<◌, ◌≤◌, List, length, map, get_or, take, ap, ◌∙◌, inl, inr, arith}
+use Rattle.std.proofs.Common.{◌≡◌, ℕ, ◌+◌, ◌-◌, ◌<◌, ◌≤◌, List, length, map, get_or, take, drop, sym, subst, ap, ◌∙◌, ◌∷◌, inl, inr, arith}
 use Rattle.std.specs.Prelude.{◌↔◌, ◌%◌, ◌^◌, max, nat_lt, All, AllPairs}
 use Rattle.std.proofs.lemmas.Bool.{cases_eq, cases_lt}
-use Rattle.std.proofs.lemmas.List.{length-map, length-take, get_or-take, get_or_default}
+use Rattle.std.proofs.lemmas.List.{length-map, length-take, length-drop, get_or-take, get_or-drop, get_or_default, at_drop_more}
 use Rattle.std.proofs.lemmas.List.Sums.{count_by-le-length}
+use Rattle.std.specs.Slice.Iter.{iter_rest}
 use Rattle.linker_base.specs.declared.relaxation.RelaxDelta.{RelaxDelta}
 use Rattle.linker_base.specs.Deletions.{IsBefore, IsValid, rank, begun_below}
 use Rattle.linker_base.specs.Deltas.{deletion_of}
 use Rattle.linker_base.specs.Listed.{AreValidDeltas}
-use Rattle.linker_base.specs.Inner.Listed.{IsWalked}
+use Rattle.linker_base.specs.Inner.Listed.{IsWalked, IsPassing, passed_in}
 use Rattle.linker_base.specs.declared.relaxation.walk.Reached.{Reached}
 use Rattle.linker_base.proofs.Laws.{begun_parted, begun_later}
 use Rattle.linker_base.proofs.Listed.{taken_up_to}
@@ -33,18 +34,20 @@ begun_ahead ds valid before i within below =
     grind (arith, length-take before ds, below b (0, 0), first, parted.1 b (0, 0))
 
 -- and its rank follows from how far the walk has come
-pub rank_walked : (ds : List (ℕ × ℕ)) → IsValid ds → (reached : Reached) (i : ℕ) → reached.passed ≡ begun_below ds i → IsWalked ds reached → rank ds i + reached.deleted ≡ max i reached.end
-rank_walked ds valid reached i begun walked =
-    let parted = begun_parted ds i valid.ascending in
-    let within : reached.passed ≤ length ds = omega (arith, count_by-le-length (λ (d : ℕ × ℕ). nat_lt d.0 i) ds) in
-    omega (arith, rank_from_search ds valid i reached.passed reached.end within (rw begun parted) walked.end, walked.sum)
+pub rank_walked : (deltas : List RelaxDelta) → AreValidDeltas deltas → (reached : Reached) (k i : ℕ) → k ≡ begun_below (map deletion_of deltas) i → IsWalked deltas k reached → rank (map deletion_of deltas) i + reached.deleted ≡ max i reached.end
+rank_walked deltas listed reached k i begun walked =
+    let ds = map deletion_of deltas in
+    let parted = begun_parted ds i listed.valid.ascending in
+    let within : k ≤ length ds = omega (arith, length-map deltas deletion_of, walked.within) in
+    omega (arith, rank_from_search ds listed.valid i k reached.end within (rw begun parted) walked.end, walked.sum)
 
 -- so do both after a query that is no step back
-pub walked_ahead : (ds : List (ℕ × ℕ)) → IsValid ds → (before i : ℕ) (reached : Reached) → before ≤ length ds → reached.passed ≡ max before (begun_below ds i) → IsWalked ds reached → All (λ d. d.0 < i) (take before ds)
-    → (rank ds i + reached.deleted ≡ max i reached.end) × All (λ d. d.0 < i) (take reached.passed ds)
-walked_ahead ds valid before i reached within passed walked ahead =
-    let begun = passed ∙ begun_ahead ds valid before i within ahead in
-    (rank_walked ds valid reached i begun walked, rw begun (begun_later ds i i valid.ascending (omega arith)))
+pub walked_ahead : (deltas : List RelaxDelta) → AreValidDeltas deltas → (before i k : ℕ) (reached : Reached) → before ≤ length deltas → k ≡ max before (begun_below (map deletion_of deltas) i) → IsWalked deltas k reached → All (λ d. d.0 < i) (take before (map deletion_of deltas))
+    → (rank (map deletion_of deltas) i + reached.deleted ≡ max i reached.end) × All (λ d. d.0 < i) (take k (map deletion_of deltas))
+walked_ahead deltas listed before i k reached within passed walked ahead =
+    let ds = map deletion_of deltas in
+    let begun = passed ∙ begun_ahead ds listed.valid before i (omega (arith, length-map deltas deletion_of, within)) ahead in
+    (rank_walked deltas listed reached k i begun walked, rw begun (begun_later ds i i listed.valid.ascending (omega arith)))
 
 -- the last of the first deletions decides whether all of them begin below an offset
 pub taken_begin_below : (ds : List (ℕ × ℕ)) → AllPairs IsBefore ds → (i k : ℕ) → 0 < k → k ≤ length ds → ((get_or ds (k - 1) (0, 0)).0 < i) ↔ All (λ d. d.0 < i) (take k ds)
@@ -72,31 +75,77 @@ step_back_stays ds valid passed i within back = elim (cases_lt passed (begun_bel
 ]
 
 -- the bytes that are passed end at the end of the last deletion or below
-pub walked_below_end : (ds : List (ℕ × ℕ)) → IsValid ds → (reached : Reached) → reached.passed ≤ length ds → IsWalked ds reached → reached.deleted ≤ reached.end
-walked_below_end ds valid reached within walked = elim (cases_lt 0 reached.passed) [
-  | inl some ↦
-      let last = reached.passed - 1 in
-      let inside : last < length ds = omega arith in
-      let one : last + 1 ≡ reached.passed = omega arith in
-      let bytes = rw one at (taken_up_to ds valid last (0, 0) inside).0 in
-      omega (arith, bytes, bytes-le-offset ds last (0, 0) valid.ascending inside, walked.end.last (0, 0) some, walked.sum)
-  | inr none ↦
-      let zero : reached.passed ≡ 0 = omega arith in
-      let sum : reached.deleted ≡ 0 = rw zero at walked.sum in
-      omega (arith, sum)
-]
+pub walked_below_end : (deltas : List RelaxDelta) → AreValidDeltas deltas → (reached : Reached) (k : ℕ) → IsWalked deltas k reached → reached.deleted ≤ reached.end
+walked_below_end deltas listed reached k walked =
+    let ds = map deletion_of deltas in
+    elim (cases_lt 0 k) [
+      | inl some ↦
+          let last = k - 1 in
+          let inside : last < length ds = omega (arith, length-map deltas deletion_of, walked.within) in
+          let one : last + 1 ≡ k = omega arith in
+          let bytes = rw one at (taken_up_to ds listed.valid last (0, 0) inside).0 in
+          omega (arith, bytes, bytes-le-offset ds last (0, 0) listed.valid.ascending inside, walked.end.last (0, 0) some, walked.sum)
+      | inr none ↦
+          let zero : k ≡ 0 = omega arith in
+          let sum : reached.deleted ≡ 0 = rw zero at walked.sum in
+          omega (arith, sum)
+    ]
+
+-- how many deltas a walk has passed
+pub passed_is : (deltas : List RelaxDelta) (k : ℕ) (reached : Reached) → IsWalked deltas k reached → passed_in deltas reached ≡ k
+passed_is deltas k reached walked = omega (arith, ap length walked.rest, length-drop k deltas, walked.within)
 
 -- a delta that is passed leaves its sum and its end
-pub walked_over : (deltas : List RelaxDelta) → AreValidDeltas deltas → (k : ℕ) → k < length deltas → (deleted end : ℕ) → deleted ≡ (get_or deltas k blank).cumulative_deleted → end ≡ ((get_or deltas k blank).input_offset + (get_or deltas k blank).bytes_deleted) % 2 ^ 64
-    → IsWalked (map deletion_of deltas) (record { passed = k + 1; deleted = deleted; end = end })
-walked_over deltas listed k within deleted end sum wrapped =
-    let inside : k < length (map deletion_of deltas) = omega (arith, length-map deltas deletion_of) in
+pub walked_over : (deltas : List RelaxDelta) → AreValidDeltas deltas → (k : ℕ) (before after : Reached) (x : RelaxDelta) → IsWalked deltas k before → iter_rest before.rest ≡ x ∷ iter_rest after.rest → after.deleted ≡ x.cumulative_deleted → after.end ≡ (before.next + x.bytes_deleted) % 2 ^ 64
+    → ((d : RelaxDelta) → 0 < length (iter_rest after.rest) → after.next ≡ (get_or (iter_rest after.rest) 0 d).input_offset) → (length (iter_rest after.rest) ≡ 0 → after.next ≡ 2 ^ 64 - 1)
+    → (k < length deltas) × IsWalked deltas (k + 1) after
+walked_over deltas listed k before after x walked step deleted wrapped next none =
+    let long : k < length deltas = omega (arith, ap length (sym walked.rest ∙ step), length-drop k deltas) in
+    let both : get_or deltas k x ∷ drop (k + 1) deltas ≡ x ∷ iter_rest after.rest = sym (at_drop_more (λ l. l) deltas k x long) ∙ sym walked.rest ∙ step in
+    let here : x ≡ get_or deltas k blank = sym (ap (λ l. get_or l 0 x) both) ∙ get_or_default deltas k x blank long in
+    let left : drop (k + 1) deltas ≡ iter_rest after.rest = ap (λ l. drop 1 l) both in
+    let inside : k < length (map deletion_of deltas) = omega (arith, length-map deltas deletion_of, long) in
     let back : k + 1 - 1 ≡ k = omega arith in
-    let fits = rw (deletion_at deltas k blank (0, 0) within) at (listed.valid.ends k (0, 0) inside) in
-    record {
-      sum = sum ∙ listed.listing.sums k blank within;
-      end = record {
-        none = λ none. absurd (omega arith);
-        last = λ d some. rw (back, deletion_at deltas k blank d within) (omega (arith, fits, wrapped));
-      };
-    }
+    let fits = rw (deletion_at deltas k blank (0, 0) long) at (listed.valid.ends k (0, 0) inside) in
+    let offset = walked.next blank long in
+    let bytes = ap (λ (e : RelaxDelta). e.bytes_deleted) here in
+    let zero : k + 1 + 0 ≡ k + 1 = omega arith in (
+      long,
+      record {
+        within = omega (arith, long);
+        rest = sym left;
+        next = λ d more. next d (omega (arith, ap length left, length-drop (k + 1) deltas, more)) ∙ ap (λ l. (get_or l 0 d).input_offset) (sym left) ∙ rw zero at (ap (λ (e : RelaxDelta). e.input_offset) (get_or-drop (k + 1) deltas 0 d));
+        none = λ last. none (omega (arith, ap length left, length-drop (k + 1) deltas, last));
+        sum = deleted ∙ ap (λ (e : RelaxDelta). e.cumulative_deleted) here ∙ listed.listing.sums k blank long;
+        end = record {
+          none = λ none. absurd (omega arith);
+          last = λ d some. rw (back, deletion_at deltas k blank d long) (omega (arith, fits, wrapped, offset, bytes));
+        };
+      },
+    )
+
+-- a walk that stops at the first delta that doesn't begin below the offset has passed just those that do
+pub walked_past : (deltas : List RelaxDelta) → AreValidDeltas deltas → (k offset : ℕ) (reached : Reached) → IsPassing deltas k offset reached → (passed_in deltas reached < length deltas → offset ≤ (get_or deltas (passed_in deltas reached) blank).input_offset)
+    → IsWalked deltas (max k (begun_below (map deletion_of deltas) offset)) reached
+walked_past deltas listed k offset reached passing stop = subst (λ n. IsWalked deltas n reached) (walked_to deltas listed offset k (passed_in deltas reached) passing.after passing.walked.within passing.begun stop) passing.walked
+
+-- an offset up to where the next delta begins passes none
+pub passes_none : (deltas : List RelaxDelta) → AreValidDeltas deltas → (reached : Reached) (k i : ℕ) → IsWalked deltas k reached → i ≤ reached.next → k ≡ max k (begun_below (map deletion_of deltas) i)
+passes_none deltas listed reached k i walked low = walked_to deltas listed i k k (omega arith) walked.within (λ j d from below. absurd (omega (arith, from, below))) (λ inside. omega (arith, walked.next blank inside, low))
+
+-- and one above it is no step back
+pub begin_below : (deltas : List RelaxDelta) → AreValidDeltas deltas → (reached : Reached) (k i : ℕ) → IsWalked deltas k reached → reached.next < i → i < 2 ^ 64 → All (λ d. d.0 < i) (take k (map deletion_of deltas))
+begin_below deltas listed reached k i walked above fits =
+    let ds = map deletion_of deltas in
+    elim (cases_lt k (length deltas)) [
+      | inl inside ↦
+          let long : k + 1 ≤ length ds = omega (arith, length-map deltas deletion_of, inside) in
+          let one : k + 1 - 1 ≡ k = omega arith in
+          let here : (get_or ds k (0, 0)).0 < i = omega (arith, ap (λ (e : ℕ × ℕ). e.0) (deletion_at deltas k blank (0, 0) inside), walked.next blank inside, above) in
+          let all = (taken_begin_below ds listed.valid.ascending i (k + 1) (omega arith) long).0 (rw one here) in
+          λ j d low.
+          let short : j < k = omega (arith, length-take k ds, low) in
+          let later : j < k + 1 = omega (arith, short) in
+          rw (get_or-take k ds j d short) (rw (get_or-take (k + 1) ds j d later) at (all j d (omega (arith, length-take (k + 1) ds, long, later))))
+      | inr past ↦ absurd (omega (arith, walked.none (omega (arith, past, walked.within)), above, fits))
+    ]

@@ -279,10 +279,10 @@ fn are_used(alloc: Global, stubs: &[Option<usize>], len: usize) -> Result<bool, 
 {
     let mut used = vec![in alloc; false; len]?;
     for stub in stubs {
-        if let Some(index) = *stub
-            && index < len
-        {
-            used[index] = true;
+        if let Some(index) = *stub {
+            if index < len {
+                used[index] = true;
+            }
         }
     }
     for index in 0..len {

@@ -258,10 +258,10 @@ impl State {
 fn are_used(stubs: &[Option<usize>], len: usize) -> Result<bool, OutOfMemory> {
     let mut used = try_vec![false; len]?;
     for stub in stubs {
-        if let Some(index) = *stub
-            && index < len
-        {
-            used[index] = true;
+        if let Some(index) = *stub {
+            if index < len {
+                used[index] = true;
+            }
         }
     }
     for index in 0..len {

@@ -14,6 +14,7 @@ use crate::linker_section::saved::whole_word_at;
 use crate::linker_section::sections::{
     FIRST_STEP, NO_FIELD, SectionError, Step, Stopped, write_held_at, write_one,
 };
+use crate::architecture::by_architecture;
 use crate::elf::Architecture;
 
 /// Writes the value of the relocation at an index, if it is found and accepted with few
@@ -221,21 +222,10 @@ pub(crate) fn write_second_run(
     }
 }
 
-/// A call for an architecture, which is compiled for each by itself.
-macro_rules! of_each {
-    ($architecture:ident, $call:ident($($given:ident),*)) => {
-        match $architecture {
-            #[cfg(feature = "aarch64")]
-            Architecture::AArch64 => $call(Architecture::AArch64, $($given),*),
-            #[cfg(feature = "riscv64")]
-            Architecture::RiscV => $call(Architecture::RiscV, $($given),*),
-            #[cfg(feature = "loongarch64")]
-            Architecture::LoongArch64 => $call(Architecture::LoongArch64, $($given),*),
-            #[cfg(feature = "ppc64")]
-            Architecture::Ppc64 => $call(Architecture::Ppc64, $($given),*),
-            #[cfg(feature = "x86_64")]
-            Architecture::X86_64 => $call(Architecture::X86_64, $($given),*),
-        }
+/// `write_ascending` for an architecture that the compiler knows.
+macro_rules! ascending_of {
+    ($of:ident $module:ident $names:ident ($($given:ident),*)) => {
+        write_ascending(Architecture::$of, $($given),*)
     };
 }
 
@@ -248,8 +238,8 @@ pub(crate) fn write_ascending_of(
     section: &mut [u8],
     memory: &mut [u64],
 ) -> Result<usize, Stopped> {
-    of_each!(
+    by_architecture!(
         architecture,
-        write_ascending(addresses, relocations, symbols, section, memory)
+        ascending_of(addresses, relocations, symbols, section, memory)
     )
 }

@@ -151,6 +151,18 @@ fn value_of_high(
     }
 }
 
+/// Whether the value is that of the row's own formula: of a high part only on RISC-V, and of an
+/// offset in a TLS block only where the output has one.
+#[inline(always)]
+fn has_plain_way(architecture: Architecture, addresses: &Addresses, way: Way) -> bool {
+    match way {
+        Way::Plain => true,
+        Way::ModuleOffset => addresses.has_tls,
+        Way::High => matches_any!(architecture, #[cfg(feature = "riscv64")] Architecture::RiscV),
+        Way::Low | Way::Other => false,
+    }
+}
+
 /// The value of a relocation; none where it isn't found so. Only the contract uses `_relocations`.
 #[inline(always)]
 fn found_value(
@@ -165,12 +177,11 @@ fn found_value(
     if lacks_stub(architecture, symbols, relocation) || is_of_got(architecture, relocation.code) {
         return None;
     }
-    match row.facts().way {
-        Way::Plain => plain_value(architecture, addresses, symbols, row, relocation),
-        #[cfg(feature = "riscv64")]
-        Way::High if matches_any!(architecture, #[cfg(feature = "riscv64")] Architecture::RiscV) => {
-            plain_value(architecture, addresses, symbols, row, relocation)
-        }
+    let way = row.facts().way;
+    if has_plain_way(architecture, addresses, way) {
+        return plain_value(architecture, addresses, symbols, row, relocation);
+    }
+    match way {
         #[cfg(feature = "riscv64")]
         Way::Low if matches_any!(architecture, #[cfg(feature = "riscv64")] Architecture::RiscV) => {
             value_of_high(addresses, symbols, relocation, high)

@@ -9,7 +9,7 @@ ghost use Rattle.linker_base.specs.Walk.{CanTranslate, AreAhead};
 
 use super::RelaxDelta;
 use super::delta_slice::DeltaSlice;
-use super::walk::{Reached, next_offset, pass, walk};
+use super::walk::Reached;
 use std::marker::Model;
 
 /// A walk through the deletions of a section, for offsets that are translated in order.
@@ -20,25 +20,23 @@ use std::marker::Model;
 #[derive(Drop)]
 pub struct RelaxCursor<'a> {
     deltas: &'a [RelaxDelta],
-    reached: Reached,
-    // Where the first delta begins that isn't passed, or `u64::MAX` where there is none.
-    next: u64,
+    reached: Reached<'a>,
 }
 
 impl<'a> Model for RelaxCursor<'a> {
     ghost use Rattle.std.specs.Prelude.{map};
     ghost use Rattle.linker_base.specs.Deltas.{deletion_of};
     ghost use Rattle.linker_base.specs.Walk.{Walk};
-    ghost use Rattle.linker_base.specs.Inner.Listed.{IsWalking};
+    ghost use Rattle.linker_base.specs.Inner.Listed.{IsWalking, passed_in};
 
     ghost Value = { Walk };
 
     ghost view = { λ cursor. record {
       deletions = map deletion_of cursor.deltas.now;
-      passed = cursor.reached.passed;
+      passed = passed_in cursor.deltas.now cursor.reached;
     } };
 
-    ghost invariant = { λ cursor. IsWalking cursor.deltas.now cursor.reached cursor.next };
+    ghost invariant = { λ cursor. IsWalking cursor.deltas.now cursor.reached };
 }
 
 impl<'a> RelaxCursor<'a> {
@@ -49,8 +47,7 @@ impl<'a> RelaxCursor<'a> {
     {
         RelaxCursor {
             deltas,
-            reached: Reached::START,
-            next: next_offset(deltas, 0),
+            reached: Reached::new(deltas),
         }
     }
 
@@ -69,27 +66,11 @@ impl<'a> RelaxCursor<'a> {
         ensures step_back { ¬ (IsAhead self.old input_offset)
             → result ≡ input_offset - passed_bytes self.new }
     {
-        // It passes none, and lies past the last that was passed.
-        if self.reached.end <= input_offset && input_offset <= self.next {
-            return input_offset - self.reached.deleted;
+        if self.reached.next < input_offset {
+            // no step back: what was passed before begins below what is passed now
+            self.reached.pass(input_offset);
+            return input_offset.max(self.reached.end) - self.reached.deleted;
         }
-        self.advance(input_offset)
-    }
-
-    // The same for any offset.
-    #[inline(always)]
-    fn advance(&mut self, input_offset: u64) -> u64
-        requires { CanTranslate self.old input_offset }
-        ensures walks { self.new ≡ walk_to self.old input_offset }
-        ensures keeps { self.new.deletions ≡ self.old.deletions }
-        ensures ahead { IsAhead self.old input_offset
-            → result ≡ rank self.old.deletions input_offset }
-        ensures step_back { ¬ (IsAhead self.old input_offset)
-            → result ≡ input_offset - passed_bytes self.new }
-    {
-        self.reached = pass(self.deltas, self.reached, input_offset);
-        self.next = next_offset(self.deltas, self.reached.passed);
-        // A step back passes none.
         if input_offset < self.reached.end && self.is_ahead(input_offset) {
             return self.reached.end - self.reached.deleted;
         }
@@ -116,8 +97,7 @@ impl<'a> RelaxCursor<'a> {
         ensures walks { self.new ≡ walk_through self.old queries.now }
         ensures keeps { self.new.deletions ≡ self.old.deletions }
     {
-        self.reached = walk(self.deltas, self.reached, queries, out);
-        self.next = next_offset(self.deltas, self.reached.passed);
+        self.reached.walk(queries, out);
     }
 
     /// Whether the queries may be given to `translate_all`, with as long an `out`.
@@ -133,7 +113,7 @@ impl<'a> RelaxCursor<'a> {
         ensures passed { result ≡ self.now.passed }
         ensures within { result ≤ length self.now.deletions }
     {
-        self.reached.passed
+        self.deltas.len() - self.reached.rest.as_slice().len()
     }
 
     // Whether all deltas that are passed begin strictly below the offset: the last one decides, and
@@ -145,7 +125,7 @@ impl<'a> RelaxCursor<'a> {
         if self.reached.end < input_offset {
             return true;
         }
-        match self.reached.passed.checked_sub(1) {
+        match self.turns().checked_sub(1) {
             Some(last) => self.deltas[last].input_offset < input_offset,
             None => true,
         }

@@ -16,7 +16,7 @@ use super::RelaxDelta;
 use super::blocks::{BLOCK_LEN, BlockHead, count_blocks, write_heads};
 use super::overlap::{self, AsDeletion, are_valid, lower, next_of};
 use super::search::{Level, Probe, Test, count_passing};
-use super::walk::{Reached, walk};
+use super::walk::Reached;
 use std::alloc::Global;
 use std::marker::Model;
 
@@ -327,7 +327,7 @@ impl<'a> DeltaSlice<'a> {
         ensures { AreValidDeltas self.now.deltas → IsNonDecreasing queries.now
             → out.new ≡ map (rank (deletions_of self.now.deltas)) queries.now }
     {
-        let _end = walk(self.deltas(), Reached::START, queries, out);
+        Reached::new(self.deltas()).walk(queries, out);
     }
 
     /// Whether the queries don't decrease.

@@ -4,7 +4,7 @@
 
 use super::RelaxDelta;
 use super::delta_slice::DeltaSlice;
-use super::walk::{Reached, next_offset, pass, walk};
+use super::walk::Reached;
 
 /// A walk through the deletions of a section, for offsets that are translated in order.
 ///
@@ -13,9 +13,7 @@ use super::walk::{Reached, next_offset, pass, walk};
 #[derive(Debug, Clone)]
 pub struct RelaxCursor<'a> {
     deltas: &'a [RelaxDelta],
-    reached: Reached,
-    // Where the first delta begins that isn't passed, or `u64::MAX` where there is none.
-    next: u64,
+    reached: Reached<'a>,
 }
 
 impl<'a> RelaxCursor<'a> {
@@ -23,8 +21,7 @@ impl<'a> RelaxCursor<'a> {
     pub(super) fn new(deltas: &'a [RelaxDelta]) -> RelaxCursor<'a> {
         RelaxCursor {
             deltas,
-            reached: Reached::START,
-            next: next_offset(deltas, 0),
+            reached: Reached::new(deltas),
         }
     }
 
@@ -41,19 +38,11 @@ impl<'a> RelaxCursor<'a> {
     #[inline]
     pub fn translate(&mut self, input_offset: u64) -> u64 {
         debug_assert!(self.can_translate(input_offset));
-        // It passes none, and lies past the last that was passed.
-        if self.reached.end <= input_offset && input_offset <= self.next {
-            return input_offset - self.reached.deleted;
+        if self.reached.next < input_offset {
+            // no step back: what was passed before begins below what is passed now
+            self.reached.pass(input_offset);
+            return input_offset.max(self.reached.end) - self.reached.deleted;
         }
-        self.advance(input_offset)
-    }
-
-    // The same for any offset.
-    #[inline(always)]
-    fn advance(&mut self, input_offset: u64) -> u64 {
-        self.reached = pass(self.deltas, self.reached, input_offset);
-        self.next = next_offset(self.deltas, self.reached.passed);
-        // A step back passes none.
         if input_offset < self.reached.end && self.is_ahead(input_offset) {
             return self.reached.end - self.reached.deleted;
         }
@@ -81,8 +70,7 @@ impl<'a> RelaxCursor<'a> {
     pub fn translate_all(&mut self, queries: &[u64], out: &mut [u64]) {
         debug_assert!(queries.len() == out.len());
         debug_assert!(self.can_translate_all(queries));
-        self.reached = walk(self.deltas, self.reached, queries, out);
-        self.next = next_offset(self.deltas, self.reached.passed);
+        self.reached.walk(queries, out);
     }
 
     /// Whether the queries may be given to `translate_all`, with as long an `out`.
@@ -95,7 +83,7 @@ impl<'a> RelaxCursor<'a> {
     /// them.
     #[must_use]
     pub fn turns(&self) -> usize {
-        self.reached.passed
+        self.deltas.len() - self.reached.rest.as_slice().len()
     }
 
     // Whether all deltas that are passed begin strictly below the offset: the last one decides, and
@@ -105,7 +93,7 @@ impl<'a> RelaxCursor<'a> {
         if self.reached.end < input_offset {
             return true;
         }
-        match self.reached.passed.checked_sub(1) {
+        match self.turns().checked_sub(1) {
             Some(last) => self.deltas[last].input_offset < input_offset,
             None => true,
         }

@@ -6,7 +6,7 @@ use super::RelaxDelta;
 use super::blocks::{BLOCK_LEN, BlockHead, count_blocks, write_heads};
 use super::overlap::{self, AsDeletion, are_valid, lower, next_of};
 use super::search::{Level, Probe, Test, count_passing};
-use super::walk::{Reached, walk};
+use super::walk::Reached;
 
 /// A borrowed list of deltas, of any contents, and the heads of their blocks, or none.
 ///
@@ -250,7 +250,7 @@ impl<'a> DeltaSlice<'a> {
     #[inline]
     pub fn translate_all(&self, queries: &[u64], out: &mut [u64]) {
         debug_assert!(queries.len() == out.len());
-        let _end = walk(self.deltas(), Reached::START, queries, out);
+        Reached::new(self.deltas()).walk(queries, out);
     }
 
     /// Whether the queries don't decrease.

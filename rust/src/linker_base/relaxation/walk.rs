@@ -3,67 +3,61 @@
 //! A walk through deltas, for offsets that don't decrease.
 
 use super::RelaxDelta;
+use core::slice::Iter;
 
-// How far a walk has come: the deltas that it has passed, their bytes, and the end of the last.
-#[derive(Clone, Copy, Debug)]
-pub(super) struct Reached {
-    pub passed: usize,
+// How far a walk has come.
+#[derive(Debug, Clone)]
+pub(super) struct Reached<'a> {
+    // The deltas that it hasn't passed.
+    pub rest: Iter<'a, RelaxDelta>,
+    // Where the first of them begins, or `u64::MAX` where there is none.
+    pub next: u64,
+    // The bytes of those that it has passed.
     pub deleted: u64,
+    // Where the last of these ends.
     pub end: u64,
 }
 
-impl Reached {
-    pub(super) const START: Reached = Reached {
-        passed: 0,
-        deleted: 0,
-        end: 0,
-    };
+// Where the first of some deltas begins, or `u64::MAX` where there is none.
+#[inline(always)]
+fn first_offset(deltas: &[RelaxDelta]) -> u64 {
+    match deltas.first() {
+        Some(delta) => delta.input_offset,
+        None => u64::MAX,
+    }
+}
 
-    // What is reached where this delta is passed too.
-    #[inline(always)]
-    fn over(self, delta: RelaxDelta) -> Reached {
+impl<'a> Reached<'a> {
+    // Before the first of the deltas.
+    #[inline]
+    pub(super) fn new(deltas: &'a [RelaxDelta]) -> Reached<'a> {
         Reached {
-            passed: self.passed + 1,
-            deleted: delta.cumulative_deleted,
-            end: delta
-                .input_offset
-                .wrapping_add(u64::from(delta.bytes_deleted)),
+            rest: deltas.iter(),
+            next: first_offset(deltas),
+            deleted: 0,
+            end: 0,
         }
     }
-}
 
-// Where the first delta begins that isn't passed, or `u64::MAX` where there is none.
-#[inline(always)]
-pub(super) fn next_offset(deltas: &[RelaxDelta], passed: usize) -> u64 {
-    if passed < deltas.len() {
-        deltas[passed].input_offset
-    } else {
-        u64::MAX
+    // Passes the deltas that begin strictly below the offset.
+    #[inline]
+    pub(super) fn pass(&mut self, offset: u64) {
+        while self.next < offset {
+            let Some(delta) = self.rest.next() else {
+                break;
+            };
+            self.deleted = delta.cumulative_deleted;
+            self.end = self.next.wrapping_add(u64::from(delta.bytes_deleted));
+            self.next = first_offset(self.rest.as_slice());
+        }
     }
-}
 
-// Passes the deltas that begin strictly below the offset.
-#[inline(always)]
-pub(super) fn pass(deltas: &[RelaxDelta], from: Reached, offset: u64) -> Reached {
-    let mut reached = from;
-    while reached.passed < deltas.len() && deltas[reached.passed].input_offset < offset {
-        reached = reached.over(deltas[reached.passed]);
+    // Passes deltas for each query, and writes its output offset.
+    #[inline]
+    pub(super) fn walk(&mut self, queries: &[u64], out: &mut [u64]) {
+        for (at, &query) in queries.iter().enumerate() {
+            self.pass(query);
+            out[at] = query.max(self.end).wrapping_sub(self.deleted);
+        }
     }
-    reached
-}
-
-// Passes deltas for each query, and writes its output offset.
-#[inline]
-pub(super) fn walk(
-    deltas: &[RelaxDelta],
-    from: Reached,
-    queries: &[u64],
-    out: &mut [u64],
-) -> Reached {
-    let mut reached = from;
-    for (at, &query) in queries.iter().enumerate() {
-        reached = pass(deltas, reached, query);
-        out[at] = query.max(reached.end).wrapping_sub(reached.deleted);
-    }
-    reached
 }

@@ -767,7 +767,7 @@ macro_rules! fact {
 macro_rules! way {
     ($kind:ident, (0 bytes)) => { $crate::linker_elf::elf::Way::Other };
     (TpOff, $size:tt) => { $crate::linker_elf::elf::Way::Other };
-    (DtpOff, $size:tt) => { $crate::linker_elf::elf::Way::Other };
+    (DtpOff, $size:tt) => { $crate::linker_elf::elf::Way::ModuleOffset };
     (PairSubtractionULEB128RiscV, $size:tt) => { $crate::linker_elf::elf::Way::Other };
     (PairSubtractionULEB128LoongArch, $size:tt) => { $crate::linker_elf::elf::Way::Other };
     (RelativeRiscVLow12, $size:tt) => { $crate::linker_elf::elf::Way::Low };

@@ -1,31 +1,79 @@
-use Rattle.std.proofs.Common.{◌≡◌, ◌≤◌, map, length, ap, arith}
-use Rattle.std.specs.Prelude.{max}
-use Rattle.std.proofs.lemmas.List.{length-map}
-use Rattle.linker_base.specs.Deletions.{begun_below}
+use Rattle.std.proofs.Common.{◌≡◌, ◌≤◌, ◌<◌, ℕ, ◌+◌, List, map, max, sym, ap, ◌∙◌, take, inl, inr, arith, refl, All}
+use Rattle.std.proofs.lemmas.Bool.{false≢true}
+use Rattle.linker_base.specs.declared.relaxation.RelaxDelta.{RelaxDelta}
+use Rattle.linker_base.specs.declared.relaxation.walk.Reached.{Reached}
+use Rattle.linker_base.specs.Deletions.{begun_below, rank}
 use Rattle.linker_base.specs.Deltas.{deletion_of}
+use Rattle.linker_base.specs.Inner.Listed.{IsWalking, passed_in}
 use Rattle.linker_base.specs.Walk.{walk_at}
-use Rattle.linker_base.proofs.Search.{blank}
-use Rattle.linker_base.proofs.Walking.{walked_to, walked_ahead, walked_below_end}
+use Rattle.linker_base.proofs.Walking.{walked_ahead, walked_below_end, passed_is, passes_none, begin_below}
 use Rattle.linker_base.proofs.relaxation.cursor.RelaxCursor.translate.Goals as goal
+use Rattle.linker_base.proofs.relaxation.cursor.RelaxCursor.translate.Goals.{else-input_offset-self-via-then-input_offset-self+else-is_ahead, else-input_offset-self-via-else-input_offset-self}
+
+-- ---- deltas are passed
+
+pub invariant_of-self : goal.invariant_of-self
+invariant_of-self c =
+    let deltas = c.self.inside.deltas.now in
+    let walked = c.pass.ensures deltas _ c.self.invariant.listed c.self.invariant.walked in
+    record { listed = c.self.invariant.listed; walked = rw (passed_is deltas _ c.pass.new.self walked) walked }
 
 pub overflow_sub-result : goal.overflow_sub-result
 overflow_sub-result c =
     let deltas = c.self.inside.deltas.now in
-    let below = walked_below_end _ c.self.invariant.listed.valid c.self.inside.reached (omega (arith, length-map deltas deletion_of, c.self.invariant.within)) c.self.invariant.walked in
-    omega (arith, below, c.if-self-input_offset.true)
+    let below = walked_below_end deltas c.self.invariant.listed c.pass.new.self _ (c.pass.ensures deltas _ c.self.invariant.listed c.self.invariant.walked) in
+    omega (arith, below, c.max.ensures)
 
--- the next delta doesn't begin below the offset
-pub returns-then-input_offset-self-clause-walks : goal.returns-then-input_offset-self-clause-walks
-returns-then-input_offset-self-clause-walks c =
+pub returns-then-self-input_offset-clause-ahead : goal.returns-then-self-input_offset-clause-ahead
+returns-then-self-input_offset-clause-ahead c given =
     let deltas = c.self.inside.deltas.now in
-    let before = c.self.inside.reached.passed in
-    let stays = walked_to deltas c.self.invariant.listed c.args.input_offset before before (omega arith) c.self.invariant.within (λ j d low high. absurd (omega (arith, low, high))) (λ inside. omega (arith, c.self.invariant.begin blank inside, c.if-input_offset-self.true)) in
-    rw (← c.self.view_is) (ap (walk_at (map deletion_of deltas)) stays)
+    let before = passed_in deltas c.self.inside.reached in
+    let k = max before (begun_below (map deletion_of deltas) c.args.input_offset) in
+    let walked = c.pass.ensures deltas before c.self.invariant.listed c.self.invariant.walked in
+    let moved = walked_ahead deltas c.self.invariant.listed before c.args.input_offset k c.pass.new.self c.self.invariant.walked.within refl walked (rw (← c.self.view_is) at given) in
+    rw (← c.self.view_is) (omega (arith, moved.0, c.max.ensures))
 
-pub returns-then-input_offset-self-clause-ahead : goal.returns-then-input_offset-self-clause-ahead
-returns-then-input_offset-self-clause-ahead c given =
-    let deltas = c.self.inside.deltas.now in
-    let before = c.self.inside.reached.passed in
-    let stays = walked_to deltas c.self.invariant.listed c.args.input_offset before before (omega arith) c.self.invariant.within (λ j d low high. absurd (omega (arith, low, high))) (λ inside. omega (arith, c.self.invariant.begin blank inside, c.if-input_offset-self.true)) in
-    let moved = walked_ahead _ c.self.invariant.listed.valid before c.args.input_offset c.self.inside.reached (omega (arith, length-map deltas deletion_of, c.self.invariant.within)) stays c.self.invariant.walked (rw (← c.self.view_is) at given) in
-    rw (← c.self.view_is) (omega (arith, moved.0, c.if-self-input_offset.true))
+pub returns-then-self-input_offset-clause-step_back : goal.returns-then-self-input_offset-clause-step_back
+returns-then-self-input_offset-clause-step_back c back = absurd (back (rw (← c.self.view_is) (begin_below c.self.inside.deltas.now c.self.invariant.listed c.self.inside.reached _ c.args.input_offset c.self.invariant.walked c.if-self-input_offset.true (omega (arith, c.ranges.input_offset.fits)))))
+
+-- ---- none is passed
+
+stays : (deltas : List RelaxDelta) (reached : Reached) (i : ℕ) → IsWalking deltas reached → i ≤ reached.next → passed_in deltas reached ≡ max (passed_in deltas reached) (begun_below (map deletion_of deltas) i)
+stays deltas reached i walking low = passes_none deltas walking.listed reached _ i walking.walked low
+
+ranked : (deltas : List RelaxDelta) (reached : Reached) (i : ℕ) → IsWalking deltas reached → i ≤ reached.next → All (λ d. d.0 < i) (take (passed_in deltas reached) (map deletion_of deltas)) → rank (map deletion_of deltas) i + reached.deleted ≡ max i reached.end
+ranked deltas reached i walking low ahead = (walked_ahead deltas walking.listed (passed_in deltas reached) i (passed_in deltas reached) reached walking.walked.within (stays deltas reached i walking low) walking.walked ahead).0
+
+pub overflow_sub-result-then-is_ahead : goal.overflow_sub-result-then-is_ahead
+overflow_sub-result-then-is_ahead c = walked_below_end c.self.inside.deltas.now c.self.invariant.listed c.self.inside.reached _ c.self.invariant.walked
+
+pub returns-then-is_ahead-clause-walks : goal.returns-then-is_ahead-clause-walks
+returns-then-is_ahead-clause-walks c = rw (← c.self.view_is) (ap (walk_at (map deletion_of c.self.inside.deltas.now)) (stays c.self.inside.deltas.now c.self.inside.reached c.args.input_offset c.self.invariant (omega (arith, c.if-self-input_offset.false))))
+
+pub returns-then-is_ahead-clause-ahead : goal.returns-then-is_ahead-clause-ahead
+returns-then-is_ahead-clause-ahead c given =
+    let is = ranked c.self.inside.deltas.now c.self.inside.reached c.args.input_offset c.self.invariant (omega (arith, c.if-self-input_offset.false)) (rw (← c.self.view_is) at given) in
+    rw (← c.self.view_is) (omega (arith, is, c.if-input_offset-self.true))
+
+pub overflow_sub-result-2 : goal.overflow_sub-result-2
+overflow_sub-result-2 c = elim c.else-input_offset-self.branch [
+  | else-input_offset-self-via-else-input_offset-self w ↦
+      let below = walked_below_end c.self.inside.deltas.now c.self.invariant.listed c.self.inside.reached _ c.self.invariant.walked in
+      omega (arith, below, w.if-input_offset-self.false)
+  | else-input_offset-self-via-then-input_offset-self+else-is_ahead w ↦
+      elim c.requires [
+        | inl ahead ↦ absurd (false≢true (sym w.if-is_ahead.false ∙ w.is_ahead.ensures.1 ahead))
+        | inr fits ↦ omega (arith, c.self.invariant.walked.sum, rw (← c.self.view_is) at fits)
+      ]
+]
+
+pub returns-clause-walks : goal.returns-clause-walks
+returns-clause-walks c = rw (← c.self.view_is) (ap (walk_at (map deletion_of c.self.inside.deltas.now)) (stays c.self.inside.deltas.now c.self.inside.reached c.args.input_offset c.self.invariant (omega (arith, c.if-self-input_offset.false))))
+
+pub returns-clause-ahead : goal.returns-clause-ahead
+returns-clause-ahead c given = elim c.else-input_offset-self.branch [
+  | else-input_offset-self-via-else-input_offset-self w ↦
+      let is = ranked c.self.inside.deltas.now c.self.inside.reached c.args.input_offset c.self.invariant (omega (arith, c.if-self-input_offset.false)) (rw (← c.self.view_is) at given) in
+      rw (← c.self.view_is) (omega (arith, is, w.if-input_offset-self.false))
+  | else-input_offset-self-via-then-input_offset-self+else-is_ahead w ↦ absurd (false≢true (sym w.if-is_ahead.false ∙ w.is_ahead.ensures.1 given))
+]

@@ -1,0 +1,12 @@
+use Rattle.std.proofs.Common.{ℕ, List, length}
+use Rattle.std.specs.Slice.Iter.{iter_rest}
+use Rattle.linker_base.specs.declared.relaxation.RelaxDelta.{RelaxDelta}
+use Rattle.linker_base.specs.Listed.{AreValidDeltas}
+use Rattle.linker_base.specs.Inner.Listed.{IsWalked, IsPassing}
+use Rattle.linker_base.proofs.relaxation.walk.Reached.pass.Given as goal
+
+abbrev pub invariant-loop-self : goal.invariant-loop-self
+invariant-loop-self l = (deltas : List RelaxDelta) (k : ℕ) → AreValidDeltas deltas → IsWalked deltas k l.initial.self → IsPassing deltas k l.offset l.self
+
+abbrev pub decreases-loop-self : goal.decreases-loop-self
+decreases-loop-self l = length (iter_rest l.self.rest)
