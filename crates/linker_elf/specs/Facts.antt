@@ -109,7 +109,7 @@ way_of size kinds.RelativeRiscVLow12 = ways.Low
 way_of (ByteSize n) kinds.PairSubtractionULEB128RiscV = ways.Other
 way_of (ByteSize n) kinds.PairSubtractionULEB128LoongArch = ways.Other
 way_of size kinds.TpOff = ways.Other
-way_of size kinds.DtpOff = ways.Other
+way_of size kinds.DtpOff = ways.ModuleOffset
 way_of (ByteSize n) kind = if n == 0 then ways.Other else ways.Plain
 way_of (BitMasking bits (RiscV IType)) kinds.TlsDesc = ways.Other
 way_of (BitMasking bits (Ppc64 insn)) kinds.PltRelGotBase = ways.Other

@@ -5,7 +5,6 @@ use Rattle.std.proofs.lemmas.Bool.{cond-true, ltb-true, lt-ltb, or_left, or_righ
 use Rattle.linker_elf.specs.Facts.{way_of}
 use Rattle.linker_elf.specs.Relocate.{window_len}
 use Rattle.linker_elf.specs.Value.{difference_64, value_of}
-use Rattle.linker_elf.specs.declared.elf.RelocationKind.{RelocationKind}
 use Rattle.linker_elf.specs.declared.elf.RelocationKind.TheVariants as kinds
 use Rattle.linker_elf.specs.declared.elf.RelocationKindInfo.{RelocationKindInfo}
 use Rattle.linker_elf.specs.declared.elf.facts.Way.{Way}
@@ -13,7 +12,7 @@ use Rattle.linker_elf.specs.declared.elf.facts.Way.TheVariants as ways
 use Rattle.linker_elf.specs.declared.elf.value.Operands.{Operands}
 use Rattle.linker_section.specs.Conditions.{is_tp_off, lacks_stub, needs_upper}
 use Rattle.linker_section.specs.Fields.{is_of_pair}
-use Rattle.linker_section.specs.Inner.Facts.{When, SaysWay, is_plain_way, is_high_way, is_plain, is_high, is_low, is_quick}
+use Rattle.linker_section.specs.Inner.Facts.{When, SaysWay, is_plain_way, is_offset_way, is_high_way, is_plain, is_high, is_low, is_quick}
 use Rattle.linker_section.specs.Inner.Quick.{IsPlainValue, IsQuickValue, IsHighValue, HasHighValue}
 use Rattle.linker_section.specs.Relocations.{relocation_in}
 use Rattle.linker_elf.specs.Value.{is_offset}
@@ -29,11 +28,10 @@ use Rattle.linker_utils.specs.declared.elf.Architecture.{Architecture}
 pub when_true : {A : Type 0} (test : Bool) (x y : A) → When test x y → test ≡ true → x ≡ y
 when_true test x y is holds = sym (cond-true test x y holds) ∙ is
 
--- ---- no offset of a thread-local symbol
-
-not_tp_off : (kind : RelocationKind) → is_offset kind ≡ false → is_tp_off kind ≡ false
-not_tp_off kinds.TpOff isnt = isnt
-not_tp_off _ isnt = refl
+and_false : (a b c : Bool) → (a && b) ≡ false → (a && (b && c)) ≡ false
+and_false false b c isnt = refl
+and_false true false c isnt = refl
+and_false true true c isnt = absurd (true≢false isnt)
 
 -- ---- a plain relocation
 
@@ -49,16 +47,18 @@ plain_some architecture addresses symbols row r operands (Some v) found is =
 pub plain_quick : (architecture : Architecture) (addresses : Addresses) (bytes : List ℕ)
     (symbols : List Symbol) (r : Rela) (row : RelocationKindInfo) (v : ℤ)
     → IsRow architecture r.code (Some row) → SaysWay architecture row
-    → is_plain row ≡ true → lacks_stub architecture symbols r ≡ false
+    → is_plain row ≡ true → (is_offset_way (way_of row.size row.kind) && not addresses.has_tls) ≡ false
+    → lacks_stub architecture symbols r ≡ false
     → IsPlainValue architecture addresses symbols row r v → needs_upper architecture r v ≡ false
     → IsQuickValue architecture addresses bytes symbols r row v
-plain_quick architecture addresses bytes symbols r row v is_row way plain keeps value reached =
+plain_quick architecture addresses bytes symbols r row v is_row way plain origin keeps value reached =
     let quick : is_quick row ≡ true = or_left (is_plain row) (is_low row) plain in
     let valued = when_true (is_quick row) (has_value row.kind) true way.has_value quick in
     let label = when_true (is_plain row) (names_label row.size row.kind) false way.unlabelled plain in
-    let offset = when_true (is_quick row) (is_offset row.kind) false way.unthreaded quick in
+    let offset = when_true (is_quick row) (is_offset row.kind) _ way.offset quick in
+    let defined = is_defined (slice_get symbols r.symbol) in
     let there : lacks_origin addresses symbols row r ≡ false =
-    ap (λ b. b && (not addresses.has_tls && is_defined (slice_get symbols r.symbol))) offset in
+    ap (λ b. b && (not addresses.has_tls && defined)) offset ∙ and_false _ _ defined origin in
     let own : Ok (Some v) ≡ own_value architecture addresses symbols row r =
     sym (cond-true (has_value row.kind) _ (Ok None) valued
     ∙ (ap (λ b. value_by b row (operands_of architecture addresses symbols row r)) there
@@ -73,7 +73,7 @@ plain_quick architecture addresses bytes symbols r row v is_row way plain keeps 
       valued = valued;
       single = when_true (is_quick row) (is_of_pair row) false way.single quick;
       some = ltb-true 0 (window_len row) (when_true (is_quick row) _ true way.some quick);
-      unthreaded = not_tp_off row.kind offset;
+      unthreaded = when_true (is_quick row) (is_tp_off row.kind) false way.unthreaded quick;
     }
 
 -- ---- a low part of RISC-V
@@ -110,7 +110,7 @@ low_quick architecture addresses bytes symbols r row v high is_row way low keeps
       valued = when_true (is_quick row) (has_value row.kind) true way.has_value quick;
       single = when_true (is_quick row) (is_of_pair row) false way.single quick;
       some = ltb-true 0 (window_len row) (when_true (is_quick row) _ true way.some quick);
-      unthreaded = not_tp_off row.kind (when_true (is_quick row) (is_offset row.kind) false way.unthreaded quick);
+      unthreaded = when_true (is_quick row) (is_tp_off row.kind) false way.unthreaded quick;
     }
 
 -- ---- a high part of RISC-V

@@ -21,6 +21,7 @@ use crate::saved::whole_word_at;
 use crate::sections::{
     FIRST_STEP, NO_FIELD, SectionError, Step, Stopped, write_held_at, write_one,
 };
+use linker_utils::architecture::by_architecture;
 use linker_utils::elf::Architecture;
 
 /// Writes the value of the relocation at an index, if it is found and accepted with few
@@ -273,16 +274,10 @@ pub(crate) fn write_second_run(
     }
 }
 
-/// A call for an architecture, which is compiled for each by itself.
-macro_rules! of_each {
-    ($architecture:ident, $call:ident($($given:ident),*)) => {
-        match $architecture {
-            Architecture::AArch64 => $call(Architecture::AArch64, $($given),*),
-            Architecture::RiscV => $call(Architecture::RiscV, $($given),*),
-            Architecture::LoongArch64 => $call(Architecture::LoongArch64, $($given),*),
-            Architecture::Ppc64 => $call(Architecture::Ppc64, $($given),*),
-            Architecture::X86_64 => $call(Architecture::X86_64, $($given),*),
-        }
+/// `write_ascending` for an architecture that the compiler knows.
+macro_rules! ascending_of {
+    ($of:ident $module:ident $names:ident ($($given:ident),*)) => {
+        write_ascending(Architecture::$of, $($given),*)
     };
 }
 
@@ -302,8 +297,8 @@ pub(crate) fn write_ascending_of(
     ensures err { IfErr result (IsStopped architecture addresses.now relocations.now symbols.now
         section.old section.new memory.new) }
 {
-    of_each!(
+    by_architecture!(
         architecture,
-        write_ascending(addresses, relocations, symbols, section, memory)
+        ascending_of(addresses, relocations, symbols, section, memory)
     )
 }

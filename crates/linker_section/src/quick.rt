@@ -3,9 +3,10 @@
 //! Few tests find them, so that a section's values take little more time than the formulas. Where
 //! these return nothing, `value_of` says what the value is, and why there is none.
 
-ghost use Rattle.std.specs.Prelude.{◌≡◌, ◌⊎◌, true, false, Some, IfSome};
+ghost use Rattle.std.specs.Prelude.{◌≡◌, ◌⊎◌, ◌&&◌, not, true, false, Some, IfSome};
 ghost use Rattle.linker_section.specs.Conditions.{needs_upper};
 ghost use Rattle.linker_section.specs.Inner.Facts.{class_by, entry_by, is_high, is_plain};
+ghost use Rattle.linker_section.specs.Inner.Facts.{is_offset_way, is_plain_way};
 ghost use Rattle.linker_section.specs.Inner.Facts.{SaysBranch, SaysNeeds, SaysWay};
 ghost use Rattle.linker_section.specs.Inner.Quick.{IsHighValue, HasHighValue};
 ghost use Rattle.linker_section.specs.Inner.Quick.{IsPlainValue, IsQuickValue};
@@ -193,6 +194,22 @@ fn value_of_high(
     }
 }
 
+/// Whether the value is that of the row's own formula: of a high part only on RISC-V, and of an
+/// offset in a TLS block only where the output has one.
+#[inline(always)]
+fn has_plain_way(architecture: Architecture, addresses: &Addresses, way: Way) -> bool
+    ensures plain { result ≡ true → is_plain_way way ≡ true }
+    ensures origin { result ≡ true
+        → (is_offset_way way && not addresses.now.has_tls) ≡ false }
+{
+    match way {
+        Way::Plain => true,
+        Way::ModuleOffset => addresses.has_tls,
+        Way::High => matches!(architecture, Architecture::RiscV),
+        Way::Low | Way::Other => false,
+    }
+}
+
 /// The value of a relocation; none where it isn't found so. Only the contract uses `_relocations`.
 #[inline(always)]
 fn found_value(
@@ -214,11 +231,11 @@ fn found_value(
     if lacks_stub(architecture, symbols, relocation) || is_of_got(architecture, relocation.code) {
         return None;
     }
-    match row.facts().way {
-        Way::Plain => plain_value(architecture, addresses, symbols, row, relocation),
-        Way::High if matches!(architecture, Architecture::RiscV) => {
-            plain_value(architecture, addresses, symbols, row, relocation)
-        }
+    let way = row.facts().way;
+    if has_plain_way(architecture, addresses, way) {
+        return plain_value(architecture, addresses, symbols, row, relocation);
+    }
+    match way {
         Way::Low if matches!(architecture, Architecture::RiscV) => {
             value_of_high(addresses, symbols, relocation, high)
         }

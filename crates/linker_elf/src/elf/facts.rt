@@ -27,6 +27,8 @@ pub enum Way {
     /// Its value goes into a field of its own. Its formula has the address of the symbol or of its
     /// stub, or of its entry, and no origin of offsets of thread-local symbols.
     Plain,
+    /// So, but it is an offset in the module's TLS block.
+    ModuleOffset,
     /// So, and it is a high part of RISC-V, whose value `R_RISCV_PCREL_LO12_I` and
     /// `R_RISCV_PCREL_LO12_S` take.
     High,

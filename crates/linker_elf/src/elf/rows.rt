@@ -855,7 +855,7 @@ macro_rules! fact {
 macro_rules! way {
     ($kind:ident, (0 bytes)) => { $crate::elf::Way::Other };
     (TpOff, $size:tt) => { $crate::elf::Way::Other };
-    (DtpOff, $size:tt) => { $crate::elf::Way::Other };
+    (DtpOff, $size:tt) => { $crate::elf::Way::ModuleOffset };
     (PairSubtractionULEB128RiscV, $size:tt) => { $crate::elf::Way::Other };
     (PairSubtractionULEB128LoongArch, $size:tt) => { $crate::elf::Way::Other };
     (RelativeRiscVLow12, $size:tt) => { $crate::elf::Way::Low };

@@ -16,7 +16,7 @@ use Rattle.linker_elf.specs.declared.elf.facts.RowFacts.{RowFacts}
 use Rattle.linker_elf.specs.declared.elf.facts.Way.{Way}
 use Rattle.linker_elf.specs.declared.elf.facts.Way.TheVariants as ways
 use Rattle.linker_elf.specs.declared.elf.value.Operands.{Operands}
-use Rattle.linker_section.specs.Conditions.{shows_length}
+use Rattle.linker_section.specs.Conditions.{shows_length, is_tp_off}
 use Rattle.linker_section.specs.Fields.{is_of_pair}
 use Rattle.linker_section.specs.Needed.{needs_of}
 use Rattle.linker_section.specs.Values.{has_value, names_label, is_ppc64_branch}
@@ -72,8 +72,13 @@ When test x y = (if test then x else y) ≡ y
 
 abbrev pub is_plain_way : Way → Bool
 is_plain_way ways.Plain = true
+is_plain_way ways.ModuleOffset = true
 is_plain_way ways.High = true
 is_plain_way way = false
+
+abbrev pub is_offset_way : Way → Bool
+is_offset_way ways.ModuleOffset = true
+is_offset_way way = false
 
 abbrev pub is_high_way : Way → Bool
 is_high_way ways.High = true
@@ -131,8 +136,9 @@ pub record SaysWay (architecture : Architecture) (row : RelocationKindInfo) : Ty
   pub some : When (is_quick row) (nat_lt 0 (window_len row)) true
   pub shown : shows_lengths architecture ≡ false → (there : List ℕ)
       → shows_length row.size there ≡ true
-  -- which isn't an offset of a thread-local symbol
-  pub unthreaded : When (is_quick row) (is_offset row.kind) false
+  -- which isn't an offset from the thread pointer, and is one in a TLS block only by its way
+  pub unthreaded : When (is_quick row) (is_tp_off row.kind) false
+  pub offset : When (is_quick row) (is_offset row.kind) (is_offset_way (way_of row.size row.kind))
   -- of a plain one the operands are those that most have
   pub unlabelled : When (is_plain row) (names_label row.size row.kind) false
   pub loads_none : When (is_plain row) (loads_plt_word row.size row.kind) false

@@ -1,26 +1,32 @@
 use Rattle.std.proofs.Common.{◌≡◌, ◌∙◌, sym, ap, true}
-use Rattle.linker_section.proofs.RowFacts.{says_way}
+use Rattle.std.specs.Prelude.{◌&&◌, not}
+use Rattle.linker_section.proofs.RowFacts.{says, says_way}
 use Rattle.linker_section.proofs.QuickValues.{if_some, plain_quick, low_quick}
-use Rattle.linker_section.specs.Inner.Facts.{is_plain_way, is_low_way, is_plain, is_low}
+use Rattle.linker_section.specs.Inner.Facts.{is_plain_way, is_offset_way, is_low_way, is_plain, is_low}
 use Rattle.linker_section.proofs.quick.found_value.Goals as goal
+
+pub plain_value-requires-clause-needs : goal.plain_value-requires-clause-needs
+plain_value-requires-clause-needs c =
+    let a = c.args in
+    says a.architecture a.relocation.now.code a.row.now c.requires.row
+
+pub plain_value-requires-clause-plain : goal.plain_value-requires-clause-plain
+plain_value-requires-clause-plain c = ap is_plain_way (sym (ap (λ f. f.way) c.facts.ensures)) ∙ c.has_plain_way.ensures.plain c.if-has_plain_way.true
 
 pub plain_value-requires-clause-way : goal.plain_value-requires-clause-way
 plain_value-requires-clause-way c =
     let a = c.args in
     says_way a.architecture a.relocation.now.code a.row.now c.requires.row
 
-pub plain_value-requires-in-High-clause-way : goal.plain_value-requires-in-High-clause-way
-plain_value-requires-in-High-clause-way c =
-    let a = c.args in
-    says_way a.architecture a.relocation.now.code a.row.now c.requires.row
-
-pub returns-in-Plain : goal.returns-in-Plain
-returns-in-Plain c =
+pub returns-then-has_plain_way : goal.returns-then-has_plain_way
+returns-then-has_plain_way c =
     let a = c.args in
     let way = says_way a.architecture a.relocation.now.code a.row.now c.requires.row in
-    let plain : is_plain a.row.now ≡ true = ap is_plain_way (sym (ap (λ f. f.way) c.facts.ensures) ∙ c.in-Plain.is) in
+    let said = sym (ap (λ f. f.way) c.facts.ensures) in
+    let plain : is_plain a.row.now ≡ true = ap is_plain_way said ∙ c.has_plain_way.ensures.plain c.if-has_plain_way.true in
+    let origin = ap (λ w. is_offset_way w && not a.addresses.now.has_tls) said ∙ c.has_plain_way.ensures.origin c.if-has_plain_way.true in
     if_some c.plain_value.result
-    (λ v is reached. plain_quick a.architecture a.addresses.now a._relocations.now a.symbols.now a.relocation.now a.row.now v c.requires.row way plain (sym c.lacks_stub.ensures ∙ c.if-lacks_stub.false) is reached)
+    (λ v is reached. plain_quick a.architecture a.addresses.now a._relocations.now a.symbols.now a.relocation.now a.row.now v c.requires.row way plain origin (sym c.lacks_stub.ensures ∙ c.if-lacks_stub.false) is reached)
     c.plain_value.ensures
 
 pub returns-in-Low : goal.returns-in-Low
