@@ -1,7 +1,7 @@
 /* SPDX-License-Identifier: MIT OR Apache-2.0
- * The verified core of a linker, for programs in C99 and C++11, or later.
- * Build with `cc x.c $(pkg-config --cflags --libs linker_utils)`; `bindings/c` has a program for
- * each group of calls.
+ * The verified core of a linker, for programs in C99 and C++11, or later. linker_utils.hpp has the
+ * calls that are used most for C++17. Build with `cc x.c $(pkg-config --cflags --libs
+ * linker_utils)`; `bindings/c` has a program for each group of calls.
  *
  * - `bindings/install` builds the library in seconds with rustc: `liblinker_utils.a`, and
  *   `liblinker_utils.so`, which has the inline functions as symbols too. Its source is the proved
@@ -14,7 +14,8 @@
  * - This file has the calls that most linkers need first. It includes linker_utils_lists.h, which
  *   has the statuses, the numbers of forms, rewrites and others, and the tables of choices;
  *   linker_utils_further.h, which has the other calls; and linker_utils_inline.h. There are the
- *   `static inline` functions: each calls the archive and allows null for empty slices.
+ *   `static inline` functions: each calls the archive and allows null for empty slices. No other
+ *   header includes linker_utils_types.h: constants of all relocation types, and names as texts.
  * - There is no global state. Any calls may run in several threads at once.
  *
  * What holds for every call:
@@ -33,7 +34,8 @@
  *   `linker_utils_uleb128_role`: of several the first that the call names. Other calls can't fail.
  *   With any except `LINKER_UTILS_OK` it has written nothing but `faulty`, `memory`, `decisions`,
  *   `deleted`, and what `linker_utils_relocate_all`, `linker_utils_rewritten_items` and
- *   `linker_utils_deltas_create_in_one_pass` write before the entry that they reject.
+ *   `linker_utils_deltas_create_in_one_pass` write before the entry that they reject. Compilers
+ *   warn where a status isn't used (LINKER_UTILS_MUST_USE in linker_utils_lists.h).
  * - `faulty` may be null. If the status is about one entry of an array, the index of that entry is
  *   written there; with any other status nothing is.
  * - Only a call that may return `LINKER_UTILS_OUT_OF_MEMORY` allocates, and for its speed
@@ -54,17 +56,18 @@
  *     status = linker_utils_relocate(EM_AARCH64, R_AARCH64_CALL26, 0x10000000, bl, sizeof bl);
  *     assert(status == LINKER_UTILS_OUT_OF_REACH && bl[1] == 0x04);
  * Rewrites:
- *     uint8_t code[7] = {0x48, 0x8b, 0x3d}; uint64_t offset = 3; int64_t addend = -4;
- *     struct linker_utils_choice it; static struct linker_utils_link_facts local;
- *     local.operands = linker_utils_operands_of(0x404000, addend, 0x401003), local.is_local = 1;
- *     local.has_fixed_distance = 1;
- *     linker_utils_choose(EM_X86_64, R_X86_64_REX_GOTPCRELX, code, 7, 3, &local, &it);
- *     linker_utils_apply(EM_X86_64, it.rewrite, it.opcode_len, code, 7, &offset, &addend);
- *     assert(code[1] == 0x8d && it.relocation == R_X86_64_PC32); // lea x(%rip), %rdi
+ *     uint8_t code[7] = {0x48, 0x8b, 0x3d}; uint64_t offset = 3; struct linker_utils_choice it;
+ *     static struct linker_utils_link_facts local; local.is_local = local.has_fixed_distance = 1;
+ *     local.operands = linker_utils_operands_of(0x404000, -4, 0x401003); int64_t addend = -4;
+ *     status = linker_utils_choose(EM_X86_64, R_X86_64_REX_GOTPCRELX, code, 7, 3, &local, &it);
+ *     assert(status == LINKER_UTILS_OK && it.relocation == R_X86_64_PC32);
+ *     status = linker_utils_apply(EM_X86_64, it.rewrite, it.opcode_len, code, 7, &offset, &addend);
+ *     assert(status == LINKER_UTILS_OK && code[1] == 0x8d); // lea x(%rip), %rdi
  * Deletions:
  *     const struct linker_utils_deletion gone[2] = {{4, 4}, {16, 2}};
  *     struct linker_utils_delta deltas[2]; uint64_t input;
- *     linker_utils_deltas_create(gone, 2, deltas, 2, NULL); // or a status
+ *     status = linker_utils_deltas_create(gone, 2, deltas, 2, NULL);
+ *     assert(status == LINKER_UTILS_OK);
  *     assert(linker_utils_deltas_input_to_output(deltas, 2, 18) == 12);
  *     status = linker_utils_deltas_output_to_input(deltas, 2, 12, &input);
  *     assert(status == LINKER_UTILS_OK && input == 18);
@@ -77,9 +80,10 @@
  *     assert(status == LINKER_UTILS_OK && bl[1] == 0x04);
  * Reading back:
  *     struct linker_utils_field_value known, from; uint32_t reference;
- *     linker_utils_read_value(EM_AARCH64, R_AARCH64_CALL26, bl, sizeof bl, &known);
- *     linker_utils_solve(EM_AARCH64, R_AARCH64_CALL26, &known, &at, &reference, &from);
- *     assert(known.bits - known.rounding == 0x1000 && from.bits == 0x402000); // S + A
+ *     status = linker_utils_read_value(EM_AARCH64, R_AARCH64_CALL26, bl, sizeof bl, &known);
+ *     assert(status == LINKER_UTILS_OK && known.bits - known.rounding == 0x1000);
+ *     status = linker_utils_solve(EM_AARCH64, R_AARCH64_CALL26, &known, &at, &reference, &from);
+ *     assert(status == LINKER_UTILS_OK && from.bits == 0x402000); // S + A
  *
  * End of the examples.
  *
@@ -97,6 +101,7 @@
 #include "linker_utils_lists.h"
 
 #define LINKER_UTILS_VERSION "0.1.0"
+#define LINKER_UTILS_VERSION_NUMBER 100 /* 10000 * major + 100 * minor + patch, for `#if` */
 
 #ifdef __cplusplus
 extern "C" {
@@ -161,8 +166,9 @@ static inline struct linker_utils_operands linker_utils_operands_of(
  * R_LARCH_ADD_ULEB128 is S + A, though their kind is LINKER_UTILS_KIND_RELATIVE.
  * LINKER_UTILS_UNKNOWN_ARCHITECTURE; LINKER_UTILS_UNKNOWN_RELOCATION; LINKER_UTILS_NO_ENTRY or
  * LINKER_UTILS_NO_TLS_BASE for what the formula has and there isn't; LINKER_UTILS_NO_VALUE. */
-uint32_t linker_utils_value(uint16_t machine, uint32_t r_type,
-                            const struct linker_utils_operands *operands, int64_t *value);
+LINKER_UTILS_MUST_USE uint32_t linker_utils_value(
+    uint16_t machine, uint32_t r_type, const struct linker_utils_operands *operands,
+    int64_t *value);
 
 /* Bytes that hold the name of any relocation. */
 #define LINKER_UTILS_NAME_SIZE 64
@@ -170,7 +176,7 @@ uint32_t linker_utils_value(uint16_t machine, uint32_t r_type,
 /* Writes the relocation's name in its psABI, as "R_X86_64_PC32", to the first bytes of `name`, with
  * no NUL after it, and the count of these bytes to `name_used`. LINKER_UTILS_TOO_SHORT where `name`
  * has fewer bytes. */
-static inline uint32_t linker_utils_relocation_name(
+LINKER_UTILS_MUST_USE static inline uint32_t linker_utils_relocation_name(
     uint16_t machine, uint32_t r_type, uint8_t *name, size_t name_len, size_t *name_used);
 
 /* ---- Writes. */
@@ -196,8 +202,8 @@ struct linker_utils_relocation_reach {
  * - R_X86_64_GOT32, R_RISCV_PLT32 and R_RISCV_GOT32_PCREL: from -2^31 up, below 2^31
  * A relocation without a range takes a part of every value: R_AARCH64_ADR_PREL_PG_HI21_NC writes 0
  * for 2^33. LINKER_UTILS_UNKNOWN_ARCHITECTURE; LINKER_UTILS_UNKNOWN_RELOCATION. */
-uint32_t linker_utils_reach(uint16_t machine, uint32_t r_type,
-                            struct linker_utils_relocation_reach *reach);
+LINKER_UTILS_MUST_USE uint32_t linker_utils_reach(
+    uint16_t machine, uint32_t r_type, struct linker_utils_relocation_reach *reach);
 
 /* Writes the value of a relocation, as `linker_utils_value` returns it, to the bytes that `dest`
  * begins with.
@@ -218,8 +224,8 @@ uint32_t linker_utils_reach(uint16_t machine, uint32_t r_type,
  * there is `linker_utils_write_uleb128`, and for R_LARCH_CALL30, since no manual says how far its
  * pair goes; LINKER_UTILS_TOO_SHORT; LINKER_UTILS_MISALIGNED; LINKER_UTILS_OUT_OF_REACH, also where
  * the immediate of a `c.lui` would be 0. */
-static inline uint32_t linker_utils_relocate(uint16_t machine, uint32_t r_type, int64_t value,
-                                             uint8_t *dest, size_t dest_len);
+LINKER_UTILS_MUST_USE static inline uint32_t linker_utils_relocate(
+    uint16_t machine, uint32_t r_type, int64_t value, uint8_t *dest, size_t dest_len);
 
 /* ---- Rewrites: instructions in place of others.
  *
@@ -333,11 +339,9 @@ struct linker_utils_choice {
  * address of the first. The second is 4 bytes after it, of the same symbol, with 4 more in its
  * addend. AArch64's ADRP_ADD_TO_NOP_ADR erases the `adrp` too, whose relocation has to be of the
  * same symbol and addend as the `add`'s. */
-static inline uint32_t linker_utils_choose(uint16_t machine, uint32_t r_type,
-                                           const uint8_t *section, size_t section_len,
-                                           uint64_t offset,
-                                           const struct linker_utils_link_facts *facts,
-                                           struct linker_utils_choice *choice);
+LINKER_UTILS_MUST_USE static inline uint32_t linker_utils_choose(
+    uint16_t machine, uint32_t r_type, const uint8_t *section, size_t section_len, uint64_t offset,
+    const struct linker_utils_link_facts *facts, struct linker_utils_choice *choice);
 
 /* Whether the relocation of type `r_type` can be rewritten if each other one of its sequence can:
  * whether `linker_utils_choose` changes something by these facts and `group_fits`. A linker calls
@@ -348,26 +352,20 @@ static inline bool linker_utils_relocation_fits(uint16_t machine, uint32_t r_typ
                                                 uint64_t offset,
                                                 const struct linker_utils_link_facts *facts);
 
-/* Whether a choice at the relocation of type `r_type` leaves both as they are: the rewrite is
- * NO_OP, and the relocation after it has the same type. The choice of another instruction may still
- * change this relocation, as `has_other` there says. False of another machine's rewrite. */
-bool linker_utils_is_unchanged(uint16_t machine, uint32_t r_type,
-                               const struct linker_utils_choice *choice);
-
 /* LINKER_UTILS_OK where the bytes at an offset of a section are an instruction, or a sequence of
  * some, that the rewrite is meant for, by opcodes and registers, otherwise
  * LINKER_UTILS_DOES_NOT_MATCH. Where it returns LINKER_UTILS_OK, so does `linker_utils_can_apply`.
  * Whether the rewrite is right for the symbol and the value is the caller's to test
  * (`linker_utils_hi20_fits_clui`). Any bytes match a rewrite that writes a `nop` or nothing. */
-static inline uint32_t linker_utils_matches(uint16_t machine, uint32_t rewrite, uint8_t opcode_len,
-                                            const uint8_t *section, size_t section_len,
-                                            uint64_t offset);
+LINKER_UTILS_MUST_USE static inline uint32_t linker_utils_matches(
+    uint16_t machine, uint32_t rewrite, uint8_t opcode_len, const uint8_t *section,
+    size_t section_len, uint64_t offset);
 
 /* Rewrites the instruction at an offset of a section, and sets the offset and the addend to those
  * of the relocation that is then to be applied. LINKER_UTILS_CANNOT_APPLY. */
-static inline uint32_t linker_utils_apply(uint16_t machine, uint32_t rewrite, uint8_t opcode_len,
-                                          uint8_t *section, size_t section_len, uint64_t *offset,
-                                          int64_t *addend);
+LINKER_UTILS_MUST_USE static inline uint32_t linker_utils_apply(
+    uint16_t machine, uint32_t rewrite, uint8_t opcode_len, uint8_t *section, size_t section_len,
+    uint64_t *offset, int64_t *addend);
 
 /* ---- Deletions: bytes that relaxation takes out of a section, and offsets of those that stay. */
 
@@ -390,7 +388,7 @@ struct linker_utils_delta {
 
 /* Writes the deltas of the deletions, one for each. LINKER_UTILS_INVALID_DELETIONS, with `faulty`
  * as above; LINKER_UTILS_DIFFERENT_LENGTHS where `deltas_len` is not `deletions_len`. */
-static inline uint32_t linker_utils_deltas_create(
+LINKER_UTILS_MUST_USE static inline uint32_t linker_utils_deltas_create(
     const struct linker_utils_deletion *deletions, size_t deletions_len,
     struct linker_utils_delta *deltas, size_t deltas_len, size_t *faulty);
 
@@ -401,7 +399,7 @@ static inline uint64_t linker_utils_deltas_input_to_output(
 
 /* The offset in the input section of the kept byte at an output offset. LINKER_UTILS_TOO_LARGE. The
  * search takes O(log n). */
-static inline uint32_t linker_utils_deltas_output_to_input(
+LINKER_UTILS_MUST_USE static inline uint32_t linker_utils_deltas_output_to_input(
     const struct linker_utils_delta *deltas, size_t deltas_len, uint64_t output_offset,
     uint64_t *input_offset);
 
@@ -435,8 +433,9 @@ struct linker_utils_requirements {
  * whether its symbol is (STT_TLS). Where a relocation is rewritten, ask for the one that it
  * becomes. RISC-V's TLS descriptors are rewritten later: a group that won't stay requires no entry.
  * LINKER_UTILS_UNKNOWN_ARCHITECTURE; LINKER_UTILS_UNKNOWN_RELOCATION. */
-uint32_t linker_utils_needs(uint16_t machine, uint32_t r_type, int64_t addend,
-                            bool is_thread_local, struct linker_utils_requirements *required);
+LINKER_UTILS_MUST_USE uint32_t linker_utils_needs(
+    uint16_t machine, uint32_t r_type, int64_t addend, bool is_thread_local,
+    struct linker_utils_requirements *required);
 
 /* What a linker knows of a symbol, once addresses are known. All are 0 at index 0, which is no
  * symbol. An entry that there isn't has the address 0. */
@@ -483,7 +482,7 @@ struct linker_utils_addresses {
  * index; LINKER_UTILS_UNKNOWN_RELOCATION; LINKER_UTILS_NO_VALUE; LINKER_UTILS_NO_SYMBOL where the
  * index of its symbol, or of its high part's, isn't below `symbols_len`; LINKER_UTILS_NO_HIGH_PART;
  * LINKER_UTILS_NO_ENTRY; LINKER_UTILS_NO_TLS_BASE. O(1); a low part of n relocations O(log n). */
-static inline uint32_t linker_utils_value_at(
+LINKER_UTILS_MUST_USE static inline uint32_t linker_utils_value_at(
     uint16_t machine, const struct linker_utils_addresses *addresses, const void *relocations,
     size_t relocations_len, const struct linker_utils_symbol *symbols, size_t symbols_len,
     size_t index, int64_t *value);
@@ -512,7 +511,7 @@ static inline size_t linker_utils_relocate_memory(const void *relocations,
  * of `linker_utils_write_uleb128`. LINKER_UTILS_TOO_SHORT is also an offset past the section's end,
  * and LINKER_UTILS_UNSUPPORTED a ULEB128 number's relocation that isn't of a pair. It takes O(n)
  * for n relocations that ascend, and O(log n) more for a low part; else O(n log n), and O(n). */
-static inline uint32_t linker_utils_relocate_section(
+LINKER_UTILS_MUST_USE static inline uint32_t linker_utils_relocate_section(
     uint16_t machine, const struct linker_utils_addresses *addresses, const void *relocations,
     size_t relocations_len, const struct linker_utils_symbol *symbols, size_t symbols_len,
     uint8_t *section, size_t section_len, uint64_t *memory, size_t memory_len, size_t *faulty);
@@ -585,10 +584,10 @@ struct linker_utils_decision {
  * module's TLS block that stands in data counts from the block: where the object has one that is
  * loaded, set `local_dynamic` at index 0. O(n) for n relocations.
  * LINKER_UTILS_UNKNOWN_ARCHITECTURE. */
-static inline uint32_t linker_utils_survey(
+LINKER_UTILS_MUST_USE static inline uint32_t linker_utils_survey(
     uint16_t machine, const struct linker_utils_output_facts *output,
-    const struct linker_utils_symbol_facts *symbols, size_t symbols_len,
-    const void *relocations, size_t relocations_len, const uint8_t *section, size_t section_len,
+    const struct linker_utils_symbol_facts *symbols, size_t symbols_len, const void *relocations,
+    size_t relocations_len, const uint8_t *section, size_t section_len,
     struct linker_utils_kept_groups *kept, size_t kept_len);
 
 /* Rewrites the instructions of a section of code as `linker_utils_choose` says before addresses are
@@ -605,7 +604,7 @@ static inline uint32_t linker_utils_survey(
  * below those of one before it, so that rewritten instructions ascend. After these it is that of
  * the first that isn't taken along and has its field in the bytes of a rewrite. With an error the
  * section and its relocations are unchanged, and decisions from `faulty` on aren't specified. */
-static inline uint32_t linker_utils_rewrite_section(
+LINKER_UTILS_MUST_USE static inline uint32_t linker_utils_rewrite_section(
     uint16_t machine, const struct linker_utils_output_facts *output,
     const struct linker_utils_symbol_facts *symbols, size_t symbols_len,
     const struct linker_utils_kept_groups *kept, size_t kept_len, void *relocations,
@@ -617,7 +616,7 @@ static inline uint32_t linker_utils_rewrite_section(
  * without a mark. Each phase has an array of its own, which begins with all false. `symbols` and
  * `values` both have the object's symbols at the indexes that its relocations name.
  * LINKER_UTILS_UNKNOWN_ARCHITECTURE; LINKER_UTILS_UNKNOWN_PHASE; LINKER_UTILS_FACTS_CONTRADICT. */
-static inline uint32_t linker_utils_survey_placed_section(
+LINKER_UTILS_MUST_USE static inline uint32_t linker_utils_survey_placed_section(
     uint16_t machine, uint32_t phase, const struct linker_utils_output_facts *output,
     const struct linker_utils_symbol_facts *symbols, size_t symbols_len,
     const struct linker_utils_addresses *addresses, const struct linker_utils_symbol *values,
@@ -642,7 +641,7 @@ static inline uint32_t linker_utils_survey_placed_section(
  * LINKER_UTILS_NOT_SURVEYED and LINKER_UTILS_OVERLAPS as above, of the relocation `faulty`; and
  * LINKER_UTILS_SHORT_MEMORY where `deleted` has fewer elements than there are deletions. With any
  * status except LINKER_UTILS_OK the section, relocations and `deleted_used` are unchanged. */
-static inline uint32_t linker_utils_rewrite_placed_section(
+LINKER_UTILS_MUST_USE static inline uint32_t linker_utils_rewrite_placed_section(
     uint16_t machine, uint32_t phase, const struct linker_utils_output_facts *output,
     const struct linker_utils_symbol_facts *symbols, size_t symbols_len,
     const struct linker_utils_addresses *addresses, const struct linker_utils_symbol *values,
@@ -686,9 +685,9 @@ struct linker_utils_field_value {
  * LINKER_UTILS_TOO_SHORT where there are fewer bytes than the field has.
  * LINKER_UTILS_HOLDS_NO_VALUE of a relocation of no bytes, of one that adds or subtracts, of one at
  * a ULEB128 number, and of R_LARCH_CALL30. */
-static inline uint32_t linker_utils_read_value(uint16_t machine, uint32_t r_type,
-                                               const uint8_t *bytes, size_t bytes_len,
-                                               struct linker_utils_field_value *value);
+LINKER_UTILS_MUST_USE static inline uint32_t linker_utils_read_value(
+    uint16_t machine, uint32_t r_type, const uint8_t *bytes, size_t bytes_len,
+    struct linker_utils_field_value *value);
 
 #include "linker_utils_further.h"
 #include "linker_utils_inline.h"

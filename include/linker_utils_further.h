@@ -51,8 +51,8 @@ struct linker_utils_relocation_info {
 };
 
 /* What a relocation means, by `e_machine` and ELF's relocation type. */
-uint32_t linker_utils_relocation(uint16_t machine, uint32_t r_type,
-                                 struct linker_utils_relocation_info *info);
+LINKER_UTILS_MUST_USE uint32_t linker_utils_relocation(
+    uint16_t machine, uint32_t r_type, struct linker_utils_relocation_info *info);
 
 /* Whether the relocation requires a GOT entry: its value depends on where the symbol's GOT entry,
  * its entries for TLS or its TLS descriptor are, `got_entry` of `struct linker_utils_operands`. A
@@ -90,7 +90,7 @@ struct linker_utils_relocation_entry {
  * it are not. With LINKER_UTILS_UNKNOWN_ARCHITECTURE `faulty` is unchanged. An offset past the
  * section's end is LINKER_UTILS_TOO_SHORT whatever the relocation's type, even if
  * LINKER_UTILS_UNKNOWN_RELOCATION or LINKER_UTILS_UNSUPPORTED applies too. */
-static inline uint32_t linker_utils_relocate_all(
+LINKER_UTILS_MUST_USE static inline uint32_t linker_utils_relocate_all(
     uint16_t machine, uint8_t *section, size_t section_len,
     const struct linker_utils_relocation_entry *relocations, size_t relocations_len,
     size_t *faulty);
@@ -106,28 +106,29 @@ static inline uint32_t linker_utils_relocate_all(
 uint32_t linker_utils_find(uint16_t machine, uint32_t r_type);
 
 /* `linker_utils_value`. */
-uint32_t linker_utils_row_value(uint32_t handle, const struct linker_utils_operands *operands,
-                                int64_t *value);
+LINKER_UTILS_MUST_USE uint32_t linker_utils_row_value(
+    uint32_t handle, const struct linker_utils_operands *operands, int64_t *value);
 
 /* `linker_utils_relocate`. */
-static inline uint32_t linker_utils_row_write(uint32_t handle, int64_t value, uint8_t *dest,
-                                              size_t dest_len);
+LINKER_UTILS_MUST_USE static inline uint32_t linker_utils_row_write(
+    uint32_t handle, int64_t value, uint8_t *dest, size_t dest_len);
 
 /* Both: the value is computed and written. Where it isn't, the status is that of
  * `linker_utils_row_value` or of `linker_utils_row_write`. */
-static inline uint32_t linker_utils_row_apply(uint32_t handle,
-                                              const struct linker_utils_operands *operands,
-                                              uint8_t *dest, size_t dest_len);
+LINKER_UTILS_MUST_USE static inline uint32_t linker_utils_row_apply(
+    uint32_t handle, const struct linker_utils_operands *operands, uint8_t *dest, size_t dest_len);
 
 /* `linker_utils_reach`. */
-uint32_t linker_utils_row_reach(uint32_t handle, struct linker_utils_relocation_reach *reach);
+LINKER_UTILS_MUST_USE uint32_t linker_utils_row_reach(
+    uint32_t handle, struct linker_utils_relocation_reach *reach);
 
 /* `linker_utils_needs`. */
-uint32_t linker_utils_row_needs(uint32_t handle, int64_t addend, bool is_thread_local,
-                                struct linker_utils_requirements *required);
+LINKER_UTILS_MUST_USE uint32_t linker_utils_row_needs(
+    uint32_t handle, int64_t addend, bool is_thread_local,
+    struct linker_utils_requirements *required);
 
 /* `linker_utils_choose`, of a type with a row. */
-static inline uint32_t linker_utils_row_choose(
+LINKER_UTILS_MUST_USE static inline uint32_t linker_utils_row_choose(
     uint32_t handle, const uint8_t *section, size_t section_len, uint64_t offset,
     const struct linker_utils_link_facts *facts, struct linker_utils_choice *choice);
 
@@ -152,7 +153,7 @@ struct linker_utils_row {
 };
 
 /* What a relocation means and requires, into `row`. */
-uint32_t linker_utils_row_of(uint32_t handle, struct linker_utils_row *row);
+LINKER_UTILS_MUST_USE uint32_t linker_utils_row_of(uint32_t handle, struct linker_utils_row *row);
 
 /* ---- Outputs: what a linker adds to one, by architecture.
  *
@@ -176,13 +177,14 @@ struct linker_utils_dynamic_types {
 };
 
 /* The dynamic relocations of an architecture, into `types`. */
-uint32_t linker_utils_dynamic_types(uint16_t machine, struct linker_utils_dynamic_types *types);
+LINKER_UTILS_MUST_USE uint32_t linker_utils_get_dynamic_types(
+    uint16_t machine, struct linker_utils_dynamic_types *types);
 
 /* Writes the name of one of these types, as `R_X86_64_RELATIVE`, to `name`, without a zero after
  * it, and its length to `name_used`. LINKER_UTILS_UNKNOWN_RELOCATION; LINKER_UTILS_TOO_SHORT. No
  * name is longer than LINKER_UTILS_NAME_SIZE. */
-static inline uint32_t linker_utils_dynamic_name(uint16_t machine, uint32_t r_type, uint8_t *name,
-                                                 size_t name_len, size_t *name_used);
+LINKER_UTILS_MUST_USE static inline uint32_t linker_utils_dynamic_name(
+    uint16_t machine, uint32_t r_type, uint8_t *name, size_t name_len, size_t *name_used);
 
 /* The types of the dynamic relocations of a GOT entry's words; 0 for a word that has none, whose
  * value is known when the output is linked. */
@@ -196,11 +198,12 @@ struct linker_utils_word_types {
  * `is_executable`: the output is a position-independent executable, and not a shared library. In a
  * shared library the second word of a bound symbol's LINKER_UTILS_ENTRY_MODULE_OFFSET has its
  * offset from `module_block` of `struct linker_utils_origins`. LINKER_UTILS_UNKNOWN_ENTRY_CLASS. */
-uint32_t linker_utils_dynamic_words(uint16_t machine, uint32_t entry_class, bool is_bound,
-                                    bool is_executable, struct linker_utils_word_types *words);
+LINKER_UTILS_MUST_USE uint32_t linker_utils_dynamic_words(
+    uint16_t machine, uint32_t entry_class, bool is_bound, bool is_executable,
+    struct linker_utils_word_types *words);
 
 /* How many words of 8 bytes an entry of a class has; 0 of a number that is no class. */
-uint64_t linker_utils_entry_words(uint32_t entry_class);
+uint64_t linker_utils_get_entry_words(uint32_t entry_class);
 
 /* What offsets of thread-local storage count from. */
 struct linker_utils_origins {
@@ -211,8 +214,9 @@ struct linker_utils_origins {
 /* What they count from, by the TLS image: its address, its length in memory and its alignment,
  * `p_vaddr`, `p_memsz` and `p_align` of PT_TLS; an alignment of 0 stands for 1. Addresses are
  * modulo 2^64. */
-uint32_t linker_utils_origins(uint16_t machine, uint64_t image, uint64_t image_len,
-                              uint64_t alignment, struct linker_utils_origins *origins);
+LINKER_UTILS_MUST_USE uint32_t linker_utils_get_origins(
+    uint16_t machine, uint64_t image, uint64_t image_len, uint64_t alignment,
+    struct linker_utils_origins *origins);
 
 /* Both words of an entry of the GOT; the second is 0 where the entry has one. */
 struct linker_utils_entry_words {
@@ -224,9 +228,9 @@ struct linker_utils_entry_words {
  * where the entry is of S + A. The executable's module has number 1.
  * LINKER_UTILS_UNKNOWN_ENTRY_CLASS, also of LINKER_UTILS_ENTRY_DESCRIPTOR, whose function a static
  * executable has not. */
-uint32_t linker_utils_static_words(uint32_t entry_class, uint64_t address,
-                                   const struct linker_utils_origins *origins,
-                                   struct linker_utils_entry_words *words);
+LINKER_UTILS_MUST_USE uint32_t linker_utils_static_words(
+    uint32_t entry_class, uint64_t address, const struct linker_utils_origins *origins,
+    struct linker_utils_entry_words *words);
 
 /* The GOT, by its address. */
 struct linker_utils_got {
@@ -236,14 +240,14 @@ struct linker_utils_got {
 };
 
 /* What a linker knows of the GOT by its address and that of `_DYNAMIC`, 0 where there is none. */
-uint32_t linker_utils_got(uint16_t machine, uint64_t address, uint64_t dynamic,
-                          struct linker_utils_got *got);
+LINKER_UTILS_MUST_USE uint32_t linker_utils_get_got(
+    uint16_t machine, uint64_t address, uint64_t dynamic, struct linker_utils_got *got);
 
 /* `e_flags` of two objects that are linked, into `joined`. The order of objects doesn't matter.
  * LINKER_UTILS_DIFFERENT_FLAGS where the psABI keeps the two apart, as RISC-V's lp64 and lp64d, or
  * where one of them has a bit that the psABI doesn't define. */
-uint32_t linker_utils_join_flags(uint16_t machine, uint32_t first, uint32_t second,
-                                 uint32_t *joined);
+LINKER_UTILS_MUST_USE uint32_t linker_utils_join_flags(
+    uint16_t machine, uint32_t first, uint32_t second, uint32_t *joined);
 
 /* `e_flags` of an output, from those that `linker_utils_join_flags` made of its objects:
  * PowerPC64's objects may leave the version of the ABI open, and an output says that it is 2. Those
@@ -264,23 +268,24 @@ uint8_t linker_utils_filler(uint16_t machine, uint64_t offset);
 /* Writes the path of the dynamic linker in glibc for an output with such `e_flags` to `path`,
  * without a zero after it, and its length to `path_used`. LINKER_UTILS_NOT_PROVIDED where glibc
  * has none for them; LINKER_UTILS_TOO_SHORT. No path is longer than LINKER_UTILS_NAME_SIZE. */
-static inline uint32_t linker_utils_interpreter(uint16_t machine, uint32_t flags, uint8_t *path,
-                                                size_t path_len, size_t *path_used);
+LINKER_UTILS_MUST_USE static inline uint32_t linker_utils_interpreter(
+    uint16_t machine, uint32_t flags, uint8_t *path, size_t path_len, size_t *path_used);
 
 /* Writes the name of the section of objects in which compilers keep addresses, as the GOT does, to
  * `name`, without a zero after it, and its length to `name_used`: PowerPC64's `.toc`. It stands
  * beside the GOT. Nothing changes its words, so that a linker may have instructions compute such an
  * address. LINKER_UTILS_NOT_PROVIDED where there is none; LINKER_UTILS_TOO_SHORT. No name is longer
  * than LINKER_UTILS_NAME_SIZE. */
-static inline uint32_t linker_utils_address_section(uint16_t machine, uint8_t *name,
-                                                    size_t name_len, size_t *name_used);
+LINKER_UTILS_MUST_USE static inline uint32_t linker_utils_address_section(
+    uint16_t machine, uint8_t *name, size_t name_len, size_t *name_used);
 
 /* The type of the relocation that an instruction would have if its address were in an entry of the
  * GOT, into `entry_type`. `r_type` is the type where that is in a word of this section. By
  * `entry_type` `linker_utils_choose` says whether the instruction can compute the address. Some
  * instruction that refers to a word may not: then none of that word is rewritten, so that a linker
  * tests each first. LINKER_UTILS_NOT_PROVIDED of other types. */
-uint32_t linker_utils_entry_relocation(uint16_t machine, uint32_t r_type, uint32_t *entry_type);
+LINKER_UTILS_MUST_USE uint32_t linker_utils_entry_relocation(
+    uint16_t machine, uint32_t r_type, uint32_t *entry_type);
 
 /* Notes in `kept` which words of an object's section of addresses stay, by one of its sections of
  * code. A word stays where an instruction loads its address and can't compute it. It is none that
@@ -295,7 +300,7 @@ uint32_t linker_utils_entry_relocation(uint16_t machine, uint32_t r_type, uint32
  * `linker_utils_survey_placed_section`. Where an architecture has no such section nothing is noted.
  * It takes a search in log n steps for each load. LINKER_UTILS_UNKNOWN_ARCHITECTURE;
  * LINKER_UTILS_FACTS_CONTRADICT. */
-static inline uint32_t linker_utils_survey_address_loads(
+LINKER_UTILS_MUST_USE static inline uint32_t linker_utils_survey_address_loads(
     uint16_t machine, const struct linker_utils_output_facts *output,
     const struct linker_utils_symbol_facts *symbols, size_t symbols_len,
     const struct linker_utils_addresses *addresses, const struct linker_utils_symbol *values,
@@ -310,7 +315,7 @@ static inline uint32_t linker_utils_survey_address_loads(
  * same facts, addresses and words. Nothing is deleted. The statuses, and what an error leaves, are
  * those of `linker_utils_rewrite_section`; before LINKER_UTILS_SHORT_MEMORY comes
  * LINKER_UTILS_FACTS_CONTRADICT, of the symbol `faulty`. */
-static inline uint32_t linker_utils_rewrite_address_loads(
+LINKER_UTILS_MUST_USE static inline uint32_t linker_utils_rewrite_address_loads(
     uint16_t machine, const struct linker_utils_output_facts *output,
     const struct linker_utils_symbol_facts *symbols, size_t symbols_len,
     const struct linker_utils_addresses *addresses, const struct linker_utils_symbol *values,
@@ -333,7 +338,7 @@ static inline uint32_t linker_utils_rewrite_address_loads(
  * `kept` has an element for each symbol, which is false at first; what stays there already stays,
  * and so does a symbol without an element. For other machines nothing is noted.
  * LINKER_UTILS_UNKNOWN_ARCHITECTURE; LINKER_UTILS_FACTS_CONTRADICT. */
-static inline uint32_t linker_utils_survey_global_pointer(
+LINKER_UTILS_MUST_USE static inline uint32_t linker_utils_survey_global_pointer(
     uint16_t machine, const struct linker_utils_output_facts *output,
     const struct linker_utils_symbol_facts *symbols, size_t symbols_len,
     const struct linker_utils_addresses *addresses, const struct linker_utils_symbol *values,
@@ -354,7 +359,7 @@ static inline uint32_t linker_utils_survey_global_pointer(
  * leaves, are those of `linker_utils_rewrite_placed_section`. LINKER_UTILS_OVERLAPS is returned
  * where two instructions that go or get another base share a byte, or a relocation's field has a
  * byte of one that goes. */
-static inline uint32_t linker_utils_rewrite_global_pointer(
+LINKER_UTILS_MUST_USE static inline uint32_t linker_utils_rewrite_global_pointer(
     uint16_t machine, const struct linker_utils_output_facts *output,
     const struct linker_utils_symbol_facts *symbols, size_t symbols_len,
     const struct linker_utils_addresses *addresses, const struct linker_utils_symbol *values,
@@ -371,7 +376,7 @@ static inline uint32_t linker_utils_rewrite_global_pointer(
  * relocation with the index `faulty`, its symbol isn't in the table, or its instruction isn't in
  * the section: then nothing changes. It never comes where the symbol and the global pointer are in
  * one run (`linker_utils_relax`), since no distance gets longer there. */
-static inline uint32_t linker_utils_from_global_pointer(
+LINKER_UTILS_MUST_USE static inline uint32_t linker_utils_from_global_pointer(
     const struct linker_utils_addresses *addresses, const struct linker_utils_symbol *values,
     size_t values_len, uint64_t global_pointer, void *relocations, size_t relocations_len,
     uint8_t *section, size_t section_len, size_t *faulty);
@@ -385,9 +390,9 @@ struct linker_utils_provided_symbol {
 /* The symbol with an index, from 0 on: its name to `name`, without a zero after it, its length to
  * `name_used`, and where it is to `symbol`. LINKER_UTILS_NOT_PROVIDED where there is none with this
  * index or above; LINKER_UTILS_TOO_SHORT. No name is longer than LINKER_UTILS_NAME_SIZE. */
-static inline uint32_t linker_utils_provided_symbol(uint16_t machine, size_t index, uint8_t *name,
-                                                    size_t name_len, size_t *name_used,
-                                                    struct linker_utils_provided_symbol *symbol);
+LINKER_UTILS_MUST_USE static inline uint32_t linker_utils_get_provided_symbol(
+    uint16_t machine, size_t index, uint8_t *name, size_t name_len, size_t *name_used,
+    struct linker_utils_provided_symbol *symbol);
 
 /* Functions that compilers call and linkers provide, which save or restore registers, in one run of
  * code. They take registers that stubs change, so that branches have to reach them directly: a
@@ -405,13 +410,14 @@ struct linker_utils_provided_run {
  * after it in decimal, to `prefix`, its length to `prefix_used`, and the numbers to `run`.
  * LINKER_UTILS_NOT_PROVIDED where there is none with this index or above; LINKER_UTILS_TOO_SHORT.
  * No prefix is longer than LINKER_UTILS_NAME_SIZE. */
-static inline uint32_t linker_utils_provided_run(uint16_t machine, size_t index, uint8_t *prefix,
-                                                 size_t prefix_len, size_t *prefix_used,
-                                                 struct linker_utils_provided_run *run);
+LINKER_UTILS_MUST_USE static inline uint32_t linker_utils_get_provided_run(
+    uint16_t machine, size_t index, uint8_t *prefix, size_t prefix_len, size_t *prefix_used,
+    struct linker_utils_provided_run *run);
 
 /* The instruction at an index of the run with an index, into `word`. LINKER_UTILS_NOT_PROVIDED
  * where either is too large. */
-uint32_t linker_utils_provided_word(uint16_t machine, size_t run, uint64_t index, uint32_t *word);
+LINKER_UTILS_MUST_USE uint32_t linker_utils_provided_word(
+    uint16_t machine, size_t run, uint64_t index, uint32_t *word);
 
 /* A stub of an architecture. */
 struct linker_utils_stub {
@@ -422,15 +428,17 @@ struct linker_utils_stub {
 };
 
 /* The stub of a kind, into `stub`. LINKER_UTILS_UNKNOWN_STUB where the architecture has none. */
-uint32_t linker_utils_stub(uint16_t machine, uint32_t kind, struct linker_utils_stub *stub);
+LINKER_UTILS_MUST_USE uint32_t linker_utils_get_stub(
+    uint16_t machine, uint32_t kind, struct linker_utils_stub *stub);
 
 /* Writes the stub of a kind that stands at the address `place` to the beginning of `bytes`: to the
  * word at `target`, or to `target`. What a call changes on its way through it are registers that a
  * function may change, in which no argument is. LINKER_UTILS_UNKNOWN_STUB; LINKER_UTILS_TOO_SHORT;
  * and where the target is out of the stub's reach the status of the first such field, as
  * `linker_utils_relocate`. */
-static inline uint32_t linker_utils_write_stub(uint16_t machine, uint32_t kind, uint64_t place,
-                                               uint64_t target, uint8_t *bytes, size_t bytes_len);
+LINKER_UTILS_MUST_USE static inline uint32_t linker_utils_write_stub(
+    uint16_t machine, uint32_t kind, uint64_t place, uint64_t target, uint8_t *bytes,
+    size_t bytes_len);
 
 /* A lazy PLT of an architecture: its header, and after it an entry for each function. An entry
  * jumps to the address that its word of `.got.plt` has. That is the function's only once the
@@ -444,15 +452,15 @@ struct linker_utils_lazy_plt {
 };
 
 /* The lazy PLT of an architecture, into `plt`. */
-uint32_t linker_utils_lazy_plt(uint16_t machine, struct linker_utils_lazy_plt *plt);
+LINKER_UTILS_MUST_USE uint32_t linker_utils_get_lazy_plt(
+    uint16_t machine, struct linker_utils_lazy_plt *plt);
 
 /* Writes the header that stands at the address `header`, of the `.got.plt` at `words`, to the
  * beginning of `bytes`. PowerPC64's is `__glink_PLTresolve`, and its `.got.plt` is the section
  * `.plt`. LINKER_UTILS_TOO_SHORT; and where `words` are out of reach the status of the first such
  * field, as `linker_utils_relocate`. */
-static inline uint32_t linker_utils_write_lazy_header(uint16_t machine, uint64_t header,
-                                                      uint64_t words, uint8_t *bytes,
-                                                      size_t bytes_len);
+LINKER_UTILS_MUST_USE static inline uint32_t linker_utils_write_lazy_header(
+    uint16_t machine, uint64_t header, uint64_t words, uint8_t *bytes, size_t bytes_len);
 
 /* What an entry is written from. */
 struct linker_utils_lazy_entry {
@@ -463,15 +471,15 @@ struct linker_utils_lazy_entry {
 };
 
 /* Writes an entry to the beginning of `bytes`, with the statuses of the header. */
-static inline uint32_t linker_utils_write_lazy_entry(uint16_t machine,
-                                                     const struct linker_utils_lazy_entry *entry,
-                                                     uint8_t *bytes, size_t bytes_len);
+LINKER_UTILS_MUST_USE static inline uint32_t linker_utils_write_lazy_entry(
+    uint16_t machine, const struct linker_utils_lazy_entry *entry, uint8_t *bytes,
+    size_t bytes_len);
 
 /* What the word with an index at the begin of `.got.plt` holds, by the addresses of `.dynamic` and
  * of the header, into `word`. LINKER_UTILS_NOT_PROVIDED where that is no word before those of
  * entries. */
-uint32_t linker_utils_lazy_header_word(uint16_t machine, size_t index, uint64_t dynamic,
-                                       uint64_t header, uint64_t *word);
+LINKER_UTILS_MUST_USE uint32_t linker_utils_lazy_header_word(
+    uint16_t machine, size_t index, uint64_t dynamic, uint64_t header, uint64_t *word);
 
 /* What the word of the entry at an address holds until the dynamic linker has looked up the
  * function, by the addresses of the header and of `.dynamic`; 0 of a machine that isn't known.
@@ -510,7 +518,7 @@ struct linker_utils_route {
  * its symbol isn't in the table; LINKER_UTILS_NOT_A_BRANCH; LINKER_UTILS_NO_ENTRY;
  * LINKER_UTILS_NO_ROOM; and where it can't be written, and no stub may serve it, the status of
  * `linker_utils_relocate`. */
-static inline uint32_t linker_utils_route_at(
+LINKER_UTILS_MUST_USE static inline uint32_t linker_utils_route_at(
     uint16_t machine, const struct linker_utils_addresses *addresses, const void *relocations,
     size_t relocations_len, const struct linker_utils_symbol *symbols, size_t symbols_len,
     size_t index, const uint8_t *section, size_t section_len, struct linker_utils_route *route);
@@ -519,11 +527,9 @@ static inline uint32_t linker_utils_route_at(
  * address has. It goes by a stub of the kind LINKER_UTILS_STUB_LOAD, which at R_PPC64_REL24 stores
  * the TOC pointer. LINKER_UTILS_TOO_SHORT where there is no relocation at the index;
  * LINKER_UTILS_NOT_A_BRANCH; LINKER_UTILS_NO_ROOM. */
-static inline uint32_t linker_utils_route_by_word(uint16_t machine, uint64_t word,
-                                                  const void *relocations,
-                                                  size_t relocations_len, size_t index,
-                                                  const uint8_t *section, size_t section_len,
-                                                  struct linker_utils_route *route);
+LINKER_UTILS_MUST_USE static inline uint32_t linker_utils_route_by_word(
+    uint16_t machine, uint64_t word, const void *relocations, size_t relocations_len, size_t index,
+    const uint8_t *section, size_t section_len, struct linker_utils_route *route);
 
 /* ---- Places of stubs between sections, so that each branch reaches its target or a stub of it. */
 
@@ -576,7 +582,7 @@ size_t linker_utils_most_stubs(size_t branches_len);
  * LINKER_UTILS_OUT_OF_MEMORY; LINKER_UTILS_NO_BOUNDARY, of the branch at `faulty`;
  * LINKER_UTILS_STUB_TOO_FAR, of the target at `faulty`. A few passes of O((n + s) log b) for n
  * branches, s stubs and b boundaries. It allocates. */
-static inline uint32_t linker_utils_place_stubs(
+LINKER_UTILS_MUST_USE static inline uint32_t linker_utils_place_stubs(
     const struct linker_utils_branch *branches, size_t branches_len, const uint64_t *targets,
     size_t targets_len, const uint64_t *boundaries, size_t boundaries_len,
     const struct linker_utils_stub_shape *shape, struct linker_utils_placed_stub *stubs,
@@ -625,13 +631,13 @@ static inline uint32_t linker_utils_place_stubs(
  * LINKER_UTILS_UNKNOWN_FORM come first. */
 
 /* The length in bytes of a form's window, into `window`. */
-uint32_t linker_utils_window(uint16_t machine, uint32_t form, size_t *window);
+LINKER_UTILS_MUST_USE uint32_t linker_utils_window(uint16_t machine, uint32_t form, size_t *window);
 
 /* LINKER_UTILS_OK where `linker_utils_write` of the value to these bytes would return that.
  * Otherwise LINKER_UTILS_TOO_SHORT where there are fewer bytes than the window, or
  * LINKER_UTILS_DOES_NOT_FIT where the value has more bits than the form. */
-static inline uint32_t linker_utils_fits(uint16_t machine, uint32_t form, uint64_t value,
-                                         const uint8_t *bytes, size_t bytes_len);
+LINKER_UTILS_MUST_USE static inline uint32_t linker_utils_fits(
+    uint16_t machine, uint32_t form, uint64_t value, const uint8_t *bytes, size_t bytes_len);
 
 /* Writes a value into the instruction that `dest` begins with, and changes no other bit. `negative`
  * is the value's sign, which matters only to LINKER_UTILS_AARCH64_FORM_MOVNZ.
@@ -641,13 +647,14 @@ static inline uint32_t linker_utils_fits(uint16_t machine, uint32_t form, uint64
  * LINKER_UTILS_AARCH64_FORM_MACH_O_LOW12, and the upper 4 of a branch's 16 bits at
  * LINKER_UTILS_LOONGARCH64_FORM_SHIFT10. `linker_utils_relocate` clears them first.
  * LINKER_UTILS_TOO_SHORT, LINKER_UTILS_DOES_NOT_FIT. */
-static inline uint32_t linker_utils_write(uint16_t machine, uint32_t form, uint64_t value,
-                                          bool negative, uint8_t *dest, size_t dest_len);
+LINKER_UTILS_MUST_USE static inline uint32_t linker_utils_write(
+    uint16_t machine, uint32_t form, uint64_t value, bool negative, uint8_t *dest, size_t dest_len);
 
 /* Reads the value in the instruction that `bytes` begins with, modulo 2^64, into `value`, and into
  * `negative` 1 where the form says that it is negative, else 0. LINKER_UTILS_TOO_SHORT. */
-static inline uint32_t linker_utils_read(uint16_t machine, uint32_t form, const uint8_t *bytes,
-                                         size_t bytes_len, uint64_t *value, uint8_t *negative);
+LINKER_UTILS_MUST_USE static inline uint32_t linker_utils_read(
+    uint16_t machine, uint32_t form, const uint8_t *bytes, size_t bytes_len, uint64_t *value,
+    uint8_t *negative);
 
 /* The number that the machine makes of the immediate of the instruction that the bytes begin with,
  * into `number`: with its sign, and times what it counts. So distances and offsets are in bytes,
@@ -660,8 +667,8 @@ static inline uint32_t linker_utils_read(uint16_t machine, uint32_t form, const 
  * LINKER_UTILS_UNKNOWN_ARCHITECTURE, also of x86-64; LINKER_UTILS_UNKNOWN_FORM;
  * LINKER_UTILS_DOES_NOT_MATCH where the bytes don't begin with an instruction of the form, by its
  * opcode in the architecture's manual. */
-static inline uint32_t linker_utils_operand(uint16_t machine, uint32_t form, const uint8_t *bytes,
-                                            size_t bytes_len, int64_t *number);
+LINKER_UTILS_MUST_USE static inline uint32_t linker_utils_operand(
+    uint16_t machine, uint32_t form, const uint8_t *bytes, size_t bytes_len, int64_t *number);
 
 /* The forms of the instruction that the bytes begin with, and of both where it and the next one are
  * a pair. Bit k is that of the form with number k. It calls `linker_utils_operand` of each form. 0
@@ -676,10 +683,15 @@ static inline uint32_t linker_utils_forms_of(uint16_t machine, const uint8_t *by
  * LINKER_UTILS_AARCH64_REWRITE_MOVK_XN and LINKER_UTILS_AARCH64_REWRITE_LDR_TO_ADD the word there.
  * It does not test whether the instruction is one that the rewrite is meant for:
  * `linker_utils_matches` does. */
-static inline uint32_t linker_utils_can_apply(uint16_t machine, uint32_t rewrite,
-                                              uint8_t opcode_len,
-                                              const uint8_t *section, size_t section_len,
-                                              uint64_t offset);
+LINKER_UTILS_MUST_USE static inline uint32_t linker_utils_can_apply(
+    uint16_t machine, uint32_t rewrite, uint8_t opcode_len, const uint8_t *section,
+    size_t section_len, uint64_t offset);
+
+/* Whether a choice at the relocation of type `r_type` leaves both as they are: the rewrite is
+ * NO_OP, and the relocation after it has the same type. The choice of another instruction may still
+ * change this relocation, as `has_other` there says. False of another machine's rewrite. */
+bool linker_utils_is_unchanged(uint16_t machine, uint32_t r_type,
+                               const struct linker_utils_choice *choice);
 
 /* The window of a rewrite: the bytes of a section that it writes at an offset. */
 struct linker_utils_window_bounds {
@@ -691,12 +703,13 @@ struct linker_utils_window_bounds {
  * rewrites whose windows have a byte in common write over each other. On x86-64 the field of the
  * relocation after a rewrite may lie after the window. A general-dynamic TLS sequence has 16
  * bytes, which are the window's 12 and the field's 4. */
-uint32_t linker_utils_rewrite_window(uint16_t machine, uint32_t rewrite, uint8_t opcode_len,
-                                     struct linker_utils_window_bounds *window);
+LINKER_UTILS_MUST_USE uint32_t linker_utils_rewrite_window(
+    uint16_t machine, uint32_t rewrite, uint8_t opcode_len,
+    struct linker_utils_window_bounds *window);
 
 /* What happens to the next relocation, into `modifier`, by `enum linker_utils_modifier`. */
-uint32_t linker_utils_next_modifier(uint16_t machine, uint32_t rewrite, uint8_t opcode_len,
-                                    uint32_t *modifier);
+LINKER_UTILS_MUST_USE uint32_t linker_utils_next_modifier(
+    uint16_t machine, uint32_t rewrite, uint8_t opcode_len, uint32_t *modifier);
 
 /* ---- Kept facts: values that are written only where choices of rewrites would read the same. */
 
@@ -709,7 +722,7 @@ struct linker_utils_kept_facts {
 /* Keeps what choices read of the output and of each symbol of an object. A linker calls it with the
  * facts that it passes to `linker_utils_survey` and `linker_utils_rewrite_section`.
  * LINKER_UTILS_DIFFERENT_LENGTHS where `kept_len` isn't `symbols_len`: nothing is written then. */
-static inline uint32_t linker_utils_keep_facts(
+LINKER_UTILS_MUST_USE static inline uint32_t linker_utils_keep_facts(
     const struct linker_utils_output_facts *output, const struct linker_utils_symbol_facts *symbols,
     size_t symbols_len, struct linker_utils_kept_facts *kept, size_t kept_len);
 
@@ -723,26 +736,26 @@ static inline uint32_t linker_utils_keep_facts(
  * of whose symbol other facts are kept, or none; LINKER_UTILS_NEEDS_STUB, and `faulty` is the first
  * R_PPC64_REL24 of a symbol of another file without a stub; else the statuses of
  * `linker_utils_relocate_section`. The section is unchanged with each of them. */
-static inline uint32_t linker_utils_relocate_rewritten_section(
+LINKER_UTILS_MUST_USE static inline uint32_t linker_utils_relocate_rewritten_section(
     uint16_t machine, const struct linker_utils_output_facts *output,
     const struct linker_utils_symbol_facts *facts, size_t facts_len,
     const struct linker_utils_kept_facts *kept, size_t kept_len,
-    const struct linker_utils_addresses *addresses, const void *relocations,
-    size_t relocations_len, const struct linker_utils_symbol *symbols, size_t symbols_len,
-    uint8_t *section, size_t section_len, uint64_t *memory, size_t memory_len, size_t *faulty);
+    const struct linker_utils_addresses *addresses, const void *relocations, size_t relocations_len,
+    const struct linker_utils_symbol *symbols, size_t symbols_len, uint8_t *section,
+    size_t section_len, uint64_t *memory, size_t memory_len, size_t *faulty);
 
 /* ---- Sequences of instructions. */
 
 /* AArch64: writes the four instructions, in 16 bytes, that load a number into register `rd`.
  * LINKER_UTILS_TOO_SHORT, LINKER_UTILS_BAD_REGISTER. */
-static inline uint32_t linker_utils_write_mov_sequence(uint8_t *dest, size_t dest_len, uint32_t rd,
-                                                       uint64_t value);
+LINKER_UTILS_MUST_USE static inline uint32_t linker_utils_write_mov_sequence(
+    uint8_t *dest, size_t dest_len, uint32_t rd, uint64_t value);
 
 /* LoongArch: makes the five instructions in 20 bytes (pcalau12i, addi.d from $zero, lu32i.d,
  * lu52i.d, add.d) compute the address `target`, with the first at `pc`. Opcodes and registers are
  * unchanged. LINKER_UTILS_TOO_SHORT. */
-static inline uint32_t linker_utils_write_address_sequence(uint8_t *dest, size_t dest_len,
-                                                           uint64_t pc, uint64_t target);
+LINKER_UTILS_MUST_USE static inline uint32_t linker_utils_write_address_sequence(
+    uint8_t *dest, size_t dest_len, uint64_t pc, uint64_t target);
 
 /* LoongArch: the number whose bits 32 to 51 and 52 to 63 complete the address `s`, relative to
  * `pc`, which is the address of the first instruction plus 8. */
@@ -750,8 +763,8 @@ uint64_t linker_utils_highest_relocation_with_bias(uint64_t s, uint64_t pc);
 
 /* PowerPC64: writes a value into a pair of D-form instructions, its adjusted high half into `ha`
  * and its low half into `lo`. LINKER_UTILS_TOO_SHORT where one has fewer than 4 bytes. */
-static inline uint32_t linker_utils_write_ha_lo(uint8_t *ha, size_t ha_len, uint8_t *lo,
-                                                size_t lo_len, uint64_t value);
+LINKER_UTILS_MUST_USE static inline uint32_t linker_utils_write_ha_lo(
+    uint8_t *ha, size_t ha_len, uint8_t *lo, size_t lo_len, uint64_t value);
 
 /* What a relocation does with the ULEB128 number at its place, as `enum linker_utils_role` says:
  * LINKER_UTILS_ROLE_SETS, LINKER_UTILS_ROLE_ADDS or LINKER_UTILS_ROLE_SUBTRACTS.
@@ -762,7 +775,8 @@ uint32_t linker_utils_uleb128_role(uint16_t machine, uint32_t r_type);
  * the last are at least 0x80, so that a smaller value is padded with zeros. The following bytes are
  * unchanged. LINKER_UTILS_ULEB128_ENDED and LINKER_UTILS_ULEB128_TOO_LARGE, both for the existing
  * number; LINKER_UTILS_DOES_NOT_FIT. */
-static inline uint32_t linker_utils_write_uleb128(uint8_t *dest, size_t dest_len, uint64_t value);
+LINKER_UTILS_MUST_USE static inline uint32_t linker_utils_write_uleb128(
+    uint8_t *dest, size_t dest_len, uint64_t value);
 
 /* Writes what two relocations make of the ULEB128 number that `dest` begins with, in as many bytes:
  * `r_type` is that of the first, and `first` and `second` are their values, S + A. With
@@ -772,29 +786,29 @@ static inline uint32_t linker_utils_write_uleb128(uint8_t *dest, size_t dest_len
  * LINKER_UTILS_UNKNOWN_ARCHITECTURE. LINKER_UTILS_UNKNOWN_RELOCATION where the type is none that
  * sets or adds. Else the errors of `linker_utils_write_uleb128`: a difference below 0 fits ten
  * bytes alone. */
-static inline uint32_t linker_utils_write_uleb128_pair(uint16_t machine, uint32_t r_type,
-                                                       uint8_t *dest, size_t dest_len,
-                                                       uint64_t first, uint64_t second);
+LINKER_UTILS_MUST_USE static inline uint32_t linker_utils_write_uleb128_pair(
+    uint16_t machine, uint32_t r_type, uint8_t *dest, size_t dest_len, uint64_t first,
+    uint64_t second);
 
 /* ---- Readers. */
 
 /* The little-endian number of the first 4 bytes. LINKER_UTILS_TOO_SHORT. */
-static inline uint32_t linker_utils_u32_from_slice(const uint8_t *bytes, size_t bytes_len,
-                                                   uint32_t *value);
+LINKER_UTILS_MUST_USE static inline uint32_t linker_utils_u32_from_slice(
+    const uint8_t *bytes, size_t bytes_len, uint32_t *value);
 
 /* The little-endian number of the first 8 bytes. LINKER_UTILS_TOO_SHORT. */
-static inline uint32_t linker_utils_u64_from_slice(const uint8_t *bytes, size_t bytes_len,
-                                                   uint64_t *value);
+LINKER_UTILS_MUST_USE static inline uint32_t linker_utils_u64_from_slice(
+    const uint8_t *bytes, size_t bytes_len, uint64_t *value);
 
 /* The little-endian number of the first 4 bytes, and how many bytes it took: 4.
  * LINKER_UTILS_TOO_SHORT. */
-static inline uint32_t linker_utils_read_u32(const uint8_t *bytes, size_t bytes_len,
-                                             uint32_t *value, size_t *consumed);
+LINKER_UTILS_MUST_USE static inline uint32_t linker_utils_read_u32(
+    const uint8_t *bytes, size_t bytes_len, uint32_t *value, size_t *consumed);
 
 /* The ULEB128 number that the bytes begin with, and how many bytes it took: at most 10.
  * LINKER_UTILS_ULEB128_ENDED, LINKER_UTILS_ULEB128_TOO_LARGE. */
-static inline uint32_t linker_utils_read_uleb128(const uint8_t *bytes, size_t bytes_len,
-                                                 uint64_t *value, size_t *consumed);
+LINKER_UTILS_MUST_USE static inline uint32_t linker_utils_read_uleb128(
+    const uint8_t *bytes, size_t bytes_len, uint64_t *value, size_t *consumed);
 
 /* ---- Deletions, further calls. */
 
@@ -811,13 +825,13 @@ static inline uint64_t linker_utils_deltas_total_deleted(const struct linker_uti
  * ascend, none reaches past the offset of the next, and each ends at 2^64 - 1 or below. Otherwise
  * LINKER_UTILS_INVALID_DELETIONS, and `faulty` is the first that ends past that or is not past the
  * one before it. */
-static inline uint32_t linker_utils_deletions_valid(const struct linker_utils_deletion *deletions,
-                                                    size_t deletions_len, size_t *faulty);
+LINKER_UTILS_MUST_USE static inline uint32_t linker_utils_deletions_valid(
+    const struct linker_utils_deletion *deletions, size_t deletions_len, size_t *faulty);
 
 /* As `linker_utils_deltas_create`, but it tests each deletion when it writes its delta, so that it
  * reads the deletions once. After LINKER_UTILS_INVALID_DELETIONS the deltas may be anything, unless
  * `deltas_len` is not `deletions_len`. */
-static inline uint32_t linker_utils_deltas_create_in_one_pass(
+LINKER_UTILS_MUST_USE static inline uint32_t linker_utils_deltas_create_in_one_pass(
     const struct linker_utils_deletion *deletions, size_t deletions_len,
     struct linker_utils_delta *deltas, size_t deltas_len, size_t *faulty);
 
@@ -829,7 +843,7 @@ static inline uint32_t linker_utils_deltas_create_in_one_pass(
  * Others are sorted, in a copy of 16 bytes each. Without memory for the copy they take up to k
  * searches for each longer run that ascends or descends, and for each 1,024 others. These are
  * sorted on the stack, in 16 KB. */
-static inline uint32_t linker_utils_deletions_mergeable(
+LINKER_UTILS_MUST_USE static inline uint32_t linker_utils_deletions_mergeable(
     const struct linker_utils_delta *deltas, size_t deltas_len,
     const struct linker_utils_deletion *additional, size_t additional_len);
 
@@ -843,7 +857,7 @@ static inline uint32_t linker_utils_deletions_mergeable(
  * them, of 8 bytes each, and where 8 bytes are too few or can't be allocated, of 16 bytes each. To
  * find the first that can't be merged, it allocates further copies, of the first of them. Where an
  * allocation fails, those deletions are tested as linker_utils_deletions_mergeable tests them. */
-static inline uint32_t linker_utils_deltas_merge(
+LINKER_UTILS_MUST_USE static inline uint32_t linker_utils_deltas_merge(
     const struct linker_utils_delta *deltas, size_t deltas_len,
     const struct linker_utils_deletion *additional, size_t additional_len,
     struct linker_utils_delta *merged, size_t merged_len, size_t *faulty);
@@ -851,7 +865,7 @@ static inline uint32_t linker_utils_deltas_merge(
 /* The output offset of each of the queries, which may not decrease, in one walk through the deltas:
  * O(n + q). LINKER_UTILS_DIFFERENT_LENGTHS. LINKER_UTILS_NOT_ASCENDING, and `faulty` is the first
  * query that is less than the one before it. */
-static inline uint32_t linker_utils_deltas_translate_all(
+LINKER_UTILS_MUST_USE static inline uint32_t linker_utils_deltas_translate_all(
     const struct linker_utils_delta *deltas, size_t deltas_len, const uint64_t *queries,
     size_t queries_len, uint64_t *outputs, size_t outputs_len, size_t *faulty);
 
@@ -873,7 +887,7 @@ static inline size_t linker_utils_deltas_block_count(const struct linker_utils_d
 
 /* Writes the heads of the deltas' blocks, one for each. LINKER_UTILS_DIFFERENT_LENGTHS where
  * `heads_len` is not `linker_utils_deltas_block_count`. */
-static inline uint32_t linker_utils_deltas_heads(
+LINKER_UTILS_MUST_USE static inline uint32_t linker_utils_deltas_heads(
     const struct linker_utils_delta *deltas, size_t deltas_len,
     struct linker_utils_block_head *heads, size_t heads_len);
 
@@ -884,7 +898,7 @@ static inline uint64_t linker_utils_deltas_input_to_output_by_heads(
     const struct linker_utils_block_head *heads, size_t heads_len, uint64_t input_offset);
 
 /* `linker_utils_deltas_output_to_input` with the heads, likewise. LINKER_UTILS_TOO_LARGE. */
-static inline uint32_t linker_utils_deltas_output_to_input_by_heads(
+LINKER_UTILS_MUST_USE static inline uint32_t linker_utils_deltas_output_to_input_by_heads(
     const struct linker_utils_delta *deltas, size_t deltas_len,
     const struct linker_utils_block_head *heads, size_t heads_len, uint64_t output_offset,
     uint64_t *input_offset);
@@ -895,8 +909,8 @@ static inline uint32_t linker_utils_deltas_output_to_input_by_heads(
 /* Replaces the `auipc` at a site of a section by a `jal` over a distance in bytes, with the
  * `auipc`'s destination register. LINKER_UTILS_OUT_OF_SECTION, LINKER_UTILS_ODD_DISTANCE,
  * LINKER_UTILS_TOO_FAR. */
-static inline uint32_t linker_utils_jal_site(uint8_t *section, size_t section_len, uint64_t site,
-                                             int64_t distance);
+LINKER_UTILS_MUST_USE static inline uint32_t linker_utils_jal_site(
+    uint8_t *section, size_t section_len, uint64_t site, int64_t distance);
 
 /* Replaces the call at a site of a section by a `jal` over a distance in bytes, which links the
  * register that `link` chooses of `enum linker_utils_link_register`. The `jalr`'s is right for
@@ -905,16 +919,16 @@ static inline uint32_t linker_utils_jal_site(uint8_t *section, size_t section_le
  * LINKER_UTILS_OUT_OF_SECTION where the four bytes at the site or, with the `jalr`'s register, the
  * eight bytes are not in the section. LINKER_UTILS_NOT_A_CALL, LINKER_UTILS_ODD_DISTANCE,
  * LINKER_UTILS_TOO_FAR. */
-static inline uint32_t linker_utils_jal_site_with(uint8_t *section, size_t section_len,
-                                                  uint64_t site, int64_t distance, uint32_t link);
+LINKER_UTILS_MUST_USE static inline uint32_t linker_utils_jal_site_with(
+    uint8_t *section, size_t section_len, uint64_t site, int64_t distance, uint32_t link);
 
 /* As `linker_utils_jal_site`, in a section from which no byte has been removed yet: the distance is
  * that from the site's output offset to the target's. The target may be the section's end. A target
  * inside a deletion counts as what follows the deletion. LINKER_UTILS_OUT_OF_SECTION,
  * LINKER_UTILS_SITE_DELETED, LINKER_UTILS_ODD_DISTANCE, LINKER_UTILS_TOO_FAR. */
-static inline uint32_t linker_utils_relax_call(uint8_t *section, size_t section_len,
-                                               const struct linker_utils_delta *deltas,
-                                               size_t deltas_len, uint64_t site, uint64_t target);
+LINKER_UTILS_MUST_USE static inline uint32_t linker_utils_relax_call(
+    uint8_t *section, size_t section_len, const struct linker_utils_delta *deltas,
+    size_t deltas_len, uint64_t site, uint64_t target);
 
 /* Whether the instructions at the site are `auipc` and `jalr` with one register as both
  * destinations and as the source of the `jalr`. Then a jump that links the `auipc`'s register links
@@ -958,7 +972,7 @@ static inline size_t linker_utils_packed_len(const uint8_t *section, size_t sect
  * `linker_utils_jal_site_with`, also where the target is past the section's end;
  * LINKER_UTILS_SITE_DELETED, for the four bytes at the site; LINKER_UTILS_NOT_A_CALL,
  * LINKER_UTILS_ODD_DISTANCE, LINKER_UTILS_TOO_FAR. */
-static inline uint32_t linker_utils_pack(
+LINKER_UTILS_MUST_USE static inline uint32_t linker_utils_pack(
     const uint8_t *section, size_t section_len, const struct linker_utils_delta *deltas,
     size_t deltas_len, const struct linker_utils_call *calls, size_t calls_len, uint32_t link,
     uint8_t *packed, size_t packed_len, size_t *faulty);
@@ -970,7 +984,7 @@ static inline uint32_t linker_utils_pack(
  * eight bytes at each site are kept. The deletions (site + 4, 4) can all be merged, and no target
  * is strictly inside one of them. LINKER_UTILS_CALLS_NOT_SHRINKABLE, and `faulty` is the first call
  * that isn't accepted together with those before it. */
-static inline uint32_t linker_utils_calls_shrinkable(
+LINKER_UTILS_MUST_USE static inline uint32_t linker_utils_calls_shrinkable(
     const struct linker_utils_delta *deltas, size_t deltas_len,
     const struct linker_utils_call *calls, size_t calls_len, size_t *faulty);
 
@@ -985,7 +999,7 @@ static inline uint32_t linker_utils_calls_shrinkable(
  * stack. For k calls and n deltas a test of a call takes O(log n + log k + k / 1024). All calls are
  * tested, up and down in turn, until none is dropped. Calls that turn around n times, each in reach
  * only with the one before, may be tested n times. `linker_utils_relax` is the call for a linker. */
-static inline uint32_t linker_utils_shrink_calls(
+LINKER_UTILS_MUST_USE static inline uint32_t linker_utils_shrink_calls(
     const struct linker_utils_delta *deltas, size_t deltas_len,
     const struct linker_utils_call *calls, size_t calls_len, uint8_t *chosen, size_t chosen_len,
     size_t *faulty);
@@ -1018,7 +1032,8 @@ struct linker_utils_shapes {
 
 /* Writes the shapes that a number of `enum linker_utils_shapes_name` names.
  * LINKER_UTILS_UNKNOWN_SHAPES. */
-uint32_t linker_utils_standard_shapes(uint32_t number, struct linker_utils_shapes *shapes);
+LINKER_UTILS_MUST_USE uint32_t linker_utils_standard_shapes(
+    uint32_t number, struct linker_utils_shapes *shapes);
 
 /* A part of a run that relaxation may shorten. */
 struct linker_utils_item {
@@ -1084,11 +1099,11 @@ struct linker_utils_rela {
  * bytes in the section. Or it is an R_LARCH_ALIGN whose addend is below 0 or whose exponent is
  * below 2 or above 32. It also is one whose nops aren't a multiple of 4, reach past the section's
  * end or have 2^32 bytes or more. */
-static inline uint32_t linker_utils_section_items(
+LINKER_UTILS_MUST_USE static inline uint32_t linker_utils_section_items(
     uint16_t machine, const uint8_t *section, size_t section_len, uint64_t base,
     const struct linker_utils_rela *relocations, size_t relocations_len,
-    struct linker_utils_item *items, size_t items_len, size_t *makers, size_t makers_len, size_t *len,
-    size_t *faulty);
+    struct linker_utils_item *items, size_t items_len, size_t *makers, size_t makers_len,
+    size_t *len, size_t *faulty);
 
 /* Writes the items of a section that `linker_utils_rewrite_section` and
  * `linker_utils_rewrite_placed_section` rewrote. They are those that its relocations make, as
@@ -1110,12 +1125,12 @@ static inline uint32_t linker_utils_section_items(
  * below the end of that of an earlier relocation, or has deleted bytes. What `items` and `makers`
  * have then isn't specified. A target inside deleted bytes is no error here, but
  * LINKER_UTILS_TARGET_INSIDE of `linker_utils_relax`. */
-static inline uint32_t linker_utils_rewritten_items(
+LINKER_UTILS_MUST_USE static inline uint32_t linker_utils_rewritten_items(
     uint16_t machine, const uint8_t *section, size_t section_len, uint64_t base,
     const struct linker_utils_rela *relocations, size_t relocations_len,
     const struct linker_utils_deletion *deleted, size_t deleted_len,
-    struct linker_utils_item *items, size_t items_len, size_t *makers, size_t makers_len, size_t *len,
-    size_t *faulty);
+    struct linker_utils_item *items, size_t items_len, size_t *makers, size_t makers_len,
+    size_t *len, size_t *faulty);
 
 /* Whether `linker_utils_relax` accepts the items of a run whose address is `start`: the statuses
  * from LINKER_UTILS_ITEMS_OVERLAP on say what is required of them. The run's granularity is the
@@ -1138,7 +1153,7 @@ static inline uint32_t linker_utils_rewritten_items(
  * LINKER_UTILS_ALIGNMENT_BELOW_GRANULARITY and LINKER_UTILS_UNEVEN_END aren't of an alignment whose
  * nops are the same in every layout. It has no limit, divides the granularity, and has exactly the
  * nops that its input address needs, or a multiple of the granularity more. */
-static inline uint32_t linker_utils_items_relaxable(
+LINKER_UTILS_MUST_USE static inline uint32_t linker_utils_items_relaxable(
     const struct linker_utils_item *items, size_t items_len, uint64_t start, size_t *faulty);
 
 /* Chooses a shape for each site, and says what stays of each item. Each site has its shortest shape
@@ -1158,7 +1173,7 @@ static inline uint32_t linker_utils_items_relaxable(
  * O(n) for n items, what comes before them O(n log n). There are usually fewer than ten rounds.
  * After 64 come sweeps of O(n). Where sites become long one because of the next in one direction,
  * one sweep each way finds all of them. */
-static inline uint32_t linker_utils_relax(
+LINKER_UTILS_MUST_USE static inline uint32_t linker_utils_relax(
     const struct linker_utils_item *items, size_t items_len, uint64_t start, uint8_t *shapes,
     size_t shapes_len, uint64_t *kept, size_t kept_len, size_t *places, size_t places_len,
     uint64_t *freed, size_t freed_len, size_t *faulty);
@@ -1167,7 +1182,7 @@ static inline uint32_t linker_utils_relax(
  * that loses some. `len` is how many there are; the elements of `deltas` from there on are
  * unchanged. The deltas are valid for items as `linker_utils_items_relaxable` accepts them.
  * LINKER_UTILS_DIFFERENT_LENGTHS where `kept_len` or `deltas_len` isn't `items_len`. */
-static inline uint32_t linker_utils_run_deltas(
+LINKER_UTILS_MUST_USE static inline uint32_t linker_utils_run_deltas(
     const struct linker_utils_item *items, size_t items_len, const uint64_t *kept, size_t kept_len,
     struct linker_utils_delta *deltas, size_t deltas_len, size_t *len);
 
@@ -1189,9 +1204,9 @@ static inline size_t linker_utils_packed_run_len(uint64_t base, size_t section_l
  *
  * LINKER_UTILS_UNKNOWN_ARCHITECTURE for each machine except for LINKER_UTILS_RISCV and
  * LINKER_UTILS_LOONGARCH64. LINKER_UTILS_NOT_ITS_INSTRUCTIONS where it isn't so. O(1). */
-static inline uint32_t linker_utils_has_its_instructions(uint16_t machine, const uint8_t *section,
-                                                         size_t section_len, uint64_t base,
-                                                         const struct linker_utils_item *item);
+LINKER_UTILS_MUST_USE static inline uint32_t linker_utils_has_its_instructions(
+    uint16_t machine, const uint8_t *section, size_t section_len, uint64_t base,
+    const struct linker_utils_item *item);
 
 /* Packs a section of a relaxed run: writes the bytes that stay, in order, with the instructions of
  * its sites and the nops of its alignments written anew. The section begins at the input offset
@@ -1233,7 +1248,7 @@ static inline uint32_t linker_utils_has_its_instructions(uint16_t machine, const
  * is missing; `faulty` is `items_len` where they are after the last item. With any status except
  * LINKER_UTILS_OK nothing is written. For k items, m relocations and n deltas it takes O((k + m)
  * log n + m log k). Beside that it takes a step for each byte of the section and each delta in it. */
-static inline uint32_t linker_utils_pack_run(
+LINKER_UTILS_MUST_USE static inline uint32_t linker_utils_pack_run(
     uint16_t machine, const uint8_t *section, size_t section_len, uint64_t base,
     const struct linker_utils_item *items, size_t items_len,
     const struct linker_utils_delta *deltas, size_t deltas_len, uint64_t start, void *relocations,
@@ -1259,10 +1274,10 @@ static inline uint32_t linker_utils_pack_run(
  * ULEB128 number. LINKER_UTILS_NO_ADDRESS too of an offset of a TLS symbol without `has_tls_base`.
  * LINKER_UTILS_NO_ADDRESS too of LoongArch's upper halves of 64-bit addresses, and where the formula
  * takes the page of the address and `value` is known from below bit 12. */
-uint32_t linker_utils_solve(uint16_t machine, uint32_t r_type,
-                            const struct linker_utils_field_value *value,
-                            const struct linker_utils_operands *operands, uint32_t *reference,
-                            struct linker_utils_field_value *address);
+LINKER_UTILS_MUST_USE uint32_t linker_utils_solve(
+    uint16_t machine, uint32_t r_type, const struct linker_utils_field_value *value,
+    const struct linker_utils_operands *operands, uint32_t *reference,
+    struct linker_utils_field_value *address);
 
 /* What is known of an address from both halves of a pair, as `linker_utils_solve` returns them:
  * adrp and add, auipc and addi, addis and addi, pcalau12i and addi.d. A number has the bits of
@@ -1271,18 +1286,17 @@ uint32_t linker_utils_solve(uint16_t machine, uint32_t r_type,
  *
  * LINKER_UTILS_BAD_FIELD_VALUE of either half, as in `linker_utils_solve`. LINKER_UTILS_NOT_HALVES
  * unless the low half has bits 0 up to the first of the high half, and no rounding. */
-uint32_t linker_utils_join(const struct linker_utils_field_value *high,
-                           const struct linker_utils_field_value *low,
-                           struct linker_utils_field_value *whole);
+LINKER_UTILS_MUST_USE uint32_t linker_utils_join(
+    const struct linker_utils_field_value *high, const struct linker_utils_field_value *low,
+    struct linker_utils_field_value *whole);
 
 /* Which bits of the bytes that begin with a relocation's field `linker_utils_relocate` may change,
  * into `bits`. Bit 0 is the lowest of the first byte, bit 8 that of the second. All others are the
  * same after each write. Of an instruction they are the bits of its form, and for
  * LINKER_UTILS_AARCH64_FORM_MOVNZ those of the opcode that it sets. LINKER_UTILS_TOO_SHORT where
  * there are fewer bytes than the field has. */
-static inline uint32_t linker_utils_field_bits(uint16_t machine, uint32_t r_type,
-                                               const uint8_t *bytes, size_t bytes_len,
-                                               uint64_t *bits);
+LINKER_UTILS_MUST_USE static inline uint32_t linker_utils_field_bits(
+    uint16_t machine, uint32_t r_type, const uint8_t *bytes, size_t bytes_len, uint64_t *bits);
 
 /* Whether two windows of the same length, which begin with a relocation's field, differ in bits of
  * the field only. False where the machine or the type is unknown, the lengths differ, or the field
@@ -1318,10 +1332,9 @@ struct linker_utils_recognised {
  * PowerPC64 the first is to be at a multiple of 4 in its section. Where no rewrite has its bytes
  * there the status is LINKER_UTILS_OK, and `back` and `len` are 0.
  * LINKER_UTILS_UNKNOWN_ARCHITECTURE. LINKER_UTILS_WINDOW_TOO_LONG. */
-static inline uint32_t linker_utils_recognise_window(uint16_t machine, uint32_t r_type,
-                                                     const uint8_t *original, size_t original_len,
-                                                     uint64_t offset,
-                                                     struct linker_utils_window_bounds *window);
+LINKER_UTILS_MUST_USE static inline uint32_t linker_utils_recognise_window(
+    uint16_t machine, uint32_t r_type, const uint8_t *original, size_t original_len,
+    uint64_t offset, struct linker_utils_window_bounds *window);
 
 /* Writes which rewrites, and relocations after them, a linker may have made at a relocation. They
  * are those after which the original bytes differ from the linked ones only in the field of the
@@ -1343,7 +1356,7 @@ static inline uint32_t linker_utils_recognise_window(uint16_t machine, uint32_t 
  * LINKER_UTILS_UNKNOWN_ARCHITECTURE. LINKER_UTILS_DIFFERENT_LENGTHS where `found_len` is not
  * LINKER_UTILS_CANDIDATES. LINKER_UTILS_WINDOW_TOO_LONG. Where nothing is found the status is
  * LINKER_UTILS_OK, and `count` is 0. A type that the library doesn't know has NO_OP only. */
-static inline uint32_t linker_utils_recognise(
+LINKER_UTILS_MUST_USE static inline uint32_t linker_utils_recognise(
     uint16_t machine, uint32_t r_type, const uint8_t *original, size_t original_len,
     uint64_t offset, const struct linker_utils_window_bits *others, size_t others_len,
     const uint8_t *linked, size_t linked_len, struct linker_utils_recognised *found,
@@ -1352,7 +1365,7 @@ static inline uint32_t linker_utils_recognise(
 /* Writes what `linker_utils_choose` returns by these facts, if it leaves the linked bytes, as
  * `linker_utils_recognise` says. LINKER_UTILS_UNKNOWN_ARCHITECTURE. LINKER_UTILS_WINDOW_TOO_LONG.
  * LINKER_UTILS_LEAVES_OTHER_BYTES. */
-static inline uint32_t linker_utils_recognise_chosen(
+LINKER_UTILS_MUST_USE static inline uint32_t linker_utils_recognise_chosen(
     uint16_t machine, uint32_t r_type, const uint8_t *original, size_t original_len,
     uint64_t offset, const struct linker_utils_window_bits *others, size_t others_len,
     const uint8_t *linked, size_t linked_len, const struct linker_utils_link_facts *facts,
@@ -1378,12 +1391,9 @@ struct linker_utils_destination {
  * LINKER_UTILS_WINDOW_TOO_LONG; LINKER_UTILS_UNKNOWN_REWRITE; LINKER_UTILS_NO_ADDRESS of a
  * relocation without a value, of one that `linker_utils_solve` has no address for, and of a rewrite
  * that isn't meant for what is there. */
-static inline uint32_t linker_utils_destination(uint16_t machine,
-                                                const struct linker_utils_recognised *made,
-                                                const uint8_t *original, size_t original_len,
-                                                uint64_t offset,
-                                                const struct linker_utils_operands *operands,
-                                                uint8_t st_other,
-                                                struct linker_utils_destination *destination);
+LINKER_UTILS_MUST_USE static inline uint32_t linker_utils_get_destination(
+    uint16_t machine, const struct linker_utils_recognised *made, const uint8_t *original,
+    size_t original_len, uint64_t offset, const struct linker_utils_operands *operands,
+    uint8_t st_other, struct linker_utils_destination *destination);
 
 #endif

@@ -1,9 +1,10 @@
 /* SPDX-License-Identifier: MIT OR Apache-2.0 */
-/* The inline functions of linker_utils.h, which includes this file and says what they do.
+/* Made by tools/declarations of the exports in crates/linker_utils_c/src and of the headers.
  *
- * No export of the archive takes a null pointer to a slice, even with a count of 0. So each
- * function replaces null by the address of an array, and calls the export of the same name that
- * ends in `_nonnull`. It replaces a null `faulty` by the address of a variable. */
+ * The inline functions of linker_utils.h, which includes this file and says what they do. No export
+ * of the archive takes a null pointer to a slice, even with a count of 0. So each function replaces
+ * null by the address of an array, and calls the export of the same name that ends in `_nonnull`.
+ * It replaces a null `faulty` by the address of a variable. */
 #ifndef LINKER_UTILS_INLINE_H
 #define LINKER_UTILS_INLINE_H
 
@@ -24,6 +25,20 @@ static inline struct linker_utils_operands linker_utils_operands_of(
     return operands;
 }
 
+static inline uint32_t linker_utils_forms_of(uint16_t machine, const uint8_t *bytes,
+                                             size_t bytes_len) {
+    uint32_t forms = 0;
+    for (uint32_t form = 0;; form++) {
+        int64_t number;
+        uint32_t status = linker_utils_operand(machine, form, bytes, bytes_len, &number);
+        if (status == LINKER_UTILS_OK)
+            forms |= UINT32_C(1) << form;
+        else if (status != LINKER_UTILS_DOES_NOT_MATCH)
+            return forms;
+    }
+}
+
+/* What null is replaced by. */
 static uint64_t linker_utils_no_elements[1];
 #define LINKER_UTILS_SLICE(element, slice) \
     ((slice) ? (slice) : (element *)linker_utils_no_elements)
@@ -31,154 +46,95 @@ static uint64_t linker_utils_no_elements[1];
 #define LINKER_UTILS_RELAS(byte, slice) \
     (byte *)((slice) ? (slice) : (void *)linker_utils_no_elements), 24 * slice##_len
 
-uint32_t linker_utils_fits_nonnull(uint16_t machine, uint32_t form, uint64_t value,
-                                   const uint8_t *bytes, size_t bytes_len);
-static inline uint32_t linker_utils_fits(uint16_t machine, uint32_t form, uint64_t value,
-                                         const uint8_t *bytes, size_t bytes_len) {
-    return linker_utils_fits_nonnull(machine, form, value,
-                                     LINKER_UTILS_SLICE(const uint8_t, bytes), bytes_len);
+uint32_t linker_utils_relocation_name_nonnull(
+    uint16_t machine, uint32_t r_type, uint8_t *name, size_t name_len, size_t *name_used);
+static inline uint32_t linker_utils_relocation_name(
+    uint16_t machine, uint32_t r_type, uint8_t *name, size_t name_len, size_t *name_used) {
+    return linker_utils_relocation_name_nonnull(
+        machine, r_type, LINKER_UTILS_SLICE(uint8_t, name), name_len, name_used);
 }
 
-uint32_t linker_utils_write_nonnull(uint16_t machine, uint32_t form, uint64_t value, bool negative,
-                                    uint8_t *dest, size_t dest_len);
-static inline uint32_t linker_utils_write(uint16_t machine, uint32_t form, uint64_t value,
-                                          bool negative, uint8_t *dest, size_t dest_len) {
-    return linker_utils_write_nonnull(machine, form, value, negative,
-                                      LINKER_UTILS_SLICE(uint8_t, dest), dest_len);
+uint32_t linker_utils_relocate_nonnull(
+    uint16_t machine, uint32_t r_type, int64_t value, uint8_t *dest, size_t dest_len);
+static inline uint32_t linker_utils_relocate(
+    uint16_t machine, uint32_t r_type, int64_t value, uint8_t *dest, size_t dest_len) {
+    return linker_utils_relocate_nonnull(
+        machine, r_type, value, LINKER_UTILS_SLICE(uint8_t, dest), dest_len);
 }
 
-uint32_t linker_utils_read_nonnull(uint16_t machine, uint32_t form, const uint8_t *bytes,
-                                   size_t bytes_len, uint64_t *value, uint8_t *negative);
-static inline uint32_t linker_utils_read(uint16_t machine, uint32_t form, const uint8_t *bytes,
-                                         size_t bytes_len, uint64_t *value, uint8_t *negative) {
-    return linker_utils_read_nonnull(machine, form, LINKER_UTILS_SLICE(const uint8_t, bytes),
-                                     bytes_len, value, negative);
-}
-
-uint32_t linker_utils_can_apply_nonnull(uint16_t machine, uint32_t rewrite, uint8_t opcode_len,
-                                        const uint8_t *section, size_t section_len,
-                                        uint64_t offset);
-static inline uint32_t linker_utils_can_apply(uint16_t machine, uint32_t rewrite,
-                                              uint8_t opcode_len,
-                                              const uint8_t *section, size_t section_len,
-                                              uint64_t offset) {
-    return linker_utils_can_apply_nonnull(machine, rewrite, opcode_len,
-                                          LINKER_UTILS_SLICE(const uint8_t, section), section_len,
-                                          offset);
-}
-
-uint32_t linker_utils_matches_nonnull(uint16_t machine, uint32_t rewrite, uint8_t opcode_len,
-                                      const uint8_t *section, size_t section_len, uint64_t offset);
-static inline uint32_t linker_utils_matches(uint16_t machine, uint32_t rewrite, uint8_t opcode_len,
-                                            const uint8_t *section, size_t section_len,
-                                            uint64_t offset) {
-    return linker_utils_matches_nonnull(machine, rewrite, opcode_len,
-                                        LINKER_UTILS_SLICE(const uint8_t, section), section_len,
-                                        offset);
-}
-
-uint32_t linker_utils_choose_nonnull(uint16_t machine, uint32_t r_type, const uint8_t *section,
-                                     size_t section_len, uint64_t offset,
-                                     const struct linker_utils_link_facts *facts,
-                                     struct linker_utils_choice *choice);
-static inline uint32_t linker_utils_choose(uint16_t machine, uint32_t r_type,
-                                           const uint8_t *section, size_t section_len,
-                                           uint64_t offset,
-                                           const struct linker_utils_link_facts *facts,
-                                           struct linker_utils_choice *choice) {
-    return linker_utils_choose_nonnull(machine, r_type, LINKER_UTILS_SLICE(const uint8_t, section),
-                                       section_len, offset, facts, choice);
-}
-
-bool linker_utils_relocation_fits_nonnull(uint16_t machine, uint32_t r_type, const uint8_t *section,
-                                          size_t section_len, uint64_t offset,
-                                          const struct linker_utils_link_facts *facts);
-static inline bool linker_utils_relocation_fits(uint16_t machine, uint32_t r_type,
-                                                const uint8_t *section, size_t section_len,
-                                                uint64_t offset,
-                                                const struct linker_utils_link_facts *facts) {
-    return linker_utils_relocation_fits_nonnull(machine, r_type,
-                                                LINKER_UTILS_SLICE(const uint8_t, section),
-                                                section_len, offset, facts);
-}
-
-uint32_t linker_utils_apply_nonnull(uint16_t machine, uint32_t rewrite,
-                                    uint8_t opcode_len, uint8_t *section,
-                                    size_t section_len, uint64_t *offset, int64_t *addend);
-static inline uint32_t linker_utils_apply(uint16_t machine, uint32_t rewrite, uint8_t opcode_len,
-                                          uint8_t *section, size_t section_len, uint64_t *offset,
-                                          int64_t *addend) {
-    return linker_utils_apply_nonnull(machine, rewrite, opcode_len,
-                                      LINKER_UTILS_SLICE(uint8_t, section), section_len, offset,
-                                      addend);
-}
-
-uint32_t linker_utils_relocation_name_nonnull(uint16_t machine, uint32_t r_type, uint8_t *name,
-                                              size_t name_len, size_t *name_used);
-static inline uint32_t linker_utils_relocation_name(uint16_t machine, uint32_t r_type,
-                                                    uint8_t *name, size_t name_len,
-                                                    size_t *name_used) {
-    return linker_utils_relocation_name_nonnull(machine, r_type, LINKER_UTILS_SLICE(uint8_t, name),
-                                                name_len, name_used);
-}
-
-uint32_t linker_utils_relocate_nonnull(uint16_t machine, uint32_t r_type, int64_t value,
-                                       uint8_t *dest, size_t dest_len);
-static inline uint32_t linker_utils_relocate(uint16_t machine, uint32_t r_type, int64_t value,
-                                             uint8_t *dest, size_t dest_len) {
-    return linker_utils_relocate_nonnull(machine, r_type, value,
-                                         LINKER_UTILS_SLICE(uint8_t, dest), dest_len);
-}
-
-uint32_t linker_utils_row_write_nonnull(uint32_t handle, int64_t value, uint8_t *dest,
-                                        size_t dest_len);
-static inline uint32_t linker_utils_row_write(uint32_t handle, int64_t value, uint8_t *dest,
-                                              size_t dest_len) {
-    return linker_utils_row_write_nonnull(handle, value, LINKER_UTILS_SLICE(uint8_t, dest),
-                                          dest_len);
-}
-
-uint32_t linker_utils_row_apply_nonnull(uint32_t handle,
-                                        const struct linker_utils_operands *operands,
-                                        uint8_t *dest, size_t dest_len);
-static inline uint32_t linker_utils_row_apply(uint32_t handle,
-                                              const struct linker_utils_operands *operands,
-                                              uint8_t *dest, size_t dest_len) {
-    return linker_utils_row_apply_nonnull(handle, operands, LINKER_UTILS_SLICE(uint8_t, dest),
-                                          dest_len);
-}
-
-uint32_t linker_utils_row_choose_nonnull(uint32_t handle, const uint8_t *section,
-                                         size_t section_len, uint64_t offset,
-                                         const struct linker_utils_link_facts *facts,
-                                         struct linker_utils_choice *choice);
-static inline uint32_t linker_utils_row_choose(
-    uint32_t handle, const uint8_t *section, size_t section_len, uint64_t offset,
+uint32_t linker_utils_choose_nonnull(
+    uint16_t machine, uint32_t r_type, const uint8_t *section, size_t section_len, uint64_t offset,
+    const struct linker_utils_link_facts *facts, struct linker_utils_choice *choice);
+static inline uint32_t linker_utils_choose(
+    uint16_t machine, uint32_t r_type, const uint8_t *section, size_t section_len, uint64_t offset,
     const struct linker_utils_link_facts *facts, struct linker_utils_choice *choice) {
-    return linker_utils_row_choose_nonnull(handle, LINKER_UTILS_SLICE(const uint8_t, section),
-                                           section_len, offset, facts, choice);
+    return linker_utils_choose_nonnull(
+        machine, r_type, LINKER_UTILS_SLICE(const uint8_t, section), section_len, offset, facts,
+        choice);
 }
 
-bool linker_utils_row_fits_nonnull(uint32_t handle, const uint8_t *section, size_t section_len,
-                                   uint64_t offset, const struct linker_utils_link_facts *facts);
-static inline bool linker_utils_row_fits(uint32_t handle, const uint8_t *section,
-                                         size_t section_len, uint64_t offset,
-                                         const struct linker_utils_link_facts *facts) {
-    return linker_utils_row_fits_nonnull(handle, LINKER_UTILS_SLICE(const uint8_t, section),
-                                         section_len, offset, facts);
+bool linker_utils_relocation_fits_nonnull(
+    uint16_t machine, uint32_t r_type, const uint8_t *section, size_t section_len, uint64_t offset,
+    const struct linker_utils_link_facts *facts);
+static inline bool linker_utils_relocation_fits(
+    uint16_t machine, uint32_t r_type, const uint8_t *section, size_t section_len, uint64_t offset,
+    const struct linker_utils_link_facts *facts) {
+    return linker_utils_relocation_fits_nonnull(
+        machine, r_type, LINKER_UTILS_SLICE(const uint8_t, section), section_len, offset, facts);
 }
 
-uint32_t linker_utils_relocate_all_nonnull(uint16_t machine, uint8_t *section, size_t section_len,
-                                           const struct linker_utils_relocation_entry *relocations,
-                                           size_t relocations_len, size_t *faulty);
-static inline uint32_t linker_utils_relocate_all(uint16_t machine, uint8_t *section,
-    size_t section_len, const struct linker_utils_relocation_entry *relocations,
-    size_t relocations_len, size_t *faulty) {
+uint32_t linker_utils_matches_nonnull(
+    uint16_t machine, uint32_t rewrite, uint8_t opcode_len, const uint8_t *section,
+    size_t section_len, uint64_t offset);
+static inline uint32_t linker_utils_matches(
+    uint16_t machine, uint32_t rewrite, uint8_t opcode_len, const uint8_t *section,
+    size_t section_len, uint64_t offset) {
+    return linker_utils_matches_nonnull(
+        machine, rewrite, opcode_len, LINKER_UTILS_SLICE(const uint8_t, section), section_len,
+        offset);
+}
+
+uint32_t linker_utils_apply_nonnull(
+    uint16_t machine, uint32_t rewrite, uint8_t opcode_len, uint8_t *section, size_t section_len,
+    uint64_t *offset, int64_t *addend);
+static inline uint32_t linker_utils_apply(
+    uint16_t machine, uint32_t rewrite, uint8_t opcode_len, uint8_t *section, size_t section_len,
+    uint64_t *offset, int64_t *addend) {
+    return linker_utils_apply_nonnull(
+        machine, rewrite, opcode_len, LINKER_UTILS_SLICE(uint8_t, section), section_len, offset,
+        addend);
+}
+
+uint32_t linker_utils_deltas_create_nonnull(
+    const struct linker_utils_deletion *deletions, size_t deletions_len,
+    struct linker_utils_delta *deltas, size_t deltas_len, size_t *faulty);
+static inline uint32_t linker_utils_deltas_create(
+    const struct linker_utils_deletion *deletions, size_t deletions_len,
+    struct linker_utils_delta *deltas, size_t deltas_len, size_t *faulty) {
     size_t ignored;
-    return linker_utils_relocate_all_nonnull(
-        machine, LINKER_UTILS_SLICE(uint8_t, section), section_len,
-        LINKER_UTILS_SLICE(const struct linker_utils_relocation_entry, relocations),
-        relocations_len, faulty ? faulty : &ignored);
+    return linker_utils_deltas_create_nonnull(
+        LINKER_UTILS_SLICE(const struct linker_utils_deletion, deletions), deletions_len,
+        LINKER_UTILS_SLICE(struct linker_utils_delta, deltas), deltas_len,
+        faulty ? faulty : &ignored);
+}
+
+uint64_t linker_utils_deltas_input_to_output_nonnull(
+    const struct linker_utils_delta *deltas, size_t deltas_len, uint64_t input_offset);
+static inline uint64_t linker_utils_deltas_input_to_output(
+    const struct linker_utils_delta *deltas, size_t deltas_len, uint64_t input_offset) {
+    return linker_utils_deltas_input_to_output_nonnull(
+        LINKER_UTILS_SLICE(const struct linker_utils_delta, deltas), deltas_len, input_offset);
+}
+
+uint32_t linker_utils_deltas_output_to_input_nonnull(
+    const struct linker_utils_delta *deltas, size_t deltas_len, uint64_t output_offset,
+    uint64_t *input_offset);
+static inline uint32_t linker_utils_deltas_output_to_input(
+    const struct linker_utils_delta *deltas, size_t deltas_len, uint64_t output_offset,
+    uint64_t *input_offset) {
+    return linker_utils_deltas_output_to_input_nonnull(
+        LINKER_UTILS_SLICE(const struct linker_utils_delta, deltas), deltas_len, output_offset,
+        input_offset);
 }
 
 uint32_t linker_utils_value_at_nonnull(
@@ -195,8 +151,7 @@ static inline uint32_t linker_utils_value_at(
 }
 
 size_t linker_utils_relocate_memory_nonnull(const uint8_t *relocations, size_t relocations_len);
-static inline size_t linker_utils_relocate_memory(const void *relocations,
-                                                  size_t relocations_len) {
+static inline size_t linker_utils_relocate_memory(const void *relocations, size_t relocations_len) {
     return linker_utils_relocate_memory_nonnull(LINKER_UTILS_RELAS(const uint8_t, relocations));
 }
 
@@ -218,13 +173,13 @@ static inline uint32_t linker_utils_relocate_section(
 
 uint32_t linker_utils_survey_nonnull(
     uint16_t machine, const struct linker_utils_output_facts *output,
-    const struct linker_utils_symbol_facts *symbols, size_t symbols_len,
-    const uint8_t *relocations, size_t relocations_len, const uint8_t *section, size_t section_len,
+    const struct linker_utils_symbol_facts *symbols, size_t symbols_len, const uint8_t *relocations,
+    size_t relocations_len, const uint8_t *section, size_t section_len,
     struct linker_utils_kept_groups *kept, size_t kept_len);
 static inline uint32_t linker_utils_survey(
     uint16_t machine, const struct linker_utils_output_facts *output,
-    const struct linker_utils_symbol_facts *symbols, size_t symbols_len,
-    const void *relocations, size_t relocations_len, const uint8_t *section, size_t section_len,
+    const struct linker_utils_symbol_facts *symbols, size_t symbols_len, const void *relocations,
+    size_t relocations_len, const uint8_t *section, size_t section_len,
     struct linker_utils_kept_groups *kept, size_t kept_len) {
     return linker_utils_survey_nonnull(
         machine, output, LINKER_UTILS_SLICE(const struct linker_utils_symbol_facts, symbols),
@@ -249,8 +204,7 @@ static inline uint32_t linker_utils_rewrite_section(
     return linker_utils_rewrite_section_nonnull(
         machine, output, LINKER_UTILS_SLICE(const struct linker_utils_symbol_facts, symbols),
         symbols_len, LINKER_UTILS_SLICE(const struct linker_utils_kept_groups, kept), kept_len,
-        LINKER_UTILS_RELAS(uint8_t, relocations),
-        LINKER_UTILS_SLICE(uint8_t, section), section_len,
+        LINKER_UTILS_RELAS(uint8_t, relocations), LINKER_UTILS_SLICE(uint8_t, section), section_len,
         LINKER_UTILS_SLICE(struct linker_utils_decision, decisions), decisions_len,
         faulty ? faulty : &ignored);
 }
@@ -298,49 +252,71 @@ static inline uint32_t linker_utils_rewrite_placed_section(
         machine, phase, output, LINKER_UTILS_SLICE(const struct linker_utils_symbol_facts, symbols),
         symbols_len, addresses, LINKER_UTILS_SLICE(const struct linker_utils_symbol, values),
         values_len, LINKER_UTILS_SLICE(const struct linker_utils_kept_groups, kept), kept_len,
-        LINKER_UTILS_RELAS(uint8_t, relocations),
-        LINKER_UTILS_SLICE(uint8_t, section), section_len,
+        LINKER_UTILS_RELAS(uint8_t, relocations), LINKER_UTILS_SLICE(uint8_t, section), section_len,
         LINKER_UTILS_SLICE(struct linker_utils_decision, decisions), decisions_len,
         LINKER_UTILS_SLICE(struct linker_utils_deletion, deleted), deleted_len, deleted_used,
         faulty ? faulty : &ignored);
 }
 
-uint32_t linker_utils_keep_facts_nonnull(const struct linker_utils_output_facts *output,
-                                         const struct linker_utils_symbol_facts *symbols,
-                                         size_t symbols_len, struct linker_utils_kept_facts *kept,
-                                         size_t kept_len);
-static inline uint32_t linker_utils_keep_facts(const struct linker_utils_output_facts *output,
-                                               const struct linker_utils_symbol_facts *symbols,
-                                               size_t symbols_len,
-                                               struct linker_utils_kept_facts *kept,
-                                               size_t kept_len) {
-    return linker_utils_keep_facts_nonnull(
-        output, LINKER_UTILS_SLICE(const struct linker_utils_symbol_facts, symbols), symbols_len,
-        LINKER_UTILS_SLICE(struct linker_utils_kept_facts, kept), kept_len);
+uint32_t linker_utils_read_value_nonnull(
+    uint16_t machine, uint32_t r_type, const uint8_t *bytes, size_t bytes_len,
+    struct linker_utils_field_value *value);
+static inline uint32_t linker_utils_read_value(
+    uint16_t machine, uint32_t r_type, const uint8_t *bytes, size_t bytes_len,
+    struct linker_utils_field_value *value) {
+    return linker_utils_read_value_nonnull(
+        machine, r_type, LINKER_UTILS_SLICE(const uint8_t, bytes), bytes_len, value);
 }
 
-uint32_t linker_utils_relocate_rewritten_section_nonnull(
-    uint16_t machine, const struct linker_utils_output_facts *output,
-    const struct linker_utils_symbol_facts *facts, size_t facts_len,
-    const struct linker_utils_kept_facts *kept, size_t kept_len,
-    const struct linker_utils_addresses *addresses, const uint8_t *relocations,
-    size_t relocations_len, const struct linker_utils_symbol *symbols, size_t symbols_len,
-    uint8_t *section, size_t section_len, uint64_t *memory, size_t memory_len, size_t *faulty);
-static inline uint32_t linker_utils_relocate_rewritten_section(
-    uint16_t machine, const struct linker_utils_output_facts *output,
-    const struct linker_utils_symbol_facts *facts, size_t facts_len,
-    const struct linker_utils_kept_facts *kept, size_t kept_len,
-    const struct linker_utils_addresses *addresses, const void *relocations,
-    size_t relocations_len, const struct linker_utils_symbol *symbols, size_t symbols_len,
-    uint8_t *section, size_t section_len, uint64_t *memory, size_t memory_len, size_t *faulty) {
+uint32_t linker_utils_relocate_all_nonnull(
+    uint16_t machine, uint8_t *section, size_t section_len,
+    const struct linker_utils_relocation_entry *relocations, size_t relocations_len,
+    size_t *faulty);
+static inline uint32_t linker_utils_relocate_all(
+    uint16_t machine, uint8_t *section, size_t section_len,
+    const struct linker_utils_relocation_entry *relocations, size_t relocations_len,
+    size_t *faulty) {
     size_t ignored;
-    return linker_utils_relocate_rewritten_section_nonnull(
-        machine, output, LINKER_UTILS_SLICE(const struct linker_utils_symbol_facts, facts),
-        facts_len, LINKER_UTILS_SLICE(const struct linker_utils_kept_facts, kept), kept_len, addresses,
-        LINKER_UTILS_RELAS(const uint8_t, relocations),
-        LINKER_UTILS_SLICE(const struct linker_utils_symbol, symbols), symbols_len,
-        LINKER_UTILS_SLICE(uint8_t, section), section_len, LINKER_UTILS_SLICE(uint64_t, memory),
-        memory_len, faulty ? faulty : &ignored);
+    return linker_utils_relocate_all_nonnull(
+        machine, LINKER_UTILS_SLICE(uint8_t, section), section_len,
+        LINKER_UTILS_SLICE(const struct linker_utils_relocation_entry, relocations),
+        relocations_len, faulty ? faulty : &ignored);
+}
+
+uint32_t linker_utils_row_write_nonnull(
+    uint32_t handle, int64_t value, uint8_t *dest, size_t dest_len);
+static inline uint32_t linker_utils_row_write(
+    uint32_t handle, int64_t value, uint8_t *dest, size_t dest_len) {
+    return linker_utils_row_write_nonnull(
+        handle, value, LINKER_UTILS_SLICE(uint8_t, dest), dest_len);
+}
+
+uint32_t linker_utils_row_apply_nonnull(
+    uint32_t handle, const struct linker_utils_operands *operands, uint8_t *dest, size_t dest_len);
+static inline uint32_t linker_utils_row_apply(
+    uint32_t handle, const struct linker_utils_operands *operands, uint8_t *dest, size_t dest_len) {
+    return linker_utils_row_apply_nonnull(
+        handle, operands, LINKER_UTILS_SLICE(uint8_t, dest), dest_len);
+}
+
+uint32_t linker_utils_row_choose_nonnull(
+    uint32_t handle, const uint8_t *section, size_t section_len, uint64_t offset,
+    const struct linker_utils_link_facts *facts, struct linker_utils_choice *choice);
+static inline uint32_t linker_utils_row_choose(
+    uint32_t handle, const uint8_t *section, size_t section_len, uint64_t offset,
+    const struct linker_utils_link_facts *facts, struct linker_utils_choice *choice) {
+    return linker_utils_row_choose_nonnull(
+        handle, LINKER_UTILS_SLICE(const uint8_t, section), section_len, offset, facts, choice);
+}
+
+bool linker_utils_row_fits_nonnull(
+    uint32_t handle, const uint8_t *section, size_t section_len, uint64_t offset,
+    const struct linker_utils_link_facts *facts);
+static inline bool linker_utils_row_fits(
+    uint32_t handle, const uint8_t *section, size_t section_len, uint64_t offset,
+    const struct linker_utils_link_facts *facts) {
+    return linker_utils_row_fits_nonnull(
+        handle, LINKER_UTILS_SLICE(const uint8_t, section), section_len, offset, facts);
 }
 
 uint32_t linker_utils_dynamic_name_nonnull(
@@ -357,6 +333,14 @@ static inline uint32_t linker_utils_interpreter(
     uint16_t machine, uint32_t flags, uint8_t *path, size_t path_len, size_t *path_used) {
     return linker_utils_interpreter_nonnull(
         machine, flags, LINKER_UTILS_SLICE(uint8_t, path), path_len, path_used);
+}
+
+uint32_t linker_utils_address_section_nonnull(
+    uint16_t machine, uint8_t *name, size_t name_len, size_t *name_used);
+static inline uint32_t linker_utils_address_section(
+    uint16_t machine, uint8_t *name, size_t name_len, size_t *name_used) {
+    return linker_utils_address_section_nonnull(
+        machine, LINKER_UTILS_SLICE(uint8_t, name), name_len, name_used);
 }
 
 uint32_t linker_utils_survey_address_loads_nonnull(
@@ -377,19 +361,18 @@ static inline uint32_t linker_utils_survey_address_loads(
         machine, output, LINKER_UTILS_SLICE(const struct linker_utils_symbol_facts, symbols),
         symbols_len, addresses, LINKER_UTILS_SLICE(const struct linker_utils_symbol, values),
         values_len, words_start, LINKER_UTILS_RELAS(const uint8_t, words),
-        LINKER_UTILS_RELAS(const uint8_t, relocations),
-        LINKER_UTILS_SLICE(const uint8_t, section), section_len, LINKER_UTILS_SLICE(bool, kept),
-        kept_len);
+        LINKER_UTILS_RELAS(const uint8_t, relocations), LINKER_UTILS_SLICE(const uint8_t, section),
+        section_len, LINKER_UTILS_SLICE(bool, kept), kept_len);
 }
 
 uint32_t linker_utils_rewrite_address_loads_nonnull(
     uint16_t machine, const struct linker_utils_output_facts *output,
     const struct linker_utils_symbol_facts *symbols, size_t symbols_len,
     const struct linker_utils_addresses *addresses, const struct linker_utils_symbol *values,
-    size_t values_len, uint64_t words_start, const uint8_t *words, size_t words_len, const bool *kept,
-    size_t kept_len, uint8_t *relocations, size_t relocations_len, uint8_t *section,
-    size_t section_len, struct linker_utils_decision *decisions, size_t decisions_len,
-    size_t *faulty);
+    size_t values_len, uint64_t words_start, const uint8_t *words, size_t words_len,
+    const bool *kept, size_t kept_len, uint8_t *relocations, size_t relocations_len,
+    uint8_t *section, size_t section_len, struct linker_utils_decision *decisions,
+    size_t decisions_len, size_t *faulty);
 static inline uint32_t linker_utils_rewrite_address_loads(
     uint16_t machine, const struct linker_utils_output_facts *output,
     const struct linker_utils_symbol_facts *symbols, size_t symbols_len,
@@ -403,7 +386,8 @@ static inline uint32_t linker_utils_rewrite_address_loads(
         machine, output, LINKER_UTILS_SLICE(const struct linker_utils_symbol_facts, symbols),
         symbols_len, addresses, LINKER_UTILS_SLICE(const struct linker_utils_symbol, values),
         values_len, words_start, LINKER_UTILS_RELAS(const uint8_t, words),
-        LINKER_UTILS_SLICE(const bool, kept), kept_len, LINKER_UTILS_RELAS(uint8_t, relocations), LINKER_UTILS_SLICE(uint8_t, section), section_len,
+        LINKER_UTILS_SLICE(const bool, kept), kept_len, LINKER_UTILS_RELAS(uint8_t, relocations),
+        LINKER_UTILS_SLICE(uint8_t, section), section_len,
         LINKER_UTILS_SLICE(struct linker_utils_decision, decisions), decisions_len,
         faulty ? faulty : &ignored);
 }
@@ -451,9 +435,8 @@ static inline uint32_t linker_utils_rewrite_global_pointer(
         machine, output, LINKER_UTILS_SLICE(const struct linker_utils_symbol_facts, symbols),
         symbols_len, addresses, LINKER_UTILS_SLICE(const struct linker_utils_symbol, values),
         values_len, global_pointer, LINKER_UTILS_SLICE(const bool, kept), kept_len,
-        LINKER_UTILS_RELAS(uint8_t, relocations),
-        LINKER_UTILS_SLICE(const uint8_t, section), section_len,
-        LINKER_UTILS_SLICE(struct linker_utils_decision, decisions), decisions_len,
+        LINKER_UTILS_RELAS(uint8_t, relocations), LINKER_UTILS_SLICE(const uint8_t, section),
+        section_len, LINKER_UTILS_SLICE(struct linker_utils_decision, decisions), decisions_len,
         LINKER_UTILS_SLICE(struct linker_utils_deletion, deleted), deleted_len, deleted_used,
         faulty ? faulty : &ignored);
 }
@@ -473,31 +456,23 @@ static inline uint32_t linker_utils_from_global_pointer(
         LINKER_UTILS_SLICE(uint8_t, section), section_len, faulty ? faulty : &ignored);
 }
 
-uint32_t linker_utils_address_section_nonnull(
-    uint16_t machine, uint8_t *name, size_t name_len, size_t *name_used);
-static inline uint32_t linker_utils_address_section(
-    uint16_t machine, uint8_t *name, size_t name_len, size_t *name_used) {
-    return linker_utils_address_section_nonnull(
-        machine, LINKER_UTILS_SLICE(uint8_t, name), name_len, name_used);
-}
-
-uint32_t linker_utils_provided_symbol_nonnull(
+uint32_t linker_utils_get_provided_symbol_nonnull(
     uint16_t machine, size_t index, uint8_t *name, size_t name_len, size_t *name_used,
     struct linker_utils_provided_symbol *symbol);
-static inline uint32_t linker_utils_provided_symbol(
+static inline uint32_t linker_utils_get_provided_symbol(
     uint16_t machine, size_t index, uint8_t *name, size_t name_len, size_t *name_used,
     struct linker_utils_provided_symbol *symbol) {
-    return linker_utils_provided_symbol_nonnull(
+    return linker_utils_get_provided_symbol_nonnull(
         machine, index, LINKER_UTILS_SLICE(uint8_t, name), name_len, name_used, symbol);
 }
 
-uint32_t linker_utils_provided_run_nonnull(
+uint32_t linker_utils_get_provided_run_nonnull(
     uint16_t machine, size_t index, uint8_t *prefix, size_t prefix_len, size_t *prefix_used,
     struct linker_utils_provided_run *run);
-static inline uint32_t linker_utils_provided_run(
+static inline uint32_t linker_utils_get_provided_run(
     uint16_t machine, size_t index, uint8_t *prefix, size_t prefix_len, size_t *prefix_used,
     struct linker_utils_provided_run *run) {
-    return linker_utils_provided_run_nonnull(
+    return linker_utils_get_provided_run_nonnull(
         machine, index, LINKER_UTILS_SLICE(uint8_t, prefix), prefix_len, prefix_used, run);
 }
 
@@ -520,9 +495,11 @@ static inline uint32_t linker_utils_write_lazy_header(
 }
 
 uint32_t linker_utils_write_lazy_entry_nonnull(
-    uint16_t machine, const struct linker_utils_lazy_entry *entry, uint8_t *bytes, size_t bytes_len);
+    uint16_t machine, const struct linker_utils_lazy_entry *entry, uint8_t *bytes,
+    size_t bytes_len);
 static inline uint32_t linker_utils_write_lazy_entry(
-    uint16_t machine, const struct linker_utils_lazy_entry *entry, uint8_t *bytes, size_t bytes_len) {
+    uint16_t machine, const struct linker_utils_lazy_entry *entry, uint8_t *bytes,
+    size_t bytes_len) {
     return linker_utils_write_lazy_entry_nonnull(
         machine, entry, LINKER_UTILS_SLICE(uint8_t, bytes), bytes_len);
 }
@@ -545,8 +522,8 @@ uint32_t linker_utils_route_by_word_nonnull(
     uint16_t machine, uint64_t word, const uint8_t *relocations, size_t relocations_len,
     size_t index, const uint8_t *section, size_t section_len, struct linker_utils_route *route);
 static inline uint32_t linker_utils_route_by_word(
-    uint16_t machine, uint64_t word, const void *relocations, size_t relocations_len,
-    size_t index, const uint8_t *section, size_t section_len, struct linker_utils_route *route) {
+    uint16_t machine, uint64_t word, const void *relocations, size_t relocations_len, size_t index,
+    const uint8_t *section, size_t section_len, struct linker_utils_route *route) {
     return linker_utils_route_by_word_nonnull(
         machine, word, LINKER_UTILS_RELAS(const uint8_t, relocations), index,
         LINKER_UTILS_SLICE(const uint8_t, section), section_len, route);
@@ -574,62 +551,109 @@ static inline uint32_t linker_utils_place_stubs(
         before_len, faulty ? faulty : &ignored);
 }
 
-uint32_t linker_utils_jal_site_nonnull(uint8_t *section, size_t section_len, uint64_t site,
-                                       int64_t distance);
-static inline uint32_t linker_utils_jal_site(uint8_t *section, size_t section_len, uint64_t site,
-                                             int64_t distance) {
-    return linker_utils_jal_site_nonnull(LINKER_UTILS_SLICE(uint8_t, section), section_len, site,
-                                         distance);
+uint32_t linker_utils_fits_nonnull(
+    uint16_t machine, uint32_t form, uint64_t value, const uint8_t *bytes, size_t bytes_len);
+static inline uint32_t linker_utils_fits(
+    uint16_t machine, uint32_t form, uint64_t value, const uint8_t *bytes, size_t bytes_len) {
+    return linker_utils_fits_nonnull(
+        machine, form, value, LINKER_UTILS_SLICE(const uint8_t, bytes), bytes_len);
 }
 
-uint32_t linker_utils_jal_site_with_nonnull(uint8_t *section, size_t section_len, uint64_t site,
-                                            int64_t distance, uint32_t link);
-static inline uint32_t linker_utils_jal_site_with(uint8_t *section, size_t section_len,
-                                                  uint64_t site, int64_t distance, uint32_t link) {
-    return linker_utils_jal_site_with_nonnull(LINKER_UTILS_SLICE(uint8_t, section), section_len,
-                                              site, distance, link);
+uint32_t linker_utils_write_nonnull(
+    uint16_t machine, uint32_t form, uint64_t value, bool negative, uint8_t *dest, size_t dest_len);
+static inline uint32_t linker_utils_write(
+    uint16_t machine, uint32_t form, uint64_t value, bool negative, uint8_t *dest,
+    size_t dest_len) {
+    return linker_utils_write_nonnull(
+        machine, form, value, negative, LINKER_UTILS_SLICE(uint8_t, dest), dest_len);
 }
 
-uint32_t linker_utils_relax_call_nonnull(uint8_t *section, size_t section_len,
-                                         const struct linker_utils_delta *deltas, size_t deltas_len,
-                                         uint64_t site, uint64_t target);
-static inline uint32_t linker_utils_relax_call(uint8_t *section, size_t section_len,
-                                               const struct linker_utils_delta *deltas,
-                                               size_t deltas_len, uint64_t site, uint64_t target) {
-    return linker_utils_relax_call_nonnull(
-        LINKER_UTILS_SLICE(uint8_t, section), section_len,
-        LINKER_UTILS_SLICE(const struct linker_utils_delta, deltas), deltas_len, site, target);
+uint32_t linker_utils_read_nonnull(
+    uint16_t machine, uint32_t form, const uint8_t *bytes, size_t bytes_len, uint64_t *value,
+    uint8_t *negative);
+static inline uint32_t linker_utils_read(
+    uint16_t machine, uint32_t form, const uint8_t *bytes, size_t bytes_len, uint64_t *value,
+    uint8_t *negative) {
+    return linker_utils_read_nonnull(
+        machine, form, LINKER_UTILS_SLICE(const uint8_t, bytes), bytes_len, value, negative);
 }
 
-bool linker_utils_is_plain_call_nonnull(const uint8_t *section, size_t section_len, uint64_t site);
-static inline bool linker_utils_is_plain_call(const uint8_t *section, size_t section_len,
-                                              uint64_t site) {
-    return linker_utils_is_plain_call_nonnull(LINKER_UTILS_SLICE(const uint8_t, section),
-                                              section_len, site);
+uint32_t linker_utils_operand_nonnull(
+    uint16_t machine, uint32_t form, const uint8_t *bytes, size_t bytes_len, int64_t *number);
+static inline uint32_t linker_utils_operand(
+    uint16_t machine, uint32_t form, const uint8_t *bytes, size_t bytes_len, int64_t *number) {
+    return linker_utils_operand_nonnull(
+        machine, form, LINKER_UTILS_SLICE(const uint8_t, bytes), bytes_len, number);
 }
 
-uint32_t linker_utils_write_mov_sequence_nonnull(uint8_t *dest, size_t dest_len, uint32_t rd,
-                                                 uint64_t value);
-static inline uint32_t linker_utils_write_mov_sequence(uint8_t *dest, size_t dest_len, uint32_t rd,
-                                                       uint64_t value) {
-    return linker_utils_write_mov_sequence_nonnull(LINKER_UTILS_SLICE(uint8_t, dest), dest_len, rd,
-                                                   value);
+uint32_t linker_utils_can_apply_nonnull(
+    uint16_t machine, uint32_t rewrite, uint8_t opcode_len, const uint8_t *section,
+    size_t section_len, uint64_t offset);
+static inline uint32_t linker_utils_can_apply(
+    uint16_t machine, uint32_t rewrite, uint8_t opcode_len, const uint8_t *section,
+    size_t section_len, uint64_t offset) {
+    return linker_utils_can_apply_nonnull(
+        machine, rewrite, opcode_len, LINKER_UTILS_SLICE(const uint8_t, section), section_len,
+        offset);
 }
 
-uint32_t linker_utils_write_address_sequence_nonnull(uint8_t *dest, size_t dest_len, uint64_t pc,
-                                                     uint64_t target);
-static inline uint32_t linker_utils_write_address_sequence(uint8_t *dest, size_t dest_len,
-                                                           uint64_t pc, uint64_t target) {
-    return linker_utils_write_address_sequence_nonnull(LINKER_UTILS_SLICE(uint8_t, dest), dest_len,
-                                                       pc, target);
+uint32_t linker_utils_keep_facts_nonnull(
+    const struct linker_utils_output_facts *output, const struct linker_utils_symbol_facts *symbols,
+    size_t symbols_len, struct linker_utils_kept_facts *kept, size_t kept_len);
+static inline uint32_t linker_utils_keep_facts(
+    const struct linker_utils_output_facts *output, const struct linker_utils_symbol_facts *symbols,
+    size_t symbols_len, struct linker_utils_kept_facts *kept, size_t kept_len) {
+    return linker_utils_keep_facts_nonnull(
+        output, LINKER_UTILS_SLICE(const struct linker_utils_symbol_facts, symbols), symbols_len,
+        LINKER_UTILS_SLICE(struct linker_utils_kept_facts, kept), kept_len);
 }
 
-uint32_t linker_utils_write_ha_lo_nonnull(uint8_t *ha, size_t ha_len, uint8_t *lo, size_t lo_len,
-                                          uint64_t value);
-static inline uint32_t linker_utils_write_ha_lo(uint8_t *ha, size_t ha_len, uint8_t *lo,
-                                                size_t lo_len, uint64_t value) {
-    return linker_utils_write_ha_lo_nonnull(LINKER_UTILS_SLICE(uint8_t, ha), ha_len,
-                                            LINKER_UTILS_SLICE(uint8_t, lo), lo_len, value);
+uint32_t linker_utils_relocate_rewritten_section_nonnull(
+    uint16_t machine, const struct linker_utils_output_facts *output,
+    const struct linker_utils_symbol_facts *facts, size_t facts_len,
+    const struct linker_utils_kept_facts *kept, size_t kept_len,
+    const struct linker_utils_addresses *addresses, const uint8_t *relocations,
+    size_t relocations_len, const struct linker_utils_symbol *symbols, size_t symbols_len,
+    uint8_t *section, size_t section_len, uint64_t *memory, size_t memory_len, size_t *faulty);
+static inline uint32_t linker_utils_relocate_rewritten_section(
+    uint16_t machine, const struct linker_utils_output_facts *output,
+    const struct linker_utils_symbol_facts *facts, size_t facts_len,
+    const struct linker_utils_kept_facts *kept, size_t kept_len,
+    const struct linker_utils_addresses *addresses, const void *relocations, size_t relocations_len,
+    const struct linker_utils_symbol *symbols, size_t symbols_len, uint8_t *section,
+    size_t section_len, uint64_t *memory, size_t memory_len, size_t *faulty) {
+    size_t ignored;
+    return linker_utils_relocate_rewritten_section_nonnull(
+        machine, output, LINKER_UTILS_SLICE(const struct linker_utils_symbol_facts, facts),
+        facts_len, LINKER_UTILS_SLICE(const struct linker_utils_kept_facts, kept), kept_len,
+        addresses, LINKER_UTILS_RELAS(const uint8_t, relocations),
+        LINKER_UTILS_SLICE(const struct linker_utils_symbol, symbols), symbols_len,
+        LINKER_UTILS_SLICE(uint8_t, section), section_len, LINKER_UTILS_SLICE(uint64_t, memory),
+        memory_len, faulty ? faulty : &ignored);
+}
+
+uint32_t linker_utils_write_mov_sequence_nonnull(
+    uint8_t *dest, size_t dest_len, uint32_t rd, uint64_t value);
+static inline uint32_t linker_utils_write_mov_sequence(
+    uint8_t *dest, size_t dest_len, uint32_t rd, uint64_t value) {
+    return linker_utils_write_mov_sequence_nonnull(
+        LINKER_UTILS_SLICE(uint8_t, dest), dest_len, rd, value);
+}
+
+uint32_t linker_utils_write_address_sequence_nonnull(
+    uint8_t *dest, size_t dest_len, uint64_t pc, uint64_t target);
+static inline uint32_t linker_utils_write_address_sequence(
+    uint8_t *dest, size_t dest_len, uint64_t pc, uint64_t target) {
+    return linker_utils_write_address_sequence_nonnull(
+        LINKER_UTILS_SLICE(uint8_t, dest), dest_len, pc, target);
+}
+
+uint32_t linker_utils_write_ha_lo_nonnull(
+    uint8_t *ha, size_t ha_len, uint8_t *lo, size_t lo_len, uint64_t value);
+static inline uint32_t linker_utils_write_ha_lo(
+    uint8_t *ha, size_t ha_len, uint8_t *lo, size_t lo_len, uint64_t value) {
+    return linker_utils_write_ha_lo_nonnull(
+        LINKER_UTILS_SLICE(uint8_t, ha), ha_len, LINKER_UTILS_SLICE(uint8_t, lo), lo_len, value);
 }
 
 uint32_t linker_utils_write_uleb128_nonnull(uint8_t *dest, size_t dest_len, uint64_t value);
@@ -637,67 +661,71 @@ static inline uint32_t linker_utils_write_uleb128(uint8_t *dest, size_t dest_len
     return linker_utils_write_uleb128_nonnull(LINKER_UTILS_SLICE(uint8_t, dest), dest_len, value);
 }
 
-uint32_t linker_utils_write_uleb128_pair_nonnull(uint16_t machine, uint32_t r_type, uint8_t *dest,
-                                                 size_t dest_len, uint64_t first,
-                                                 uint64_t second);
-static inline uint32_t linker_utils_write_uleb128_pair(uint16_t machine, uint32_t r_type,
-                                                       uint8_t *dest, size_t dest_len,
-                                                       uint64_t first, uint64_t second) {
+uint32_t linker_utils_write_uleb128_pair_nonnull(
+    uint16_t machine, uint32_t r_type, uint8_t *dest, size_t dest_len, uint64_t first,
+    uint64_t second);
+static inline uint32_t linker_utils_write_uleb128_pair(
+    uint16_t machine, uint32_t r_type, uint8_t *dest, size_t dest_len, uint64_t first,
+    uint64_t second) {
     return linker_utils_write_uleb128_pair_nonnull(
         machine, r_type, LINKER_UTILS_SLICE(uint8_t, dest), dest_len, first, second);
 }
 
-uint32_t linker_utils_u32_from_slice_nonnull(const uint8_t *bytes, size_t bytes_len,
-                                             uint32_t *value);
-static inline uint32_t linker_utils_u32_from_slice(const uint8_t *bytes, size_t bytes_len,
-                                                   uint32_t *value) {
-    return linker_utils_u32_from_slice_nonnull(LINKER_UTILS_SLICE(const uint8_t, bytes), bytes_len,
-                                               value);
+uint32_t linker_utils_u32_from_slice_nonnull(
+    const uint8_t *bytes, size_t bytes_len, uint32_t *value);
+static inline uint32_t linker_utils_u32_from_slice(
+    const uint8_t *bytes, size_t bytes_len, uint32_t *value) {
+    return linker_utils_u32_from_slice_nonnull(
+        LINKER_UTILS_SLICE(const uint8_t, bytes), bytes_len, value);
 }
 
-uint32_t linker_utils_u64_from_slice_nonnull(const uint8_t *bytes, size_t bytes_len,
-                                             uint64_t *value);
-static inline uint32_t linker_utils_u64_from_slice(const uint8_t *bytes, size_t bytes_len,
-                                                   uint64_t *value) {
-    return linker_utils_u64_from_slice_nonnull(LINKER_UTILS_SLICE(const uint8_t, bytes), bytes_len,
-                                               value);
+uint32_t linker_utils_u64_from_slice_nonnull(
+    const uint8_t *bytes, size_t bytes_len, uint64_t *value);
+static inline uint32_t linker_utils_u64_from_slice(
+    const uint8_t *bytes, size_t bytes_len, uint64_t *value) {
+    return linker_utils_u64_from_slice_nonnull(
+        LINKER_UTILS_SLICE(const uint8_t, bytes), bytes_len, value);
 }
 
-uint32_t linker_utils_read_u32_nonnull(const uint8_t *bytes, size_t bytes_len, uint32_t *value,
-                                       size_t *consumed);
-static inline uint32_t linker_utils_read_u32(const uint8_t *bytes, size_t bytes_len,
-                                             uint32_t *value, size_t *consumed) {
-    return linker_utils_read_u32_nonnull(LINKER_UTILS_SLICE(const uint8_t, bytes), bytes_len,
-                                         value, consumed);
+uint32_t linker_utils_read_u32_nonnull(
+    const uint8_t *bytes, size_t bytes_len, uint32_t *value, size_t *consumed);
+static inline uint32_t linker_utils_read_u32(
+    const uint8_t *bytes, size_t bytes_len, uint32_t *value, size_t *consumed) {
+    return linker_utils_read_u32_nonnull(
+        LINKER_UTILS_SLICE(const uint8_t, bytes), bytes_len, value, consumed);
 }
 
-uint32_t linker_utils_read_uleb128_nonnull(const uint8_t *bytes, size_t bytes_len, uint64_t *value,
-                                           size_t *consumed);
-static inline uint32_t linker_utils_read_uleb128(const uint8_t *bytes, size_t bytes_len,
-                                                 uint64_t *value, size_t *consumed) {
-    return linker_utils_read_uleb128_nonnull(LINKER_UTILS_SLICE(const uint8_t, bytes), bytes_len,
-                                             value, consumed);
+uint32_t linker_utils_read_uleb128_nonnull(
+    const uint8_t *bytes, size_t bytes_len, uint64_t *value, size_t *consumed);
+static inline uint32_t linker_utils_read_uleb128(
+    const uint8_t *bytes, size_t bytes_len, uint64_t *value, size_t *consumed) {
+    return linker_utils_read_uleb128_nonnull(
+        LINKER_UTILS_SLICE(const uint8_t, bytes), bytes_len, value, consumed);
 }
 
-uint32_t linker_utils_deletions_valid_nonnull(const struct linker_utils_deletion *deletions,
-                                              size_t deletions_len, size_t *faulty);
-static inline uint32_t linker_utils_deletions_valid(const struct linker_utils_deletion *deletions,
-                                                    size_t deletions_len, size_t *faulty) {
+bool linker_utils_has_valid_deltas_nonnull(
+    const struct linker_utils_delta *deltas, size_t deltas_len);
+static inline bool linker_utils_has_valid_deltas(
+    const struct linker_utils_delta *deltas, size_t deltas_len) {
+    return linker_utils_has_valid_deltas_nonnull(
+        LINKER_UTILS_SLICE(const struct linker_utils_delta, deltas), deltas_len);
+}
+
+uint64_t linker_utils_deltas_total_deleted_nonnull(
+    const struct linker_utils_delta *deltas, size_t deltas_len);
+static inline uint64_t linker_utils_deltas_total_deleted(
+    const struct linker_utils_delta *deltas, size_t deltas_len) {
+    return linker_utils_deltas_total_deleted_nonnull(
+        LINKER_UTILS_SLICE(const struct linker_utils_delta, deltas), deltas_len);
+}
+
+uint32_t linker_utils_deletions_valid_nonnull(
+    const struct linker_utils_deletion *deletions, size_t deletions_len, size_t *faulty);
+static inline uint32_t linker_utils_deletions_valid(
+    const struct linker_utils_deletion *deletions, size_t deletions_len, size_t *faulty) {
     size_t ignored;
     return linker_utils_deletions_valid_nonnull(
         LINKER_UTILS_SLICE(const struct linker_utils_deletion, deletions), deletions_len,
-        faulty ? faulty : &ignored);
-}
-
-uint32_t linker_utils_deltas_create_nonnull(const struct linker_utils_deletion *deletions,
-                                            size_t deletions_len, struct linker_utils_delta *deltas,
-                                            size_t deltas_len, size_t *faulty);
-static inline uint32_t linker_utils_deltas_create(const struct linker_utils_deletion *deletions,
-    size_t deletions_len, struct linker_utils_delta *deltas, size_t deltas_len, size_t *faulty) {
-    size_t ignored;
-    return linker_utils_deltas_create_nonnull(
-        LINKER_UTILS_SLICE(const struct linker_utils_deletion, deletions), deletions_len,
-        LINKER_UTILS_SLICE(struct linker_utils_delta, deltas), deltas_len,
         faulty ? faulty : &ignored);
 }
 
@@ -714,20 +742,24 @@ static inline uint32_t linker_utils_deltas_create_in_one_pass(
         faulty ? faulty : &ignored);
 }
 
-uint32_t linker_utils_deletions_mergeable_nonnull(const struct linker_utils_delta *deltas,
-    size_t deltas_len, const struct linker_utils_deletion *additional, size_t additional_len);
-static inline uint32_t linker_utils_deletions_mergeable(const struct linker_utils_delta *deltas,
-    size_t deltas_len, const struct linker_utils_deletion *additional, size_t additional_len) {
+uint32_t linker_utils_deletions_mergeable_nonnull(
+    const struct linker_utils_delta *deltas, size_t deltas_len,
+    const struct linker_utils_deletion *additional, size_t additional_len);
+static inline uint32_t linker_utils_deletions_mergeable(
+    const struct linker_utils_delta *deltas, size_t deltas_len,
+    const struct linker_utils_deletion *additional, size_t additional_len) {
     return linker_utils_deletions_mergeable_nonnull(
         LINKER_UTILS_SLICE(const struct linker_utils_delta, deltas), deltas_len,
         LINKER_UTILS_SLICE(const struct linker_utils_deletion, additional), additional_len);
 }
 
-uint32_t linker_utils_deltas_merge_nonnull(const struct linker_utils_delta *deltas,
-    size_t deltas_len, const struct linker_utils_deletion *additional, size_t additional_len,
+uint32_t linker_utils_deltas_merge_nonnull(
+    const struct linker_utils_delta *deltas, size_t deltas_len,
+    const struct linker_utils_deletion *additional, size_t additional_len,
     struct linker_utils_delta *merged, size_t merged_len, size_t *faulty);
-static inline uint32_t linker_utils_deltas_merge(const struct linker_utils_delta *deltas,
-    size_t deltas_len, const struct linker_utils_deletion *additional, size_t additional_len,
+static inline uint32_t linker_utils_deltas_merge(
+    const struct linker_utils_delta *deltas, size_t deltas_len,
+    const struct linker_utils_deletion *additional, size_t additional_len,
     struct linker_utils_delta *merged, size_t merged_len, size_t *faulty) {
     size_t ignored;
     return linker_utils_deltas_merge_nonnull(
@@ -737,49 +769,12 @@ static inline uint32_t linker_utils_deltas_merge(const struct linker_utils_delta
         faulty ? faulty : &ignored);
 }
 
-bool linker_utils_has_valid_deltas_nonnull(const struct linker_utils_delta *deltas,
-                                           size_t deltas_len);
-static inline bool linker_utils_has_valid_deltas(const struct linker_utils_delta *deltas,
-                                                 size_t deltas_len) {
-    return linker_utils_has_valid_deltas_nonnull(
-        LINKER_UTILS_SLICE(const struct linker_utils_delta, deltas), deltas_len);
-}
-
-uint64_t linker_utils_deltas_total_deleted_nonnull(const struct linker_utils_delta *deltas,
-                                                   size_t deltas_len);
-static inline uint64_t linker_utils_deltas_total_deleted(const struct linker_utils_delta *deltas,
-                                                         size_t deltas_len) {
-    return linker_utils_deltas_total_deleted_nonnull(
-        LINKER_UTILS_SLICE(const struct linker_utils_delta, deltas), deltas_len);
-}
-
-uint64_t linker_utils_deltas_input_to_output_nonnull(const struct linker_utils_delta *deltas,
-                                                     size_t deltas_len, uint64_t input_offset);
-static inline uint64_t linker_utils_deltas_input_to_output(const struct linker_utils_delta *deltas,
-                                                           size_t deltas_len,
-                                                           uint64_t input_offset) {
-    return linker_utils_deltas_input_to_output_nonnull(
-        LINKER_UTILS_SLICE(const struct linker_utils_delta, deltas), deltas_len, input_offset);
-}
-
-uint32_t linker_utils_deltas_output_to_input_nonnull(const struct linker_utils_delta *deltas,
-                                                     size_t deltas_len, uint64_t output_offset,
-                                                     uint64_t *input_offset);
-static inline uint32_t linker_utils_deltas_output_to_input(const struct linker_utils_delta *deltas,
-    size_t deltas_len, uint64_t output_offset, uint64_t *input_offset) {
-    return linker_utils_deltas_output_to_input_nonnull(
-        LINKER_UTILS_SLICE(const struct linker_utils_delta, deltas), deltas_len, output_offset,
-        input_offset);
-}
-
-uint32_t linker_utils_deltas_translate_all_nonnull(const struct linker_utils_delta *deltas,
-                                                   size_t deltas_len, const uint64_t *queries,
-                                                   size_t queries_len, uint64_t *outputs,
-                                                   size_t outputs_len, size_t *faulty);
-static inline uint32_t linker_utils_deltas_translate_all(const struct linker_utils_delta *deltas,
-                                                         size_t deltas_len, const uint64_t *queries,
-                                                         size_t queries_len, uint64_t *outputs,
-                                                         size_t outputs_len, size_t *faulty) {
+uint32_t linker_utils_deltas_translate_all_nonnull(
+    const struct linker_utils_delta *deltas, size_t deltas_len, const uint64_t *queries,
+    size_t queries_len, uint64_t *outputs, size_t outputs_len, size_t *faulty);
+static inline uint32_t linker_utils_deltas_translate_all(
+    const struct linker_utils_delta *deltas, size_t deltas_len, const uint64_t *queries,
+    size_t queries_len, uint64_t *outputs, size_t outputs_len, size_t *faulty) {
     size_t ignored;
     return linker_utils_deltas_translate_all_nonnull(
         LINKER_UTILS_SLICE(const struct linker_utils_delta, deltas), deltas_len,
@@ -787,19 +782,20 @@ static inline uint32_t linker_utils_deltas_translate_all(const struct linker_uti
         LINKER_UTILS_SLICE(uint64_t, outputs), outputs_len, faulty ? faulty : &ignored);
 }
 
-size_t linker_utils_deltas_block_count_nonnull(const struct linker_utils_delta *deltas,
-                                               size_t deltas_len);
-static inline size_t linker_utils_deltas_block_count(const struct linker_utils_delta *deltas,
-                                                     size_t deltas_len) {
+size_t linker_utils_deltas_block_count_nonnull(
+    const struct linker_utils_delta *deltas, size_t deltas_len);
+static inline size_t linker_utils_deltas_block_count(
+    const struct linker_utils_delta *deltas, size_t deltas_len) {
     return linker_utils_deltas_block_count_nonnull(
         LINKER_UTILS_SLICE(const struct linker_utils_delta, deltas), deltas_len);
 }
 
-uint32_t linker_utils_deltas_heads_nonnull(const struct linker_utils_delta *deltas,
-                                           size_t deltas_len, struct linker_utils_block_head *heads,
-                                           size_t heads_len);
-static inline uint32_t linker_utils_deltas_heads(const struct linker_utils_delta *deltas,
-    size_t deltas_len, struct linker_utils_block_head *heads, size_t heads_len) {
+uint32_t linker_utils_deltas_heads_nonnull(
+    const struct linker_utils_delta *deltas, size_t deltas_len,
+    struct linker_utils_block_head *heads, size_t heads_len);
+static inline uint32_t linker_utils_deltas_heads(
+    const struct linker_utils_delta *deltas, size_t deltas_len,
+    struct linker_utils_block_head *heads, size_t heads_len) {
     return linker_utils_deltas_heads_nonnull(
         LINKER_UTILS_SLICE(const struct linker_utils_delta, deltas), deltas_len,
         LINKER_UTILS_SLICE(struct linker_utils_block_head, heads), heads_len);
@@ -830,26 +826,59 @@ static inline uint32_t linker_utils_deltas_output_to_input_by_heads(
         input_offset);
 }
 
-size_t linker_utils_packed_len_nonnull(const uint8_t *section, size_t section_len,
-                                       const struct linker_utils_delta *deltas, size_t deltas_len);
-static inline size_t linker_utils_packed_len(const uint8_t *section, size_t section_len,
-                                             const struct linker_utils_delta *deltas,
-                                             size_t deltas_len) {
+uint32_t linker_utils_jal_site_nonnull(
+    uint8_t *section, size_t section_len, uint64_t site, int64_t distance);
+static inline uint32_t linker_utils_jal_site(
+    uint8_t *section, size_t section_len, uint64_t site, int64_t distance) {
+    return linker_utils_jal_site_nonnull(
+        LINKER_UTILS_SLICE(uint8_t, section), section_len, site, distance);
+}
+
+uint32_t linker_utils_jal_site_with_nonnull(
+    uint8_t *section, size_t section_len, uint64_t site, int64_t distance, uint32_t link);
+static inline uint32_t linker_utils_jal_site_with(
+    uint8_t *section, size_t section_len, uint64_t site, int64_t distance, uint32_t link) {
+    return linker_utils_jal_site_with_nonnull(
+        LINKER_UTILS_SLICE(uint8_t, section), section_len, site, distance, link);
+}
+
+uint32_t linker_utils_relax_call_nonnull(
+    uint8_t *section, size_t section_len, const struct linker_utils_delta *deltas,
+    size_t deltas_len, uint64_t site, uint64_t target);
+static inline uint32_t linker_utils_relax_call(
+    uint8_t *section, size_t section_len, const struct linker_utils_delta *deltas,
+    size_t deltas_len, uint64_t site, uint64_t target) {
+    return linker_utils_relax_call_nonnull(
+        LINKER_UTILS_SLICE(uint8_t, section), section_len,
+        LINKER_UTILS_SLICE(const struct linker_utils_delta, deltas), deltas_len, site, target);
+}
+
+bool linker_utils_is_plain_call_nonnull(const uint8_t *section, size_t section_len, uint64_t site);
+static inline bool linker_utils_is_plain_call(
+    const uint8_t *section, size_t section_len, uint64_t site) {
+    return linker_utils_is_plain_call_nonnull(
+        LINKER_UTILS_SLICE(const uint8_t, section), section_len, site);
+}
+
+size_t linker_utils_packed_len_nonnull(
+    const uint8_t *section, size_t section_len, const struct linker_utils_delta *deltas,
+    size_t deltas_len);
+static inline size_t linker_utils_packed_len(
+    const uint8_t *section, size_t section_len, const struct linker_utils_delta *deltas,
+    size_t deltas_len) {
     return linker_utils_packed_len_nonnull(
         LINKER_UTILS_SLICE(const uint8_t, section), section_len,
         LINKER_UTILS_SLICE(const struct linker_utils_delta, deltas), deltas_len);
 }
 
-uint32_t linker_utils_pack_nonnull(const uint8_t *section, size_t section_len,
-                                   const struct linker_utils_delta *deltas, size_t deltas_len,
-                                   const struct linker_utils_call *calls, size_t calls_len,
-                                   uint32_t link, uint8_t *packed, size_t packed_len,
-                                   size_t *faulty);
-static inline uint32_t linker_utils_pack(const uint8_t *section, size_t section_len,
-                                         const struct linker_utils_delta *deltas, size_t deltas_len,
-                                         const struct linker_utils_call *calls, size_t calls_len,
-                                         uint32_t link, uint8_t *packed, size_t packed_len,
-                                         size_t *faulty) {
+uint32_t linker_utils_pack_nonnull(
+    const uint8_t *section, size_t section_len, const struct linker_utils_delta *deltas,
+    size_t deltas_len, const struct linker_utils_call *calls, size_t calls_len, uint32_t link,
+    uint8_t *packed, size_t packed_len, size_t *faulty);
+static inline uint32_t linker_utils_pack(
+    const uint8_t *section, size_t section_len, const struct linker_utils_delta *deltas,
+    size_t deltas_len, const struct linker_utils_call *calls, size_t calls_len, uint32_t link,
+    uint8_t *packed, size_t packed_len, size_t *faulty) {
     size_t ignored;
     return linker_utils_pack_nonnull(
         LINKER_UTILS_SLICE(const uint8_t, section), section_len,
@@ -858,10 +887,12 @@ static inline uint32_t linker_utils_pack(const uint8_t *section, size_t section_
         LINKER_UTILS_SLICE(uint8_t, packed), packed_len, faulty ? faulty : &ignored);
 }
 
-uint32_t linker_utils_calls_shrinkable_nonnull(const struct linker_utils_delta *deltas,
-    size_t deltas_len, const struct linker_utils_call *calls, size_t calls_len, size_t *faulty);
-static inline uint32_t linker_utils_calls_shrinkable(const struct linker_utils_delta *deltas,
-    size_t deltas_len, const struct linker_utils_call *calls, size_t calls_len, size_t *faulty) {
+uint32_t linker_utils_calls_shrinkable_nonnull(
+    const struct linker_utils_delta *deltas, size_t deltas_len,
+    const struct linker_utils_call *calls, size_t calls_len, size_t *faulty);
+static inline uint32_t linker_utils_calls_shrinkable(
+    const struct linker_utils_delta *deltas, size_t deltas_len,
+    const struct linker_utils_call *calls, size_t calls_len, size_t *faulty) {
     size_t ignored;
     return linker_utils_calls_shrinkable_nonnull(
         LINKER_UTILS_SLICE(const struct linker_utils_delta, deltas), deltas_len,
@@ -869,13 +900,14 @@ static inline uint32_t linker_utils_calls_shrinkable(const struct linker_utils_d
         faulty ? faulty : &ignored);
 }
 
-uint32_t linker_utils_shrink_calls_nonnull(const struct linker_utils_delta *deltas,
-                                           size_t deltas_len, const struct linker_utils_call *calls,
-                                           size_t calls_len, uint8_t *chosen, size_t chosen_len,
-                                           size_t *faulty);
-static inline uint32_t linker_utils_shrink_calls(const struct linker_utils_delta *deltas,
-    size_t deltas_len, const struct linker_utils_call *calls, size_t calls_len, uint8_t *chosen,
-    size_t chosen_len, size_t *faulty) {
+uint32_t linker_utils_shrink_calls_nonnull(
+    const struct linker_utils_delta *deltas, size_t deltas_len,
+    const struct linker_utils_call *calls, size_t calls_len, uint8_t *chosen, size_t chosen_len,
+    size_t *faulty);
+static inline uint32_t linker_utils_shrink_calls(
+    const struct linker_utils_delta *deltas, size_t deltas_len,
+    const struct linker_utils_call *calls, size_t calls_len, uint8_t *chosen, size_t chosen_len,
+    size_t *faulty) {
     size_t ignored;
     return linker_utils_shrink_calls_nonnull(
         LINKER_UTILS_SLICE(const struct linker_utils_delta, deltas), deltas_len,
@@ -886,18 +918,18 @@ static inline uint32_t linker_utils_shrink_calls(const struct linker_utils_delta
 uint32_t linker_utils_section_items_nonnull(
     uint16_t machine, const uint8_t *section, size_t section_len, uint64_t base,
     const struct linker_utils_rela *relocations, size_t relocations_len,
-    struct linker_utils_item *items, size_t items_len, size_t *makers, size_t makers_len, size_t *len,
-    size_t *faulty);
+    struct linker_utils_item *items, size_t items_len, size_t *makers, size_t makers_len,
+    size_t *len, size_t *faulty);
 static inline uint32_t linker_utils_section_items(
     uint16_t machine, const uint8_t *section, size_t section_len, uint64_t base,
     const struct linker_utils_rela *relocations, size_t relocations_len,
-    struct linker_utils_item *items, size_t items_len, size_t *makers, size_t makers_len, size_t *len,
-    size_t *faulty) {
+    struct linker_utils_item *items, size_t items_len, size_t *makers, size_t makers_len,
+    size_t *len, size_t *faulty) {
     size_t ignored;
     return linker_utils_section_items_nonnull(
         machine, LINKER_UTILS_SLICE(const uint8_t, section), section_len, base,
-        LINKER_UTILS_SLICE(const struct linker_utils_rela, relocations),
-        relocations_len, LINKER_UTILS_SLICE(struct linker_utils_item, items), items_len,
+        LINKER_UTILS_SLICE(const struct linker_utils_rela, relocations), relocations_len,
+        LINKER_UTILS_SLICE(struct linker_utils_item, items), items_len,
         LINKER_UTILS_SLICE(size_t, makers), makers_len, len, faulty ? faulty : &ignored);
 }
 
@@ -905,14 +937,14 @@ uint32_t linker_utils_rewritten_items_nonnull(
     uint16_t machine, const uint8_t *section, size_t section_len, uint64_t base,
     const struct linker_utils_rela *relocations, size_t relocations_len,
     const struct linker_utils_deletion *deleted, size_t deleted_len,
-    struct linker_utils_item *items, size_t items_len, size_t *makers, size_t makers_len, size_t *len,
-    size_t *faulty);
+    struct linker_utils_item *items, size_t items_len, size_t *makers, size_t makers_len,
+    size_t *len, size_t *faulty);
 static inline uint32_t linker_utils_rewritten_items(
     uint16_t machine, const uint8_t *section, size_t section_len, uint64_t base,
     const struct linker_utils_rela *relocations, size_t relocations_len,
     const struct linker_utils_deletion *deleted, size_t deleted_len,
-    struct linker_utils_item *items, size_t items_len, size_t *makers, size_t makers_len, size_t *len,
-    size_t *faulty) {
+    struct linker_utils_item *items, size_t items_len, size_t *makers, size_t makers_len,
+    size_t *len, size_t *faulty) {
     size_t ignored;
     return linker_utils_rewritten_items_nonnull(
         machine, LINKER_UTILS_SLICE(const uint8_t, section), section_len, base,
@@ -922,10 +954,10 @@ static inline uint32_t linker_utils_rewritten_items(
         LINKER_UTILS_SLICE(size_t, makers), makers_len, len, faulty ? faulty : &ignored);
 }
 
-uint32_t linker_utils_items_relaxable_nonnull(const struct linker_utils_item *items,
-                                              size_t items_len, uint64_t start, size_t *faulty);
-static inline uint32_t linker_utils_items_relaxable(const struct linker_utils_item *items,
-    size_t items_len, uint64_t start, size_t *faulty) {
+uint32_t linker_utils_items_relaxable_nonnull(
+    const struct linker_utils_item *items, size_t items_len, uint64_t start, size_t *faulty);
+static inline uint32_t linker_utils_items_relaxable(
+    const struct linker_utils_item *items, size_t items_len, uint64_t start, size_t *faulty) {
     size_t ignored;
     return linker_utils_items_relaxable_nonnull(
         LINKER_UTILS_SLICE(const struct linker_utils_item, items), items_len, start,
@@ -960,22 +992,20 @@ static inline uint32_t linker_utils_run_deltas(
         LINKER_UTILS_SLICE(struct linker_utils_delta, deltas), deltas_len, len);
 }
 
-size_t linker_utils_packed_run_len_nonnull(uint64_t base, size_t section_len,
-                                           const struct linker_utils_delta *deltas,
-                                           size_t deltas_len);
-static inline size_t linker_utils_packed_run_len(uint64_t base, size_t section_len,
-                                                 const struct linker_utils_delta *deltas,
-                                                 size_t deltas_len) {
+size_t linker_utils_packed_run_len_nonnull(
+    uint64_t base, size_t section_len, const struct linker_utils_delta *deltas, size_t deltas_len);
+static inline size_t linker_utils_packed_run_len(
+    uint64_t base, size_t section_len, const struct linker_utils_delta *deltas, size_t deltas_len) {
     return linker_utils_packed_run_len_nonnull(
         base, section_len, LINKER_UTILS_SLICE(const struct linker_utils_delta, deltas), deltas_len);
 }
 
-uint32_t linker_utils_has_its_instructions_nonnull(uint16_t machine, const uint8_t *section,
-                                                   size_t section_len, uint64_t base,
-                                                   const struct linker_utils_item *item);
-static inline uint32_t linker_utils_has_its_instructions(uint16_t machine, const uint8_t *section,
-                                                         size_t section_len, uint64_t base,
-                                                         const struct linker_utils_item *item) {
+uint32_t linker_utils_has_its_instructions_nonnull(
+    uint16_t machine, const uint8_t *section, size_t section_len, uint64_t base,
+    const struct linker_utils_item *item);
+static inline uint32_t linker_utils_has_its_instructions(
+    uint16_t machine, const uint8_t *section, size_t section_len, uint64_t base,
+    const struct linker_utils_item *item) {
     return linker_utils_has_its_instructions_nonnull(
         machine, LINKER_UTILS_SLICE(const uint8_t, section), section_len, base, item);
 }
@@ -1000,65 +1030,33 @@ static inline uint32_t linker_utils_pack_run(
         faulty ? faulty : &ignored);
 }
 
-uint32_t linker_utils_operand_nonnull(uint16_t machine, uint32_t form, const uint8_t *bytes,
-                                      size_t bytes_len, int64_t *number);
-static inline uint32_t linker_utils_operand(uint16_t machine, uint32_t form, const uint8_t *bytes,
-                                            size_t bytes_len, int64_t *number) {
-    return linker_utils_operand_nonnull(machine, form, LINKER_UTILS_SLICE(const uint8_t, bytes),
-                                        bytes_len, number);
-}
-
-static inline uint32_t linker_utils_forms_of(uint16_t machine, const uint8_t *bytes,
-                                             size_t bytes_len) {
-    uint32_t forms = 0;
-    for (uint32_t form = 0;; form++) {
-        int64_t number;
-        uint32_t status = linker_utils_operand(machine, form, bytes, bytes_len, &number);
-        if (status == LINKER_UTILS_OK)
-            forms |= UINT32_C(1) << form;
-        else if (status != LINKER_UTILS_DOES_NOT_MATCH)
-            return forms;
-    }
-}
-
-uint32_t linker_utils_read_value_nonnull(uint16_t machine, uint32_t r_type, const uint8_t *bytes,
-                                         size_t bytes_len,
-                                         struct linker_utils_field_value *value);
-static inline uint32_t linker_utils_read_value(uint16_t machine, uint32_t r_type,
-                                               const uint8_t *bytes, size_t bytes_len,
-                                               struct linker_utils_field_value *value) {
-    return linker_utils_read_value_nonnull(
-        machine, r_type, LINKER_UTILS_SLICE(const uint8_t, bytes), bytes_len, value);
-}
-
-uint32_t linker_utils_field_bits_nonnull(uint16_t machine, uint32_t r_type, const uint8_t *bytes,
-                                         size_t bytes_len, uint64_t *bits);
-static inline uint32_t linker_utils_field_bits(uint16_t machine, uint32_t r_type,
-                                               const uint8_t *bytes, size_t bytes_len,
-                                               uint64_t *bits) {
+uint32_t linker_utils_field_bits_nonnull(
+    uint16_t machine, uint32_t r_type, const uint8_t *bytes, size_t bytes_len, uint64_t *bits);
+static inline uint32_t linker_utils_field_bits(
+    uint16_t machine, uint32_t r_type, const uint8_t *bytes, size_t bytes_len, uint64_t *bits) {
     return linker_utils_field_bits_nonnull(
         machine, r_type, LINKER_UTILS_SLICE(const uint8_t, bytes), bytes_len, bits);
 }
 
-bool linker_utils_same_but_for_nonnull(uint16_t machine, uint32_t r_type, const uint8_t *a,
-                                       size_t a_len, const uint8_t *b, size_t b_len);
-static inline bool linker_utils_same_but_for(uint16_t machine, uint32_t r_type, const uint8_t *a,
-                                             size_t a_len, const uint8_t *b, size_t b_len) {
-    return linker_utils_same_but_for_nonnull(machine, r_type, LINKER_UTILS_SLICE(const uint8_t, a),
-                                             a_len, LINKER_UTILS_SLICE(const uint8_t, b), b_len);
+bool linker_utils_same_but_for_nonnull(
+    uint16_t machine, uint32_t r_type, const uint8_t *a, size_t a_len, const uint8_t *b,
+    size_t b_len);
+static inline bool linker_utils_same_but_for(
+    uint16_t machine, uint32_t r_type, const uint8_t *a, size_t a_len, const uint8_t *b,
+    size_t b_len) {
+    return linker_utils_same_but_for_nonnull(
+        machine, r_type, LINKER_UTILS_SLICE(const uint8_t, a), a_len,
+        LINKER_UTILS_SLICE(const uint8_t, b), b_len);
 }
 
-uint32_t linker_utils_recognise_window_nonnull(uint16_t machine, uint32_t r_type,
-                                               const uint8_t *original, size_t original_len,
-                                               uint64_t offset,
-                                               struct linker_utils_window_bounds *window);
-static inline uint32_t linker_utils_recognise_window(uint16_t machine, uint32_t r_type,
-                                                     const uint8_t *original, size_t original_len,
-                                                     uint64_t offset,
-                                                     struct linker_utils_window_bounds *window) {
-    return linker_utils_recognise_window_nonnull(machine, r_type,
-                                                 LINKER_UTILS_SLICE(const uint8_t, original),
-                                                 original_len, offset, window);
+uint32_t linker_utils_recognise_window_nonnull(
+    uint16_t machine, uint32_t r_type, const uint8_t *original, size_t original_len,
+    uint64_t offset, struct linker_utils_window_bounds *window);
+static inline uint32_t linker_utils_recognise_window(
+    uint16_t machine, uint32_t r_type, const uint8_t *original, size_t original_len,
+    uint64_t offset, struct linker_utils_window_bounds *window) {
+    return linker_utils_recognise_window_nonnull(
+        machine, r_type, LINKER_UTILS_SLICE(const uint8_t, original), original_len, offset, window);
 }
 
 uint32_t linker_utils_recognise_nonnull(
@@ -1091,30 +1089,23 @@ static inline uint32_t linker_utils_recognise_chosen(
     return linker_utils_recognise_chosen_nonnull(
         machine, r_type, LINKER_UTILS_SLICE(const uint8_t, original), original_len, offset,
         LINKER_UTILS_SLICE(const struct linker_utils_window_bits, others), others_len,
-        LINKER_UTILS_SLICE(const uint8_t, linked), linked_len,
-        facts, found);
+        LINKER_UTILS_SLICE(const uint8_t, linked), linked_len, facts, found);
 }
 
-uint32_t linker_utils_destination_nonnull(uint16_t machine,
-                                          const struct linker_utils_recognised *made,
-                                          const uint8_t *original, size_t original_len,
-                                          uint64_t offset,
-                                          const struct linker_utils_operands *operands,
-                                          uint8_t st_other,
-                                          struct linker_utils_destination *destination);
-static inline uint32_t linker_utils_destination(uint16_t machine,
-                                                const struct linker_utils_recognised *made,
-                                                const uint8_t *original, size_t original_len,
-                                                uint64_t offset,
-                                                const struct linker_utils_operands *operands,
-                                                uint8_t st_other,
-                                                struct linker_utils_destination *destination) {
-    return linker_utils_destination_nonnull(machine, made,
-                                            LINKER_UTILS_SLICE(const uint8_t, original),
-                                            original_len, offset, operands, st_other,
-                                            destination);
+uint32_t linker_utils_get_destination_nonnull(
+    uint16_t machine, const struct linker_utils_recognised *made, const uint8_t *original,
+    size_t original_len, uint64_t offset, const struct linker_utils_operands *operands,
+    uint8_t st_other, struct linker_utils_destination *destination);
+static inline uint32_t linker_utils_get_destination(
+    uint16_t machine, const struct linker_utils_recognised *made, const uint8_t *original,
+    size_t original_len, uint64_t offset, const struct linker_utils_operands *operands,
+    uint8_t st_other, struct linker_utils_destination *destination) {
+    return linker_utils_get_destination_nonnull(
+        machine, made, LINKER_UTILS_SLICE(const uint8_t, original), original_len, offset, operands,
+        st_other, destination);
 }
 
 #undef LINKER_UTILS_SLICE
+#undef LINKER_UTILS_RELAS
 
 #endif

@@ -8,6 +8,9 @@
 #if defined(__BYTE_ORDER__) && __BYTE_ORDER__ != __ORDER_LITTLE_ENDIAN__
 #error "linker_utils.h is for little-endian hosts: relocations are those of the file, as they stand"
 #endif
+#if SIZE_MAX < UINT64_MAX
+#error "linker_utils.h is for hosts of 64 bits: the library is proved for lengths of 64 bits"
+#endif
 
 /* What a call returns: names, numbers and `linker_utils_status_text`. 11 and 16 are unused. */
 #define LINKER_UTILS_STATUSES(STATUS) \
@@ -166,6 +169,19 @@ enum linker_utils_status {
     LINKER_UTILS_STATUSES(LINKER_UTILS_STATUS)
 #undef LINKER_UTILS_STATUS
 };
+
+/* Begins the declaration of each call that returns a status: compilers warn where the status isn't
+ * used. A program that doesn't want this defines it as nothing before it includes the header. */
+#ifndef LINKER_UTILS_MUST_USE
+#if (defined(__cplusplus) && __cplusplus >= 201703L) || \
+    (defined(__STDC_VERSION__) && __STDC_VERSION__ >= 202000L)
+#define LINKER_UTILS_MUST_USE [[nodiscard]]
+#elif defined(__GNUC__)
+#define LINKER_UTILS_MUST_USE __attribute__((warn_unused_result))
+#else
+#define LINKER_UTILS_MUST_USE
+#endif
+#endif
 
 /* The architectures, by `e_machine` in the ELF header of their files. */
 enum linker_utils_architecture {

@@ -33,8 +33,8 @@ static int link_section(uint16_t machine, uint8_t *code, size_t len, Elf64_Rela 
     /* 3 to 6: which entries of the GOT are still needed, and what they hold */
     struct linker_utils_origins origins;
     struct linker_utils_got base;
-    if (linker_utils_origins(machine, places[2], 8, 1, &origins) ||
-        linker_utils_got(machine, places[1], 0, &base))
+    if (linker_utils_get_origins(machine, places[2], 8, 1, &origins) ||
+        linker_utils_get_got(machine, places[1], 0, &base))
         return -1;
     for (size_t i = 0; i < count; i++) {
         struct linker_utils_symbol *symbol = &symbols[ELF64_R_SYM(rela[i].r_info)];

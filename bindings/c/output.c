@@ -18,7 +18,7 @@ int main(void) {
     /* the words of the GOT's entry for a thread-local variable */
     struct linker_utils_origins origins;
     struct linker_utils_entry_words words;
-    if (linker_utils_origins(EM_RISCV, 0x410000, 0x20, 16, &origins)) return 1;
+    if (linker_utils_get_origins(EM_RISCV, 0x410000, 0x20, 16, &origins)) return 1;
     if (linker_utils_static_words(LINKER_UTILS_ENTRY_MODULE_OFFSET, 0x410010, &origins, &words))
         return 1;
     printf("module %u, offset %d\n", (unsigned)words.first, (int)words.second);
@@ -28,9 +28,9 @@ int main(void) {
     struct linker_utils_stub stub;
     uint8_t name[LINKER_UTILS_NAME_SIZE], code[16];
     size_t used = 0;
-    if (linker_utils_dynamic_types(EM_RISCV, &types)) return 1;
+    if (linker_utils_get_dynamic_types(EM_RISCV, &types)) return 1;
     if (linker_utils_dynamic_name(EM_RISCV, types.irelative, name, sizeof name, &used)) return 1;
-    if (linker_utils_stub(EM_RISCV, LINKER_UTILS_STUB_LOAD, &stub) || stub.len > sizeof code)
+    if (linker_utils_get_stub(EM_RISCV, LINKER_UTILS_STUB_LOAD, &stub) || stub.len > sizeof code)
         return 1;
     if (linker_utils_write_stub(EM_RISCV, LINKER_UTILS_STUB_LOAD, 0x401000, 0x413008, code,
                                 sizeof code))

@@ -19,8 +19,10 @@ static void show(uint16_t machine, uint32_t r_type, const uint8_t *original, siz
     if (count == 0) printf("no rewrite leaves these bytes\n");
     for (size_t i = 0; i < count; i++) {
         uint8_t name[LINKER_UTILS_NAME_SIZE];
-        size_t used = 0;
-        linker_utils_relocation_name(machine, found[i].choice.relocation, name, sizeof name, &used);
+        size_t used;
+        status = linker_utils_relocation_name(machine, found[i].choice.relocation, name,
+                                              sizeof name, &used);
+        if (status != LINKER_UTILS_OK) used = 0;
         printf("rewrite %d, then %.*s at %d", (int)found[i].choice.rewrite, (int)used,
                (const char *)name, (int)found[i].offset);
         const struct linker_utils_field_value *value = &found[i].value;

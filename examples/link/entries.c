@@ -24,7 +24,7 @@ static uint64_t add_stub(struct output *o, uint32_t kind, const char *name,
                          const struct output *target, uint64_t target_offset) {
     struct linker_utils_stub stub;
     struct stub *s = take(1, sizeof *s);
-    if (linker_utils_stub(machine, kind, &stub)) fail("there is no stub to '%s'", name);
+    if (linker_utils_get_stub(machine, kind, &stub)) fail("there is no stub to '%s'", name);
     *s = (struct stub){.part = {.name = name, .output = o, .len = stub.len}, .before = added,
                        .target = target, .target_offset = target_offset, .kind = kind};
     add_part_of(o, &s->part, 8);
@@ -91,7 +91,7 @@ static int64_t entered_at(const struct section *s, const Elf64_Rela *r) {
     if (status == LINKER_UTILS_NO_ROOM && (is_own || !strcmp(to->name, "__libc_start_main")))
         return 0;
     check(s, r, status);
-    check(s, r, linker_utils_stub(machine, route.kind, &stub));
+    check(s, r, linker_utils_get_stub(machine, route.kind, &stub));
     return (int64_t)(route.entry - stub.entry);
 }
 
@@ -144,7 +144,7 @@ void make_entries(void) {
             if ((!s->needs_stub && !s->entries) || (bind_of(s) == STB_LOCAL) != is_local) continue;
             if (s->needs_stub) make_stub(s);
             for (struct entry *e = s->entries; e; e = e->next) {
-                e->offset = make_room(got, 8, 8 * linker_utils_entry_words(e->class));
+                e->offset = make_room(got, 8, 8 * linker_utils_get_entry_words(e->class));
                 fill_entry(s, e);
             }
         }
@@ -164,7 +164,7 @@ void write_entries(void) {
             if (is_absent && e->class == LINKER_UTILS_ENTRY_THREAD_OFFSET)
                 at = tls.origins.thread_pointer;
             if (!linker_utils_static_words(e->class, at + (uint64_t)e->addend, &tls.origins, &held))
-                memcpy(got->bytes + e->offset, &held, 8 * linker_utils_entry_words(e->class));
+                memcpy(got->bytes + e->offset, &held, 8 * linker_utils_get_entry_words(e->class));
         }
 }
 
@@ -212,7 +212,7 @@ static bool add_thunk(struct section *s, Elf64_Rela *r, const struct linker_util
 bool add_thunks(void) {
     bool has_added = false;
     struct linker_utils_stub stub;
-    if (linker_utils_stub(machine, LINKER_UTILS_STUB_JUMP, &stub)) return false;
+    if (linker_utils_get_stub(machine, LINKER_UTILS_STUB_JUMP, &stub)) return false;
     EACH_SECTION(s)
         if (s->output && s->output->flags & SHF_EXECINSTR)
             EACH_RELOCATION(s, r) has_added |= add_thunk(s, r, &stub);

@@ -97,7 +97,7 @@ static struct output *part_for(struct output *o, uint64_t len) {
     struct linker_utils_stub stub;
     while (o->behind) o = o->behind;
     if (!o->room || o->room + len <= MOST_PART ||
-        linker_utils_stub(machine, LINKER_UTILS_STUB_JUMP, &stub))
+        linker_utils_get_stub(machine, LINKER_UTILS_STUB_JUMP, &stub))
         return o;
     if (outputs_len == MOST_OUTPUTS) fail("too many sections");
     outputs[outputs_len++] = o->behind = take(1, sizeof *o);
@@ -285,11 +285,11 @@ void set_addresses(void) {
         const struct output *from = o->flags & SHF_TLS ? first_tls : o;
         o->address = address_in(from->run, from->base) + (o->base - from->base);
     }
-    linker_utils_got(machine, got->address, dynamic ? dynamic->address : 0, &known_got);
+    expect_ok(linker_utils_get_got(machine, got->address, dynamic ? dynamic->address : 0, &known_got));
     span = last->address + last->len - outputs[0]->address;
     tls.image = first_tls ? first_tls->address : 0;
     /* (where code is still to become shorter the image isn't aligned so far) */
-    linker_utils_origins(machine, 0, tls.len, tls.align, &tls.origins);
+    expect_ok(linker_utils_get_origins(machine, 0, tls.len, tls.align, &tls.origins));
     tls.origins.thread_pointer += tls.image;
     tls.origins.module_block += tls.image;
     bool is_at_pointer = tls.has_base && linked.is_executable;

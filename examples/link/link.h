@@ -252,6 +252,7 @@ static inline void drop(Elf64_Rela *r) { r->r_info = ELF64_R_INFO(ELF64_R_SYM(r-
 
 /* main.c */
 void progress(const char *step, const struct object *o), end_line(const char *end);
+void expect_ok(uint32_t status);
 void *zeros(uint64_t count, size_t size), *take(uint64_t count, size_t size);
 void *grow(void *array, size_t need, size_t *room, size_t size);
 uint64_t round_up(uint64_t at, uint64_t align);

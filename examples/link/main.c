@@ -29,6 +29,11 @@ static bool has_progress = false;
 /* Ends a line of an error, or clears the one that names an object. */
 void end_line(const char *end) { fprintf(stderr, "%s%s", has_progress ? "\033[K" : "", end); }
 
+/* Ends with an error where a call fails that can't by what it is passed. */
+void expect_ok(uint32_t status) {
+    if (status) fail("%s", linker_utils_status_text(status));
+}
+
 /* Names the object that a step has come to. */
 void progress(const char *step, const struct object *o) {
     static time_t start = 0;
@@ -147,8 +152,8 @@ int main(int argc, char **argv) {
     if (!is_placed) make_room(headers, 8, HEADERS);
     shrinks = !linker_utils_section_items(machine, NULL, 0, 0, NULL, 0, NULL, 0, NULL, 0, &none,
                                           NULL);
-    linker_utils_dynamic_types(machine, &types);
-    linker_utils_got(machine, 0, 0, &known_got);
+    expect_ok(linker_utils_get_dynamic_types(machine, &types));
+    expect_ok(linker_utils_get_got(machine, 0, 0, &known_got));
     EACH_SECTION(s) add_section(s);
     define_symbols();
     if (is_dynamic) bind_symbols();

@@ -125,10 +125,10 @@ static void relax_run(struct run *run) {
     if (status) fail("the code can't be relaxed: %s", linker_utils_status_text(status));
     free(places), free(freed), free(shapes);
     run->deltas = zeros(len, sizeof *run->deltas);
-    linker_utils_run_deltas(items, len, stay, len, run->deltas, len, &run->deltas_len);
+    expect_ok(linker_utils_run_deltas(items, len, stay, len, run->deltas, len, &run->deltas_len));
     run->heads_len = linker_utils_deltas_block_count(run->deltas, run->deltas_len);
     run->heads = zeros(run->heads_len, sizeof *run->heads);
-    linker_utils_deltas_heads(run->deltas, run->deltas_len, run->heads, run->heads_len);
+    expect_ok(linker_utils_deltas_heads(run->deltas, run->deltas_len, run->heads, run->heads_len));
     EACH_OUTPUT(o) if (o->run == run && o->shrinks) pack_output(o);
     free(items), free(makers), free(stay);
 }

@@ -12,7 +12,7 @@ void print_place(const struct section *s, const Elf64_Rela *r) {
     size_t len = 0;
     uint64_t offset, at = s->table->sh_offset + (uint64_t)(r - s->relocations) * sizeof *r;
     memcpy(&offset, s->object->bytes + at, sizeof offset);
-    linker_utils_relocation_name(machine, type_of(r), name, sizeof name, &len);
+    if (linker_utils_relocation_name(machine, type_of(r), name, sizeof name, &len)) len = 0;
     fprintf(stderr, "%s: %s+0x%" PRIx64 ": %.*s", s->object->path, s->name, offset, (int)len,
             (const char *)name);
 }
@@ -62,7 +62,7 @@ struct linker_utils_requirements needs_of(const struct section *s, const Elf64_R
     bool is_tls = is_thread_local(symbol_at(s, r));
     struct linker_utils_requirements needs = kind_of(s, r)->needs[is_tls];
     if (needs.entry_class && r->r_addend)
-        linker_utils_needs(machine, type_of(r), r->r_addend, is_tls, &needs);
+        expect_ok(linker_utils_needs(machine, type_of(r), r->r_addend, is_tls, &needs));
     return needs;
 }
 

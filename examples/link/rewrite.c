@@ -49,8 +49,8 @@ static bool note_symbols(struct object *o) {
             .is_tls_get_addr = s == tls_get_addr};
     }
     o->facts = grow(o->facts, len, &o->facts_room, sizeof *o->facts);
-    linker_utils_keep_facts(&linked, facts + o->facts_len, len - o->facts_len,
-                            o->facts + o->facts_len, len - o->facts_len);
+    expect_ok(linker_utils_keep_facts(&linked, facts + o->facts_len, len - o->facts_len,
+                                      o->facts + o->facts_len, len - o->facts_len));
     o->facts_len = len;
     return hides;
 }
@@ -147,8 +147,10 @@ void rewrite_object(struct object *o, uint32_t first, uint32_t last) {
 bool is_of_addresses(const char *name) {
     static char known[LINKER_UTILS_NAME_SIZE + 1];
     size_t used;
-    if (!*known) linker_utils_address_section(machine, (uint8_t *)known, sizeof known - 1, &used);
-    return *known && !strcmp(name, known);
+    if (!*known &&
+        linker_utils_address_section(machine, (uint8_t *)known, sizeof known - 1, &used))
+        return false; /* there is none */
+    return !strcmp(name, known);
 }
 
 static int by_offset(const void *left, const void *right) {

@@ -171,7 +171,7 @@ static void define_runs(void) {
     char name[LINKER_UTILS_NAME_SIZE + 16];
     struct linker_utils_provided_run run;
     size_t len = 0, most = sizeof prefix;
-    for (size_t i = 0; !linker_utils_provided_run(machine, i, prefix, most, &len, &run); i++) {
+    for (size_t i = 0; !linker_utils_get_provided_run(machine, i, prefix, most, &len, &run); i++) {
         bool is_made = false;
         for (uint32_t at = 0, word; at < run.len; at++) {
             uint32_t function = at / run.spacing;
@@ -201,7 +201,7 @@ static void define_provided(void) {
     char name[LINKER_UTILS_NAME_SIZE + 1];
     uint8_t *text = (uint8_t *)name;
     size_t most = sizeof name - 1, len = 0;
-    for (size_t i = 0; !linker_utils_provided_symbol(machine, i, text, most, &len, &symbol); i++) {
+    for (size_t i = 0; !linker_utils_get_provided_symbol(machine, i, text, most, &len, &symbol); i++) {
         name[len] = 0;
         bool is_in_data = symbol.place == LINKER_UTILS_PLACE_SMALL_DATA;
         if (symbol.place == LINKER_UTILS_PLACE_THREAD_LOCAL) define_base(name, true);

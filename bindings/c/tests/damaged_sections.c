@@ -219,7 +219,7 @@ static uint64_t field_len(const struct given *it, size_t i) {
         info.kind == LINKER_UTILS_KIND_TLS_DESC_CALL)
         return 0;
     len = info.byte_size;
-    if (info.is_bits) linker_utils_window(info.machine, info.form, &len);
+    if (info.is_bits && linker_utils_window(info.machine, info.form, &len)) abort();
     return len;
 }
 

@@ -64,8 +64,8 @@ int main(void) {
     EXPECT(TOO_SHORT, dynamic_name(LINKER_UTILS_X86_64, 8, NULL, 0, &count));
     EXPECT(TOO_SHORT, interpreter(LINKER_UTILS_X86_64, 0, NULL, 0, &count));
     EXPECT(TOO_SHORT, address_section(LINKER_UTILS_PPC64, NULL, 0, &count));
-    EXPECT(TOO_SHORT, provided_symbol(LINKER_UTILS_PPC64, 0, NULL, 0, &count, &symbol));
-    EXPECT(TOO_SHORT, provided_run(LINKER_UTILS_PPC64, 0, NULL, 0, &count, &run));
+    EXPECT(TOO_SHORT, get_provided_symbol(LINKER_UTILS_PPC64, 0, NULL, 0, &count, &symbol));
+    EXPECT(TOO_SHORT, get_provided_run(LINKER_UTILS_PPC64, 0, NULL, 0, &count, &run));
     EXPECT(TOO_SHORT, write_stub(LINKER_UTILS_X86_64, LINKER_UTILS_STUB_LOAD, 0, 0, NULL, 0));
     struct linker_utils_lazy_entry lazy = {0, 0, 0, 0};
     EXPECT(TOO_SHORT, write_lazy_header(LINKER_UTILS_X86_64, 0, 0, NULL, 0));

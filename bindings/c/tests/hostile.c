@@ -28,6 +28,7 @@
 #include <sys/mman.h>
 #include <unistd.h>
 
+#define LINKER_UTILS_MUST_USE /* calls that prepare others may fail */
 #include "linker_utils.h"
 
 #define PAGE ((size_t)4096)
@@ -1343,7 +1344,7 @@ static uint32_t any_class(void) {
 
 static void call_dynamic_types(void) {
     struct linker_utils_dynamic_types *types = output(sizeof *types);
-    uint32_t status = CALL(dynamic_types, any_machine(), types);
+    uint32_t status = CALL(get_dynamic_types, any_machine(), types);
     expect(status || (types->word && types->relative && types->irelative), "no types");
     finish_with(status, 0 UNKNOWN);
 }
@@ -1366,7 +1367,7 @@ static void call_dynamic_words(void) {
 
 static void call_entry_words(void) {
     uint32_t class = any_class();
-    uint64_t words = CALL(entry_words, class);
+    uint64_t words = CALL(get_entry_words, class);
     expect(words <= 2 && (words > 0) == (class > 0 && class <= LINKER_UTILS_ENTRY_DESCRIPTOR),
            "other words");
     finish(true);
@@ -1374,7 +1375,7 @@ static void call_entry_words(void) {
 
 static void call_origins(void) {
     struct linker_utils_origins *origins = output(sizeof *origins);
-    uint32_t status = CALL(origins, any_machine(), any_number(), any_number(), any_number(), origins);
+    uint32_t status = CALL(get_origins, any_machine(), any_number(), any_number(), any_number(), origins);
     finish_with(status, 0 UNKNOWN);
 }
 
@@ -1389,7 +1390,7 @@ static void call_static_words(void) {
 
 static void call_got(void) {
     struct linker_utils_got *got = output(sizeof *got);
-    uint32_t status = CALL(got, any_machine(), any_number(), any_number(), got);
+    uint32_t status = CALL(get_got, any_machine(), any_number(), any_number(), got);
     expect(status || (got->has_header <= 1 && (got->has_header || !got->header)), "no flag");
     finish_with(status, 0 UNKNOWN);
 }
@@ -1445,7 +1446,7 @@ static void call_provided_symbol(void) {
     size_t *name_used = output(sizeof(size_t));
     struct linker_utils_provided_symbol *symbol = output(sizeof *symbol);
     size_t index = once_in(4) ? (size_t)any_number() : below(3);
-    uint32_t status = CALL(provided_symbol, any_machine(), index, name->given, name->len, name_used,
+    uint32_t status = CALL(get_provided_symbol, any_machine(), index, name->given, name->len, name_used,
                            symbol);
     if (status == LINKER_UTILS_OK) changes(name, 0, *name_used);
     expect(status || symbol->place <= LINKER_UTILS_PLACE_SMALL_DATA, "no place");
@@ -1458,7 +1459,7 @@ static void call_provided_run(void) {
     size_t *prefix_used = output(sizeof(size_t));
     struct linker_utils_provided_run *run = output(sizeof *run);
     size_t index = once_in(4) ? (size_t)any_number() : below(9);
-    uint32_t status = CALL(provided_run, any_machine(), index, prefix->given, prefix->len, prefix_used,
+    uint32_t status = CALL(get_provided_run, any_machine(), index, prefix->given, prefix->len, prefix_used,
                            run);
     if (status == LINKER_UTILS_OK) changes(prefix, 0, *prefix_used);
     expect(status || run->len / run->spacing >= run->count, "no run");
@@ -1477,7 +1478,7 @@ static void call_provided_word(void) {
 static void call_stub(void) {
     struct linker_utils_stub *stub = output(sizeof *stub);
     uint32_t kind = once_in(8) ? (uint32_t)any_number() : (uint32_t)below(2);
-    uint32_t status = CALL(stub, any_machine(), kind, stub);
+    uint32_t status = CALL(get_stub, any_machine(), kind, stub);
     expect(status || (stub->len <= 64 && stub->entry < stub->len), "no stub");
     finish_with(status, 0 UNKNOWN OR(UNKNOWN_STUB));
 }
@@ -1493,7 +1494,7 @@ static void call_write_stub(void) {
 
 static void call_lazy_plt(void) {
     struct linker_utils_lazy_plt *plt = output(sizeof *plt);
-    uint32_t status = CALL(lazy_plt, any_machine(), plt);
+    uint32_t status = CALL(get_lazy_plt, any_machine(), plt);
     expect(status || (plt->header_len <= 60 && plt->entry_len <= 16 && plt->alignment <= 16 &&
                       plt->header_words <= 3), "no lazy PLT");
     finish_with(status, 0 UNKNOWN);
@@ -2482,7 +2483,7 @@ static void call_destination(void) {
         .addend = (int64_t)any_number(), .place = any_number(), .got_base = any_number(),
         .tls_base = any_number(), .has_tls_base = once_in(2)};
     struct linker_utils_destination *found = output(sizeof *found);
-    uint32_t status = CALL(destination, machine, made->given, original->given, original->len, offset,
+    uint32_t status = CALL(get_destination, machine, made->given, original->given, original->len, offset,
                            given->given, (uint8_t)any(), found);
     if (status == LINKER_UTILS_OK) {
         expect_field_value(&found->address);

@@ -1,8 +1,10 @@
 /* SPDX-License-Identifier: MIT OR Apache-2.0 */
 /* Calls of four threads at once, as the header allows them: they share what calls only read, and
- * write memory of their own and disjoint parts of one section. Each has to get what one thread
- * alone gets. `run` runs it under a race detector, valgrind's helgrind. With RACE defined all
- * threads write to the same memory, which the detector has to find. */
+ * write memory of their own and disjoint parts of one section. Then each relaxes an output section,
+ * and, once all have, packs it into its part of the output. Each has to get what one thread alone
+ * gets. `run` runs it under two race detectors, valgrind's helgrind and gcc's thread sanitizer. With
+ * RACE defined all threads write to the same memory, which the detectors have to find. */
+#define _POSIX_C_SOURCE 200112L /* barriers */
 #include <elf.h>
 #include <pthread.h>
 #include <stdio.h>
@@ -47,6 +49,21 @@ struct results {
 };
 
 static struct results results[THREADS + 1];
+
+/* An output, of which a thread relaxes and packs a section: its part of each array. */
+struct output {
+    struct linker_utils_item items[THREADS][3 * CALLS];
+    struct linker_utils_delta lost[THREADS][3 * CALLS];
+    struct linker_utils_symbol symbols[THREADS][CALLS + 2];
+    Elf64_Rela relas[THREADS][3 * CALLS];
+    uint64_t kept[THREADS][3 * CALLS], freed[THREADS][3 * CALLS + 1], len[THREADS];
+    size_t makers[THREADS][3 * CALLS], places[THREADS][3 * CALLS];
+    size_t items_len[THREADS], lost_len[THREADS];
+    uint8_t shapes[THREADS][3 * CALLS], bytes[THREADS * LENGTH];
+};
+
+static struct output output, alone;
+static pthread_barrier_t all_relaxed;
 
 static void run(uint8_t *part, struct results *to) {
     const uint16_t riscv = LINKER_UTILS_RISCV, x86_64 = LINKER_UTILS_X86_64;
@@ -105,6 +122,58 @@ static void run(uint8_t *part, struct results *to) {
     to->failures += failures;
 }
 
+/* How many calls a section of the output has: the first so many of the code. The last one is of the
+ * next section's begin, and stays long. */
+static size_t calls_of(size_t n) { return CALLS - 9 * n; }
+
+static uint32_t relax_section(struct output *to, size_t n) {
+    uint32_t failures = 0;
+    const size_t count = 3 * calls_of(n);
+    struct linker_utils_rela own[3 * CALLS];
+    memcpy(own, relocations, sizeof own);
+    own[count - 3].has_target = 0;
+    for (size_t i = 0; i < count; i++) {
+        const uint64_t target = i == count - 3 ? 0 : own[i].target / 16;
+        own[i].has_target &= target < calls_of(n);
+        to->relas[n][i].r_offset = own[i].offset;
+        to->relas[n][i].r_info = ELF64_R_INFO(i == count - 3 ? CALLS + 1 : target + 1, own[i].r_type);
+        to->relas[n][i].r_addend = own[i].addend;
+    }
+    EXPECT(section_items(LINKER_UTILS_RISCV, code, 16 * calls_of(n), 0, own, count, to->items[n],
+                         count, to->makers[n], count, &to->items_len[n], NULL));
+    const size_t items = to->items_len[n];
+    EXPECT(relax(to->items[n], items, 0x10000, to->shapes[n], items, to->kept[n], items,
+                 to->places[n], items, to->freed[n], items + 1, NULL));
+    EXPECT(run_deltas(to->items[n], items, to->kept[n], items, to->lost[n], items,
+                      &to->lost_len[n]));
+    to->len[n] = linker_utils_packed_run_len(0, 16 * calls_of(n), to->lost[n], to->lost_len[n]);
+    return failures;
+}
+
+/* The address of what was at an offset of a section, which begins at a multiple of 16. */
+static uint64_t address_in(const struct output *in, size_t n, uint64_t offset) {
+    uint64_t start = 0x10000;
+    for (size_t i = 0; i < n; i++) start += (in->len[i] + 15) / 16 * 16;
+    return start + linker_utils_deltas_input_to_output(in->lost[n], in->lost_len[n], offset);
+}
+
+static uint32_t pack_section(struct output *to, size_t n) {
+    uint32_t failures = 0;
+    const uint64_t start = address_in(to, n, 0);
+    uint8_t *bytes = to->bytes + (start - 0x10000);
+    uint64_t memory[3 * CALLS];
+    struct linker_utils_addresses at = {0, 0, 0, 0, 0, false};
+    at.section = start;
+    for (size_t i = 0; i < CALLS; i++) to->symbols[n][i + 1].address = address_in(to, n, 16 * i);
+    to->symbols[n][CALLS + 1].address = address_in(to, (n + 1) % THREADS, 0);
+    EXPECT(pack_run(LINKER_UTILS_RISCV, code, 16 * calls_of(n), 0, to->items[n], to->items_len[n],
+                    to->lost[n], to->lost_len[n], start, to->relas[n], 3 * calls_of(n), bytes,
+                    to->len[n], NULL));
+    EXPECT(relocate_section(LINKER_UTILS_RISCV, &at, to->relas[n], 3 * calls_of(n), to->symbols[n],
+                            CALLS + 2, bytes, to->len[n], memory, 3 * CALLS, NULL));
+    return failures;
+}
+
 static void *in_thread(void *index) {
 #ifdef RACE
     size_t thread = 0 * *(size_t *)index;
@@ -112,6 +181,9 @@ static void *in_thread(void *index) {
     size_t thread = *(size_t *)index;
 #endif
     run(section + thread * PART, &results[thread]);
+    results[thread].failures += relax_section(&output, thread);
+    pthread_barrier_wait(&all_relaxed);
+    results[thread].failures += pack_section(&output, thread);
     return NULL;
 }
 
@@ -157,6 +229,9 @@ int main(void) {
 
     static uint8_t part[PART];
     run(part, &results[THREADS]);
+    for (size_t i = 0; i < THREADS; i++) results[THREADS].failures += relax_section(&alone, i);
+    for (size_t i = 0; i < THREADS; i++) results[THREADS].failures += pack_section(&alone, i);
+    if (pthread_barrier_init(&all_relaxed, NULL, THREADS)) return 1;
     pthread_t threads[THREADS];
     size_t indices[THREADS];
     for (size_t i = 0; i < THREADS; i++) {
@@ -170,6 +245,10 @@ int main(void) {
             !memcmp(section + i * PART, part, PART))
             continue;
         printf("thread %zu: %u calls failed, or another result\n", i, results[i].failures);
+        return 1;
+    }
+    if (memcmp(&output, &alone, sizeof output)) {
+        printf("sections that are relaxed side by side get other bytes\n");
         return 1;
     }
 #endif

@@ -1634,7 +1634,7 @@ pub fn relocate_rewritten_section(
 /// The types of the dynamic relocations of an architecture.
 pub fn dynamic_types(architecture: Architecture) -> DynamicTypes {
     let mut types = DynamicTypes::default();
-    let status = unsafe { raw::linker_utils_dynamic_types(architecture.machine(), &mut types) };
+    let status = unsafe { raw::linker_utils_get_dynamic_types(architecture.machine(), &mut types) };
     debug_assert_eq!(status, 0);
     types
 }
@@ -1673,13 +1673,13 @@ pub fn dynamic_words(
 
 /// How many words of 8 bytes an entry of a class has.
 pub fn entry_words(class: EntryClass) -> u64 {
-    unsafe { raw::linker_utils_entry_words(class.number()) }
+    unsafe { raw::linker_utils_get_entry_words(class.number()) }
 }
 
 /// What offsets of thread-local storage count from, by the TLS image.
 pub fn origins(architecture: Architecture, image: u64, len: u64, alignment: u64) -> Origins {
     let (machine, mut origins) = (architecture.machine(), Origins::default());
-    let status = unsafe { raw::linker_utils_origins(machine, image, len, alignment, &mut origins) };
+    let status = unsafe { raw::linker_utils_get_origins(machine, image, len, alignment, &mut origins) };
     debug_assert_eq!(status, 0);
     origins
 }
@@ -1699,7 +1699,7 @@ pub fn static_words(
 /// What a linker knows of the GOT by its address and that of `_DYNAMIC`, 0 where there is none.
 pub fn got(architecture: Architecture, address: u64, dynamic: u64) -> Got {
     let (machine, mut got) = (architecture.machine(), raw::Got::default());
-    let status = unsafe { raw::linker_utils_got(machine, address, dynamic, &mut got) };
+    let status = unsafe { raw::linker_utils_get_got(machine, address, dynamic, &mut got) };
     debug_assert_eq!(status, 0);
     Got {
         base: got.base,
@@ -1765,7 +1765,7 @@ pub fn provided_symbols(architecture: Architecture) -> Vec<ProvidedSymbol> {
         let mut symbol = raw::ProvidedSymbol::default();
         let name = text_of(|name, used| unsafe {
             let (at, len) = (name.as_mut_ptr(), name.len());
-            raw::linker_utils_provided_symbol_nonnull(machine, index, at, len, used, &mut symbol)
+            raw::linker_utils_get_provided_symbol_nonnull(machine, index, at, len, used, &mut symbol)
         });
         name.ok().map(|name| ProvidedSymbol {
             name,
@@ -1783,7 +1783,7 @@ pub fn provided_runs(architecture: Architecture) -> Vec<ProvidedRun> {
         let mut run = raw::ProvidedRun::default();
         let prefix = text_of(|prefix, used| unsafe {
             let (at, len) = (prefix.as_mut_ptr(), prefix.len());
-            raw::linker_utils_provided_run_nonnull(machine, index, at, len, used, &mut run)
+            raw::linker_utils_get_provided_run_nonnull(machine, index, at, len, used, &mut run)
         });
         let word = |at| {
             let mut word = 0;
@@ -1806,7 +1806,7 @@ pub fn provided_runs(architecture: Architecture) -> Vec<ProvidedRun> {
 pub fn stub(architecture: Architecture, kind: StubKind) -> Result<Stub, Status> {
     let mut stub = Stub::default();
     let status =
-        unsafe { raw::linker_utils_stub(architecture.machine(), kind.number(), &mut stub) };
+        unsafe { raw::linker_utils_get_stub(architecture.machine(), kind.number(), &mut stub) };
     result_of(status, stub)
 }
 
@@ -1830,7 +1830,7 @@ pub fn write_stub(
 pub fn lazy_plt(architecture: Architecture) -> LazyPlt {
     let mut plt = LazyPlt::default();
     // every architecture has one
-    unsafe { raw::linker_utils_lazy_plt(architecture.machine(), &mut plt) };
+    unsafe { raw::linker_utils_get_lazy_plt(architecture.machine(), &mut plt) };
     plt
 }
 
@@ -2804,7 +2804,7 @@ pub fn destination(
     };
     let mut found = raw::Destination::default();
     let status = unsafe {
-        raw::linker_utils_destination_nonnull(
+        raw::linker_utils_get_destination_nonnull(
             machine,
             &made,
             original.as_ptr(),

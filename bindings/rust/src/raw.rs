@@ -1,32 +1,14 @@
 // SPDX-License-Identifier: MIT OR Apache-2.0
+// Made by tools/declarations of the exports in crates/linker_utils_c/src and of the headers.
 //! The static library's own symbols, as `include/linker_utils.h` declares them: what each of them
 //! requires of pointers and counts, and does, is said there. No pointer to a slice may be null.
 
-pub use crate::{Addresses, BlockHead, Call, Deletion, Delta, FieldBits, FieldValue, Item, Operands};
-pub use crate::{KeptFacts, KeptGroups, OutputFacts, Relocation, RewriteWindow, Rela, Shape, Shapes, Symbol};
-pub use crate::{Branch, DynamicTypes, LazyEntry, LazyPlt, Origins, PlacedStub, Stub, StubShape, SymbolFacts};
+pub use crate::{
+    Addresses, BlockHead, Branch, Call, Deletion, Delta, DynamicTypes, FieldBits, FieldValue, Item,
+    KeptFacts, KeptGroups, LazyEntry, LazyPlt, Operands, Origins, OutputFacts, PlacedStub, Rela,
+    Relocation, RewriteWindow, Shape, Shapes, Stub, StubShape, Symbol, SymbolFacts,
+};
 use std::ffi::c_char;
-
-/// `struct linker_utils_relocation_info`.
-#[repr(C)]
-#[derive(Debug, Clone, Copy, Default, PartialEq, Eq)]
-pub struct RelocationInfo {
-    pub kind: u32,
-    pub form: u32,
-    pub mask: u32,
-    pub machine: u16,
-    pub is_bits: u8,
-    pub byte_size: u8,
-    pub first_bit: u8,
-    pub end_bit: u8,
-    pub has_range: u8,
-    pub thunkable: u8,
-    pub implicit_addend: u8,
-    pub min: i64,
-    pub max: i64,
-    pub alignment: u64,
-    pub bias: u64,
-}
 
 /// `struct linker_utils_relocation_reach`.
 #[repr(C)]
@@ -59,6 +41,22 @@ pub struct LinkFacts {
     pub operands: Operands,
 }
 
+/// `struct linker_utils_choice`.
+#[repr(C)]
+#[derive(Debug, Clone, Copy, Default, PartialEq, Eq)]
+pub struct Choice {
+    pub rewrite: u32,
+    pub relocation: u32,
+    pub modifier: u32,
+    pub deleted_len: u32,
+    pub deleted_start: u64,
+    pub other_offset: i64,
+    pub other_relocation: u32,
+    pub has_other: u8,
+    pub opcode_len: u8,
+    pub skipped_offset: u8,
+}
+
 /// `struct linker_utils_requirements`.
 #[repr(C)]
 #[derive(Debug, Clone, Copy, Default, PartialEq, Eq)]
@@ -72,9 +70,43 @@ pub struct Requirements {
     pub depends_on_load: u8,
 }
 
+/// `struct linker_utils_decision`.
+#[repr(C)]
+#[derive(Debug, Clone, Copy, Default, PartialEq, Eq)]
+pub struct Decision {
+    pub addend: i64,
+    pub symbol: u32,
+    pub rewrite: u32,
+    pub relocation: u32,
+    pub machine: u16,
+    pub fate: u8,
+    pub opcode_len: u8,
+}
+
+/// `struct linker_utils_relocation_info`.
+#[repr(C)]
+#[derive(Debug, Clone, Copy, Default, PartialEq, Eq)]
+pub struct RelocationInfo {
+    pub kind: u32,
+    pub form: u32,
+    pub mask: u32,
+    pub machine: u16,
+    pub is_bits: u8,
+    pub byte_size: u8,
+    pub first_bit: u8,
+    pub end_bit: u8,
+    pub has_range: u8,
+    pub thunkable: u8,
+    pub implicit_addend: u8,
+    pub min: i64,
+    pub max: i64,
+    pub alignment: u64,
+    pub bias: u64,
+}
+
 /// `struct linker_utils_row`.
 #[repr(C)]
-#[derive(Debug, Clone, Copy)]
+#[derive(Debug, Clone, Copy, PartialEq, Eq)]
 pub struct Row {
     pub alignment: u64,
     pub reach: Reach,
@@ -91,31 +123,18 @@ pub struct Row {
 impl Default for Row {
     fn default() -> Row {
         Row {
-            alignment: 0,
-            reach: Reach::default(),
-            needs: Requirements::default(),
-            r_type: 0,
-            kind: 0,
-            machine: 0,
-            window: 0,
-            may_use_plt: 0,
-            is_relative: 0,
+            alignment: Default::default(),
+            reach: Default::default(),
+            needs: Default::default(),
+            r_type: Default::default(),
+            kind: Default::default(),
+            machine: Default::default(),
+            window: Default::default(),
+            may_use_plt: Default::default(),
+            is_relative: Default::default(),
             name: [0; 40],
         }
     }
-}
-
-/// `struct linker_utils_decision`.
-#[repr(C)]
-#[derive(Debug, Clone, Copy, Default, PartialEq, Eq)]
-pub struct Decision {
-    pub addend: i64,
-    pub symbol: u32,
-    pub rewrite: u32,
-    pub relocation: u32,
-    pub machine: u16,
-    pub fate: u8,
-    pub opcode_len: u8,
 }
 
 /// `struct linker_utils_word_types`.
@@ -143,16 +162,6 @@ pub struct Got {
     pub has_header: u8,
 }
 
-/// `struct linker_utils_route`.
-#[repr(C)]
-#[derive(Debug, Clone, Copy, Default, PartialEq, Eq)]
-pub struct Route {
-    pub target: u64,
-    pub entry: u64,
-    pub kind: u32,
-    pub is_by_stub: u8,
-}
-
 /// `struct linker_utils_provided_symbol`.
 #[repr(C)]
 #[derive(Debug, Clone, Copy, Default, PartialEq, Eq)]
@@ -171,20 +180,14 @@ pub struct ProvidedRun {
     pub spacing: u32,
 }
 
-/// `struct linker_utils_choice`.
+/// `struct linker_utils_route`.
 #[repr(C)]
 #[derive(Debug, Clone, Copy, Default, PartialEq, Eq)]
-pub struct Choice {
-    pub rewrite: u32,
-    pub relocation: u32,
-    pub modifier: u32,
-    pub deleted_len: u32,
-    pub deleted_start: u64,
-    pub other_offset: i64,
-    pub other_relocation: u32,
-    pub has_other: u8,
-    pub opcode_len: u8,
-    pub skipped_offset: u8,
+pub struct Route {
+    pub target: u64,
+    pub entry: u64,
+    pub kind: u32,
+    pub is_by_stub: u8,
 }
 
 /// `struct linker_utils_recognised`.
@@ -210,63 +213,12 @@ pub struct Destination {
 extern "C" {
     pub fn linker_utils_version() -> *const c_char;
     pub fn linker_utils_is_proved() -> bool;
-    pub fn linker_utils_fits_nonnull(
+    pub fn linker_utils_value(
         machine: u16,
-        form: u32,
-        value: u64,
-        bytes: *const u8,
-        bytes_len: usize,
+        r_type: u32,
+        operands: *const Operands,
+        value: *mut i64,
     ) -> u32;
-    pub fn linker_utils_write_nonnull(
-        machine: u16,
-        form: u32,
-        value: u64,
-        negative: bool,
-        dest: *mut u8,
-        dest_len: usize,
-    ) -> u32;
-    pub fn linker_utils_read_nonnull(
-        machine: u16,
-        form: u32,
-        bytes: *const u8,
-        bytes_len: usize,
-        value: *mut u64,
-        negative: *mut u8,
-    ) -> u32;
-    pub fn linker_utils_window(machine: u16, form: u32, window: *mut usize) -> u32;
-    pub fn linker_utils_can_apply_nonnull(
-        machine: u16,
-        rewrite: u32,
-        opcode_len: u8,
-        section: *const u8,
-        section_len: usize,
-        offset: u64,
-    ) -> u32;
-    pub fn linker_utils_matches_nonnull(
-        machine: u16,
-        rewrite: u32,
-        opcode_len: u8,
-        section: *const u8,
-        section_len: usize,
-        offset: u64,
-    ) -> u32;
-    pub fn linker_utils_apply_nonnull(
-        machine: u16,
-        rewrite: u32,
-        opcode_len: u8,
-        section: *mut u8,
-        section_len: usize,
-        offset: *mut u64,
-        addend: *mut i64,
-    ) -> u32;
-    pub fn linker_utils_rewrite_window(
-        machine: u16,
-        rewrite: u32,
-        opcode_len: u8,
-        window: *mut RewriteWindow,
-    ) -> u32;
-    pub fn linker_utils_next_modifier(machine: u16, rewrite: u32, opcode_len: u8, modifier: *mut u32)
-        -> u32;
     pub fn linker_utils_relocation_name_nonnull(
         machine: u16,
         r_type: u32,
@@ -274,13 +226,13 @@ extern "C" {
         name_len: usize,
         name_used: *mut usize,
     ) -> u32;
-    pub fn linker_utils_relocation(machine: u16, r_type: u32, info: *mut RelocationInfo) -> u32;
-    pub fn linker_utils_clui_rel_info(info: *mut RelocationInfo);
-    pub fn linker_utils_value(
+    pub fn linker_utils_reach(machine: u16, r_type: u32, reach: *mut Reach) -> u32;
+    pub fn linker_utils_relocate_nonnull(
         machine: u16,
         r_type: u32,
-        operands: *const Operands,
-        value: *mut i64,
+        value: i64,
+        dest: *mut u8,
+        dest_len: usize,
     ) -> u32;
     pub fn linker_utils_choose_nonnull(
         machine: u16,
@@ -299,63 +251,40 @@ extern "C" {
         offset: u64,
         facts: *const LinkFacts,
     ) -> bool;
-    pub fn linker_utils_is_unchanged(machine: u16, r_type: u32, choice: *const Choice) -> bool;
-    pub fn linker_utils_reach(machine: u16, r_type: u32, reach: *mut Reach) -> u32;
-    pub fn linker_utils_relocate_nonnull(
+    pub fn linker_utils_matches_nonnull(
         machine: u16,
-        r_type: u32,
-        value: i64,
-        dest: *mut u8,
-        dest_len: usize,
-    ) -> u32;
-    pub fn linker_utils_find(machine: u16, r_type: u32) -> u32;
-    pub fn linker_utils_row_value(
-        handle: u32,
-        operands: *const Operands,
-        value: *mut i64,
-    ) -> u32;
-    pub fn linker_utils_row_write_nonnull(
-        handle: u32,
-        value: i64,
-        dest: *mut u8,
-        dest_len: usize,
-    ) -> u32;
-    pub fn linker_utils_row_apply_nonnull(
-        handle: u32,
-        operands: *const Operands,
-        dest: *mut u8,
-        dest_len: usize,
-    ) -> u32;
-    pub fn linker_utils_row_reach(handle: u32, reach: *mut Reach) -> u32;
-    pub fn linker_utils_row_needs(
-        handle: u32,
-        addend: i64,
-        is_thread_local: bool,
-        required: *mut Requirements,
-    ) -> u32;
-    pub fn linker_utils_row_choose_nonnull(
-        handle: u32,
+        rewrite: u32,
+        opcode_len: u8,
         section: *const u8,
         section_len: usize,
         offset: u64,
-        facts: *const LinkFacts,
-        choice: *mut Choice,
     ) -> u32;
-    pub fn linker_utils_row_fits_nonnull(
-        handle: u32,
-        section: *const u8,
-        section_len: usize,
-        offset: u64,
-        facts: *const LinkFacts,
-    ) -> bool;
-    pub fn linker_utils_row_of(handle: u32, row: *mut Row) -> u32;
-    pub fn linker_utils_relocate_all_nonnull(
+    pub fn linker_utils_apply_nonnull(
         machine: u16,
+        rewrite: u32,
+        opcode_len: u8,
         section: *mut u8,
         section_len: usize,
-        relocations: *const Relocation,
-        relocations_len: usize,
+        offset: *mut u64,
+        addend: *mut i64,
+    ) -> u32;
+    pub fn linker_utils_deltas_create_nonnull(
+        deletions: *const Deletion,
+        deletions_len: usize,
+        deltas: *mut Delta,
+        deltas_len: usize,
         faulty: *mut usize,
+    ) -> u32;
+    pub fn linker_utils_deltas_input_to_output_nonnull(
+        deltas: *const Delta,
+        deltas_len: usize,
+        input_offset: u64,
+    ) -> u64;
+    pub fn linker_utils_deltas_output_to_input_nonnull(
+        deltas: *const Delta,
+        deltas_len: usize,
+        output_offset: u64,
+        input_offset: *mut u64,
     ) -> u32;
     pub fn linker_utils_needs(
         machine: u16,
@@ -391,6 +320,7 @@ extern "C" {
         memory_len: usize,
         faulty: *mut usize,
     ) -> u32;
+    pub fn linker_utils_has_rewrites(machine: u16, phase: u32) -> bool;
     pub fn linker_utils_survey_nonnull(
         machine: u16,
         output: *const OutputFacts,
@@ -418,7 +348,6 @@ extern "C" {
         decisions_len: usize,
         faulty: *mut usize,
     ) -> u32;
-    pub fn linker_utils_has_rewrites(machine: u16, phase: u32) -> bool;
     pub fn linker_utils_survey_placed_section_nonnull(
         machine: u16,
         phase: u32,
@@ -435,6 +364,134 @@ extern "C" {
         kept: *mut KeptGroups,
         kept_len: usize,
     ) -> u32;
+    pub fn linker_utils_rewrite_placed_section_nonnull(
+        machine: u16,
+        phase: u32,
+        output: *const OutputFacts,
+        symbols: *const SymbolFacts,
+        symbols_len: usize,
+        addresses: *const Addresses,
+        values: *const Symbol,
+        values_len: usize,
+        kept: *const KeptGroups,
+        kept_len: usize,
+        relocations: *mut u8,
+        relocations_len: usize,
+        section: *mut u8,
+        section_len: usize,
+        decisions: *mut Decision,
+        decisions_len: usize,
+        deleted: *mut Deletion,
+        deleted_len: usize,
+        deleted_used: *mut usize,
+        faulty: *mut usize,
+    ) -> u32;
+    pub fn linker_utils_read_value_nonnull(
+        machine: u16,
+        r_type: u32,
+        bytes: *const u8,
+        bytes_len: usize,
+        value: *mut FieldValue,
+    ) -> u32;
+    pub fn linker_utils_relocation(machine: u16, r_type: u32, info: *mut RelocationInfo) -> u32;
+    pub fn linker_utils_asks_for_got(machine: u16, r_type: u32) -> bool;
+    pub fn linker_utils_may_use_plt(machine: u16, r_type: u32) -> bool;
+    pub fn linker_utils_may_be_skipped(machine: u16, r_type: u32) -> bool;
+    pub fn linker_utils_clui_rel_info(info: *mut RelocationInfo);
+    pub fn linker_utils_relocate_all_nonnull(
+        machine: u16,
+        section: *mut u8,
+        section_len: usize,
+        relocations: *const Relocation,
+        relocations_len: usize,
+        faulty: *mut usize,
+    ) -> u32;
+    pub fn linker_utils_find(machine: u16, r_type: u32) -> u32;
+    pub fn linker_utils_row_value(handle: u32, operands: *const Operands, value: *mut i64) -> u32;
+    pub fn linker_utils_row_write_nonnull(
+        handle: u32,
+        value: i64,
+        dest: *mut u8,
+        dest_len: usize,
+    ) -> u32;
+    pub fn linker_utils_row_apply_nonnull(
+        handle: u32,
+        operands: *const Operands,
+        dest: *mut u8,
+        dest_len: usize,
+    ) -> u32;
+    pub fn linker_utils_row_reach(handle: u32, reach: *mut Reach) -> u32;
+    pub fn linker_utils_row_needs(
+        handle: u32,
+        addend: i64,
+        is_thread_local: bool,
+        required: *mut Requirements,
+    ) -> u32;
+    pub fn linker_utils_row_choose_nonnull(
+        handle: u32,
+        section: *const u8,
+        section_len: usize,
+        offset: u64,
+        facts: *const LinkFacts,
+        choice: *mut Choice,
+    ) -> u32;
+    pub fn linker_utils_row_fits_nonnull(
+        handle: u32,
+        section: *const u8,
+        section_len: usize,
+        offset: u64,
+        facts: *const LinkFacts,
+    ) -> bool;
+    pub fn linker_utils_row_of(handle: u32, row: *mut Row) -> u32;
+    pub fn linker_utils_get_dynamic_types(machine: u16, types: *mut DynamicTypes) -> u32;
+    pub fn linker_utils_dynamic_name_nonnull(
+        machine: u16,
+        r_type: u32,
+        name: *mut u8,
+        name_len: usize,
+        name_used: *mut usize,
+    ) -> u32;
+    pub fn linker_utils_dynamic_words(
+        machine: u16,
+        entry_class: u32,
+        is_bound: bool,
+        is_executable: bool,
+        words: *mut WordTypes,
+    ) -> u32;
+    pub fn linker_utils_get_entry_words(entry_class: u32) -> u64;
+    pub fn linker_utils_get_origins(
+        machine: u16,
+        image: u64,
+        image_len: u64,
+        alignment: u64,
+        origins: *mut Origins,
+    ) -> u32;
+    pub fn linker_utils_static_words(
+        entry_class: u32,
+        address: u64,
+        origins: *const Origins,
+        words: *mut EntryWords,
+    ) -> u32;
+    pub fn linker_utils_get_got(machine: u16, address: u64, dynamic: u64, got: *mut Got) -> u32;
+    pub fn linker_utils_join_flags(machine: u16, first: u32, second: u32, joined: *mut u32) -> u32;
+    pub fn linker_utils_output_flags(machine: u16, joined: u32) -> u32;
+    pub fn linker_utils_page(machine: u16) -> u64;
+    pub fn linker_utils_code_unit(machine: u16, flags: u32) -> u64;
+    pub fn linker_utils_filler(machine: u16, offset: u64) -> u8;
+    pub fn linker_utils_interpreter_nonnull(
+        machine: u16,
+        flags: u32,
+        path: *mut u8,
+        path_len: usize,
+        path_used: *mut usize,
+    ) -> u32;
+    pub fn linker_utils_address_section_nonnull(
+        machine: u16,
+        name: *mut u8,
+        name_len: usize,
+        name_used: *mut usize,
+    ) -> u32;
+    pub fn linker_utils_entry_relocation(machine: u16, r_type: u32, entry_type: *mut u32) -> u32;
     pub fn linker_utils_survey_address_loads_nonnull(
         machine: u16,
         output: *const OutputFacts,
@@ -523,108 +580,7 @@ extern "C" {
         section_len: usize,
         faulty: *mut usize,
     ) -> u32;
-    pub fn linker_utils_rewrite_placed_section_nonnull(
-        machine: u16,
-        phase: u32,
-        output: *const OutputFacts,
-        symbols: *const SymbolFacts,
-        symbols_len: usize,
-        addresses: *const Addresses,
-        values: *const Symbol,
-        values_len: usize,
-        kept: *const KeptGroups,
-        kept_len: usize,
-        relocations: *mut u8,
-        relocations_len: usize,
-        section: *mut u8,
-        section_len: usize,
-        decisions: *mut Decision,
-        decisions_len: usize,
-        deleted: *mut Deletion,
-        deleted_len: usize,
-        deleted_used: *mut usize,
-        faulty: *mut usize,
-    ) -> u32;
-    pub fn linker_utils_keep_facts_nonnull(
-        output: *const OutputFacts,
-        symbols: *const SymbolFacts,
-        symbols_len: usize,
-        kept: *mut KeptFacts,
-        kept_len: usize,
-    ) -> u32;
-    pub fn linker_utils_relocate_rewritten_section_nonnull(
-        machine: u16,
-        output: *const OutputFacts,
-        facts: *const SymbolFacts,
-        facts_len: usize,
-        kept: *const KeptFacts,
-        kept_len: usize,
-        addresses: *const Addresses,
-        relocations: *const u8,
-        relocations_len: usize,
-        symbols: *const Symbol,
-        symbols_len: usize,
-        section: *mut u8,
-        section_len: usize,
-        memory: *mut u64,
-        memory_len: usize,
-        faulty: *mut usize,
-    ) -> u32;
-    pub fn linker_utils_dynamic_types(machine: u16, types: *mut DynamicTypes) -> u32;
-    pub fn linker_utils_dynamic_name_nonnull(
-        machine: u16,
-        r_type: u32,
-        name: *mut u8,
-        name_len: usize,
-        name_used: *mut usize,
-    ) -> u32;
-    pub fn linker_utils_dynamic_words(
-        machine: u16,
-        entry_class: u32,
-        is_bound: bool,
-        is_executable: bool,
-        words: *mut WordTypes,
-    ) -> u32;
-    pub fn linker_utils_entry_words(entry_class: u32) -> u64;
-    pub fn linker_utils_origins(
-        machine: u16,
-        image: u64,
-        image_len: u64,
-        alignment: u64,
-        origins: *mut Origins,
-    ) -> u32;
-    pub fn linker_utils_static_words(
-        entry_class: u32,
-        address: u64,
-        origins: *const Origins,
-        words: *mut EntryWords,
-    ) -> u32;
-    pub fn linker_utils_got(machine: u16, address: u64, dynamic: u64, got: *mut Got) -> u32;
-    pub fn linker_utils_join_flags(
-        machine: u16,
-        first: u32,
-        second: u32,
-        joined: *mut u32,
-    ) -> u32;
-    pub fn linker_utils_output_flags(machine: u16, joined: u32) -> u32;
-    pub fn linker_utils_page(machine: u16) -> u64;
-    pub fn linker_utils_code_unit(machine: u16, flags: u32) -> u64;
-    pub fn linker_utils_filler(machine: u16, offset: u64) -> u8;
-    pub fn linker_utils_interpreter_nonnull(
-        machine: u16,
-        flags: u32,
-        path: *mut u8,
-        path_len: usize,
-        path_used: *mut usize,
-    ) -> u32;
-    pub fn linker_utils_address_section_nonnull(
-        machine: u16,
-        name: *mut u8,
-        name_len: usize,
-        name_used: *mut usize,
-    ) -> u32;
-    pub fn linker_utils_entry_relocation(machine: u16, r_type: u32, entry_type: *mut u32) -> u32;
-    pub fn linker_utils_provided_symbol_nonnull(
+    pub fn linker_utils_get_provided_symbol_nonnull(
         machine: u16,
         index: usize,
         name: *mut u8,
@@ -632,7 +588,7 @@ extern "C" {
         name_used: *mut usize,
         symbol: *mut ProvidedSymbol,
     ) -> u32;
-    pub fn linker_utils_provided_run_nonnull(
+    pub fn linker_utils_get_provided_run_nonnull(
         machine: u16,
         index: usize,
         prefix: *mut u8,
@@ -640,13 +596,8 @@ extern "C" {
         prefix_used: *mut usize,
         run: *mut ProvidedRun,
     ) -> u32;
-    pub fn linker_utils_provided_word(
-        machine: u16,
-        run: usize,
-        index: u64,
-        word: *mut u32,
-    ) -> u32;
-    pub fn linker_utils_stub(machine: u16, kind: u32, stub: *mut Stub) -> u32;
+    pub fn linker_utils_provided_word(machine: u16, run: usize, index: u64, word: *mut u32) -> u32;
+    pub fn linker_utils_get_stub(machine: u16, kind: u32, stub: *mut Stub) -> u32;
     pub fn linker_utils_write_stub_nonnull(
         machine: u16,
         kind: u32,
@@ -655,7 +606,7 @@ extern "C" {
         bytes: *mut u8,
         bytes_len: usize,
     ) -> u32;
-    pub fn linker_utils_lazy_plt(machine: u16, plt: *mut LazyPlt) -> u32;
+    pub fn linker_utils_get_lazy_plt(machine: u16, plt: *mut LazyPlt) -> u32;
     pub fn linker_utils_write_lazy_header_nonnull(
         machine: u16,
         header: u64,
@@ -676,12 +627,7 @@ extern "C" {
         header: u64,
         word: *mut u64,
     ) -> u32;
-    pub fn linker_utils_lazy_entry_word(
-        machine: u16,
-        entry: u64,
-        header: u64,
-        dynamic: u64,
-    ) -> u64;
+    pub fn linker_utils_lazy_entry_word(machine: u16, entry: u64, header: u64, dynamic: u64) -> u64;
     pub fn linker_utils_route_at_nonnull(
         machine: u16,
         addresses: *const Addresses,
@@ -722,36 +668,83 @@ extern "C" {
         before_len: usize,
         faulty: *mut usize,
     ) -> u32;
-    pub fn linker_utils_jal_site_nonnull(
-        section: *mut u8,
-        section_len: usize,
-        site: u64,
-        distance: i64,
+    pub fn linker_utils_window(machine: u16, form: u32, window: *mut usize) -> u32;
+    pub fn linker_utils_fits_nonnull(
+        machine: u16,
+        form: u32,
+        value: u64,
+        bytes: *const u8,
+        bytes_len: usize,
     ) -> u32;
-    pub fn linker_utils_jal_site_with_nonnull(
-        section: *mut u8,
-        section_len: usize,
-        site: u64,
-        distance: i64,
-        link: u32,
+    pub fn linker_utils_write_nonnull(
+        machine: u16,
+        form: u32,
+        value: u64,
+        negative: bool,
+        dest: *mut u8,
+        dest_len: usize,
     ) -> u32;
-    pub fn linker_utils_relax_call_nonnull(
-        section: *mut u8,
-        section_len: usize,
-        deltas: *const Delta,
-        deltas_len: usize,
-        site: u64,
-        target: u64,
+    pub fn linker_utils_read_nonnull(
+        machine: u16,
+        form: u32,
+        bytes: *const u8,
+        bytes_len: usize,
+        value: *mut u64,
+        negative: *mut u8,
     ) -> u32;
-    pub fn linker_utils_is_plain_call_nonnull(
+    pub fn linker_utils_operand_nonnull(
+        machine: u16,
+        form: u32,
+        bytes: *const u8,
+        bytes_len: usize,
+        number: *mut i64,
+    ) -> u32;
+    pub fn linker_utils_can_apply_nonnull(
+        machine: u16,
+        rewrite: u32,
+        opcode_len: u8,
         section: *const u8,
         section_len: usize,
-        site: u64,
-    ) -> bool;
-    pub fn linker_utils_distance_fits_jal(distance: i64) -> bool;
-    pub fn linker_utils_hi20_is_zero(value: u64) -> bool;
-    pub fn linker_utils_hi20_fits_clui(value: u64) -> bool;
-    pub fn linker_utils_rd_valid_for_clui(rd: u32) -> bool;
+        offset: u64,
+    ) -> u32;
+    pub fn linker_utils_is_unchanged(machine: u16, r_type: u32, choice: *const Choice) -> bool;
+    pub fn linker_utils_rewrite_window(
+        machine: u16,
+        rewrite: u32,
+        opcode_len: u8,
+        window: *mut RewriteWindow,
+    ) -> u32;
+    pub fn linker_utils_next_modifier(
+        machine: u16,
+        rewrite: u32,
+        opcode_len: u8,
+        modifier: *mut u32,
+    ) -> u32;
+    pub fn linker_utils_keep_facts_nonnull(
+        output: *const OutputFacts,
+        symbols: *const SymbolFacts,
+        symbols_len: usize,
+        kept: *mut KeptFacts,
+        kept_len: usize,
+    ) -> u32;
+    pub fn linker_utils_relocate_rewritten_section_nonnull(
+        machine: u16,
+        output: *const OutputFacts,
+        facts: *const SymbolFacts,
+        facts_len: usize,
+        kept: *const KeptFacts,
+        kept_len: usize,
+        addresses: *const Addresses,
+        relocations: *const u8,
+        relocations_len: usize,
+        symbols: *const Symbol,
+        symbols_len: usize,
+        section: *mut u8,
+        section_len: usize,
+        memory: *mut u64,
+        memory_len: usize,
+        faulty: *mut usize,
+    ) -> u32;
     pub fn linker_utils_write_mov_sequence_nonnull(
         dest: *mut u8,
         dest_len: usize,
@@ -764,6 +757,7 @@ extern "C" {
         pc: u64,
         target: u64,
     ) -> u32;
+    pub fn linker_utils_highest_relocation_with_bias(s: u64, pc: u64) -> u64;
     pub fn linker_utils_write_ha_lo_nonnull(
         ha: *mut u8,
         ha_len: usize,
@@ -771,10 +765,6 @@ extern "C" {
         lo_len: usize,
         value: u64,
     ) -> u32;
-    pub fn linker_utils_highest_relocation_with_bias(s: u64, pc: u64) -> u64;
-    pub fn linker_utils_asks_for_got(machine: u16, r_type: u32) -> bool;
-    pub fn linker_utils_may_use_plt(machine: u16, r_type: u32) -> bool;
-    pub fn linker_utils_may_be_skipped(machine: u16, r_type: u32) -> bool;
     pub fn linker_utils_uleb128_role(machine: u16, r_type: u32) -> u32;
     pub fn linker_utils_write_uleb128_nonnull(dest: *mut u8, dest_len: usize, value: u64) -> u32;
     pub fn linker_utils_write_uleb128_pair_nonnull(
@@ -807,16 +797,14 @@ extern "C" {
         value: *mut u64,
         consumed: *mut usize,
     ) -> u32;
+    pub fn linker_utils_has_valid_deltas_nonnull(deltas: *const Delta, deltas_len: usize) -> bool;
+    pub fn linker_utils_deltas_total_deleted_nonnull(
+        deltas: *const Delta,
+        deltas_len: usize,
+    ) -> u64;
     pub fn linker_utils_deletions_valid_nonnull(
         deletions: *const Deletion,
         deletions_len: usize,
-        faulty: *mut usize,
-    ) -> u32;
-    pub fn linker_utils_deltas_create_nonnull(
-        deletions: *const Deletion,
-        deletions_len: usize,
-        deltas: *mut Delta,
-        deltas_len: usize,
         faulty: *mut usize,
     ) -> u32;
     pub fn linker_utils_deltas_create_in_one_pass_nonnull(
@@ -841,22 +829,6 @@ extern "C" {
         merged_len: usize,
         faulty: *mut usize,
     ) -> u32;
-    pub fn linker_utils_has_valid_deltas_nonnull(deltas: *const Delta, deltas_len: usize) -> bool;
-    pub fn linker_utils_deltas_total_deleted_nonnull(
-        deltas: *const Delta,
-        deltas_len: usize,
-    ) -> u64;
-    pub fn linker_utils_deltas_input_to_output_nonnull(
-        deltas: *const Delta,
-        deltas_len: usize,
-        input_offset: u64,
-    ) -> u64;
-    pub fn linker_utils_deltas_output_to_input_nonnull(
-        deltas: *const Delta,
-        deltas_len: usize,
-        output_offset: u64,
-        input_offset: *mut u64,
-    ) -> u32;
     pub fn linker_utils_deltas_translate_all_nonnull(
         deltas: *const Delta,
         deltas_len: usize,
@@ -866,6 +838,61 @@ extern "C" {
         outputs_len: usize,
         faulty: *mut usize,
     ) -> u32;
+    pub fn linker_utils_deltas_block_count_nonnull(
+        deltas: *const Delta,
+        deltas_len: usize,
+    ) -> usize;
+    pub fn linker_utils_deltas_heads_nonnull(
+        deltas: *const Delta,
+        deltas_len: usize,
+        heads: *mut BlockHead,
+        heads_len: usize,
+    ) -> u32;
+    pub fn linker_utils_deltas_input_to_output_by_heads_nonnull(
+        deltas: *const Delta,
+        deltas_len: usize,
+        heads: *const BlockHead,
+        heads_len: usize,
+        input_offset: u64,
+    ) -> u64;
+    pub fn linker_utils_deltas_output_to_input_by_heads_nonnull(
+        deltas: *const Delta,
+        deltas_len: usize,
+        heads: *const BlockHead,
+        heads_len: usize,
+        output_offset: u64,
+        input_offset: *mut u64,
+    ) -> u32;
+    pub fn linker_utils_jal_site_nonnull(
+        section: *mut u8,
+        section_len: usize,
+        site: u64,
+        distance: i64,
+    ) -> u32;
+    pub fn linker_utils_jal_site_with_nonnull(
+        section: *mut u8,
+        section_len: usize,
+        site: u64,
+        distance: i64,
+        link: u32,
+    ) -> u32;
+    pub fn linker_utils_relax_call_nonnull(
+        section: *mut u8,
+        section_len: usize,
+        deltas: *const Delta,
+        deltas_len: usize,
+        site: u64,
+        target: u64,
+    ) -> u32;
+    pub fn linker_utils_is_plain_call_nonnull(
+        section: *const u8,
+        section_len: usize,
+        site: u64,
+    ) -> bool;
+    pub fn linker_utils_distance_fits_jal(distance: i64) -> bool;
+    pub fn linker_utils_hi20_is_zero(value: u64) -> bool;
+    pub fn linker_utils_hi20_fits_clui(value: u64) -> bool;
+    pub fn linker_utils_rd_valid_for_clui(rd: u32) -> bool;
     pub fn linker_utils_packed_len_nonnull(
         section: *const u8,
         section_len: usize,
@@ -899,31 +926,6 @@ extern "C" {
         chosen: *mut u8,
         chosen_len: usize,
         faulty: *mut usize,
-    ) -> u32;
-    pub fn linker_utils_deltas_block_count_nonnull(
-        deltas: *const Delta,
-        deltas_len: usize,
-    ) -> usize;
-    pub fn linker_utils_deltas_heads_nonnull(
-        deltas: *const Delta,
-        deltas_len: usize,
-        heads: *mut BlockHead,
-        heads_len: usize,
-    ) -> u32;
-    pub fn linker_utils_deltas_input_to_output_by_heads_nonnull(
-        deltas: *const Delta,
-        deltas_len: usize,
-        heads: *const BlockHead,
-        heads_len: usize,
-        input_offset: u64,
-    ) -> u64;
-    pub fn linker_utils_deltas_output_to_input_by_heads_nonnull(
-        deltas: *const Delta,
-        deltas_len: usize,
-        heads: *const BlockHead,
-        heads_len: usize,
-        output_offset: u64,
-        input_offset: *mut u64,
     ) -> u32;
     pub fn linker_utils_standard_shapes(number: u32, shapes: *mut Shapes) -> u32;
     pub fn linker_utils_section_items_nonnull(
@@ -1014,20 +1016,6 @@ extern "C" {
         packed_len: usize,
         faulty: *mut usize,
     ) -> u32;
-    pub fn linker_utils_operand_nonnull(
-        machine: u16,
-        form: u32,
-        bytes: *const u8,
-        bytes_len: usize,
-        number: *mut i64,
-    ) -> u32;
-    pub fn linker_utils_read_value_nonnull(
-        machine: u16,
-        r_type: u32,
-        bytes: *const u8,
-        bytes_len: usize,
-        value: *mut FieldValue,
-    ) -> u32;
     pub fn linker_utils_solve(
         machine: u16,
         r_type: u32,
@@ -1091,7 +1079,7 @@ extern "C" {
         facts: *const LinkFacts,
         found: *mut Recognised,
     ) -> u32;
-    pub fn linker_utils_destination_nonnull(
+    pub fn linker_utils_get_destination_nonnull(
         machine: u16,
         made: *const Recognised,
         original: *const u8,

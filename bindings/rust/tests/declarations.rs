@@ -1,8 +1,8 @@
 // SPDX-License-Identifier: MIT OR Apache-2.0
-//! The headers, this crate's declarations, the heads of the archive of ordinary Rust, the archive
-//! and the proved library's sources say the same: each function, each struct's size and offsets,
-//! each status's sentence, and the version. The enums, which `build.rs` makes from the header, have
-//! the library's names and numbers.
+//! The headers, this crate's declarations and the archive have the same functions, as the archive of
+//! ordinary Rust is compiled of them, and the same sizes and offsets of structs, sentences of
+//! statuses and version. The enums, which `build.rs` makes from the header, have the library's names
+//! and numbers.
 
 use sathunne::*;
 use std::collections::{BTreeMap, BTreeSet};
@@ -22,24 +22,8 @@ fn repository(file: &str) -> String {
 
 // ---- what the texts declare
 
-/// A function's parameters, by name and type, and the type of its result, as `u32` and `*const u8`.
-#[derive(Debug, PartialEq, Eq)]
-struct Function {
-    parameters: Vec<(String, String)>,
-    result: String,
-}
-
-type Functions = BTreeMap<String, Function>;
-
-/// The calls that say which archive it is. Each archive gets them of `bindings/version.c`.
-const OF_ARCHIVE: [&str; 2] = ["linker_utils_is_proved", "linker_utils_version"];
-
-/// The calls that are the header's alone.
-const OF_HEADER: [&str; 3] = [
-    "linker_utils_status_text",
-    "linker_utils_operands_of",
-    "linker_utils_forms_of",
-];
+/// Functions by name, each with its parameters and its result, as `bytes: *const u8 -> u32`.
+type Functions = BTreeMap<String, String>;
 
 /// The text between an opening bracket, at the beginning, and the one that closes it, and the rest.
 fn bracketed(text: &str) -> (&str, &str) {
@@ -79,260 +63,105 @@ fn header() -> String {
         rest = comment.split_once("*/").expect("a comment ends").1;
     }
     code += rest;
+    let code = code.replace("LINKER_UTILS_MUST_USE ", "");
     let lines = code.lines().filter(|line| !line.starts_with('#'));
     lines.collect::<Vec<_>>().join("\n")
 }
 
+/// A type of C as Rust has it, but for the name of a struct.
 fn type_of_c(text: &str) -> String {
-    let (words, pointer) = match text.trim().strip_suffix('*') {
-        Some(words) => (words.trim(), true),
-        None => (text.trim(), false),
-    };
-    let (name, kind) = match words.strip_prefix("const ") {
-        Some(name) => (name, "*const "),
-        None => (words, "*mut "),
+    let (name, pointer) = match text.trim().strip_suffix('*') {
+        None => (text.trim(), ""),
+        Some(text) => match text.trim().strip_prefix("const ") {
+            Some(name) => (name, "*const "),
+            None => (text.trim(), "*mut "),
+        },
     };
     let name = match name {
-        "uint8_t" | "char" => "u8",
-        "uint16_t" => "u16",
-        "uint32_t" => "u32",
-        "uint64_t" => "u64",
-        "int64_t" => "i64",
-        "size_t" => "usize",
-        "void" => "()",
-        "bool" => "bool",
-        "struct linker_utils_deletion" => "Deletion",
-        "struct linker_utils_delta" => "Delta",
-        "struct linker_utils_call" => "Call",
-        "struct linker_utils_block_head" => "BlockHead",
-        "struct linker_utils_relocation_info" => "RelocationInfo",
-        "struct linker_utils_operands" => "Operands",
-        "struct linker_utils_link_facts" => "LinkFacts",
-        "struct linker_utils_choice" => "Choice",
-        "struct linker_utils_window_bounds" => "RewriteWindow",
-        "struct linker_utils_relocation_reach" => "Reach",
-        "struct linker_utils_relocation_entry" => "Relocation",
-        "struct linker_utils_shape" => "Shape",
-        "struct linker_utils_shapes" => "Shapes",
-        "struct linker_utils_item" => "Item",
-        "struct linker_utils_rela" => "Rela",
-        "struct linker_utils_symbol" => "Symbol",
-        "struct linker_utils_addresses" => "Addresses",
-        "struct linker_utils_requirements" => "Requirements",
-        "struct linker_utils_row" => "Row",
-        "struct linker_utils_symbol_facts" => "SymbolFacts",
-        "struct linker_utils_output_facts" => "OutputFacts",
-        "struct linker_utils_kept_groups" => "KeptGroups",
-        "struct linker_utils_kept_facts" => "KeptFacts",
-        "struct linker_utils_decision" => "Decision",
-        "struct linker_utils_dynamic_types" => "DynamicTypes",
-        "struct linker_utils_word_types" => "WordTypes",
-        "struct linker_utils_origins" => "Origins",
-        "struct linker_utils_entry_words" => "EntryWords",
-        "struct linker_utils_got" => "Got",
-        "struct linker_utils_provided_symbol" => "ProvidedSymbol",
-        "struct linker_utils_provided_run" => "ProvidedRun",
-        "struct linker_utils_stub" => "Stub",
-        "struct linker_utils_lazy_plt" => "LazyPlt",
-        "struct linker_utils_lazy_entry" => "LazyEntry",
-        "struct linker_utils_route" => "Route",
-        "struct linker_utils_branch" => "Branch",
-        "struct linker_utils_stub_shape" => "StubShape",
-        "struct linker_utils_placed_stub" => "PlacedStub",
-        "struct linker_utils_field_value" => "FieldValue",
-        "struct linker_utils_window_bits" => "FieldBits",
-        "struct linker_utils_recognised" => "Recognised",
-        "struct linker_utils_destination" => "Destination",
-        other => panic!("the header has a type {other}"),
+        "size_t" => "usize".to_string(),
+        "char" => "c_char".to_string(),
+        "void" => "()".to_string(),
+        _ => match name.strip_suffix("_t") {
+            Some(number) => number.replace("uint", "u").replace("int", "i"),
+            None => name.trim_start_matches("struct ").to_string(),
+        },
     };
-    format!("{}{name}", if pointer { kind } else { "" })
+    format!("{pointer}{name}")
 }
 
-fn parameter_of_c(text: String) -> (String, String) {
-    if let Some((element, len)) = text.strip_suffix(']').and_then(|it| it.split_once('[')) {
-        let (name, kind) = parameter_of_c(element.to_string());
-        return (name, format!("[{kind}; {len}]"));
-    }
-    let at = text.rfind(|letter: char| !letter.is_alphanumeric() && letter != '_');
-    let (kind, name) = text.split_at(at.expect("a type and a name") + 1);
-    (name.to_string(), type_of_c(kind))
+/// What is declared, and its name.
+fn declared_in_c(text: &str) -> (&str, &str) {
+    text.split_at(text.rfind([' ', '*']).map_or(0, |at| at + 1))
 }
 
-/// The functions that the headers declare.
-struct FunctionsOfC {
-    /// Those of the archive.
-    exports: Functions,
-    /// The inline ones, as users read them.
-    inline: Functions,
-    /// The same as they are defined, with what they do.
-    wrappers: BTreeMap<String, (Function, String)>,
-}
-
-fn functions_of_c() -> FunctionsOfC {
-    let header = header();
-    let mut found = FunctionsOfC {
-        exports: Functions::new(),
-        inline: Functions::new(),
-        wrappers: BTreeMap::new(),
-    };
-    for (at, _) in header.match_indices("linker_utils_") {
-        let begin = header[..at].rfind(['\n', ';', '}']).map_or(0, |at| at + 1);
-        let name_len = header[at..].find(|letter: char| !letter.is_alphanumeric() && letter != '_');
-        let (name, rest) = header[at..].split_at(name_len.expect("no end of file"));
-        let result = header[begin..at].trim();
-        let is_declared = rest.starts_with('(') && !header[begin..].starts_with(' ');
-        if !is_declared || result.is_empty() || result == "return" {
+/// The functions that the headers declare and don't define.
+fn functions_of_c() -> Functions {
+    let mut found = Functions::new();
+    for statement in header().split_inclusive(['{', '}', ';']) {
+        let declared = statement.trim_start_matches('\n').strip_suffix(");");
+        let Some((head, parameters)) = declared.and_then(|it| it.split_once('(')) else {
+            continue;
+        };
+        let (result, name) = declared_in_c(head);
+        if result.is_empty() || result.starts_with(' ') || result.starts_with("static inline ") {
             continue;
         }
-        let (parameters, rest) = bracketed(rest);
-        let inline = result.strip_prefix("static inline ");
-        if OF_HEADER.contains(&name) || OF_ARCHIVE.contains(&name) {
-            continue;
-        }
-        let function = Function {
-            parameters: list(parameters).map(parameter_of_c).collect(),
-            result: type_of_c(inline.unwrap_or(result)),
-        };
-        let is_first = if rest.starts_with(';') {
-            let declared = match inline {
-                Some(_) => &mut found.inline,
-                None => &mut found.exports,
-            };
-            declared.insert(name.to_string(), function).is_none()
-        } else {
-            assert!(inline.is_some(), "{name} is declared");
-            let (body, _) = bracketed(rest.trim_start());
-            let defined = (function, body.to_string());
-            found.wrappers.insert(name.to_string(), defined).is_none()
-        };
-        assert!(is_first, "{name} is there once");
+        let parameters = list(parameters).filter(|it| it != "void").map(|text| {
+            let (kind, name) = declared_in_c(&text);
+            format!("{name}: {}", type_of_c(kind))
+        });
+        let parameters = parameters.collect::<Vec<_>>().join(" , ");
+        let function = format!("{parameters} -> {}", type_of_c(result));
+        assert_eq!(found.insert(name.to_string(), function), None, "{name}");
     }
     found
 }
 
-/// The functions of Rust's and Rattle's texts that begin by these words.
-fn functions_of_rust(source: &str, begin: &str) -> Functions {
-    let mut functions = Functions::new();
-    for (at, _) in source.match_indices(begin) {
-        let text = &source[at + begin.len()..];
+/// The functions of a text of Rust that begin by these words.
+fn functions_of_rust(file: &str, begin: &str) -> Functions {
+    let source = repository(file);
+    let functions = source.split(begin).skip(1).map(|text| {
         let (name, rest) = text.split_at(text.find('(').expect("parameters"));
         let (parameters, rest) = bracketed(rest);
-        let result = rest.trim_start().strip_prefix("-> ").map_or("()", |rest| {
-            rest.split([';', '\n', ' ']).next().expect("a type")
-        });
-        let mut given = Vec::new();
-        for parameter in list(parameters) {
-            let (name, kind) = parameter.split_once(": ").expect("a name and a type");
-            match as_passed(kind) {
-                Passed::Nothing => {}
-                Passed::One(kind) => given.push((name.to_string(), kind)),
-                Passed::Slice(kind) => {
-                    given.push((name.to_string(), kind));
-                    given.push((format!("{name}_len"), "usize".to_string()));
+        let result = rest.trim_start().strip_prefix("-> ");
+        let result = result.map_or("()", |rest| rest.split([';', '{']).next().expect("a type").trim());
+        let parameters = list(parameters).collect::<Vec<_>>().join(" , ");
+        (name.to_string(), format!("{parameters} -> {result}"))
+    });
+    functions.collect()
+}
+
+/// Two texts declare the same functions. Since each has names of its own for structs, a struct has in
+/// place of its name its place among those that the text names.
+fn assert_same(declared: &Functions, others: &Functions, by: &str) {
+    let numbered = [declared, others].map(|functions| {
+        let mut structs = Vec::new();
+        let mut line = |(name, function): (&String, &String)| {
+            let words = function.split(' ').map(|word| {
+                if !word.starts_with(char::is_uppercase) && !word.starts_with("linker_utils_") {
+                    return word.to_string();
                 }
-            }
-        }
-        let function = Function {
-            parameters: given,
-            result: result.to_string(),
+                if !structs.iter().any(|named| named == word) {
+                    structs.push(word.to_string());
+                }
+                format!("{:?}", structs.iter().position(|named| named == word))
+            });
+            format!("{name}: {}", words.collect::<Vec<_>>().join(" "))
         };
-        functions.insert(name.to_string(), function);
+        functions.iter().map(&mut line).collect::<Vec<_>>()
+    });
+    let [declared, others] = numbered;
+    for (line, other) in declared.iter().zip(&others) {
+        assert_eq!(line, other, "declared by this crate and by {by}");
     }
-    functions
-}
-
-enum Passed {
-    Nothing,
-    One(String),
-    Slice(String),
-}
-
-/// This crate's name of a type of the library's.
-fn element(kind: &str) -> String {
-    match kind.trim() {
-        "RelaxDelta" => "Delta".to_string(),
-        "RelocationNumbers" => "RelocationInfo".to_string(),
-        "LinkFactNumbers" => "LinkFacts".to_string(),
-        "ChoiceNumbers" => "Choice".to_string(),
-        "ItemNumbers" => "Item".to_string(),
-        "FieldValueNumbers" => "FieldValue".to_string(),
-        "RecognisedNumbers" => "Recognised".to_string(),
-        "DestinationNumbers" => "Destination".to_string(),
-        "RequirementNumbers" => "Requirements".to_string(),
-        "RowNumbers" => "Row".to_string(),
-        "DecisionNumbers" => "Decision".to_string(),
-        "DynamicCodes" => "DynamicTypes".to_string(),
-        "WordCodes" => "WordTypes".to_string(),
-        "GotNumbers" => "Got".to_string(),
-        "SymbolNumbers" => "ProvidedSymbol".to_string(),
-        "RunNumbers" => "ProvidedRun".to_string(),
-        "StubNumbers" => "Stub".to_string(),
-        "LazyPltNumbers" => "LazyPlt".to_string(),
-        "RouteNumbers" => "Route".to_string(),
-        other => other.to_string(),
-    }
-}
-
-fn as_passed(kind: &str) -> Passed {
-    if kind == "Global" {
-        return Passed::Nothing;
-    }
-    let Some(pointed) = kind.strip_prefix('&') else {
-        return Passed::One(kind.to_string());
-    };
-    let (pointed, pointer) = match pointed.strip_prefix("mut ") {
-        Some(pointed) => (pointed, "*mut "),
-        None => (pointed, "*const "),
-    };
-    match pointed.strip_prefix('[') {
-        Some(slice) => Passed::Slice(format!("{pointer}{}", element(slice.trim_end_matches(']')))),
-        None => Passed::One(format!("{pointer}{}", element(pointed))),
-    }
-}
-
-/// The sources of the proved static library.
-fn exporting_sources() -> String {
-    let folder = Path::new(env!("CARGO_MANIFEST_DIR")).join("../../crates/linker_utils_c/src");
-    let files = fs::read_dir(folder).expect("the sources are there");
-    let texts = files.map(|file| fs::read_to_string(file.expect("a file").path()));
-    texts.map(|text| text.expect("a text")).collect()
-}
-
-/// A head with this crate's names of types.
-fn in_names_of_crate(head: Function) -> Function {
-    let name = |(name, kind): (String, String)| match kind.split_once(' ') {
-        Some((pointer, pointed)) => (name, format!("{pointer} {}", element(pointed))),
-        None => (name, kind),
-    };
-    Function {
-        parameters: head.parameters.into_iter().map(name).collect(),
-        result: head.result,
-    }
-}
-
-fn assert_same(declared: &Functions, exports: &Functions, by: &str) {
-    for (name, function) in exports {
-        assert_eq!(
-            declared.get(name),
-            Some(function),
-            "{name}, declared by {by}"
-        );
-    }
-    let beyond = declared.keys().find(|name| !exports.contains_key(*name));
-    assert_eq!(beyond, None, "declared by {by}, and not exported");
+    assert_eq!(declared.len(), others.len(), "declared by this crate and by {by}");
 }
 
 #[test]
 fn the_functions_are_those_of_the_library() {
-    let exports = functions_of_rust(&exporting_sources(), "pub extern \"C\" fn ");
-    assert!(exports.len() > 30, "the sources are read");
-    let of_header = functions_of_c();
-    assert_same(&of_header.exports, &exports, "the header");
-    let mut of_crate = functions_of_rust(&repository("bindings/rust/src/raw.rs"), "pub fn ");
-    for name in OF_ARCHIVE {
-        of_crate.remove(name).expect("it is declared");
-    }
-    assert_same(&of_crate, &exports, "this crate");
+    let mut of_crate = functions_of_rust("bindings/rust/src/raw.rs", "pub fn ");
+    assert!(of_crate.len() > 30, "the declarations are read");
+    assert_same(&of_crate, &functions_of_c(), "the headers");
 
     let archive = format!("{}/liblinker_utils.a", env!("LINKER_UTILS_FOLDER"));
     let listed = Command::new("nm")
@@ -350,135 +179,29 @@ fn the_functions_are_those_of_the_library() {
         .filter_map(|line| line.split_whitespace().next())
         .filter(|name| !name.ends_with(".o]:"))
         .collect();
-    let called = exports.keys().map(String::as_str).chain(OF_ARCHIVE);
-    assert_eq!(symbols, called.collect());
-    // the heads of the archive of ordinary Rust
-    let heads = repository("rust/exports/src/exported.rs");
-    let heads = functions_of_rust(&heads, "extern \"C\" fn ");
-    let heads = heads.into_iter().map(|(name, head)| (name, in_names_of_crate(head)));
-    assert_same(&heads.collect(), &exports, "tools/erase");
+    assert_eq!(symbols, of_crate.keys().map(String::as_str).collect());
 
-    // users read each wrapper, and each has the parameters of what it calls, and passes them in order
-    let wrappers = of_header.wrappers;
-    let defined = wrappers.iter();
-    let defined: BTreeMap<_, _> = defined
-        .map(|(name, (wrapper, _))| (name, wrapper))
-        .collect();
-    assert_eq!(of_header.inline.iter().collect::<BTreeMap<_, _>>(), defined);
-    let called: BTreeSet<&str> = exports
-        .keys()
-        .filter_map(|name| name.strip_suffix("_nonnull"))
-        .collect();
-    assert_eq!(called, wrappers.keys().map(String::as_str).collect());
-    for (name, (wrapper, body)) in &wrappers {
-        let export = format!("{name}_nonnull");
-        assert_eq!(of_bytes(wrapper), exports[&export], "{name}");
-        let at = body.find(&export).expect("it calls the export") + export.len();
-        let (arguments, _) = bracketed(&body[at..]);
-        assert_eq!(passed(arguments), names(wrapper), "{name}");
-        for (parameter, kind) in &wrapper.parameters {
-            let is_slice = names(wrapper).contains(&format!("{parameter}_len"));
-            // relocations of a file are counted by wrappers, and their bytes by exports
-            let (kind, guard) = match kind.strip_suffix("()") {
-                Some(pointer) if is_slice => (format!("{pointer}u8"), "LINKER_UTILS_RELAS"),
-                _ => (kind.clone(), "LINKER_UTILS_SLICE"),
-            };
-            let element = kind.replace("*const ", "").replace("*mut ", "");
-            let guard = format!("{guard}({}", c_element(&kind, &element));
-            assert!(
-                !is_slice || arguments.contains(&format!("{guard}, {parameter})")),
-                "{name}"
-            );
-        }
+    // each archive gets these of `bindings/version.c`, and that of ordinary Rust is compiled of the others
+    for name in ["linker_utils_is_proved", "linker_utils_version"] {
+        of_crate.remove(name).expect("it is declared");
     }
-}
-
-/// A wrapper as its export is, which takes relocations of a file as bytes.
-fn of_bytes(wrapper: &Function) -> Function {
-    let bytes = |(name, kind): &(String, String)| {
-        let kind = match kind.strip_suffix(" ()") {
-            Some(pointer) => format!("{pointer} u8"),
-            None => kind.clone(),
-        };
-        (name.clone(), kind)
-    };
-    Function {
-        parameters: wrapper.parameters.iter().map(bytes).collect(),
-        result: wrapper.result.clone(),
-    }
-}
-
-fn names(function: &Function) -> Vec<String> {
-    let names = function.parameters.iter().map(|(name, _)| name.clone());
-    names.collect()
-}
-
-/// The parameters that the arguments of a wrapper's call are made of.
-fn passed(arguments: &str) -> Vec<String> {
-    let mut text = arguments.to_string();
-    while let Some(at) = text.find("LINKER_UTILS_RELAS(") {
-        let (inner, _) = bracketed(&text[at + "LINKER_UTILS_RELAS".len()..]);
-        let slice = inner.split(',').next_back().expect("a slice").trim();
-        let both = format!("{slice}, {slice}_len");
-        text.replace_range(at..at + "LINKER_UTILS_RELAS()".len() + inner.len(), &both);
-    }
-    while let Some(at) = text.find("LINKER_UTILS_SLICE(") {
-        let (inner, _) = bracketed(&text[at + "LINKER_UTILS_SLICE".len()..]);
-        let slice = inner
-            .split(',')
-            .next_back()
-            .expect("a slice")
-            .trim()
-            .to_string();
-        text.replace_range(at..at + "LINKER_UTILS_SLICE()".len() + inner.len(), &slice);
-    }
-    let arguments = list(&text).map(|argument| match argument.split_once(" ? ") {
-        Some((pointer, rest)) if rest == format!("{pointer} : &ignored") => pointer.to_string(),
-        _ => argument,
-    });
-    arguments.collect()
-}
-
-fn c_element(kind: &str, element: &str) -> String {
-    let name = match element {
-        "Delta" => "struct linker_utils_delta".to_string(),
-        "Deletion" => "struct linker_utils_deletion".to_string(),
-        "Call" => "struct linker_utils_call".to_string(),
-        "BlockHead" => "struct linker_utils_block_head".to_string(),
-        "Relocation" => "struct linker_utils_relocation_entry".to_string(),
-        "Item" => "struct linker_utils_item".to_string(),
-        "Rela" => "struct linker_utils_rela".to_string(),
-        "Symbol" => "struct linker_utils_symbol".to_string(),
-        "SymbolFacts" => "struct linker_utils_symbol_facts".to_string(),
-        "KeptGroups" => "struct linker_utils_kept_groups".to_string(),
-        "KeptFacts" => "struct linker_utils_kept_facts".to_string(),
-        "Decision" => "struct linker_utils_decision".to_string(),
-        "FieldBits" => "struct linker_utils_window_bits".to_string(),
-        "Recognised" => "struct linker_utils_recognised".to_string(),
-        "Branch" => "struct linker_utils_branch".to_string(),
-        "PlacedStub" => "struct linker_utils_placed_stub".to_string(),
-        "usize" => "size_t".to_string(),
-        "bool" => "bool".to_string(),
-        number => format!("{}_t", number.replace('u', "uint")),
-    };
-    let is_const = kind.starts_with("*const");
-    format!("{}{name}", if is_const { "const " } else { "" })
+    let compiled = functions_of_rust("rust/exports/src/exported.rs", "extern \"C\" fn ");
+    assert_same(&of_crate, &compiled, "tools/erase");
 }
 
 // ---- what a C compiler makes of the header
 
-/// The fields of the header's structs, with their types.
-fn structs_of_c() -> BTreeMap<String, Vec<(String, String)>> {
+/// The fields of the header's structs.
+fn structs_of_c() -> BTreeMap<String, Vec<String>> {
     let header = header();
-    let mut structs = BTreeMap::new();
-    for part in header.split("\nstruct ").skip(1) {
+    let structs = header.split("\nstruct ").skip(1).map(|part| {
         let (name, rest) = part.split_at(part.find(' ').expect("a name"));
-        let (body, _) = bracketed(rest.trim_start());
-        let fields = body.split(';').map(str::trim).filter(|it| !it.is_empty());
-        let fields = fields.map(|it| parameter_of_c(it.to_string())).collect();
-        structs.insert(name.to_string(), fields);
-    }
-    structs
+        let fields = bracketed(rest.trim_start()).0.split(';').map(str::trim);
+        let name_of = |field: &str| declared_in_c(field.split('[').next().expect("a field")).1.to_string();
+        let fields = fields.filter(|it| !it.is_empty()).map(name_of);
+        (name.to_string(), fields.collect())
+    });
+    structs.collect()
 }
 
 /// What a C program prints of the header: the sizes of its structs and their fields' offsets, and the
@@ -493,7 +216,7 @@ fn print_by_c() -> BTreeMap<String, String> {
         String::from("#include <stdio.h>\n#include \"linker_utils.h\"\nint main(void) {\n");
     for (name, fields) in structs_of_c() {
         program += &format!("printf(\"{name}=%zu\\n\", sizeof(struct {name}));\n");
-        for (field, _) in fields {
+        for field in fields {
             program += &format!(
                 "printf(\"{name}.{field}=%zu+%zu\\n\", offsetof(struct {name}, {field}), \
                  sizeof ((struct {name} *)0)->{field});\n"
@@ -728,6 +451,9 @@ fn the_version_is_the_same() {
     let version = format!("\"{}\"", env!("CARGO_PKG_VERSION"));
     assert!(repository("rust/Cargo.toml").contains(&format!("\nversion = {version}\n")));
     assert!(headers().contains(&format!("\n#define LINKER_UTILS_VERSION {version}\n")));
+    let parts = env!("CARGO_PKG_VERSION").split('.').map(|part| part.parse::<u32>());
+    let number = parts.fold(0, |number, part| 100 * number + part.expect("a number"));
+    assert!(headers().contains(&format!("\n#define LINKER_UTILS_VERSION_NUMBER {number} ")));
 }
 
 #[test]
@@ -799,7 +525,7 @@ fn the_structs_are_those_of_the_library() {
     let printed = printed_by_c();
     let structs = structs_of_c();
     let of_header = structs.iter().map(|(name, fields)| {
-        let placed = fields.iter().map(|(field, _)| {
+        let placed = fields.iter().map(|field| {
             let (offset, size) = printed[&format!("{name}.{field}")]
                 .split_once('+')
                 .expect("both");
@@ -814,164 +540,6 @@ fn the_structs_are_those_of_the_library() {
             (printed[name].parse().expect("a number"), placed.collect()),
         )
     });
-    let of_crate = layout! {
-        "linker_utils_deletion": Deletion { offset, bytes, }
-        "linker_utils_call": Call { site, target, }
-        "linker_utils_block_head": BlockHead { input_offset, output_offset, }
-        "linker_utils_delta": Delta { input_offset, cumulative_deleted, bytes_deleted, }
-        "linker_utils_relocation_info": raw::RelocationInfo {
-            kind, form, mask, machine, is_bits, byte_size, first_bit, end_bit, has_range, thunkable,
-            implicit_addend, min, max, alignment, bias,
-        }
-        "linker_utils_operands": Operands {
-            symbol, addend, place, got_entry, got_base, plt_entry, symbol_size, tls_base,
-            has_got_entry, has_plt_entry, has_tls_base,
-        }
-        "linker_utils_link_facts": raw::LinkFacts {
-            is_local, is_ifunc, is_undefined_weak, has_fixed_address, has_fixed_distance,
-            is_executable, has_local_exec_base, may_compress, is_relaxable, has_got_high_part,
-            is_label_relaxable, toc_base_is_exclusive, may_change_toc, has_addresses, group_fits,
-            operands,
-        }
-        "linker_utils_choice": raw::Choice {
-            rewrite, relocation, modifier, deleted_len, deleted_start, other_offset,
-            other_relocation, has_other, opcode_len, skipped_offset,
-        }
-        "linker_utils_window_bounds": RewriteWindow { back, len, }
-        "linker_utils_relocation_reach": raw::Reach { min, max, has_range, }
-        "linker_utils_relocation_entry": Relocation { offset, value, r_type, }
-        "linker_utils_shape": Shape { max_backward, max_forward, kept, granularity, }
-        "linker_utils_shapes": Shapes { short, longest, count, }
-        "linker_utils_item": Item { offset, target, alignment, max_skip, len, kind, shapes, }
-        "linker_utils_rela": Rela {
-            offset, target, addend, r_type, has_symbol, has_target, may_compress,
-        }
-        "linker_utils_requirements": raw::Requirements {
-            entry_addend, entry_class, is_branch, may_use_stub, stub_only_if_undefined, is_word,
-            depends_on_load,
-        }
-        "linker_utils_row": raw::Row {
-            alignment, reach, needs, r_type, kind, machine, window, may_use_plt, is_relative, name,
-        }
-        "linker_utils_symbol": Symbol {
-            address, size, stub, address_entry, thread_entry, module_entry, descriptor,
-            entry_addend, other, is_thread_local, is_undefined_weak,
-        }
-        "linker_utils_addresses": Addresses {
-            section, got_base, thread_origin, module_origin, module_entry, has_tls,
-        }
-        "linker_utils_symbol_facts": SymbolFacts {
-            is_local, is_ifunc, is_absolute, is_undefined_weak, is_tls_get_addr, other,
-        }
-        "linker_utils_output_facts": OutputFacts { is_executable, is_fixed, has_near_symbols, }
-        "linker_utils_kept_groups": KeptGroups {
-            initial_exec, general_dynamic, local_dynamic, descriptor, got_load,
-        }
-        "linker_utils_kept_facts": KeptFacts { bits, }
-        "linker_utils_decision": raw::Decision {
-            addend, symbol, rewrite, relocation, machine, fate, opcode_len,
-        }
-        "linker_utils_dynamic_types": DynamicTypes {
-            word, relative, glob_dat, jump_slot, copy, irelative, module_number, module_offset,
-            thread_offset, descriptor,
-        }
-        "linker_utils_word_types": raw::WordTypes { first, second, }
-        "linker_utils_origins": Origins { thread_pointer, module_block, }
-        "linker_utils_entry_words": raw::EntryWords { first, second, }
-        "linker_utils_got": raw::Got { base, header, has_header, }
-        "linker_utils_provided_symbol": raw::ProvidedSymbol { offset, place, }
-        "linker_utils_provided_run": raw::ProvidedRun { len, first, count, spacing, }
-        "linker_utils_stub": Stub { len, entry, }
-        "linker_utils_lazy_plt": LazyPlt { header_len, entry_len, alignment, header_words, }
-        "linker_utils_lazy_entry": LazyEntry { address, word, header, index, }
-        "linker_utils_route": raw::Route { target, entry, kind, is_by_stub, }
-        "linker_utils_branch": Branch { offset, target, max_backward, max_forward, }
-        "linker_utils_stub_shape": StubShape { len, unit, max_backward, max_forward, }
-        "linker_utils_placed_stub": PlacedStub { place, boundary, target, }
-        "linker_utils_field_value": FieldValue { bits, rounding, first_bit, end_bit, }
-        "linker_utils_window_bits": FieldBits { offset, bits, }
-        "linker_utils_recognised": raw::Recognised { choice, offset, value, }
-        "linker_utils_destination": raw::Destination {
-            address, addend, symbol, reference, has_symbol,
-        }
-    };
+    let of_crate = include!("data/structs.rs");
     assert_eq!(of_header.collect::<Layout>(), of_crate);
-
-    // the library's own, which are `repr(C)`, have the same fields of the same types in their order
-    let library = exporting_sources()
-        + &repository("crates/linker_base/src/relaxation.rt")
-        + &repository("crates/linker_base/src/relaxation/blocks.rt")
-        + &repository("crates/linker_base/src/rewrite.rt")
-        + &repository("crates/linker_riscv64/src/calls.rt")
-        + &repository("crates/linker_elf/src/elf/value.rt")
-        + &repository("crates/linker_elf/src/elf/numbers.rt")
-        + &repository("crates/linker_runs/src/relaxation.rt")
-        + &repository("crates/linker_reading/src/recognise/fields.rt")
-        + &repository("crates/linker_section/src/facts.rt")
-        + &repository("crates/linker_rewriting/src/facts.rt")
-        + &repository("crates/linker_rewriting/src/groups.rt")
-        + &repository("crates/linker_rewriting/src/kept.rt")
-        + &repository("crates/linker_output/src/got.rt")
-        + &repository("crates/linker_output/src/lazy_plt.rt")
-        + &repository("crates/linker_output/src/placement.rt");
-    for (name, of_library) in [
-        ("linker_utils_deletion", "Deletion"),
-        ("linker_utils_call", "Call"),
-        ("linker_utils_block_head", "BlockHead"),
-        ("linker_utils_delta", "RelaxDelta"),
-        ("linker_utils_relocation_info", "RelocationNumbers"),
-        ("linker_utils_operands", "Operands"),
-        ("linker_utils_link_facts", "LinkFactNumbers"),
-        ("linker_utils_choice", "ChoiceNumbers"),
-        ("linker_utils_window_bounds", "RewriteWindow"),
-        ("linker_utils_relocation_reach", "Reach"),
-        ("linker_utils_relocation_entry", "Relocation"),
-        ("linker_utils_shape", "Shape"),
-        ("linker_utils_shapes", "Shapes"),
-        ("linker_utils_item", "ItemNumbers"),
-        ("linker_utils_rela", "Rela"),
-        ("linker_utils_requirements", "RequirementNumbers"),
-        ("linker_utils_symbol", "Symbol"),
-        ("linker_utils_addresses", "Addresses"),
-        ("linker_utils_symbol_facts", "SymbolFacts"),
-        ("linker_utils_output_facts", "OutputFacts"),
-        ("linker_utils_kept_groups", "KeptGroups"),
-        ("linker_utils_kept_facts", "KeptFacts"),
-        ("linker_utils_decision", "DecisionNumbers"),
-        ("linker_utils_dynamic_types", "DynamicCodes"),
-        ("linker_utils_word_types", "WordCodes"),
-        ("linker_utils_origins", "Origins"),
-        ("linker_utils_entry_words", "EntryWords"),
-        ("linker_utils_got", "GotNumbers"),
-        ("linker_utils_provided_symbol", "SymbolNumbers"),
-        ("linker_utils_provided_run", "RunNumbers"),
-        ("linker_utils_stub", "StubNumbers"),
-        ("linker_utils_lazy_plt", "LazyPltNumbers"),
-        ("linker_utils_lazy_entry", "LazyEntry"),
-        ("linker_utils_route", "RouteNumbers"),
-        ("linker_utils_branch", "Branch"),
-        ("linker_utils_stub_shape", "StubShape"),
-        ("linker_utils_placed_stub", "PlacedStub"),
-        ("linker_utils_field_value", "FieldValueNumbers"),
-        ("linker_utils_window_bits", "FieldBits"),
-        ("linker_utils_recognised", "RecognisedNumbers"),
-        ("linker_utils_destination", "DestinationNumbers"),
-    ] {
-        let (before, rest) = library
-            .split_once(&format!("\npub struct {of_library} {{"))
-            .unwrap_or_else(|| panic!("{of_library} is there"));
-        let attributes = before.rsplit("\n\n").next().expect("a part");
-        assert!(attributes.contains("#[repr(C)]"), "{of_library}");
-        let body = rest.split("\n}").next().expect("its end");
-        let fields = body
-            .lines()
-            .filter_map(|line| line.trim().strip_prefix("pub "));
-        let fields = fields.filter_map(|field| field.trim_end_matches(',').split_once(": "));
-        let fields: Vec<_> = fields
-            .map(|(name, kind)| (name.to_string(), element(kind)))
-            .collect();
-        let of_header = structs[name].iter();
-        let of_header = of_header.map(|(field, kind)| (name_in_rust(field), kind.clone()));
-        assert_eq!(fields, of_header.collect::<Vec<_>>(), "{of_library}");
-    }
 }

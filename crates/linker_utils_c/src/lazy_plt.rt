@@ -30,7 +30,7 @@ pub struct LazyPltNumbers {
 
 /// Writes the lengths of a lazy PLT, as those of `LazyPlt`. `UnknownArchitecture`.
 #[unsafe(no_mangle)]
-pub extern "C" fn linker_utils_lazy_plt(machine: u16, plt: &mut LazyPltNumbers) -> u32
+pub extern "C" fn linker_utils_get_lazy_plt(machine: u16, plt: &mut LazyPltNumbers) -> u32
     ensures known { IfSome (architecture_of machine) (λ architecture. (result ≡ code Status.Success)
         × (plt.new ≡ numbers_of (lazy_plt_of architecture))) }
     ensures unknown { IfNone (architecture_of machine)

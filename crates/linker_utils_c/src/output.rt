@@ -104,7 +104,7 @@ pub struct StubNumbers {
 
 /// Writes the codes of the dynamic relocations of an architecture. `UnknownArchitecture`.
 #[unsafe(no_mangle)]
-pub extern "C" fn linker_utils_dynamic_types(machine: u16, types: &mut DynamicCodes) -> u32
+pub extern "C" fn linker_utils_get_dynamic_types(machine: u16, types: &mut DynamicCodes) -> u32
     ensures known { IfSome (architecture_of machine) (λ architecture. (result ≡ code Status.Success)
         × (types.new ≡ codes_of (target_of architecture).dynamic)) }
     ensures unknown { IfNone (architecture_of machine)
@@ -154,7 +154,7 @@ fn put_text(text: &str, out: &mut [u8], used: &mut usize) -> u32
 
 /// Writes the name of a type of dynamic relocations, as "R_X86_64_RELATIVE", to the beginning of
 /// `name`, and its length to `name_used`. The first that applies of `UnknownArchitecture`;
-/// `UnknownRelocation`, of a code that is none of `linker_utils_dynamic_types`; `TooShort`.
+/// `UnknownRelocation`, of a code that is none of `linker_utils_get_dynamic_types`; `TooShort`.
 #[unsafe(no_mangle)]
 pub extern "C" fn linker_utils_dynamic_name_nonnull(
     machine: u16,
@@ -257,7 +257,7 @@ pub extern "C" fn linker_utils_dynamic_words(
 
 /// How many words of 8 bytes an entry of a class has; 0 of a number that is no class.
 #[unsafe(no_mangle)]
-pub extern "C" fn linker_utils_entry_words(entry_class: u32) -> u64
+pub extern "C" fn linker_utils_get_entry_words(entry_class: u32) -> u64
     ensures { result ≡ entry_words_of (class_of entry_class) }
 {
     match class_of(entry_class) {
@@ -296,7 +296,7 @@ pub extern "C" fn linker_utils_static_words(
 /// Writes what offsets of thread-local storage count from, by the TLS image, as `Target::origins`.
 /// `UnknownArchitecture`.
 #[unsafe(no_mangle)]
-pub extern "C" fn linker_utils_origins(
+pub extern "C" fn linker_utils_get_origins(
     machine: u16,
     image: u64,
     image_len: u64,
@@ -319,7 +319,7 @@ pub extern "C" fn linker_utils_origins(
 /// Writes what offsets from the GOT count from, and its first word where that isn't an entry, by
 /// the GOT's address and that of `_DYNAMIC`, 0 where there is none. `UnknownArchitecture`.
 #[unsafe(no_mangle)]
-pub extern "C" fn linker_utils_got(
+pub extern "C" fn linker_utils_get_got(
     machine: u16,
     address: u64,
     dynamic: u64,
@@ -540,7 +540,7 @@ fn place_number(place: SymbolPlace) -> u32
 /// beginning of `name`, its length to `name_used`, and where it is. The first that applies of
 /// `UnknownArchitecture`; `NotProvided`, of an index that is too large; `TooShort`.
 #[unsafe(no_mangle)]
-pub extern "C" fn linker_utils_provided_symbol_nonnull(
+pub extern "C" fn linker_utils_get_provided_symbol_nonnull(
     machine: u16,
     index: usize,
     name: &mut [u8],
@@ -587,7 +587,7 @@ fn put_symbol(
 /// after it to the beginning of `prefix`, its length to `prefix_used`, and the numbers. The first
 /// that applies of `UnknownArchitecture`; `NotProvided`, of an index that is too large; `TooShort`.
 #[unsafe(no_mangle)]
-pub extern "C" fn linker_utils_provided_run_nonnull(
+pub extern "C" fn linker_utils_get_provided_run_nonnull(
     machine: u16,
     index: usize,
     prefix: &mut [u8],
@@ -686,7 +686,7 @@ fn kind_of(number: u32) -> Option<StubKind>
 /// jumps to the address that a word has, 1 to a far target. The first that applies of
 /// `UnknownArchitecture`; `UnknownStub`, where the architecture has none of the kind.
 #[unsafe(no_mangle)]
-pub extern "C" fn linker_utils_stub(machine: u16, kind: u32, stub: &mut StubNumbers) -> u32
+pub extern "C" fn linker_utils_get_stub(machine: u16, kind: u32, stub: &mut StubNumbers) -> u32
     ensures known { IfSome (architecture_of machine) (λ architecture.
         IsStubReturned (stub_in (target_of architecture) (stub_kind_of kind)) stub.old stub.new
         result) }

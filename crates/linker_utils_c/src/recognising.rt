@@ -375,7 +375,7 @@ fn put_destination_of(
 /// its `st_other`. The first that applies of `UnknownArchitecture`; `WindowTooLong`;
 /// `UnknownRewrite`; `NoAddress`.
 #[unsafe(no_mangle)]
-pub extern "C" fn linker_utils_destination_nonnull(
+pub extern "C" fn linker_utils_get_destination_nonnull(
     machine: u16,
     made: &RecognisedNumbers,
     original: &[u8],

@@ -643,13 +643,13 @@ unsafe extern "C" fn linker_utils_relocate_rewritten_section_nonnull(
 }
 
 #[unsafe(no_mangle)]
-unsafe extern "C" fn linker_utils_lazy_plt(
+unsafe extern "C" fn linker_utils_get_lazy_plt(
     machine: u16,
     plt: *mut LazyPltNumbers,
 ) -> u32 {
     // SAFETY: the arguments are as the head of the header says.
     unsafe {
-        crate::lazy_plt::linker_utils_lazy_plt(
+        crate::lazy_plt::linker_utils_get_lazy_plt(
             machine,
             &mut *plt,
         )
@@ -765,13 +765,13 @@ unsafe extern "C" fn linker_utils_deltas_merge_nonnull(
 }
 
 #[unsafe(no_mangle)]
-unsafe extern "C" fn linker_utils_dynamic_types(
+unsafe extern "C" fn linker_utils_get_dynamic_types(
     machine: u16,
     types: *mut DynamicCodes,
 ) -> u32 {
     // SAFETY: the arguments are as the head of the header says.
     unsafe {
-        crate::output::linker_utils_dynamic_types(
+        crate::output::linker_utils_get_dynamic_types(
             machine,
             &mut *types,
         )
@@ -818,10 +818,10 @@ unsafe extern "C" fn linker_utils_dynamic_words(
 }
 
 #[unsafe(no_mangle)]
-extern "C" fn linker_utils_entry_words(
+extern "C" fn linker_utils_get_entry_words(
     entry_class: u32,
 ) -> u64 {
-    crate::output::linker_utils_entry_words(
+    crate::output::linker_utils_get_entry_words(
         entry_class,
     )
 }
@@ -845,7 +845,7 @@ unsafe extern "C" fn linker_utils_static_words(
 }
 
 #[unsafe(no_mangle)]
-unsafe extern "C" fn linker_utils_origins(
+unsafe extern "C" fn linker_utils_get_origins(
     machine: u16,
     image: u64,
     image_len: u64,
@@ -854,7 +854,7 @@ unsafe extern "C" fn linker_utils_origins(
 ) -> u32 {
     // SAFETY: the arguments are as the head of the header says.
     unsafe {
-        crate::output::linker_utils_origins(
+        crate::output::linker_utils_get_origins(
             machine,
             image,
             image_len,
@@ -865,7 +865,7 @@ unsafe extern "C" fn linker_utils_origins(
 }
 
 #[unsafe(no_mangle)]
-unsafe extern "C" fn linker_utils_got(
+unsafe extern "C" fn linker_utils_get_got(
     machine: u16,
     address: u64,
     dynamic: u64,
@@ -873,7 +873,7 @@ unsafe extern "C" fn linker_utils_got(
 ) -> u32 {
     // SAFETY: the arguments are as the head of the header says.
     unsafe {
-        crate::output::linker_utils_got(
+        crate::output::linker_utils_get_got(
             machine,
             address,
             dynamic,
@@ -995,7 +995,7 @@ unsafe extern "C" fn linker_utils_entry_relocation(
 }
 
 #[unsafe(no_mangle)]
-unsafe extern "C" fn linker_utils_provided_symbol_nonnull(
+unsafe extern "C" fn linker_utils_get_provided_symbol_nonnull(
     machine: u16,
     index: usize,
     name: *mut u8,
@@ -1005,7 +1005,7 @@ unsafe extern "C" fn linker_utils_provided_symbol_nonnull(
 ) -> u32 {
     // SAFETY: the arguments are as the head of the header says.
     unsafe {
-        crate::output::linker_utils_provided_symbol_nonnull(
+        crate::output::linker_utils_get_provided_symbol_nonnull(
             machine,
             index,
             from_raw_parts_mut(name, name_len),
@@ -1016,7 +1016,7 @@ unsafe extern "C" fn linker_utils_provided_symbol_nonnull(
 }
 
 #[unsafe(no_mangle)]
-unsafe extern "C" fn linker_utils_provided_run_nonnull(
+unsafe extern "C" fn linker_utils_get_provided_run_nonnull(
     machine: u16,
     index: usize,
     prefix: *mut u8,
@@ -1026,7 +1026,7 @@ unsafe extern "C" fn linker_utils_provided_run_nonnull(
 ) -> u32 {
     // SAFETY: the arguments are as the head of the header says.
     unsafe {
-        crate::output::linker_utils_provided_run_nonnull(
+        crate::output::linker_utils_get_provided_run_nonnull(
             machine,
             index,
             from_raw_parts_mut(prefix, prefix_len),
@@ -1055,14 +1055,14 @@ unsafe extern "C" fn linker_utils_provided_word(
 }
 
 #[unsafe(no_mangle)]
-unsafe extern "C" fn linker_utils_stub(
+unsafe extern "C" fn linker_utils_get_stub(
     machine: u16,
     kind: u32,
     stub: *mut StubNumbers,
 ) -> u32 {
     // SAFETY: the arguments are as the head of the header says.
     unsafe {
-        crate::output::linker_utils_stub(
+        crate::output::linker_utils_get_stub(
             machine,
             kind,
             &mut *stub,
@@ -1505,7 +1505,7 @@ unsafe extern "C" fn linker_utils_recognise_chosen_nonnull(
 }
 
 #[unsafe(no_mangle)]
-unsafe extern "C" fn linker_utils_destination_nonnull(
+unsafe extern "C" fn linker_utils_get_destination_nonnull(
     machine: u16,
     made: *const RecognisedNumbers,
     original: *const u8,
@@ -1517,7 +1517,7 @@ unsafe extern "C" fn linker_utils_destination_nonnull(
 ) -> u32 {
     // SAFETY: the arguments are as the head of the header says.
     unsafe {
-        crate::recognising::linker_utils_destination_nonnull(
+        crate::recognising::linker_utils_get_destination_nonnull(
             machine,
             &*made,
             from_raw_parts(original, original_len),

@@ -23,7 +23,7 @@ pub struct LazyPltNumbers {
 }
 
 /// Writes the lengths of a lazy PLT, as those of `LazyPlt`. `UnknownArchitecture`.
-pub fn linker_utils_lazy_plt(machine: u16, plt: &mut LazyPltNumbers) -> u32 {
+pub fn linker_utils_get_lazy_plt(machine: u16, plt: &mut LazyPltNumbers) -> u32 {
     let Some(architecture) = Architecture::from_machine(machine) else {
         return Status::UnknownArchitecture.number();
     };

@@ -84,7 +84,7 @@ pub struct StubNumbers {
 }
 
 /// Writes the codes of the dynamic relocations of an architecture. `UnknownArchitecture`.
-pub fn linker_utils_dynamic_types(machine: u16, types: &mut DynamicCodes) -> u32 {
+pub fn linker_utils_get_dynamic_types(machine: u16, types: &mut DynamicCodes) -> u32 {
     let Some(architecture) = Architecture::from_machine(machine) else {
         return Status::UnknownArchitecture.number();
     };
@@ -125,7 +125,7 @@ fn put_text(text: &str, out: &mut [u8], used: &mut usize) -> u32 {
 
 /// Writes the name of a type of dynamic relocations, as "R_X86_64_RELATIVE", to the beginning of
 /// `name`, and its length to `name_used`. The first that applies of `UnknownArchitecture`;
-/// `UnknownRelocation`, of a code that is none of `linker_utils_dynamic_types`; `TooShort`.
+/// `UnknownRelocation`, of a code that is none of `linker_utils_get_dynamic_types`; `TooShort`.
 pub fn linker_utils_dynamic_name_nonnull(
     machine: u16,
     r_type: u32,
@@ -208,7 +208,7 @@ pub fn linker_utils_dynamic_words(
 }
 
 /// How many words of 8 bytes an entry of a class has; 0 of a number that is no class.
-pub fn linker_utils_entry_words(entry_class: u32) -> u64 {
+pub fn linker_utils_get_entry_words(entry_class: u32) -> u64 {
     match class_of(entry_class) {
         Some(class) => entry_words(class),
         None => 0,
@@ -240,7 +240,7 @@ pub fn linker_utils_static_words(
 
 /// Writes what offsets of thread-local storage count from, by the TLS image, as `Target::origins`.
 /// `UnknownArchitecture`.
-pub fn linker_utils_origins(
+pub fn linker_utils_get_origins(
     machine: u16,
     image: u64,
     image_len: u64,
@@ -256,7 +256,7 @@ pub fn linker_utils_origins(
 
 /// Writes what offsets from the GOT count from, and its first word where that isn't an entry, by
 /// the GOT's address and that of `_DYNAMIC`, 0 where there is none. `UnknownArchitecture`.
-pub fn linker_utils_got(
+pub fn linker_utils_get_got(
     machine: u16,
     address: u64,
     dynamic: u64,
@@ -412,7 +412,7 @@ fn place_number(place: SymbolPlace) -> u32 {
 /// Writes the symbol with an index that a linker defines if an object refers to it: its name to the
 /// beginning of `name`, its length to `name_used`, and where it is. The first that applies of
 /// `UnknownArchitecture`; `NotProvided`, of an index that is too large; `TooShort`.
-pub fn linker_utils_provided_symbol_nonnull(
+pub fn linker_utils_get_provided_symbol_nonnull(
     machine: u16,
     index: usize,
     name: &mut [u8],
@@ -448,7 +448,7 @@ fn put_symbol(
 /// Writes the run with an index of functions that linkers provide: their names without the number
 /// after it to the beginning of `prefix`, its length to `prefix_used`, and the numbers. The first
 /// that applies of `UnknownArchitecture`; `NotProvided`, of an index that is too large; `TooShort`.
-pub fn linker_utils_provided_run_nonnull(
+pub fn linker_utils_get_provided_run_nonnull(
     machine: u16,
     index: usize,
     prefix: &mut [u8],
@@ -525,7 +525,7 @@ fn kind_of(number: u32) -> Option<StubKind> {
 /// Writes the length of a stub of a kind in bytes, and the offset at which a call enters: kind 0
 /// jumps to the address that a word has, 1 to a far target. The first that applies of
 /// `UnknownArchitecture`; `UnknownStub`, where the architecture has none of the kind.
-pub fn linker_utils_stub(machine: u16, kind: u32, stub: &mut StubNumbers) -> u32 {
+pub fn linker_utils_get_stub(machine: u16, kind: u32, stub: &mut StubNumbers) -> u32 {
     let Some(architecture) = Architecture::from_machine(machine) else {
         return Status::UnknownArchitecture.number();
     };

@@ -306,7 +306,7 @@ fn put_destination_of(
 /// with the same original bytes and offset, as `destination_of` of `linker_reading`; the symbol by
 /// its `st_other`. The first that applies of `UnknownArchitecture`; `WindowTooLong`;
 /// `UnknownRewrite`; `NoAddress`.
-pub fn linker_utils_destination_nonnull(
+pub fn linker_utils_get_destination_nonnull(
     machine: u16,
     made: &RecognisedNumbers,
     original: &[u8],
