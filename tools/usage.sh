@@ -71,7 +71,7 @@ usage_check() {
         IFS= read -r line
         while IFS= read -r line; do
             case $language in
-            *python*) line=${line#'"""'} ;;
+            *python*) [ "$line" != '"""' ] || break; line=${line#'"""'} ;;
             *) [[ $line == '#'* ]] || break; line=${line#'#'} line=${line# } ;;
             esac
             head+=${line%'"""'}$'\n'

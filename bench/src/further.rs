@@ -535,7 +535,7 @@ fn reading(report: &mut Report) {
                             *facts,
                             &mut made,
                         ),
-                        linker_utils_destination_nonnull(
+                        linker_utils_get_destination_nonnull(
                             machine,
                             &made,
                             original.as_ptr(),
@@ -551,9 +551,9 @@ fn reading(report: &mut Report) {
             })
             .collect();
         let mut destination = Destination::default();
-        let what = format!("`linker_utils_destination`, {name}");
+        let what = format!("`linker_utils_get_destination`, {name}");
         line(report, &what, &led, |(made, original, at, operands)| unsafe {
-            linker_utils_destination_nonnull(
+            linker_utils_get_destination_nonnull(
                 machine,
                 made,
                 original.as_ptr(),
