@@ -9,12 +9,33 @@ use Rattle.linker_base.specs.declared.relaxation.RelaxDelta.{RelaxDelta}
 use Rattle.linker_base.specs.Deletions.{IsBefore, IsValid, rank, begun_below}
 use Rattle.linker_base.specs.Deltas.{deletion_of}
 use Rattle.linker_base.specs.Listed.{AreValidDeltas}
-use Rattle.linker_base.specs.Inner.Listed.{IsWalked, IsPassing, passed_in}
+use Rattle.linker_base.specs.Inner.Listed.{IsWalked, passed_in}
+use Rattle.linker_base.specs.Walk.{walk_at, walk_through, IsAhead, AreAhead}
 use Rattle.linker_base.specs.declared.relaxation.walk.Reached.{Reached}
 use Rattle.linker_base.proofs.Laws.{begun_parted, begun_later}
 use Rattle.linker_base.proofs.Listed.{taken_up_to}
 use Rattle.linker_base.proofs.OutputOffsets.{bytes-le-offset}
 use Rattle.linker_base.proofs.Search.{blank, deletion_at, rank_from_search}
+
+-- a walk from the first n deltas on has passed only such as begin below the offset
+pub record IsPassing (deltas : List RelaxDelta) (from offset : ℕ) (reached : Reached) : Type 0 where
+  pub walked : IsWalked deltas (passed_in deltas reached) reached
+  pub after : from ≤ passed_in deltas reached
+  pub begun : (k : ℕ) (d : RelaxDelta) → from ≤ k → k < passed_in deltas reached
+      → (get_or deltas k d).input_offset < offset
+
+-- a walk from the first n deltas on has made the first of the queries, in order, and the output
+-- offset of each stands at its index
+pub record IsWalkedAlong (deltas : List RelaxDelta) (from : ℕ) (queries : List ℕ) (at : ℕ)
+    (reached : Reached) (out : List ℕ) : Type 0 where
+  pub walked : IsWalked deltas (passed_in deltas reached) reached
+  pub passed : walk_at (map deletion_of deltas) (passed_in deltas reached)
+      ≡ walk_through (walk_at (map deletion_of deltas) from) (take at queries)
+  pub ahead : AreAhead (walk_at (map deletion_of deltas) from) queries → at < length queries
+      → IsAhead (walk_at (map deletion_of deltas) (passed_in deltas reached))
+      (get_or queries at 0)
+  pub ranks : AreAhead (walk_at (map deletion_of deltas) from) queries → (k : ℕ) → k < at
+      → get_or out k 0 ≡ rank (map deletion_of deltas) (get_or queries k 0)
 
 -- a walk from start that stops at the first delta that doesn't begin below i
 pub walked_to : (deltas : List RelaxDelta) → AreValidDeltas deltas → (i start k : ℕ) → start ≤ k → k ≤ length deltas → ((j : ℕ) (d : RelaxDelta) → start ≤ j → j < k → (get_or deltas j d).input_offset < i) → (k < length deltas → i ≤ (get_or deltas k blank).input_offset) → k ≡ max start (begun_below (map deletion_of deltas) i)

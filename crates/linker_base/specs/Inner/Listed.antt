@@ -1,5 +1,5 @@
 -- What holds of the fields of deltas and of a cursor, and of what searches and tests in them find.
-use Rattle.std.specs.Prelude.{◌≡◌, ℕ, ◌+◌, ◌-◌, ◌<◌, ◌≤◌, List, length, map, take, slice_index, slice_index_or}
+use Rattle.std.specs.Prelude.{◌≡◌, ℕ, ◌+◌, ◌-◌, ◌<◌, ◌≤◌, List, length, map, take, slice_index_or}
 use Rattle.std.specs.Prelude.{All, Any, Bool, true, ◌^◌}
 use Rattle.std.specs.Prelude.{false, ◌++◌, drop}
 use Rattle.std.specs.Slice.Iter.{iter_rest}
@@ -7,11 +7,10 @@ use Rattle.linker_base.specs.declared.relaxation.RelaxDelta.{RelaxDelta}
 use Rattle.linker_base.specs.declared.relaxation.blocks.BlockHead.{BlockHead}
 use Rattle.linker_base.specs.declared.relaxation.walk.Reached.{Reached}
 use Rattle.linker_base.specs.Deletions.{DoNotOverlap, AreDisjoint, IsValid}
-use Rattle.linker_base.specs.Deletions.{bytes_of, rank}
+use Rattle.linker_base.specs.Deletions.{bytes_of}
 use Rattle.linker_base.specs.Deltas.{deletion_of}
 use Rattle.linker_base.specs.Blocks.{AreHeads}
 use Rattle.linker_base.specs.Listed.{AreValidDeltas}
-use Rattle.linker_base.specs.Walk.{walk_at, walk_through, IsAhead, AreAhead}
 
 -- what holds of the fields of a section's deltas
 pub record IsSound (list : List RelaxDelta) (blocks : List BlockHead) : Type 0 where
@@ -81,26 +80,6 @@ pub record IsWalked (deltas : List RelaxDelta) (passed : ℕ) (reached : Reached
 -- how many of the deltas a walk has passed
 abbrev pub passed_in : List RelaxDelta → Reached → ℕ
 passed_in deltas reached = length deltas - length (iter_rest reached.rest)
-
--- a walk from the first n deltas on has passed only such as begin below the offset
-pub record IsPassing (deltas : List RelaxDelta) (from offset : ℕ) (reached : Reached) : Type 0 where
-  pub walked : IsWalked deltas (passed_in deltas reached) reached
-  pub after : from ≤ passed_in deltas reached
-  pub begun : (k : ℕ) (d : RelaxDelta) → from ≤ k → k < passed_in deltas reached
-      → (slice_index_or deltas k d).input_offset < offset
-
--- a walk from the first n deltas on has made the first of the queries, in order, and the output
--- offset of each stands at its index
-pub record IsWalkedAlong (deltas : List RelaxDelta) (from : ℕ) (queries : List ℕ) (at : ℕ)
-    (reached : Reached) (out : List ℕ) : Type 0 where
-  pub walked : IsWalked deltas (passed_in deltas reached) reached
-  pub passed : walk_at (map deletion_of deltas) (passed_in deltas reached)
-      ≡ walk_through (walk_at (map deletion_of deltas) from) (take at queries)
-  pub ahead : AreAhead (walk_at (map deletion_of deltas) from) queries → at < length queries
-      → IsAhead (walk_at (map deletion_of deltas) (passed_in deltas reached))
-      (slice_index queries at)
-  pub ranks : AreAhead (walk_at (map deletion_of deltas) from) queries → (k : ℕ) → k < at
-      → slice_index out k ≡ rank (map deletion_of deltas) (slice_index queries k)
 
 -- what holds of a cursor's fields
 pub record IsWalking (deltas : List RelaxDelta) (reached : Reached) : Type 0 where
