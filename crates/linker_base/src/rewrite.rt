@@ -4,7 +4,7 @@ ghost use Rattle.linker_base.specs.RewriteWindow.{IsWindowIn};
 ghost use Rattle.std.specs.Prelude.{◌≡◌, ◌≤◌, ◌+◌, ◌-◌, ◌++◌, ◌↔◌, IsTrue, length, take, drop};
 
 /// The bytes that a linker deletes after a rewrite.
-#[derive(Debug, Clone, Copy, PartialEq, Eq)]
+#[derive(Clone, Copy)]
 pub struct DeletedBytes {
     /// Where they begin, in bytes from the rewrite's offset.
     pub start: u64,
@@ -24,7 +24,7 @@ pub struct DeletedBytes {
 /// assert_eq!(window, RewriteWindow { back: 2, len: 6 });
 /// ```
 #[repr(C)]
-#[derive(Debug, Default, Clone, Copy, PartialEq, Eq)]
+#[derive(Default, Clone, Copy)]
 pub struct RewriteWindow {
     /// How many bytes before the rewrite's offset the window begins.
     pub back: u64,

@@ -163,7 +163,7 @@ pub enum RelocationKind {
 /// What a relocation of a ULEB128 number does with its value, S + A. Two of them are at one
 /// number. `utils::write_uleb128` writes the result of both: that of the first may
 /// need more bytes than there are.
-#[derive(Debug, Clone, Copy, PartialEq, Eq)]
+#[derive(Clone, Copy)]
 pub enum Uleb128Role {
     /// The value is the number that the next one subtracts from.
     Sets,

@@ -27,7 +27,7 @@ use linker_section::sections::{SectionError, relocate_section};
 use linker_utils::elf::Architecture;
 
 /// Why a section isn't packed and written.
-#[derive(Debug, Clone, Copy, PartialEq, Eq)]
+#[derive(Clone, Copy)]
 pub enum PackError {
     /// Its address isn't that where its first byte goes.
     Misplaced,

@@ -15,7 +15,7 @@ use linker_section::facts::{Addresses, Symbol};
 use linker_utils::elf::Architecture;
 
 /// Why a section isn't linked.
-#[derive(Debug, Clone, Copy, PartialEq, Eq)]
+#[derive(Clone, Copy)]
 pub enum LinkError {
     /// Its instructions aren't rewritten.
     Rewriting(RewritingError),
@@ -80,7 +80,7 @@ pub fn link_section(
 }
 
 /// Why a section isn't linked in two phases.
-#[derive(Debug, Clone, Copy, PartialEq, Eq)]
+#[derive(Clone, Copy)]
 pub enum PhaseError {
     /// Its instructions aren't rewritten before addresses are known.
     First(RewritingError),

@@ -8,7 +8,7 @@ use crate::description::Target;
 use linker_section::needed::EntryClass;
 
 /// A type of dynamic relocations.
-#[derive(Debug, Clone, Copy, PartialEq, Eq)]
+#[derive(Clone, Copy)]
 pub struct DynamicType {
     /// The code, `r_type` in ELF files.
     pub code: u32,
@@ -17,7 +17,7 @@ pub struct DynamicType {
 }
 
 /// The types of dynamic relocations that a linker emits.
-#[derive(Debug, Clone, Copy, PartialEq, Eq)]
+#[derive(Clone, Copy)]
 pub struct DynamicTypes {
     /// A word with S + A.
     pub word: DynamicType,

@@ -6,7 +6,7 @@ ghost use Rattle.linker_output.specs.Flags.{joined_flags, JoinsAlike, KeepsItsel
 use crate::description::Target;
 
 /// How `e_flags` of objects go together.
-#[derive(Debug, Clone, Copy, PartialEq, Eq)]
+#[derive(Clone, Copy)]
 pub struct FlagRules {
     /// The bits that are equal in all objects of an output.
     pub same: u32,

@@ -10,7 +10,7 @@ use crate::description::Target;
 use linker_section::needed::EntryClass;
 
 /// Where the thread pointer is, by the TLS image (ELF Handling For Thread-Local Storage).
-#[derive(Debug, Clone, Copy, PartialEq, Eq)]
+#[derive(Clone, Copy)]
 pub enum ThreadPointer {
     /// At the first multiple of the image's alignment at its end or above: variant II.
     AboveImage,
@@ -27,7 +27,7 @@ pub enum ThreadPointer {
 
 /// The addresses that offsets of thread-local storage count from.
 #[repr(C)]
-#[derive(Debug, Clone, Copy, PartialEq, Eq)]
+#[derive(Clone, Copy)]
 pub struct Origins {
     /// The address that the thread pointer stands for.
     pub thread_pointer: u64,
@@ -36,7 +36,7 @@ pub struct Origins {
 }
 
 /// The first word of the GOT.
-#[derive(Debug, Clone, Copy, PartialEq, Eq)]
+#[derive(Clone, Copy)]
 pub enum GotHeader {
     /// The address of `_DYNAMIC`, or 0 where there is none.
     Dynamic,
@@ -45,7 +45,7 @@ pub enum GotHeader {
 }
 
 /// The GOT.
-#[derive(Debug, Clone, Copy, PartialEq, Eq)]
+#[derive(Clone, Copy)]
 pub struct GotLayout {
     /// Its first word, if it isn't an entry.
     pub header: Option<GotHeader>,

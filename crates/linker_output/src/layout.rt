@@ -9,7 +9,7 @@ ghost use Rattle.linker_output.specs.View.{view_paths, view_run};
 use crate::description::Target;
 
 /// How long the shortest instruction is, in bytes: what code is aligned to.
-#[derive(Debug, Clone, Copy, PartialEq, Eq)]
+#[derive(Clone, Copy)]
 pub struct CodeUnit {
     /// Without the flag.
     pub len: u64,
@@ -27,7 +27,7 @@ pub(crate) const WORDS: CodeUnit = CodeUnit {
 };
 
 /// Where a symbol is that a linker defines.
-#[derive(Debug, Clone, Copy, PartialEq, Eq)]
+#[derive(Clone, Copy)]
 pub enum SymbolPlace {
     /// At the TLS image in a shared library; in an executable at the address that the thread
     /// pointer stands for. The symbol is thread-local. An executable's object that refers to it may
@@ -41,7 +41,7 @@ pub enum SymbolPlace {
 }
 
 /// A symbol that a linker defines if an object refers to it.
-#[derive(Debug, Clone, Copy, PartialEq, Eq)]
+#[derive(Clone, Copy)]
 pub struct ProvidedSymbol {
     /// Its name.
     pub name: &'static str,
@@ -52,7 +52,7 @@ pub struct ProvidedSymbol {
 }
 
 /// A word of each function of a run.
-#[derive(Debug, Clone, Copy, PartialEq, Eq)]
+#[derive(Clone, Copy)]
 pub struct RunWord {
     /// The word of the first function.
     pub word: u32,
@@ -64,7 +64,7 @@ pub struct RunWord {
 /// code, whose function with a number n begins 4 * `spacing` * (n - `first`) bytes after the run's
 /// start. They take registers that stubs change, so that branches have to reach them directly: a
 /// linker may place a run more than once.
-#[derive(Debug, Clone, Copy, PartialEq, Eq)]
+#[derive(Clone, Copy)]
 pub struct ProvidedRun {
     /// The functions' names without the number, which stands after it in decimal.
     pub prefix: &'static str,
@@ -144,7 +144,7 @@ impl ProvidedRun {
 }
 
 /// The path of the dynamic linker in glibc.
-#[derive(Debug, Clone, Copy, PartialEq, Eq)]
+#[derive(Clone, Copy)]
 pub struct Interpreter {
     /// What the bits of `e_flags` are that `Target::interpreter_flags` has.
     pub flags: u32,

@@ -20,7 +20,7 @@ use linker_base::rewrite::overwrite;
 use linker_utils::elf::{Architecture, Operands, RelocateError};
 
 /// What a field of a lazy PLT's code is computed from.
-#[derive(Debug, Clone, Copy, PartialEq, Eq)]
+#[derive(Clone, Copy)]
 pub enum LazyTarget {
     /// The address of the entry's word, and in the header that of the first word of `.got.plt`.
     Word,
@@ -31,7 +31,7 @@ pub enum LazyTarget {
 }
 
 /// A field of a lazy PLT's code.
-#[derive(Debug, Clone, Copy, PartialEq, Eq)]
+#[derive(Clone, Copy)]
 pub struct LazyField {
     /// Its place in the piece of code, and the relocation whose value it takes.
     pub field: StubField,
@@ -44,7 +44,7 @@ pub struct LazyField {
 }
 
 /// A piece of code with at most one field.
-#[derive(Debug, Clone, Copy, PartialEq, Eq)]
+#[derive(Clone, Copy)]
 pub struct LazyPiece {
     /// The code, in which the field is 0, and zeros after it.
     pub code: [u8; 8],
@@ -55,7 +55,7 @@ pub struct LazyPiece {
 }
 
 /// What a word of `.got.plt` holds before the dynamic linker changes it.
-#[derive(Debug, Clone, Copy, PartialEq, Eq)]
+#[derive(Clone, Copy)]
 pub enum LazyWord {
     /// 0.
     Zero,
@@ -90,7 +90,7 @@ pub struct LazyPlt {
 
 /// What an entry is written from.
 #[repr(C)]
-#[derive(Debug, Clone, Copy, PartialEq, Eq)]
+#[derive(Clone, Copy)]
 pub struct LazyEntry {
     /// Its address.
     pub address: u64,

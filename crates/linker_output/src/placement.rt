@@ -23,7 +23,7 @@ use std::alloc::Global;
 
 /// A branch that may need a stub.
 #[repr(C)]
-#[derive(Debug, Clone, Copy, PartialEq, Eq)]
+#[derive(Clone, Copy)]
 pub struct Branch {
     /// Its offset.
     pub offset: u64,
@@ -37,7 +37,7 @@ pub struct Branch {
 
 /// What a stub is like.
 #[repr(C)]
-#[derive(Debug, Clone, Copy, PartialEq, Eq)]
+#[derive(Clone, Copy)]
 pub struct StubShape {
     /// How many bytes it has.
     pub len: u64,
@@ -65,7 +65,7 @@ pub struct Code<'a> {
 }
 
 /// Which of the stubs at a boundary a stub is one of.
-#[derive(Debug, Clone, Copy, PartialEq, Eq)]
+#[derive(Clone, Copy, PartialEq, Eq)]
 pub enum Part {
     /// The first ones, which are counted from the first one on.
     Front,
@@ -76,7 +76,7 @@ pub enum Part {
 }
 
 /// A stub.
-#[derive(Debug, Clone, Copy, PartialEq, Eq)]
+#[derive(Clone, Copy)]
 pub struct StubAt {
     /// The index of the boundary at which it stands.
     pub boundary: usize,
@@ -89,7 +89,7 @@ pub struct StubAt {
 }
 
 /// How many stubs there are at a boundary.
-#[derive(Debug, Clone, Copy, PartialEq, Eq)]
+#[derive(Clone, Copy)]
 pub struct Group {
     /// The first ones.
     pub front: u64,
@@ -100,7 +100,7 @@ pub struct Group {
 }
 
 /// By what a branch goes.
-#[derive(Debug, Clone, Copy, PartialEq, Eq)]
+#[derive(Clone, Copy)]
 enum Way {
     /// To its target.
     Direct,
@@ -111,7 +111,7 @@ enum Way {
 }
 
 /// Stubs between sections.
-#[derive(Debug, Drop)]
+#[derive(Drop)]
 pub struct Layout {
     /// The stubs.
     pub stubs: Vec<StubAt>,
@@ -125,7 +125,7 @@ pub struct Layout {
 }
 
 /// Stubs with which each branch reaches what it goes by.
-#[derive(Debug, Drop)]
+#[derive(Drop)]
 pub struct Placement {
     /// The stubs.
     pub layout: Layout,
@@ -134,7 +134,7 @@ pub struct Placement {
 }
 
 /// Why no stubs are placed.
-#[derive(Debug, Drop)]
+#[derive(Drop)]
 pub enum PlaceError {
     /// Out of memory.
     OutOfMemory,
@@ -193,7 +193,7 @@ const LIMIT: u64 = 1 << 62;
 const MOST_PASSES: u32 = 32;
 
 /// What became of a branch in a sweep.
-#[derive(Debug, Clone, Copy, PartialEq, Eq)]
+#[derive(Clone, Copy)]
 enum Visit {
     /// It reaches what it goes by.
     Served,
@@ -206,7 +206,7 @@ enum Visit {
 }
 
 /// What a sweep over the branches did.
-#[derive(Debug, Clone, Copy, PartialEq, Eq)]
+#[derive(Clone, Copy)]
 enum Sweep {
     /// Each branch reaches what it goes by.
     Settled,

@@ -28,7 +28,7 @@ use linker_utils::elf::{
 use linker_utils::ppc64::Ppc64Relocation;
 
 /// How a branch goes.
-#[derive(Debug, Clone, Copy, PartialEq, Eq)]
+#[derive(Clone, Copy)]
 pub enum Route {
     /// To its target: the value of its relocation can be written, and on PowerPC64 the function
     /// gets, and the caller keeps, the TOC pointer.
@@ -47,7 +47,7 @@ pub enum Route {
 }
 
 /// Why a branch goes no way.
-#[derive(Debug, Clone, Copy, PartialEq, Eq)]
+#[derive(Clone, Copy)]
 pub enum RouteError {
     /// No stub may serve the relocation: it isn't that of a branch, and its formula has no L. Or
     /// its code has no row.

@@ -10,7 +10,7 @@ use linker_base::rewrite::overwrite;
 use linker_utils::elf::{AllowedRange, Architecture, Operands, RelocateError};
 
 /// A stub that a linker adds to code.
-#[derive(Debug, Clone, Copy, PartialEq, Eq)]
+#[derive(Clone, Copy)]
 pub enum StubKind {
     /// It jumps to the address that a word of 8 bytes has: to a function of another output, whose
     /// address the dynamic linker puts there, or to what an indirect function returns.
@@ -20,7 +20,7 @@ pub enum StubKind {
 }
 
 /// Why a stub isn't written.
-#[derive(Debug, Clone, Copy, PartialEq, Eq)]
+#[derive(Clone, Copy)]
 pub enum StubError {
     /// The architecture has no such stub: branches reach as far as it would.
     Missing,
@@ -31,7 +31,7 @@ pub enum StubError {
 }
 
 /// A field of a stub's code.
-#[derive(Debug, Clone, Copy, PartialEq, Eq)]
+#[derive(Clone, Copy)]
 pub struct StubField {
     /// Its offset in the pair.
     pub offset: usize,
@@ -42,7 +42,7 @@ pub struct StubField {
 }
 
 /// The code of a stub: 8 bytes with the fields, and what stands before and after these.
-#[derive(Debug, Clone, Copy, PartialEq, Eq)]
+#[derive(Clone, Copy)]
 pub struct Stub {
     /// The code before the pair.
     pub head: &'static [u8],

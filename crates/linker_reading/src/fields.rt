@@ -7,7 +7,7 @@ ghost use Rattle.linker_reading.specs.Fields.{IsOf, IsProper, whole_number};
 use linker_base::bit_misc::BitRange;
 
 /// Some bits of a number of 64 bits, a relocation's value or an address.
-#[derive(Debug, Clone, Copy, PartialEq, Eq)]
+#[derive(Clone, Copy)]
 pub struct FieldValue {
     /// Which bits of the sum of the number and `rounding` are known. Bit 0 is the lowest.
     pub known: BitRange,

@@ -13,7 +13,7 @@ use linker_elf::elf::{
 };
 
 /// Which address a relocation's value is computed from.
-#[derive(Debug, Clone, Copy, PartialEq, Eq)]
+#[derive(Clone, Copy)]
 pub enum Reference {
     /// S + A.
     Symbol,
@@ -24,7 +24,7 @@ pub enum Reference {
 }
 
 /// What is taken off it.
-#[derive(Debug, Clone, Copy, PartialEq, Eq)]
+#[derive(Clone, Copy)]
 pub enum Origin {
     /// Nothing.
     Zero,
@@ -38,7 +38,7 @@ pub enum Origin {
 
 /// The terms of the formula of a value: the address, biased and cut to its page where the row says
 /// so, less the origin.
-#[derive(Debug, Clone, Copy, PartialEq, Eq)]
+#[derive(Clone, Copy)]
 pub struct Terms {
     /// The address.
     pub reference: Reference,

@@ -175,7 +175,7 @@ pub(crate) fn least_window<N: RecognisedName>(
 }
 
 /// Where a recognised relocation leads.
-#[derive(Debug, Clone, Copy, PartialEq, Eq)]
+#[derive(Clone, Copy)]
 pub struct Destination {
     /// Which address it is.
     pub reference: Reference,

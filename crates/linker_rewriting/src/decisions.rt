@@ -31,7 +31,7 @@ use linker_utils::elf::{Architecture, Choice, InstructionRewrite, RewriteWindow}
 use linker_utils::relaxation::AsDeletion;
 
 /// What a relocation is of once its instruction is rewritten.
-#[derive(Debug, Clone, Copy, PartialEq, Eq)]
+#[derive(Clone, Copy)]
 pub struct Subject {
     /// The index of its symbol.
     pub symbol: u32,
@@ -40,7 +40,7 @@ pub struct Subject {
 }
 
 /// What becomes of a relocation and of its instruction.
-#[derive(Debug, Clone, Copy, PartialEq, Eq)]
+#[derive(Clone, Copy)]
 pub enum Decision {
     /// Both stay as they are.
     Kept,
@@ -107,7 +107,7 @@ impl FromDeletion for (u64, u32) {
 }
 
 /// Why a section isn't rewritten.
-#[derive(Debug, Clone, Copy, PartialEq, Eq)]
+#[derive(Clone, Copy)]
 pub enum RewritingError {
     /// There are fewer decisions than relocations, or less room for deletions than there are.
     TooShort,

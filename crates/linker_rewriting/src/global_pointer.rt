@@ -53,7 +53,7 @@ use linker_utils::riscv64::{RelaxationKind, RiscVRelocation};
 use linker_utils::utils::u32_from_slice;
 
 /// What the instruction of a relocation is of an address.
-#[derive(Debug, Clone, Copy, PartialEq, Eq)]
+#[derive(Clone, Copy, PartialEq, Eq)]
 pub(crate) enum Part {
     /// A high part, with its opcode.
     High(u32),

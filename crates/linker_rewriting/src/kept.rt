@@ -24,14 +24,14 @@ use linker_utils::ppc64::Ppc64Relocation;
 /// What choices read of a symbol and of the output, a bit for each fact; 0 where nothing is kept. A
 /// table of these has those of an object at the indexes that its relocations name (`r_sym`).
 #[repr(C)]
-#[derive(Debug, Default, Clone, Copy, PartialEq, Eq)]
+#[derive(Default, Clone, Copy)]
 pub struct KeptFacts {
     /// The bits, as `kept_bits` says.
     pub bits: u16,
 }
 
 /// Why the values of a section whose instructions were rewritten aren't written.
-#[derive(Debug, Clone, Copy, PartialEq, Eq)]
+#[derive(Clone, Copy)]
 pub enum WritingError {
     /// The tables of facts and of addresses contradict each other about the symbol with this index,
     /// as `RewritingError::Contradiction` says.

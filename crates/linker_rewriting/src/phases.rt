@@ -1,7 +1,7 @@
 //! When rewrites are made.
 
 /// When a rewrite is made: what a linker has to know before.
-#[derive(Debug, Clone, Copy, PartialEq, Eq)]
+#[derive(Clone, Copy)]
 pub enum Phase {
     /// Before addresses are known.
     Early,

@@ -17,7 +17,7 @@ use linker_utils::ppc64::Ppc64Relocation;
 use linker_utils::riscv64::RiscVRelocation;
 
 /// A sequence of AArch64 whose relocations are next to each other.
-#[derive(Debug, Clone, Copy, PartialEq, Eq)]
+#[derive(Clone, Copy)]
 pub(crate) enum Sequence {
     /// The four of a TLS descriptor.
     Descriptor,

@@ -21,7 +21,7 @@ pub use rewritten::{RewrittenItemsError, rewritten_items_into};
 use std::alloc::{AllocError, AllocFailed, Global};
 
 /// A relocation of a section.
-#[derive(Debug, Clone, Copy, PartialEq, Eq)]
+#[derive(Clone, Copy)]
 pub struct Relocation {
     /// Its place, `r_offset`: an offset in the section.
     pub offset: u64,
@@ -97,7 +97,7 @@ impl AsItem for Item {
 }
 
 /// Why no items are made of relocations.
-#[derive(Debug, Clone, Copy, PartialEq, Eq)]
+#[derive(Clone, Copy)]
 pub enum ItemsError {
     /// Out of memory for the items.
     OutOfMemory,
@@ -253,7 +253,7 @@ fn item_at<R: AsRelocation>(
 }
 
 /// The items of a section, and which relocation makes each.
-#[derive(Debug, Drop)]
+#[derive(Drop)]
 pub struct SectionItems {
     /// The items, in the order of the relocations.
     pub items: Vec<Item>,

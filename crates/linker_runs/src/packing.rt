@@ -36,7 +36,7 @@ use linker_base::relaxation::{DeltaSlice, RelaxDelta};
 use linker_utils::elf::Architecture;
 
 /// The architecture of a section's code.
-#[derive(Debug, Clone, Copy, PartialEq, Eq)]
+#[derive(Clone, Copy)]
 pub enum Machine {
     /// RISC-V of 64 bits.
     RiscV64,
@@ -59,7 +59,7 @@ impl Machine {
 }
 
 /// Why an item isn't written.
-#[derive(Debug, Clone, Copy, PartialEq, Eq)]
+#[derive(Clone, Copy)]
 pub enum ItemError {
     /// It begins below the end of the item before it.
     Overlaps,
@@ -81,7 +81,7 @@ pub enum ItemError {
 }
 
 /// The first item of a section that can't be written.
-#[derive(Debug, Clone, Copy, PartialEq, Eq)]
+#[derive(Clone, Copy)]
 pub struct RejectedItem {
     /// Its index among the items, or how many there are.
     pub index: usize,

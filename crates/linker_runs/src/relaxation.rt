@@ -27,7 +27,7 @@ use validity::is_power_of_two;
 
 /// One form of the instructions of a site, as C has it.
 #[repr(C)]
-#[derive(Debug, Clone, Copy, PartialEq, Eq)]
+#[derive(Clone, Copy, PartialEq, Eq)]
 pub struct Shape {
     /// How far below its output offset the target may lie, in bytes.
     pub max_backward: u64,
@@ -41,7 +41,7 @@ pub struct Shape {
 
 /// The forms that the instructions of a site can have, by ascending length, as C has them.
 #[repr(C)]
-#[derive(Debug, Clone, Copy, PartialEq, Eq)]
+#[derive(Clone, Copy, PartialEq, Eq)]
 pub struct Shapes {
     /// The short forms, of which the first `count` count.
     pub short: [Shape; 2],
@@ -52,7 +52,7 @@ pub struct Shapes {
 }
 
 /// Instructions that can become shorter where they reach their target.
-#[derive(Debug, Clone, Copy, PartialEq, Eq)]
+#[derive(Clone, Copy)]
 pub struct Site {
     /// The input offset of its first byte.
     pub offset: u64,
@@ -66,7 +66,7 @@ pub struct Site {
 }
 
 /// Nops that align what follows them.
-#[derive(Debug, Clone, Copy, PartialEq, Eq)]
+#[derive(Clone, Copy)]
 pub struct Alignment {
     /// The input offset of the first nop.
     pub offset: u64,
@@ -79,7 +79,7 @@ pub struct Alignment {
 }
 
 /// A part of a run that relaxation may shorten.
-#[derive(Debug, Clone, Copy, PartialEq, Eq)]
+#[derive(Clone, Copy)]
 pub enum Item {
     /// Instructions.
     Site(Site),
@@ -327,7 +327,7 @@ fn relax_items<I: AsItem>(
 }
 
 /// What `relax` chooses.
-#[derive(Debug, Drop)]
+#[derive(Drop)]
 pub struct Plan {
     /// For each item the index of the shape that it has if it is a site.
     pub shapes: Vec<u8>,

@@ -7,7 +7,7 @@
 /// A relocation takes from it what its psABI's formula names, so that a linker fills in what it has
 /// of a symbol, whichever relocations there are.
 #[repr(C)]
-#[derive(Debug, Default, Clone, Copy, PartialEq, Eq)]
+#[derive(Default, Clone, Copy)]
 pub struct Symbol {
     /// S: its address, and of a thread-local symbol its address in the TLS segment's image.
     pub address: u64,
@@ -38,7 +38,7 @@ pub struct Symbol {
 
 /// What a linker knows of a section and of the output that it is in.
 #[repr(C)]
-#[derive(Debug, Default, Clone, Copy, PartialEq, Eq)]
+#[derive(Default, Clone, Copy)]
 pub struct Addresses {
     /// The address of the section's first byte, from which offsets of relocations count.
     pub section: u64,

@@ -9,7 +9,7 @@ ghost use Rattle.linker_utils.specs.Architectures.{IsRow};
 use linker_utils::elf::{Architecture, EntryUse, RowFacts};
 
 /// What an entry of the GOT holds.
-#[derive(Debug, Clone, Copy, PartialEq, Eq)]
+#[derive(Clone, Copy)]
 pub enum EntryClass {
     /// A word: the address S, or S + A.
     Address,
@@ -24,7 +24,7 @@ pub enum EntryClass {
 }
 
 /// An entry of the GOT that a relocation requires.
-#[derive(Debug, Clone, Copy, PartialEq, Eq)]
+#[derive(Clone, Copy)]
 pub struct Entry {
     /// What it holds.
     pub class: EntryClass,
@@ -34,7 +34,7 @@ pub struct Entry {
 }
 
 /// What a relocation requires.
-#[derive(Debug, Clone, Copy, PartialEq, Eq)]
+#[derive(Clone, Copy)]
 pub struct Requirements {
     /// The entry of the GOT whose address its value depends on. Of PowerPC64's calls that load the
     /// function's address themselves, as `R_PPC64_PLT16_LO_DS`, it is a word with that address.

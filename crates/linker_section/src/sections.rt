@@ -30,7 +30,7 @@ use linker_base::utils::{self, Uleb128Error};
 use linker_utils::elf::{Architecture, RelocateError, RelocationKind, Row};
 
 /// Why a relocation's value isn't written.
-#[derive(Debug, Clone, Copy, PartialEq, Eq)]
+#[derive(Clone, Copy)]
 pub enum RelocationError {
     /// It has no value.
     Value(ValueError),
@@ -50,7 +50,7 @@ pub enum RelocationError {
 }
 
 /// The first relocation of a section whose value isn't written.
-#[derive(Debug, Clone, Copy, PartialEq, Eq)]
+#[derive(Clone, Copy)]
 pub struct SectionError {
     /// Its index.
     pub index: usize,

@@ -25,7 +25,7 @@ use linker_utils::elf::{
 use linker_utils::x86_64::X86_64Relocation;
 
 /// Why a relocation has no value.
-#[derive(Debug, Clone, Copy, PartialEq, Eq)]
+#[derive(Clone, Copy)]
 pub enum ValueError {
     /// Its code has no row: no object's relocation has it.
     UnknownType,

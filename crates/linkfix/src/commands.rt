@@ -14,7 +14,7 @@ ghost use Rattle.linkfix.specs.declared.commands.Command.{Command};
 const MAX_NUMBER: u64 = i64::MAX as u64;
 
 /// A command line.
-#[derive(Debug, Clone, Copy, PartialEq, Eq)]
+#[derive(Clone, Copy)]
 pub enum Command {
     /// `del o b`: deletes `bytes` bytes at the input offset `offset`.
     Delete { offset: u64, bytes: u32 },
@@ -32,7 +32,7 @@ pub enum Command {
 }
 
 /// The error of a line that is no command.
-#[derive(Debug, Clone, Copy, PartialEq, Eq)]
+#[derive(Clone, Copy)]
 pub struct BadLine;
 
 /// Parses a command line. Words are separated by spaces. A line with no word gives `None`.

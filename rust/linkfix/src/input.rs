@@ -12,7 +12,7 @@ pub const MAX_READS: u32 = 1_048_576;
 pub const BUFFER_LEN: usize = 4096;
 
 /// An error of `Lines::next_line`.
-#[derive(Debug, Clone, Copy, PartialEq, Eq)]
+#[derive(Clone, Copy)]
 pub enum InputError {
     /// A read failed, or the input hadn't ended by the last read.
     Read,

@@ -13,7 +13,7 @@ use std::io;
 use std::io::{Read, Write};
 
 /// An error that ends the run and is printed as its last line.
-#[derive(Debug, Clone, Copy, PartialEq, Eq)]
+#[derive(Clone, Copy)]
 enum ReportedError {
     BadSection,
     BadLine,
@@ -43,7 +43,7 @@ impl ReportedError {
 }
 
 /// An error that ends the run.
-#[derive(Debug, Clone, Copy, PartialEq, Eq)]
+#[derive(Clone, Copy)]
 enum RunError {
     Reported(ReportedError),
     /// A read or a write failed; nothing more is printed.

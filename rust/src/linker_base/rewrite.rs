@@ -3,7 +3,7 @@
 //! What the rewrites of all architectures share.
 
 /// The bytes that a linker deletes after a rewrite.
-#[derive(Debug, Clone, Copy, PartialEq, Eq, Hash)]
+#[derive(Clone, Copy, Debug, PartialEq, Eq, Hash)]
 pub struct DeletedBytes {
     /// Where they begin, in bytes from the rewrite's offset.
     pub start: u64,
@@ -23,7 +23,7 @@ pub struct DeletedBytes {
 /// assert_eq!(window, RewriteWindow { back: 2, len: 6 });
 /// ```
 #[repr(C)]
-#[derive(Debug, Default, Clone, Copy, PartialEq, Eq, Hash)]
+#[derive(Default, Clone, Copy, Debug, PartialEq, Eq, Hash)]
 pub struct RewriteWindow {
     /// How many bytes before the rewrite's offset the window begins.
     pub back: u64,

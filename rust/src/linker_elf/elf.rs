@@ -164,7 +164,7 @@ pub enum RelocationKind {
 /// What a relocation of a ULEB128 number does with its value, S + A. Two of them are at one
 /// number. `utils::write_uleb128` writes the result of both: that of the first may
 /// need more bytes than there are.
-#[derive(Debug, Clone, Copy, PartialEq, Eq, Hash)]
+#[derive(Clone, Copy, Debug, PartialEq, Eq, Hash)]
 pub enum Uleb128Role {
     /// The value is the number that the next one subtracts from.
     Sets,

@@ -6,7 +6,7 @@ use crate::linker_output::description::Target;
 use crate::linker_section::needed::EntryClass;
 
 /// A type of dynamic relocations.
-#[derive(Debug, Clone, Copy, PartialEq, Eq)]
+#[derive(Clone, Copy, Debug, PartialEq, Eq)]
 pub struct DynamicType {
     /// The code, `r_type` in ELF files.
     pub code: u32,
@@ -15,7 +15,7 @@ pub struct DynamicType {
 }
 
 /// The types of dynamic relocations that a linker emits.
-#[derive(Debug, Clone, Copy, PartialEq, Eq)]
+#[derive(Clone, Copy, Debug, PartialEq, Eq)]
 pub struct DynamicTypes {
     /// A word with S + A.
     pub word: DynamicType,

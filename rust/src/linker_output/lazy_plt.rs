@@ -13,7 +13,7 @@ use crate::linker_base::rewrite::overwrite;
 use crate::elf::{Architecture, Operands, RelocateError};
 
 /// What a field of a lazy PLT's code is computed from.
-#[derive(Debug, Clone, Copy, PartialEq, Eq)]
+#[derive(Clone, Copy, Debug, PartialEq, Eq)]
 pub enum LazyTarget {
     /// The address of the entry's word, and in the header that of the first word of `.got.plt`.
     Word,
@@ -24,7 +24,7 @@ pub enum LazyTarget {
 }
 
 /// A field of a lazy PLT's code.
-#[derive(Debug, Clone, Copy, PartialEq, Eq)]
+#[derive(Clone, Copy, Debug, PartialEq, Eq)]
 pub struct LazyField {
     /// Its place in the piece of code, and the relocation whose value it takes.
     pub field: StubField,
@@ -37,7 +37,7 @@ pub struct LazyField {
 }
 
 /// A piece of code with at most one field.
-#[derive(Debug, Clone, Copy, PartialEq, Eq)]
+#[derive(Clone, Copy, Debug, PartialEq, Eq)]
 pub struct LazyPiece {
     /// The code, in which the field is 0, and zeros after it.
     pub code: [u8; 8],
@@ -48,7 +48,7 @@ pub struct LazyPiece {
 }
 
 /// What a word of `.got.plt` holds before the dynamic linker changes it.
-#[derive(Debug, Clone, Copy, PartialEq, Eq)]
+#[derive(Clone, Copy, Debug, PartialEq, Eq)]
 pub enum LazyWord {
     /// 0.
     Zero,
@@ -83,7 +83,7 @@ pub struct LazyPlt {
 
 /// What an entry is written from.
 #[repr(C)]
-#[derive(Debug, Clone, Copy, PartialEq, Eq)]
+#[derive(Clone, Copy, Debug, PartialEq, Eq)]
 pub struct LazyEntry {
     /// Its address.
     pub address: u64,

@@ -21,7 +21,7 @@ use crate::linker_base::relaxation::OutOfMemory;
 
 /// A branch that may need a stub.
 #[repr(C)]
-#[derive(Debug, Clone, Copy, PartialEq, Eq)]
+#[derive(Clone, Copy, Debug, PartialEq, Eq)]
 pub struct Branch {
     /// Its offset.
     pub offset: u64,
@@ -35,7 +35,7 @@ pub struct Branch {
 
 /// What a stub is like.
 #[repr(C)]
-#[derive(Debug, Clone, Copy, PartialEq, Eq)]
+#[derive(Clone, Copy, Debug, PartialEq, Eq)]
 pub struct StubShape {
     /// How many bytes it has.
     pub len: u64,
@@ -63,7 +63,7 @@ pub struct Code<'a> {
 }
 
 /// Which of the stubs at a boundary a stub is one of.
-#[derive(Debug, Clone, Copy, PartialEq, Eq)]
+#[derive(Clone, Copy, PartialEq, Eq, Debug)]
 pub enum Part {
     /// The first ones, which are counted from the first one on.
     Front,
@@ -74,7 +74,7 @@ pub enum Part {
 }
 
 /// A stub.
-#[derive(Debug, Clone, Copy, PartialEq, Eq)]
+#[derive(Clone, Copy, Debug, PartialEq, Eq)]
 pub struct StubAt {
     /// The index of the boundary at which it stands.
     pub boundary: usize,
@@ -87,7 +87,7 @@ pub struct StubAt {
 }
 
 /// How many stubs there are at a boundary.
-#[derive(Debug, Clone, Copy, PartialEq, Eq)]
+#[derive(Clone, Copy, Debug, PartialEq, Eq)]
 pub struct Group {
     /// The first ones.
     pub front: u64,
@@ -98,7 +98,7 @@ pub struct Group {
 }
 
 /// By what a branch goes.
-#[derive(Debug, Clone, Copy, PartialEq, Eq)]
+#[derive(Clone, Copy)]
 enum Way {
     /// To its target.
     Direct,
@@ -186,7 +186,7 @@ const LIMIT: u64 = 1 << 62;
 const MOST_PASSES: u32 = 32;
 
 /// What became of a branch in a sweep.
-#[derive(Debug, Clone, Copy, PartialEq, Eq)]
+#[derive(Clone, Copy)]
 enum Visit {
     /// It reaches what it goes by.
     Served,
@@ -199,7 +199,7 @@ enum Visit {
 }
 
 /// What a sweep over the branches did.
-#[derive(Debug, Clone, Copy, PartialEq, Eq)]
+#[derive(Clone, Copy, Debug, PartialEq, Eq)]
 enum Sweep {
     /// Each branch reaches what it goes by.
     Settled,

@@ -23,7 +23,7 @@ use crate::elf::Ppc64Instruction;
 use crate::ppc64::Ppc64Relocation;
 
 /// How a branch goes.
-#[derive(Debug, Clone, Copy, PartialEq, Eq)]
+#[derive(Clone, Copy, Debug, PartialEq, Eq)]
 pub enum Route {
     /// To its target: the value of its relocation can be written, and on PowerPC64 the function
     /// gets, and the caller keeps, the TOC pointer.
@@ -42,7 +42,7 @@ pub enum Route {
 }
 
 /// Why a branch goes no way.
-#[derive(Debug, Clone, Copy, PartialEq, Eq)]
+#[derive(Clone, Copy, Debug, PartialEq, Eq)]
 pub enum RouteError {
     /// No stub may serve the relocation: it isn't that of a branch, and its formula has no L. Or
     /// its code has no row.

@@ -7,7 +7,7 @@ use crate::linker_base::rewrite::overwrite;
 use crate::elf::{AllowedRange, Architecture, Operands, RelocateError};
 
 /// A stub that a linker adds to code.
-#[derive(Debug, Clone, Copy, PartialEq, Eq)]
+#[derive(Clone, Copy, Debug, PartialEq, Eq)]
 pub enum StubKind {
     /// It jumps to the address that a word of 8 bytes has: to a function of another output, whose
     /// address the dynamic linker puts there, or to what an indirect function returns.
@@ -17,7 +17,7 @@ pub enum StubKind {
 }
 
 /// Why a stub isn't written.
-#[derive(Debug, Clone, Copy, PartialEq, Eq)]
+#[derive(Clone, Copy, Debug, PartialEq, Eq)]
 pub enum StubError {
     /// The architecture has no such stub: branches reach as far as it would.
     Missing,
@@ -28,7 +28,7 @@ pub enum StubError {
 }
 
 /// A field of a stub's code.
-#[derive(Debug, Clone, Copy, PartialEq, Eq)]
+#[derive(Clone, Copy, Debug, PartialEq, Eq)]
 pub struct StubField {
     /// Its offset in the pair.
     pub offset: usize,
@@ -39,7 +39,7 @@ pub struct StubField {
 }
 
 /// The code of a stub: 8 bytes with the fields, and what stands before and after these.
-#[derive(Debug, Clone, Copy, PartialEq, Eq)]
+#[derive(Clone, Copy, Debug, PartialEq, Eq)]
 pub struct Stub {
     /// The code before the pair.
     pub head: &'static [u8],

@@ -5,7 +5,7 @@
 use crate::linker_base::bit_misc::BitRange;
 
 /// Some bits of a number of 64 bits, a relocation's value or an address.
-#[derive(Debug, Clone, Copy, PartialEq, Eq)]
+#[derive(Clone, Copy, Debug, PartialEq, Eq)]
 pub struct FieldValue {
     /// Which bits of the sum of the number and `rounding` are known. Bit 0 is the lowest.
     pub known: BitRange,

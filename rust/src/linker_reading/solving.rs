@@ -9,7 +9,7 @@ use crate::linker_elf::elf::{
 };
 
 /// Which address a relocation's value is computed from.
-#[derive(Debug, Clone, Copy, PartialEq, Eq)]
+#[derive(Clone, Copy, Debug, PartialEq, Eq)]
 pub enum Reference {
     /// S + A.
     Symbol,
@@ -20,7 +20,7 @@ pub enum Reference {
 }
 
 /// What is taken off it.
-#[derive(Debug, Clone, Copy, PartialEq, Eq)]
+#[derive(Clone, Copy, Debug, PartialEq, Eq)]
 pub enum Origin {
     /// Nothing.
     Zero,
@@ -34,7 +34,7 @@ pub enum Origin {
 
 /// The terms of the formula of a value: the address, biased and cut to its page where the row says
 /// so, less the origin.
-#[derive(Debug, Clone, Copy, PartialEq, Eq)]
+#[derive(Clone, Copy, Debug, PartialEq, Eq)]
 pub struct Terms {
     /// The address.
     pub reference: Reference,

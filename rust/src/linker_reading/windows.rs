@@ -135,7 +135,7 @@ pub(crate) fn least_window<N: RecognisedName>(
 }
 
 /// Where a recognised relocation leads.
-#[derive(Debug, Clone, Copy, PartialEq, Eq)]
+#[derive(Clone, Copy, Debug, PartialEq, Eq)]
 pub struct Destination {
     /// Which address it is.
     pub reference: Reference,

@@ -19,7 +19,7 @@ use crate::elf::{Architecture, Choice, InstructionRewrite, RewriteWindow};
 use crate::relaxation::AsDeletion;
 
 /// What a relocation is of once its instruction is rewritten.
-#[derive(Debug, Clone, Copy, PartialEq, Eq)]
+#[derive(Clone, Copy, Debug, PartialEq, Eq)]
 pub struct Subject {
     /// The index of its symbol.
     pub symbol: u32,
@@ -28,7 +28,7 @@ pub struct Subject {
 }
 
 /// What becomes of a relocation and of its instruction.
-#[derive(Debug, Clone, Copy, PartialEq, Eq)]
+#[derive(Clone, Copy, Debug, PartialEq, Eq)]
 pub enum Decision {
     /// Both stay as they are.
     Kept,
@@ -82,7 +82,7 @@ impl FromDeletion for (u64, u32) {
 }
 
 /// Why a section isn't rewritten.
-#[derive(Debug, Clone, Copy, PartialEq, Eq)]
+#[derive(Clone, Copy, Debug, PartialEq, Eq)]
 pub enum RewritingError {
     /// There are fewer decisions than relocations, or less room for deletions than there are.
     TooShort,

@@ -23,7 +23,7 @@ use crate::riscv64::{RelaxationKind, RiscVRelocation};
 use crate::utils::u32_from_slice;
 
 /// What the instruction of a relocation is of an address.
-#[derive(Debug, Clone, Copy, PartialEq, Eq)]
+#[derive(Clone, Copy, PartialEq, Eq, Debug)]
 pub(crate) enum Part {
     /// A high part, with its opcode.
     High(u32),

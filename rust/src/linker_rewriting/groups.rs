@@ -18,7 +18,7 @@ use crate::x86_64::X86_64Relocation;
 
 /// A kind of groups. The relocations of a group are those of one kind and one symbol in an object,
 /// whatever their addends; of local-dynamic TLS all of an object.
-#[derive(Debug, Clone, Copy, PartialEq, Eq)]
+#[derive(Clone, Copy, Debug, PartialEq, Eq)]
 pub enum Group {
     /// Loads of an offset from the thread pointer, of initial-exec TLS; in the phase of these
     /// offsets the instructions that have them.
@@ -35,7 +35,7 @@ pub enum Group {
 }
 
 /// What is rewritten together with the instruction of a relocation in a phase.
-#[derive(Debug, Clone, Copy, PartialEq, Eq)]
+#[derive(Clone, Copy, Debug, PartialEq, Eq)]
 pub enum Scope {
     /// It isn't rewritten.
     Unlisted,
@@ -59,7 +59,7 @@ pub enum Scope {
 /// (`r_sym`). That of index 0 is of all of the object: it has local-dynamic TLS, and what stays
 /// whichever symbol it is of. By default none stays.
 #[repr(C)]
-#[derive(Debug, Default, Clone, Copy, PartialEq, Eq)]
+#[derive(Default, Clone, Copy, Debug, PartialEq, Eq)]
 pub struct KeptGroups {
     /// Those of `Group::InitialExec`.
     pub initial_exec: bool,

@@ -15,7 +15,7 @@ use crate::ppc64::Ppc64Relocation;
 use crate::riscv64::RiscVRelocation;
 
 /// A sequence of AArch64 whose relocations are next to each other.
-#[derive(Debug, Clone, Copy, PartialEq, Eq)]
+#[derive(Clone, Copy, Debug, PartialEq, Eq)]
 pub(crate) enum Sequence {
     /// The four of a TLS descriptor.
     Descriptor,

@@ -17,7 +17,7 @@ pub(crate) use list::ItemList;
 pub use rewritten::{RewrittenItemsError, rewritten_items_into};
 
 /// A relocation of a section.
-#[derive(Debug, Clone, Copy, PartialEq, Eq, Hash)]
+#[derive(Clone, Copy, Debug, PartialEq, Eq, Hash)]
 pub struct Relocation {
     /// Its place, `r_offset`: an offset in the section.
     pub offset: u64,
@@ -76,7 +76,7 @@ impl AsItem for Item {
 
 /// Why no items are made of relocations.
 #[cfg_attr(not(exhaustive), non_exhaustive)]
-#[derive(Debug, Clone, Copy, PartialEq, Eq, Hash)]
+#[derive(Clone, Copy, Debug, PartialEq, Eq, Hash)]
 pub enum ItemsError {
     /// Out of memory for the items.
     OutOfMemory,

@@ -18,7 +18,7 @@ use crate::linker_base::relaxation::{DeltaSlice, RelaxDelta};
 use crate::elf::Architecture;
 
 /// The architecture of a section's code.
-#[derive(Debug, Clone, Copy, PartialEq, Eq)]
+#[derive(Clone, Copy, Debug, PartialEq, Eq)]
 pub enum Machine {
     /// RISC-V of 64 bits.
     #[cfg(feature = "riscv64")]
@@ -49,7 +49,7 @@ impl Machine {
 }
 
 /// Why an item isn't written.
-#[derive(Debug, Clone, Copy, PartialEq, Eq)]
+#[derive(Clone, Copy, Debug, PartialEq, Eq)]
 pub enum ItemError {
     /// It begins below the end of the item before it.
     Overlaps,
@@ -71,7 +71,7 @@ pub enum ItemError {
 }
 
 /// The first item of a section that can't be written.
-#[derive(Debug, Clone, Copy, PartialEq, Eq)]
+#[derive(Clone, Copy, Debug, PartialEq, Eq)]
 pub struct RejectedItem {
     /// Its index among the items, or how many there are.
     pub index: usize,

@@ -20,7 +20,7 @@ use validity::is_power_of_two;
 
 /// One form of the instructions of a site, as C has it.
 #[repr(C)]
-#[derive(Debug, Clone, Copy, PartialEq, Eq, Hash)]
+#[derive(Clone, Copy, PartialEq, Eq, Debug, Hash)]
 pub struct Shape {
     /// How far below its output offset the target may lie, in bytes.
     pub max_backward: u64,
@@ -34,7 +34,7 @@ pub struct Shape {
 
 /// The forms that the instructions of a site can have, by ascending length, as C has them.
 #[repr(C)]
-#[derive(Debug, Clone, Copy, PartialEq, Eq, Hash)]
+#[derive(Clone, Copy, PartialEq, Eq, Debug, Hash)]
 pub struct Shapes {
     /// The short forms, of which the first `count` count.
     pub short: [Shape; 2],
@@ -45,7 +45,7 @@ pub struct Shapes {
 }
 
 /// Instructions that can become shorter where they reach their target.
-#[derive(Debug, Clone, Copy, PartialEq, Eq, Hash)]
+#[derive(Clone, Copy, Debug, PartialEq, Eq, Hash)]
 pub struct Site {
     /// The input offset of its first byte.
     pub offset: u64,
@@ -59,7 +59,7 @@ pub struct Site {
 }
 
 /// Nops that align what follows them.
-#[derive(Debug, Clone, Copy, PartialEq, Eq, Hash)]
+#[derive(Clone, Copy, Debug, PartialEq, Eq, Hash)]
 pub struct Alignment {
     /// The input offset of the first nop.
     pub offset: u64,
@@ -72,7 +72,7 @@ pub struct Alignment {
 }
 
 /// A part of a run that relaxation may shorten.
-#[derive(Debug, Clone, Copy, PartialEq, Eq, Hash)]
+#[derive(Clone, Copy, Debug, PartialEq, Eq, Hash)]
 pub enum Item {
     /// Instructions.
     Site(Site),

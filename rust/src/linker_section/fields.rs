@@ -40,7 +40,7 @@ pub(crate) fn uleb_len(bytes: &[u8]) -> usize {
 }
 
 /// The bytes of a section that a relocation writes.
-#[derive(Debug, Clone, Copy, PartialEq, Eq)]
+#[derive(Clone, Copy, Debug, PartialEq, Eq)]
 pub(crate) struct Field {
     /// The offset of its first byte.
     pub(crate) offset: u64,

@@ -14,7 +14,7 @@ use crate::linker_base::utils::{self, Uleb128Error};
 use crate::elf::{Architecture, RelocateError, RelocationKind, Row};
 
 /// Why a relocation's value isn't written.
-#[derive(Debug, Clone, Copy, PartialEq, Eq)]
+#[derive(Clone, Copy, Debug, PartialEq, Eq)]
 pub enum RelocationError {
     /// It has no value.
     Value(ValueError),
@@ -34,7 +34,7 @@ pub enum RelocationError {
 }
 
 /// The first relocation of a section whose value isn't written.
-#[derive(Debug, Clone, Copy, PartialEq, Eq)]
+#[derive(Clone, Copy, Debug, PartialEq, Eq)]
 pub struct SectionError {
     /// Its index.
     pub index: usize,

@@ -15,7 +15,7 @@ use crate::elf::RiscVInstruction;
 use crate::x86_64::X86_64Relocation;
 
 /// Why a relocation has no value.
-#[derive(Debug, Clone, Copy, PartialEq, Eq)]
+#[derive(Clone, Copy, Debug, PartialEq, Eq)]
 pub enum ValueError {
     /// Its code has no row: no object's relocation has it.
     UnknownType,

@@ -14,7 +14,7 @@ use crate::loongarch64::highest_relocation_with_bias;
 /// or sizes in bytes. A value is computed modulo 2^64. What the relocation's formula doesn't name
 /// isn't read. Where it names an entry or an origin that there isn't, by its flag, it has no value.
 #[repr(C)]
-#[derive(Debug, Default, Clone, Copy, PartialEq, Eq)]
+#[derive(Default, Clone, Copy)]
 pub struct Operands {
     /// S: the symbol's address, and of a TLS symbol its address in the TLS segment's image. Of
     /// `R_RISCV_PCREL_LO12_*` it is the address that the high part at the label refers to: that of

@@ -16,7 +16,7 @@ use linker_elf::elf::{RelocateError, RelocationKind, RelocationSize, Row};
 
 /// Some of the bits of the eight bytes from an offset of a window on.
 #[repr(C)]
-#[derive(Debug, Clone, Copy, PartialEq, Eq)]
+#[derive(Clone, Copy)]
 pub struct FieldBits {
     /// The offset in bytes.
     pub offset: u64,

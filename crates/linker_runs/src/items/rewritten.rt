@@ -21,7 +21,7 @@ use crate::shapes::fixed;
 use linker_base::relaxation::AsDeletion;
 
 /// Why no items are made of a section that was rewritten.
-#[derive(Debug, Clone, Copy, PartialEq, Eq)]
+#[derive(Clone, Copy)]
 pub enum RewrittenItemsError {
     /// The index of the first relocation that isn't what the psABI allows.
     Malformed(usize),

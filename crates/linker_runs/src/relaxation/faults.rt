@@ -18,7 +18,7 @@ use crate::shapes::loongarch64::CALL36;
 ///
 /// An alignment is *still* if it divides u, has no limit, and has the nops that its input address
 /// needs, and beside these a multiple of u. It keeps the same nops in each layout.
-#[derive(Debug, Clone, Copy, PartialEq, Eq)]
+#[derive(Clone, Copy)]
 pub enum Fault {
     /// It begins below the end of the item before it.
     Overlaps,
@@ -58,7 +58,7 @@ pub enum Fault {
 }
 
 /// A faulty item of a run.
-#[derive(Debug, Clone, Copy, PartialEq, Eq)]
+#[derive(Clone, Copy)]
 pub struct ItemFault {
     /// The item's index.
     pub index: usize,

@@ -6,7 +6,7 @@ use crate::linker_elf::elf::{InstructionRewrite, Operands, Row};
 
 /// What a linker knows of a relocation's symbol and of its output when it chooses a rewrite. By
 /// default no fact holds, and nothing is rewritten.
-#[derive(Debug, Default, Clone, Copy, PartialEq, Eq, Hash)]
+#[derive(Default, Clone, Copy, Debug, PartialEq, Eq, Hash)]
 pub struct LinkFacts {
     /// The symbol is defined in this output, and no other definition can replace it at run time.
     pub is_local: bool,
@@ -67,7 +67,7 @@ pub struct LinkFacts {
 }
 
 /// A rewrite of an instruction, and the relocation whose value is then written.
-#[derive(Debug, Clone, Copy, PartialEq, Eq, Hash)]
+#[derive(Clone, Copy, PartialEq, Eq, Debug, Hash)]
 pub struct Choice<K, R> {
     /// The rewrite; `NoOp` where none is chosen, and where only the relocation changes.
     pub kind: K,
@@ -102,7 +102,7 @@ impl<K: InstructionRewrite, R: Copy + PartialEq> Choice<K, R> {
 
 /// The relocation of another instruction that a rewrite changes too. Whatever relocation is there
 /// becomes this one, whether its value was written before the rewrite or is written after it.
-#[derive(Debug, Clone, Copy, PartialEq, Eq)]
+#[derive(Clone, Copy, PartialEq, Eq, Debug)]
 pub struct OtherRelocation<R> {
     /// Where it is, in bytes from the offset of the rewrite's own relocation.
     pub offset: i64,

@@ -21,7 +21,7 @@ pub const MAX_WINDOW: usize = 64;
 pub type Choices<K, R> = ([Choice<K, R>; CANDIDATES], usize);
 
 /// A choice that leaves the linked bytes, and what stands in the field of its relocation there.
-#[derive(Debug, Clone, Copy, PartialEq, Eq)]
+#[derive(Clone, Copy, Debug, PartialEq, Eq)]
 pub struct Recognised<K, R> {
     /// The rewrite, and the relocation after it.
     pub choice: Choice<K, R>,

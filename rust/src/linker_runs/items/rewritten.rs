@@ -9,7 +9,7 @@ use crate::linker_runs::shapes::fixed;
 use crate::linker_base::relaxation::AsDeletion;
 
 /// Why no items are made of a section that was rewritten.
-#[derive(Debug, Clone, Copy, PartialEq, Eq)]
+#[derive(Clone, Copy, Debug, PartialEq, Eq)]
 pub enum RewrittenItemsError {
     /// The index of the first relocation that isn't what the psABI allows.
     Malformed(usize),

@@ -15,7 +15,7 @@ use crate::linker_runs::shapes::loongarch64::CALL36;
 /// An alignment is *still* if it divides u, has no limit, and has the nops that its input address
 /// needs, and beside these a multiple of u. It keeps the same nops in each layout.
 #[cfg_attr(not(exhaustive), non_exhaustive)]
-#[derive(Debug, Clone, Copy, PartialEq, Eq, Hash)]
+#[derive(Clone, Copy, Debug, PartialEq, Eq, Hash)]
 pub enum Fault {
     /// It begins below the end of the item before it.
     Overlaps,
@@ -55,7 +55,7 @@ pub enum Fault {
 }
 
 /// A faulty item of a run.
-#[derive(Debug, Clone, Copy, PartialEq, Eq, Hash)]
+#[derive(Clone, Copy, Debug, PartialEq, Eq, Hash)]
 pub struct ItemFault {
     /// The item's index.
     pub index: usize,
