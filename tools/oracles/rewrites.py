@@ -42,7 +42,7 @@ def run(*command):
 def write_table(name, text):
     """Writes the lines of a file of tables."""
     file = TABLES / name
-    file.write_text("\n".join(text) + "\n")
+    file.write_text("\n".join(["// SPDX-License-Identifier: MIT OR Apache-2.0", *text]) + "\n")
     run("rustfmt", "--edition", "2024", str(file))
 
 

@@ -123,6 +123,8 @@ def arguments(name, is_of_rt_ci=True):
 
 
 def main(words):
+    if words[-1] not in crates():
+        usage.reject(f"no crate: {words[-1]}")
     if words[0] == "--wait":
         return not wait(*words[1:])
     if words[0] == "--build":

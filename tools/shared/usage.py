@@ -10,3 +10,10 @@ if Path(sys.argv[0]).is_file():
     status = subprocess.run(check).returncode
     if status != 100:
         sys.exit(status)
+
+
+def reject(why):
+    """Ends the script after an argument of which usage.sh doesn't know that it is wrong."""
+    usages = sys.modules["__main__"].__doc__.partition("usage: ")[2].strip()
+    print(f"{sys.argv[0]}: {why}\nusage: {usages}", file=sys.stderr)
+    sys.exit(2)

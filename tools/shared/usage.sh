@@ -5,12 +5,14 @@
 #
 # A usage is a line `usage: NAME WORD..`, or one below it that begins with the name; a line below that
 # begins with `[` goes on. Two spaces end it. A word in capitals stands for an argument, and a smaller one
-# for itself; such a one right after the name is the first argument. Brackets are around what may be left out, `|` is between alternatives, and after `..` there
-# may be more. A word in capitals right after an option is its value. OPTION is any option.
+# for itself; such a one right after the name is the first argument. Brackets are around what may be left
+# out, and after `..` there may be more. `|` is between alternatives: of options only one may be given. A
+# word in capitals right after an option is its value. OPTION is any option.
 
 # Whether a usage allows the arguments.
 usage_allows() {
     local words word required=() depth=0 option='' slot='' least=0 most=0 other='' options=' ' valued=' ' literals=' '
+    local either=() group='' bar='' before
     word=${1//\[/ [ } word=${word//\]/ ] }
     read -ra words <<< "${word//|/ | }"
     shift
@@ -19,11 +21,14 @@ usage_allows() {
         case $word in
         '[') depth=$((depth + 1)) option='' slot='' ;;
         ']') depth=$((depth - 1)) option='' slot='' ;;
-        '|') option='' ; [ -z "$slot" ] || slot=alternative ;;
+        '|') option='' bar=1; [ -z "$slot" ] || slot=alternative ;;
         OPTION) other=1 most=1000 options+='.. ' ;;
         ..) most=1000 ;;
         -*)
             option=$word options+="$word " slot=''
+            [ -n "$bar" ] || group=''
+            for before in $group; do either+=("$before $word"); done
+            group+=" $word" bar=''
             [ $depth -gt 0 ] || required+=("$word")
             ;;
         *)
@@ -61,6 +66,9 @@ usage_allows() {
     done
     for word in "${required[@]}"; do
         [[ " $* " == *" $word"[\ =]* ]] || return 1
+    done
+    for word in "${either[@]}"; do
+        [[ " $* " != *" ${word% *}"[\ =]* || " $* " != *" ${word#* }"[\ =]* ]] || return 1
     done
     [ -z "$value" ] && [ $count -ge $least ] && [ $count -le $most ]
 }
