@@ -47,6 +47,9 @@ IMPORTS = {r"Vec": "alloc::vec::Vec", r"String": "alloc::string::String",
 # What `rust/additions.txt` adds that isn't an attribute.
 WORDS_ADDED = {"const", "pub(crate)"}
 ADDITIONS = "rust/additions.txt"
+# Paths of the source, and those here.
+SHOWN_AS = {r"reading::recognise(?:::fields)?": "recognise", r"reading::\w+": "reading", r"section::\w+": "section",
+            r"rewriting::\w+": "rewriting", r"output::placement": "placement", r"output::\w+": "output"}
 # The folder of the exports, and what an export may pass by value. A pointer may also be to a struct
 # with C's layout.
 EXPORTS = "rust/exports/src"
@@ -275,19 +278,10 @@ def erase(source, contracts, moved, is_std, taking, added, found):
     # an addition that inlines takes the place of the source's
     text = re.sub(r"(#\[cfg_attr\(.*, inline\(always\)\)\]\n(?: *#\[.*\]\n)*?) *#\[inline\(always\)\]\n",
                   r"\1", text)
-    # examples in the docs
-    text = re.sub(r"(?m)^( *//[/!].*)\blinker_reading::recognise::(?:fields::)?",
-                  r"\1linker_utils::recognise::", text)
-    text = re.sub(r"(?m)^( *//[/!].*)\blinker_reading::\w+::", r"\1linker_utils::reading::", text)
-    text = re.sub(r"(?m)^( *//[/!].*)\blinker_section::\w+::", r"\1linker_utils::section::", text)
-    text = re.sub(r"(?m)^( *//[/!].*)\blinker_rewriting::\w+::", r"\1linker_utils::rewriting::", text)
-    text = re.sub(r"(?m)^( *//[/!].*)\blinker_output::placement::", r"\1linker_utils::placement::", text)
-    text = re.sub(r"(?m)^( *//[/!].*)\blinker_output::\w+::", r"\1linker_utils::output::", text)
-    # a module there has the items of all of these here
-    text = re.sub(r"(?m)^(use linker_utils::)reading::recognise::(?:fields::)?", r"\1recognise::", text)
-    text = re.sub(r"(?m)^(use linker_utils::reading::)\w+::", r"\1", text)
-    text = re.sub(r"(?m)^(use linker_utils::)output::placement::", r"\1placement::", text)
-    text = re.sub(r"(?m)^(use linker_utils::(?:section|rewriting|output)::)\w+::", r"\1", text)
+    # in examples of the docs, and in `use`: a module here has the items of all of these there
+    for there, here in SHOWN_AS.items():
+        text = re.sub(rf"(?m)^( *//[/!].*)\blinker_{there}::", rf"\1linker_utils::{here}::", text)
+        text = re.sub(rf"(?m)^(use linker_utils::){there}::", rf"\1{here}::", text)
     text = re.sub(r"(\{\n|\n\n|\A)\n+", r"\1", text)
     return re.sub(r"\n+(\n *\})", r"\1", text)
 
@@ -394,42 +388,21 @@ LEFT_OUT = {"linkfix/src/sections.rt", "linkfix/src/tests.rt", "linker_output/sr
             "linker_output/src/lazy_laws.rt", "linker_rewriting/src/laws.rt",
             "linker_runs/src/laws.rt"}
 ARCHITECTURES = ["aarch64", "loongarch64", "ppc64", "riscv64", "x86_64"]
-OF_ARCHITECTURES = {f"linker_{name}": f"crate::{name}" for name in ARCHITECTURES}
+# The crates of the library that are a module here, and paths of crates here.
+MODULES = {"linker_base": "linker_base", "linker_elf": "linker_elf"}
+MODULES |= {f"linker_{name}": name for name in ARCHITECTURES}
+MODULES |= {f"linker_{name}": f"linker_{name}" for name in ("runs", "reading", "section", "rewriting", "output")}
+PATHS = {crate: f"crate::{module}" for crate, module in MODULES.items()} | {"linker_utils": "crate"}
 # Each crate of the source: its folder and root here, and its paths that move. What its root begins with
 # stands in `rust/head`.
 TARGETS = [
-    ("linker_base", "rust/src/linker_base", "rust/src/linker_base.rs", {"crate": "crate::linker_base"}),
-    ("linker_elf", "rust/src/linker_elf", "rust/src/linker_elf.rs",
-     {"crate": "crate::linker_elf", "linker_base": "crate::linker_base"}),
-    *((f"linker_{name}", f"rust/src/{name}", f"rust/src/{name}.rs",
-       {"crate": f"crate::{name}", "linker_base": "crate::linker_base", "linker_elf": "crate::linker_elf"})
-      for name in ARCHITECTURES),
-    ("linker_utils", "rust/src", "rust/src/lib.rs",
-     {"linker_base": "crate::linker_base", "linker_elf": "crate::linker_elf", **OF_ARCHITECTURES}),
-    ("linker_runs", "rust/src/linker_runs", "rust/src/linker_runs.rs",
-     {"crate": "crate::linker_runs", "linker_base": "crate::linker_base", "linker_elf": "crate::linker_elf",
-      "linker_section": "crate::linker_section", "linker_utils": "crate",
-      **OF_ARCHITECTURES}),
-    ("linker_reading", "rust/src/linker_reading", "rust/src/linker_reading.rs",
-     {"crate": "crate::linker_reading", "linker_base": "crate::linker_base",
-      "linker_elf": "crate::linker_elf", "linker_utils": "crate"}),
-    ("linker_section", "rust/src/linker_section", "rust/src/linker_section.rs",
-     {"crate": "crate::linker_section", "linker_base": "crate::linker_base",
-      "linker_elf": "crate::linker_elf", "linker_utils": "crate"}),
-    ("linker_rewriting", "rust/src/linker_rewriting", "rust/src/linker_rewriting.rs",
-     {"crate": "crate::linker_rewriting", "linker_base": "crate::linker_base",
-      "linker_elf": "crate::linker_elf", "linker_section": "crate::linker_section",
-      "linker_utils": "crate"}),
-    ("linker_output", "rust/src/linker_output", "rust/src/linker_output.rs",
-     {"crate": "crate::linker_output", "linker_base": "crate::linker_base",
-      "linker_elf": "crate::linker_elf", "linker_section": "crate::linker_section",
-      "linker_utils": "crate"}),
+    *((crate, f"rust/src/{module}", f"rust/src/{module}.rs", PATHS | {"crate": f"crate::{module}"})
+      for crate, module in MODULES.items()),
+    ("linker_utils", "rust/src", "rust/src/lib.rs", PATHS),
     ("vectors", "rust/vectors/src", "rust/vectors/src/lib.rs", {}),
     ("linkfix", "rust/linkfix/src", "rust/linkfix/src/main.rs", {"std": "std"}),
     ("linker_utils_c", EXPORTS, f"{EXPORTS}/lib.rs",
-     {"linker_runs": "linker_utils::runs", "linker_reading": "linker_utils::reading",
-      "linker_section": "linker_utils::section", "linker_rewriting": "linker_utils::rewriting",
-      "linker_output": "linker_utils::output"}),
+     {f"linker_{name}": f"linker_utils::{name}" for name in ("runs", "reading", "section", "rewriting", "output")}),
 ]
 
 
