@@ -1,5 +1,5 @@
 /* SPDX-License-Identifier: MIT OR Apache-2.0 */
-/* What is written by hand of include/linker_utils_inline.h, which `tools/declarations` makes. */
+/* What is written by hand of include/linker_utils_inline.h, which `tools/generate` makes. */
 
 static inline const char *linker_utils_status_text(uint32_t status) {
     switch (status) {

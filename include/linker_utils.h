@@ -42,7 +42,7 @@
  *   `linker_utils_deletions_mergeable`. Such a call is not for a signal handler, nor for the forked
  *   child of a process with threads.
  *
- * Examples, of docs/MANUAL.md by tools/manual; each goes on from those before it:
+ * Examples, of docs/MANUAL.md by tools/generate; each goes on from those before it:
  *
  * Values:
  *     struct linker_utils_operands at = linker_utils_operands_of(0x402000, 0, 0x401000);

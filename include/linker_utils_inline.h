@@ -1,5 +1,5 @@
 /* SPDX-License-Identifier: MIT OR Apache-2.0 */
-/* Made by tools/declarations of the exports in crates/linker_utils_c/src and of the headers.
+/* Made by tools/generate of the exports in crates/linker_utils_c/src and of the headers.
  *
  * The inline functions of linker_utils.h, which includes this file and says what they do. No export
  * of the archive takes a null pointer to a slice, even with a count of 0. So each function replaces

@@ -586,7 +586,7 @@ enum linker_utils_modifier {
     LINKER_UTILS_MODIFIER_SKIP_NEXT_RELOCATION = 1
 };
 
-/* ---- The tables of choices, made by tools/choice_tables.
+/* ---- The tables of choices, made by tools/generate.
  * The first entry of a relocation is chosen whose instructions are at its offset and whose
  * conditions hold, and else NO_OP and the same relocation, as for any relocation that isn't listed.
  * Conditions are on struct linker_utils_link_facts, and on values by these words:

@@ -3,7 +3,7 @@
  * texts. No other header includes this file. <elf.h>, which has most of the constants, may be
  * included too, before it or after it.
  *
- * Made by tools/declarations of the tables in crates/linker_elf/src and crates/linker_output/src. */
+ * Made by tools/generate of the tables in crates/linker_elf/src and crates/linker_output/src. */
 #ifndef LINKER_UTILS_TYPES_H
 #define LINKER_UTILS_TYPES_H
 

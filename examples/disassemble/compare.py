@@ -16,9 +16,9 @@ from pathlib import Path
 
 sys.dont_write_bytecode = True
 sys.path.insert(0, str(Path(__file__).resolve().parents[2] / "tools"))
-import usage
-from disassembly import LOADS, MACHINES, instruction_of, signed
-from elf_file import ElfFile, is_archive, is_elf, members
+from shared import usage
+from shared.disassembly import LOADS, MACHINES, instruction_of, signed
+from shared.elf_file import ElfFile, is_archive, is_elf, members
 
 MACHINE = {183: "aarch64", 243: "riscv64", 258: "loongarch64", 21: "powerpc64le", 62: "x86_64"}
 

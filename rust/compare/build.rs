@@ -1,5 +1,5 @@
 // SPDX-License-Identifier: MIT OR Apache-2.0
-//! Writes a test of each export, and a call of it for `rust/fuzz`, from the heads of the functions that `tools/erase` put in
+//! Writes a test of each export, and a call of it for `rust/fuzz`, from the heads of the functions that `tools/generate` put in
 //! `../exports/src`.
 
 use std::fmt::Write;

@@ -1,6 +1,6 @@
 // SPDX-License-Identifier: MIT OR Apache-2.0
 //! Says where in sections instructions stand that a rewrite is chosen for, whatever a linker knows
-//! of the symbol and of its output. `tools/places` runs it.
+//! of the symbol and of its output. `tools/statistics/places.py` runs it.
 //!
 //! Without an argument it lists the relocations that any choice is made for, by `e_machine` and
 //! code. With the argument `-` it reads requests and writes a response to each. A request is three

@@ -1,6 +1,6 @@
 // SPDX-License-Identifier: MIT OR Apache-2.0
 //! Lists the tables of the rewrites that a linker chooses, of which `choose` takes the first that
-//! applies. `tools/choice_tables` makes the tables of the docs and of the header of it.
+//! applies. `tools/generate` makes the tables of the docs and of the header of it.
 //!
 //! A line has words with tabs between. An architecture is followed by its entries, each in its place,
 //! and by the relocations that their conditions name:

@@ -1,6 +1,6 @@
 // SPDX-License-Identifier: MIT OR Apache-2.0
 //! Lists what the library knows of each architecture, by `e_machine` of its files: each relocation
-//! with its code, its name and whether it has a row, and each rewrite. `tools/census` reads it.
+//! with its code, its name and whether it has a row, and each rewrite. `tools/statistics/census.py` reads it.
 
 use linker_utils::elf::Architecture;
 use std::io::{self, Write};

@@ -1,5 +1,5 @@
 // SPDX-License-Identifier: MIT OR Apache-2.0
-// Made by tools/erase of crates/linker_utils/src/architecture.rt.
+// Made by tools/generate of crates/linker_utils/src/architecture.rt.
 //! What the codes and numbers of an ELF file's architecture name: relocations by `r_type`, and
 //! forms and rewrites by their places in their enums.
 //!

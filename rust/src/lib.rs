@@ -1,5 +1,5 @@
 // SPDX-License-Identifier: MIT OR Apache-2.0
-// Made by tools/erase of crates/linker_utils/src/lib.rt.
+// Made by tools/generate of crates/linker_utils/src/lib.rt.
 //! The core of a linker: what relocations mean, how instructions are rewritten, and how values are
 //! written into them.
 //!

@@ -1,5 +1,5 @@
 // SPDX-License-Identifier: MIT OR Apache-2.0
-// Made by tools/erase of crates/linker_base/src/lib.rt.
+// Made by tools/generate of crates/linker_base/src/lib.rt.
 //! The base of the linker core: bits of numbers, readers of bytes, and the deletions of relaxation.
 
 pub mod bit_misc;

@@ -1,5 +1,5 @@
 // SPDX-License-Identifier: MIT OR Apache-2.0
-// Made by tools/erase of crates/linker_elf/src/lib.rt.
+// Made by tools/generate of crates/linker_elf/src/lib.rt.
 //! What relocations mean, the forms of instructions that hold their values, and writing these.
 
 #[cfg(feature = "aarch64")]

@@ -1,5 +1,5 @@
 // SPDX-License-Identifier: MIT OR Apache-2.0
-// Made by tools/erase of crates/linker_output/src/lib.rt.
+// Made by tools/generate of crates/linker_output/src/lib.rt.
 //! What a linker adds to an output, by architecture: the types of dynamic relocations, words of the
 //! GOT, origins of thread-local storage, `e_flags`, lazy PLTs, and the code of stubs; how a branch
 //! goes, and where stubs stand.

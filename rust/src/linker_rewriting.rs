@@ -1,5 +1,5 @@
 // SPDX-License-Identifier: MIT OR Apache-2.0
-// Made by tools/erase of crates/linker_rewriting/src/lib.rt.
+// Made by tools/generate of crates/linker_rewriting/src/lib.rt.
 //! The rewrites of a section in one call, before addresses are known and once they are: which
 //! instructions are rewritten, all of a group or none, and what becomes of their relocations.
 

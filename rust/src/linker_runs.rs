@@ -1,5 +1,5 @@
 // SPDX-License-Identifier: MIT OR Apache-2.0
-// Made by tools/erase of crates/linker_runs/src/lib.rt.
+// Made by tools/generate of crates/linker_runs/src/lib.rt.
 //! Runs of code that become shorter: the items that a section's relocations make, which
 //! instructions become shorter and how many nops each alignment keeps, and sections without the
 //! bytes that they lose.

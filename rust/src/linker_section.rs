@@ -1,5 +1,5 @@
 // SPDX-License-Identifier: MIT OR Apache-2.0
-// Made by tools/erase of crates/linker_section/src/lib.rt.
+// Made by tools/generate of crates/linker_section/src/lib.rt.
 //! The values of a section's relocations: relocations as a file has them, what each requires of a
 //! linker, and the value of each from what is known of symbols and of the output.
 

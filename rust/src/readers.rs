@@ -1,5 +1,5 @@
 // SPDX-License-Identifier: MIT OR Apache-2.0
-// Made by tools/erase of crates/linker_base/src/utils.rt.
+// Made by tools/generate of crates/linker_base/src/utils.rt.
 //! The readers of numbers of [`utils`](crate::utils) with a typed error: they need no feature and
 //! no dependency, and allocate nothing.
 

@@ -1,5 +1,5 @@
 // SPDX-License-Identifier: MIT OR Apache-2.0
-// Made by tools/declarations of the exports in crates/linker_utils_c/src and of the headers.
+// Made by tools/generate of the exports in crates/linker_utils_c/src and of the headers.
 //! The static library's own symbols, as `include/linker_utils.h` declares them: what each of them
 //! requires of pointers and counts, and does, is said there. No pointer to a slice may be null.
 

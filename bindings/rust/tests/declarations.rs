@@ -186,7 +186,7 @@ fn the_functions_are_those_of_the_library() {
         of_crate.remove(name).expect("it is declared");
     }
     let compiled = functions_of_rust("rust/exports/src/exported.rs", "extern \"C\" fn ");
-    assert_same(&of_crate, &compiled, "tools/erase");
+    assert_same(&of_crate, &compiled, "tools/generate");
 }
 
 // ---- what a C compiler makes of the header

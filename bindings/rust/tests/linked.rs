@@ -1,7 +1,7 @@
 // SPDX-License-Identifier: MIT OR Apache-2.0
 //! Relocations as ld.lld writes them, and where it stops to accept them: the words of
 //! `data/linked.txt` and `data/bounds.txt`, which LLVM made. Those of `data/gnu.txt` are GNU ld's
-//! (`tools/link_words`).
+//! (`tools/oracle relocations`).
 
 use sathunne::*;
 

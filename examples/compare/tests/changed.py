@@ -15,7 +15,7 @@ from pathlib import Path
 
 sys.dont_write_bytecode = True
 sys.path.insert(0, str(Path(__file__).resolve().parents[3] / "tools"))
-import usage
+from shared import usage
 from objects import MARKS, Object
 
 # high parts, and the low parts that go with them

@@ -4,7 +4,7 @@ import sys
 from pathlib import Path
 
 sys.path.insert(0, str(Path(__file__).resolve().parents[3] / "tools"))
-from elf_file import SHF_ALLOC, SHF_EXECINSTR, ElfFile
+from shared.elf_file import SHF_ALLOC, SHF_EXECINSTR, ElfFile
 
 CODE = SHF_ALLOC | SHF_EXECINSTR
 MARKS = {"riscv64": {43, 51}, "loongarch64": {100, 102}}  # ALIGN and RELAX

@@ -16,7 +16,7 @@ from pathlib import Path
 
 sys.dont_write_bytecode = True
 sys.path.insert(0, str(Path(__file__).resolve().parents[3] / "tools"))
-import usage
+from shared import usage
 from objects import CODE, Object
 
 NAMES = {110: "R_LARCH_CALL36", 71: "R_LARCH_PCALA_HI20", 72: "R_LARCH_PCALA_LO12",

@@ -1,5 +1,5 @@
 // SPDX-License-Identifier: MIT OR Apache-2.0
-// Made by tools/erase of crates/linker_utils_c/src/architectures.rt.
+// Made by tools/generate of crates/linker_utils_c/src/architectures.rt.
 //! What is compiled for each architecture by itself.
 
 /// What a macro makes of an architecture's variant, of its module, of the enum of its relocations,

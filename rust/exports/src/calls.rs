@@ -1,5 +1,5 @@
 // SPDX-License-Identifier: MIT OR Apache-2.0
-// Made by tools/erase of crates/linker_utils_c/src/calls.rt.
+// Made by tools/generate of crates/linker_utils_c/src/calls.rt.
 //! RISC-V calls that become jumps, and tests for shorter instructions.
 
 use crate::status::Status;

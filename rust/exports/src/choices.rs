@@ -1,5 +1,5 @@
 // SPDX-License-Identifier: MIT OR Apache-2.0
-// Made by tools/erase of crates/linker_utils_c/src/choices.rt.
+// Made by tools/generate of crates/linker_utils_c/src/choices.rt.
 //! Which rewrite a linker chooses, by `e_machine` and `r_type` of ELF files.
 
 use crate::architectures::by_architecture;

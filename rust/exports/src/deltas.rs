@@ -1,5 +1,5 @@
 // SPDX-License-Identifier: MIT OR Apache-2.0
-// Made by tools/erase of crates/linker_utils_c/src/deltas.rt.
+// Made by tools/generate of crates/linker_utils_c/src/deltas.rt.
 //! Deletions in a section, in arrays of the caller's.
 //!
 //! Deltas that `linker_utils_deltas_create` or `linker_utils_deltas_merge` wrote are valid: they

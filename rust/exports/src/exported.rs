@@ -1,5 +1,5 @@
 // SPDX-License-Identifier: MIT OR Apache-2.0
-// Made by tools/erase of the heads of the exports in crates/linker_utils_c/src.
+// Made by tools/generate of the heads of the exports in crates/linker_utils_c/src.
 //! The exports as C calls them: a slice is a pointer and a length, a reference a pointer.
 #![allow(unsafe_code, reason = "the pointers are the caller's")]
 

@@ -1,5 +1,5 @@
 // SPDX-License-Identifier: MIT OR Apache-2.0
-// Made by tools/erase of crates/linker_utils_c/src/forms.rt.
+// Made by tools/generate of crates/linker_utils_c/src/forms.rt.
 //! Values in the immediates of instructions, by `e_machine` and a form's number.
 
 use crate::architectures::{by_architecture, known};

@@ -1,5 +1,5 @@
 // SPDX-License-Identifier: MIT OR Apache-2.0
-// Made by tools/erase of crates/linker_utils_c/src/global_pointer.rt.
+// Made by tools/generate of crates/linker_utils_c/src/global_pointer.rt.
 //! RISC-V's addresses near the global pointer or 0, without their high part.
 
 use crate::deltas::Deletion;

@@ -1,5 +1,5 @@
 // SPDX-License-Identifier: MIT OR Apache-2.0
-// Made by tools/erase of crates/linker_utils_c/src/heads.rt.
+// Made by tools/generate of crates/linker_utils_c/src/heads.rt.
 //! Heads of the blocks of deltas, in arrays of the caller's. Searches in many deltas are faster
 //! with them.
 //!

@@ -1,5 +1,5 @@
 // SPDX-License-Identifier: MIT OR Apache-2.0
-// Made by tools/erase of crates/linker_utils_c/src/kept.rt.
+// Made by tools/generate of crates/linker_utils_c/src/kept.rt.
 //! What choices of rewrites read of symbols, kept until values are written.
 
 use crate::sections::status_of_error;

@@ -1,5 +1,5 @@
 // SPDX-License-Identifier: MIT OR Apache-2.0
-// Made by tools/erase of crates/linker_utils_c/src/lazy_plt.rt.
+// Made by tools/generate of crates/linker_utils_c/src/lazy_plt.rt.
 //! Lazy PLTs: the code of headers and entries, and what their words hold at first.
 
 use crate::relocate::status_of;

@@ -1,5 +1,5 @@
 // SPDX-License-Identifier: MIT OR Apache-2.0
-// Made by tools/erase of crates/linker_utils_c/src/lib.rt.
+// Made by tools/generate of crates/linker_utils_c/src/lib.rt.
 //! The core of a linker for programs in C and C++: numbers and slices of bytes in, a status out.
 
 #![no_std]

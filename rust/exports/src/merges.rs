@@ -1,5 +1,5 @@
 // SPDX-License-Identifier: MIT OR Apache-2.0
-// Made by tools/erase of crates/linker_utils_c/src/merges.rt.
+// Made by tools/generate of crates/linker_utils_c/src/merges.rt.
 //! Deletions that are merged into deltas.
 
 use alloc::vec::Vec;

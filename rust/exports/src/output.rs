@@ -1,5 +1,5 @@
 // SPDX-License-Identifier: MIT OR Apache-2.0
-// Made by tools/erase of crates/linker_utils_c/src/output.rt.
+// Made by tools/generate of crates/linker_utils_c/src/output.rt.
 //! What a linker adds to an output: dynamic relocations, words of the GOT, `e_flags`, the symbols
 //! and functions that linkers provide, and the code of stubs.
 

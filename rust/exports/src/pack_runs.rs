@@ -1,5 +1,5 @@
 // SPDX-License-Identifier: MIT OR Apache-2.0
-// Made by tools/erase of crates/linker_utils_c/src/pack_runs.rt.
+// Made by tools/generate of crates/linker_utils_c/src/pack_runs.rt.
 //! The sections of a relaxed run, packed.
 
 use crate::relaxing::ItemNumbers;

@@ -1,5 +1,5 @@
 // SPDX-License-Identifier: MIT OR Apache-2.0
-// Made by tools/erase of crates/linker_utils_c/src/placement.rt.
+// Made by tools/generate of crates/linker_utils_c/src/placement.rt.
 //! Places of stubs, in arrays of the caller's.
 
 use crate::status::Status;

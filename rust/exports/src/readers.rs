@@ -1,5 +1,5 @@
 // SPDX-License-Identifier: MIT OR Apache-2.0
-// Made by tools/erase of crates/linker_utils_c/src/readers.rt.
+// Made by tools/generate of crates/linker_utils_c/src/readers.rt.
 //! Numbers that bytes begin with.
 
 use crate::status::Status;

@@ -1,5 +1,5 @@
 // SPDX-License-Identifier: MIT OR Apache-2.0
-// Made by tools/erase of crates/linker_utils_c/src/reading.rt.
+// Made by tools/generate of crates/linker_utils_c/src/reading.rt.
 //! The numbers in immediates; what stands in the fields of linked relocations, and the addresses
 //! after it.
 

@@ -1,5 +1,5 @@
 // SPDX-License-Identifier: MIT OR Apache-2.0
-// Made by tools/erase of crates/linker_utils_c/src/recognising.rt.
+// Made by tools/generate of crates/linker_utils_c/src/recognising.rt.
 //! What a linker made of a relocation, by the bytes before and after, and the bits of its field.
 
 use crate::choices::{ChoiceNumbers, LinkFactNumbers, in_numbers};

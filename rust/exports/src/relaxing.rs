@@ -1,5 +1,5 @@
 // SPDX-License-Identifier: MIT OR Apache-2.0
-// Made by tools/erase of crates/linker_utils_c/src/relaxing.rt.
+// Made by tools/generate of crates/linker_utils_c/src/relaxing.rt.
 //! A run of items that is relaxed, in arrays of the caller's.
 
 use crate::status::Status;

@@ -1,5 +1,5 @@
 // SPDX-License-Identifier: MIT OR Apache-2.0
-// Made by tools/erase of crates/linker_utils_c/src/relocate.rt.
+// Made by tools/generate of crates/linker_utils_c/src/relocate.rt.
 //! Relocations: their values, their reach, and writing them.
 
 use crate::status::Status;

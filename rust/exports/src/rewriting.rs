@@ -1,5 +1,5 @@
 // SPDX-License-Identifier: MIT OR Apache-2.0
-// Made by tools/erase of crates/linker_utils_c/src/rewriting.rt.
+// Made by tools/generate of crates/linker_utils_c/src/rewriting.rt.
 //! The rewrites of a section in one call, before addresses are known and once they are.
 
 use crate::deltas::Deletion;

@@ -1,5 +1,5 @@
 // SPDX-License-Identifier: MIT OR Apache-2.0
-// Made by tools/erase of crates/linker_utils_c/src/routes.rt.
+// Made by tools/generate of crates/linker_utils_c/src/routes.rt.
 //! How branches go to their targets.
 
 use crate::relocate::status_of;

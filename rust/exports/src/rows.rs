@@ -1,5 +1,5 @@
 // SPDX-License-Identifier: MIT OR Apache-2.0
-// Made by tools/erase of crates/linker_utils_c/src/rows.rt.
+// Made by tools/generate of crates/linker_utils_c/src/rows.rt.
 //! Relocations by handles: one look-up by `e_machine` and `r_type`, and all calls by its result.
 
 use crate::choices::{ChoiceNumbers, LinkFactNumbers, choose_in_numbers};

@@ -1,5 +1,5 @@
 // SPDX-License-Identifier: MIT OR Apache-2.0
-// Made by tools/erase of crates/linker_utils_c/src/section_items.rt.
+// Made by tools/generate of crates/linker_utils_c/src/section_items.rt.
 //! The items that a section's relocations make, in arrays of the caller's.
 
 use crate::deltas::Deletion;

@@ -1,5 +1,5 @@
 // SPDX-License-Identifier: MIT OR Apache-2.0
-// Made by tools/erase of crates/linker_utils_c/src/sections.rt.
+// Made by tools/generate of crates/linker_utils_c/src/sections.rt.
 //! What a section's relocations require, their values, and writing all of them.
 
 use crate::relocate::{status_of, uleb_status_of};

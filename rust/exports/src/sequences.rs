@@ -1,5 +1,5 @@
 // SPDX-License-Identifier: MIT OR Apache-2.0
-// Made by tools/erase of crates/linker_utils_c/src/sequences.rt.
+// Made by tools/generate of crates/linker_utils_c/src/sequences.rt.
 //! Sequences of instructions that load a number or make an address.
 
 use crate::status::Status;

@@ -1,5 +1,5 @@
 // SPDX-License-Identifier: MIT OR Apache-2.0
-// Made by tools/erase of crates/linker_utils_c/src/shrinking.rt.
+// Made by tools/generate of crates/linker_utils_c/src/shrinking.rt.
 //! Which calls of a section can become jumps at once.
 
 use crate::status::Status;

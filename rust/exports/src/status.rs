@@ -1,5 +1,5 @@
 // SPDX-License-Identifier: MIT OR Apache-2.0
-// Made by tools/erase of crates/linker_utils_c/src/status.rt.
+// Made by tools/generate of crates/linker_utils_c/src/status.rt.
 //! What a call returns.
 
 /// What a call returns: the sentences of `include/linker_utils.h`. 11 and 16 are unused.

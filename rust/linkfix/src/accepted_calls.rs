@@ -1,5 +1,5 @@
 // SPDX-License-Identifier: MIT OR Apache-2.0
-// Made by tools/erase of crates/linkfix/src/accepted_calls.rt.
+// Made by tools/generate of crates/linkfix/src/accepted_calls.rt.
 //! The calls that were made jumps.
 
 use crate::support::*;

@@ -1,5 +1,5 @@
 // SPDX-License-Identifier: MIT OR Apache-2.0
-// Made by tools/erase of crates/linkfix/src/commands.rt.
+// Made by tools/generate of crates/linkfix/src/commands.rt.
 //! Command lines.
 
 /// The greatest number in a command.

@@ -1,5 +1,5 @@
 // SPDX-License-Identifier: MIT OR Apache-2.0
-// Made by tools/erase of crates/linkfix/src/input.rt.
+// Made by tools/generate of crates/linkfix/src/input.rt.
 //! The lines of a reader, within a limit on the number of reads.
 
 use crate::support::*;

@@ -1,5 +1,5 @@
 // SPDX-License-Identifier: MIT OR Apache-2.0
-// Made by tools/erase of crates/linkfix/src/main.rt.
+// Made by tools/generate of crates/linkfix/src/main.rt.
 //! Reads the bytes of a section and then commands on it from the standard input, executes the
 //! commands and prints one line for each.
 

@@ -1,5 +1,5 @@
 // SPDX-License-Identifier: MIT OR Apache-2.0
-// Made by tools/erase of crates/linkfix/src/program.rt.
+// Made by tools/generate of crates/linkfix/src/program.rt.
 //! The program over any reader and writer.
 
 use crate::support::*;

@@ -1,5 +1,5 @@
 // SPDX-License-Identifier: MIT OR Apache-2.0
-// Made by tools/erase of crates/linker_aarch64/src/rewrites.rt.
+// Made by tools/generate of crates/linker_aarch64/src/rewrites.rt.
 //! Relaxation rewrites of AArch64.
 
 use crate::linker_base::bit_misc::BitExtraction;

@@ -1,5 +1,5 @@
 // SPDX-License-Identifier: MIT OR Apache-2.0
-// Made by tools/erase of crates/linker_base/src/bit_misc.rt.
+// Made by tools/generate of crates/linker_base/src/bit_misc.rt.
 //! Bits and bit ranges of a 64-bit number. Bit 0 is the least significant one.
 //!
 #![doc = include_str!("../../doc/bit_misc.md")]

@@ -1,5 +1,5 @@
 // SPDX-License-Identifier: MIT OR Apache-2.0
-// Made by tools/erase of crates/linker_base/src/packing.rt.
+// Made by tools/generate of crates/linker_base/src/packing.rt.
 //! What is packed by deltas that anyone owns: the positions of input offsets,
 //! and the bytes that stay.
 

@@ -1,5 +1,5 @@
 // SPDX-License-Identifier: MIT OR Apache-2.0
-// Made by tools/erase of crates/linker_base/src/relaxation.rt.
+// Made by tools/generate of crates/linker_base/src/relaxation.rt.
 //! Deletions that relaxation makes in a section, and the offsets of what they leave.
 
 mod blocks;

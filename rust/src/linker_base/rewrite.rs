@@ -1,5 +1,5 @@
 // SPDX-License-Identifier: MIT OR Apache-2.0
-// Made by tools/erase of crates/linker_base/src/rewrite.rt.
+// Made by tools/generate of crates/linker_base/src/rewrite.rt.
 //! What the rewrites of all architectures share.
 
 /// The bytes that a linker deletes after a rewrite.

@@ -1,5 +1,5 @@
 // SPDX-License-Identifier: MIT OR Apache-2.0
-// Made by tools/erase of crates/linker_base/src/utils.rt.
+// Made by tools/generate of crates/linker_base/src/utils.rt.
 //! Little-endian words, byte masks, and readers of words, strings and ULEB128 numbers.
 //!
 #![doc = include_str!("../../doc/utils.md")]

@@ -1,5 +1,5 @@
 // SPDX-License-Identifier: MIT OR Apache-2.0
-// Made by tools/erase of crates/linker_elf/src/aarch64.rt.
+// Made by tools/generate of crates/linker_elf/src/aarch64.rt.
 //! AArch64: instruction forms, and what relocations mean.
 
 mod forms;

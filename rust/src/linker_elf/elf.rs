@@ -1,5 +1,5 @@
 // SPDX-License-Identifier: MIT OR Apache-2.0
-// Made by tools/erase of crates/linker_elf/src/elf.rt.
+// Made by tools/generate of crates/linker_elf/src/elf.rt.
 //! The vocabulary of relocations, the forms of instructions that hold a value, the interfaces of
 //! forms and of rewrites, and what a linker knows when it chooses a rewrite.
 

@@ -1,5 +1,5 @@
 // SPDX-License-Identifier: MIT OR Apache-2.0
-// Made by tools/erase of crates/linker_elf/src/loongarch64.rt.
+// Made by tools/generate of crates/linker_elf/src/loongarch64.rt.
 //! LoongArch: instruction forms, what relocations mean, and addresses made by five instructions.
 
 mod forms;

@@ -1,5 +1,5 @@
 // SPDX-License-Identifier: MIT OR Apache-2.0
-// Made by tools/erase of crates/linker_elf/src/ppc64.rt.
+// Made by tools/generate of crates/linker_elf/src/ppc64.rt.
 //! PowerPC64: instruction forms, what relocations mean, and addresses in two halves.
 
 mod forms;

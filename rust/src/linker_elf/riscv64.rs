@@ -1,5 +1,5 @@
 // SPDX-License-Identifier: MIT OR Apache-2.0
-// Made by tools/erase of crates/linker_elf/src/riscv64.rt.
+// Made by tools/generate of crates/linker_elf/src/riscv64.rt.
 //! RISC-V: instruction forms, and what relocations mean.
 
 pub(crate) mod forms;

@@ -1,5 +1,5 @@
 // SPDX-License-Identifier: MIT OR Apache-2.0
-// Made by tools/erase of crates/linker_elf/src/x86_64.rt.
+// Made by tools/generate of crates/linker_elf/src/x86_64.rt.
 //! x86-64: what relocations mean.
 
 mod relocations;

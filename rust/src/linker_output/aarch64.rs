@@ -1,5 +1,5 @@
 // SPDX-License-Identifier: MIT OR Apache-2.0
-// Made by tools/erase of crates/linker_output/src/aarch64.rt.
+// Made by tools/generate of crates/linker_output/src/aarch64.rt.
 //! What a linker adds to an output of AArch64.
 
 use crate::linker_output::description::Target;

@@ -1,5 +1,5 @@
 // SPDX-License-Identifier: MIT OR Apache-2.0
-// Made by tools/erase of crates/linker_output/src/addresses.rt.
+// Made by tools/generate of crates/linker_output/src/addresses.rt.
 //! Sections of objects in which compilers keep addresses, as the GOT does.
 
 use crate::linker_output::description::Target;

@@ -1,5 +1,5 @@
 // SPDX-License-Identifier: MIT OR Apache-2.0
-// Made by tools/erase of crates/linker_output/src/codes.rt.
+// Made by tools/generate of crates/linker_output/src/codes.rt.
 //! The codes, `r_type` in ELF files, of the relocations that fields of stubs and lazy PLTs have, and
 //! that loads from PowerPC64's `.toc` have.
 

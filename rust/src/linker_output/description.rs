@@ -1,5 +1,5 @@
 // SPDX-License-Identifier: MIT OR Apache-2.0
-// Made by tools/erase of crates/linker_output/src/description.rt.
+// Made by tools/generate of crates/linker_output/src/description.rt.
 //! The description of an architecture.
 
 use crate::linker_output::addresses::AddressSection;

@@ -1,5 +1,5 @@
 // SPDX-License-Identifier: MIT OR Apache-2.0
-// Made by tools/erase of crates/linker_output/src/dynamic.rt.
+// Made by tools/generate of crates/linker_output/src/dynamic.rt.
 //! The types of dynamic relocations, and the dynamic relocations of a GOT entry.
 
 use crate::linker_output::description::Target;

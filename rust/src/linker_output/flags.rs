@@ -1,5 +1,5 @@
 // SPDX-License-Identifier: MIT OR Apache-2.0
-// Made by tools/erase of crates/linker_output/src/flags.rt.
+// Made by tools/generate of crates/linker_output/src/flags.rt.
 //! `e_flags` of an output.
 
 use crate::linker_output::description::Target;

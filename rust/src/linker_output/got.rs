@@ -1,5 +1,5 @@
 // SPDX-License-Identifier: MIT OR Apache-2.0
-// Made by tools/erase of crates/linker_output/src/got.rt.
+// Made by tools/generate of crates/linker_output/src/got.rt.
 //! Words of the GOT, and what offsets of thread-local storage count from.
 
 use crate::linker_output::description::Target;

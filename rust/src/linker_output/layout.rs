@@ -1,5 +1,5 @@
 // SPDX-License-Identifier: MIT OR Apache-2.0
-// Made by tools/erase of crates/linker_output/src/layout.rt.
+// Made by tools/generate of crates/linker_output/src/layout.rt.
 //! Code's shortest instruction and filler, the symbols that linkers define, and the path of the
 //! dynamic linker.
 

@@ -1,5 +1,5 @@
 // SPDX-License-Identifier: MIT OR Apache-2.0
-// Made by tools/erase of crates/linker_output/src/lazy_plt.rt.
+// Made by tools/generate of crates/linker_output/src/lazy_plt.rt.
 //! A lazy PLT: entries through which calls go to functions of other outputs, and a header through
 //! which the first call of each goes to the dynamic linker.
 //!

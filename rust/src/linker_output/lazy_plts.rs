@@ -1,5 +1,5 @@
 // SPDX-License-Identifier: MIT OR Apache-2.0
-// Made by tools/erase of crates/linker_output/src/lazy_plts.rt.
+// Made by tools/generate of crates/linker_output/src/lazy_plts.rt.
 //! The lazy PLTs of the architectures.
 
 use crate::linker_output::lazy_plt::{LazyField, LazyPiece, LazyPlt, LazyTarget, LazyWord};

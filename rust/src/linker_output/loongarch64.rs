@@ -1,5 +1,5 @@
 // SPDX-License-Identifier: MIT OR Apache-2.0
-// Made by tools/erase of crates/linker_output/src/loongarch64.rt.
+// Made by tools/generate of crates/linker_output/src/loongarch64.rt.
 //! What a linker adds to an output of LoongArch.
 
 use crate::linker_output::description::Target;

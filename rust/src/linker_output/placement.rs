@@ -1,5 +1,5 @@
 // SPDX-License-Identifier: MIT OR Apache-2.0
-// Made by tools/erase of crates/linker_output/src/placement.rt.
+// Made by tools/generate of crates/linker_output/src/placement.rt.
 //! Places of stubs between sections, so that each branch reaches its target or a stub of it.
 //!
 //! Offsets are input offsets of a run of sections, or their addresses before there are stubs. Stubs

@@ -1,5 +1,5 @@
 // SPDX-License-Identifier: MIT OR Apache-2.0
-// Made by tools/erase of crates/linker_output/src/riscv64.rt.
+// Made by tools/generate of crates/linker_output/src/riscv64.rt.
 //! What a linker adds to an output of RISC-V.
 
 use crate::linker_output::description::Target;

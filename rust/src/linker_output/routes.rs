@@ -1,5 +1,5 @@
 // SPDX-License-Identifier: MIT OR Apache-2.0
-// Made by tools/erase of crates/linker_output/src/routes.rt.
+// Made by tools/generate of crates/linker_output/src/routes.rt.
 //! How branches go to their targets: directly, or by a stub.
 
 use crate::linker_output::description::Target;

@@ -1,5 +1,5 @@
 // SPDX-License-Identifier: MIT OR Apache-2.0
-// Made by tools/erase of crates/linker_output/src/stubs.rt.
+// Made by tools/generate of crates/linker_output/src/stubs.rt.
 //! Code that a linker adds: stubs that jump to the address that a word has, or to a far target.
 
 use crate::linker_output::description::Target;

@@ -1,5 +1,5 @@
 // SPDX-License-Identifier: MIT OR Apache-2.0
-// Made by tools/erase of crates/linker_reading/src/fields.rt.
+// Made by tools/generate of crates/linker_reading/src/fields.rt.
 //! Known bits of a number: of a relocation's value, or of an address.
 
 use crate::linker_base::bit_misc::BitRange;

@@ -1,5 +1,5 @@
 // SPDX-License-Identifier: MIT OR Apache-2.0
-// Made by tools/erase of crates/linker_reading/src/operands.rt.
+// Made by tools/generate of crates/linker_reading/src/operands.rt.
 //! Which forms the immediate of an instruction has, and the number that the machine makes of it.
 
 #[cfg(feature = "aarch64")]

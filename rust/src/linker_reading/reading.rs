@@ -1,5 +1,5 @@
 // SPDX-License-Identifier: MIT OR Apache-2.0
-// Made by tools/erase of crates/linker_reading/src/reading.rt.
+// Made by tools/generate of crates/linker_reading/src/reading.rt.
 //! The value of a relocation, read from the bytes at its place.
 
 #[cfg(feature = "aarch64")]

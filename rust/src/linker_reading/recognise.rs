@@ -1,5 +1,5 @@
 // SPDX-License-Identifier: MIT OR Apache-2.0
-// Made by tools/erase of crates/linker_reading/src/recognise.rt.
+// Made by tools/generate of crates/linker_reading/src/recognise.rt.
 //! What a linker made of a relocation, by the bytes before and after: which rewrite, which
 //! relocation it then wrote, and what stands in its field.
 

@@ -1,5 +1,5 @@
 // SPDX-License-Identifier: MIT OR Apache-2.0
-// Made by tools/erase of crates/linker_reading/src/solving.rt.
+// Made by tools/generate of crates/linker_reading/src/solving.rt.
 //! The address that a relocation's value comes from, and that of a pair of instructions.
 
 use crate::linker_reading::fields::{FieldValue, bits_of, power_of_two};

@@ -1,5 +1,5 @@
 // SPDX-License-Identifier: MIT OR Apache-2.0
-// Made by tools/erase of crates/linker_reading/src/windows.rt.
+// Made by tools/generate of crates/linker_reading/src/windows.rt.
 //! Which bytes around a relocation recognising compares, and where a recognised one leads.
 
 use crate::linker_reading::fields::FieldValue;

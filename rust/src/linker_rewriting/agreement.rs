@@ -1,5 +1,5 @@
 // SPDX-License-Identifier: MIT OR Apache-2.0
-// Made by tools/erase of crates/linker_rewriting/src/agreement.rt.
+// Made by tools/generate of crates/linker_rewriting/src/agreement.rt.
 //! Whether the two tables of an object's symbols say the same of a symbol.
 
 use crate::linker_rewriting::facts::SymbolFacts;

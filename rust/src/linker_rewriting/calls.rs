@@ -1,5 +1,5 @@
 // SPDX-License-Identifier: MIT OR Apache-2.0
-// Made by tools/erase of crates/linker_rewriting/src/calls.rt.
+// Made by tools/generate of crates/linker_rewriting/src/calls.rt.
 //! Calls that stay as they are before addresses are known, by what is known of their symbol. Most
 //! calls do, so this is tested before what else a rewrite is chosen by.
 

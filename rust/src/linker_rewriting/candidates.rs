@@ -1,5 +1,5 @@
 // SPDX-License-Identifier: MIT OR Apache-2.0
-// Made by tools/erase of crates/linker_rewriting/src/candidates.rt.
+// Made by tools/generate of crates/linker_rewriting/src/candidates.rt.
 //! Whether the instruction of a relocation can be rewritten, if each other one of its group can.
 
 use crate::linker_rewriting::facts::{OutputFacts, Setting, SymbolFacts, link_facts};

@@ -1,5 +1,5 @@
 // SPDX-License-Identifier: MIT OR Apache-2.0
-// Made by tools/erase of crates/linker_rewriting/src/codes.rt.
+// Made by tools/generate of crates/linker_rewriting/src/codes.rt.
 //! Whether a relocation may be rewritten in a phase, by its code, and whether a survey looks for its
 //! rewrite. Loops that ask this are compiled for each architecture and phase by itself: LLVM makes a
 //! few comparisons of it then.

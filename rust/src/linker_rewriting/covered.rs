@@ -1,5 +1,5 @@
 // SPDX-License-Identifier: MIT OR Apache-2.0
-// Made by tools/erase of crates/linker_rewriting/src/covered.rt.
+// Made by tools/generate of crates/linker_rewriting/src/covered.rt.
 //! Relocations that no rewrite takes along, in the bytes that one writes or deletes.
 
 use crate::linker_rewriting::decisions::{AsDecision, Decision, span_of};

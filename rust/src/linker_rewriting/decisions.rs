@@ -1,5 +1,5 @@
 // SPDX-License-Identifier: MIT OR Apache-2.0
-// Made by tools/erase of crates/linker_rewriting/src/decisions.rt.
+// Made by tools/generate of crates/linker_rewriting/src/decisions.rt.
 //! What becomes of each relocation of a section and of its instruction.
 
 use crate::linker_rewriting::calls::keeps_call;

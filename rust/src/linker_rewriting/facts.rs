@@ -1,5 +1,5 @@
 // SPDX-License-Identifier: MIT OR Apache-2.0
-// Made by tools/erase of crates/linker_rewriting/src/facts.rt.
+// Made by tools/generate of crates/linker_rewriting/src/facts.rt.
 //! What a linker knows of symbols and of the output, and what a rewrite is chosen by.
 
 use crate::linker_rewriting::phases::Phase;

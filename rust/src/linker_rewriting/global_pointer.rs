@@ -1,5 +1,5 @@
 // SPDX-License-Identifier: MIT OR Apache-2.0
-// Made by tools/erase of crates/linker_rewriting/src/global_pointer.rt.
+// Made by tools/generate of crates/linker_rewriting/src/global_pointer.rt.
 //! RISC-V's addresses within 2 KiB of the global pointer or of 0. They need no `lui` and no
 //! `auipc`: each low part takes x3 or x0 as its base, all of a symbol or none.
 

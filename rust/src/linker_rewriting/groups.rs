@@ -1,5 +1,5 @@
 // SPDX-License-Identifier: MIT OR Apache-2.0
-// Made by tools/erase of crates/linker_rewriting/src/groups.rt.
+// Made by tools/generate of crates/linker_rewriting/src/groups.rt.
 //! Which relocations a rewrite is made at, and which of them are a group: all of its instructions
 //! are rewritten, or none is.
 

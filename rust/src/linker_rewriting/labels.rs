@@ -1,5 +1,5 @@
 // SPDX-License-Identifier: MIT OR Apache-2.0
-// Made by tools/erase of crates/linker_rewriting/src/labels.rt.
+// Made by tools/generate of crates/linker_rewriting/src/labels.rt.
 //! Groups of one label of RISC-V: a high part, and the low parts whose symbol is the label at it.
 
 use crate::linker_rewriting::candidates::candidate_by;

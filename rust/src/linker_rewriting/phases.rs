@@ -1,5 +1,5 @@
 // SPDX-License-Identifier: MIT OR Apache-2.0
-// Made by tools/erase of crates/linker_rewriting/src/phases.rt.
+// Made by tools/generate of crates/linker_rewriting/src/phases.rt.
 //! When rewrites are made.
 
 /// When a rewrite is made: what a linker has to know before.

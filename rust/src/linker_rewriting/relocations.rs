@@ -1,5 +1,5 @@
 // SPDX-License-Identifier: MIT OR Apache-2.0
-// Made by tools/erase of crates/linker_rewriting/src/relocations.rt.
+// Made by tools/generate of crates/linker_rewriting/src/relocations.rt.
 //! Relocations of a section, read and overwritten by their index.
 
 use crate::linker_base::rewrite::overwrite;

@@ -1,5 +1,5 @@
 // SPDX-License-Identifier: MIT OR Apache-2.0
-// Made by tools/erase of crates/linker_rewriting/src/sections.rt.
+// Made by tools/generate of crates/linker_rewriting/src/sections.rt.
 //! The rewrites of a section, made in one call for each phase.
 
 use crate::linker_rewriting::agreement::contradiction;

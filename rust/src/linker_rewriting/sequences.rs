@@ -1,5 +1,5 @@
 // SPDX-License-Identifier: MIT OR Apache-2.0
-// Made by tools/erase of crates/linker_rewriting/src/sequences.rt.
+// Made by tools/generate of crates/linker_rewriting/src/sequences.rt.
 //! Sequences whose relocations are next to each other, and marks of what may be relaxed.
 
 use crate::linker_rewriting::phases::Phase;

@@ -1,5 +1,5 @@
 // SPDX-License-Identifier: MIT OR Apache-2.0
-// Made by tools/erase of crates/linker_rewriting/src/surveys.rt.
+// Made by tools/generate of crates/linker_rewriting/src/surveys.rt.
 //! Which groups of an object stay as they are, since one of their instructions can't be rewritten.
 
 use crate::linker_rewriting::agreement::contradiction;

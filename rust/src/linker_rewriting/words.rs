@@ -1,5 +1,5 @@
 // SPDX-License-Identifier: MIT OR Apache-2.0
-// Made by tools/erase of crates/linker_rewriting/src/words.rt.
+// Made by tools/generate of crates/linker_rewriting/src/words.rt.
 //! Instructions that load addresses from the words of a section, as from those of PowerPC64's
 //! `.toc`. Nothing changes such a word, so that once addresses are known the instructions may
 //! compute its address: all that load it, or none.

@@ -1,5 +1,5 @@
 // SPDX-License-Identifier: MIT OR Apache-2.0
-// Made by tools/erase of crates/linker_runs/src/items.rt.
+// Made by tools/generate of crates/linker_runs/src/items.rt.
 //! The items of a run that the relocations of a section make, and why none can be made.
 
 mod list;

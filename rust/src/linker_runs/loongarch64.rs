@@ -1,5 +1,5 @@
 // SPDX-License-Identifier: MIT OR Apache-2.0
-// Made by tools/erase of crates/linker_runs/src/loongarch64.rt.
+// Made by tools/generate of crates/linker_runs/src/loongarch64.rt.
 //! LoongArch: the items that relocations make.
 
 use crate::linker_runs::items::{

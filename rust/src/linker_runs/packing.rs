@@ -1,5 +1,5 @@
 // SPDX-License-Identifier: MIT OR Apache-2.0
-// Made by tools/erase of crates/linker_runs/src/packing.rt.
+// Made by tools/generate of crates/linker_runs/src/packing.rt.
 //! A section of a relaxed run, packed.
 
 mod code;

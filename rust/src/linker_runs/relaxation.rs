@@ -1,5 +1,5 @@
 // SPDX-License-Identifier: MIT OR Apache-2.0
-// Made by tools/erase of crates/linker_runs/src/relaxation.rt.
+// Made by tools/generate of crates/linker_runs/src/relaxation.rt.
 //! Sites of instructions that can become shorter, alignments between them, and the choice of a
 //! shape for each site.
 

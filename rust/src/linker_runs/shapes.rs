@@ -1,5 +1,5 @@
 // SPDX-License-Identifier: MIT OR Apache-2.0
-// Made by tools/erase of crates/linker_runs/src/shapes.rt.
+// Made by tools/generate of crates/linker_runs/src/shapes.rt.
 //! The shapes that the instructions of an architecture can have.
 
 use crate::linker_runs::relaxation::{Shape, Shapes};

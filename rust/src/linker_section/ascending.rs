@@ -1,5 +1,5 @@
 // SPDX-License-Identifier: MIT OR Apache-2.0
-// Made by tools/erase of crates/linker_section/src/ascending.rt.
+// Made by tools/generate of crates/linker_section/src/ascending.rt.
 //! The values of relocations that ascend by offset, written.
 
 use crate::linker_section::conditions::begins_with;

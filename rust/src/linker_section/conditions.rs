@@ -1,5 +1,5 @@
 // SPDX-License-Identifier: MIT OR Apache-2.0
-// Made by tools/erase of crates/linker_section/src/conditions.rt.
+// Made by tools/generate of crates/linker_section/src/conditions.rt.
 //! What has to hold of a section's relocation besides that it has a value.
 
 use crate::linker_section::facts::{Addresses, Symbol};

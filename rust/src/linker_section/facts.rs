@@ -1,5 +1,5 @@
 // SPDX-License-Identifier: MIT OR Apache-2.0
-// Made by tools/erase of crates/linker_section/src/facts.rt.
+// Made by tools/generate of crates/linker_section/src/facts.rt.
 //! What a linker knows of symbols and of the output when it writes values.
 
 /// What a linker knows of a symbol of an object, once addresses are known. A table of these has

@@ -1,5 +1,5 @@
 // SPDX-License-Identifier: MIT OR Apache-2.0
-// Made by tools/erase of crates/linker_section/src/fields.rt.
+// Made by tools/generate of crates/linker_section/src/fields.rt.
 //! The bytes that relocations write, and which relocations compose.
 
 use crate::linker_section::values::has_value;

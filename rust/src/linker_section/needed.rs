@@ -1,5 +1,5 @@
 // SPDX-License-Identifier: MIT OR Apache-2.0
-// Made by tools/erase of crates/linker_section/src/needed.rt.
+// Made by tools/generate of crates/linker_section/src/needed.rt.
 //! What a relocation requires of a linker before addresses are known.
 
 use crate::elf::{Architecture, EntryUse, RowFacts};

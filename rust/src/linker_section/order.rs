@@ -1,5 +1,5 @@
 // SPDX-License-Identifier: MIT OR Apache-2.0
-// Made by tools/erase of crates/linker_section/src/order.rt.
+// Made by tools/generate of crates/linker_section/src/order.rt.
 //! Relocations in any order: the first whose field overlaps that of an earlier one.
 
 use crate::linker_section::fields::{Field, is_of_pair};

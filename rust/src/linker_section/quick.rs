@@ -1,5 +1,5 @@
 // SPDX-License-Identifier: MIT OR Apache-2.0
-// Made by tools/erase of crates/linker_section/src/quick.rt.
+// Made by tools/generate of crates/linker_section/src/quick.rt.
 //! The values of most relocations, by the facts of their rows.
 //!
 //! Few tests find them, so that a section's values take little more time than the formulas. Where

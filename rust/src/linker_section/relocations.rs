@@ -1,5 +1,5 @@
 // SPDX-License-Identifier: MIT OR Apache-2.0
-// Made by tools/erase of crates/linker_section/src/relocations.rt.
+// Made by tools/generate of crates/linker_section/src/relocations.rt.
 //! Relocations as ELF files have them.
 
 use crate::linker_base::utils::{u32_from_slice, u64_from_slice};

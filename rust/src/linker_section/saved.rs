@@ -1,5 +1,5 @@
 // SPDX-License-Identifier: MIT OR Apache-2.0
-// Made by tools/erase of crates/linker_section/src/saved.rt.
+// Made by tools/generate of crates/linker_section/src/saved.rt.
 //! Bytes of a section that are kept until all values are written, and put back otherwise.
 
 use crate::linker_section::fields::ends_pair;

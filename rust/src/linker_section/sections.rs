@@ -1,5 +1,5 @@
 // SPDX-License-Identifier: MIT OR Apache-2.0
-// Made by tools/erase of crates/linker_section/src/sections.rt.
+// Made by tools/generate of crates/linker_section/src/sections.rt.
 //! The values of a section's relocations, written.
 
 use crate::linker_section::ascending::{write_ascending_of, write_second_run};

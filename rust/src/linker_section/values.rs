@@ -1,5 +1,5 @@
 // SPDX-License-Identifier: MIT OR Apache-2.0
-// Made by tools/erase of crates/linker_section/src/values.rt.
+// Made by tools/generate of crates/linker_section/src/values.rt.
 //! The value of a relocation, by what a linker knows of symbols and of the output.
 
 use crate::linker_section::facts::{Addresses, Symbol};

@@ -1,5 +1,5 @@
 // SPDX-License-Identifier: MIT OR Apache-2.0
-// Made by tools/erase of crates/vectors/src/clients.rt.
+// Made by tools/generate of crates/vectors/src/clients.rt.
 //! What a user of the library writes over it, proved from the public contracts of `linker_utils`
 //! alone: no function here has a proof of its own.
 

@@ -1,5 +1,5 @@
 // SPDX-License-Identifier: MIT OR Apache-2.0
-// Made by tools/erase of crates/vectors/src/deltas.rt.
+// Made by tools/generate of crates/vectors/src/deltas.rt.
 //! Deletions and offsets, worked by hand: an offset's place is the count of kept bytes below it.
 
 use crate::refused_growth::batches_of;

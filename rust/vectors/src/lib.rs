@@ -1,5 +1,5 @@
 // SPDX-License-Identifier: MIT OR Apache-2.0
-// Made by tools/erase of crates/vectors/src/lib.rt.
+// Made by tools/generate of crates/vectors/src/lib.rt.
 //! What a user of the library writes over it: `poke`, which uses only the interface of instruction
 //! forms, and `clients`; values worked by hand; and tests of calls that take memory, which have to
 //! run as the prover's compiler built them. It uses `linker_utils` alone.

@@ -1,5 +1,5 @@
 // SPDX-License-Identifier: MIT OR Apache-2.0
-// Made by tools/erase of crates/vectors/src/poke.rt.
+// Made by tools/generate of crates/vectors/src/poke.rt.
 //! Values written into the instructions of a section, for any instruction form. It uses the trait
 //! `InstructionForm` alone.
 //!

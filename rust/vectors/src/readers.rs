@@ -1,5 +1,5 @@
 // SPDX-License-Identifier: MIT OR Apache-2.0
-// Made by tools/erase of crates/vectors/src/readers.rt.
+// Made by tools/generate of crates/vectors/src/readers.rt.
 //! Bits, words, masks, ULEB128 numbers and texts, and their errors, worked by hand.
 
 use crate::support::*;

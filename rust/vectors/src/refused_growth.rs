@@ -1,5 +1,5 @@
 // SPDX-License-Identifier: MIT OR Apache-2.0
-// Made by tools/erase of crates/vectors/src/refused_growth.rt.
+// Made by tools/generate of crates/vectors/src/refused_growth.rt.
 //! Calls that run out of memory. `tools/test_refused_growth` lets each allocation of each test fail
 //! in turn, one a run. So a call that has failed once succeeds when it is tried again, and each
 //! test passes whichever allocation fails.

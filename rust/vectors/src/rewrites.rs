@@ -1,5 +1,5 @@
 // SPDX-License-Identifier: MIT OR Apache-2.0
-// Made by tools/erase of crates/vectors/src/rewrites.rt.
+// Made by tools/generate of crates/vectors/src/rewrites.rt.
 //! Rewrites of all architectures, and how many bytes they require. The instructions are worked by hand
 //! from the manuals.
 

@@ -1,5 +1,5 @@
 // SPDX-License-Identifier: MIT OR Apache-2.0
-// Made by tools/erase of crates/vectors/src/rows.rt.
+// Made by tools/generate of crates/vectors/src/rows.rt.
 //! Comparisons that name the row at fault, and deltas, for tests. A call that has failed is tried again.
 
 use linker_utils::relaxation::SectionRelaxDeltas;

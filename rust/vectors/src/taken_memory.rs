@@ -1,5 +1,5 @@
 // SPDX-License-Identifier: MIT OR Apache-2.0
-// Made by tools/erase of crates/vectors/src/taken_memory.rt.
+// Made by tools/generate of crates/vectors/src/taken_memory.rt.
 //! How often calls allocate. Each test allocates as often as its name says:
 //! `tools/test_refused_growth` counts.
 

@@ -1,5 +1,5 @@
 // SPDX-License-Identifier: MIT OR Apache-2.0
-// Made by tools/erase of crates/vectors/src/words.rt.
+// Made by tools/generate of crates/vectors/src/words.rt.
 //! Immediates, sequences and relocations of all architectures, worked by hand from their manuals.
 
 use crate::poke::{poke, write_back};

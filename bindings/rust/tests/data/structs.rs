@@ -1,5 +1,5 @@
 // SPDX-License-Identifier: MIT OR Apache-2.0
-// Made by tools/declarations of the exports in crates/linker_utils_c/src and of the headers.
+// Made by tools/generate of the exports in crates/linker_utils_c/src and of the headers.
 layout! {
     "linker_utils_operands": raw::Operands {
         symbol, addend, place, got_entry, got_base, plt_entry, symbol_size, tls_base, has_got_entry,

@@ -1,5 +1,5 @@
 // SPDX-License-Identifier: MIT OR Apache-2.0
-// Made by tools/erase of crates/linker_base/src/relaxation/blocks.rt.
+// Made by tools/generate of crates/linker_base/src/relaxation/blocks.rt.
 //! Deltas in blocks of 64, and translations that look at the head of each block first.
 
 use alloc::vec::Vec;

@@ -1,5 +1,5 @@
 // SPDX-License-Identifier: MIT OR Apache-2.0
-// Made by tools/erase of crates/linker_base/src/relaxation/cursor.rt.
+// Made by tools/generate of crates/linker_base/src/relaxation/cursor.rt.
 //! The cursor that translates offsets in one walk through the deletions.
 
 use super::RelaxDelta;

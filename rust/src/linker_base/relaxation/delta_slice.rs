@@ -1,5 +1,5 @@
 // SPDX-License-Identifier: MIT OR Apache-2.0
-// Made by tools/erase of crates/linker_base/src/relaxation/delta_slice.rt.
+// Made by tools/generate of crates/linker_base/src/relaxation/delta_slice.rt.
 //! Deltas that anyone owns, and the heads of their blocks.
 
 use super::RelaxDelta;

@@ -1,5 +1,5 @@
 // SPDX-License-Identifier: MIT OR Apache-2.0
-// Made by tools/erase of crates/linker_base/src/relaxation/laws.rt.
+// Made by tools/generate of crates/linker_base/src/relaxation/laws.rt.
 //! Laws of deletions: each function does nothing, and its contract is a law.
 
 /// Back to the output: the input offset of an output offset `y` isn't strictly inside a deletion,

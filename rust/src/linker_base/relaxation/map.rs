@@ -1,5 +1,5 @@
 // SPDX-License-Identifier: MIT OR Apache-2.0
-// Made by tools/erase of crates/linker_base/src/relaxation/map.rt.
+// Made by tools/generate of crates/linker_base/src/relaxation/map.rt.
 //! The deltas of several sections.
 
 use alloc::vec::Vec;

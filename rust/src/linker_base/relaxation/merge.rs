@@ -1,5 +1,5 @@
 // SPDX-License-Identifier: MIT OR Apache-2.0
-// Made by tools/erase of crates/linker_base/src/relaxation/merge.rt.
+// Made by tools/generate of crates/linker_base/src/relaxation/merge.rt.
 //! Merges: the growth of deltas in place, and lists apart.
 
 use alloc::vec::Vec;

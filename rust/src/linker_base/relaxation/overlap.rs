@@ -1,5 +1,5 @@
 // SPDX-License-Identifier: MIT OR Apache-2.0
-// Made by tools/erase of crates/linker_base/src/relaxation/overlap.rt.
+// Made by tools/generate of crates/linker_base/src/relaxation/overlap.rt.
 //! Tests of lists of deletions. None allocates but those that sort a copy.
 //!
 //! Deletions in any order are tested in parts: each part is one that ascends, or a few that are

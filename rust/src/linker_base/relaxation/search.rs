@@ -1,5 +1,5 @@
 // SPDX-License-Identifier: MIT OR Apache-2.0
-// Made by tools/erase of crates/linker_base/src/relaxation/search.rt.
+// Made by tools/generate of crates/linker_base/src/relaxation/search.rt.
 //! The search among deltas: by the heads of their blocks, and then in one block.
 
 use super::blocks::{BLOCK_LEN, BlockHead, count_blocks};

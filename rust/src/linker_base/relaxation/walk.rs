@@ -1,5 +1,5 @@
 // SPDX-License-Identifier: MIT OR Apache-2.0
-// Made by tools/erase of crates/linker_base/src/relaxation/walk.rt.
+// Made by tools/generate of crates/linker_base/src/relaxation/walk.rt.
 //! A walk through deltas, for offsets that don't decrease.
 
 use super::RelaxDelta;

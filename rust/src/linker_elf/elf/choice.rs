@@ -1,5 +1,5 @@
 // SPDX-License-Identifier: MIT OR Apache-2.0
-// Made by tools/erase of crates/linker_elf/src/elf/choice.rt.
+// Made by tools/generate of crates/linker_elf/src/elf/choice.rt.
 //! What a linker knows of a symbol and of its output, and the rewrite that it chooses by that.
 
 use crate::linker_elf::elf::{InstructionRewrite, Operands, Row};

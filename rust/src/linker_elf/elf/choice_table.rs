@@ -1,5 +1,5 @@
 // SPDX-License-Identifier: MIT OR Apache-2.0
-// Made by tools/erase of crates/linker_elf/src/elf/choice_table.rt.
+// Made by tools/generate of crates/linker_elf/src/elf/choice_table.rt.
 //! Tables of the rewrites that a linker chooses.
 
 use crate::linker_elf::elf::{Choice, InstructionRewrite, LinkFacts, Operands, Row};

@@ -1,5 +1,5 @@
 // SPDX-License-Identifier: MIT OR Apache-2.0
-// Made by tools/erase of crates/linker_elf/src/elf/engine.rt.
+// Made by tools/generate of crates/linker_elf/src/elf/engine.rt.
 //! Writes the bits of a value into the window of an instruction, and reads them.
 
 use crate::linker_elf::elf::RelocationInstruction;

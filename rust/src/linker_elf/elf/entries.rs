@@ -1,5 +1,5 @@
 // SPDX-License-Identifier: MIT OR Apache-2.0
-// Made by tools/erase of crates/linker_elf/src/elf/entries.rt.
+// Made by tools/generate of crates/linker_elf/src/elf/entries.rt.
 //! For which relocations a linker makes an entry of the GOT or of the PLT.
 
 use crate::linker_elf::elf::{RelocationInstruction, RelocationKind, RelocationSize};

@@ -1,5 +1,5 @@
 // SPDX-License-Identifier: MIT OR Apache-2.0
-// Made by tools/erase of crates/linker_elf/src/elf/facts.rt.
+// Made by tools/generate of crates/linker_elf/src/elf/facts.rt.
 //! What a relocation requires of a linker, and how its value is found: facts of its row.
 
 /// Which entry of the GOT, or which word, a formula has.

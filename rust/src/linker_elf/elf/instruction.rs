@@ -1,5 +1,5 @@
 // SPDX-License-Identifier: MIT OR Apache-2.0
-// Made by tools/erase of crates/linker_elf/src/elf/instruction.rt.
+// Made by tools/generate of crates/linker_elf/src/elf/instruction.rt.
 //! What a form says of an instruction, for all architectures.
 
 use crate::linker_elf::elf::{InstructionForm, RelocationInstruction};

@@ -1,5 +1,5 @@
 // SPDX-License-Identifier: MIT OR Apache-2.0
-// Made by tools/erase of crates/linker_elf/src/elf/numbers.rt.
+// Made by tools/generate of crates/linker_elf/src/elf/numbers.rt.
 //! Relocations in plain numbers, for callers without this library's enums.
 
 /// What a relocation means, in numbers.

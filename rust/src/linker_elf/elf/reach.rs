@@ -1,5 +1,5 @@
 // SPDX-License-Identifier: MIT OR Apache-2.0
-// Made by tools/erase of crates/linker_elf/src/elf/reach.rt.
+// Made by tools/generate of crates/linker_elf/src/elf/reach.rt.
 //! Which values of a relocation the machine reads back as they are.
 
 use crate::linker_elf::elf::{

@@ -1,5 +1,5 @@
 // SPDX-License-Identifier: MIT OR Apache-2.0
-// Made by tools/erase of crates/linker_elf/src/elf/relocate.rt.
+// Made by tools/generate of crates/linker_elf/src/elf/relocate.rt.
 //! Writes the value of a relocation.
 
 #[cfg(feature = "aarch64")]

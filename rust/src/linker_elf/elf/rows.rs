@@ -1,5 +1,5 @@
 // SPDX-License-Identifier: MIT OR Apache-2.0
-// Made by tools/erase of crates/linker_elf/src/elf/rows.rt.
+// Made by tools/generate of crates/linker_elf/src/elf/rows.rt.
 //! Rows of the relocation tables, and the macros that make them from each architecture's list.
 
 use crate::linker_elf::elf::entries::{is_of_high_part, names_plt_entry};

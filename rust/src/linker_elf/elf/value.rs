@@ -1,5 +1,5 @@
 // SPDX-License-Identifier: MIT OR Apache-2.0
-// Made by tools/erase of crates/linker_elf/src/elf/value.rt.
+// Made by tools/generate of crates/linker_elf/src/elf/value.rt.
 //! The value of a relocation, from the addresses that a linker knows.
 
 use crate::linker_elf::elf::entries::names_plt_entry;

@@ -1,5 +1,5 @@
 // SPDX-License-Identifier: MIT OR Apache-2.0
-// Made by tools/erase of crates/linker_elf/src/loongarch64/relocations.rt.
+// Made by tools/generate of crates/linker_elf/src/loongarch64/relocations.rt.
 //! What the relocations of LoongArch mean.
 
 use crate::linker_elf::elf::choice_table::RelocationName;

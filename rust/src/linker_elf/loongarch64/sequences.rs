@@ -1,5 +1,5 @@
 // SPDX-License-Identifier: MIT OR Apache-2.0
-// Made by tools/erase of crates/linker_elf/src/loongarch64/sequences.rt.
+// Made by tools/generate of crates/linker_elf/src/loongarch64/sequences.rt.
 //! LoongArch: addresses made by five instructions.
 
 use crate::linker_elf::elf::{LoongArch64Instruction, PAGE_MASK_4KB, SIZE_2GB, SIZE_2KB, SIZE_4GB, SIZE_4KB};

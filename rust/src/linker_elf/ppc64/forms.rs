@@ -1,5 +1,5 @@
 // SPDX-License-Identifier: MIT OR Apache-2.0
-// Made by tools/erase of crates/linker_elf/src/ppc64/forms.rt.
+// Made by tools/generate of crates/linker_elf/src/ppc64/forms.rt.
 //! PowerPC64 instructions that hold a value.
 
 use crate::linker_elf::elf::engine::{self, Encoding, Step, Window, form};

@@ -1,5 +1,5 @@
 // SPDX-License-Identifier: MIT OR Apache-2.0
-// Made by tools/erase of crates/linker_elf/src/ppc64/sequences.rt.
+// Made by tools/generate of crates/linker_elf/src/ppc64/sequences.rt.
 //! Addresses in two halves.
 
 use super::Ppc64Instruction;

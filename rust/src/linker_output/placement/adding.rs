@@ -1,5 +1,5 @@
 // SPDX-License-Identifier: MIT OR Apache-2.0
-// Made by tools/erase of crates/linker_output/src/placement/adding.rt.
+// Made by tools/generate of crates/linker_output/src/placement/adding.rt.
 //! Stubs that are added for branches, and those that branches share.
 
 use crate::support::*;

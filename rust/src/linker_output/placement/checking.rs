@@ -1,5 +1,5 @@
 // SPDX-License-Identifier: MIT OR Apache-2.0
-// Made by tools/erase of crates/linker_output/src/placement/checking.rt.
+// Made by tools/generate of crates/linker_output/src/placement/checking.rt.
 //! Whether stubs can be placed in code, and whether those that are placed reach their targets.
 
 use super::laying::reaches;

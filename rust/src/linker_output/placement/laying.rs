@@ -1,5 +1,5 @@
 // SPDX-License-Identifier: MIT OR Apache-2.0
-// Made by tools/erase of crates/linker_output/src/placement/laying.rt.
+// Made by tools/generate of crates/linker_output/src/placement/laying.rt.
 //! Where stubs are, and what branches reach, by how many stubs there are at each boundary.
 
 use super::{Branch, Code, Group, Part, StubAt, StubShape, Way};

@@ -1,5 +1,5 @@
 // SPDX-License-Identifier: MIT OR Apache-2.0
-// Made by tools/erase of crates/linker_output/src/placement/sweeping.rt.
+// Made by tools/generate of crates/linker_output/src/placement/sweeping.rt.
 //! Stubs are added until each branch reaches what it goes by.
 
 use alloc::vec::Vec;

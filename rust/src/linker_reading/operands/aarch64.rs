@@ -1,5 +1,5 @@
 // SPDX-License-Identifier: MIT OR Apache-2.0
-// Made by tools/erase of crates/linker_reading/src/operands/aarch64.rt.
+// Made by tools/generate of crates/linker_reading/src/operands/aarch64.rt.
 //! The instructions of AArch64 with an immediate, the numbers that these are, and what they count.
 
 use crate::linker_reading::operands::{Base, Encoding, encoding};

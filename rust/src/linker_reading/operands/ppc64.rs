@@ -1,5 +1,5 @@
 // SPDX-License-Identifier: MIT OR Apache-2.0
-// Made by tools/erase of crates/linker_reading/src/operands/ppc64.rt.
+// Made by tools/generate of crates/linker_reading/src/operands/ppc64.rt.
 //! The instructions of PowerPC64 with an immediate, and what these count.
 
 use crate::linker_reading::operands::{Base, Encoding, encoding};

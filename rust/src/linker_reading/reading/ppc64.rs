@@ -1,5 +1,5 @@
 // SPDX-License-Identifier: MIT OR Apache-2.0
-// Made by tools/erase of crates/linker_reading/src/reading/ppc64.rt.
+// Made by tools/generate of crates/linker_reading/src/reading/ppc64.rt.
 //! What an instruction of PowerPC64 holds.
 
 use crate::linker_base::bit_misc::BitExtraction;

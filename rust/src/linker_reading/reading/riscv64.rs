@@ -1,5 +1,5 @@
 // SPDX-License-Identifier: MIT OR Apache-2.0
-// Made by tools/erase of crates/linker_reading/src/reading/riscv64.rt.
+// Made by tools/generate of crates/linker_reading/src/reading/riscv64.rt.
 //! What an instruction of RISC-V holds.
 
 use crate::linker_elf::elf::{InstructionForm, RelocationInstruction, RiscVInstruction};

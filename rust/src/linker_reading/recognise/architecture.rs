@@ -1,5 +1,5 @@
 // SPDX-License-Identifier: MIT OR Apache-2.0
-// Made by tools/erase of crates/linker_reading/src/recognise/architecture.rt.
+// Made by tools/generate of crates/linker_reading/src/recognise/architecture.rt.
 //! What a linker made of a relocation, by its architecture and its code.
 
 use crate::linker_reading::recognise::engine::{self, CANDIDATES, Recognised, RecognisedName};

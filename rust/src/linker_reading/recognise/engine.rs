@@ -1,5 +1,5 @@
 // SPDX-License-Identifier: MIT OR Apache-2.0
-// Made by tools/erase of crates/linker_reading/src/recognise/engine.rt.
+// Made by tools/generate of crates/linker_reading/src/recognise/engine.rt.
 //! Which choices of a table leave the linked bytes, and what then stands in the field.
 
 use crate::linker_reading::fields::FieldValue;

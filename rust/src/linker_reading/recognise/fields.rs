@@ -1,5 +1,5 @@
 // SPDX-License-Identifier: MIT OR Apache-2.0
-// Made by tools/erase of crates/linker_reading/src/recognise/fields.rt.
+// Made by tools/generate of crates/linker_reading/src/recognise/fields.rt.
 //! The bits of a relocation's field, and bytes that differ in such bits only.
 
 use crate::linker_base::utils::u32_from_slice;

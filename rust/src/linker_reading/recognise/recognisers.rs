@@ -1,5 +1,5 @@
 // SPDX-License-Identifier: MIT OR Apache-2.0
-// Made by tools/erase of crates/linker_reading/src/recognise/recognisers.rt.
+// Made by tools/generate of crates/linker_reading/src/recognise/recognisers.rt.
 //! What is recognised of each architecture.
 
 #[cfg(feature = "aarch64")]

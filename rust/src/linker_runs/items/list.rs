@@ -1,5 +1,5 @@
 // SPDX-License-Identifier: MIT OR Apache-2.0
-// Made by tools/erase of crates/linker_runs/src/items/list.rt.
+// Made by tools/generate of crates/linker_runs/src/items/list.rt.
 //! The items of a run, in an array of the caller's.
 
 use crate::linker_runs::items::AsItem;

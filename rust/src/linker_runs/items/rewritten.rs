@@ -1,5 +1,5 @@
 // SPDX-License-Identifier: MIT OR Apache-2.0
-// Made by tools/erase of crates/linker_runs/src/items/rewritten.rt.
+// Made by tools/generate of crates/linker_runs/src/items/rewritten.rt.
 //! The items of a section that was rewritten.
 
 use super::{AsItem, AsRelocation, ahead, first_malformed, has_bytes, item_at};

@@ -1,5 +1,5 @@
 // SPDX-License-Identifier: MIT OR Apache-2.0
-// Made by tools/erase of crates/linker_runs/src/packing/code.rt.
+// Made by tools/generate of crates/linker_runs/src/packing/code.rt.
 //! Instructions, and the relocations that are applied to them.
 
 use crate::linker_elf::elf::{Operands, Row};

@@ -1,5 +1,5 @@
 // SPDX-License-Identifier: MIT OR Apache-2.0
-// Made by tools/erase of crates/linker_runs/src/packing/loongarch64.rt.
+// Made by tools/generate of crates/linker_runs/src/packing/loongarch64.rt.
 //! LoongArch: what a call and an address become.
 
 use crate::linker_runs::loongarch64::{is_address, is_call};

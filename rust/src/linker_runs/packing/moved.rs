@@ -1,5 +1,5 @@
 // SPDX-License-Identifier: MIT OR Apache-2.0
-// Made by tools/erase of crates/linker_runs/src/packing/moved.rt.
+// Made by tools/generate of crates/linker_runs/src/packing/moved.rt.
 //! The relocations of a packed section.
 
 use crate::linker_runs::items::{AsItem, ItemList};

@@ -1,5 +1,5 @@
 // SPDX-License-Identifier: MIT OR Apache-2.0
-// Made by tools/erase of crates/linker_runs/src/packing/riscv64.rt.
+// Made by tools/generate of crates/linker_runs/src/packing/riscv64.rt.
 //! RISC-V: what a call becomes.
 
 use crate::linker_runs::packing::ItemError;

@@ -1,5 +1,5 @@
 // SPDX-License-Identifier: MIT OR Apache-2.0
-// Made by tools/erase of crates/linker_runs/src/relaxation/cautious.rt.
+// Made by tools/generate of crates/linker_runs/src/relaxation/cautious.rt.
 //! The greatest choice that is in reach where each alignment keeps all of its nops.
 //!
 //! A sweep tests each site once, with what the choice frees at that time: from the last site to the

@@ -1,5 +1,5 @@
 // SPDX-License-Identifier: MIT OR Apache-2.0
-// Made by tools/erase of crates/linker_runs/src/relaxation/faults.rt.
+// Made by tools/generate of crates/linker_runs/src/relaxation/faults.rt.
 //! Which runs can be relaxed, and what is wrong with the others.
 
 use super::validity::{has_its_nops, is_clear, run_granularity};

@@ -1,5 +1,5 @@
 // SPDX-License-Identifier: MIT OR Apache-2.0
-// Made by tools/erase of crates/linker_runs/src/relaxation/passes.rt.
+// Made by tools/generate of crates/linker_runs/src/relaxation/passes.rt.
 //! Passes over a run: the places of targets, a layout, and one round.
 
 use crate::linker_runs::items::{AsItem, ItemList};

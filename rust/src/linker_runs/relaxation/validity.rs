@@ -1,5 +1,5 @@
 // SPDX-License-Identifier: MIT OR Apache-2.0
-// Made by tools/erase of crates/linker_runs/src/relaxation/validity.rt.
+// Made by tools/generate of crates/linker_runs/src/relaxation/validity.rt.
 //! What is tested of the items of a run.
 
 use super::{Alignment, Item, Shapes, remainder};

@@ -1,5 +1,5 @@
 // SPDX-License-Identifier: MIT OR Apache-2.0
-// Made by tools/erase of crates/linker_runs/src/shapes/loongarch64.rt.
+// Made by tools/generate of crates/linker_runs/src/shapes/loongarch64.rt.
 //! LoongArch (LoongArch ELF psABI, "Linker Relaxation"; the reaches are those of the reference
 //! manual's `b`, `bl` and `pcaddi`).
 

@@ -1,5 +1,5 @@
 // SPDX-License-Identifier: MIT OR Apache-2.0
-// Made by tools/erase of crates/linker_runs/src/shapes/riscv64.rt.
+// Made by tools/generate of crates/linker_runs/src/shapes/riscv64.rt.
 //! RISC-V (RISC-V ELF psABI, "Function Call Relaxation"; the reaches are those of the unprivileged
 //! ISA's `jal` and `c.j`).
 

@@ -1,6 +1,6 @@
 // SPDX-License-Identifier: MIT OR Apache-2.0
 //! Forms of random instructions and the numbers in their immediates, as llvm-objdump 19 and GNU objdump
-//! print them (`tools/form_words`).
+//! print them (`tools/oracle forms`).
 
 use linker_utils::elf::{
     AArch64Instruction, Architecture, InstructionForm, LoongArch64Instruction,

@@ -1,5 +1,5 @@
 // SPDX-License-Identifier: MIT OR Apache-2.0
-// Made by tools/erase of crates/linker_reading/src/recognise/recognisers/riscv64.rt.
+// Made by tools/generate of crates/linker_reading/src/recognise/recognisers/riscv64.rt.
 //! What is recognised of RISC-V.
 
 use crate::linker_reading::recognise::engine::RecognisedName;

@@ -1,5 +1,5 @@
 // SPDX-License-Identifier: MIT OR Apache-2.0
-//! What GNU ld 2.44 leaves of LoongArch's instructions. `tools/link_choices` makes it.
+//! What GNU ld 2.44 leaves of LoongArch's instructions. `tools/oracle` makes it.
 
 /// The address of the TLS segment.
 pub(crate) const IMAGE: u64 = 0x1_2001_dec8;

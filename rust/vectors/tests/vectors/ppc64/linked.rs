@@ -1,10 +1,10 @@
 // SPDX-License-Identifier: MIT OR Apache-2.0
-//! What linkers leave of PowerPC64's instructions. `tools/link_choices` makes it.
+//! What linkers leave of PowerPC64's instructions. `tools/oracle` makes it.
 
 /// By LLVM 19.1.7's linker: a relocation's type, 1 for a symbol that is defined there or 2 for a
 /// function that may change the TOC pointer, with 4 for the mark of a call of prefixed code, the
 /// symbol's address, the place, and the instruction's eight bytes before and after. GNU ld 2.40
-/// leaves the same, with the exceptions that `tools/link_choices` lists.
+/// leaves the same, with the exceptions that `tools/oracles/rewrites.py` lists.
 pub(crate) static SITES: [(u32, u8, u64, u64, u64, u64); 82] = [
     (50, 1, 0x1004_0100, 0x1001_0000, 0x3863_0000_3c62_0000, 0x3863_0000_6000_0000),
     (48, 1, 0x1004_0100, 0x1001_0004, 0x3c82_0000_3863_0000, 0x3c82_0000_3862_8100),

@@ -1,5 +1,5 @@
 // SPDX-License-Identifier: MIT OR Apache-2.0
-//! What LLVM 19.1.7's linker leaves of RISC-V's instructions. `tools/link_choices` makes it.
+//! What LLVM 19.1.7's linker leaves of RISC-V's instructions. `tools/oracle` makes it.
 
 /// The address of the TLS segment.
 pub(crate) const IMAGE: u64 = 0x1_239c;

@@ -1,0 +1,199 @@
+# SPDX-License-Identifier: MIT OR Apache-2.0
+"""The tables of docs/PROOFS.md that say how many places the laws of rewrites cover, of the counts in
+docs/places.json. Each relocation for which the library chooses rewrites has to have a row, and each law
+has to be a definition of crates/linker_laws/specs, and a field of `Laws` there, which a contract ensures."""
+import json
+import re
+import subprocess
+import sys
+from pathlib import Path
+
+ROOT = Path(__file__).resolve().parents[2]
+sys.path.append(str(ROOT / "tools/statistics"))
+import place_laws
+import places
+
+PAGE = "docs/PROOFS.md"
+MARKS = "<!-- made by tools/generate -->", "<!-- end of what tools/generate makes -->"
+# by machine: its name in texts, its specs, and the contract
+ARCHITECTURES = {
+    183: ("AArch64", ["AArch64RewriteLaws"], "aarch64"), 21: ("PowerPC64", ["Ppc64RewriteLaws"], "ppc64"),
+    243: ("RISC-V", ["RiscVRewriteLaws"], "riscv64"), 258: ("LoongArch", ["LoongArchRewriteLaws"], "loongarch64"),
+    62: ("x86-64", ["X86RewriteLaws", "X86ThreadLaws"], "x86_64"),
+}
+# by the first law of a row: its premises on what jumps where and what reads which register
+ONE_PATH = "nothing jumps between them"
+# of halves that may stand apart
+READ_BY_LOW = "what reads the register"
+HAS_HIGH = "the source has what a high half put there"
+HAS_BASE = "the base has what a high half put there"
+OPEN = {
+    183: {
+        "GotToAddress": ONE_PATH, "AddressToAdr": ONE_PATH,
+        "HighHalfToMovz": READ_BY_LOW, "LowHalfToMovk": HAS_HIGH,
+        "DescriptorToLocalExec": f"{ONE_PATH}; nothing reads XT, X30 and what the function changes",
+        "WeakBranches": "nothing reads X30 after a `bl`",
+    },
+    243: {
+        "GotToAddress": f"{ONE_PATH}; nothing else reads the register of the `auipc`",
+        "PairFromZero": f"{ONE_PATH}; nothing else reads the register of the `lui`",
+        "LocalExecIsShortened":
+            f"{ONE_PATH}; nothing else reads the registers of the `lui` and the `add`",
+        "DescriptorToLocalExec":
+            f"{ONE_PATH}; nothing else reads the registers of the `auipc` and the `ld`, and nothing "
+            "t0 and what the function changes",
+        "Calls": "nothing else reads the register of a tail call's `auipc`",
+        "LuiIsDeleted": "what reads the register of a `lui` that is deleted",
+        "CluiBecomesCli": "",
+        "LowPartFromZero":
+            "the base has what the `lui` put there; a store stores no register that differs",
+        "OffsetLuiIsDeleted": "what reads the register",
+        "SumIsDeleted": "the source has what the `lui` put there",
+        "LowPartFromThreadPointer":
+            "the base has what the `add` put there; a store stores no register that differs",
+    },
+    258: {
+        "GotToAddress": ONE_PATH, "AddressToPcaddi": ONE_PATH, "EntriesToPcaddi": ONE_PATH,
+        "HighHalfToLu12i": READ_BY_LOW, "LowHalfToOri": HAS_HIGH, "LowOfDescriptorToOri": HAS_HIGH,
+        "LoadOfDescriptorToNop": "`a0` has the descriptor's address",
+        "CallOfDescriptorToNop":
+            "`a0` and `ra` have what the others put there; nothing reads `ra` and what the function "
+            "changes",
+        "ShorterLocalExec": f"{ONE_PATH}; nothing else reads rA and rB",
+        "OffsetLu12iIsDeleted": READ_BY_LOW,
+        "SumIsDeleted": "the source has what the `lu12i.w` put there",
+        "LowPartFromThreadPointer":
+            "the base has what the `add.d` put there; a store stores no register that differs",
+        "Calls": "nothing else reads rd",
+    },
+    21: {
+        "AddiNearToc": f"{ONE_PATH}; nothing else reads rX",
+        "GotToAddress": f"{ONE_PATH}; nothing else reads rX",
+        "InitialExecToLocalExec": f"{ONE_PATH}; nothing else reads rX and rY",
+        "GeneralDynamicToLocalExec":
+            f"{ONE_PATH}; nothing else reads rX, and nothing what the call changes",
+        "LocalDynamicToLocalExec":
+            f"{ONE_PATH}; nothing else reads rX, and nothing what the call changes",
+        "PldToPaddi": "", "RestoresToc": "r2 was stored at r1 + 24",
+        "NearInitialExecToLocalExec": "nothing else reads rT",
+        "Arguments": "nothing but calls with marks reads copies of rT",
+        "TocAtEntry": "r12 has the address of the `addis`, and the `addi` is 4 bytes after it",
+        "HighHalfToNop": READ_BY_LOW, "HighHalfOfSymbol": READ_BY_LOW, "LoadToSum": HAS_BASE,
+        "LowHalfOverBase": f"{HAS_BASE}; what it loads or stores is the same in both runs",
+        "OffsetToHighHalf": f"{HAS_BASE}; what reads rT",
+        "OffsetToLowHalf":
+            "the base has what the load put there; what it loads or stores is the same in both runs",
+        "ArgumentToHighHalf": f"{HAS_BASE}; what reads rT",
+        "ArgumentToThread": f"{HAS_BASE}; what reads rT",
+        "CallToLowHalf":
+            "r3 has what an argument's instruction put there; nothing reads what the call changes",
+        "CallToBlock":
+            "r3 has what an argument's instruction put there; nothing reads what the call changes",
+        "ArgumentToVariable": "what reads rT", "ArgumentToBlock": "what reads rT",
+        "LoadToVariable": "what reads rT",
+    },
+    62: {
+        "LoadsOfAddresses": "", "Operations": "", "ThreadOffsets": "",
+        "GeneralDynamic": f"{ONE_PATH}; nothing reads what the call changes",
+        "LocalDynamic": f"{ONE_PATH}; nothing reads what the call changes; what the fields of "
+            "`DTPOFF32` and `DTPOFF64` are added to",
+        "Descriptors": f"{ONE_PATH}; nothing reads the flags, and memory that the function changes",
+        "LeaOfDescriptor": READ_BY_LOW,
+        "CallOfDescriptor":
+            "rax has what a `lea` put there; nothing reads the flags, and memory that the function "
+            "changes",
+    },
+}
+
+
+def counted():
+    """The counts, by machine, law and relocation: of libraries and of programs. They are null where
+    places were last counted before there was the law."""
+    machines = {name: machine for machine, name in places.census.MACHINES.items()}
+    return {(machines[name], laws, relocation): (libraries, programs)
+            for name, laws, relocation, libraries, programs in json.loads(places.COUNTS.read_text())}
+
+
+def two(numbers):
+    """The numbers of libraries and of programs, or None where they weren't counted."""
+    texts = ["not counted" if number is None else f"{number:,}" for number in numbers]
+    return texts[0] if not numbers[0] and numbers[0] == numbers[1] else " / ".join(texts)
+
+
+def left(both):
+    """What isn't covered, by reasons."""
+    return "; ".join(f"{two([None if found is None else found.get(reason, 0) for found in both])} {text}"
+                     for reason, text in place_laws.REASONS.items()
+                     if any(reason in (found or {}) for found in both))
+
+
+def rows(machine, counts):
+    """The rows of an architecture. Relocations with the same numbers share one."""
+    made = []
+    for laws, name in place_laws.rows(machine):
+        both = counts.get((machine, laws, name), ({}, {}))
+        numbers = (two([None if found is None else sum(found.values()) for found in both]),
+                   two([None if found is None else found.get(place_laws.COVERED, 0)
+                        for found in both]), left(both))
+        names = laws.split()
+        cells = [", ".join(f"`{law}`" for law in names), *numbers, OPEN[machine][names[0]]]
+        if made and made[-1][1:] == cells:
+            made[-1][0] += f", `{name}`"
+        else:
+            made.append([f"`{name}`", *cells])
+    return made
+
+
+def tables():
+    """The text between the marks."""
+    counts, lines = counted(), []
+    for machine, (name, *_) in ARCHITECTURES.items():
+        lines += [f"#### {name}", "", f"Names have the prefix `{places.PREFIXES[machine]}`.", "",
+                  "| Relocations | Laws | Places | Covered | Not covered | Not seen in bytes |",
+                  "|---|---|--:|--:|---|---|",
+                  *("| " + " | ".join(cells) + " |" for cells in rows(machine, counts)), ""]
+    return "\n".join(lines) + "\n"
+
+
+def ensured(contract, files):
+    """The names in the fields of `Laws` of specs, each of which a contract ensures."""
+    found = set()
+    for path in files:
+        text = path.read_text()
+        fields = re.search(r"^pub record Laws : Type 0 where\n((?:  .*\n)+)", text, re.M)
+        alias = re.search(rf"^ghost use Rattle\.linker_laws\.specs\.{path.stem} as (\w+);", contract, re.M)
+        if not fields or not alias or f" {{ {alias[1]}.Laws }}\n" not in contract:
+            sys.exit(f"tools/generate: no contract ensures the laws of {path.name}")
+        found.update(name for name in re.findall(r"\w+", fields[1])
+                     if re.search(rf"^abbrev pub {name} :", text, re.M))
+    return found
+
+
+def check_rows():
+    """Each relocation with choices has a row, and each row's laws are ensured."""
+    rows_, _ = places.census.library()
+    names = {key: name.removeprefix(places.PREFIXES[key[0]]) for key, (name, _) in rows_.items()}
+    listed = subprocess.check_output(places.census.example("choice_places"), text=True,
+                                     cwd=places.census.RUST)
+    chosen = {(machine, names[machine, code])
+              for machine, code in (map(int, line.split()) for line in listed.splitlines())}
+    of_laws = {(machine, name) for machine in ARCHITECTURES for _, name in place_laws.rows(machine)}
+    if chosen != of_laws:
+        sys.exit("tools/generate: without laws or without choices: "
+                 f"{sorted(chosen ^ of_laws)}")
+    specs = ROOT / "crates/linker_laws"
+    contracts = (specs / "src/rewrites.rt").read_text()
+    for machine, (name, files, function) in ARCHITECTURES.items():
+        head, contract = contracts.split(f"pub fn {function}()", 1)
+        laws = ensured(head[:head.index("///")] + contract.split("\n{", 1)[0] + "\n",
+                       [specs / f"specs/{file}.antt" for file in files])
+        for law in {law for laws, _ in place_laws.rows(machine) for law in laws.split()}:
+            if law not in laws:
+                sys.exit(f"tools/generate: {name} has no law {law}")
+
+
+def make():
+    check_rows()
+    page = (ROOT / PAGE).read_text()
+    start, end = page.index(MARKS[0]) + len(MARKS[0]), page.index(MARKS[1])
+    return {PAGE: page[:start] + "\n\n" + tables() + page[end:]}

@@ -1,0 +1,368 @@
+# SPDX-License-Identifier: MIT OR Apache-2.0
+"""What the laws of rewrites (crates/linker_laws/specs) ask of instructions, for places.py: which
+of the places at which a rewrite is chosen the laws cover, and why they don't cover the others."""
+import collections
+from dataclasses import dataclass
+from typing import Callable
+
+# why a place isn't covered: more or fewer relocations than the law's belong together, the high part
+# is of another kind, other instructions stand between, or instructions or registers aren't those of
+# the law
+REASONS = {
+    "apart": "apart", "several": "with several users", "registers": "other instructions or registers",
+    "kind": "another high part", "alone": "no other part", "call": "another call",
+    "addend": "another addend",
+}
+COVERED = "covered"
+
+
+def bits(word, low, high):
+    return word >> low & (1 << high - low) - 1
+
+
+# ---- RISC-V
+
+def rd(word):
+    return bits(word, 7, 12)
+
+
+def rs1(word):
+    return bits(word, 15, 20)
+
+
+def stores_of_riscv(word):
+    """The register of 64 bits that a store stores; None where the instruction stores none."""
+    return bits(word, 20, 25) if bits(word, 0, 7) == 0x23 else None
+
+
+def keeps_base_of_riscv(words):
+    """LowPartFromZero, LowPartFromThreadPointer: StoresTheSame, of the base."""
+    return stores_of_riscv(words[0]) != rs1(words[0]) or rs1(words[0]) == 0
+
+
+def is_pair_from_zero(words):
+    lui, low = words
+    return rs1(low) == rd(lui) and (stores_of_riscv(low) != rs1(low))
+
+
+def is_local_exec_of_riscv(words):
+    """IsLocalExec, and StoresAnother of both registers."""
+    lui, add, low = words
+    high, total = rd(lui), rd(add)
+    return (rs1(add) == high and rs1(low) == total and high != 4 and total != 0
+            and stores_of_riscv(low) not in (high, total))
+
+
+def is_descriptor_of_riscv(words):
+    """AreOfDescriptor."""
+    auipc, ld, addi, jalr = words
+    base, function = rd(auipc), rd(ld)
+    return (rs1(ld) == base and rs1(addi) == base and rs1(jalr) == function
+            and 0 not in (base, function) and function not in (base, 10))
+
+
+def is_load_from_got(words):
+    return rs1(words[1]) == rd(words[0]) and rd(words[0]) != 0
+
+
+# ---- LoongArch
+
+def stores_of_loongarch(word):
+    """The register of 64 bits that a store stores; None where the instruction stores none."""
+    return bits(word, 0, 5) if 0xA4 <= bits(word, 22, 32) <= 0xA7 else None
+
+
+def keeps_base_of_loongarch(words):
+    """LowPartFromThreadPointer: StoresTheSame, of the base."""
+    return stores_of_loongarch(words[0]) != bits(words[0], 5, 10)
+
+
+def is_local_exec_of_loongarch(words):
+    """IsLocalExec."""
+    high, add, low = words
+    both = bits(high, 0, 5), bits(add, 0, 5)
+    return (bits(add, 5, 10) == both[0] and bits(low, 5, 10) == both[1] and both[0] not in (0, 2)
+            and both[1] != 0 and stores_of_loongarch(low) not in both)
+
+
+# ---- PowerPC64
+
+def rt(word):
+    return bits(word, 21, 26)
+
+
+def ra(word):
+    return bits(word, 16, 21)
+
+
+def is_toc_pair(words):
+    """IsTocPair; what the second instruction is, the choice has tested."""
+    return ra(words[1]) == rt(words[0])
+
+
+def is_thread_access(words):
+    """InitialExecToLocalExec, IsThreadAccess."""
+    addis, ld, third = words
+    is_indexed = bits(third, 0, 6) in (0x2A, 0x2E)
+    number = bits(third, 6, 11)
+    is_store = number == 4 if bits(third, 0, 6) == 0x2A else number in (4, 6, 12)
+    return (is_toc_pair(words) and ra(third) == rt(ld) and 13 not in (rt(ld), rt(addis))
+            and not (is_indexed and is_store and rt(third) == rt(addis)))
+
+
+def is_over_toc(words):
+    """IsOverToc."""
+    return ra(words[0]) == 2
+
+
+def is_tls_call(words):
+    """IsTlsCall."""
+    return is_toc_pair(words) and rt(words[0]) != 13
+
+
+def has_word_form(words):
+    """LowHalfOverBase, of `ld`, `lwa` and `std`, `lq` and accesses of vector registers. Those of other
+    instructions have no relocation for them."""
+    return words[0] >> 26 in (56, 57, 58, 61, 62)
+
+
+def has_no_word_form(words):
+    """... of `addi` and the other accesses."""
+    return not has_word_form(words)
+
+
+# ---- the laws
+
+@dataclass
+class Sequence:
+    """Relocations of instructions that stand one behind the other, each so many bytes behind the
+    first, the laws of them, and what these ask of the words."""
+    laws: str
+    steps: list
+    test: Callable
+
+    def step_of(self, name):
+        """Which one a relocation is of; None if it is of none."""
+        return next((step for step, (_, names) in enumerate(self.steps) if name in names), None)
+
+    def verdict(self, members, word, response):
+        """Why the laws don't cover relocations that belong together, or that they do."""
+        steps = [self.step_of(name) for _, name in members]
+        if None in steps or len(steps) > len(set(steps)):
+            return "several"
+        if len(steps) < len(self.steps):
+            return "alone"
+        at = dict(zip(steps, (offset for offset, _ in members)))
+        if any(at[step] - at[0] != distance for step, (distance, _) in enumerate(self.steps)):
+            return "apart"
+        is_asked_for = "n" not in [response.get(member) for member in members]
+        is_theirs = is_asked_for and self.test([word(at[step]) for step in sorted(at)])
+        return COVERED if is_theirs and self.have_forms(members, word) else "registers"
+
+    @staticmethod
+    def have_forms(members, word):
+        """WordAccessNearToc has the relocation of `ld`, `lwa` and `std`, and the other laws haven't."""
+        return all(name.endswith("_DS") == (word(offset) >> 26 in (58, 62))
+                   for offset, name in members if name.startswith("TOC16_LO"))
+
+
+def sequence(laws, names, test=lambda words: True):
+    """A sequence of words; a step may have several relocations, with `|`."""
+    steps = [(4 * at, set(step.split("|"))) for at, step in enumerate(names.split())]
+    return Sequence(laws, steps, test)
+
+
+SEQUENCES = {
+    183: [
+        sequence("GotToAddress", "ADR_GOT_PAGE LD64_GOT_LO12_NC"),
+        sequence("AddressToAdr", "ADR_PREL_PG_HI21|ADR_PREL_PG_HI21_NC ADD_ABS_LO12_NC"),
+        sequence("DescriptorToLocalExec DescriptorToInitialExec",
+                 "TLSDESC_ADR_PAGE21 TLSDESC_LD64_LO12 TLSDESC_ADD_LO12 TLSDESC_CALL"),
+    ],
+    243: [
+        sequence("GotToAddress", "GOT_HI20 PCREL_LO12_I", is_load_from_got),
+        sequence("PairFromZero", "HI20 LO12_I|LO12_S", is_pair_from_zero),
+        sequence("LocalExecIsShortened", "TPREL_HI20 TPREL_ADD TPREL_LO12_I|TPREL_LO12_S",
+                 is_local_exec_of_riscv),
+        sequence("DescriptorToLocalExec DescriptorToShortLocalExec DescriptorToInitialExec "
+                 "LongNopDoesNothing",
+                 "TLSDESC_HI20 TLSDESC_LOAD_LO12 TLSDESC_ADD_LO12 TLSDESC_CALL",
+                 is_descriptor_of_riscv),
+    ],
+    258: [
+        sequence("GotToAddress GotToPcaddi", "GOT_PC_HI20 GOT_PC_LO12"),
+        sequence("AddressToPcaddi", "PCALA_HI20 PCALA_LO12"),
+        sequence("EntriesToPcaddi", "TLS_GD_PC_HI20|TLS_LD_PC_HI20 GOT_PC_LO12"),
+        sequence("ShorterLocalExec", "TLS_LE_HI20_R TLS_LE_ADD_R TLS_LE_LO12_R",
+                 is_local_exec_of_loongarch),
+    ],
+    21: [
+        sequence("AddiNearToc AccessNearToc WordAccessNearToc", "TOC16_HA TOC16_LO|TOC16_LO_DS",
+                 is_toc_pair),
+        sequence("GotToAddress", "GOT16_HA GOT16_LO_DS", is_toc_pair),
+        sequence("InitialExecToLocalExec AccessToLocalExec WordAccessToLocalExec",
+                 "GOT_TPREL16_HA GOT_TPREL16_LO_DS TLS", is_thread_access),
+        sequence("GeneralDynamicToLocalExec GeneralDynamicToInitialExec",
+                 "GOT_TLSGD16_HA GOT_TLSGD16_LO TLSGD", is_tls_call),
+        sequence("LocalDynamicToLocalExec", "GOT_TLSLD16_HA GOT_TLSLD16_LO TLSLD", is_tls_call),
+    ],
+}
+# of a sequence's relocations those that no rewrite is chosen for
+UNCHOSEN = {"ADR_PREL_PG_HI21", "ADR_PREL_PG_HI21_NC"}
+# of one instruction, or of a window that the choice has tested: the laws, relocations, and what the
+# laws require of the word
+ALONE = {
+    183: [
+        ("WeakBranches", "CALL26 JUMP26", None),
+        ("HighHalfToMovz", "TLSIE_ADR_GOTTPREL_PAGE21", lambda words: bits(words[0], 0, 5) != 31),
+        ("LowHalfToMovk", "TLSIE_LD64_GOTTPREL_LO12_NC", None),
+    ],
+    243: [
+        ("Calls TailCalls ShortTailCalls", "CALL CALL_PLT", None),
+        ("LuiIsDeleted LuiBecomesClui", "HI20", None),
+        ("CluiBecomesCli", "RVC_LUI", None),
+        ("LowPartFromZero", "LO12_I LO12_S", keeps_base_of_riscv),
+        ("OffsetLuiIsDeleted", "TPREL_HI20", None),
+        ("SumIsDeleted", "TPREL_ADD", None),
+        ("LowPartFromThreadPointer", "TPREL_LO12_I TPREL_LO12_S", keeps_base_of_riscv),
+    ],
+    258: [
+        ("Calls", "CALL36", None),
+        ("HighHalfToLu12i HighHalfToNop", "TLS_IE_PC_HI20", None),
+        ("LowHalfToOri LowHalfToOriZero", "TLS_IE_PC_LO12", None),
+        ("HighHalfToLu12i PageOfDescriptor", "TLS_DESC_PC_HI20", None),
+        ("LowOfDescriptorToOri LowOfDescriptorToLoad", "TLS_DESC_PC_LO12", None),
+        ("LoadOfDescriptorToNop", "TLS_DESC_LD", None),
+        ("CallOfDescriptorToNop", "TLS_DESC_CALL", None),
+        ("OffsetLu12iIsDeleted", "TLS_LE_HI20_R", None),
+        ("SumIsDeleted", "TLS_LE_ADD_R", None),
+        ("LowPartFromThreadPointer", "TLS_LE_LO12_R", keeps_base_of_loongarch),
+    ],
+    21: [
+        ("PldToPaddi", "GOT_PCREL34", None), ("RestoresToc", "REL24", None),
+        ("NearInitialExecToLocalExec", "GOT_TPREL16_DS", is_over_toc),
+        ("Arguments ArgumentToLocalExec NearArgumentToInitialExec", "GOT_TLSGD16", is_over_toc),
+        ("Arguments ArgumentToModule", "GOT_TLSLD16", is_over_toc),
+        ("TocAtEntry", "REL16_HA REL16_LO", None),
+        ("HighHalfToNop", "TOC16_HA TPREL16_HA GOT_TPREL16_HA GOT_TLSLD16_HA", None),
+        ("HighHalfToNop HighHalfOfEntry", "GOT_TLSGD16_HA", None),
+        ("HighHalfOfSymbol", "GOT16_HA", None), ("LoadToSum", "GOT16_LO_DS", None),
+        ("LowHalfOverBase", "TOC16_LO TPREL16_LO", has_no_word_form),
+        ("LowHalfOverBase", "TOC16_LO_DS TPREL16_LO_DS", has_word_form),
+        ("OffsetToHighHalf", "GOT_TPREL16_LO_DS", None),
+        ("OffsetToLowHalf SumToVariable", "TLS", None),
+        ("ArgumentToHighHalf ArgumentToOffset", "GOT_TLSGD16_LO", None),
+        ("ArgumentToThread", "GOT_TLSLD16_LO", None),
+        ("CallToLowHalf CallToSum BranchToNop BranchToSum", "TLSGD", None),
+        ("CallToBlock BranchToNop", "TLSLD", None),
+        ("ArgumentToVariable ArgumentToLoad", "GOT_TLSGD_PCREL34", None),
+        ("ArgumentToBlock", "GOT_TLSLD_PCREL34", None),
+        ("LoadToVariable", "GOT_TPREL_PCREL34", None),
+    ],
+}
+# of x86-64, by relocations
+OF_X86 = {
+    "LoadsOfAddresses AbsoluteAddresses Operations Branches": "GOTPCRELX",
+    "LoadsOfAddresses AbsoluteAddresses Operations": "REX_GOTPCRELX CODE_4_GOTPCRELX",
+    "LoadsOfAddresses": "GOTPCREL",
+    "Operations": "CODE_6_GOTPCRELX",
+    "ThreadOffsets": "GOTTPOFF CODE_4_GOTTPOFF CODE_6_GOTTPOFF",
+    "GeneralDynamic": "TLSGD",
+    "LocalDynamic": "TLSLD DTPOFF32 DTPOFF64",
+    "Descriptors": "GOTPC32_TLSDESC CODE_4_GOTPC32_TLSDESC TLSDESC_CALL",
+}
+LEA_RAX = {3: "488d05", 4: "d5088d05"}
+# of one instruction wherever it stands
+ALONE_OF_X86 = {
+    "LeaOfDescriptor": "GOTPC32_TLSDESC CODE_4_GOTPC32_TLSDESC",
+    "CallOfDescriptor": "TLSDESC_CALL",
+}
+
+
+def rows_of_x86(laws_of):
+    return [(laws, name) for laws, names in laws_of.items() for name in names.split()]
+
+
+def rows(machine):
+    """The laws and relocations of a machine, in the order of the tables."""
+    if machine == 62:
+        return rows_of_x86(OF_X86) + rows_of_x86(ALONE_OF_X86)
+    of_sequences = [(one.laws, name) for one in SEQUENCES[machine]
+                    for _, names in one.steps for name in sorted(names - UNCHOSEN)]
+    return of_sequences + [(laws, name) for laws, names, _ in ALONE[machine]
+                           for name in names.split()]
+
+
+def counted():
+    """Counts by laws and relocation, and in these by the verdict."""
+    return collections.defaultdict(collections.Counter)
+
+
+def count(machine, relocations, groups, word, found):
+    """Adds the places of a section, except for x86-64. `groups` has the relocations that belong
+    together, each as its offset and name; `word` says which word is at an offset."""
+    of_place = {}
+    responses = {(offset & ~3 if machine == 21 else offset, name): response
+               for offset, name, _, _, response in relocations}
+    for members in map(sorted, groups):
+        verdict, laws = "kind", None
+        for one in SEQUENCES[machine]:
+            if any(name in one.steps[0][1] for _, name in members):
+                verdict, laws = one.verdict(members, word, responses), one.laws
+        of_place.update({member: (verdict, laws) for member in members})
+    # of one that is in several, the first
+    of_sequence = {name: one.laws for one in reversed(SEQUENCES[machine]) for _, names in one.steps
+                   for name in names}
+    alone = {name: (laws, test) for laws, names, test in ALONE[machine] for name in names.split()}
+    for offset, name, _, _, response in relocations:
+        if response != "y":
+            continue
+        at = offset & ~3 if machine == 21 else offset
+        if name in of_sequence:
+            verdict, laws = of_place.get((at, name), ("alone", None))
+            # PCREL_LO12_I is rewritten with a GOT_HI20 only, which is a condition of the choice
+            if not (verdict == "kind" and name == "PCREL_LO12_I"):
+                found[laws or of_sequence[name], name][verdict] += 1
+        if name in alone:
+            laws, test = alone[name]
+            holds = test is None or test([word(at)])
+            found[laws, name][COVERED if holds else "registers"] += 1
+
+
+def count_of_x86(relocations, code, is_resolved, found):
+    """Adds the places of a section. `is_resolved` says of a general- or local-dynamic sequence at an
+    offset whether its call is one of `__tls_get_addr`."""
+    at_place = {(offset, name): symbol for offset, name, symbol, _, _ in relocations}
+    laws_of = {name: laws for laws, name in rows_of_x86(OF_X86)}
+    alone = {name: laws for laws, name in rows_of_x86(ALONE_OF_X86)}
+
+    def begins(offset, count):
+        """The bytes of an instruction before its field."""
+        return code[max(0, offset - count):offset].hex()
+
+    def of_descriptor(offset, name, symbol):
+        count = 4 if name.startswith("CODE_4") else 3
+        if begins(offset, count) != LEA_RAX[count]:
+            return "registers"
+        return COVERED if at_place.get((offset + 4, "TLSDESC_CALL")) == symbol else "apart"
+
+    def verdict(offset, name, symbol, addend):
+        if name.startswith("DTPOFF"):
+            return COVERED
+        if name == "TLSDESC_CALL":
+            for lea, count in (("GOTPC32_TLSDESC", 3), ("CODE_4_GOTPC32_TLSDESC", 4)):
+                if at_place.get((offset - 4, lea)) == symbol:
+                    return of_descriptor(offset - 4, lea, symbol)
+            return "apart"
+        if addend != -4:
+            return "addend"
+        if name in ("TLSGD", "TLSLD"):
+            return COVERED if is_resolved(offset, name) else "call"
+        return of_descriptor(offset, name, symbol) if "TLSDESC" in name else COVERED
+
+    for offset, name, symbol, addend, response in relocations:
+        if response == "y":
+            found[laws_of[name], name][verdict(offset, name, symbol, addend)] += 1
+            if name in alone:
+                is_behind = name == "TLSDESC_CALL" or addend == -4
+                found[alone[name], name][COVERED if is_behind else "addend"] += 1
