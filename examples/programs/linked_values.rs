@@ -1,6 +1,5 @@
 // SPDX-License-Identifier: MIT OR Apache-2.0
-//! Reads each relocation's value back from a file that was linked with `--emit-relocs`, and compares it
-//! with what the symbols say. What needs the GOT or the TLS segment, adds or subtracts, isn't compared.
+//! Reads values of relocations back from a file linked with `--emit-relocs`, and compares them with symbols.
 use linker_utils::{elf::Architecture, output::Target, reading::read, section::*};
 use object::{LittleEndian as LE, SectionIndex, elf::*, read::elf::*};
 
@@ -36,6 +35,6 @@ fn main() -> Result<(), Box<dyn std::error::Error>> {
             }
         }
     }
-    println!("{same} are the same, {different} differ, {others} aren't compared");
+    println!("{same} are the same, {different} differ, {others} need the GOT or TLS, or add");
     if different > 0 { Err("a value differs".into()) } else { Ok(()) }
 }

@@ -1,16 +1,16 @@
 #!/usr/bin/env python3
 # SPDX-License-Identifier: MIT OR Apache-2.0
-"""Writes a copy of an ELF file, with one field of it damaged.
+"""Writes a copy of an ELF file with one field of it damaged, as a name in DAMAGES says.
 
-usage: damage.py FILE COPY DAMAGE
-
-DAMAGE is a name in DAMAGES, or cut:N, which leaves the first N bytes."""
+usage: damage.py FILE COPY NAME
+"""
 import struct
 import sys
 from pathlib import Path
 
 sys.path.insert(0, str(Path(__file__).resolve().parents[3] / "tools"))
 sys.dont_write_bytecode = True
+import usage
 from elf_file import SHF_EXECINSTR, SHT_RELA, SHT_SYMTAB, ElfFile
 
 file, copy, damage = sys.argv[1:]
@@ -42,9 +42,6 @@ DAMAGES = {
     "value": (symbols.offset + 24 * defined + 8, 1 << 40, "Q"),
     "field": (code.offset + first[0] - code.address + 1, data[code.offset + first[0] - code.address + 1] ^ 16, "B"),
 }
-if damage.startswith("cut:"):
-    del data[int(damage[4:]):]
-else:
-    at, value, form = DAMAGES[damage]
-    struct.pack_into("<" + form, data, at, *(value if isinstance(value, tuple) else (value,)))
+at, value, form = DAMAGES[damage]
+struct.pack_into("<" + form, data, at, *(value if isinstance(value, tuple) else (value,)))
 Path(copy).write_bytes(data)
