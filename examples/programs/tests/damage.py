@@ -10,8 +10,8 @@ from pathlib import Path
 
 sys.path.insert(0, str(Path(__file__).resolve().parents[3] / "tools"))
 sys.dont_write_bytecode = True
-import usage
-from elf_file import SHF_EXECINSTR, SHT_RELA, SHT_SYMTAB, ElfFile
+from shared import usage
+from shared.elf_file import SHF_EXECINSTR, SHT_RELA, SHT_SYMTAB, ElfFile
 
 file, copy, damage = sys.argv[1:]
 data = bytearray(Path(file).read_bytes())
