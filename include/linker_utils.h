@@ -22,11 +22,11 @@
  * - A slice is a pointer and then a count of elements, as parameters or as fields of a struct. Its
  *   pointer may be null where the count is 0. A null pointer with a count above 0 is undefined. It
  *   is aligned for its elements.
- * - A pointer to one value is aligned and not null, also one to a struct that has slices; where it
- *   may be null, the call says so. A value that the call only writes need not be initialised, and
- *   neither need the elements of an array that it only writes. Everything else that is passed is
- *   initialised. Of a struct that has slices a call reads the fields that it is about, so that all
- *   others may be 0.
+ * - A pointer to one value or to a struct is aligned and not null; where it may be null, the call
+ *   says so. A value that the call only writes need not be initialised, and neither need the
+ *   elements of an array that it only writes. Everything else that is passed is initialised.
+ * - What many calls share are fields of structs, as `struct linker_utils_section`. A call reads the
+ *   fields that it is about, as linker_utils_inline.h shows; all others may be 0.
  * - Memory that a call writes overlaps no other memory that is passed to it, and no other thread
  *   reads or writes it while the call runs. Memory that a call only reads may be shared: one array
  *   of deltas, heads, items or relocations by any number of threads. So threads may also write
@@ -525,8 +525,7 @@ LINKER_UTILS_MUST_USE static inline uint32_t linker_utils_value_at(
     const struct linker_utils_link *link, const struct linker_utils_object *object,
     const struct linker_utils_section *section, size_t index, int64_t *value);
 
-/* How many elements of memory `linker_utils_relocate_section` needs for a section: one for each
- * relocation. */
+/* How many elements of `memory` a section needs to be relocated: one for each relocation. */
 static inline size_t linker_utils_relocate_memory(const struct linker_utils_section *section);
 
 /* Writes the values of a section's relocations, or none of them: with any status but
@@ -559,7 +558,9 @@ LINKER_UTILS_MUST_USE static inline uint32_t linker_utils_relocate_section(
  * rewritten: all of a group or none. The relocations of a group are those of one kind and one
  * symbol in an object, whatever their addends; of local-dynamic TLS all of an object. Those of one
  * label of RISC-V in a section are a group too, which needs no survey. First a survey of each
- * section of code notes which groups stay, then each of them is rewritten. Before addresses are
+ * section of code of an object notes which groups stay, then each of them is rewritten, with the
+ * same facts and addresses. The array of what stays begins with all false. Each survey, also one of
+ * linker_utils_further.h, only adds to it, and what has no element stays. Before addresses are
  * known the calls are `linker_utils_survey` and `linker_utils_rewrite_section`. Once they are,
  * `linker_utils_survey_placed_section` and `linker_utils_rewrite_placed_section` do so for each
  * later phase, in the order of `enum linker_utils_phase`. What is left a linker may rewrite by
@@ -615,22 +616,18 @@ struct linker_utils_rewritten {
 
 /* Notes in `kept_groups` which stay, since a relocation of this section is of them and has no
  * rewrite. Its instruction is none that a rewrite is meant for, its symbol may be of another file,
- * or what the rewrite takes along isn't there. What stays there already stays. Begin with all
- * false, and survey each section of code of an object with the same array before one of them is
- * rewritten. A group stays too where the array has no element for its symbol. An offset in the
- * module's TLS block that stands in data counts from the block: where the object has one that is
- * loaded, set `local_dynamic` at index 0. O(n) for n relocations.
- * LINKER_UTILS_UNKNOWN_ARCHITECTURE. */
+ * or what the rewrite takes along isn't there. An offset in the module's TLS block that stands in
+ * data counts from the block: where the object has one that is loaded, set `local_dynamic` at index
+ * 0. O(n) for n relocations. LINKER_UTILS_UNKNOWN_ARCHITECTURE. */
 LINKER_UTILS_MUST_USE static inline uint32_t linker_utils_survey(
     const struct linker_utils_link *link, const struct linker_utils_object *object,
     const struct linker_utils_section *section);
 
 /* Rewrites the instructions of a section of code as `linker_utils_choose` says before addresses are
  * known, and turns its relocations into those after it. Of one that goes the type becomes 0, so
- * that indexes stay. No byte is deleted. `kept_groups` is what `linker_utils_survey` noted of all
- * sections of code of the object, with the same facts. A relocation of a symbol that isn't in
- * `facts` isn't rewritten. O(n) for n relocations that ascend; each one that is out of order adds
- * O(n) at most. It doesn't allocate.
+ * that indexes stay. No byte is deleted. A relocation of a symbol that isn't in `facts` isn't
+ * rewritten. O(n) for n relocations that ascend; each one that is out of order adds O(n) at most.
+ * It doesn't allocate.
  *
  * LINKER_UTILS_UNKNOWN_ARCHITECTURE; LINKER_UTILS_SHORT_MEMORY where there are fewer decisions than
  * relocations. Else the status is that of the first relocation that it doesn't accept, `faulty`:
@@ -645,19 +642,17 @@ LINKER_UTILS_MUST_USE static inline uint32_t linker_utils_rewrite_section(
 
 /* Notes in `kept_groups` which stay in a phase once addresses are known, as `linker_utils_survey`
  * does before. So do those with a distance out of reach or an instruction without a mark. Each
- * phase has an array of its own, which begins with all false. LINKER_UTILS_UNKNOWN_ARCHITECTURE;
- * LINKER_UTILS_UNKNOWN_PHASE; LINKER_UTILS_FACTS_CONTRADICT. */
+ * phase has an array of its own. LINKER_UTILS_UNKNOWN_ARCHITECTURE; LINKER_UTILS_UNKNOWN_PHASE;
+ * LINKER_UTILS_FACTS_CONTRADICT. */
 LINKER_UTILS_MUST_USE static inline uint32_t linker_utils_survey_placed_section(
     const struct linker_utils_link *link, const struct linker_utils_object *object,
     const struct linker_utils_section *section, uint32_t phase);
 
 /* Rewrites the instructions of a section of code in a phase once addresses are known, and turns its
- * relocations into those after it, as `linker_utils_rewrite_section` does before. `kept_groups` is
- * what `linker_utils_survey_placed_section` noted of all sections of code of the object in the
- * phase, with the same facts and addresses. All decisions are written anew: those of an earlier
- * phase are lost. Each address has to be that by which values are written later, or differ from it
- * by less than the reach that is left. Bytes that are deleted afterwards only make distances
- * shorter.
+ * relocations into those after it, as `linker_utils_rewrite_section` does before. All decisions are
+ * written anew: those of an earlier phase are lost. Each address has to be that by which values are
+ * written later, or differ from it by less than the reach that is left. Bytes that are deleted
+ * afterwards only make distances shorter.
  *
  * What is to be deleted ascends, as `linker_utils_deltas_create` takes it. They are bytes of the
  * section, apart from each other and from all that is rewritten, and still there. Only

@@ -287,34 +287,29 @@ LINKER_UTILS_MUST_USE static inline uint32_t linker_utils_address_section(
 LINKER_UTILS_MUST_USE uint32_t linker_utils_entry_relocation(
     uint16_t machine, uint32_t r_type, uint32_t *entry_type);
 
-/* A section of addresses of an object. */
+/* A section of addresses of an object, and which of its words stay. */
 struct linker_utils_words {
     uint64_t address; /* the section's */
     /* as those of `struct linker_utils_section`, ascending by offset */
     const void *relocations; size_t relocations_len;
-    bool *kept; size_t kept_len; /* by relocation: whether its word stays; false at first */
+    bool *kept; size_t kept_len; /* by relocation: whether its word stays */
 };
 
 /* Notes in `kept` which words of an object's section of addresses stay, by one of its sections of
  * code. A word stays where an instruction loads its address and can't compute it. It is none that
  * the rewrite is meant for, or the address may be of another file, isn't fixed or is out of reach.
- * So survey all sections of code of an object, once addresses are known, before one of them is
- * rewritten.
- *
- * What stays there already stays, and so does a word without an element. A relocation is of the
- * word at the address that it refers to, whichever its symbol. Where an architecture has no such
- * section nothing is noted. It takes a search in log n steps for each load.
- * LINKER_UTILS_UNKNOWN_ARCHITECTURE; LINKER_UTILS_FACTS_CONTRADICT. */
+ * A relocation is of the word at the address that it refers to, whichever its symbol. Where an
+ * architecture has no such section nothing is noted. It takes a search in log n steps for each
+ * load. LINKER_UTILS_UNKNOWN_ARCHITECTURE; LINKER_UTILS_FACTS_CONTRADICT. */
 LINKER_UTILS_MUST_USE static inline uint32_t linker_utils_survey_address_loads(
     const struct linker_utils_link *link, const struct linker_utils_object *object,
     const struct linker_utils_section *section, const struct linker_utils_words *words);
 
 /* Has the instructions of a section of code compute the addresses that they load from such words:
  * all that load a word, or none. Their relocations become those after it. The fate of these is
- * LINKER_UTILS_FATE_REDIRECTED: they get the symbol and the addend of the word's relocation. What
- * stays is what `linker_utils_survey_address_loads` noted of all sections of code of the object,
- * with the same facts, addresses and words. Nothing is deleted. The statuses, and what an error
- * leaves, are those of `linker_utils_rewrite_section`; before LINKER_UTILS_SHORT_MEMORY comes
+ * LINKER_UTILS_FATE_REDIRECTED: they get the symbol and the addend of the word's relocation.
+ * Nothing is deleted. The statuses, and what an error leaves, are those of
+ * `linker_utils_rewrite_section`; before LINKER_UTILS_SHORT_MEMORY comes
  * LINKER_UTILS_FACTS_CONTRADICT, of the symbol `faulty`. */
 LINKER_UTILS_MUST_USE static inline uint32_t linker_utils_rewrite_address_loads(
     const struct linker_utils_link *link, const struct linker_utils_object *object,
@@ -322,28 +317,24 @@ LINKER_UTILS_MUST_USE static inline uint32_t linker_utils_rewrite_address_loads(
     const struct linker_utils_rewritten *rewritten, size_t *faulty);
 
 /* Notes in `kept_high_parts` which symbols of an object keep the high parts of their address, by
- * one of its sections of code.  RISC-V's `lui` and `auipc` aren't needed where an address is within
+ * one of its sections of code. RISC-V's `lui` and `auipc` aren't needed where an address is within
  * 2 KiB of the global pointer, from 2,048 below it to 2,047 above it, or of 0. Each low part then
  * takes x3 or x0 as its base (psABI, "Global-pointer Relaxation" and "Zero-page Relaxation"). A
  * symbol stays where a relocation of its high or low parts isn't marked by R_RISCV_RELAX, isn't in
  * reach, or isn't of such an instruction. All stay in an output that isn't an executable with a
  * fixed address, and those of a section whose relocations don't ascend by offset.
  *
- * So survey all sections of code of an object, once addresses are known and before code gets
- * shorter, and before one of them is rewritten. Begin with all false; what stays there already
- * stays, and so does a symbol without an element. For other machines nothing is noted.
- * LINKER_UTILS_UNKNOWN_ARCHITECTURE; LINKER_UTILS_FACTS_CONTRADICT. */
+ * Survey once addresses are known, and before code gets shorter. For other machines nothing is
+ * noted. LINKER_UTILS_UNKNOWN_ARCHITECTURE; LINKER_UTILS_FACTS_CONTRADICT. */
 LINKER_UTILS_MUST_USE static inline uint32_t linker_utils_survey_global_pointer(
     const struct linker_utils_link *link, const struct linker_utils_object *object,
     const struct linker_utils_section *section);
 
-/* Has the high parts go of the symbols that don't stay by `kept_high_parts`, which
- * `linker_utils_survey_global_pointer` noted of all sections of code of the object with the same
- * facts and addresses. The bytes stay until what is listed in `deleted` is deleted, as for
- * `linker_utils_rewritten_items`. The relocation of a high part gets the type 0. That of a low part
- * gets the symbol and the addend of the address. Its type becomes 47 or 48, which `elf.h` names
- * R_RISCV_GPREL_I and R_RISCV_GPREL_S. No other call takes these: each requires
- * `linker_utils_from_global_pointer`.
+/* Has the high parts go of the symbols that don't stay by `kept_high_parts`. The bytes stay until
+ * what is listed in `deleted` is deleted, as for `linker_utils_rewritten_items`. The relocation of
+ * a high part gets the type 0. That of a low part gets the symbol and the addend of the address.
+ * Its type becomes 47 or 48, which `elf.h` names R_RISCV_GPREL_I and R_RISCV_GPREL_S. No other call
+ * takes these: each requires `linker_utils_from_global_pointer`.
  *
  * It may only be called where x3 is `global_pointer` wherever this code runs, and never changes.
  * What sets x3 has to be without marks, as the C libraries have it. `deleted` needs an element for
@@ -556,9 +547,8 @@ struct linker_utils_placement {
     size_t stubs_used;
     /* for each branch the index of its stub, or SIZE_MAX if it goes to its target */
     size_t *ways; size_t ways_len;
-    /* For each boundary how many bytes of stubs are before those at it, and after these how many
-     * there are in all. What was at an offset is so much higher as this says for the first boundary
-     * above it. */
+    /* For each boundary how many bytes of stubs are before those at it, and then how many in all.
+     * What was at an offset is so much higher as this says for the first boundary above it. */
     uint64_t *before; size_t before_len;
 };
 
@@ -566,7 +556,7 @@ struct linker_utils_placement {
 size_t linker_utils_most_stubs(size_t branches_len);
 
 /* Places stubs at boundaries between sections. Where the offsets of branches ascend, more of them
- * share a stub.  Each stub has a branch that goes by it. At a boundary a target has at most three:
+ * share a stub. Each stub has a branch that goes by it. At a boundary a target has at most three:
  * one next to branches before it, one next to branches after it, and one of branches farther away.
  * With any status but LINKER_UTILS_OK only `faulty` is written, and only where it says so.
  *
@@ -720,7 +710,7 @@ LINKER_UTILS_MUST_USE static inline uint32_t linker_utils_keep_facts(
 
 /* Writes the values of a section whose instructions were rewritten, as
  * `linker_utils_relocate_section`, or none of them. The facts are those that hold now, and
- * `kept_facts` those of `linker_utils_keep_facts` when rewrites were chosen. So a symbol  that was
+ * `kept_facts` those of `linker_utils_keep_facts` when rewrites were chosen. So a symbol that was
  * local then, and isn't any more, doesn't get code that bypasses its entry of the GOT.
  *
  * LINKER_UTILS_UNKNOWN_ARCHITECTURE; LINKER_UTILS_SHORT_MEMORY; LINKER_UTILS_FACTS_CONTRADICT, and
@@ -971,7 +961,7 @@ static inline size_t linker_utils_packed_len(
 
 /* Writes the kept bytes of a section, in order. At each call's site a `jal` to the target's output
  * offset is written in place of the `auipc`. It links the register that `link` names. A deletion
- * that  reaches past the section's end deletes up to there. LINKER_UTILS_UNKNOWN_LINK_REGISTER.
+ * that reaches past the section's end deletes up to there. LINKER_UTILS_UNKNOWN_LINK_REGISTER.
  * LINKER_UTILS_CALLS_NOT_APART, and `faulty` is the first call whose site is less than 4 above that
  * of the one before it. LINKER_UTILS_DIFFERENT_LENGTHS where `packed_len` is not
  * `linker_utils_packed_len`. If a call can't become a jump, `faulty` is the first such call, and
@@ -1012,7 +1002,9 @@ LINKER_UTILS_MUST_USE static inline uint32_t linker_utils_shrink_calls(
  * A run is one section or several, in one space of input offsets; an output address is `start` and
  * an output offset. Its items are sites, which are instructions that can become shorter where they
  * reach their target, and alignments, which are nops. What lies between two sections can be an
- * alignment whose nops no file has. Deletions that are decided already are sites with one shape. */
+ * alignment whose nops no file has. Deletions that are decided already are sites with one shape.
+ * LINKER_UTILS_UNKNOWN_ARCHITECTURE of other machines than LINKER_UTILS_RISCV and
+ * LINKER_UTILS_LOONGARCH64. */
 
 /* A form of a site's instructions. It reaches a target at an output offset that lies at most
  * `max_backward` below its own, or less than `max_forward` above it, or at it. The distance is a
@@ -1109,22 +1101,20 @@ struct linker_utils_items {
  * if the bytes are a pcaddu18i and a jirl of one register that links ra or none. R_LARCH_PCALA_HI20
  * makes one if R_LARCH_PCALA_LO12 of the next instruction comes after its R_LARCH_RELAX, with the
  * same target and an R_LARCH_RELAX too. The bytes have to be a pcalau12i and an addi.d of one
- * register.
- * R_LARCH_ALIGN makes an alignment, unless there are no nops. Without a symbol its addend is how
- * many bytes of nops there are, and they align to the next power of two above it. With a symbol the
- * lowest 8 bits of the addend are the exponent of two of what they align to, 4 bytes more than the
- * nops. The others are its limit: how many bytes of nops may stay. Without a symbol, and where
- * these are 0 or no fewer than the nops, the alignment has no limit.
+ * register. R_LARCH_ALIGN makes an alignment, unless there are no nops. Without a symbol its addend
+ * is how many bytes of nops there are, and they align to the next power of two above it. With a
+ * symbol the lowest 8 bits of the addend are the exponent of two of what they align to, 4 bytes
+ * more than the nops. The others are its limit: how many bytes of nops may stay. Without a symbol,
+ * and where these are 0 or no fewer than the nops, the alignment has no limit.
  *
  * `items_len` and `makers_len` are `relocations_len`, since a relocation makes at most one item.
- * LINKER_UTILS_UNKNOWN_ARCHITECTURE for other machines. LINKER_UTILS_DIFFERENT_LENGTHS.
- * LINKER_UTILS_ENDS_TOO_HIGH where `base` and `bytes_len` add up to 2^64 or more.
- * LINKER_UTILS_MALFORMED_RELOCATION, and `faulty` is the first malformed one. It lies after the
- * section's end, or is a call's (of LoongArch's an R_LARCH_CALL36) with less than eight bytes
- * there. Or it is an R_RISCV_ALIGN whose addend isn't a multiple of 2 from 0 up, below 2^32, of
- * bytes in the section. Or it is an R_LARCH_ALIGN whose addend is below 0 or whose exponent is
- * below 2 or above 32. It also is one whose nops aren't a multiple of 4, reach past the section's
- * end or have 2^32 bytes or more. */
+ * LINKER_UTILS_UNKNOWN_ARCHITECTURE; LINKER_UTILS_DIFFERENT_LENGTHS; LINKER_UTILS_ENDS_TOO_HIGH
+ * where `base` and `bytes_len` add up to 2^64 or more. LINKER_UTILS_MALFORMED_RELOCATION, and
+ * `faulty` is the first malformed one. It lies after the section's end, or is a call's (of
+ * LoongArch's an R_LARCH_CALL36) with less than eight bytes there. Or it is an R_RISCV_ALIGN whose
+ * addend isn't a multiple of 2 from 0 up, below 2^32, of bytes in the section. Or it is an
+ * R_LARCH_ALIGN whose addend is below 0 or whose exponent is below 2 or above 32. It also is one
+ * whose nops aren't a multiple of 4, reach past the section's end or have 2^32 bytes or more. */
 LINKER_UTILS_MUST_USE static inline uint32_t linker_utils_section_items(
     uint16_t machine, const struct linker_utils_section *section,
     const struct linker_utils_rela *relocations, size_t relocations_len,
@@ -1202,7 +1192,7 @@ LINKER_UTILS_MUST_USE static inline uint32_t linker_utils_run_deltas(
     struct linker_utils_delta *deltas, size_t deltas_len, size_t *len);
 
 /* How many bytes of a section of a relaxed run stay: as many as `linker_utils_pack_run` writes. Of
- * the section only `bytes_len` and `base` are read. 0 where the two add up  to 2^64 or more. O(log
+ * the section only `bytes_len` and `base` are read. 0 where the two add up to 2^64 or more. O(log
  * n) for n deltas. */
 static inline size_t linker_utils_packed_run_len(
     const struct linker_utils_section *section, const struct linker_utils_run *run);
@@ -1211,12 +1201,11 @@ static inline size_t linker_utils_packed_run_len(
  * they are an auipc and a jalr with those of LINKER_UTILS_SHAPES_RISCV_CALL, or with those of
  * LINKER_UTILS_SHAPES_RISCV_TAIL_C where they link x0. Of LoongArch they are a pcaddu18i and a jirl
  * with those of LINKER_UTILS_SHAPES_LOONGARCH_CALL36, or a pcalau12i and an addi.d of one register
- * with those of LINKER_UTILS_SHAPES_LOONGARCH_PCALA. An alignment has  no instructions to be
+ * with those of LINKER_UTILS_SHAPES_LOONGARCH_PCALA. An alignment has no instructions to be
  * tested; a site with one shape has none of these shapes. Where this is so of each site that
  * `linker_utils_relax` made shorter, `linker_utils_pack_run` rejects none of them for its reach.
  *
- * LINKER_UTILS_UNKNOWN_ARCHITECTURE for each machine except for LINKER_UTILS_RISCV and
- * LINKER_UTILS_LOONGARCH64. LINKER_UTILS_NOT_ITS_INSTRUCTIONS where it isn't so. O(1). */
+ * LINKER_UTILS_UNKNOWN_ARCHITECTURE; LINKER_UTILS_NOT_ITS_INSTRUCTIONS where it isn't so. O(1). */
 LINKER_UTILS_MUST_USE static inline uint32_t linker_utils_has_its_instructions(
     uint16_t machine, const struct linker_utils_section *section,
     const struct linker_utils_item *item);
@@ -1246,18 +1235,17 @@ LINKER_UTILS_MUST_USE static inline uint32_t linker_utils_has_its_instructions(
  * site, those of alignments among the items, and those whose byte is deleted, as
  * R_LARCH_PCALA_LO12, get the type 0. All others keep their type, and each its symbol and addend.
  *
- * LINKER_UTILS_UNKNOWN_ARCHITECTURE for each machine except for LINKER_UTILS_RISCV and
- * LINKER_UTILS_LOONGARCH64. LINKER_UTILS_ENDS_TOO_HIGH where `base` and `bytes_len` add up to 2^64
- * or more. LINKER_UTILS_DIFFERENT_LENGTHS where `packed_len` is not `linker_utils_packed_run_len`.
- * Else `faulty` is the first item that can't be written, and the status the first that applies to
- * it of LINKER_UTILS_ITEMS_OVERLAP, LINKER_UTILS_ITEM_OUT_OF_SECTION, LINKER_UTILS_DELETED_OUTSIDE,
- * LINKER_UTILS_NOT_ITS_FIRST_BYTES, LINKER_UTILS_NOT_ITS_INSTRUCTIONS, LINKER_UTILS_NO_SHAPE and
- * LINKER_UTILS_TARGET_OUT_OF_REACH. Only the first three can be of a site with one shape.
- * LINKER_UTILS_DELETED_OUTSIDE where bytes before the item are deleted that are of no item: an item
- * is missing; `faulty` is `items_len` where they are after the last item. With any status except
- * LINKER_UTILS_OK nothing is written. For k items, m relocations and n deltas it takes O((k + m)
- * log n + m log k). Beside that it takes a step for each byte of the section and each delta in
- * it. */
+ * LINKER_UTILS_UNKNOWN_ARCHITECTURE; LINKER_UTILS_ENDS_TOO_HIGH where `base` and `bytes_len` add up
+ * to 2^64 or more. LINKER_UTILS_DIFFERENT_LENGTHS where `packed_len` is not
+ * `linker_utils_packed_run_len`. Else `faulty` is the first item that can't be written, and the
+ * status the first that applies to it of LINKER_UTILS_ITEMS_OVERLAP,
+ * LINKER_UTILS_ITEM_OUT_OF_SECTION, LINKER_UTILS_DELETED_OUTSIDE, LINKER_UTILS_NOT_ITS_FIRST_BYTES,
+ * LINKER_UTILS_NOT_ITS_INSTRUCTIONS, LINKER_UTILS_NO_SHAPE and LINKER_UTILS_TARGET_OUT_OF_REACH.
+ * Only the first three can be of a site with one shape. LINKER_UTILS_DELETED_OUTSIDE where bytes
+ * before the item are deleted that are of no item: an item is missing; `faulty` is `items_len`
+ * where they are after the last item. With any status except LINKER_UTILS_OK nothing is written.
+ * For k items, m relocations and n deltas it takes O((k + m) log n + m log k). Beside that it takes
+ * a step for each byte of the section and each delta in it. */
 LINKER_UTILS_MUST_USE static inline uint32_t linker_utils_pack_run(
     uint16_t machine, const struct linker_utils_section *section,
     const struct linker_utils_run *run, uint8_t *packed, size_t packed_len, size_t *faulty);
@@ -1360,9 +1348,8 @@ struct linker_utils_windows {
     /* at most 64 bytes, but for `linker_utils_recognise_window` */
     const uint8_t *original; size_t original_len;
     uint64_t offset; /* that of the relocation in the original bytes */
-    /* Bits that other relocations write, as `linker_utils_field_bits` returns them. So do those that
-     * the rewrite skips. Of an instruction that another relocation rewrites or deletes they are all
-     * bits. */
+    /* Bits that other relocations write (`linker_utils_field_bits`), also one that is skipped; all
+     * of an instruction that another one rewrites or deletes. */
     const struct linker_utils_window_bits *others; size_t others_len;
     const uint8_t *linked; size_t linked_len;
 };

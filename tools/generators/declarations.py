@@ -482,9 +482,13 @@ static inline const char *linker_utils_kind_name(uint32_t kind) {{
 """
 
 
+def compared(text, found, library):
+    """What the headers' text declares, compared with the exports and the library's structs."""
+    (functions, structs), names = header(text), Names(library)
+    return compare_functions(functions, structs, found, names), names, compare_structs(structs, names)
+
+
 def make():
-    (functions, structs), names = header(headers()), Names(library_structs())
-    listed = compare_functions(functions, structs, exports(), names)
-    kinds = compare_structs(structs, names)
+    listed, names, kinds = compared(headers(), exports(), library_structs())
     return {INLINE: make_inline(listed, names), RAW: make_raw(listed, names, kinds),
             STRUCTS: make_structs(names, kinds), TYPES: make_types()}
