@@ -197,9 +197,7 @@ static bool add_thunk(struct section *s, Elf64_Rela *r, const struct linker_util
     Elf64_Rela one = {r->r_offset, ELF64_R_INFO(UINT64_C(1), type_of(r)), r->r_addend};
     struct linker_utils_symbol known[2] = {{.address = 0}, known_symbol(to, 0)};
     struct linker_utils_object object = {.values = known, .values_len = 2};
-    struct linker_utils_section here = section_of(s);
-    here.relocations = &one;
-    here.relocations_len = 1;
+    struct linker_utils_section here = {BYTES_OF(s), &one, 1, .address = section_of(s).address};
     uint32_t status = linker_utils_route_at(&linked, &object, &here, 0, &route);
     if (status == LINKER_UTILS_NO_ROOM) check(s, r, status);
     *is_direct |= is_near && !status && !route.is_by_stub;

@@ -46,8 +46,8 @@ static void add_items(struct section *s) {
         relocations[i] = seen(s, &s->relocations[i]);
     }
     struct linker_utils_items made = {items + items_len, most, makers + items_len, most, 0};
-    check_items(s, at,
-                linker_utils_rewritten_items(machine, &here, relocations, all, &made, &at));
+    uint32_t status = linker_utils_rewritten_items(machine, &here, relocations, all, &made, &at);
+    check_items(s, at, status);
     s->first_item = (uint32_t)items_len;
     s->items_len = (uint32_t)made.items_used;
     items_len += made.items_used;
@@ -115,11 +115,9 @@ static void relax_run(struct run *run) {
                    .longest = (uint32_t)unit, .count = 1}};
     size_t len = items_len;
     stay = zeros(len, sizeof *stay);
-    struct linker_utils_run all = {.start = run->start, .items = items, .items_len = len};
-    struct linker_utils_relaxed relaxed = {
-        .shapes = zeros(len, 1), .shapes_len = len, .kept = stay, .kept_len = len,
-        .freed = zeros(len + 1, sizeof(uint64_t)), .freed_len = len + 1,
-        .places = zeros(len, sizeof(size_t)), .places_len = len};
+    struct linker_utils_run all = {run->start, items, len, NULL, 0};
+    struct linker_utils_relaxed relaxed = {zeros(len, 1), len, stay, len, zeros(len + 1, 8),
+                                           len + 1, zeros(len, sizeof(size_t)), len};
     uint32_t status = linker_utils_relax(&all, &relaxed, &at);
     EACH_SECTION(s)
         if (status && s->output && s->output->run == run && at - s->first_item < s->items_len)

@@ -86,9 +86,8 @@ struct linker_utils_symbol known_symbol(const struct symbol *s, int64_t addend) 
 struct linker_utils_section section_of(const struct section *s) {
     const struct output *o = s->output;
     return (struct linker_utils_section){
-        .bytes = o->bytes + s->offset, .bytes_len = s->len, .relocations = s->relocations,
-        .relocations_len = s->relocations_len, .address = o->address + s->offset,
-        .base = o->base + s->offset, .deleted = s->deleted, .deleted_len = s->deleted_len};
+        BYTES_OF(s), s->relocations, s->relocations_len, o->address + s->offset,
+        o->base + s->offset, s->deleted, s->deleted_len};
 }
 
 /* Adds the value of a relocation to a ULEB128 number, or subtracts it, modulo what its bytes hold,

@@ -50,13 +50,12 @@ static bool note_symbols(struct object *o) {
             .is_tls_get_addr = s == tls_get_addr};
     }
     o->facts = grow(o->facts, len, &o->facts_room, sizeof *o->facts);
-    known = (struct linker_utils_object){
-        .facts = facts + o->facts_len, .facts_len = len - o->facts_len,
-        .kept_facts = o->facts + o->facts_len, .kept_facts_len = len - o->facts_len};
+    size_t at = o->facts_len, more = len - at;
+    known = (struct linker_utils_object){facts + at, more, .kept_facts = o->facts + at,
+                                         .kept_facts_len = more};
     expect_ok(linker_utils_keep_facts(&linked, &known));
-    known = (struct linker_utils_object){
-        .facts = facts, .facts_len = len, .values = values, .values_len = len,
-        .kept_groups = kept, .kept_groups_len = len, .kept_facts = o->facts, .kept_facts_len = len};
+    known = (struct linker_utils_object){facts, len, values, len, kept, len, .kept_facts = o->facts,
+                                         .kept_facts_len = len};
     o->facts_len = len;
     return hides;
 }
