@@ -12,10 +12,11 @@
  * an inaccessible page too, and is inaccessible once it is freed.
  *
  * That it finds mistakes is tested each time too: `run` links it with the faults of faults.c, and
- * it has to find each. By hand it was also compiled over three changed copies of the header, in
+ * it has to find each. By hand it was also compiled over four changed copies of the header, in
  * which `linker_utils_write` passed on `dest_len + 1`, `linker_utils_deltas_translate_all` a
- * `faulty` that is null, and `linker_utils_pack` the length that `packed` should have: each ended
- * it with status 1 within 5,000 calls.
+ * `faulty` that is null, `linker_utils_pack` the length that `packed` should have, and
+ * `linker_utils_survey` the count of facts as that of groups: each ended it with status 1 within
+ * 6,000 calls.
  *
  * The linker has to be given --wrap for malloc, realloc, calloc, posix_memalign, aligned_alloc and
  * free, so that the archive's allocations are the ones below. */
@@ -1081,7 +1082,7 @@ static void call_relocate_rewritten_section(void) {
     struct buffer *section = bytes(WRITTEN, any_section_len());
     struct buffer *known = symbols(any_len(8));
     size_t symbols_len = LEN(known, struct linker_utils_symbol);
-    struct buffer *facts = symbol_facts(symbols_len);
+    struct buffer *facts = symbol_facts(once_in(8) ? any_len(8) : symbols_len);
     const struct linker_utils_link *link = any_link(machine);
     struct buffer *kept = kept_facts(link, facts);
     struct buffer *given = relocations(READ, machine, section->len, symbols_len);
