@@ -253,28 +253,22 @@ struct linker_utils_link {
 
 /* An object: arrays by the indexes of symbols that its relocations name (`r_sym`). */
 struct linker_utils_object {
-    /* once names are resolved */
-    const struct linker_utils_symbol_facts *facts; size_t facts_len;
-    /* once addresses are known */
-    const struct linker_utils_symbol *values; size_t values_len;
-    /* surveys write these, and rewrites read them */
-    struct linker_utils_kept_groups *kept_groups; size_t kept_groups_len;
-    /* `linker_utils_keep_facts` writes these */
-    struct linker_utils_kept_facts *kept_facts; size_t kept_facts_len;
-    /* `linker_utils_survey_global_pointer` writes these */
-    bool *kept_high_parts; size_t kept_high_parts_len;
+    const struct linker_utils_symbol_facts *facts; size_t facts_len; /* once names are resolved */
+    const struct linker_utils_symbol *values; size_t values_len; /* once addresses are known */
+    struct linker_utils_kept_groups *kept_groups; size_t kept_groups_len; /* by surveys */
+    struct linker_utils_kept_facts *kept_facts; size_t kept_facts_len; /* by `.._keep_facts` */
+    bool *kept_high_parts; size_t kept_high_parts_len; /* by `.._survey_global_pointer` */
 };
 
 /* A section of an object. Calls that rewrite, relocate or replace write its bytes, and those that
- * rewrite or pack its relocations: for others both may be constants. */
+ * rewrite or pack its relocations: for others both may be constants, by a cast. */
 struct linker_utils_section {
     uint8_t *bytes; size_t bytes_len;
     /* As the file has them: so many of 24 bytes, `Elf64_Rela`, little-endian, at any alignment. */
     void *relocations; size_t relocations_len;
     uint64_t address; /* of the first byte, from which `r_offset` counts */
     uint64_t base; /* its input offset in a run that is relaxed */
-    /* by rewrites, as they list it */
-    const struct linker_utils_deletion *deleted; size_t deleted_len;
+    const struct linker_utils_deletion *deleted; size_t deleted_len; /* as rewrites list it */
 };
 
 /* A section of these bytes, and zeros: there is nothing else. */

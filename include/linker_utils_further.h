@@ -290,8 +290,7 @@ LINKER_UTILS_MUST_USE uint32_t linker_utils_entry_relocation(
 /* A section of addresses of an object, and which of its words stay. */
 struct linker_utils_words {
     uint64_t address; /* the section's */
-    /* as those of `struct linker_utils_section`, ascending by offset */
-    const void *relocations; size_t relocations_len;
+    const void *relocations; size_t relocations_len; /* as a section's, ascending by offset */
     bool *kept; size_t kept_len; /* by relocation: whether its word stays */
 };
 
@@ -525,12 +524,11 @@ struct linker_utils_stub_shape {
 };
 
 /* The branches, and where stubs may be. Offsets are those of a run of sections, or their addresses
- * before there are stubs. */
+ * before there are stubs. What is at a boundary is after its stubs. */
 struct linker_utils_branches {
     const struct linker_utils_branch *branches; size_t branches_len;
     const uint64_t *targets; size_t targets_len; /* the offset of each */
-    /* between sections, ascending; what is at one is after its stubs */
-    const uint64_t *boundaries; size_t boundaries_len;
+    const uint64_t *boundaries; size_t boundaries_len; /* between sections, ascending */
 };
 
 /* A stub that is placed. */
@@ -545,8 +543,7 @@ struct linker_utils_placement {
     /* The first `stubs_used` elements, of at least `linker_utils_most_stubs`. */
     struct linker_utils_placed_stub *stubs; size_t stubs_len;
     size_t stubs_used;
-    /* for each branch the index of its stub, or SIZE_MAX if it goes to its target */
-    size_t *ways; size_t ways_len;
+    size_t *ways; size_t ways_len; /* of each branch its stub's index, or SIZE_MAX for its target */
     /* For each boundary how many bytes of stubs are before those at it, and then how many in all.
      * What was at an offset is so much higher as this says for the first boundary above it. */
     uint64_t *before; size_t before_len;
@@ -1047,16 +1044,14 @@ struct linker_utils_item {
 struct linker_utils_run {
     uint64_t start; /* the run's address */
     const struct linker_utils_item *items; size_t items_len;
-    /* what the run loses, as `linker_utils_run_deltas` writes it */
-    const struct linker_utils_delta *deltas; size_t deltas_len;
+    const struct linker_utils_delta *deltas; size_t deltas_len; /* what the run loses */
 };
 
 /* What relaxing a run chooses, for each item. */
 struct linker_utils_relaxed {
     uint8_t *shapes; size_t shapes_len; /* the index of a site's shape */
     uint64_t *kept; size_t kept_len; /* how many of the item's bytes stay, from the first one on */
-    /* how many bytes the items before it lose; and one element more, how many all lose */
-    uint64_t *freed; size_t freed_len;
+    uint64_t *freed; size_t freed_len; /* how many bytes those before it lose, and last all */
     size_t *places; size_t places_len; /* room for the work */
 };
 
@@ -1345,8 +1340,7 @@ struct linker_utils_window_bits {
 /* Bytes around a relocation in an object and in the linked file. Both windows may begin before it,
  * at the same place. After a rewrite that deletes bytes the linked one has fewer. */
 struct linker_utils_windows {
-    /* at most 64 bytes, but for `linker_utils_recognise_window` */
-    const uint8_t *original; size_t original_len;
+    const uint8_t *original; size_t original_len; /* at most 64, but to ask for the window */
     uint64_t offset; /* that of the relocation in the original bytes */
     /* Bits that other relocations write (`linker_utils_field_bits`), also one that is skipped; all
      * of an instruction that another one rewrites or deletes. */
