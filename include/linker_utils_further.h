@@ -144,7 +144,9 @@ struct linker_utils_row {
     /* What it requires with the addend 1, of a symbol that isn't thread-local. */
     struct linker_utils_requirements needs;
     uint32_t r_type;
-    uint32_t kind; /* the formula of its value, by `enum linker_utils_relocation_kind` */
+    /* The formula of its value, by `enum linker_utils_relocation_kind`. Its pages and what is added
+     * first are `mask` and `bias` of `linker_utils_relocation`. */
+    uint32_t kind;
     uint16_t machine;
     uint8_t window; /* how many bytes a write writes */
     uint8_t may_use_plt; /* 1 where `linker_utils_may_use_plt` is true; else 0 */
@@ -999,9 +1001,10 @@ LINKER_UTILS_MUST_USE static inline uint32_t linker_utils_shrink_calls(
  * A run is one section or several, in one space of input offsets; an output address is `start` and
  * an output offset. Its items are sites, which are instructions that can become shorter where they
  * reach their target, and alignments, which are nops. What lies between two sections can be an
- * alignment whose nops no file has. Deletions that are decided already are sites with one shape.
- * LINKER_UTILS_UNKNOWN_ARCHITECTURE of other machines than LINKER_UTILS_RISCV and
- * LINKER_UTILS_LOONGARCH64. */
+ * alignment whose nops no file has. Before a section that is aligned to n, a multiple of the run's
+ * granularity, it may have the nops up to the next multiple of n and n more. Deletions that are
+ * decided already are sites with one shape. LINKER_UTILS_UNKNOWN_ARCHITECTURE of other machines than
+ * LINKER_UTILS_RISCV and LINKER_UTILS_LOONGARCH64. */
 
 /* A form of a site's instructions. It reaches a target at an output offset that lies at most
  * `max_backward` below its own, or less than `max_forward` above it, or at it. The distance is a
@@ -1063,7 +1066,8 @@ struct linker_utils_rela {
     uint32_t r_type;
     uint8_t has_symbol; /* 0 where r_sym is 0 */
     /* 0 where what it refers to isn't in the run, where bytes between S and S + A may be deleted,
-     * or where the instructions are to stay as they are */
+     * or where the instructions are to stay as they are. RISC-V's call of a weak function that
+     * nothing defines goes to itself: with its own input offset as target it becomes short too */
     uint8_t has_target;
     uint8_t may_compress; /* 1 where the code may use RISC-V's C extension: EF_RISCV_RVC is in the
                              `e_flags` of its object, so that `linker_utils_code_unit` of them is 2.
@@ -1229,6 +1233,7 @@ LINKER_UTILS_MUST_USE static inline uint32_t linker_utils_has_its_instructions(
  * R_LARCH_CALL36, and R_LARCH_PCREL20_S2 of R_LARCH_PCALA_HI20. The others at the begin of such a
  * site, those of alignments among the items, and those whose byte is deleted, as
  * R_LARCH_PCALA_LO12, get the type 0. All others keep their type, and each its symbol and addend.
+ * One after the section's end stays as it is.
  *
  * LINKER_UTILS_UNKNOWN_ARCHITECTURE; LINKER_UTILS_ENDS_TOO_HIGH where `base` and `bytes_len` add up
  * to 2^64 or more. LINKER_UTILS_DIFFERENT_LENGTHS where `packed_len` is not

@@ -170,9 +170,9 @@ enum linker_utils_status {
 #undef LINKER_UTILS_STATUS
 };
 
+#ifndef LINKER_UTILS_MUST_USE
 /* Begins the declaration of each call that returns a status: compilers warn where the status isn't
  * used. A program that doesn't want this defines it as nothing before it includes the header. */
-#ifndef LINKER_UTILS_MUST_USE
 #if (defined(__cplusplus) && __cplusplus >= 201703L) || \
     (defined(__STDC_VERSION__) && __STDC_VERSION__ >= 202000L)
 #define LINKER_UTILS_MUST_USE [[nodiscard]]

@@ -1705,7 +1705,7 @@ static inline bool linker_utils_type_of_name(const char *name, uint16_t *machine
     return false;
 }
 
-/* The name of a formula, an `enum linker_utils_kind`, as "RELATIVE". NULL where it has none. */
+/* The name of a formula, an `enum linker_utils_relocation_kind`, as "RELATIVE". NULL where it has none. */
 static inline const char *linker_utils_kind_name(uint32_t kind) {
     switch (kind) {
     case LINKER_UTILS_KIND_NONE: return "NONE";

@@ -1,4 +1,4 @@
--- What the emulator unicorn 2.0.1 made of instructions. `tools/emulate_steps` makes this file.
+-- What the emulator unicorn 2.0.1 made of instructions. `tools/oracle steps` makes this file.
 use Rattle.std.specs.Prelude.{List, [], ◌∷◌}
 use Rattle.linker_final.specs.Steps.{Group, at, group, m1, m2, pc, row, ◌=>◌, ◌with◌}
 

@@ -1,4 +1,4 @@
--- What qemu-aarch64 made of instructions. `tools/emulate` makes this file.
+-- What qemu-aarch64 made of instructions. `tools/oracle words` makes this file.
 use Rattle.std.specs.Prelude.{List, [], ◌∷◌, ◌^◌}
 use Rattle.linker_elf.specs.AArch64.{aarch64_form}
 use Rattle.linker_elf.specs.declared.aarch64.forms.AArch64Instruction.TheVariants.{Adr}

@@ -1,4 +1,4 @@
--- What qemu-loongarch64 made of instructions. `tools/emulate` makes this file.
+-- What qemu-loongarch64 made of instructions. `tools/oracle words` makes this file.
 use Rattle.std.specs.Prelude.{List, [], ◌∷◌, ◌^◌}
 use Rattle.linker_elf.specs.LoongArch.{loongarch_form}
 use Rattle.linker_elf.specs.declared.loongarch64.forms.LoongArch64Instruction.TheVariants.{Shift5}

@@ -1,4 +1,4 @@
--- What qemu-ppc64le made of instructions. `tools/emulate` makes this file.
+-- What qemu-ppc64le made of instructions. `tools/oracle words` makes this file.
 use Rattle.std.specs.Prelude.{List, [], ◌∷◌, ◌^◌}
 use Rattle.linker_elf.specs.Ppc64.{ppc64_form}
 use Rattle.linker_elf.specs.declared.ppc64.forms.Ppc64Instruction.TheVariants.{D}

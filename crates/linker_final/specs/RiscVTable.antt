@@ -1,4 +1,4 @@
--- What qemu-riscv64 made of instructions. `tools/emulate` makes this file.
+-- What qemu-riscv64 made of instructions. `tools/oracle words` makes this file.
 use Rattle.std.specs.Prelude.{List, [], ◌∷◌}
 use Rattle.linker_elf.specs.RiscV.{riscv_form}
 use Rattle.linker_elf.specs.declared.riscv64.forms.RiscVInstruction.TheVariants.{UType}

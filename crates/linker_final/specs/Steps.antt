@@ -1,6 +1,6 @@
 -- Single instructions that an emulator executed, and when a state of the definitions is what it
 -- left. The tables have the instructions, and what the emulator changed. The numbers before are
--- defined here, and `tools/emulate_steps` gives the emulator the same ones.
+-- defined here, and `tools/oracle steps` gives the emulator the same ones.
 use Rattle.std.specs.Prelude.{ℕ, zero, suc, ◌+◌, ◌*◌, ◌/◌, ◌%◌, ◌^◌, ◌==◌, ◌&&◌, Bool, true}
 use Rattle.std.specs.Prelude.{nat_lt, if◌then◌else◌, List, [], ◌∷◌, bit_and}
 use Rattle.std.specs.Int.{byte_at}
