@@ -31,6 +31,27 @@ static inline uint32_t linker_utils_forms_of(uint16_t machine, const uint8_t *by
     }
 }
 
+static inline struct linker_utils_section linker_utils_section_of(uint8_t *bytes, size_t bytes_len) {
+    struct linker_utils_section section = {bytes, bytes_len, NULL, 0, 0, 0, NULL, 0};
+    return section;
+}
+
+/* What exports take of a link, and of a link and a section. */
+struct linker_utils_output_facts {
+    bool is_executable;
+    bool is_fixed;
+    bool has_near_symbols;
+};
+
+struct linker_utils_addresses {
+    uint64_t section;
+    uint64_t got_base;
+    uint64_t thread_origin;
+    uint64_t module_origin;
+    uint64_t module_entry;
+    bool has_tls;
+};
+
 /* What null is replaced by. */
 static uint64_t linker_utils_no_elements[1];
 #define LINKER_UTILS_SLICE(element, slice) \

@@ -19,11 +19,14 @@
  * - There is no global state. Any calls may run in several threads at once.
  *
  * What holds for every call:
- * - A slice is a pointer and then a count of elements. Its pointer may be null where the count is
- *   0. A null pointer with a count above 0 is undefined. It is aligned for its elements.
- * - A pointer to one value is aligned and not null; where it may be null, the call says so. A value
- *   that the call only writes need not be initialised, and neither need the elements of an array
- *   that it only writes. Everything else that is passed is initialised.
+ * - A slice is a pointer and then a count of elements, as parameters or as fields of a struct. Its
+ *   pointer may be null where the count is 0. A null pointer with a count above 0 is undefined. It
+ *   is aligned for its elements.
+ * - A pointer to one value or to a struct is aligned and not null; where it may be null, the call
+ *   says so. A value that the call only writes need not be initialised, and neither need the
+ *   elements of an array that it only writes. Everything else that is passed is initialised.
+ * - What many calls share are fields of structs, as `struct linker_utils_section`. A call reads the
+ *   fields that it is about, as linker_utils_inline.h shows; all others may be 0.
  * - Memory that a call writes overlaps no other memory that is passed to it, and no other thread
  *   reads or writes it while the call runs. Memory that a call only reads may be shared: one array
  *   of deltas, heads, items or relocations by any number of threads. So threads may also write
@@ -59,10 +62,10 @@
  *     uint8_t code[7] = {0x48, 0x8b, 0x3d}; uint64_t offset = 3; struct linker_utils_choice it;
  *     static struct linker_utils_link_facts local; local.is_local = local.has_fixed_distance = 1;
  *     local.operands = linker_utils_operands_of(0x404000, -4, 0x401003); int64_t addend = -4;
- *     status = linker_utils_choose(EM_X86_64, R_X86_64_REX_GOTPCRELX, code, 7, 3, &local, &it);
- *     assert(status == LINKER_UTILS_OK && it.relocation == R_X86_64_PC32);
- *     status = linker_utils_apply(EM_X86_64, it.rewrite, it.opcode_len, code, 7, &offset, &addend);
- *     assert(status == LINKER_UTILS_OK && code[1] == 0x8d); // lea x(%rip), %rdi
+ *     struct linker_utils_section mov = linker_utils_section_of(code, sizeof code);
+ *     status = linker_utils_choose(EM_X86_64, R_X86_64_REX_GOTPCRELX, &mov, 3, &local, &it);
+ *     status |= linker_utils_apply(EM_X86_64, it.rewrite, it.opcode_len, &mov, &offset, &addend);
+ *     assert(!status && it.relocation == R_X86_64_PC32 && code[1] == 0x8d); // lea x(%rip), %rdi
  * Deletions:
  *     const struct linker_utils_deletion gone[2] = {{4, 4}, {16, 2}};
  *     struct linker_utils_delta deltas[2]; uint64_t input;
@@ -72,11 +75,12 @@
  *     status = linker_utils_deltas_output_to_input(deltas, 2, 12, &input);
  *     assert(status == LINKER_UTILS_OK && input == 18);
  * Sections:
- *     const uint64_t rela[3] = {0, ELF64_R_INFO(UINT64_C(1), R_AARCH64_CALL26), 0}; size_t faulty;
+ *     uint64_t rela[3] = {0, ELF64_R_INFO(UINT64_C(1), R_AARCH64_CALL26), 0}, memory[1];
  *     static struct linker_utils_symbol symbols[2]; symbols[1].address = 0x402000;
- *     static struct linker_utils_addresses here; here.section = 0x401000; uint64_t memory[1];
- *     status = linker_utils_relocate_section(EM_AARCH64, &here, rela, 1, symbols, 2, bl, sizeof bl,
- *                                            memory, 1, &faulty);
+ *     static struct linker_utils_object object; object.values = symbols; object.values_len = 2;
+ *     static struct linker_utils_link link; link.machine = EM_AARCH64;
+ *     struct linker_utils_section text = {bl, sizeof bl, rela, 1, 0x401000, 0, NULL, 0};
+ *     status = linker_utils_relocate_section(&link, &object, &text, memory, 1, NULL);
  *     assert(status == LINKER_UTILS_OK && bl[1] == 0x04);
  * Reading back:
  *     struct linker_utils_field_value known, from; uint32_t reference;
@@ -227,6 +231,49 @@ LINKER_UTILS_MUST_USE uint32_t linker_utils_reach(
 LINKER_UTILS_MUST_USE static inline uint32_t linker_utils_relocate(
     uint16_t machine, uint32_t r_type, int64_t value, uint8_t *dest, size_t dest_len);
 
+/* ---- A link, its objects and their sections: what many calls take. */
+
+/* A link: the machine, and what a linker knows of the output. With zeros beside the machine that is
+ * nothing. Addresses are known once sections are placed. */
+struct linker_utils_link {
+    uint64_t got_base; /* GOT, as in `struct linker_utils_operands` */
+    /* Addresses in the TLS segment's image: see `tls_base` in `struct linker_utils_operands`. */
+    uint64_t thread_origin; /* the thread pointer's */
+    uint64_t module_origin; /* the origin of offsets in the module's TLS block */
+    uint64_t module_entry; /* of the output's LINKER_UTILS_ENTRY_MODULE; 0 if there is none */
+    uint64_t global_pointer; /* that of RISC-V's `__global_pointer$`, for the calls of that name */
+    uint16_t machine;
+    bool has_tls; /* the output has a TLS segment, so that there are the two origins */
+    bool is_executable; /* position-independent or not */
+    bool is_fixed; /* it is always loaded at the address that it is linked for */
+    /* Its code, GOT and symbols that the code refers to, except for absolute ones, lie within 2 GiB
+     * less 64 KiB. Else no load from the GOT becomes a distance before addresses are known. */
+    bool has_near_symbols;
+};
+
+/* An object: arrays by the indexes of symbols that its relocations name (`r_sym`). */
+struct linker_utils_object {
+    const struct linker_utils_symbol_facts *facts; size_t facts_len; /* once names are resolved */
+    const struct linker_utils_symbol *values; size_t values_len; /* once addresses are known */
+    struct linker_utils_kept_groups *kept_groups; size_t kept_groups_len; /* by surveys */
+    struct linker_utils_kept_facts *kept_facts; size_t kept_facts_len; /* by `.._keep_facts` */
+    bool *kept_high_parts; size_t kept_high_parts_len; /* by `.._survey_global_pointer` */
+};
+
+/* A section of an object. Calls that rewrite, relocate or replace write its bytes, and those that
+ * rewrite or pack its relocations: for others both may be constants, by a cast. */
+struct linker_utils_section {
+    uint8_t *bytes; size_t bytes_len;
+    /* As the file has them: so many of 24 bytes, `Elf64_Rela`, little-endian, at any alignment. */
+    void *relocations; size_t relocations_len;
+    uint64_t address; /* of the first byte, from which `r_offset` counts */
+    uint64_t base; /* its input offset in a run that is relaxed */
+    const struct linker_utils_deletion *deleted; size_t deleted_len; /* as rewrites list it */
+};
+
+/* A section of these bytes, and zeros: there is nothing else. */
+static inline struct linker_utils_section linker_utils_section_of(uint8_t *bytes, size_t bytes_len);
+
 /* ---- Rewrites: instructions in place of others.
  *
  * A machine, a number of its enum of rewrites and `opcode_len` name a rewrite; `opcode_len` matters
@@ -340,17 +387,16 @@ struct linker_utils_choice {
  * addend. AArch64's ADRP_ADD_TO_NOP_ADR erases the `adrp` too, whose relocation has to be of the
  * same symbol and addend as the `add`'s. */
 LINKER_UTILS_MUST_USE static inline uint32_t linker_utils_choose(
-    uint16_t machine, uint32_t r_type, const uint8_t *section, size_t section_len, uint64_t offset,
+    uint16_t machine, uint32_t r_type, const struct linker_utils_section *section, uint64_t offset,
     const struct linker_utils_link_facts *facts, struct linker_utils_choice *choice);
 
 /* Whether the relocation of type `r_type` can be rewritten if each other one of its sequence can:
  * whether `linker_utils_choose` changes something by these facts and `group_fits`. A linker calls
  * it for each relocation of the sequence before it chooses, with the facts that it chooses by, and
  * sets `group_fits` for all of them if all fit. False for a machine that isn't known. */
-static inline bool linker_utils_relocation_fits(uint16_t machine, uint32_t r_type,
-                                                const uint8_t *section, size_t section_len,
-                                                uint64_t offset,
-                                                const struct linker_utils_link_facts *facts);
+static inline bool linker_utils_relocation_fits(
+    uint16_t machine, uint32_t r_type, const struct linker_utils_section *section, uint64_t offset,
+    const struct linker_utils_link_facts *facts);
 
 /* LINKER_UTILS_OK where the bytes at an offset of a section are an instruction, or a sequence of
  * some, that the rewrite is meant for, by opcodes and registers, otherwise
@@ -358,14 +404,14 @@ static inline bool linker_utils_relocation_fits(uint16_t machine, uint32_t r_typ
  * Whether the rewrite is right for the symbol and the value is the caller's to test
  * (`linker_utils_hi20_fits_clui`). Any bytes match a rewrite that writes a `nop` or nothing. */
 LINKER_UTILS_MUST_USE static inline uint32_t linker_utils_matches(
-    uint16_t machine, uint32_t rewrite, uint8_t opcode_len, const uint8_t *section,
-    size_t section_len, uint64_t offset);
+    uint16_t machine, uint32_t rewrite, uint8_t opcode_len,
+    const struct linker_utils_section *section, uint64_t offset);
 
 /* Rewrites the instruction at an offset of a section, and sets the offset and the addend to those
  * of the relocation that is then to be applied. LINKER_UTILS_CANNOT_APPLY. */
 LINKER_UTILS_MUST_USE static inline uint32_t linker_utils_apply(
-    uint16_t machine, uint32_t rewrite, uint8_t opcode_len, uint8_t *section, size_t section_len,
-    uint64_t *offset, int64_t *addend);
+    uint16_t machine, uint32_t rewrite, uint8_t opcode_len,
+    const struct linker_utils_section *section, uint64_t *offset, int64_t *addend);
 
 /* ---- Deletions: bytes that relaxation takes out of a section, and offsets of those that stay. */
 
@@ -405,10 +451,8 @@ LINKER_UTILS_MUST_USE static inline uint32_t linker_utils_deltas_output_to_input
 
 /* ---- Sections: what each relocation requires, its value, and the values of all of them.
  *
- * Relocations are those of a section as the file has them: 24 bytes each, ELF's `Elf64_Rela`,
- * little-endian and at any alignment. `relocations_len` counts relocations. Symbols are an array,
- * by the indexes that relocations name (`r_sym`). A linker says what it knows of symbols and of the
- * output; the library knows which of it a relocation takes. */
+ * A linker says what it knows of symbols and of the output; the library knows which of it a
+ * relocation takes. */
 
 /* What a relocation requires of a linker. A fact holds where its number is 1; else it is 0. */
 struct linker_utils_requirements {
@@ -456,17 +500,6 @@ struct linker_utils_symbol {
     bool is_undefined_weak; /* weak, and nothing defines it: `address` isn't read */
 };
 
-/* What a linker knows of a section and of the output that it is in. */
-struct linker_utils_addresses {
-    uint64_t section; /* of the section's first byte, from which `r_offset` counts */
-    uint64_t got_base; /* GOT, as in `struct linker_utils_operands` */
-    /* Addresses in the TLS segment's image: see `tls_base` in `struct linker_utils_operands`. */
-    uint64_t thread_origin; /* the thread pointer's */
-    uint64_t module_origin; /* the origin of offsets in the module's TLS block */
-    uint64_t module_entry; /* of the output's LINKER_UTILS_ENTRY_MODULE; 0 if there is none */
-    bool has_tls; /* the output has a TLS segment, so that there are the two origins */
-};
-
 /* The value of the relocation at an index, into `value`: that of `linker_utils_value`, with the
  * operands that the relocation takes.
  * - A branch goes to the symbol's stub, if it has one. On PowerPC64 a branch to the symbol itself
@@ -480,17 +513,14 @@ struct linker_utils_addresses {
  *
  * LINKER_UTILS_UNKNOWN_ARCHITECTURE; LINKER_UTILS_TOO_SHORT where there is no relocation at the
  * index; LINKER_UTILS_UNKNOWN_RELOCATION; LINKER_UTILS_NO_VALUE; LINKER_UTILS_NO_SYMBOL where the
- * index of its symbol, or of its high part's, isn't below `symbols_len`; LINKER_UTILS_NO_HIGH_PART;
+ * index of its symbol, or of its high part's, isn't below `values_len`; LINKER_UTILS_NO_HIGH_PART;
  * LINKER_UTILS_NO_ENTRY; LINKER_UTILS_NO_TLS_BASE. O(1); a low part of n relocations O(log n). */
 LINKER_UTILS_MUST_USE static inline uint32_t linker_utils_value_at(
-    uint16_t machine, const struct linker_utils_addresses *addresses, const void *relocations,
-    size_t relocations_len, const struct linker_utils_symbol *symbols, size_t symbols_len,
-    size_t index, int64_t *value);
+    const struct linker_utils_link *link, const struct linker_utils_object *object,
+    const struct linker_utils_section *section, size_t index, int64_t *value);
 
-/* How many elements of memory `linker_utils_relocate_section` needs for these relocations: one for
- * each. */
-static inline size_t linker_utils_relocate_memory(const void *relocations,
-                                                  size_t relocations_len);
+/* How many elements of `memory` a section needs to be relocated: one for each relocation. */
+static inline size_t linker_utils_relocate_memory(const struct linker_utils_section *section);
 
 /* Writes the values of a section's relocations, or none of them: with any status but
  * LINKER_UTILS_OK all bytes of the section are unchanged. What `memory` holds afterwards isn't
@@ -512,21 +542,23 @@ static inline size_t linker_utils_relocate_memory(const void *relocations,
  * and LINKER_UTILS_UNSUPPORTED a ULEB128 number's relocation that isn't of a pair. It takes O(n)
  * for n relocations that ascend, and O(log n) more for a low part; else O(n log n), and O(n). */
 LINKER_UTILS_MUST_USE static inline uint32_t linker_utils_relocate_section(
-    uint16_t machine, const struct linker_utils_addresses *addresses, const void *relocations,
-    size_t relocations_len, const struct linker_utils_symbol *symbols, size_t symbols_len,
-    uint8_t *section, size_t section_len, uint64_t *memory, size_t memory_len, size_t *faulty);
+    const struct linker_utils_link *link, const struct linker_utils_object *object,
+    const struct linker_utils_section *section, uint64_t *memory, size_t memory_len,
+    size_t *faulty);
 
 /* ---- Rewriting: the instructions of a section in one call, in each of four phases.
  *
- * Relocations and symbols are as in the calls for sections. A linker says what it knows of symbols
- * and of the output, and the library which instructions are rewritten: all of a group or none. The
- * relocations of a group are those of one kind and one symbol in an object, whatever their addends;
- * of local-dynamic TLS all of an object. Those of one label of RISC-V in a section are a group too,
- * which needs no survey. First a survey of each section of code notes which groups stay, then each
- * of them is rewritten. Before addresses are known the calls are `linker_utils_survey` and
- * `linker_utils_rewrite_section`. Once they are, `linker_utils_survey_placed_section` and
- * `linker_utils_rewrite_placed_section` do so for each later phase, in the order of `enum
- * linker_utils_phase`. What is left a linker may rewrite by `linker_utils_choose`. */
+ * A linker says what it knows of symbols and of the output, and the library which instructions are
+ * rewritten: all of a group or none. The relocations of a group are those of one kind and one
+ * symbol in an object, whatever their addends; of local-dynamic TLS all of an object. Those of one
+ * label of RISC-V in a section are a group too, which needs no survey. First a survey of each
+ * section of code of an object notes which groups stay, then each of them is rewritten, with the
+ * same facts and addresses. The array of what stays begins with all false. Each survey, also one of
+ * linker_utils_further.h, only adds to it, and what has no element stays. Before addresses are
+ * known the calls are `linker_utils_survey` and `linker_utils_rewrite_section`. Once they are,
+ * `linker_utils_survey_placed_section` and `linker_utils_rewrite_placed_section` do so for each
+ * later phase, in the order of `enum linker_utils_phase`. What is left a linker may rewrite by
+ * `linker_utils_choose`. */
 
 /* Whether an architecture has rewrites in a phase. In one without them a linker surveys and
  * rewrites nothing: each relocation would stay. False of a machine or a phase that isn't known. */
@@ -543,18 +575,9 @@ struct linker_utils_symbol_facts {
     uint8_t other; /* `st_other`, of which PowerPC64 reads what a call does with the TOC pointer */
 };
 
-/* What a linker knows of the output. */
-struct linker_utils_output_facts {
-    bool is_executable; /* position-independent or not */
-    bool is_fixed; /* it is always loaded at the address that it is linked for */
-    /* Its code, GOT and symbols that the code refers to, except for absolute ones, lie within 2 GiB
-     * less 64 KiB. Else no load from the GOT becomes a distance before addresses are known. */
-    bool has_near_symbols;
-};
-
-/* Which groups of a symbol stay as they are. An object has an array of these by the indexes that
- * its relocations name. The element at index 0 is of all of the object: it has local-dynamic TLS,
- * and what stays whichever symbol it is of. No call tests that 32 bits hold LoongArch's offsets. */
+/* Which groups of a symbol stay as they are. The element at index 0 is of all of the object: it has
+ * local-dynamic TLS, and what stays whichever symbol it is of. No call tests that 32 bits hold
+ * LoongArch's offsets. */
 struct linker_utils_kept_groups {
     bool initial_exec; /* loads of an offset from the thread pointer; in its phase all with one */
     bool general_dynamic; /* calls for the address of a thread-local variable */
@@ -576,27 +599,29 @@ struct linker_utils_decision {
     uint8_t opcode_len; /* as in `struct linker_utils_choice` */
 };
 
-/* Notes in `kept` which groups of an object stay, since a relocation of this section is of them and
- * has no rewrite. Its instruction is none that a rewrite is meant for, its symbol may be of another
- * file, or what the rewrite takes along isn't there. What stays there already stays. Begin with all
- * false, and survey each section of code of an object with the same array before one of them is
- * rewritten. A group stays too where the array has no element for its symbol. An offset in the
- * module's TLS block that stands in data counts from the block: where the object has one that is
- * loaded, set `local_dynamic` at index 0. O(n) for n relocations.
- * LINKER_UTILS_UNKNOWN_ARCHITECTURE. */
+/* What rewriting a section writes. No element need be initialised. */
+struct linker_utils_rewritten {
+    /* What became of each relocation: at least as many. Further elements are unchanged. */
+    struct linker_utils_decision *decisions; size_t decisions_len;
+    /* What is to be deleted: the first `deleted_used` elements. Further ones are unchanged. */
+    struct linker_utils_deletion *deleted; size_t deleted_len;
+    size_t deleted_used;
+};
+
+/* Notes in `kept_groups` which stay, since a relocation of this section is of them and has no
+ * rewrite. Its instruction is none that a rewrite is meant for, its symbol may be of another file,
+ * or what the rewrite takes along isn't there. An offset in the module's TLS block that stands in
+ * data counts from the block: where the object has one that is loaded, set `local_dynamic` at index
+ * 0. O(n) for n relocations. LINKER_UTILS_UNKNOWN_ARCHITECTURE. */
 LINKER_UTILS_MUST_USE static inline uint32_t linker_utils_survey(
-    uint16_t machine, const struct linker_utils_output_facts *output,
-    const struct linker_utils_symbol_facts *symbols, size_t symbols_len, const void *relocations,
-    size_t relocations_len, const uint8_t *section, size_t section_len,
-    struct linker_utils_kept_groups *kept, size_t kept_len);
+    const struct linker_utils_link *link, const struct linker_utils_object *object,
+    const struct linker_utils_section *section);
 
 /* Rewrites the instructions of a section of code as `linker_utils_choose` says before addresses are
  * known, and turns its relocations into those after it. Of one that goes the type becomes 0, so
- * that indexes stay. No byte is deleted. `kept` is what `linker_utils_survey` noted of all sections
- * of code of the object, with the same facts. What became of each relocation is in `decisions`,
- * which has an element for each relocation, and need not be initialised; further elements are
- * unchanged. A relocation of a symbol that isn't in the array isn't rewritten. O(n) for n
- * relocations that ascend; each one that is out of order adds O(n) at most. It doesn't allocate.
+ * that indexes stay. No byte is deleted. A relocation of a symbol that isn't in `facts` isn't
+ * rewritten. O(n) for n relocations that ascend; each one that is out of order adds O(n) at most.
+ * It doesn't allocate.
  *
  * LINKER_UTILS_UNKNOWN_ARCHITECTURE; LINKER_UTILS_SHORT_MEMORY where there are fewer decisions than
  * relocations. Else the status is that of the first relocation that it doesn't accept, `faulty`:
@@ -605,36 +630,27 @@ LINKER_UTILS_MUST_USE static inline uint32_t linker_utils_survey(
  * the first that isn't taken along and has its field in the bytes of a rewrite. With an error the
  * section and its relocations are unchanged, and decisions from `faulty` on aren't specified. */
 LINKER_UTILS_MUST_USE static inline uint32_t linker_utils_rewrite_section(
-    uint16_t machine, const struct linker_utils_output_facts *output,
-    const struct linker_utils_symbol_facts *symbols, size_t symbols_len,
-    const struct linker_utils_kept_groups *kept, size_t kept_len, void *relocations,
-    size_t relocations_len, uint8_t *section, size_t section_len,
-    struct linker_utils_decision *decisions, size_t decisions_len, size_t *faulty);
+    const struct linker_utils_link *link, const struct linker_utils_object *object,
+    const struct linker_utils_section *section, const struct linker_utils_rewritten *rewritten,
+    size_t *faulty);
 
-/* Notes in `kept` which groups of an object stay in a phase once addresses are known, as
- * `linker_utils_survey` does before. So do those with a distance out of reach or an instruction
- * without a mark. Each phase has an array of its own, which begins with all false. `symbols` and
- * `values` both have the object's symbols at the indexes that its relocations name.
- * LINKER_UTILS_UNKNOWN_ARCHITECTURE; LINKER_UTILS_UNKNOWN_PHASE; LINKER_UTILS_FACTS_CONTRADICT. */
+/* Notes in `kept_groups` which stay in a phase once addresses are known, as `linker_utils_survey`
+ * does before. So do those with a distance out of reach or an instruction without a mark. Each
+ * phase has an array of its own. LINKER_UTILS_UNKNOWN_ARCHITECTURE; LINKER_UTILS_UNKNOWN_PHASE;
+ * LINKER_UTILS_FACTS_CONTRADICT. */
 LINKER_UTILS_MUST_USE static inline uint32_t linker_utils_survey_placed_section(
-    uint16_t machine, uint32_t phase, const struct linker_utils_output_facts *output,
-    const struct linker_utils_symbol_facts *symbols, size_t symbols_len,
-    const struct linker_utils_addresses *addresses, const struct linker_utils_symbol *values,
-    size_t values_len, const void *relocations, size_t relocations_len, const uint8_t *section,
-    size_t section_len, struct linker_utils_kept_groups *kept, size_t kept_len);
+    const struct linker_utils_link *link, const struct linker_utils_object *object,
+    const struct linker_utils_section *section, uint32_t phase);
 
 /* Rewrites the instructions of a section of code in a phase once addresses are known, and turns its
- * relocations into those after it, as `linker_utils_rewrite_section` does before. `kept` is what
- * `linker_utils_survey_placed_section` noted of all sections of code of the object in the phase,
- * with the same facts and addresses. All decisions are written anew: those of an earlier phase are
- * lost. Each address has to be that by which values are written later, or differ from it by less
- * than the reach that is left. Bytes that are deleted afterwards only make distances shorter.
+ * relocations into those after it, as `linker_utils_rewrite_section` does before. All decisions are
+ * written anew: those of an earlier phase are lost. Each address has to be that by which values are
+ * written later, or differ from it by less than the reach that is left. Bytes that are deleted
+ * afterwards only make distances shorter.
  *
- * What is to be deleted is in the first `deleted_used` elements of `deleted`, ascending, as
- * `linker_utils_deltas_create` takes it. They are bytes of the section, apart from each other and
- * from all that is rewritten, and still there. Only LINKER_UTILS_PHASE_THREAD_OFFSETS has any, at
- * most one for each relocation. Further elements of `deleted` are unchanged, and it need not be
- * initialised. It may be null where there are none.
+ * What is to be deleted ascends, as `linker_utils_deltas_create` takes it. They are bytes of the
+ * section, apart from each other and from all that is rewritten, and still there. Only
+ * LINKER_UTILS_PHASE_THREAD_OFFSETS has any, at most one for each relocation.
  *
  * LINKER_UTILS_UNKNOWN_ARCHITECTURE; LINKER_UTILS_UNKNOWN_PHASE; LINKER_UTILS_FACTS_CONTRADICT of
  * the symbol `faulty`; LINKER_UTILS_SHORT_MEMORY where there are fewer decisions than relocations;
@@ -642,52 +658,9 @@ LINKER_UTILS_MUST_USE static inline uint32_t linker_utils_survey_placed_section(
  * LINKER_UTILS_SHORT_MEMORY where `deleted` has fewer elements than there are deletions. With any
  * status except LINKER_UTILS_OK the section, relocations and `deleted_used` are unchanged. */
 LINKER_UTILS_MUST_USE static inline uint32_t linker_utils_rewrite_placed_section(
-    uint16_t machine, uint32_t phase, const struct linker_utils_output_facts *output,
-    const struct linker_utils_symbol_facts *symbols, size_t symbols_len,
-    const struct linker_utils_addresses *addresses, const struct linker_utils_symbol *values,
-    size_t values_len, const struct linker_utils_kept_groups *kept, size_t kept_len,
-    void *relocations, size_t relocations_len, uint8_t *section, size_t section_len,
-    struct linker_utils_decision *decisions, size_t decisions_len,
-    struct linker_utils_deletion *deleted, size_t deleted_len, size_t *deleted_used,
-    size_t *faulty);
-
-/* ---- Reading back: what a linker wrote, from the linked bytes.
- *
- * A machine and a relocation type name a relocation. The statuses LINKER_UTILS_UNKNOWN_ARCHITECTURE
- * and LINKER_UTILS_UNKNOWN_RELOCATION come first, but `linker_utils_recognise` and
- * `linker_utils_recognise_chosen` take any type. */
-
-/* What is known of a number of 64 bits, which is a relocation's value in two's complement, or an
- * address. They are bits of the sum of the number and `rounding`, modulo 2^64. Where bits 0 to 63
- * are known the number is `bits - rounding`. */
-struct linker_utils_field_value {
-    uint64_t bits; /* the known bits, the first of them at bit 0, and no others */
-    uint64_t rounding; /* what was added to the number before its bits were taken */
-    uint8_t first_bit; /* which bits are known: `first_bit` and up, below `end_bit` */
-    uint8_t end_bit;
-};
-
-/* What is known of a relocation's value from the bytes that begin with its field, into `value`.
- * Whatever value `linker_utils_relocate` wrote there, it has these bits.
- *
- * - Of an instruction they are what the machine reads: bits from `first_bit` of the relocation up.
- *   They are known up to bit 63 where `linker_utils_reach` leaves one choice, as a sign does. They
- *   are known down to bit 0 where the value's alignment says that those below are 0.
- * - RISC-V's lui, auipc and c.lui have the upper bits of the value plus 0x800, the `rounding`. The
- *   other half has the low 12 bits of the value. Of the pair of R_RISCV_CALL and R_LARCH_CALL36 all
- *   bits are known.
- * - The value of PowerPC64's and LoongArch's adjusted high halves has their `bias` in it, so that
- *   the rounding is 0: `linker_utils_solve` takes the bias off.
- * - MOVN and MOVZ have 16 bits and the sign; a MOVK has 16 bits.
- * - A `jirl` at R_LARCH_PCALA_LO12 has bits 2 to 11, and bits 0 and 1 are 0.
- * - Whole bytes have the low bits of the value; that of R_RISCV_SET6 has 6.
- *
- * LINKER_UTILS_TOO_SHORT where there are fewer bytes than the field has.
- * LINKER_UTILS_HOLDS_NO_VALUE of a relocation of no bytes, of one that adds or subtracts, of one at
- * a ULEB128 number, and of R_LARCH_CALL30. */
-LINKER_UTILS_MUST_USE static inline uint32_t linker_utils_read_value(
-    uint16_t machine, uint32_t r_type, const uint8_t *bytes, size_t bytes_len,
-    struct linker_utils_field_value *value);
+    const struct linker_utils_link *link, const struct linker_utils_object *object,
+    const struct linker_utils_section *section, uint32_t phase,
+    struct linker_utils_rewritten *rewritten, size_t *faulty);
 
 #include "linker_utils_further.h"
 #include "linker_utils_inline.h"

@@ -61,6 +61,38 @@ template <class Void> struct relas {
     }
 };
 
+/* An object, of containers. Other fields are null at first. */
+struct object : linker_utils_object {
+    explicit object(span<const linker_utils_symbol_facts> facts,
+                    span<const linker_utils_symbol> values = {},
+                    span<linker_utils_kept_groups> kept = {}) noexcept
+        : linker_utils_object{facts.data(), facts.size(), values.data(), values.size(), kept.data(),
+                              kept.size(), nullptr, 0, nullptr, 0} {}
+};
+
+/* A section, of containers. Other fields are 0 at first. */
+struct section : linker_utils_section {
+    explicit section(span<uint8_t> bytes, relas<void> relocations = {},
+                     uint64_t address = 0) noexcept
+        : linker_utils_section{bytes.data(), bytes.size(), relocations.first, relocations.count,
+                               address, 0, nullptr, 0} {}
+    /* Of constants, for calls that only read bytes and relocations. */
+    static section of_constants(span<const uint8_t> bytes, relas<const void> relocations = {},
+                                uint64_t address = 0) noexcept {
+        section made{{const_cast<uint8_t *>(bytes.data()), bytes.size()}, {}, address};
+        made.relocations = const_cast<void *>(relocations.first);
+        made.relocations_len = relocations.count;
+        return made;
+    }
+};
+
+/* A run, of containers. */
+struct run : linker_utils_run {
+    explicit run(span<const linker_utils_item> items, uint64_t start = 0,
+                 span<const linker_utils_delta> lost = {}) noexcept
+        : linker_utils_run{start, items.data(), items.size(), lost.data(), lost.size()} {}
+};
+
 /* `faulty` of a status that is about no entry of an array. */
 inline constexpr size_t no_index = SIZE_MAX;
 
@@ -141,55 +173,44 @@ struct row {
         return {{linker_utils_row_needs(handle, addend, is_thread_local, &required)}, required};
     }
     /* Which rewrite a linker may make: `linker_utils_row_choose`. */
-    result<linker_utils_choice> choose(span<const uint8_t> section, uint64_t offset,
+    result<linker_utils_choice> choose(const linker_utils_section &section, uint64_t offset,
                                        const linker_utils_link_facts &facts) const noexcept {
         linker_utils_choice choice{};
-        outcome ended = {linker_utils_row_choose(handle, section.data(), section.size(), offset,
-                                                 &facts, &choice)};
-        return {ended, choice};
+        return {{linker_utils_row_choose(handle, &section, offset, &facts, &choice)}, choice};
     }
 };
 
 /* Makes the rewrite of a choice: `linker_utils_apply`. */
-inline outcome apply(uint16_t machine, const linker_utils_choice &choice, span<uint8_t> section,
-                     uint64_t &offset, int64_t &addend) noexcept {
-    return {linker_utils_apply(machine, choice.rewrite, choice.opcode_len, section.data(),
-                               section.size(), &offset, &addend)};
+inline outcome apply(uint16_t machine, const linker_utils_choice &choice,
+                     const linker_utils_section &section, uint64_t &offset,
+                     int64_t &addend) noexcept {
+    return {linker_utils_apply(machine, choice.rewrite, choice.opcode_len, &section, &offset,
+                               &addend)};
 }
 
 /* Notes which groups of an object stay: `linker_utils_survey`. */
-inline outcome survey(uint16_t machine, const linker_utils_output_facts &output,
-                      span<const linker_utils_symbol_facts> symbols, relas<const void> relocations,
-                      span<const uint8_t> section, span<linker_utils_kept_groups> kept) noexcept {
-    return {linker_utils_survey(machine, &output, symbols.data(), symbols.size(), relocations.first,
-                                relocations.count, section.data(), section.size(), kept.data(),
-                                kept.size())};
+inline outcome survey(const linker_utils_link &link, const linker_utils_object &object,
+                      const linker_utils_section &section) noexcept {
+    return {linker_utils_survey(&link, &object, &section)};
 }
 
 /* Rewrites the instructions of a section: `linker_utils_rewrite_section`. */
-inline outcome rewrite_section(uint16_t machine, const linker_utils_output_facts &output,
-                               span<const linker_utils_symbol_facts> symbols,
-                               span<const linker_utils_kept_groups> kept, relas<void> relocations,
-                               span<uint8_t> section,
+inline outcome rewrite_section(const linker_utils_link &link, const linker_utils_object &object,
+                               const linker_utils_section &section,
                                span<linker_utils_decision> decisions) noexcept {
     size_t faulty = no_index;
-    return {linker_utils_rewrite_section(machine, &output, symbols.data(), symbols.size(),
-                                         kept.data(), kept.size(), relocations.first,
-                                         relocations.count, section.data(), section.size(),
-                                         decisions.data(), decisions.size(), &faulty), faulty};
+    const linker_utils_rewritten rewritten = {decisions.data(), decisions.size(), nullptr, 0, 0};
+    return {linker_utils_rewrite_section(&link, &object, &section, &rewritten, &faulty), faulty};
 }
 
 /* Writes the values of a section: `linker_utils_relocate_section`. `memory` has an element for each
  * relocation. */
-inline outcome relocate_section(uint16_t machine, const linker_utils_addresses &addresses,
-                                relas<const void> relocations,
-                                span<const linker_utils_symbol> symbols, span<uint8_t> section,
+inline outcome relocate_section(const linker_utils_link &link, const linker_utils_object &object,
+                                const linker_utils_section &section,
                                 span<uint64_t> memory) noexcept {
     size_t faulty = no_index;
-    return {linker_utils_relocate_section(machine, &addresses, relocations.first,
-                                          relocations.count, symbols.data(), symbols.size(),
-                                          section.data(), section.size(), memory.data(),
-                                          memory.size(), &faulty), faulty};
+    return {linker_utils_relocate_section(&link, &object, &section, memory.data(), memory.size(),
+                                          &faulty), faulty};
 }
 
 /* The deltas of deletions: a container that owns their list. */
@@ -208,18 +229,21 @@ public:
         });
     }
     /* Those of a run: `linker_utils_run_deltas`; LINKER_UTILS_OUT_OF_MEMORY. */
-    static result<deltas> of_run(span<const linker_utils_item> items,
+    static result<deltas> of_run(const linker_utils_run &run,
                                  span<const uint64_t> kept) noexcept {
-        return made(items.size(), [&](deltas &to, size_t *) {
-            return linker_utils_run_deltas(items.data(), items.size(), kept.data(), kept.size(),
-                                           to.list_.get(), items.size(), &to.size_);
+        return made(run.items_len, [&](deltas &to, size_t *) {
+            linker_utils_relaxed relaxed{};
+            relaxed.kept = const_cast<uint64_t *>(kept.data()); // which it only reads
+            relaxed.kept_len = kept.size();
+            return linker_utils_run_deltas(&run, &relaxed, to.list_.get(), to.size_, &to.size_);
         });
     }
     /* Those of further deletions too, in a list of their own: `linker_utils_deltas_merge`. */
     result<deltas> merged(span<const linker_utils_deletion> additional) const noexcept {
         return made(size_ + additional.size(), [&](deltas &to, size_t *faulty) {
-            return linker_utils_deltas_merge(data(), size_, additional.data(), additional.size(),
-                                             to.list_.get(), to.size_, faulty);
+            const linker_utils_merge merge = {additional.data(), additional.size(), to.list_.get(),
+                                              to.size_};
+            return linker_utils_deltas_merge(data(), size_, &merge, faulty);
         });
     }
     /* How many bytes are deleted: `linker_utils_deltas_total_deleted`. */
@@ -255,41 +279,38 @@ private:
 };
 
 /* Writes the items of relocations, and returns how many there are: `linker_utils_section_items`. */
-inline result<size_t> section_items(uint16_t machine, span<const uint8_t> section, uint64_t base,
+inline result<size_t> section_items(uint16_t machine, const linker_utils_section &section,
                                     span<const linker_utils_rela> relocations,
                                     span<linker_utils_item> items, span<size_t> makers) noexcept {
-    size_t len = 0, faulty = no_index;
-    outcome ended = {linker_utils_section_items(machine, section.data(), section.size(), base,
-                                                relocations.data(), relocations.size(),
-                                                items.data(), items.size(), makers.data(),
-                                                makers.size(), &len, &faulty), faulty};
-    return {ended, len};
+    size_t faulty = no_index;
+    linker_utils_items made = {items.data(), items.size(), makers.data(), makers.size(), 0};
+    outcome ended = {linker_utils_section_items(machine, &section, relocations.data(),
+                                                relocations.size(), &made, &faulty), faulty};
+    return {ended, made.items_used};
 }
 
 /* Chooses what becomes shorter in a run: `linker_utils_relax`. */
-inline outcome relax(span<const linker_utils_item> items, uint64_t start, span<uint8_t> shapes,
-                     span<uint64_t> kept, span<size_t> places, span<uint64_t> freed) noexcept {
+inline outcome relax(const linker_utils_run &run, span<uint8_t> shapes, span<uint64_t> kept,
+                     span<size_t> places, span<uint64_t> freed) noexcept {
     size_t faulty = no_index;
-    return {linker_utils_relax(items.data(), items.size(), start, shapes.data(), shapes.size(),
-                               kept.data(), kept.size(), places.data(), places.size(),
-                               freed.data(), freed.size(), &faulty), faulty};
+    const linker_utils_relaxed relaxed = {shapes.data(), shapes.size(), kept.data(), kept.size(),
+                                          freed.data(), freed.size(), places.data(),
+                                          places.size()};
+    return {linker_utils_relax(&run, &relaxed, &faulty), faulty};
 }
 
 /* How many bytes of a section stay: `linker_utils_packed_run_len`. */
-inline size_t packed_run_len(uint64_t base, size_t section_len,
-                             span<const linker_utils_delta> lost) noexcept {
-    return linker_utils_packed_run_len(base, section_len, lost.data(), lost.size());
+inline size_t packed_run_len(const linker_utils_section &section,
+                             const linker_utils_run &run) noexcept {
+    return linker_utils_packed_run_len(&section, &run);
 }
 
 /* Writes what stays of a section: `linker_utils_pack_run`. */
-inline outcome pack_run(uint16_t machine, span<const uint8_t> section, uint64_t base,
-                        span<const linker_utils_item> items, span<const linker_utils_delta> lost,
-                        uint64_t start, relas<void> relocations, span<uint8_t> packed) noexcept {
+inline outcome pack_run(uint16_t machine, const linker_utils_section &section,
+                        const linker_utils_run &run, span<uint8_t> packed) noexcept {
     size_t faulty = no_index;
-    return {linker_utils_pack_run(machine, section.data(), section.size(), base, items.data(),
-                                  items.size(), lost.data(), lost.size(), start,
-                                  relocations.first, relocations.count, packed.data(),
-                                  packed.size(), &faulty), faulty};
+    return {linker_utils_pack_run(machine, &section, &run, packed.data(), packed.size(), &faulty),
+            faulty};
 }
 
 } // namespace linker_utils

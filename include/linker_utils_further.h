@@ -91,7 +91,7 @@ struct linker_utils_relocation_entry {
  * section's end is LINKER_UTILS_TOO_SHORT whatever the relocation's type, even if
  * LINKER_UTILS_UNKNOWN_RELOCATION or LINKER_UTILS_UNSUPPORTED applies too. */
 LINKER_UTILS_MUST_USE static inline uint32_t linker_utils_relocate_all(
-    uint16_t machine, uint8_t *section, size_t section_len,
+    uint16_t machine, const struct linker_utils_section *section,
     const struct linker_utils_relocation_entry *relocations, size_t relocations_len,
     size_t *faulty);
 
@@ -129,13 +129,13 @@ LINKER_UTILS_MUST_USE uint32_t linker_utils_row_needs(
 
 /* `linker_utils_choose`, of a type with a row. */
 LINKER_UTILS_MUST_USE static inline uint32_t linker_utils_row_choose(
-    uint32_t handle, const uint8_t *section, size_t section_len, uint64_t offset,
+    uint32_t handle, const struct linker_utils_section *section, uint64_t offset,
     const struct linker_utils_link_facts *facts, struct linker_utils_choice *choice);
 
 /* `linker_utils_relocation_fits`. False of a number that is no handle. */
-static inline bool linker_utils_row_fits(uint32_t handle, const uint8_t *section,
-                                         size_t section_len, uint64_t offset,
-                                         const struct linker_utils_link_facts *facts);
+static inline bool linker_utils_row_fits(
+    uint32_t handle, const struct linker_utils_section *section, uint64_t offset,
+    const struct linker_utils_link_facts *facts);
 
 /* What a relocation means and requires. */
 struct linker_utils_row {
@@ -289,86 +289,62 @@ LINKER_UTILS_MUST_USE static inline uint32_t linker_utils_address_section(
 LINKER_UTILS_MUST_USE uint32_t linker_utils_entry_relocation(
     uint16_t machine, uint32_t r_type, uint32_t *entry_type);
 
+/* A section of addresses of an object, and which of its words stay. */
+struct linker_utils_words {
+    uint64_t address; /* the section's */
+    const void *relocations; size_t relocations_len; /* as a section's, ascending by offset */
+    bool *kept; size_t kept_len; /* by relocation: whether its word stays */
+};
+
 /* Notes in `kept` which words of an object's section of addresses stay, by one of its sections of
  * code. A word stays where an instruction loads its address and can't compute it. It is none that
  * the rewrite is meant for, or the address may be of another file, isn't fixed or is out of reach.
- * So survey all sections of code of an object, once addresses are known, before one of them is
- * rewritten.
- *
- * `words` are the relocations of the section of addresses, as `Elf64_Rela`, ascending by offset.
- * `words_start` is its address. `kept` has an element for each of them, which is false at first.
- * What stays there already stays, and so does a word without an element. A relocation is of the
- * word at the address that it refers to, whichever its symbol. `symbols` and `values` are those of
- * `linker_utils_survey_placed_section`. Where an architecture has no such section nothing is noted.
- * It takes a search in log n steps for each load. LINKER_UTILS_UNKNOWN_ARCHITECTURE;
- * LINKER_UTILS_FACTS_CONTRADICT. */
+ * A relocation is of the word at the address that it refers to, whichever its symbol. Where an
+ * architecture has no such section nothing is noted. It takes a search in log n steps for each
+ * load. LINKER_UTILS_UNKNOWN_ARCHITECTURE; LINKER_UTILS_FACTS_CONTRADICT. */
 LINKER_UTILS_MUST_USE static inline uint32_t linker_utils_survey_address_loads(
-    uint16_t machine, const struct linker_utils_output_facts *output,
-    const struct linker_utils_symbol_facts *symbols, size_t symbols_len,
-    const struct linker_utils_addresses *addresses, const struct linker_utils_symbol *values,
-    size_t values_len, uint64_t words_start, const void *words, size_t words_len,
-    const void *relocations, size_t relocations_len, const uint8_t *section, size_t section_len,
-    bool *kept, size_t kept_len);
+    const struct linker_utils_link *link, const struct linker_utils_object *object,
+    const struct linker_utils_section *section, const struct linker_utils_words *words);
 
 /* Has the instructions of a section of code compute the addresses that they load from such words:
  * all that load a word, or none. Their relocations become those after it. The fate of these is
- * LINKER_UTILS_FATE_REDIRECTED: they get the symbol and the addend of the word's relocation. `kept`
- * is what `linker_utils_survey_address_loads` noted of all sections of code of the object, with the
- * same facts, addresses and words. Nothing is deleted. The statuses, and what an error leaves, are
- * those of `linker_utils_rewrite_section`; before LINKER_UTILS_SHORT_MEMORY comes
+ * LINKER_UTILS_FATE_REDIRECTED: they get the symbol and the addend of the word's relocation.
+ * Nothing is deleted. The statuses, and what an error leaves, are those of
+ * `linker_utils_rewrite_section`; before LINKER_UTILS_SHORT_MEMORY comes
  * LINKER_UTILS_FACTS_CONTRADICT, of the symbol `faulty`. */
 LINKER_UTILS_MUST_USE static inline uint32_t linker_utils_rewrite_address_loads(
-    uint16_t machine, const struct linker_utils_output_facts *output,
-    const struct linker_utils_symbol_facts *symbols, size_t symbols_len,
-    const struct linker_utils_addresses *addresses, const struct linker_utils_symbol *values,
-    size_t values_len, uint64_t words_start, const void *words, size_t words_len, const bool *kept,
-    size_t kept_len, void *relocations, size_t relocations_len, uint8_t *section,
-    size_t section_len, struct linker_utils_decision *decisions, size_t decisions_len,
-    size_t *faulty);
+    const struct linker_utils_link *link, const struct linker_utils_object *object,
+    const struct linker_utils_section *section, const struct linker_utils_words *words,
+    const struct linker_utils_rewritten *rewritten, size_t *faulty);
 
-/* Notes in `kept` which symbols of an object keep the high parts of their address, by one of its
- * sections of code. RISC-V's `lui` and `auipc` aren't needed where an address is within 2 KiB of
- * the global pointer, from 2,048 below it to 2,047 above it, or of 0. Each low part then takes x3
- * or x0 as its base (psABI, "Global-pointer Relaxation" and "Zero-page Relaxation"). A symbol stays
- * where a relocation of its high or low parts isn't marked by R_RISCV_RELAX, isn't in reach, or
- * isn't of such an instruction. All stay in an output that isn't an executable with a fixed
- * address, and those of a section whose relocations don't ascend by offset.
+/* Notes in `kept_high_parts` which symbols of an object keep the high parts of their address, by
+ * one of its sections of code. RISC-V's `lui` and `auipc` aren't needed where an address is within
+ * 2 KiB of the global pointer, from 2,048 below it to 2,047 above it, or of 0. Each low part then
+ * takes x3 or x0 as its base (psABI, "Global-pointer Relaxation" and "Zero-page Relaxation"). A
+ * symbol stays where a relocation of its high or low parts isn't marked by R_RISCV_RELAX, isn't in
+ * reach, or isn't of such an instruction. All stay in an output that isn't an executable with a
+ * fixed address, and those of a section whose relocations don't ascend by offset.
  *
- * So survey all sections of code of an object, once addresses are known and before code gets
- * shorter, and before one of them is rewritten. `global_pointer` is the address of
- * `__global_pointer$`. `symbols` and `values` are those of `linker_utils_survey_placed_section`.
- * `kept` has an element for each symbol, which is false at first; what stays there already stays,
- * and so does a symbol without an element. For other machines nothing is noted.
- * LINKER_UTILS_UNKNOWN_ARCHITECTURE; LINKER_UTILS_FACTS_CONTRADICT. */
+ * Survey once addresses are known, and before code gets shorter. For other machines nothing is
+ * noted. LINKER_UTILS_UNKNOWN_ARCHITECTURE; LINKER_UTILS_FACTS_CONTRADICT. */
 LINKER_UTILS_MUST_USE static inline uint32_t linker_utils_survey_global_pointer(
-    uint16_t machine, const struct linker_utils_output_facts *output,
-    const struct linker_utils_symbol_facts *symbols, size_t symbols_len,
-    const struct linker_utils_addresses *addresses, const struct linker_utils_symbol *values,
-    size_t values_len, uint64_t global_pointer, const void *relocations, size_t relocations_len,
-    const uint8_t *section, size_t section_len, bool *kept, size_t kept_len);
+    const struct linker_utils_link *link, const struct linker_utils_object *object,
+    const struct linker_utils_section *section);
 
-/* Has the high parts go of the symbols that don't stay by `kept`, which
- * `linker_utils_survey_global_pointer` noted of all sections of code of the object with the same
- * facts and addresses. The bytes stay until what is listed in `deleted` is deleted, as for
- * `linker_utils_rewritten_items`. The relocation of a high part gets the type 0. That of a low part
- * gets the symbol and the addend of the address. Its type becomes 47 or 48, which `elf.h` names
- * R_RISCV_GPREL_I and R_RISCV_GPREL_S. No other call takes these: each requires
- * `linker_utils_from_global_pointer`.
+/* Has the high parts go of the symbols that don't stay by `kept_high_parts`. The bytes stay until
+ * what is listed in `deleted` is deleted, as for `linker_utils_rewritten_items`. The relocation of
+ * a high part gets the type 0. That of a low part gets the symbol and the addend of the address.
+ * Its type becomes 47 or 48, which `elf.h` names R_RISCV_GPREL_I and R_RISCV_GPREL_S. No other call
+ * takes these: each requires `linker_utils_from_global_pointer`.
  *
  * It may only be called where x3 is `global_pointer` wherever this code runs, and never changes.
- * What sets x3 has to be without marks, as the C libraries have it. `decisions` needs an element
- * for each relocation, and `deleted` one for each high part. The statuses, and what an error
- * leaves, are those of `linker_utils_rewrite_placed_section`. LINKER_UTILS_OVERLAPS is returned
- * where two instructions that go or get another base share a byte, or a relocation's field has a
- * byte of one that goes. */
+ * What sets x3 has to be without marks, as the C libraries have it. `deleted` needs an element for
+ * each high part. The statuses, and what an error leaves, are those of
+ * `linker_utils_rewrite_placed_section`. LINKER_UTILS_OVERLAPS is returned where two instructions
+ * that go or get another base share a byte, or a relocation's field has a byte of one that goes. */
 LINKER_UTILS_MUST_USE static inline uint32_t linker_utils_rewrite_global_pointer(
-    uint16_t machine, const struct linker_utils_output_facts *output,
-    const struct linker_utils_symbol_facts *symbols, size_t symbols_len,
-    const struct linker_utils_addresses *addresses, const struct linker_utils_symbol *values,
-    size_t values_len, uint64_t global_pointer, const bool *kept, size_t kept_len,
-    void *relocations, size_t relocations_len, const uint8_t *section, size_t section_len,
-    struct linker_utils_decision *decisions, size_t decisions_len,
-    struct linker_utils_deletion *deleted, size_t deleted_len, size_t *deleted_used,
+    const struct linker_utils_link *link, const struct linker_utils_object *object,
+    const struct linker_utils_section *section, struct linker_utils_rewritten *rewritten,
     size_t *faulty);
 
 /* Writes the base of each low part that `linker_utils_rewrite_global_pointer` left without one,
@@ -379,9 +355,8 @@ LINKER_UTILS_MUST_USE static inline uint32_t linker_utils_rewrite_global_pointer
  * the section: then nothing changes. It never comes where the symbol and the global pointer are in
  * one run (`linker_utils_relax`), since no distance gets longer there. */
 LINKER_UTILS_MUST_USE static inline uint32_t linker_utils_from_global_pointer(
-    const struct linker_utils_addresses *addresses, const struct linker_utils_symbol *values,
-    size_t values_len, uint64_t global_pointer, void *relocations, size_t relocations_len,
-    uint8_t *section, size_t section_len, size_t *faulty);
+    const struct linker_utils_link *link, const struct linker_utils_object *object,
+    const struct linker_utils_section *section, size_t *faulty);
 
 /* A symbol that a linker defines if an object refers to it. */
 struct linker_utils_provided_symbol {
@@ -501,8 +476,7 @@ struct linker_utils_route {
     uint8_t is_by_stub; /* 0: it goes directly, and all others are 0 */
 };
 
-/* How the branch of the relocation at an index goes to its symbol, into `route`, by what
- * `linker_utils_relocate_section` takes.
+/* How the branch of the relocation at an index goes to its symbol, into `route`.
  * - Directly, where its value can be written, and on PowerPC64 the TOC pointer is as the function
  *   and the caller expect. It goes to the symbol's `stub`, if that isn't 0, else to the symbol, on
  *   PowerPC64 to its local entry point.
@@ -521,17 +495,16 @@ struct linker_utils_route {
  * LINKER_UTILS_NO_ROOM; and where it can't be written, and no stub may serve it, the status of
  * `linker_utils_relocate`. */
 LINKER_UTILS_MUST_USE static inline uint32_t linker_utils_route_at(
-    uint16_t machine, const struct linker_utils_addresses *addresses, const void *relocations,
-    size_t relocations_len, const struct linker_utils_symbol *symbols, size_t symbols_len,
-    size_t index, const uint8_t *section, size_t section_len, struct linker_utils_route *route);
+    const struct linker_utils_link *link, const struct linker_utils_object *object,
+    const struct linker_utils_section *section, size_t index, struct linker_utils_route *route);
 
 /* How the branch of the relocation at an index goes to the function whose address the word at an
  * address has. It goes by a stub of the kind LINKER_UTILS_STUB_LOAD, which at R_PPC64_REL24 stores
  * the TOC pointer. LINKER_UTILS_TOO_SHORT where there is no relocation at the index;
  * LINKER_UTILS_NOT_A_BRANCH; LINKER_UTILS_NO_ROOM. */
 LINKER_UTILS_MUST_USE static inline uint32_t linker_utils_route_by_word(
-    uint16_t machine, uint64_t word, const void *relocations, size_t relocations_len, size_t index,
-    const uint8_t *section, size_t section_len, struct linker_utils_route *route);
+    uint16_t machine, uint64_t word, const struct linker_utils_section *section, size_t index,
+    struct linker_utils_route *route);
 
 /* ---- Places of stubs between sections, so that each branch reaches its target or a stub of it. */
 
@@ -552,6 +525,14 @@ struct linker_utils_stub_shape {
     uint64_t max_forward;  /* the target lies less than so many bytes above the stub */
 };
 
+/* The branches, and where stubs may be. Offsets are those of a run of sections, or their addresses
+ * before there are stubs. What is at a boundary is after its stubs. */
+struct linker_utils_branches {
+    const struct linker_utils_branch *branches; size_t branches_len;
+    const uint64_t *targets; size_t targets_len; /* the offset of each */
+    const uint64_t *boundaries; size_t boundaries_len; /* between sections, ascending */
+};
+
 /* A stub that is placed. */
 struct linker_utils_placed_stub {
     uint64_t place;  /* where it is, with the stubs before it */
@@ -559,37 +540,36 @@ struct linker_utils_placed_stub {
     size_t target;   /* the index of its target */
 };
 
+/* The stubs, and what becomes of branches and boundaries. */
+struct linker_utils_placement {
+    /* The first `stubs_used` elements, of at least `linker_utils_most_stubs`. */
+    struct linker_utils_placed_stub *stubs; size_t stubs_len;
+    size_t stubs_used;
+    size_t *ways; size_t ways_len; /* of each branch its stub's index, or SIZE_MAX for its target */
+    /* For each boundary how many bytes of stubs are before those at it, and then how many in all.
+     * What was at an offset is so much higher as this says for the first boundary above it. */
+    uint64_t *before; size_t before_len;
+};
+
 /* How many stubs there are at most for so many branches: two for each. */
 size_t linker_utils_most_stubs(size_t branches_len);
 
-/* Places stubs at boundaries between sections. Offsets are those of a run of sections, or their
- * addresses before there are stubs. Boundaries ascend, and what has the offset of one is after its
- * stubs. Where the offsets of branches ascend, more of them share a stub. It writes
- * - to the beginning of `stubs` the stubs, and to `stubs_used` how many there are;
- * - to `ways` for each branch the index of the stub that it goes by, or SIZE_MAX if it goes to its
- *   target;
- * - to `before` for each boundary how many bytes of stubs are before those at it, and after these
- *   how many there are in all. What was at an offset is so much higher as `before` says for the
- *   first boundary above it.
- * Each stub has a branch that goes by it. At a boundary a target has at most three: one next to
- * branches before it, one next to branches after it, and one of branches farther away.
+/* Places stubs at boundaries between sections. Where the offsets of branches ascend, more of them
+ * share a stub. Each stub has a branch that goes by it. At a boundary a target has at most three:
+ * one next to branches before it, one next to branches after it, and one of branches farther away.
  * With any status but LINKER_UTILS_OK only `faulty` is written, and only where it says so.
  *
- * The first that applies of these, with the first index of it:
- * LINKER_UTILS_DIFFERENT_LENGTHS where `ways_len` isn't `branches_len`, or `before_len` isn't
- * `boundaries_len` + 1; LINKER_UTILS_SHORT_MEMORY where `stubs_len` is below
- * `linker_utils_most_stubs(branches_len)`; LINKER_UTILS_STUB_WITHOUT_LENGTH;
- * LINKER_UTILS_NOT_ASCENDING, where the boundary after the one at the index `faulty` is below it;
- * LINKER_UTILS_NO_TARGET, of the branch at `faulty`; LINKER_UTILS_CODE_TOO_LONG;
- * LINKER_UTILS_OUT_OF_MEMORY; LINKER_UTILS_NO_BOUNDARY, of the branch at `faulty`;
- * LINKER_UTILS_STUB_TOO_FAR, of the target at `faulty`. A few passes of O((n + s) log b) for n
- * branches, s stubs and b boundaries. It allocates. */
+ * The first that applies of these, with the first index of it: LINKER_UTILS_DIFFERENT_LENGTHS where
+ * `ways_len` isn't `branches_len`, or `before_len` isn't `boundaries_len` + 1;
+ * LINKER_UTILS_SHORT_MEMORY where `stubs_len` is below `linker_utils_most_stubs(branches_len)`;
+ * LINKER_UTILS_STUB_WITHOUT_LENGTH; LINKER_UTILS_NOT_ASCENDING, where the boundary after the one at
+ * the index `faulty` is below it; LINKER_UTILS_NO_TARGET, of the branch at `faulty`;
+ * LINKER_UTILS_CODE_TOO_LONG; LINKER_UTILS_OUT_OF_MEMORY; LINKER_UTILS_NO_BOUNDARY, of the branch
+ * at `faulty`; LINKER_UTILS_STUB_TOO_FAR, of the target at `faulty`. A few passes of O((n + s) log
+ * b) for n branches, s stubs and b boundaries. It allocates. */
 LINKER_UTILS_MUST_USE static inline uint32_t linker_utils_place_stubs(
-    const struct linker_utils_branch *branches, size_t branches_len, const uint64_t *targets,
-    size_t targets_len, const uint64_t *boundaries, size_t boundaries_len,
-    const struct linker_utils_stub_shape *shape, struct linker_utils_placed_stub *stubs,
-    size_t stubs_len, size_t *stubs_used, size_t *ways, size_t ways_len, uint64_t *before,
-    size_t before_len, size_t *faulty);
+    const struct linker_utils_branches *branches, const struct linker_utils_stub_shape *shape,
+    struct linker_utils_placement *placement, size_t *faulty);
 
 /* ---- Calls on PowerPC64 (64-bit ELF V2 ABI for Power, "Function Call Linkage Protocols" and
  * "Symbol Values").
@@ -686,8 +666,8 @@ static inline uint32_t linker_utils_forms_of(uint16_t machine, const uint8_t *by
  * It does not test whether the instruction is one that the rewrite is meant for:
  * `linker_utils_matches` does. */
 LINKER_UTILS_MUST_USE static inline uint32_t linker_utils_can_apply(
-    uint16_t machine, uint32_t rewrite, uint8_t opcode_len, const uint8_t *section,
-    size_t section_len, uint64_t offset);
+    uint16_t machine, uint32_t rewrite, uint8_t opcode_len,
+    const struct linker_utils_section *section, uint64_t offset);
 
 /* Whether a choice at the relocation of type `r_type` leaves both as they are: the rewrite is
  * NO_OP, and the relocation after it has the same type. The choice of another instruction may still
@@ -715,22 +695,21 @@ LINKER_UTILS_MUST_USE uint32_t linker_utils_next_modifier(
 
 /* ---- Kept facts: values that are written only where choices of rewrites would read the same. */
 
-/* What choices read of a symbol and of the output; 0 where nothing is kept. An object has an array
- * of these by the indexes that its relocations name. */
+/* What choices read of a symbol and of the output; 0 where nothing is kept. */
 struct linker_utils_kept_facts {
     uint16_t bits;
 };
 
-/* Keeps what choices read of the output and of each symbol of an object. A linker calls it with the
- * facts that it passes to `linker_utils_survey` and `linker_utils_rewrite_section`.
- * LINKER_UTILS_DIFFERENT_LENGTHS where `kept_len` isn't `symbols_len`: nothing is written then. */
+/* Keeps in `kept_facts` what choices read of the output and of each symbol of an object. A linker
+ * calls it with the facts that it passes to `linker_utils_survey` and
+ * `linker_utils_rewrite_section`. LINKER_UTILS_DIFFERENT_LENGTHS where `kept_facts_len` isn't
+ * `facts_len`: nothing is written then. */
 LINKER_UTILS_MUST_USE static inline uint32_t linker_utils_keep_facts(
-    const struct linker_utils_output_facts *output, const struct linker_utils_symbol_facts *symbols,
-    size_t symbols_len, struct linker_utils_kept_facts *kept, size_t kept_len);
+    const struct linker_utils_link *link, const struct linker_utils_object *object);
 
 /* Writes the values of a section whose instructions were rewritten, as
- * `linker_utils_relocate_section`, or none of them. `output` and `facts` are those that hold now,
- * and `kept` those of `linker_utils_keep_facts` when rewrites were chosen. So a symbol that was
+ * `linker_utils_relocate_section`, or none of them. The facts are those that hold now, and
+ * `kept_facts` those of `linker_utils_keep_facts` when rewrites were chosen. So a symbol that was
  * local then, and isn't any more, doesn't get code that bypasses its entry of the GOT.
  *
  * LINKER_UTILS_UNKNOWN_ARCHITECTURE; LINKER_UTILS_SHORT_MEMORY; LINKER_UTILS_FACTS_CONTRADICT, and
@@ -739,12 +718,9 @@ LINKER_UTILS_MUST_USE static inline uint32_t linker_utils_keep_facts(
  * R_PPC64_REL24 of a symbol of another file without a stub; else the statuses of
  * `linker_utils_relocate_section`. The section is unchanged with each of them. */
 LINKER_UTILS_MUST_USE static inline uint32_t linker_utils_relocate_rewritten_section(
-    uint16_t machine, const struct linker_utils_output_facts *output,
-    const struct linker_utils_symbol_facts *facts, size_t facts_len,
-    const struct linker_utils_kept_facts *kept, size_t kept_len,
-    const struct linker_utils_addresses *addresses, const void *relocations, size_t relocations_len,
-    const struct linker_utils_symbol *symbols, size_t symbols_len, uint8_t *section,
-    size_t section_len, uint64_t *memory, size_t memory_len, size_t *faulty);
+    const struct linker_utils_link *link, const struct linker_utils_object *object,
+    const struct linker_utils_section *section, uint64_t *memory, size_t memory_len,
+    size_t *faulty);
 
 /* ---- Sequences of instructions. */
 
@@ -849,6 +825,12 @@ LINKER_UTILS_MUST_USE static inline uint32_t linker_utils_deletions_mergeable(
     const struct linker_utils_delta *deltas, size_t deltas_len,
     const struct linker_utils_deletion *additional, size_t additional_len);
 
+/* Further deletions, and room for the deltas of these and of the old ones. */
+struct linker_utils_merge {
+    const struct linker_utils_deletion *additional; size_t additional_len;
+    struct linker_utils_delta *merged; size_t merged_len;
+};
+
 /* Writes the deltas of the old and the additional deletions, sorted, one for each.
  * LINKER_UTILS_DIFFERENT_LENGTHS where `merged_len` is not the count of both.
  * LINKER_UTILS_INVALID_DELETIONS where the deltas list no valid deletions, and `faulty` is the
@@ -861,15 +843,20 @@ LINKER_UTILS_MUST_USE static inline uint32_t linker_utils_deletions_mergeable(
  * allocation fails, those deletions are tested as linker_utils_deletions_mergeable tests them. */
 LINKER_UTILS_MUST_USE static inline uint32_t linker_utils_deltas_merge(
     const struct linker_utils_delta *deltas, size_t deltas_len,
-    const struct linker_utils_deletion *additional, size_t additional_len,
-    struct linker_utils_delta *merged, size_t merged_len, size_t *faulty);
+    const struct linker_utils_merge *merge, size_t *faulty);
+
+/* Input offsets, and room for an output offset of each. */
+struct linker_utils_translation {
+    const uint64_t *queries; size_t queries_len;
+    uint64_t *outputs; size_t outputs_len;
+};
 
 /* The output offset of each of the queries, which may not decrease, in one walk through the deltas:
  * O(n + q). LINKER_UTILS_DIFFERENT_LENGTHS. LINKER_UTILS_NOT_ASCENDING, and `faulty` is the first
  * query that is less than the one before it. */
 LINKER_UTILS_MUST_USE static inline uint32_t linker_utils_deltas_translate_all(
-    const struct linker_utils_delta *deltas, size_t deltas_len, const uint64_t *queries,
-    size_t queries_len, uint64_t *outputs, size_t outputs_len, size_t *faulty);
+    const struct linker_utils_delta *deltas, size_t deltas_len,
+    const struct linker_utils_translation *translation, size_t *faulty);
 
 /* ---- Heads: searches among many deltas are faster with the heads of their blocks, an array in
  * addition to the deltas. Each call is defined for any heads. Its result is specified for those
@@ -912,7 +899,7 @@ LINKER_UTILS_MUST_USE static inline uint32_t linker_utils_deltas_output_to_input
  * `auipc`'s destination register. LINKER_UTILS_OUT_OF_SECTION, LINKER_UTILS_ODD_DISTANCE,
  * LINKER_UTILS_TOO_FAR. */
 LINKER_UTILS_MUST_USE static inline uint32_t linker_utils_jal_site(
-    uint8_t *section, size_t section_len, uint64_t site, int64_t distance);
+    const struct linker_utils_section *section, uint64_t site, int64_t distance);
 
 /* Replaces the call at a site of a section by a `jal` over a distance in bytes, which links the
  * register that `link` chooses of `enum linker_utils_link_register`. The `jalr`'s is right for
@@ -922,21 +909,21 @@ LINKER_UTILS_MUST_USE static inline uint32_t linker_utils_jal_site(
  * eight bytes are not in the section. LINKER_UTILS_NOT_A_CALL, LINKER_UTILS_ODD_DISTANCE,
  * LINKER_UTILS_TOO_FAR. */
 LINKER_UTILS_MUST_USE static inline uint32_t linker_utils_jal_site_with(
-    uint8_t *section, size_t section_len, uint64_t site, int64_t distance, uint32_t link);
+    const struct linker_utils_section *section, uint64_t site, int64_t distance, uint32_t link);
 
 /* As `linker_utils_jal_site`, in a section from which no byte has been removed yet: the distance is
  * that from the site's output offset to the target's. The target may be the section's end. A target
  * inside a deletion counts as what follows the deletion. LINKER_UTILS_OUT_OF_SECTION,
  * LINKER_UTILS_SITE_DELETED, LINKER_UTILS_ODD_DISTANCE, LINKER_UTILS_TOO_FAR. */
 LINKER_UTILS_MUST_USE static inline uint32_t linker_utils_relax_call(
-    uint8_t *section, size_t section_len, const struct linker_utils_delta *deltas,
+    const struct linker_utils_section *section, const struct linker_utils_delta *deltas,
     size_t deltas_len, uint64_t site, uint64_t target);
 
 /* Whether the instructions at the site are `auipc` and `jalr` with one register as both
  * destinations and as the source of the `jalr`. Then a jump that links the `auipc`'s register links
  * the same one as the call. */
-static inline bool linker_utils_is_plain_call(const uint8_t *section, size_t section_len,
-                                              uint64_t site);
+static inline bool linker_utils_is_plain_call(
+    const struct linker_utils_section *section, uint64_t site);
 
 /* Whether a distance in bytes is from -1048576 to 1048575. */
 bool linker_utils_distance_fits_jal(int64_t distance);
@@ -959,24 +946,29 @@ struct linker_utils_call {
     uint64_t target;
 };
 
+/* Calls of a section, and what is deleted of it. */
+struct linker_utils_calls {
+    const struct linker_utils_call *calls; size_t calls_len;
+    const struct linker_utils_delta *deltas; size_t deltas_len;
+    uint32_t link; /* for `linker_utils_pack`, by `enum linker_utils_link_register` */
+};
+
 /* How many bytes of a section are kept: as many as `linker_utils_pack` writes. */
-static inline size_t linker_utils_packed_len(const uint8_t *section, size_t section_len,
-                                             const struct linker_utils_delta *deltas,
-                                             size_t deltas_len);
+static inline size_t linker_utils_packed_len(
+    const struct linker_utils_section *section, const struct linker_utils_delta *deltas,
+    size_t deltas_len);
 
 /* Writes the kept bytes of a section, in order. At each call's site a `jal` to the target's output
- * offset is written in place of the `auipc`. It links the register that `link` names, by `enum
- * linker_utils_link_register`. A deletion that reaches past the section's end deletes up to there.
- * LINKER_UTILS_UNKNOWN_LINK_REGISTER. LINKER_UTILS_CALLS_NOT_APART, and `faulty` is the first call
- * whose site is less than 4 above that of the one before it. LINKER_UTILS_DIFFERENT_LENGTHS where
- * `packed_len` is not `linker_utils_packed_len`. If a call can't become a jump, `faulty` is the
- * first such call, and the status is that of its cause: LINKER_UTILS_OUT_OF_SECTION, as
- * `linker_utils_jal_site_with`, also where the target is past the section's end;
- * LINKER_UTILS_SITE_DELETED, for the four bytes at the site; LINKER_UTILS_NOT_A_CALL,
- * LINKER_UTILS_ODD_DISTANCE, LINKER_UTILS_TOO_FAR. */
+ * offset is written in place of the `auipc`. It links the register that `link` names. A deletion
+ * that reaches past the section's end deletes up to there. LINKER_UTILS_UNKNOWN_LINK_REGISTER.
+ * LINKER_UTILS_CALLS_NOT_APART, and `faulty` is the first call whose site is less than 4 above that
+ * of the one before it. LINKER_UTILS_DIFFERENT_LENGTHS where `packed_len` is not
+ * `linker_utils_packed_len`. If a call can't become a jump, `faulty` is the first such call, and
+ * the status is that of its cause: LINKER_UTILS_OUT_OF_SECTION, as `linker_utils_jal_site_with`,
+ * also where the target is past the section's end; LINKER_UTILS_SITE_DELETED, for the four bytes at
+ * the site; LINKER_UTILS_NOT_A_CALL, LINKER_UTILS_ODD_DISTANCE, LINKER_UTILS_TOO_FAR. */
 LINKER_UTILS_MUST_USE static inline uint32_t linker_utils_pack(
-    const uint8_t *section, size_t section_len, const struct linker_utils_delta *deltas,
-    size_t deltas_len, const struct linker_utils_call *calls, size_t calls_len, uint32_t link,
+    const struct linker_utils_section *section, const struct linker_utils_calls *calls,
     uint8_t *packed, size_t packed_len, size_t *faulty);
 
 /* ---- Shrinking: which calls can become jumps at once, each without the four bytes after its first
@@ -987,8 +979,7 @@ LINKER_UTILS_MUST_USE static inline uint32_t linker_utils_pack(
  * is strictly inside one of them. LINKER_UTILS_CALLS_NOT_SHRINKABLE, and `faulty` is the first call
  * that isn't accepted together with those before it. */
 LINKER_UTILS_MUST_USE static inline uint32_t linker_utils_calls_shrinkable(
-    const struct linker_utils_delta *deltas, size_t deltas_len,
-    const struct linker_utils_call *calls, size_t calls_len, size_t *faulty);
+    const struct linker_utils_calls *calls, size_t *faulty);
 
 /* Writes 1 for each call that is chosen, and 0 for the others. The four bytes (site + 4, 4) of each
  * call of a choice are deleted. It is in reach if then the distance of each from its site to its
@@ -1000,11 +991,10 @@ LINKER_UTILS_MUST_USE static inline uint32_t linker_utils_calls_shrinkable(
  * LINKER_UTILS_CALLS_NOT_SHRINKABLE as `linker_utils_calls_shrinkable`. It takes 9 KiB of the
  * stack. For k calls and n deltas a test of a call takes O(log n + log k + k / 1024). All calls are
  * tested, up and down in turn, until none is dropped. Calls that turn around n times, each in reach
- * only with the one before, may be tested n times. `linker_utils_relax` is the call for a linker. */
+ * only with the one before, may be tested n times. `linker_utils_relax` is the call for a
+ * linker. */
 LINKER_UTILS_MUST_USE static inline uint32_t linker_utils_shrink_calls(
-    const struct linker_utils_delta *deltas, size_t deltas_len,
-    const struct linker_utils_call *calls, size_t calls_len, uint8_t *chosen, size_t chosen_len,
-    size_t *faulty);
+    const struct linker_utils_calls *calls, uint8_t *chosen, size_t chosen_len, size_t *faulty);
 
 /* ---- Relaxing: what a whole run of code becomes, with alignments between its instructions.
  *
@@ -1013,7 +1003,8 @@ LINKER_UTILS_MUST_USE static inline uint32_t linker_utils_shrink_calls(
  * reach their target, and alignments, which are nops. What lies between two sections can be an
  * alignment whose nops no file has. Before a section that is aligned to n, a multiple of the run's
  * granularity, it may have the nops up to the next multiple of n and n more. Deletions that are
- * decided already are sites with one shape. */
+ * decided already are sites with one shape. LINKER_UTILS_UNKNOWN_ARCHITECTURE of other machines than
+ * LINKER_UTILS_RISCV and LINKER_UTILS_LOONGARCH64. */
 
 /* A form of a site's instructions. It reaches a target at an output offset that lies at most
  * `max_backward` below its own, or less than `max_forward` above it, or at it. The distance is a
@@ -1052,6 +1043,21 @@ struct linker_utils_item {
     struct linker_utils_shapes shapes; /* of a site: what it can become */
 };
 
+/* A run, or of `linker_utils_pack_run` what lies in one section of it. */
+struct linker_utils_run {
+    uint64_t start; /* the run's address */
+    const struct linker_utils_item *items; size_t items_len;
+    const struct linker_utils_delta *deltas; size_t deltas_len; /* what the run loses */
+};
+
+/* What relaxing a run chooses, for each item. */
+struct linker_utils_relaxed {
+    uint8_t *shapes; size_t shapes_len; /* the index of a site's shape */
+    uint64_t *kept; size_t kept_len; /* how many of the item's bytes stay, from the first one on */
+    uint64_t *freed; size_t freed_len; /* how many bytes those before it lose, and last all */
+    size_t *places; size_t places_len; /* room for the work */
+};
+
 /* A relocation of a section, and what it refers to in a run. */
 struct linker_utils_rela {
     uint64_t offset; /* r_offset, in the section */
@@ -1068,9 +1074,16 @@ struct linker_utils_rela {
                              An output's `e_flags` say nothing of it */
 };
 
-/* Writes the items that the relocations of a section of RISC-V or LoongArch make, in their order,
- * and to `makers` the index of the relocation that makes each. The section begins at the input
- * offset `base` of the run. The other relocations make none.
+/* The items of a section. */
+struct linker_utils_items {
+    /* The first `items_used` elements of both; further ones are unchanged. */
+    struct linker_utils_item *items; size_t items_len;
+    size_t *makers; size_t makers_len; /* the index of the relocation that makes the item */
+    size_t items_used;
+};
+
+/* Writes the items that the relocations of a section of RISC-V or LoongArch make, in their order.
+ * The other relocations make none.
  *
  * RISC-V: R_RISCV_CALL and R_RISCV_CALL_PLT make a site where R_RISCV_RELAX is the next relocation,
  * at the same offset, and the target is in the run. The bytes have to be an auipc and a jalr of one
@@ -1087,32 +1100,28 @@ struct linker_utils_rela {
  * if the bytes are a pcaddu18i and a jirl of one register that links ra or none. R_LARCH_PCALA_HI20
  * makes one if R_LARCH_PCALA_LO12 of the next instruction comes after its R_LARCH_RELAX, with the
  * same target and an R_LARCH_RELAX too. The bytes have to be a pcalau12i and an addi.d of one
- * register.
- * R_LARCH_ALIGN makes an alignment, unless there are no nops. Without a symbol its addend is how
- * many bytes of nops there are, and they align to the next power of two above it. With a symbol the
- * lowest 8 bits of the addend are the exponent of two of what they align to, 4 bytes more than the
- * nops. The others are its limit: how many bytes of nops may stay. Without a symbol, and where
- * these are 0 or no fewer than the nops, the alignment has no limit.
+ * register. R_LARCH_ALIGN makes an alignment, unless there are no nops. Without a symbol its addend
+ * is how many bytes of nops there are, and they align to the next power of two above it. With a
+ * symbol the lowest 8 bits of the addend are the exponent of two of what they align to, 4 bytes
+ * more than the nops. The others are its limit: how many bytes of nops may stay. Without a symbol,
+ * and where these are 0 or no fewer than the nops, the alignment has no limit.
  *
  * `items_len` and `makers_len` are `relocations_len`, since a relocation makes at most one item.
- * `len` is how many items there are; the elements from there on are unchanged.
- * LINKER_UTILS_UNKNOWN_ARCHITECTURE for other machines. LINKER_UTILS_DIFFERENT_LENGTHS.
- * LINKER_UTILS_ENDS_TOO_HIGH where `base` and `section_len` add up to 2^64 or more.
- * LINKER_UTILS_MALFORMED_RELOCATION, and `faulty` is the first malformed one. It lies after the
- * section's end, or is a call's (of LoongArch's an R_LARCH_CALL36) with less than eight bytes
- * there. Or it is an R_RISCV_ALIGN whose addend isn't a multiple of 2 from 0 up, below 2^32, of
- * bytes in the section. Or it is an R_LARCH_ALIGN whose addend is below 0 or whose exponent is
- * below 2 or above 32. It also is one whose nops aren't a multiple of 4, reach past the section's
- * end or have 2^32 bytes or more. */
+ * LINKER_UTILS_UNKNOWN_ARCHITECTURE; LINKER_UTILS_DIFFERENT_LENGTHS; LINKER_UTILS_ENDS_TOO_HIGH
+ * where `base` and `bytes_len` add up to 2^64 or more. LINKER_UTILS_MALFORMED_RELOCATION, and
+ * `faulty` is the first malformed one. It lies after the section's end, or is a call's (of
+ * LoongArch's an R_LARCH_CALL36) with less than eight bytes there. Or it is an R_RISCV_ALIGN whose
+ * addend isn't a multiple of 2 from 0 up, below 2^32, of bytes in the section. Or it is an
+ * R_LARCH_ALIGN whose addend is below 0 or whose exponent is below 2 or above 32. It also is one
+ * whose nops aren't a multiple of 4, reach past the section's end or have 2^32 bytes or more. */
 LINKER_UTILS_MUST_USE static inline uint32_t linker_utils_section_items(
-    uint16_t machine, const uint8_t *section, size_t section_len, uint64_t base,
+    uint16_t machine, const struct linker_utils_section *section,
     const struct linker_utils_rela *relocations, size_t relocations_len,
-    struct linker_utils_item *items, size_t items_len, size_t *makers, size_t makers_len,
-    size_t *len, size_t *faulty);
+    struct linker_utils_items *items, size_t *faulty);
 
 /* Writes the items of a section that `linker_utils_rewrite_section` and
  * `linker_utils_rewrite_placed_section` rewrote. They are those that its relocations make, as
- * `linker_utils_section_items` does, and what `deleted` lists, as the latter call wrote it. The
+ * `linker_utils_section_items` does, and what its `deleted` lists, as the latter call wrote it. The
  * section's bytes and relocations are as these left them: deleted bytes are still there, and a
  * relocation of type 0 makes no item. A deletion is a site with one shape, of no bytes. So
  * `linker_utils_relax` counts distances over it, `linker_utils_run_deltas` lists it, and
@@ -1120,8 +1129,7 @@ LINKER_UTILS_MUST_USE static inline uint32_t linker_utils_section_items(
  *
  * The items ascend, and none begins below the end of the one before it. `makers` has for each item
  * the index of its relocation, or `relocations_len` and the index of its deletion. `items_len` and
- * `makers_len` are `relocations_len` and `deleted_len` together. `len` is how many items there are;
- * the elements from there on are unchanged.
+ * `makers_len` are `relocations_len` and `deleted_len` together.
  *
  * LINKER_UTILS_UNKNOWN_ARCHITECTURE, LINKER_UTILS_DIFFERENT_LENGTHS, LINKER_UTILS_ENDS_TOO_HIGH and
  * LINKER_UTILS_MALFORMED_RELOCATION as above. LINKER_UTILS_INVALID_DELETIONS, and `faulty` is the
@@ -1131,20 +1139,18 @@ LINKER_UTILS_MUST_USE static inline uint32_t linker_utils_section_items(
  * have then isn't specified. A target inside deleted bytes is no error here, but
  * LINKER_UTILS_TARGET_INSIDE of `linker_utils_relax`. */
 LINKER_UTILS_MUST_USE static inline uint32_t linker_utils_rewritten_items(
-    uint16_t machine, const uint8_t *section, size_t section_len, uint64_t base,
+    uint16_t machine, const struct linker_utils_section *section,
     const struct linker_utils_rela *relocations, size_t relocations_len,
-    const struct linker_utils_deletion *deleted, size_t deleted_len,
-    struct linker_utils_item *items, size_t items_len, size_t *makers, size_t makers_len,
-    size_t *len, size_t *faulty);
+    struct linker_utils_items *items, size_t *faulty);
 
-/* Whether `linker_utils_relax` accepts the items of a run whose address is `start`: the statuses
- * from LINKER_UTILS_ITEMS_OVERLAP on say what is required of them. The run's granularity is the
- * greatest of its short shapes, and 1 where there are none.
+/* Whether `linker_utils_relax` accepts the items of a run: the statuses from
+ * LINKER_UTILS_ITEMS_OVERLAP on say what is required of them. The run's granularity is the greatest
+ * of its short shapes, and 1 where there are none.
  *
  * The status is the first fault of the first faulty item, which is `faulty`, in the order of these
  * statuses: LINKER_UTILS_MISALIGNED is after LINKER_UTILS_UNEVEN_SHAPE, and
- * LINKER_UTILS_MAY_BE_MISALIGNED the last. Those from LINKER_UTILS_UNEVEN_SHAPE on are returned only
- * where no item has one of those before. O(n log n) for n items.
+ * LINKER_UTILS_MAY_BE_MISALIGNED the last. Those from LINKER_UTILS_UNEVEN_SHAPE on are returned
+ * only where no item has one of those before. O(n log n) for n items.
  *
  * LINKER_UTILS_MISALIGNED: an R_LARCH_CALL36, with its shapes, whose target is not a multiple of 4
  * bytes away.
@@ -1159,7 +1165,7 @@ LINKER_UTILS_MUST_USE static inline uint32_t linker_utils_rewritten_items(
  * nops are the same in every layout. It has no limit, divides the granularity, and has exactly the
  * nops that its input address needs, or a multiple of the granularity more. */
 LINKER_UTILS_MUST_USE static inline uint32_t linker_utils_items_relaxable(
-    const struct linker_utils_item *items, size_t items_len, uint64_t start, size_t *faulty);
+    const struct linker_utils_run *run, size_t *faulty);
 
 /* Chooses a shape for each site, and says what stays of each item. Each site has its shortest shape
  * at first. Then the run is laid out, where an alignment keeps exactly the bytes that it then
@@ -1168,57 +1174,45 @@ LINKER_UTILS_MUST_USE static inline uint32_t linker_utils_items_relaxable(
  * all. No site has a longer shape than it would need if every alignment kept all of its nops.
  * Without alignments the choice is the greatest.
  *
- * `shapes` has for each item the index of a site's shape, and `kept` how many of the item's bytes
- * stay, from the first one on. `freed` has for each item how many bytes those before it lose, and
- * one element more, which is how many all lose. `places`, with as many elements as items, is room
- * for the work.
- *
  * LINKER_UTILS_DIFFERENT_LENGTHS where `shapes_len`, `kept_len` or `places_len` isn't `items_len`,
  * or `freed_len` isn't one more. Then the statuses of `linker_utils_items_relaxable`. A round takes
  * O(n) for n items, what comes before them O(n log n). There are usually fewer than ten rounds.
  * After 64 come sweeps of O(n). Where sites become long one because of the next in one direction,
  * one sweep each way finds all of them. */
 LINKER_UTILS_MUST_USE static inline uint32_t linker_utils_relax(
-    const struct linker_utils_item *items, size_t items_len, uint64_t start, uint8_t *shapes,
-    size_t shapes_len, uint64_t *kept, size_t kept_len, size_t *places, size_t places_len,
-    uint64_t *freed, size_t freed_len, size_t *faulty);
+    const struct linker_utils_run *run, const struct linker_utils_relaxed *relaxed, size_t *faulty);
 
 /* Writes the deltas of what a run loses where so many bytes of each item stay: one for each item
  * that loses some. `len` is how many there are; the elements of `deltas` from there on are
  * unchanged. The deltas are valid for items as `linker_utils_items_relaxable` accepts them.
  * LINKER_UTILS_DIFFERENT_LENGTHS where `kept_len` or `deltas_len` isn't `items_len`. */
 LINKER_UTILS_MUST_USE static inline uint32_t linker_utils_run_deltas(
-    const struct linker_utils_item *items, size_t items_len, const uint64_t *kept, size_t kept_len,
+    const struct linker_utils_run *run, const struct linker_utils_relaxed *relaxed,
     struct linker_utils_delta *deltas, size_t deltas_len, size_t *len);
 
-/* How many bytes of a section of a relaxed run stay: as many as `linker_utils_pack_run` writes. The
- * section has `section_len` bytes and begins at the input offset `base` of the run. 0 where the two
- * add up to 2^64 or more. O(log n) for n deltas. */
-static inline size_t linker_utils_packed_run_len(uint64_t base, size_t section_len,
-                                                 const struct linker_utils_delta *deltas,
-                                                 size_t deltas_len);
+/* How many bytes of a section of a relaxed run stay: as many as `linker_utils_pack_run` writes. Of
+ * the section only `bytes_len` and `base` are read. 0 where the two add up to 2^64 or more. O(log
+ * n) for n deltas. */
+static inline size_t linker_utils_packed_run_len(
+    const struct linker_utils_section *section, const struct linker_utils_run *run);
 
 /* Whether a site is eight bytes of a section, of instructions that can have its shapes. Of RISC-V
  * they are an auipc and a jalr with those of LINKER_UTILS_SHAPES_RISCV_CALL, or with those of
  * LINKER_UTILS_SHAPES_RISCV_TAIL_C where they link x0. Of LoongArch they are a pcaddu18i and a jirl
  * with those of LINKER_UTILS_SHAPES_LOONGARCH_CALL36, or a pcalau12i and an addi.d of one register
- * with those of LINKER_UTILS_SHAPES_LOONGARCH_PCALA. The section begins at the input offset `base`
- * of the run. An alignment has no instructions to be tested; a site with one shape has none of
- * these shapes. Where this is so of each site that `linker_utils_relax` made shorter,
- * `linker_utils_pack_run` rejects none of them for its reach.
+ * with those of LINKER_UTILS_SHAPES_LOONGARCH_PCALA. An alignment has no instructions to be
+ * tested; a site with one shape has none of these shapes. Where this is so of each site that
+ * `linker_utils_relax` made shorter, `linker_utils_pack_run` rejects none of them for its reach.
  *
- * LINKER_UTILS_UNKNOWN_ARCHITECTURE for each machine except for LINKER_UTILS_RISCV and
- * LINKER_UTILS_LOONGARCH64. LINKER_UTILS_NOT_ITS_INSTRUCTIONS where it isn't so. O(1). */
+ * LINKER_UTILS_UNKNOWN_ARCHITECTURE; LINKER_UTILS_NOT_ITS_INSTRUCTIONS where it isn't so. O(1). */
 LINKER_UTILS_MUST_USE static inline uint32_t linker_utils_has_its_instructions(
-    uint16_t machine, const uint8_t *section, size_t section_len, uint64_t base,
+    uint16_t machine, const struct linker_utils_section *section,
     const struct linker_utils_item *item);
 
 /* Packs a section of a relaxed run: writes the bytes that stay, in order, with the instructions of
- * its sites and the nops of its alignments written anew. The section begins at the input offset
- * `base` of the run. The run begins at the address `start` and loses what the deltas list, as
- * `linker_utils_run_deltas` writes them; addresses are modulo 2^64. `items` are all of the run that
- * lie in the section and lose bytes, in their order, and any others there. Their targets may lie
- * anywhere in the run.
+ * its sites and the nops of its alignments written anew. Addresses are modulo 2^64. `items` are all
+ * of the run that lie in the section and lose bytes, in their order, and any others there. Their
+ * targets may lie anywhere in the run.
  *
  * How many bytes of an item stay, which have to be its first ones, says what is written:
  * - RISC-V: in place of a call, which is an auipc and a jalr, c.j where 2 bytes stay and the jalr
@@ -1233,34 +1227,67 @@ LINKER_UTILS_MUST_USE static inline uint32_t linker_utils_has_its_instructions(
  *   with R_RISCV_CALL_PLT leaves out bit 0 of it. What stays of a site with one shape isn't
  *   changed.
  *
- * `relocations` are those of the section, of 24 bytes each. They become those of the packed section,
- * as `linker_utils_relocate_section` takes them: each goes to the offset where its place goes. That
- * of a site which became shorter gets the type of the one instruction: R_RISCV_JAL or
- * R_RISCV_RVC_JUMP of a call, R_LARCH_B26 of R_LARCH_CALL36, and R_LARCH_PCREL20_S2 of
- * R_LARCH_PCALA_HI20. The others at the begin of such a site, those of alignments among the items,
- * and those whose byte is deleted, as R_LARCH_PCALA_LO12, get the type 0. All others keep their
- * type, and each its symbol and addend. One after the section's end stays as it is.
+ * The section's relocations become those of the packed section, as `linker_utils_relocate_section`
+ * takes them: each goes to the offset where its place goes. That of a site which became shorter
+ * gets the type of the one instruction: R_RISCV_JAL or R_RISCV_RVC_JUMP of a call, R_LARCH_B26 of
+ * R_LARCH_CALL36, and R_LARCH_PCREL20_S2 of R_LARCH_PCALA_HI20. The others at the begin of such a
+ * site, those of alignments among the items, and those whose byte is deleted, as
+ * R_LARCH_PCALA_LO12, get the type 0. All others keep their type, and each its symbol and addend.
+ * One after the section's end stays as it is.
  *
- * LINKER_UTILS_UNKNOWN_ARCHITECTURE for each machine except for LINKER_UTILS_RISCV and
- * LINKER_UTILS_LOONGARCH64.
- * LINKER_UTILS_ENDS_TOO_HIGH where `base` and `section_len` add up to 2^64 or more.
- * LINKER_UTILS_DIFFERENT_LENGTHS where `packed_len` is not `linker_utils_packed_run_len`. Else
- * `faulty` is the first item that can't be written, and the status the first that applies to it of
- * LINKER_UTILS_ITEMS_OVERLAP, LINKER_UTILS_ITEM_OUT_OF_SECTION, LINKER_UTILS_DELETED_OUTSIDE,
- * LINKER_UTILS_NOT_ITS_FIRST_BYTES, LINKER_UTILS_NOT_ITS_INSTRUCTIONS, LINKER_UTILS_NO_SHAPE and
- * LINKER_UTILS_TARGET_OUT_OF_REACH. Only the first three can be of a site with one shape.
- * LINKER_UTILS_DELETED_OUTSIDE where bytes before the item are deleted that are of no item: an item
- * is missing; `faulty` is `items_len` where they are after the last item. With any status except
- * LINKER_UTILS_OK nothing is written. For k items, m relocations and n deltas it takes O((k + m)
- * log n + m log k). Beside that it takes a step for each byte of the section and each delta in it. */
+ * LINKER_UTILS_UNKNOWN_ARCHITECTURE; LINKER_UTILS_ENDS_TOO_HIGH where `base` and `bytes_len` add up
+ * to 2^64 or more. LINKER_UTILS_DIFFERENT_LENGTHS where `packed_len` is not
+ * `linker_utils_packed_run_len`. Else `faulty` is the first item that can't be written, and the
+ * status the first that applies to it of LINKER_UTILS_ITEMS_OVERLAP,
+ * LINKER_UTILS_ITEM_OUT_OF_SECTION, LINKER_UTILS_DELETED_OUTSIDE, LINKER_UTILS_NOT_ITS_FIRST_BYTES,
+ * LINKER_UTILS_NOT_ITS_INSTRUCTIONS, LINKER_UTILS_NO_SHAPE and LINKER_UTILS_TARGET_OUT_OF_REACH.
+ * Only the first three can be of a site with one shape. LINKER_UTILS_DELETED_OUTSIDE where bytes
+ * before the item are deleted that are of no item: an item is missing; `faulty` is `items_len`
+ * where they are after the last item. With any status except LINKER_UTILS_OK nothing is written.
+ * For k items, m relocations and n deltas it takes O((k + m) log n + m log k). Beside that it takes
+ * a step for each byte of the section and each delta in it. */
 LINKER_UTILS_MUST_USE static inline uint32_t linker_utils_pack_run(
-    uint16_t machine, const uint8_t *section, size_t section_len, uint64_t base,
-    const struct linker_utils_item *items, size_t items_len,
-    const struct linker_utils_delta *deltas, size_t deltas_len, uint64_t start, void *relocations,
-    size_t relocations_len, uint8_t *packed, size_t packed_len, size_t *faulty);
+    uint16_t machine, const struct linker_utils_section *section,
+    const struct linker_utils_run *run, uint8_t *packed, size_t packed_len, size_t *faulty);
 
-/* ---- Reading back: the address that a value comes from, halves of one, and which rewrite was
- * made. */
+/* ---- Reading back: what a linker wrote, from the linked bytes, the address that a value comes
+ * from, halves of one, and which rewrite was made.
+ *
+ * A machine and a relocation type name a relocation. The statuses LINKER_UTILS_UNKNOWN_ARCHITECTURE
+ * and LINKER_UTILS_UNKNOWN_RELOCATION come first, but `linker_utils_recognise` and
+ * `linker_utils_recognise_chosen` take any type. */
+
+/* What is known of a number of 64 bits, which is a relocation's value in two's complement, or an
+ * address. They are bits of the sum of the number and `rounding`, modulo 2^64. Where bits 0 to 63
+ * are known the number is `bits - rounding`. */
+struct linker_utils_field_value {
+    uint64_t bits; /* the known bits, the first of them at bit 0, and no others */
+    uint64_t rounding; /* what was added to the number before its bits were taken */
+    uint8_t first_bit; /* which bits are known: `first_bit` and up, below `end_bit` */
+    uint8_t end_bit;
+};
+
+/* What is known of a relocation's value from the bytes that begin with its field, into `value`.
+ * Whatever value `linker_utils_relocate` wrote there, it has these bits.
+ *
+ * - Of an instruction they are what the machine reads: bits from `first_bit` of the relocation up.
+ *   They are known up to bit 63 where `linker_utils_reach` leaves one choice, as a sign does. They
+ *   are known down to bit 0 where the value's alignment says that those below are 0.
+ * - RISC-V's lui, auipc and c.lui have the upper bits of the value plus 0x800, the `rounding`. The
+ *   other half has the low 12 bits of the value. Of the pair of R_RISCV_CALL and R_LARCH_CALL36 all
+ *   bits are known.
+ * - The value of PowerPC64's and LoongArch's adjusted high halves has their `bias` in it, so that
+ *   the rounding is 0: `linker_utils_solve` takes the bias off.
+ * - MOVN and MOVZ have 16 bits and the sign; a MOVK has 16 bits.
+ * - A `jirl` at R_LARCH_PCALA_LO12 has bits 2 to 11, and bits 0 and 1 are 0.
+ * - Whole bytes have the low bits of the value; that of R_RISCV_SET6 has 6.
+ *
+ * LINKER_UTILS_TOO_SHORT where there are fewer bytes than the field has.
+ * LINKER_UTILS_HOLDS_NO_VALUE of a relocation of no bytes, of one that adds or subtracts, of one at
+ * a ULEB128 number, and of R_LARCH_CALL30. */
+LINKER_UTILS_MUST_USE static inline uint32_t linker_utils_read_value(
+    uint16_t machine, uint32_t r_type, const uint8_t *bytes, size_t bytes_len,
+    struct linker_utils_field_value *value);
 
 /* What is known of the address that a value comes from, into `address`, and which address it is, by
  * `enum linker_utils_reference`, into `reference`: the inverse of `linker_utils_value`. `value` is
@@ -1277,8 +1304,8 @@ LINKER_UTILS_MUST_USE static inline uint32_t linker_utils_pack_run(
  * or some above bit 63, or `bits` has others. LINKER_UTILS_NO_ADDRESS of a relocation without a
  * value or without bytes, and of one that is computed from a size, adds or subtracts, or is at a
  * ULEB128 number. LINKER_UTILS_NO_ADDRESS too of an offset of a TLS symbol without `has_tls_base`.
- * LINKER_UTILS_NO_ADDRESS too of LoongArch's upper halves of 64-bit addresses, and where the formula
- * takes the page of the address and `value` is known from below bit 12. */
+ * LINKER_UTILS_NO_ADDRESS too of LoongArch's upper halves of 64-bit addresses, and where the
+ * formula takes the page of the address and `value` is known from below bit 12. */
 LINKER_UTILS_MUST_USE uint32_t linker_utils_solve(
     uint16_t machine, uint32_t r_type, const struct linker_utils_field_value *value,
     const struct linker_utils_operands *operands, uint32_t *reference,
@@ -1315,6 +1342,17 @@ struct linker_utils_window_bits {
     uint64_t bits; /* bit 0 is the lowest of that byte, bit 8 that of the next */
 };
 
+/* Bytes around a relocation in an object and in the linked file. Both windows may begin before it,
+ * at the same place. After a rewrite that deletes bytes the linked one has fewer. */
+struct linker_utils_windows {
+    const uint8_t *original; size_t original_len; /* at most 64, but to ask for the window */
+    uint64_t offset; /* that of the relocation in the original bytes */
+    /* Bits that other relocations write (`linker_utils_field_bits`), also one that is skipped; all
+     * of an instruction that another one rewrites or deletes. */
+    const struct linker_utils_window_bits *others; size_t others_len;
+    const uint8_t *linked; size_t linked_len;
+};
+
 /* A rewrite that leaves the linked bytes, and what stands in the field of the relocation after
  * it. */
 struct linker_utils_recognised {
@@ -1328,18 +1366,18 @@ struct linker_utils_recognised {
 /* How many rewrites a relocation may have at most, NO_OP among them. */
 #define LINKER_UTILS_CANDIDATES 6
 
-/* The window that `linker_utils_recognise` wants in bytes of an object, at most 64, around the
- * relocation at an offset of them, into `window`. It is the least one in which that call finds each
- * rewrite that it finds in all of these bytes. So it has the bytes that the rewrites write and
- * delete, those that `linker_utils_matches` reads, and the fields of the relocations after them.
- * What other relocations write there is to be named in `others`. A rewrite whose bytes aren't all
- * given isn't counted: give 16 before the offset and 44 from there on, or those that there are. On
- * PowerPC64 the first is to be at a multiple of 4 in its section. Where no rewrite has its bytes
- * there the status is LINKER_UTILS_OK, and `back` and `len` are 0.
- * LINKER_UTILS_UNKNOWN_ARCHITECTURE. LINKER_UTILS_WINDOW_TOO_LONG. */
+/* The window that `linker_utils_recognise` wants in the original bytes, at most 64, around the
+ * relocation, into `window`. It is the least one in which that call finds each rewrite that it
+ * finds in all of these bytes. So it has the bytes that the rewrites write and delete, those that
+ * `linker_utils_matches` reads, and the fields of the relocations after them. What other
+ * relocations write there is to be named in `others`. A rewrite whose bytes aren't all given isn't
+ * counted: give 16 before the offset and 44 from there on, or those that there are. On PowerPC64
+ * the first is to be at a multiple of 4 in its section. Where no rewrite has its bytes there the
+ * status is LINKER_UTILS_OK, and `back` and `len` are 0. LINKER_UTILS_UNKNOWN_ARCHITECTURE.
+ * LINKER_UTILS_WINDOW_TOO_LONG. */
 LINKER_UTILS_MUST_USE static inline uint32_t linker_utils_recognise_window(
-    uint16_t machine, uint32_t r_type, const uint8_t *original, size_t original_len,
-    uint64_t offset, struct linker_utils_window_bounds *window);
+    uint16_t machine, uint32_t r_type, const struct linker_utils_windows *windows,
+    struct linker_utils_window_bounds *window);
 
 /* Writes which rewrites, and relocations after them, a linker may have made at a relocation. They
  * are those after which the original bytes differ from the linked ones only in the field of the
@@ -1347,13 +1385,8 @@ LINKER_UTILS_MUST_USE static inline uint32_t linker_utils_recognise_window(
  * there on are unchanged. Nothing needs to be known of the symbol: so several are returned where
  * their bytes are the same, as where only the relocation changes.
  *
- * - `offset` is that of the relocation in the original bytes. Both windows may begin before it, at
- *   the same place. The original one has at most 64 bytes. After a rewrite that deletes bytes the
- *   linked one has fewer. `linker_utils_recognise_window` is the window to give. In a wider one
- *   other bytes differ, and nothing is found unless `others` names them.
- * - `others` are bits that other relocations write, as `linker_utils_field_bits` returns them,
- *   among them those of a relocation that the rewrite skips. Of an instruction that another
- *   relocation rewrites or deletes they are all bits.
+ * - `linker_utils_recognise_window` is the window to give. In a wider one other bytes differ, and
+ *   nothing is found unless `others` names them.
  * - A rewrite is among them only where `linker_utils_matches` returns LINKER_UTILS_OK of it and the
  *   field is in the window. What `linker_utils_choose` returns is one of them, whatever the facts,
  *   where it leaves the linked bytes so.
@@ -1362,19 +1395,15 @@ LINKER_UTILS_MUST_USE static inline uint32_t linker_utils_recognise_window(
  * LINKER_UTILS_CANDIDATES. LINKER_UTILS_WINDOW_TOO_LONG. Where nothing is found the status is
  * LINKER_UTILS_OK, and `count` is 0. A type that the library doesn't know has NO_OP only. */
 LINKER_UTILS_MUST_USE static inline uint32_t linker_utils_recognise(
-    uint16_t machine, uint32_t r_type, const uint8_t *original, size_t original_len,
-    uint64_t offset, const struct linker_utils_window_bits *others, size_t others_len,
-    const uint8_t *linked, size_t linked_len, struct linker_utils_recognised *found,
-    size_t found_len, size_t *count);
+    uint16_t machine, uint32_t r_type, const struct linker_utils_windows *windows,
+    struct linker_utils_recognised *found, size_t found_len, size_t *count);
 
 /* Writes what `linker_utils_choose` returns by these facts, if it leaves the linked bytes, as
  * `linker_utils_recognise` says. LINKER_UTILS_UNKNOWN_ARCHITECTURE. LINKER_UTILS_WINDOW_TOO_LONG.
  * LINKER_UTILS_LEAVES_OTHER_BYTES. */
 LINKER_UTILS_MUST_USE static inline uint32_t linker_utils_recognise_chosen(
-    uint16_t machine, uint32_t r_type, const uint8_t *original, size_t original_len,
-    uint64_t offset, const struct linker_utils_window_bits *others, size_t others_len,
-    const uint8_t *linked, size_t linked_len, const struct linker_utils_link_facts *facts,
-    struct linker_utils_recognised *found);
+    uint16_t machine, uint32_t r_type, const struct linker_utils_windows *windows,
+    const struct linker_utils_link_facts *facts, struct linker_utils_recognised *found);
 
 /* Where a recognised relocation leads. */
 struct linker_utils_destination {
@@ -1391,14 +1420,14 @@ struct linker_utils_destination {
  * with the same original bytes and offset, into `destination`. Of the operands the addend is that
  * before the rewrite, and the place is the address of the field in the linked file; which others
  * are read `linker_utils_solve` says. `st_other` is the symbol's, and is read of a branch of
- * PowerPC64 only: `symbol` is lower by the distance of the local entry point that it says. With 0 it
- * is the branch's target, that entry point or a stub. LINKER_UTILS_UNKNOWN_ARCHITECTURE;
+ * PowerPC64 only: `symbol` is lower by the distance of the local entry point that it says. With 0
+ * it is the branch's target, that entry point or a stub. LINKER_UTILS_UNKNOWN_ARCHITECTURE;
  * LINKER_UTILS_WINDOW_TOO_LONG; LINKER_UTILS_UNKNOWN_REWRITE; LINKER_UTILS_NO_ADDRESS of a
  * relocation without a value, of one that `linker_utils_solve` has no address for, and of a rewrite
  * that isn't meant for what is there. */
 LINKER_UTILS_MUST_USE static inline uint32_t linker_utils_get_destination(
-    uint16_t machine, const struct linker_utils_recognised *made, const uint8_t *original,
-    size_t original_len, uint64_t offset, const struct linker_utils_operands *operands,
+    uint16_t machine, const struct linker_utils_recognised *made,
+    const struct linker_utils_windows *windows, const struct linker_utils_operands *operands,
     uint8_t st_other, struct linker_utils_destination *destination);
 
 #endif

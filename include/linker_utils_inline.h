@@ -3,8 +3,9 @@
  *
  * The inline functions of linker_utils.h, which includes this file and says what they do. No export
  * of the archive takes a null pointer to a slice, even with a count of 0. So each function replaces
- * null by the address of an array, and calls the export of the same name that ends in `_nonnull`.
- * It replaces a null `faulty` by the address of a variable. */
+ * null by the address of an array, and calls the export of the same name that ends in `_nonnull`,
+ * with what the structs have in place of them. It replaces a null `faulty` by the address of a
+ * variable. */
 #ifndef LINKER_UTILS_INLINE_H
 #define LINKER_UTILS_INLINE_H
 
@@ -38,6 +39,27 @@ static inline uint32_t linker_utils_forms_of(uint16_t machine, const uint8_t *by
     }
 }
 
+static inline struct linker_utils_section linker_utils_section_of(uint8_t *bytes, size_t bytes_len) {
+    struct linker_utils_section section = {bytes, bytes_len, NULL, 0, 0, 0, NULL, 0};
+    return section;
+}
+
+/* What exports take of a link, and of a link and a section. */
+struct linker_utils_output_facts {
+    bool is_executable;
+    bool is_fixed;
+    bool has_near_symbols;
+};
+
+struct linker_utils_addresses {
+    uint64_t section;
+    uint64_t got_base;
+    uint64_t thread_origin;
+    uint64_t module_origin;
+    uint64_t module_entry;
+    bool has_tls;
+};
+
 /* What null is replaced by. */
 static uint64_t linker_utils_no_elements[1];
 #define LINKER_UTILS_SLICE(element, slice) \
@@ -66,43 +88,44 @@ uint32_t linker_utils_choose_nonnull(
     uint16_t machine, uint32_t r_type, const uint8_t *section, size_t section_len, uint64_t offset,
     const struct linker_utils_link_facts *facts, struct linker_utils_choice *choice);
 static inline uint32_t linker_utils_choose(
-    uint16_t machine, uint32_t r_type, const uint8_t *section, size_t section_len, uint64_t offset,
+    uint16_t machine, uint32_t r_type, const struct linker_utils_section *section, uint64_t offset,
     const struct linker_utils_link_facts *facts, struct linker_utils_choice *choice) {
     return linker_utils_choose_nonnull(
-        machine, r_type, LINKER_UTILS_SLICE(const uint8_t, section), section_len, offset, facts,
-        choice);
+        machine, r_type, LINKER_UTILS_SLICE(const uint8_t, section->bytes), section->bytes_len,
+        offset, facts, choice);
 }
 
 bool linker_utils_relocation_fits_nonnull(
     uint16_t machine, uint32_t r_type, const uint8_t *section, size_t section_len, uint64_t offset,
     const struct linker_utils_link_facts *facts);
 static inline bool linker_utils_relocation_fits(
-    uint16_t machine, uint32_t r_type, const uint8_t *section, size_t section_len, uint64_t offset,
+    uint16_t machine, uint32_t r_type, const struct linker_utils_section *section, uint64_t offset,
     const struct linker_utils_link_facts *facts) {
     return linker_utils_relocation_fits_nonnull(
-        machine, r_type, LINKER_UTILS_SLICE(const uint8_t, section), section_len, offset, facts);
+        machine, r_type, LINKER_UTILS_SLICE(const uint8_t, section->bytes), section->bytes_len,
+        offset, facts);
 }
 
 uint32_t linker_utils_matches_nonnull(
     uint16_t machine, uint32_t rewrite, uint8_t opcode_len, const uint8_t *section,
     size_t section_len, uint64_t offset);
 static inline uint32_t linker_utils_matches(
-    uint16_t machine, uint32_t rewrite, uint8_t opcode_len, const uint8_t *section,
-    size_t section_len, uint64_t offset) {
+    uint16_t machine, uint32_t rewrite, uint8_t opcode_len,
+    const struct linker_utils_section *section, uint64_t offset) {
     return linker_utils_matches_nonnull(
-        machine, rewrite, opcode_len, LINKER_UTILS_SLICE(const uint8_t, section), section_len,
-        offset);
+        machine, rewrite, opcode_len, LINKER_UTILS_SLICE(const uint8_t, section->bytes),
+        section->bytes_len, offset);
 }
 
 uint32_t linker_utils_apply_nonnull(
     uint16_t machine, uint32_t rewrite, uint8_t opcode_len, uint8_t *section, size_t section_len,
     uint64_t *offset, int64_t *addend);
 static inline uint32_t linker_utils_apply(
-    uint16_t machine, uint32_t rewrite, uint8_t opcode_len, uint8_t *section, size_t section_len,
-    uint64_t *offset, int64_t *addend) {
+    uint16_t machine, uint32_t rewrite, uint8_t opcode_len,
+    const struct linker_utils_section *section, uint64_t *offset, int64_t *addend) {
     return linker_utils_apply_nonnull(
-        machine, rewrite, opcode_len, LINKER_UTILS_SLICE(uint8_t, section), section_len, offset,
-        addend);
+        machine, rewrite, opcode_len, LINKER_UTILS_SLICE(uint8_t, section->bytes),
+        section->bytes_len, offset, addend);
 }
 
 uint32_t linker_utils_deltas_create_nonnull(
@@ -142,17 +165,20 @@ uint32_t linker_utils_value_at_nonnull(
     size_t relocations_len, const struct linker_utils_symbol *symbols, size_t symbols_len,
     size_t index, int64_t *value);
 static inline uint32_t linker_utils_value_at(
-    uint16_t machine, const struct linker_utils_addresses *addresses, const void *relocations,
-    size_t relocations_len, const struct linker_utils_symbol *symbols, size_t symbols_len,
-    size_t index, int64_t *value) {
+    const struct linker_utils_link *link, const struct linker_utils_object *object,
+    const struct linker_utils_section *section, size_t index, int64_t *value) {
+    const struct linker_utils_addresses addresses = {section->address, link->got_base,
+        link->thread_origin, link->module_origin, link->module_entry, link->has_tls};
     return linker_utils_value_at_nonnull(
-        machine, addresses, LINKER_UTILS_RELAS(const uint8_t, relocations),
-        LINKER_UTILS_SLICE(const struct linker_utils_symbol, symbols), symbols_len, index, value);
+        link->machine, &addresses, LINKER_UTILS_RELAS(const uint8_t, section->relocations),
+        LINKER_UTILS_SLICE(const struct linker_utils_symbol, object->values), object->values_len,
+        index, value);
 }
 
 size_t linker_utils_relocate_memory_nonnull(const uint8_t *relocations, size_t relocations_len);
-static inline size_t linker_utils_relocate_memory(const void *relocations, size_t relocations_len) {
-    return linker_utils_relocate_memory_nonnull(LINKER_UTILS_RELAS(const uint8_t, relocations));
+static inline size_t linker_utils_relocate_memory(const struct linker_utils_section *section) {
+    return linker_utils_relocate_memory_nonnull(
+        LINKER_UTILS_RELAS(const uint8_t, section->relocations));
 }
 
 uint32_t linker_utils_relocate_section_nonnull(
@@ -160,15 +186,17 @@ uint32_t linker_utils_relocate_section_nonnull(
     size_t relocations_len, const struct linker_utils_symbol *symbols, size_t symbols_len,
     uint8_t *section, size_t section_len, uint64_t *memory, size_t memory_len, size_t *faulty);
 static inline uint32_t linker_utils_relocate_section(
-    uint16_t machine, const struct linker_utils_addresses *addresses, const void *relocations,
-    size_t relocations_len, const struct linker_utils_symbol *symbols, size_t symbols_len,
-    uint8_t *section, size_t section_len, uint64_t *memory, size_t memory_len, size_t *faulty) {
+    const struct linker_utils_link *link, const struct linker_utils_object *object,
+    const struct linker_utils_section *section, uint64_t *memory, size_t memory_len,
+    size_t *faulty) {
     size_t ignored;
+    const struct linker_utils_addresses addresses = {section->address, link->got_base,
+        link->thread_origin, link->module_origin, link->module_entry, link->has_tls};
     return linker_utils_relocate_section_nonnull(
-        machine, addresses, LINKER_UTILS_RELAS(const uint8_t, relocations),
-        LINKER_UTILS_SLICE(const struct linker_utils_symbol, symbols), symbols_len,
-        LINKER_UTILS_SLICE(uint8_t, section), section_len, LINKER_UTILS_SLICE(uint64_t, memory),
-        memory_len, faulty ? faulty : &ignored);
+        link->machine, &addresses, LINKER_UTILS_RELAS(const uint8_t, section->relocations),
+        LINKER_UTILS_SLICE(const struct linker_utils_symbol, object->values), object->values_len,
+        LINKER_UTILS_SLICE(uint8_t, section->bytes), section->bytes_len,
+        LINKER_UTILS_SLICE(uint64_t, memory), memory_len, faulty ? faulty : &ignored);
 }
 
 uint32_t linker_utils_survey_nonnull(
@@ -177,15 +205,17 @@ uint32_t linker_utils_survey_nonnull(
     size_t relocations_len, const uint8_t *section, size_t section_len,
     struct linker_utils_kept_groups *kept, size_t kept_len);
 static inline uint32_t linker_utils_survey(
-    uint16_t machine, const struct linker_utils_output_facts *output,
-    const struct linker_utils_symbol_facts *symbols, size_t symbols_len, const void *relocations,
-    size_t relocations_len, const uint8_t *section, size_t section_len,
-    struct linker_utils_kept_groups *kept, size_t kept_len) {
+    const struct linker_utils_link *link, const struct linker_utils_object *object,
+    const struct linker_utils_section *section) {
+    const struct linker_utils_output_facts output = {link->is_executable, link->is_fixed,
+        link->has_near_symbols};
     return linker_utils_survey_nonnull(
-        machine, output, LINKER_UTILS_SLICE(const struct linker_utils_symbol_facts, symbols),
-        symbols_len, LINKER_UTILS_RELAS(const uint8_t, relocations),
-        LINKER_UTILS_SLICE(const uint8_t, section), section_len,
-        LINKER_UTILS_SLICE(struct linker_utils_kept_groups, kept), kept_len);
+        link->machine, &output,
+        LINKER_UTILS_SLICE(const struct linker_utils_symbol_facts, object->facts),
+        object->facts_len, LINKER_UTILS_RELAS(const uint8_t, section->relocations),
+        LINKER_UTILS_SLICE(const uint8_t, section->bytes), section->bytes_len,
+        LINKER_UTILS_SLICE(struct linker_utils_kept_groups, object->kept_groups),
+        object->kept_groups_len);
 }
 
 uint32_t linker_utils_rewrite_section_nonnull(
@@ -195,18 +225,21 @@ uint32_t linker_utils_rewrite_section_nonnull(
     size_t relocations_len, uint8_t *section, size_t section_len,
     struct linker_utils_decision *decisions, size_t decisions_len, size_t *faulty);
 static inline uint32_t linker_utils_rewrite_section(
-    uint16_t machine, const struct linker_utils_output_facts *output,
-    const struct linker_utils_symbol_facts *symbols, size_t symbols_len,
-    const struct linker_utils_kept_groups *kept, size_t kept_len, void *relocations,
-    size_t relocations_len, uint8_t *section, size_t section_len,
-    struct linker_utils_decision *decisions, size_t decisions_len, size_t *faulty) {
+    const struct linker_utils_link *link, const struct linker_utils_object *object,
+    const struct linker_utils_section *section, const struct linker_utils_rewritten *rewritten,
+    size_t *faulty) {
     size_t ignored;
+    const struct linker_utils_output_facts output = {link->is_executable, link->is_fixed,
+        link->has_near_symbols};
     return linker_utils_rewrite_section_nonnull(
-        machine, output, LINKER_UTILS_SLICE(const struct linker_utils_symbol_facts, symbols),
-        symbols_len, LINKER_UTILS_SLICE(const struct linker_utils_kept_groups, kept), kept_len,
-        LINKER_UTILS_RELAS(uint8_t, relocations), LINKER_UTILS_SLICE(uint8_t, section), section_len,
-        LINKER_UTILS_SLICE(struct linker_utils_decision, decisions), decisions_len,
-        faulty ? faulty : &ignored);
+        link->machine, &output,
+        LINKER_UTILS_SLICE(const struct linker_utils_symbol_facts, object->facts),
+        object->facts_len,
+        LINKER_UTILS_SLICE(const struct linker_utils_kept_groups, object->kept_groups),
+        object->kept_groups_len, LINKER_UTILS_RELAS(uint8_t, section->relocations),
+        LINKER_UTILS_SLICE(uint8_t, section->bytes), section->bytes_len,
+        LINKER_UTILS_SLICE(struct linker_utils_decision, rewritten->decisions),
+        rewritten->decisions_len, faulty ? faulty : &ignored);
 }
 
 uint32_t linker_utils_survey_placed_section_nonnull(
@@ -216,17 +249,21 @@ uint32_t linker_utils_survey_placed_section_nonnull(
     size_t values_len, const uint8_t *relocations, size_t relocations_len, const uint8_t *section,
     size_t section_len, struct linker_utils_kept_groups *kept, size_t kept_len);
 static inline uint32_t linker_utils_survey_placed_section(
-    uint16_t machine, uint32_t phase, const struct linker_utils_output_facts *output,
-    const struct linker_utils_symbol_facts *symbols, size_t symbols_len,
-    const struct linker_utils_addresses *addresses, const struct linker_utils_symbol *values,
-    size_t values_len, const void *relocations, size_t relocations_len, const uint8_t *section,
-    size_t section_len, struct linker_utils_kept_groups *kept, size_t kept_len) {
+    const struct linker_utils_link *link, const struct linker_utils_object *object,
+    const struct linker_utils_section *section, uint32_t phase) {
+    const struct linker_utils_output_facts output = {link->is_executable, link->is_fixed,
+        link->has_near_symbols};
+    const struct linker_utils_addresses addresses = {section->address, link->got_base,
+        link->thread_origin, link->module_origin, link->module_entry, link->has_tls};
     return linker_utils_survey_placed_section_nonnull(
-        machine, phase, output, LINKER_UTILS_SLICE(const struct linker_utils_symbol_facts, symbols),
-        symbols_len, addresses, LINKER_UTILS_SLICE(const struct linker_utils_symbol, values),
-        values_len, LINKER_UTILS_RELAS(const uint8_t, relocations),
-        LINKER_UTILS_SLICE(const uint8_t, section), section_len,
-        LINKER_UTILS_SLICE(struct linker_utils_kept_groups, kept), kept_len);
+        link->machine, phase, &output,
+        LINKER_UTILS_SLICE(const struct linker_utils_symbol_facts, object->facts),
+        object->facts_len, &addresses,
+        LINKER_UTILS_SLICE(const struct linker_utils_symbol, object->values), object->values_len,
+        LINKER_UTILS_RELAS(const uint8_t, section->relocations),
+        LINKER_UTILS_SLICE(const uint8_t, section->bytes), section->bytes_len,
+        LINKER_UTILS_SLICE(struct linker_utils_kept_groups, object->kept_groups),
+        object->kept_groups_len);
 }
 
 uint32_t linker_utils_rewrite_placed_section_nonnull(
@@ -239,33 +276,26 @@ uint32_t linker_utils_rewrite_placed_section_nonnull(
     struct linker_utils_deletion *deleted, size_t deleted_len, size_t *deleted_used,
     size_t *faulty);
 static inline uint32_t linker_utils_rewrite_placed_section(
-    uint16_t machine, uint32_t phase, const struct linker_utils_output_facts *output,
-    const struct linker_utils_symbol_facts *symbols, size_t symbols_len,
-    const struct linker_utils_addresses *addresses, const struct linker_utils_symbol *values,
-    size_t values_len, const struct linker_utils_kept_groups *kept, size_t kept_len,
-    void *relocations, size_t relocations_len, uint8_t *section, size_t section_len,
-    struct linker_utils_decision *decisions, size_t decisions_len,
-    struct linker_utils_deletion *deleted, size_t deleted_len, size_t *deleted_used,
-    size_t *faulty) {
+    const struct linker_utils_link *link, const struct linker_utils_object *object,
+    const struct linker_utils_section *section, uint32_t phase,
+    struct linker_utils_rewritten *rewritten, size_t *faulty) {
     size_t ignored;
+    const struct linker_utils_output_facts output = {link->is_executable, link->is_fixed,
+        link->has_near_symbols};
+    const struct linker_utils_addresses addresses = {section->address, link->got_base,
+        link->thread_origin, link->module_origin, link->module_entry, link->has_tls};
     return linker_utils_rewrite_placed_section_nonnull(
-        machine, phase, output, LINKER_UTILS_SLICE(const struct linker_utils_symbol_facts, symbols),
-        symbols_len, addresses, LINKER_UTILS_SLICE(const struct linker_utils_symbol, values),
-        values_len, LINKER_UTILS_SLICE(const struct linker_utils_kept_groups, kept), kept_len,
-        LINKER_UTILS_RELAS(uint8_t, relocations), LINKER_UTILS_SLICE(uint8_t, section), section_len,
-        LINKER_UTILS_SLICE(struct linker_utils_decision, decisions), decisions_len,
-        LINKER_UTILS_SLICE(struct linker_utils_deletion, deleted), deleted_len, deleted_used,
-        faulty ? faulty : &ignored);
-}
-
-uint32_t linker_utils_read_value_nonnull(
-    uint16_t machine, uint32_t r_type, const uint8_t *bytes, size_t bytes_len,
-    struct linker_utils_field_value *value);
-static inline uint32_t linker_utils_read_value(
-    uint16_t machine, uint32_t r_type, const uint8_t *bytes, size_t bytes_len,
-    struct linker_utils_field_value *value) {
-    return linker_utils_read_value_nonnull(
-        machine, r_type, LINKER_UTILS_SLICE(const uint8_t, bytes), bytes_len, value);
+        link->machine, phase, &output,
+        LINKER_UTILS_SLICE(const struct linker_utils_symbol_facts, object->facts),
+        object->facts_len, &addresses,
+        LINKER_UTILS_SLICE(const struct linker_utils_symbol, object->values), object->values_len,
+        LINKER_UTILS_SLICE(const struct linker_utils_kept_groups, object->kept_groups),
+        object->kept_groups_len, LINKER_UTILS_RELAS(uint8_t, section->relocations),
+        LINKER_UTILS_SLICE(uint8_t, section->bytes), section->bytes_len,
+        LINKER_UTILS_SLICE(struct linker_utils_decision, rewritten->decisions),
+        rewritten->decisions_len,
+        LINKER_UTILS_SLICE(struct linker_utils_deletion, rewritten->deleted),
+        rewritten->deleted_len, &rewritten->deleted_used, faulty ? faulty : &ignored);
 }
 
 uint32_t linker_utils_relocate_all_nonnull(
@@ -273,12 +303,12 @@ uint32_t linker_utils_relocate_all_nonnull(
     const struct linker_utils_relocation_entry *relocations, size_t relocations_len,
     size_t *faulty);
 static inline uint32_t linker_utils_relocate_all(
-    uint16_t machine, uint8_t *section, size_t section_len,
+    uint16_t machine, const struct linker_utils_section *section,
     const struct linker_utils_relocation_entry *relocations, size_t relocations_len,
     size_t *faulty) {
     size_t ignored;
     return linker_utils_relocate_all_nonnull(
-        machine, LINKER_UTILS_SLICE(uint8_t, section), section_len,
+        machine, LINKER_UTILS_SLICE(uint8_t, section->bytes), section->bytes_len,
         LINKER_UTILS_SLICE(const struct linker_utils_relocation_entry, relocations),
         relocations_len, faulty ? faulty : &ignored);
 }
@@ -303,20 +333,22 @@ uint32_t linker_utils_row_choose_nonnull(
     uint32_t handle, const uint8_t *section, size_t section_len, uint64_t offset,
     const struct linker_utils_link_facts *facts, struct linker_utils_choice *choice);
 static inline uint32_t linker_utils_row_choose(
-    uint32_t handle, const uint8_t *section, size_t section_len, uint64_t offset,
+    uint32_t handle, const struct linker_utils_section *section, uint64_t offset,
     const struct linker_utils_link_facts *facts, struct linker_utils_choice *choice) {
     return linker_utils_row_choose_nonnull(
-        handle, LINKER_UTILS_SLICE(const uint8_t, section), section_len, offset, facts, choice);
+        handle, LINKER_UTILS_SLICE(const uint8_t, section->bytes), section->bytes_len, offset,
+        facts, choice);
 }
 
 bool linker_utils_row_fits_nonnull(
     uint32_t handle, const uint8_t *section, size_t section_len, uint64_t offset,
     const struct linker_utils_link_facts *facts);
 static inline bool linker_utils_row_fits(
-    uint32_t handle, const uint8_t *section, size_t section_len, uint64_t offset,
+    uint32_t handle, const struct linker_utils_section *section, uint64_t offset,
     const struct linker_utils_link_facts *facts) {
     return linker_utils_row_fits_nonnull(
-        handle, LINKER_UTILS_SLICE(const uint8_t, section), section_len, offset, facts);
+        handle, LINKER_UTILS_SLICE(const uint8_t, section->bytes), section->bytes_len, offset,
+        facts);
 }
 
 uint32_t linker_utils_dynamic_name_nonnull(
@@ -351,18 +383,21 @@ uint32_t linker_utils_survey_address_loads_nonnull(
     const uint8_t *relocations, size_t relocations_len, const uint8_t *section, size_t section_len,
     bool *kept, size_t kept_len);
 static inline uint32_t linker_utils_survey_address_loads(
-    uint16_t machine, const struct linker_utils_output_facts *output,
-    const struct linker_utils_symbol_facts *symbols, size_t symbols_len,
-    const struct linker_utils_addresses *addresses, const struct linker_utils_symbol *values,
-    size_t values_len, uint64_t words_start, const void *words, size_t words_len,
-    const void *relocations, size_t relocations_len, const uint8_t *section, size_t section_len,
-    bool *kept, size_t kept_len) {
+    const struct linker_utils_link *link, const struct linker_utils_object *object,
+    const struct linker_utils_section *section, const struct linker_utils_words *words) {
+    const struct linker_utils_output_facts output = {link->is_executable, link->is_fixed,
+        link->has_near_symbols};
+    const struct linker_utils_addresses addresses = {section->address, link->got_base,
+        link->thread_origin, link->module_origin, link->module_entry, link->has_tls};
     return linker_utils_survey_address_loads_nonnull(
-        machine, output, LINKER_UTILS_SLICE(const struct linker_utils_symbol_facts, symbols),
-        symbols_len, addresses, LINKER_UTILS_SLICE(const struct linker_utils_symbol, values),
-        values_len, words_start, LINKER_UTILS_RELAS(const uint8_t, words),
-        LINKER_UTILS_RELAS(const uint8_t, relocations), LINKER_UTILS_SLICE(const uint8_t, section),
-        section_len, LINKER_UTILS_SLICE(bool, kept), kept_len);
+        link->machine, &output,
+        LINKER_UTILS_SLICE(const struct linker_utils_symbol_facts, object->facts),
+        object->facts_len, &addresses,
+        LINKER_UTILS_SLICE(const struct linker_utils_symbol, object->values), object->values_len,
+        words->address, LINKER_UTILS_RELAS(const uint8_t, words->relocations),
+        LINKER_UTILS_RELAS(const uint8_t, section->relocations),
+        LINKER_UTILS_SLICE(const uint8_t, section->bytes), section->bytes_len,
+        LINKER_UTILS_SLICE(bool, words->kept), words->kept_len);
 }
 
 uint32_t linker_utils_rewrite_address_loads_nonnull(
@@ -374,22 +409,25 @@ uint32_t linker_utils_rewrite_address_loads_nonnull(
     uint8_t *section, size_t section_len, struct linker_utils_decision *decisions,
     size_t decisions_len, size_t *faulty);
 static inline uint32_t linker_utils_rewrite_address_loads(
-    uint16_t machine, const struct linker_utils_output_facts *output,
-    const struct linker_utils_symbol_facts *symbols, size_t symbols_len,
-    const struct linker_utils_addresses *addresses, const struct linker_utils_symbol *values,
-    size_t values_len, uint64_t words_start, const void *words, size_t words_len, const bool *kept,
-    size_t kept_len, void *relocations, size_t relocations_len, uint8_t *section,
-    size_t section_len, struct linker_utils_decision *decisions, size_t decisions_len,
-    size_t *faulty) {
+    const struct linker_utils_link *link, const struct linker_utils_object *object,
+    const struct linker_utils_section *section, const struct linker_utils_words *words,
+    const struct linker_utils_rewritten *rewritten, size_t *faulty) {
     size_t ignored;
+    const struct linker_utils_output_facts output = {link->is_executable, link->is_fixed,
+        link->has_near_symbols};
+    const struct linker_utils_addresses addresses = {section->address, link->got_base,
+        link->thread_origin, link->module_origin, link->module_entry, link->has_tls};
     return linker_utils_rewrite_address_loads_nonnull(
-        machine, output, LINKER_UTILS_SLICE(const struct linker_utils_symbol_facts, symbols),
-        symbols_len, addresses, LINKER_UTILS_SLICE(const struct linker_utils_symbol, values),
-        values_len, words_start, LINKER_UTILS_RELAS(const uint8_t, words),
-        LINKER_UTILS_SLICE(const bool, kept), kept_len, LINKER_UTILS_RELAS(uint8_t, relocations),
-        LINKER_UTILS_SLICE(uint8_t, section), section_len,
-        LINKER_UTILS_SLICE(struct linker_utils_decision, decisions), decisions_len,
-        faulty ? faulty : &ignored);
+        link->machine, &output,
+        LINKER_UTILS_SLICE(const struct linker_utils_symbol_facts, object->facts),
+        object->facts_len, &addresses,
+        LINKER_UTILS_SLICE(const struct linker_utils_symbol, object->values), object->values_len,
+        words->address, LINKER_UTILS_RELAS(const uint8_t, words->relocations),
+        LINKER_UTILS_SLICE(const bool, words->kept), words->kept_len,
+        LINKER_UTILS_RELAS(uint8_t, section->relocations),
+        LINKER_UTILS_SLICE(uint8_t, section->bytes), section->bytes_len,
+        LINKER_UTILS_SLICE(struct linker_utils_decision, rewritten->decisions),
+        rewritten->decisions_len, faulty ? faulty : &ignored);
 }
 
 uint32_t linker_utils_survey_global_pointer_nonnull(
@@ -399,17 +437,20 @@ uint32_t linker_utils_survey_global_pointer_nonnull(
     size_t values_len, uint64_t global_pointer, const uint8_t *relocations, size_t relocations_len,
     const uint8_t *section, size_t section_len, bool *kept, size_t kept_len);
 static inline uint32_t linker_utils_survey_global_pointer(
-    uint16_t machine, const struct linker_utils_output_facts *output,
-    const struct linker_utils_symbol_facts *symbols, size_t symbols_len,
-    const struct linker_utils_addresses *addresses, const struct linker_utils_symbol *values,
-    size_t values_len, uint64_t global_pointer, const void *relocations, size_t relocations_len,
-    const uint8_t *section, size_t section_len, bool *kept, size_t kept_len) {
+    const struct linker_utils_link *link, const struct linker_utils_object *object,
+    const struct linker_utils_section *section) {
+    const struct linker_utils_output_facts output = {link->is_executable, link->is_fixed,
+        link->has_near_symbols};
+    const struct linker_utils_addresses addresses = {section->address, link->got_base,
+        link->thread_origin, link->module_origin, link->module_entry, link->has_tls};
     return linker_utils_survey_global_pointer_nonnull(
-        machine, output, LINKER_UTILS_SLICE(const struct linker_utils_symbol_facts, symbols),
-        symbols_len, addresses, LINKER_UTILS_SLICE(const struct linker_utils_symbol, values),
-        values_len, global_pointer, LINKER_UTILS_RELAS(const uint8_t, relocations),
-        LINKER_UTILS_SLICE(const uint8_t, section), section_len, LINKER_UTILS_SLICE(bool, kept),
-        kept_len);
+        link->machine, &output,
+        LINKER_UTILS_SLICE(const struct linker_utils_symbol_facts, object->facts),
+        object->facts_len, &addresses,
+        LINKER_UTILS_SLICE(const struct linker_utils_symbol, object->values), object->values_len,
+        link->global_pointer, LINKER_UTILS_RELAS(const uint8_t, section->relocations),
+        LINKER_UTILS_SLICE(const uint8_t, section->bytes), section->bytes_len,
+        LINKER_UTILS_SLICE(bool, object->kept_high_parts), object->kept_high_parts_len);
 }
 
 uint32_t linker_utils_rewrite_global_pointer_nonnull(
@@ -422,23 +463,26 @@ uint32_t linker_utils_rewrite_global_pointer_nonnull(
     struct linker_utils_deletion *deleted, size_t deleted_len, size_t *deleted_used,
     size_t *faulty);
 static inline uint32_t linker_utils_rewrite_global_pointer(
-    uint16_t machine, const struct linker_utils_output_facts *output,
-    const struct linker_utils_symbol_facts *symbols, size_t symbols_len,
-    const struct linker_utils_addresses *addresses, const struct linker_utils_symbol *values,
-    size_t values_len, uint64_t global_pointer, const bool *kept, size_t kept_len,
-    void *relocations, size_t relocations_len, const uint8_t *section, size_t section_len,
-    struct linker_utils_decision *decisions, size_t decisions_len,
-    struct linker_utils_deletion *deleted, size_t deleted_len, size_t *deleted_used,
+    const struct linker_utils_link *link, const struct linker_utils_object *object,
+    const struct linker_utils_section *section, struct linker_utils_rewritten *rewritten,
     size_t *faulty) {
     size_t ignored;
+    const struct linker_utils_output_facts output = {link->is_executable, link->is_fixed,
+        link->has_near_symbols};
+    const struct linker_utils_addresses addresses = {section->address, link->got_base,
+        link->thread_origin, link->module_origin, link->module_entry, link->has_tls};
     return linker_utils_rewrite_global_pointer_nonnull(
-        machine, output, LINKER_UTILS_SLICE(const struct linker_utils_symbol_facts, symbols),
-        symbols_len, addresses, LINKER_UTILS_SLICE(const struct linker_utils_symbol, values),
-        values_len, global_pointer, LINKER_UTILS_SLICE(const bool, kept), kept_len,
-        LINKER_UTILS_RELAS(uint8_t, relocations), LINKER_UTILS_SLICE(const uint8_t, section),
-        section_len, LINKER_UTILS_SLICE(struct linker_utils_decision, decisions), decisions_len,
-        LINKER_UTILS_SLICE(struct linker_utils_deletion, deleted), deleted_len, deleted_used,
-        faulty ? faulty : &ignored);
+        link->machine, &output,
+        LINKER_UTILS_SLICE(const struct linker_utils_symbol_facts, object->facts),
+        object->facts_len, &addresses,
+        LINKER_UTILS_SLICE(const struct linker_utils_symbol, object->values), object->values_len,
+        link->global_pointer, LINKER_UTILS_SLICE(const bool, object->kept_high_parts),
+        object->kept_high_parts_len, LINKER_UTILS_RELAS(uint8_t, section->relocations),
+        LINKER_UTILS_SLICE(const uint8_t, section->bytes), section->bytes_len,
+        LINKER_UTILS_SLICE(struct linker_utils_decision, rewritten->decisions),
+        rewritten->decisions_len,
+        LINKER_UTILS_SLICE(struct linker_utils_deletion, rewritten->deleted),
+        rewritten->deleted_len, &rewritten->deleted_used, faulty ? faulty : &ignored);
 }
 
 uint32_t linker_utils_from_global_pointer_nonnull(
@@ -446,14 +490,16 @@ uint32_t linker_utils_from_global_pointer_nonnull(
     size_t values_len, uint64_t global_pointer, uint8_t *relocations, size_t relocations_len,
     uint8_t *section, size_t section_len, size_t *faulty);
 static inline uint32_t linker_utils_from_global_pointer(
-    const struct linker_utils_addresses *addresses, const struct linker_utils_symbol *values,
-    size_t values_len, uint64_t global_pointer, void *relocations, size_t relocations_len,
-    uint8_t *section, size_t section_len, size_t *faulty) {
+    const struct linker_utils_link *link, const struct linker_utils_object *object,
+    const struct linker_utils_section *section, size_t *faulty) {
     size_t ignored;
+    const struct linker_utils_addresses addresses = {section->address, link->got_base,
+        link->thread_origin, link->module_origin, link->module_entry, link->has_tls};
     return linker_utils_from_global_pointer_nonnull(
-        addresses, LINKER_UTILS_SLICE(const struct linker_utils_symbol, values), values_len,
-        global_pointer, LINKER_UTILS_RELAS(uint8_t, relocations),
-        LINKER_UTILS_SLICE(uint8_t, section), section_len, faulty ? faulty : &ignored);
+        &addresses, LINKER_UTILS_SLICE(const struct linker_utils_symbol, object->values),
+        object->values_len, link->global_pointer, LINKER_UTILS_RELAS(uint8_t, section->relocations),
+        LINKER_UTILS_SLICE(uint8_t, section->bytes), section->bytes_len,
+        faulty ? faulty : &ignored);
 }
 
 uint32_t linker_utils_get_provided_symbol_nonnull(
@@ -509,24 +555,25 @@ uint32_t linker_utils_route_at_nonnull(
     size_t relocations_len, const struct linker_utils_symbol *symbols, size_t symbols_len,
     size_t index, const uint8_t *section, size_t section_len, struct linker_utils_route *route);
 static inline uint32_t linker_utils_route_at(
-    uint16_t machine, const struct linker_utils_addresses *addresses, const void *relocations,
-    size_t relocations_len, const struct linker_utils_symbol *symbols, size_t symbols_len,
-    size_t index, const uint8_t *section, size_t section_len, struct linker_utils_route *route) {
+    const struct linker_utils_link *link, const struct linker_utils_object *object,
+    const struct linker_utils_section *section, size_t index, struct linker_utils_route *route) {
+    const struct linker_utils_addresses addresses = {section->address, link->got_base,
+        link->thread_origin, link->module_origin, link->module_entry, link->has_tls};
     return linker_utils_route_at_nonnull(
-        machine, addresses, LINKER_UTILS_RELAS(const uint8_t, relocations),
-        LINKER_UTILS_SLICE(const struct linker_utils_symbol, symbols), symbols_len, index,
-        LINKER_UTILS_SLICE(const uint8_t, section), section_len, route);
+        link->machine, &addresses, LINKER_UTILS_RELAS(const uint8_t, section->relocations),
+        LINKER_UTILS_SLICE(const struct linker_utils_symbol, object->values), object->values_len,
+        index, LINKER_UTILS_SLICE(const uint8_t, section->bytes), section->bytes_len, route);
 }
 
 uint32_t linker_utils_route_by_word_nonnull(
     uint16_t machine, uint64_t word, const uint8_t *relocations, size_t relocations_len,
     size_t index, const uint8_t *section, size_t section_len, struct linker_utils_route *route);
 static inline uint32_t linker_utils_route_by_word(
-    uint16_t machine, uint64_t word, const void *relocations, size_t relocations_len, size_t index,
-    const uint8_t *section, size_t section_len, struct linker_utils_route *route) {
+    uint16_t machine, uint64_t word, const struct linker_utils_section *section, size_t index,
+    struct linker_utils_route *route) {
     return linker_utils_route_by_word_nonnull(
-        machine, word, LINKER_UTILS_RELAS(const uint8_t, relocations), index,
-        LINKER_UTILS_SLICE(const uint8_t, section), section_len, route);
+        machine, word, LINKER_UTILS_RELAS(const uint8_t, section->relocations), index,
+        LINKER_UTILS_SLICE(const uint8_t, section->bytes), section->bytes_len, route);
 }
 
 uint32_t linker_utils_place_stubs_nonnull(
@@ -536,19 +583,18 @@ uint32_t linker_utils_place_stubs_nonnull(
     size_t stubs_len, size_t *stubs_used, size_t *ways, size_t ways_len, uint64_t *before,
     size_t before_len, size_t *faulty);
 static inline uint32_t linker_utils_place_stubs(
-    const struct linker_utils_branch *branches, size_t branches_len, const uint64_t *targets,
-    size_t targets_len, const uint64_t *boundaries, size_t boundaries_len,
-    const struct linker_utils_stub_shape *shape, struct linker_utils_placed_stub *stubs,
-    size_t stubs_len, size_t *stubs_used, size_t *ways, size_t ways_len, uint64_t *before,
-    size_t before_len, size_t *faulty) {
+    const struct linker_utils_branches *branches, const struct linker_utils_stub_shape *shape,
+    struct linker_utils_placement *placement, size_t *faulty) {
     size_t ignored;
     return linker_utils_place_stubs_nonnull(
-        LINKER_UTILS_SLICE(const struct linker_utils_branch, branches), branches_len,
-        LINKER_UTILS_SLICE(const uint64_t, targets), targets_len,
-        LINKER_UTILS_SLICE(const uint64_t, boundaries), boundaries_len, shape,
-        LINKER_UTILS_SLICE(struct linker_utils_placed_stub, stubs), stubs_len, stubs_used,
-        LINKER_UTILS_SLICE(size_t, ways), ways_len, LINKER_UTILS_SLICE(uint64_t, before),
-        before_len, faulty ? faulty : &ignored);
+        LINKER_UTILS_SLICE(const struct linker_utils_branch, branches->branches),
+        branches->branches_len, LINKER_UTILS_SLICE(const uint64_t, branches->targets),
+        branches->targets_len, LINKER_UTILS_SLICE(const uint64_t, branches->boundaries),
+        branches->boundaries_len, shape,
+        LINKER_UTILS_SLICE(struct linker_utils_placed_stub, placement->stubs), placement->stubs_len,
+        &placement->stubs_used, LINKER_UTILS_SLICE(size_t, placement->ways), placement->ways_len,
+        LINKER_UTILS_SLICE(uint64_t, placement->before), placement->before_len,
+        faulty ? faulty : &ignored);
 }
 
 uint32_t linker_utils_fits_nonnull(
@@ -590,22 +636,24 @@ uint32_t linker_utils_can_apply_nonnull(
     uint16_t machine, uint32_t rewrite, uint8_t opcode_len, const uint8_t *section,
     size_t section_len, uint64_t offset);
 static inline uint32_t linker_utils_can_apply(
-    uint16_t machine, uint32_t rewrite, uint8_t opcode_len, const uint8_t *section,
-    size_t section_len, uint64_t offset) {
+    uint16_t machine, uint32_t rewrite, uint8_t opcode_len,
+    const struct linker_utils_section *section, uint64_t offset) {
     return linker_utils_can_apply_nonnull(
-        machine, rewrite, opcode_len, LINKER_UTILS_SLICE(const uint8_t, section), section_len,
-        offset);
+        machine, rewrite, opcode_len, LINKER_UTILS_SLICE(const uint8_t, section->bytes),
+        section->bytes_len, offset);
 }
 
 uint32_t linker_utils_keep_facts_nonnull(
     const struct linker_utils_output_facts *output, const struct linker_utils_symbol_facts *symbols,
     size_t symbols_len, struct linker_utils_kept_facts *kept, size_t kept_len);
 static inline uint32_t linker_utils_keep_facts(
-    const struct linker_utils_output_facts *output, const struct linker_utils_symbol_facts *symbols,
-    size_t symbols_len, struct linker_utils_kept_facts *kept, size_t kept_len) {
+    const struct linker_utils_link *link, const struct linker_utils_object *object) {
+    const struct linker_utils_output_facts output = {link->is_executable, link->is_fixed,
+        link->has_near_symbols};
     return linker_utils_keep_facts_nonnull(
-        output, LINKER_UTILS_SLICE(const struct linker_utils_symbol_facts, symbols), symbols_len,
-        LINKER_UTILS_SLICE(struct linker_utils_kept_facts, kept), kept_len);
+        &output, LINKER_UTILS_SLICE(const struct linker_utils_symbol_facts, object->facts),
+        object->facts_len, LINKER_UTILS_SLICE(struct linker_utils_kept_facts, object->kept_facts),
+        object->kept_facts_len);
 }
 
 uint32_t linker_utils_relocate_rewritten_section_nonnull(
@@ -616,20 +664,23 @@ uint32_t linker_utils_relocate_rewritten_section_nonnull(
     size_t relocations_len, const struct linker_utils_symbol *symbols, size_t symbols_len,
     uint8_t *section, size_t section_len, uint64_t *memory, size_t memory_len, size_t *faulty);
 static inline uint32_t linker_utils_relocate_rewritten_section(
-    uint16_t machine, const struct linker_utils_output_facts *output,
-    const struct linker_utils_symbol_facts *facts, size_t facts_len,
-    const struct linker_utils_kept_facts *kept, size_t kept_len,
-    const struct linker_utils_addresses *addresses, const void *relocations, size_t relocations_len,
-    const struct linker_utils_symbol *symbols, size_t symbols_len, uint8_t *section,
-    size_t section_len, uint64_t *memory, size_t memory_len, size_t *faulty) {
+    const struct linker_utils_link *link, const struct linker_utils_object *object,
+    const struct linker_utils_section *section, uint64_t *memory, size_t memory_len,
+    size_t *faulty) {
     size_t ignored;
+    const struct linker_utils_output_facts output = {link->is_executable, link->is_fixed,
+        link->has_near_symbols};
+    const struct linker_utils_addresses addresses = {section->address, link->got_base,
+        link->thread_origin, link->module_origin, link->module_entry, link->has_tls};
     return linker_utils_relocate_rewritten_section_nonnull(
-        machine, output, LINKER_UTILS_SLICE(const struct linker_utils_symbol_facts, facts),
-        facts_len, LINKER_UTILS_SLICE(const struct linker_utils_kept_facts, kept), kept_len,
-        addresses, LINKER_UTILS_RELAS(const uint8_t, relocations),
-        LINKER_UTILS_SLICE(const struct linker_utils_symbol, symbols), symbols_len,
-        LINKER_UTILS_SLICE(uint8_t, section), section_len, LINKER_UTILS_SLICE(uint64_t, memory),
-        memory_len, faulty ? faulty : &ignored);
+        link->machine, &output,
+        LINKER_UTILS_SLICE(const struct linker_utils_symbol_facts, object->facts),
+        object->facts_len,
+        LINKER_UTILS_SLICE(const struct linker_utils_kept_facts, object->kept_facts),
+        object->kept_facts_len, &addresses, LINKER_UTILS_RELAS(const uint8_t, section->relocations),
+        LINKER_UTILS_SLICE(const struct linker_utils_symbol, object->values), object->values_len,
+        LINKER_UTILS_SLICE(uint8_t, section->bytes), section->bytes_len,
+        LINKER_UTILS_SLICE(uint64_t, memory), memory_len, faulty ? faulty : &ignored);
 }
 
 uint32_t linker_utils_write_mov_sequence_nonnull(
@@ -759,27 +810,27 @@ uint32_t linker_utils_deltas_merge_nonnull(
     struct linker_utils_delta *merged, size_t merged_len, size_t *faulty);
 static inline uint32_t linker_utils_deltas_merge(
     const struct linker_utils_delta *deltas, size_t deltas_len,
-    const struct linker_utils_deletion *additional, size_t additional_len,
-    struct linker_utils_delta *merged, size_t merged_len, size_t *faulty) {
+    const struct linker_utils_merge *merge, size_t *faulty) {
     size_t ignored;
     return linker_utils_deltas_merge_nonnull(
         LINKER_UTILS_SLICE(const struct linker_utils_delta, deltas), deltas_len,
-        LINKER_UTILS_SLICE(const struct linker_utils_deletion, additional), additional_len,
-        LINKER_UTILS_SLICE(struct linker_utils_delta, merged), merged_len,
-        faulty ? faulty : &ignored);
+        LINKER_UTILS_SLICE(const struct linker_utils_deletion, merge->additional),
+        merge->additional_len, LINKER_UTILS_SLICE(struct linker_utils_delta, merge->merged),
+        merge->merged_len, faulty ? faulty : &ignored);
 }
 
 uint32_t linker_utils_deltas_translate_all_nonnull(
     const struct linker_utils_delta *deltas, size_t deltas_len, const uint64_t *queries,
     size_t queries_len, uint64_t *outputs, size_t outputs_len, size_t *faulty);
 static inline uint32_t linker_utils_deltas_translate_all(
-    const struct linker_utils_delta *deltas, size_t deltas_len, const uint64_t *queries,
-    size_t queries_len, uint64_t *outputs, size_t outputs_len, size_t *faulty) {
+    const struct linker_utils_delta *deltas, size_t deltas_len,
+    const struct linker_utils_translation *translation, size_t *faulty) {
     size_t ignored;
     return linker_utils_deltas_translate_all_nonnull(
         LINKER_UTILS_SLICE(const struct linker_utils_delta, deltas), deltas_len,
-        LINKER_UTILS_SLICE(const uint64_t, queries), queries_len,
-        LINKER_UTILS_SLICE(uint64_t, outputs), outputs_len, faulty ? faulty : &ignored);
+        LINKER_UTILS_SLICE(const uint64_t, translation->queries), translation->queries_len,
+        LINKER_UTILS_SLICE(uint64_t, translation->outputs), translation->outputs_len,
+        faulty ? faulty : &ignored);
 }
 
 size_t linker_utils_deltas_block_count_nonnull(
@@ -829,45 +880,45 @@ static inline uint32_t linker_utils_deltas_output_to_input_by_heads(
 uint32_t linker_utils_jal_site_nonnull(
     uint8_t *section, size_t section_len, uint64_t site, int64_t distance);
 static inline uint32_t linker_utils_jal_site(
-    uint8_t *section, size_t section_len, uint64_t site, int64_t distance) {
+    const struct linker_utils_section *section, uint64_t site, int64_t distance) {
     return linker_utils_jal_site_nonnull(
-        LINKER_UTILS_SLICE(uint8_t, section), section_len, site, distance);
+        LINKER_UTILS_SLICE(uint8_t, section->bytes), section->bytes_len, site, distance);
 }
 
 uint32_t linker_utils_jal_site_with_nonnull(
     uint8_t *section, size_t section_len, uint64_t site, int64_t distance, uint32_t link);
 static inline uint32_t linker_utils_jal_site_with(
-    uint8_t *section, size_t section_len, uint64_t site, int64_t distance, uint32_t link) {
+    const struct linker_utils_section *section, uint64_t site, int64_t distance, uint32_t link) {
     return linker_utils_jal_site_with_nonnull(
-        LINKER_UTILS_SLICE(uint8_t, section), section_len, site, distance, link);
+        LINKER_UTILS_SLICE(uint8_t, section->bytes), section->bytes_len, site, distance, link);
 }
 
 uint32_t linker_utils_relax_call_nonnull(
     uint8_t *section, size_t section_len, const struct linker_utils_delta *deltas,
     size_t deltas_len, uint64_t site, uint64_t target);
 static inline uint32_t linker_utils_relax_call(
-    uint8_t *section, size_t section_len, const struct linker_utils_delta *deltas,
+    const struct linker_utils_section *section, const struct linker_utils_delta *deltas,
     size_t deltas_len, uint64_t site, uint64_t target) {
     return linker_utils_relax_call_nonnull(
-        LINKER_UTILS_SLICE(uint8_t, section), section_len,
+        LINKER_UTILS_SLICE(uint8_t, section->bytes), section->bytes_len,
         LINKER_UTILS_SLICE(const struct linker_utils_delta, deltas), deltas_len, site, target);
 }
 
 bool linker_utils_is_plain_call_nonnull(const uint8_t *section, size_t section_len, uint64_t site);
 static inline bool linker_utils_is_plain_call(
-    const uint8_t *section, size_t section_len, uint64_t site) {
+    const struct linker_utils_section *section, uint64_t site) {
     return linker_utils_is_plain_call_nonnull(
-        LINKER_UTILS_SLICE(const uint8_t, section), section_len, site);
+        LINKER_UTILS_SLICE(const uint8_t, section->bytes), section->bytes_len, site);
 }
 
 size_t linker_utils_packed_len_nonnull(
     const uint8_t *section, size_t section_len, const struct linker_utils_delta *deltas,
     size_t deltas_len);
 static inline size_t linker_utils_packed_len(
-    const uint8_t *section, size_t section_len, const struct linker_utils_delta *deltas,
+    const struct linker_utils_section *section, const struct linker_utils_delta *deltas,
     size_t deltas_len) {
     return linker_utils_packed_len_nonnull(
-        LINKER_UTILS_SLICE(const uint8_t, section), section_len,
+        LINKER_UTILS_SLICE(const uint8_t, section->bytes), section->bytes_len,
         LINKER_UTILS_SLICE(const struct linker_utils_delta, deltas), deltas_len);
 }
 
@@ -876,27 +927,25 @@ uint32_t linker_utils_pack_nonnull(
     size_t deltas_len, const struct linker_utils_call *calls, size_t calls_len, uint32_t link,
     uint8_t *packed, size_t packed_len, size_t *faulty);
 static inline uint32_t linker_utils_pack(
-    const uint8_t *section, size_t section_len, const struct linker_utils_delta *deltas,
-    size_t deltas_len, const struct linker_utils_call *calls, size_t calls_len, uint32_t link,
+    const struct linker_utils_section *section, const struct linker_utils_calls *calls,
     uint8_t *packed, size_t packed_len, size_t *faulty) {
     size_t ignored;
     return linker_utils_pack_nonnull(
-        LINKER_UTILS_SLICE(const uint8_t, section), section_len,
-        LINKER_UTILS_SLICE(const struct linker_utils_delta, deltas), deltas_len,
-        LINKER_UTILS_SLICE(const struct linker_utils_call, calls), calls_len, link,
-        LINKER_UTILS_SLICE(uint8_t, packed), packed_len, faulty ? faulty : &ignored);
+        LINKER_UTILS_SLICE(const uint8_t, section->bytes), section->bytes_len,
+        LINKER_UTILS_SLICE(const struct linker_utils_delta, calls->deltas), calls->deltas_len,
+        LINKER_UTILS_SLICE(const struct linker_utils_call, calls->calls), calls->calls_len,
+        calls->link, LINKER_UTILS_SLICE(uint8_t, packed), packed_len, faulty ? faulty : &ignored);
 }
 
 uint32_t linker_utils_calls_shrinkable_nonnull(
     const struct linker_utils_delta *deltas, size_t deltas_len,
     const struct linker_utils_call *calls, size_t calls_len, size_t *faulty);
 static inline uint32_t linker_utils_calls_shrinkable(
-    const struct linker_utils_delta *deltas, size_t deltas_len,
-    const struct linker_utils_call *calls, size_t calls_len, size_t *faulty) {
+    const struct linker_utils_calls *calls, size_t *faulty) {
     size_t ignored;
     return linker_utils_calls_shrinkable_nonnull(
-        LINKER_UTILS_SLICE(const struct linker_utils_delta, deltas), deltas_len,
-        LINKER_UTILS_SLICE(const struct linker_utils_call, calls), calls_len,
+        LINKER_UTILS_SLICE(const struct linker_utils_delta, calls->deltas), calls->deltas_len,
+        LINKER_UTILS_SLICE(const struct linker_utils_call, calls->calls), calls->calls_len,
         faulty ? faulty : &ignored);
 }
 
@@ -905,13 +954,11 @@ uint32_t linker_utils_shrink_calls_nonnull(
     const struct linker_utils_call *calls, size_t calls_len, uint8_t *chosen, size_t chosen_len,
     size_t *faulty);
 static inline uint32_t linker_utils_shrink_calls(
-    const struct linker_utils_delta *deltas, size_t deltas_len,
-    const struct linker_utils_call *calls, size_t calls_len, uint8_t *chosen, size_t chosen_len,
-    size_t *faulty) {
+    const struct linker_utils_calls *calls, uint8_t *chosen, size_t chosen_len, size_t *faulty) {
     size_t ignored;
     return linker_utils_shrink_calls_nonnull(
-        LINKER_UTILS_SLICE(const struct linker_utils_delta, deltas), deltas_len,
-        LINKER_UTILS_SLICE(const struct linker_utils_call, calls), calls_len,
+        LINKER_UTILS_SLICE(const struct linker_utils_delta, calls->deltas), calls->deltas_len,
+        LINKER_UTILS_SLICE(const struct linker_utils_call, calls->calls), calls->calls_len,
         LINKER_UTILS_SLICE(uint8_t, chosen), chosen_len, faulty ? faulty : &ignored);
 }
 
@@ -921,16 +968,16 @@ uint32_t linker_utils_section_items_nonnull(
     struct linker_utils_item *items, size_t items_len, size_t *makers, size_t makers_len,
     size_t *len, size_t *faulty);
 static inline uint32_t linker_utils_section_items(
-    uint16_t machine, const uint8_t *section, size_t section_len, uint64_t base,
+    uint16_t machine, const struct linker_utils_section *section,
     const struct linker_utils_rela *relocations, size_t relocations_len,
-    struct linker_utils_item *items, size_t items_len, size_t *makers, size_t makers_len,
-    size_t *len, size_t *faulty) {
+    struct linker_utils_items *items, size_t *faulty) {
     size_t ignored;
     return linker_utils_section_items_nonnull(
-        machine, LINKER_UTILS_SLICE(const uint8_t, section), section_len, base,
-        LINKER_UTILS_SLICE(const struct linker_utils_rela, relocations), relocations_len,
-        LINKER_UTILS_SLICE(struct linker_utils_item, items), items_len,
-        LINKER_UTILS_SLICE(size_t, makers), makers_len, len, faulty ? faulty : &ignored);
+        machine, LINKER_UTILS_SLICE(const uint8_t, section->bytes), section->bytes_len,
+        section->base, LINKER_UTILS_SLICE(const struct linker_utils_rela, relocations),
+        relocations_len, LINKER_UTILS_SLICE(struct linker_utils_item, items->items),
+        items->items_len, LINKER_UTILS_SLICE(size_t, items->makers), items->makers_len,
+        &items->items_used, faulty ? faulty : &ignored);
 }
 
 uint32_t linker_utils_rewritten_items_nonnull(
@@ -940,27 +987,26 @@ uint32_t linker_utils_rewritten_items_nonnull(
     struct linker_utils_item *items, size_t items_len, size_t *makers, size_t makers_len,
     size_t *len, size_t *faulty);
 static inline uint32_t linker_utils_rewritten_items(
-    uint16_t machine, const uint8_t *section, size_t section_len, uint64_t base,
+    uint16_t machine, const struct linker_utils_section *section,
     const struct linker_utils_rela *relocations, size_t relocations_len,
-    const struct linker_utils_deletion *deleted, size_t deleted_len,
-    struct linker_utils_item *items, size_t items_len, size_t *makers, size_t makers_len,
-    size_t *len, size_t *faulty) {
+    struct linker_utils_items *items, size_t *faulty) {
     size_t ignored;
     return linker_utils_rewritten_items_nonnull(
-        machine, LINKER_UTILS_SLICE(const uint8_t, section), section_len, base,
-        LINKER_UTILS_SLICE(const struct linker_utils_rela, relocations), relocations_len,
-        LINKER_UTILS_SLICE(const struct linker_utils_deletion, deleted), deleted_len,
-        LINKER_UTILS_SLICE(struct linker_utils_item, items), items_len,
-        LINKER_UTILS_SLICE(size_t, makers), makers_len, len, faulty ? faulty : &ignored);
+        machine, LINKER_UTILS_SLICE(const uint8_t, section->bytes), section->bytes_len,
+        section->base, LINKER_UTILS_SLICE(const struct linker_utils_rela, relocations),
+        relocations_len, LINKER_UTILS_SLICE(const struct linker_utils_deletion, section->deleted),
+        section->deleted_len, LINKER_UTILS_SLICE(struct linker_utils_item, items->items),
+        items->items_len, LINKER_UTILS_SLICE(size_t, items->makers), items->makers_len,
+        &items->items_used, faulty ? faulty : &ignored);
 }
 
 uint32_t linker_utils_items_relaxable_nonnull(
     const struct linker_utils_item *items, size_t items_len, uint64_t start, size_t *faulty);
 static inline uint32_t linker_utils_items_relaxable(
-    const struct linker_utils_item *items, size_t items_len, uint64_t start, size_t *faulty) {
+    const struct linker_utils_run *run, size_t *faulty) {
     size_t ignored;
     return linker_utils_items_relaxable_nonnull(
-        LINKER_UTILS_SLICE(const struct linker_utils_item, items), items_len, start,
+        LINKER_UTILS_SLICE(const struct linker_utils_item, run->items), run->items_len, run->start,
         faulty ? faulty : &ignored);
 }
 
@@ -969,45 +1015,48 @@ uint32_t linker_utils_relax_nonnull(
     size_t shapes_len, uint64_t *kept, size_t kept_len, size_t *places, size_t places_len,
     uint64_t *freed, size_t freed_len, size_t *faulty);
 static inline uint32_t linker_utils_relax(
-    const struct linker_utils_item *items, size_t items_len, uint64_t start, uint8_t *shapes,
-    size_t shapes_len, uint64_t *kept, size_t kept_len, size_t *places, size_t places_len,
-    uint64_t *freed, size_t freed_len, size_t *faulty) {
+    const struct linker_utils_run *run, const struct linker_utils_relaxed *relaxed,
+    size_t *faulty) {
     size_t ignored;
     return linker_utils_relax_nonnull(
-        LINKER_UTILS_SLICE(const struct linker_utils_item, items), items_len, start,
-        LINKER_UTILS_SLICE(uint8_t, shapes), shapes_len, LINKER_UTILS_SLICE(uint64_t, kept),
-        kept_len, LINKER_UTILS_SLICE(size_t, places), places_len,
-        LINKER_UTILS_SLICE(uint64_t, freed), freed_len, faulty ? faulty : &ignored);
+        LINKER_UTILS_SLICE(const struct linker_utils_item, run->items), run->items_len, run->start,
+        LINKER_UTILS_SLICE(uint8_t, relaxed->shapes), relaxed->shapes_len,
+        LINKER_UTILS_SLICE(uint64_t, relaxed->kept), relaxed->kept_len,
+        LINKER_UTILS_SLICE(size_t, relaxed->places), relaxed->places_len,
+        LINKER_UTILS_SLICE(uint64_t, relaxed->freed), relaxed->freed_len,
+        faulty ? faulty : &ignored);
 }
 
 uint32_t linker_utils_run_deltas_nonnull(
     const struct linker_utils_item *items, size_t items_len, const uint64_t *kept, size_t kept_len,
     struct linker_utils_delta *deltas, size_t deltas_len, size_t *len);
 static inline uint32_t linker_utils_run_deltas(
-    const struct linker_utils_item *items, size_t items_len, const uint64_t *kept, size_t kept_len,
+    const struct linker_utils_run *run, const struct linker_utils_relaxed *relaxed,
     struct linker_utils_delta *deltas, size_t deltas_len, size_t *len) {
     return linker_utils_run_deltas_nonnull(
-        LINKER_UTILS_SLICE(const struct linker_utils_item, items), items_len,
-        LINKER_UTILS_SLICE(const uint64_t, kept), kept_len,
+        LINKER_UTILS_SLICE(const struct linker_utils_item, run->items), run->items_len,
+        LINKER_UTILS_SLICE(const uint64_t, relaxed->kept), relaxed->kept_len,
         LINKER_UTILS_SLICE(struct linker_utils_delta, deltas), deltas_len, len);
 }
 
 size_t linker_utils_packed_run_len_nonnull(
     uint64_t base, size_t section_len, const struct linker_utils_delta *deltas, size_t deltas_len);
 static inline size_t linker_utils_packed_run_len(
-    uint64_t base, size_t section_len, const struct linker_utils_delta *deltas, size_t deltas_len) {
+    const struct linker_utils_section *section, const struct linker_utils_run *run) {
     return linker_utils_packed_run_len_nonnull(
-        base, section_len, LINKER_UTILS_SLICE(const struct linker_utils_delta, deltas), deltas_len);
+        section->base, section->bytes_len,
+        LINKER_UTILS_SLICE(const struct linker_utils_delta, run->deltas), run->deltas_len);
 }
 
 uint32_t linker_utils_has_its_instructions_nonnull(
     uint16_t machine, const uint8_t *section, size_t section_len, uint64_t base,
     const struct linker_utils_item *item);
 static inline uint32_t linker_utils_has_its_instructions(
-    uint16_t machine, const uint8_t *section, size_t section_len, uint64_t base,
+    uint16_t machine, const struct linker_utils_section *section,
     const struct linker_utils_item *item) {
     return linker_utils_has_its_instructions_nonnull(
-        machine, LINKER_UTILS_SLICE(const uint8_t, section), section_len, base, item);
+        machine, LINKER_UTILS_SLICE(const uint8_t, section->bytes), section->bytes_len,
+        section->base, item);
 }
 
 uint32_t linker_utils_pack_run_nonnull(
@@ -1017,17 +1066,25 @@ uint32_t linker_utils_pack_run_nonnull(
     uint8_t *relocations, size_t relocations_len, uint8_t *packed, size_t packed_len,
     size_t *faulty);
 static inline uint32_t linker_utils_pack_run(
-    uint16_t machine, const uint8_t *section, size_t section_len, uint64_t base,
-    const struct linker_utils_item *items, size_t items_len,
-    const struct linker_utils_delta *deltas, size_t deltas_len, uint64_t start, void *relocations,
-    size_t relocations_len, uint8_t *packed, size_t packed_len, size_t *faulty) {
+    uint16_t machine, const struct linker_utils_section *section,
+    const struct linker_utils_run *run, uint8_t *packed, size_t packed_len, size_t *faulty) {
     size_t ignored;
     return linker_utils_pack_run_nonnull(
-        machine, LINKER_UTILS_SLICE(const uint8_t, section), section_len, base,
-        LINKER_UTILS_SLICE(const struct linker_utils_item, items), items_len,
-        LINKER_UTILS_SLICE(const struct linker_utils_delta, deltas), deltas_len, start,
-        LINKER_UTILS_RELAS(uint8_t, relocations), LINKER_UTILS_SLICE(uint8_t, packed), packed_len,
-        faulty ? faulty : &ignored);
+        machine, LINKER_UTILS_SLICE(const uint8_t, section->bytes), section->bytes_len,
+        section->base, LINKER_UTILS_SLICE(const struct linker_utils_item, run->items),
+        run->items_len, LINKER_UTILS_SLICE(const struct linker_utils_delta, run->deltas),
+        run->deltas_len, run->start, LINKER_UTILS_RELAS(uint8_t, section->relocations),
+        LINKER_UTILS_SLICE(uint8_t, packed), packed_len, faulty ? faulty : &ignored);
+}
+
+uint32_t linker_utils_read_value_nonnull(
+    uint16_t machine, uint32_t r_type, const uint8_t *bytes, size_t bytes_len,
+    struct linker_utils_field_value *value);
+static inline uint32_t linker_utils_read_value(
+    uint16_t machine, uint32_t r_type, const uint8_t *bytes, size_t bytes_len,
+    struct linker_utils_field_value *value) {
+    return linker_utils_read_value_nonnull(
+        machine, r_type, LINKER_UTILS_SLICE(const uint8_t, bytes), bytes_len, value);
 }
 
 uint32_t linker_utils_field_bits_nonnull(
@@ -1053,10 +1110,11 @@ uint32_t linker_utils_recognise_window_nonnull(
     uint16_t machine, uint32_t r_type, const uint8_t *original, size_t original_len,
     uint64_t offset, struct linker_utils_window_bounds *window);
 static inline uint32_t linker_utils_recognise_window(
-    uint16_t machine, uint32_t r_type, const uint8_t *original, size_t original_len,
-    uint64_t offset, struct linker_utils_window_bounds *window) {
+    uint16_t machine, uint32_t r_type, const struct linker_utils_windows *windows,
+    struct linker_utils_window_bounds *window) {
     return linker_utils_recognise_window_nonnull(
-        machine, r_type, LINKER_UTILS_SLICE(const uint8_t, original), original_len, offset, window);
+        machine, r_type, LINKER_UTILS_SLICE(const uint8_t, windows->original),
+        windows->original_len, windows->offset, window);
 }
 
 uint32_t linker_utils_recognise_nonnull(
@@ -1065,15 +1123,15 @@ uint32_t linker_utils_recognise_nonnull(
     const uint8_t *linked, size_t linked_len, struct linker_utils_recognised *found,
     size_t found_len, size_t *count);
 static inline uint32_t linker_utils_recognise(
-    uint16_t machine, uint32_t r_type, const uint8_t *original, size_t original_len,
-    uint64_t offset, const struct linker_utils_window_bits *others, size_t others_len,
-    const uint8_t *linked, size_t linked_len, struct linker_utils_recognised *found,
-    size_t found_len, size_t *count) {
+    uint16_t machine, uint32_t r_type, const struct linker_utils_windows *windows,
+    struct linker_utils_recognised *found, size_t found_len, size_t *count) {
     return linker_utils_recognise_nonnull(
-        machine, r_type, LINKER_UTILS_SLICE(const uint8_t, original), original_len, offset,
-        LINKER_UTILS_SLICE(const struct linker_utils_window_bits, others), others_len,
-        LINKER_UTILS_SLICE(const uint8_t, linked), linked_len,
-        LINKER_UTILS_SLICE(struct linker_utils_recognised, found), found_len, count);
+        machine, r_type, LINKER_UTILS_SLICE(const uint8_t, windows->original),
+        windows->original_len, windows->offset,
+        LINKER_UTILS_SLICE(const struct linker_utils_window_bits, windows->others),
+        windows->others_len, LINKER_UTILS_SLICE(const uint8_t, windows->linked),
+        windows->linked_len, LINKER_UTILS_SLICE(struct linker_utils_recognised, found), found_len,
+        count);
 }
 
 uint32_t linker_utils_recognise_chosen_nonnull(
@@ -1082,14 +1140,14 @@ uint32_t linker_utils_recognise_chosen_nonnull(
     const uint8_t *linked, size_t linked_len, const struct linker_utils_link_facts *facts,
     struct linker_utils_recognised *found);
 static inline uint32_t linker_utils_recognise_chosen(
-    uint16_t machine, uint32_t r_type, const uint8_t *original, size_t original_len,
-    uint64_t offset, const struct linker_utils_window_bits *others, size_t others_len,
-    const uint8_t *linked, size_t linked_len, const struct linker_utils_link_facts *facts,
-    struct linker_utils_recognised *found) {
+    uint16_t machine, uint32_t r_type, const struct linker_utils_windows *windows,
+    const struct linker_utils_link_facts *facts, struct linker_utils_recognised *found) {
     return linker_utils_recognise_chosen_nonnull(
-        machine, r_type, LINKER_UTILS_SLICE(const uint8_t, original), original_len, offset,
-        LINKER_UTILS_SLICE(const struct linker_utils_window_bits, others), others_len,
-        LINKER_UTILS_SLICE(const uint8_t, linked), linked_len, facts, found);
+        machine, r_type, LINKER_UTILS_SLICE(const uint8_t, windows->original),
+        windows->original_len, windows->offset,
+        LINKER_UTILS_SLICE(const struct linker_utils_window_bits, windows->others),
+        windows->others_len, LINKER_UTILS_SLICE(const uint8_t, windows->linked),
+        windows->linked_len, facts, found);
 }
 
 uint32_t linker_utils_get_destination_nonnull(
@@ -1097,12 +1155,12 @@ uint32_t linker_utils_get_destination_nonnull(
     size_t original_len, uint64_t offset, const struct linker_utils_operands *operands,
     uint8_t st_other, struct linker_utils_destination *destination);
 static inline uint32_t linker_utils_get_destination(
-    uint16_t machine, const struct linker_utils_recognised *made, const uint8_t *original,
-    size_t original_len, uint64_t offset, const struct linker_utils_operands *operands,
+    uint16_t machine, const struct linker_utils_recognised *made,
+    const struct linker_utils_windows *windows, const struct linker_utils_operands *operands,
     uint8_t st_other, struct linker_utils_destination *destination) {
     return linker_utils_get_destination_nonnull(
-        machine, made, LINKER_UTILS_SLICE(const uint8_t, original), original_len, offset, operands,
-        st_other, destination);
+        machine, made, LINKER_UTILS_SLICE(const uint8_t, windows->original), windows->original_len,
+        windows->offset, operands, st_other, destination);
 }
 
 #undef LINKER_UTILS_SLICE

@@ -12,17 +12,18 @@ static void show(uint32_t r_type, int64_t addend, const uint8_t *object, size_t 
     struct linker_utils_recognised found[LINKER_UTILS_CANDIDATES];
     struct linker_utils_window_bounds window;
     size_t count;
-    if (linker_utils_recognise_window(EM_X86_64, r_type, object, len, at, &window)) return;
+    const struct linker_utils_windows all = {object, len, at, NULL, 0, NULL, 0};
+    if (linker_utils_recognise_window(EM_X86_64, r_type, &all, &window)) return;
     uint64_t begin = at - window.back;
-    if (linker_utils_recognise(EM_X86_64, r_type, object + begin, window.len, window.back, NULL, 0,
-                               linked + begin, window.len, found, LINKER_UTILS_CANDIDATES, &count))
+    const struct linker_utils_windows windows = {object + begin, window.len, window.back, NULL, 0,
+                                                 linked + begin, window.len};
+    if (linker_utils_recognise(EM_X86_64, r_type, &windows, found, LINKER_UTILS_CANDIDATES, &count))
         return;
     for (size_t i = 0; i < count; i++) {
         struct linker_utils_operands operands =
             linker_utils_operands_of(0, addend, address + begin + found[i].offset);
         struct linker_utils_destination to;
-        if (linker_utils_get_destination(EM_X86_64, &found[i], object + begin, window.len, window.back,
-                                     &operands, 0, &to))
+        if (linker_utils_get_destination(EM_X86_64, &found[i], &windows, &operands, 0, &to))
             continue;
         printf("rewrite %u, %#x\n", found[i].choice.rewrite, (unsigned)to.symbol);
     }

@@ -54,7 +54,8 @@ static void relocations() {
 
 /* A rewrite by what the linker knows of a symbol, and the relocation that is left. */
 static void rewrites() {
-    bytes section = {0x4c, 0x8b, 0x15, 0x00, 0x00, 0x00, 0x00};
+    bytes code = {0x4c, 0x8b, 0x15, 0x00, 0x00, 0x00, 0x00};
+    const lu::section section(code);
     uint64_t offset = 3;
     linker_utils_link_facts facts{};
     facts.is_local = facts.has_fixed_address = facts.has_addresses = 1;
@@ -62,8 +63,8 @@ static void rewrites() {
     auto choice = lu::row(EM_X86_64, R_X86_64_REX_GOTPCRELX).choose(section, offset, facts).value();
     lu::apply(EM_X86_64, choice, section, offset, facts.operands.addend).value();
     /* the field in place of the section */
-    lu::span<uint8_t> field(section.data() + offset, section.size() - offset);
-    print(lu::row(EM_X86_64, choice.relocation).apply(facts.operands, field), section);
+    lu::span<uint8_t> field(code.data() + offset, code.size() - offset);
+    print(lu::row(EM_X86_64, choice.relocation).apply(facts.operands, field), code);
     std::printf("%s\n", choice.modifier == LINKER_UTILS_MODIFIER_NORMAL ? "next one too"
                                                                         : "skip the next");
 }
@@ -74,19 +75,22 @@ static void rewriting() {
     const std::vector<Elf64_Rela> relas = {
         {3, ELF64_R_INFO(UINT64_C(1), R_X86_64_GOTTPOFF), -4},
         {9, ELF64_R_INFO(UINT64_C(2), R_X86_64_GOTPCRELX), -4}};
-    const linker_utils_output_facts output = {true, true, true};
+    linker_utils_link link{};
+    link.machine = EM_X86_64;
+    link.is_executable = link.is_fixed = link.has_near_symbols = true;
     std::vector<linker_utils_symbol_facts> symbols(3);
     symbols[1].is_local = true;
     for (bool is_local : {false, true}) {
         symbols[2].is_local = is_local;
-        bytes section = code;
+        bytes own = code;
         std::vector<Elf64_Rela> given = relas;
         std::vector<linker_utils_kept_groups> kept(symbols.size());
         std::vector<linker_utils_decision> decisions(given.size());
-        lu::survey(EM_X86_64, output, symbols, given, section, kept).value();
-        lu::outcome ended =
-            lu::rewrite_section(EM_X86_64, output, symbols, kept, given, section, decisions);
-        for (uint8_t byte : section) std::printf("%02x ", byte);
+        const lu::object object(symbols, {}, kept);
+        const lu::section section(own, given);
+        lu::survey(link, object, section).value();
+        lu::outcome ended = lu::rewrite_section(link, object, section, decisions);
+        for (uint8_t byte : own) std::printf("%02x ", byte);
         std::printf("%s\n", ended.text());
         for (size_t i = 0; i < given.size(); i++)
             std::printf("%zu: %s, %s\n", i,
@@ -99,7 +103,7 @@ static void rewriting() {
 /* What the relocations of a section require, and their values. */
 static void sections() {
     uint32_t code[4] = {0x00000517, 0x00053503, 0x00000097, 0x000080e7};
-    const std::vector<Elf64_Rela> relas = {
+    std::vector<Elf64_Rela> relas = {
         {0, ELF64_R_INFO(UINT64_C(1), R_RISCV_GOT_HI20), 0},
         {4, ELF64_R_INFO(UINT64_C(2), R_RISCV_PCREL_LO12_I), 0},
         {8, ELF64_R_INFO(UINT64_C(3), R_RISCV_CALL_PLT), 0}};
@@ -116,12 +120,14 @@ static void sections() {
     symbols[1].address_entry = 0x413008;
     symbols[2].address = 0x401000;
     symbols[3].address = 0x402000;
-    const linker_utils_addresses addresses = {0x401000, 0x413000, 0, 0, 0, false};
-    lu::span<uint8_t> section(reinterpret_cast<uint8_t *>(code), sizeof code);
+    linker_utils_link link{};
+    link.machine = EM_RISCV;
+    link.got_base = 0x413000;
+    const lu::object object({}, symbols);
+    const lu::section section({reinterpret_cast<uint8_t *>(code), sizeof code}, relas, 0x401000);
     std::vector<uint64_t> memory(relas.size());
     for (int step = 0; step < 2; step++) {
-        lu::outcome ended =
-            lu::relocate_section(EM_RISCV, addresses, relas, symbols, section, memory);
+        lu::outcome ended = lu::relocate_section(link, object, section, memory);
         for (uint32_t word : code) std::printf("%08x ", (unsigned)word);
         std::printf("%s", ended.text());
         if (!ended) std::printf(" It is relocation %zu.", ended.faulty);
@@ -151,27 +157,29 @@ static void deletions() {
 }
 
 static void relaxing() {
-    const bytes section = {0x97, 0x00, 0x00, 0x00, 0xe7, 0x80, 0x00, 0x00, 0x13,
-                           0x00, 0x00, 0x00, 0x01, 0x00, 0x67, 0x80, 0x00, 0x00};
+    bytes code = {0x97, 0x00, 0x00, 0x00, 0xe7, 0x80, 0x00, 0x00, 0x13,
+                  0x00, 0x00, 0x00, 0x01, 0x00, 0x67, 0x80, 0x00, 0x00};
+    const lu::section section(code);
     std::vector<linker_utils_rela> relocations = {{0, 14, 0, R_RISCV_CALL_PLT, 1, 1, 1},
                                                   {0, 0, 0, R_RISCV_RELAX, 0, 0, 0},
                                                   {8, 0, 6, R_RISCV_ALIGN, 0, 0, 0}};
     std::vector<linker_utils_item> items(relocations.size());
     std::vector<size_t> makers(relocations.size());
-    items.resize(lu::section_items(EM_RISCV, section, 0, relocations, items, makers).value());
+    items.resize(lu::section_items(EM_RISCV, section, relocations, items, makers).value());
     bytes shapes(items.size());
     std::vector<uint64_t> kept(items.size()), freed(items.size() + 1);
     std::vector<size_t> places(items.size());
-    lu::relax(items, 0, shapes, kept, places, freed).value();
+    lu::relax(lu::run(items), shapes, kept, places, freed).value();
     for (size_t i = 0; i < items.size(); i++)
         std::printf("%s at %d: %d of %d bytes stay\n",
                     items[i].kind == LINKER_UTILS_ITEM_SITE ? "call" : "nops", (int)items[i].offset,
                     (int)kept[i], (int)items[i].len);
-    auto lost = lu::deltas::of_run(items, kept).value();
-    bytes packed(lu::packed_run_len(0, section.size(), lost));
-    lu::pack_run(EM_RISCV, section, 0, items, lost, 0, {}, packed).value();
-    for (const bytes *all : {&section, (const bytes *)&packed}) {
-        std::printf(all == &section ? "before:" : "after:");
+    auto lost = lu::deltas::of_run(lu::run(items), kept).value();
+    const lu::run run(items, 0, lost);
+    bytes packed(lu::packed_run_len(section, run));
+    lu::pack_run(EM_RISCV, section, run, packed).value();
+    for (const bytes *all : {&code, &packed}) {
+        std::printf(all == &code ? "before:" : "after:");
         for (size_t i = 0; i < all->size(); i++) std::printf("%s%02x", i % 2 ? "" : " ", (*all)[i]);
         std::printf("\n");
     }

@@ -12,7 +12,8 @@ int main(void) {
 
     uint32_t status = linker_utils_deltas_create(first, 1, deltas, 1, NULL);
     if (status == LINKER_UTILS_OK) {
-        status = linker_utils_deltas_merge(deltas, 1, more, 2, merged, 3, NULL);
+        const struct linker_utils_merge merge = {more, 2, merged, 3};
+        status = linker_utils_deltas_merge(deltas, 1, &merge, NULL);
     }
     if (status != LINKER_UTILS_OK) {
         fprintf(stderr, "%s\n", linker_utils_status_text(status));
@@ -22,7 +23,8 @@ int main(void) {
 
     const uint64_t inputs[3] = {2, 12, 20};
     uint64_t outputs[3];
-    if (linker_utils_deltas_translate_all(merged, 3, inputs, 3, outputs, 3, NULL)) return 1;
+    const struct linker_utils_translation translation = {inputs, 3, outputs, 3};
+    if (linker_utils_deltas_translate_all(merged, 3, &translation, NULL)) return 1;
     for (int i = 0; i < 3; i++) printf("%u -> %u\n", (unsigned)inputs[i], (unsigned)outputs[i]);
 
     uint64_t input;

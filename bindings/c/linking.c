@@ -14,21 +14,25 @@ static const uint64_t places[3] = {0x401000, 0x403000, 0x403008};
 
 /* The section has code and its relocations as they stand in the file. Of symbols a linker knows facts
  * when names are resolved, and addresses later. Returns how many words the GOT has, or -1. */
-static int link_section(uint16_t machine, uint8_t *code, size_t len, Elf64_Rela *rela, size_t count,
+static int link_section(uint16_t machine, const struct linker_utils_section *section,
                         const struct linker_utils_symbol_facts *facts,
                         struct linker_utils_symbol *symbols, uint64_t *got) {
-    size_t faulty, deleted_len;
+    const Elf64_Rela *rela = (const Elf64_Rela *)section->relocations;
     int words = 0;
-    struct linker_utils_output_facts output = {true, true, true}; /* fixed, and less than 2 GiB */
+    struct linker_utils_link link;
     struct linker_utils_kept_groups kept[SYMBOLS];
     struct linker_utils_decision decisions[MOST];
     struct linker_utils_deletion deleted[MOST];
+    struct linker_utils_object object = {facts, SYMBOLS, symbols, SYMBOLS, kept,
+                                         SYMBOLS, NULL, 0, NULL, 0};
+    struct linker_utils_rewritten rewritten = {decisions, MOST, deleted, MOST, 0};
+    memset(&link, 0, sizeof link);
+    link.machine = machine; /* fixed, and less than 2 GiB */
+    link.is_executable = link.is_fixed = link.has_near_symbols = true;
     /* 1 and 2: rewrites that need no address */
     memset(kept, 0, sizeof kept);
-    if (linker_utils_survey(machine, &output, facts, SYMBOLS, rela, count, code, len, kept,
-                            SYMBOLS) ||
-        linker_utils_rewrite_section(machine, &output, facts, SYMBOLS, kept, SYMBOLS, rela,
-                                     count, code, len, decisions, MOST, &faulty))
+    if (linker_utils_survey(&link, &object, section) ||
+        linker_utils_rewrite_section(&link, &object, section, &rewritten, NULL))
         return -1;
     /* 3 to 6: which entries of the GOT are still needed, and what they hold */
     struct linker_utils_origins origins;
@@ -36,7 +40,7 @@ static int link_section(uint16_t machine, uint8_t *code, size_t len, Elf64_Rela 
     if (linker_utils_get_origins(machine, places[2], 8, 1, &origins) ||
         linker_utils_get_got(machine, places[1], 0, &base))
         return -1;
-    for (size_t i = 0; i < count; i++) {
+    for (size_t i = 0; i < section->relocations_len; i++) {
         struct linker_utils_symbol *symbol = &symbols[ELF64_R_SYM(rela[i].r_info)];
         struct linker_utils_requirements needed;
         struct linker_utils_entry_words held;
@@ -54,27 +58,21 @@ static int link_section(uint16_t machine, uint8_t *code, size_t len, Elf64_Rela 
         got[words++] = held.first;
     }
     /* 7 and 8: rewrites by addresses */
-    struct linker_utils_addresses at = {places[0], base.base, origins.thread_pointer,
-                                        origins.module_block, 0, true};
+    link.got_base = base.base;
+    link.thread_origin = origins.thread_pointer;
+    link.module_origin = origins.module_block;
+    link.has_tls = true;
     for (uint32_t phase = LINKER_UTILS_PHASE_THREAD_OFFSETS; phase <= LINKER_UTILS_PHASE_DISTANCES;
          phase++) {
         memset(kept, 0, sizeof kept);
-        if (linker_utils_survey_placed_section(machine, phase, &output, facts, SYMBOLS, &at, symbols,
-                                               SYMBOLS, rela, count, code, len, kept,
-                                               SYMBOLS) ||
-            linker_utils_rewrite_placed_section(machine, phase, &output, facts, SYMBOLS, &at,
-                                                symbols, SYMBOLS, kept, SYMBOLS, rela, count,
-                                                code, len, decisions, MOST, deleted, MOST,
-                                                &deleted_len, &faulty))
+        if (linker_utils_survey_placed_section(&link, &object, section, phase) ||
+            linker_utils_rewrite_placed_section(&link, &object, section, phase, &rewritten, NULL))
             return -1;
     }
     /* 9 and 10: values */
     uint64_t memory[MOST];
-    if (linker_utils_relocate_memory(rela, count) > MOST) return -1;
-    return linker_utils_relocate_section(machine, &at, rela, count, symbols, SYMBOLS, code, len,
-                                         memory, MOST, &faulty)
-               ? -1
-               : words;
+    if (linker_utils_relocate_memory(section) > MOST) return -1;
+    return linker_utils_relocate_section(&link, &object, section, memory, MOST, NULL) ? -1 : words;
 }
 
 /* Links a section, and prints its bytes. The symbols are _start, x and t, which is thread-local. */
@@ -90,7 +88,11 @@ static void show(uint16_t machine, uint8_t *code, size_t len, Elf64_Rela *rela, 
         symbols[i].address = addresses[i];
     }
     symbols[3].is_thread_local = true;
-    int words = link_section(machine, code, len, rela, count, facts, symbols, got);
+    struct linker_utils_section section = linker_utils_section_of(code, len);
+    section.relocations = rela;
+    section.relocations_len = count;
+    section.address = places[0];
+    int words = link_section(machine, &section, facts, symbols, got);
     for (size_t i = 0; i < len; i++) printf("%02x", code[i]);
     for (int i = 0; i < words; i++) printf(" %#llx", (unsigned long long)got[i]);
     printf("\n");

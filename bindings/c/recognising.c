@@ -5,13 +5,11 @@
 
 #include "linker_utils.h"
 
-static void show(uint16_t machine, uint32_t r_type, const uint8_t *original, size_t original_len,
-                 uint64_t offset, const uint8_t *linked, size_t linked_len) {
+static void show(uint16_t machine, uint32_t r_type, struct linker_utils_windows windows) {
     struct linker_utils_recognised found[LINKER_UTILS_CANDIDATES];
     size_t count;
-    uint32_t status = linker_utils_recognise(machine, r_type, original, original_len, offset, NULL,
-                                             0, linked, linked_len, found, LINKER_UTILS_CANDIDATES,
-                                             &count);
+    uint32_t status = linker_utils_recognise(machine, r_type, &windows, found,
+                                             LINKER_UTILS_CANDIDATES, &count);
     if (status != LINKER_UTILS_OK) {
         printf("%s\n", linker_utils_status_text(status));
         return;
@@ -38,6 +36,14 @@ static void show(uint16_t machine, uint32_t r_type, const uint8_t *original, siz
     }
 }
 
+/* Both windows, and the offset of the relocation. */
+static struct linker_utils_windows of(const uint8_t *original, size_t original_len, uint64_t offset,
+                                      const uint8_t *linked, size_t linked_len) {
+    struct linker_utils_windows windows = {original, original_len, offset, NULL, 0,
+                                           linked,   linked_len};
+    return windows;
+}
+
 int main(void) {
     /* data16 leaq v@tlsgd(%rip), %rdi, and the call; in the program movq %fs:0, %rax, and
      * leaq v@tpoff(%rax), %rax */
@@ -45,14 +51,14 @@ int main(void) {
                                          0x66, 0x66, 0x48, 0xe8, 0x00, 0x00, 0x00, 0x00};
     uint8_t local_exec[16] = {0x64, 0x48, 0x8b, 0x04, 0x25, 0x00, 0x00, 0x00,
                               0x00, 0x48, 0x8d, 0x80, 0x48, 0xf3, 0xff, 0xff};
-    show(EM_X86_64, R_X86_64_TLSGD, general_dynamic, 16, 4, local_exec, 16);
+    show(EM_X86_64, R_X86_64_TLSGD, of(general_dynamic, 16, 4, local_exec, 16));
     local_exec[10] ^= 8; /* no leaq */
-    show(EM_X86_64, R_X86_64_TLSGD, general_dynamic, 16, 4, local_exec, 16);
+    show(EM_X86_64, R_X86_64_TLSGD, of(general_dynamic, 16, 4, local_exec, 16));
     /* lui s1, %hi(v) became c.lui s1, 2 */
     const uint8_t lui[4] = {0xb7, 0x04, 0x00, 0x00}, c_lui[2] = {0x89, 0x64};
-    show(EM_RISCV, R_RISCV_HI20, lui, 4, 0, c_lui, 2);
+    show(EM_RISCV, R_RISCV_HI20, of(lui, 4, 0, c_lui, 2));
     /* ldr x1, [x0, :tlsdesc_lo12:v] became ldr x0, [x0, #0x828] */
     const uint8_t descriptor[4] = {0x01, 0x00, 0x40, 0xf9}, entry[4] = {0x00, 0x14, 0x44, 0xf9};
-    show(EM_AARCH64, R_AARCH64_TLSDESC_LD64_LO12, descriptor, 4, 0, entry, 4);
+    show(EM_AARCH64, R_AARCH64_TLSDESC_LD64_LO12, of(descriptor, 4, 0, entry, 4));
     return 0;
 }

@@ -12,29 +12,35 @@ int main(void) {
     const uint8_t code[13] = {0x48, 0x8b, 0x05, 0, 0, 0, 0, 0xff, 0x15, 0, 0, 0, 0};
     const Elf64_Rela relas[2] = {{3, ELF64_R_INFO(UINT64_C(1), R_X86_64_GOTTPOFF), -4},
                                  {9, ELF64_R_INFO(UINT64_C(2), R_X86_64_GOTPCRELX), -4}};
-    const struct linker_utils_output_facts output = {true, true, true};
+    static struct linker_utils_link link;
+    link.machine = EM_X86_64;
+    link.is_executable = link.is_fixed = link.has_near_symbols = true;
     const struct linker_utils_symbol_facts none = {false, false, false, false, false, 0};
     struct linker_utils_symbol_facts symbols[3] = {none, none, none};
+    static struct linker_utils_object object;
+    object.facts = symbols;
+    object.facts_len = 3;
     for (int step = 0; step < 2; step++) {
         symbols[1].is_local = true;
         symbols[2].is_local = step == 1;
-        uint8_t section[13];
+        uint8_t bytes[13];
         Elf64_Rela given[2] = {relas[0], relas[1]};
-        for (int i = 0; i < 13; i++) section[i] = code[i];
+        for (int i = 0; i < 13; i++) bytes[i] = code[i];
+        struct linker_utils_section section = linker_utils_section_of(bytes, sizeof bytes);
+        section.relocations = given;
+        section.relocations_len = 2;
         struct linker_utils_kept_groups kept[3];
         for (int i = 0; i < 3; i++) {
             const struct linker_utils_kept_groups all = {false, false, false, false, false};
             kept[i] = all;
         }
-        if (linker_utils_survey(EM_X86_64, &output, symbols, 3, given, 2, section, sizeof section,
-                                kept, 3))
-            return 1;
+        object.kept_groups = kept;
+        object.kept_groups_len = 3;
+        if (linker_utils_survey(&link, &object, &section)) return 1;
         struct linker_utils_decision decisions[2];
-        size_t faulty = 0;
-        uint32_t status = linker_utils_rewrite_section(
-            EM_X86_64, &output, symbols, 3, kept, 3, given, 2, section, sizeof section, decisions,
-            2, &faulty);
-        for (int i = 0; i < 13; i++) printf("%02x ", (unsigned)section[i]);
+        const struct linker_utils_rewritten rewritten = {decisions, 2, NULL, 0, 0};
+        uint32_t status = linker_utils_rewrite_section(&link, &object, &section, &rewritten, NULL);
+        for (int i = 0; i < 13; i++) printf("%02x ", (unsigned)bytes[i]);
         printf("%s\n", linker_utils_status_text(status));
         for (int i = 0; i < 2; i++)
             printf("%d: %s, %s\n", i,

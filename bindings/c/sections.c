@@ -9,7 +9,7 @@ int main(void) {
     /* auipc a0 and ld a0, of the GOT; auipc ra and jalr ra. The symbols are `variable`, the label at
      * the first auipc, and `function`. */
     uint32_t code[4] = {0x00000517, 0x00053503, 0x00000097, 0x000080e7};
-    const Elf64_Rela relas[3] = {{0, ELF64_R_INFO(UINT64_C(1), R_RISCV_GOT_HI20), 0},
+    Elf64_Rela relas[3] = {{0, ELF64_R_INFO(UINT64_C(1), R_RISCV_GOT_HI20), 0},
                                  {4, ELF64_R_INFO(UINT64_C(2), R_RISCV_PCREL_LO12_I), 0},
                                  {8, ELF64_R_INFO(UINT64_C(3), R_RISCV_CALL_PLT), 0}};
     for (int i = 0; i < 3; i++) {
@@ -28,14 +28,22 @@ int main(void) {
     symbols[1].address_entry = 0x413008;
     symbols[2].address = 0x401000;
     symbols[3].address = 0x402000;
-    const struct linker_utils_addresses addresses = {0x401000, 0x413000, 0, 0, 0, false};
+    static struct linker_utils_link link;
+    static struct linker_utils_object object;
+    struct linker_utils_section section = linker_utils_section_of((uint8_t *)code, sizeof code);
+    link.machine = EM_RISCV;
+    link.got_base = 0x413000;
+    object.values = symbols;
+    object.values_len = 4;
+    section.relocations = relas;
+    section.relocations_len = 3;
+    section.address = 0x401000;
     uint64_t memory[6];
-    if (linker_utils_relocate_memory(relas, 3) > 6) return 1;
+    if (linker_utils_relocate_memory(&section) > 6) return 1;
     for (int step = 0; step < 2; step++) {
         size_t faulty = 0;
-        uint32_t status = linker_utils_relocate_section(
-            EM_RISCV, &addresses, relas, 3, symbols, 4, (uint8_t *)code, sizeof code, memory, 6,
-            &faulty);
+        uint32_t status =
+            linker_utils_relocate_section(&link, &object, &section, memory, 6, &faulty);
         for (int i = 0; i < 4; i++) printf("%08x ", (unsigned)code[i]);
         printf("%s", linker_utils_status_text(status));
         if (status) printf(" It is relocation %zu.", faulty);

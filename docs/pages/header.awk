@@ -20,6 +20,8 @@ before ~ /^ \* ( |- )/ && /^ \* [^- ]/ { print " *" }
 is_aligned && !/^ \*   / { print " * ~~~"; is_aligned = 0 }
 !is_aligned && /^ \*   / && before ~ /^ \*.*:$/ { print " * ~~~"; is_aligned = 1 }
 prefix { sub(/static inline /, "") }
+# of a slice the pointer is documented
+/^    [^;]*; size_t [a-z_]*_len; \/\* / { at = index($0, " /* "); $0 = "   " substr($0, at) "\n" substr($0, 1, at - 1) }
 { before = $0; sub(/^\/\* /, "/** "); sub(/^    \/\* /, "    /** "); sub(/[;,] \/\* /, "& "); sub(/\/\*  /, "/**< "); print }
 is_head && /\*\/$/ { print "/** @{ */"; is_head = 0 }
 END { if (group) print "/** @} */" }

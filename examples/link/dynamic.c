@@ -3,7 +3,7 @@
  * relocations that are left to it, and the tables that say so. */
 #include "link.h"
 
-struct linker_utils_output_facts linked = {.is_executable = true, .is_fixed = true};
+struct linker_utils_link linked = {.is_executable = true, .is_fixed = true};
 const char *own_name;
 
 /* A word that the dynamic linker fills. */

@@ -86,8 +86,9 @@ static int64_t entered_at(const struct section *s, const Elf64_Rela *r) {
     bool is_own = !to->is_imported || (is_defined(to) && to->object == s->object);
     struct linker_utils_stub stub;
     struct linker_utils_route route;
-    uint32_t status = linker_utils_route_by_word(machine, 0, r, 1, 0,
-                                                 BYTES_OF(s), &route);
+    struct linker_utils_section here = section_of(s);
+    uint32_t status = linker_utils_route_by_word(machine, 0, &here, (size_t)(r - s->relocations),
+                                                 &route);
     if (status == LINKER_UTILS_NO_ROOM && (is_own || !strcmp(to->name, "__libc_start_main")))
         return 0;
     check(s, r, status);
@@ -195,9 +196,9 @@ static bool add_thunk(struct section *s, Elf64_Rela *r, const struct linker_util
     struct linker_utils_route route;
     Elf64_Rela one = {r->r_offset, ELF64_R_INFO(UINT64_C(1), type_of(r)), r->r_addend};
     struct linker_utils_symbol known[2] = {{.address = 0}, known_symbol(to, 0)};
-    struct linker_utils_addresses here = addresses_of(s);
-    uint32_t status = linker_utils_route_at(machine, &here, &one, 1,
-                                            known, 2, 0, BYTES_OF(s), &route);
+    struct linker_utils_object object = {.values = known, .values_len = 2};
+    struct linker_utils_section here = {BYTES_OF(s), &one, 1, .address = section_of(s).address};
+    uint32_t status = linker_utils_route_at(&linked, &object, &here, 0, &route);
     if (status == LINKER_UTILS_NO_ROOM) check(s, r, status);
     *is_direct |= is_near && !status && !route.is_by_stub;
     if (status || !route.is_by_stub) return false;

@@ -286,12 +286,15 @@ void set_addresses(void) {
         o->address = address_in(from->run, from->base) + (o->base - from->base);
     }
     expect_ok(linker_utils_get_got(machine, got->address, dynamic ? dynamic->address : 0, &known_got));
+    linked.got_base = known_got.base;
+    linked.module_entry = module.entries ? address_of(got, module.entries->offset) : 0;
     span = last->address + last->len - outputs[0]->address;
     tls.image = first_tls ? first_tls->address : 0;
     /* (where code is still to become shorter the image isn't aligned so far) */
     expect_ok(linker_utils_get_origins(machine, 0, tls.len, tls.align, &tls.origins));
-    tls.origins.thread_pointer += tls.image;
-    tls.origins.module_block += tls.image;
+    linked.thread_origin = tls.origins.thread_pointer += tls.image;
+    linked.module_origin = tls.origins.module_block += tls.image;
+    linked.has_tls = tls.len > 0;
     bool is_at_pointer = tls.has_base && linked.is_executable;
     if (!module_base) return;
     module_base->offset = is_at_pointer ? tls.origins.thread_pointer : tls.origins.module_block;

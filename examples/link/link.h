@@ -66,9 +66,8 @@ enum { RANK_HEADERS, RANK_FIXED, RANK_CODE, RANK_TLS, RANK_TLS_BSS, RANK_ARRAYS,
     (fprintf(stderr, "%s: %s: ", (s)->object->path, (s)->name), fail(__VA_ARGS__))
 #define fail_at(s, r, ...) (print_place(s, r), fail(__VA_ARGS__))
 
-/* the bytes of a section in the linked file, and its relocations, as the library takes them */
+/* the bytes of a section in the linked file */
 #define BYTES_OF(s) (s)->output->bytes + (s)->offset, (s)->len
-#define TABLE_OF(s) (s)->relocations, (s)->relocations_len
 
 /* Sections that are relaxed together, one after the other from `start` on: all of the linked file,
  * as far as the addresses of the command line allow it. Their offsets in it count from before bytes
@@ -208,9 +207,9 @@ extern uint32_t machine_flags; /* `e_flags` of all objects */
  * ld.lld leaves, and RISC-V's addresses near the global pointer */
 extern bool is_dynamic, shrinks, relaxes, has_short_offsets, relaxes_near;
 extern bool has_code_on_stack; /* an object says so */
-extern struct linker_utils_output_facts linked;
+extern struct linker_utils_link linked; /* its addresses so far as these are known */
 extern struct linker_utils_dynamic_types types;
-extern struct linker_utils_got known_got; /* by addresses, so far as these are known */
+extern struct linker_utils_got known_got; /* likewise */
 extern const char *own_name;         /* of a shared library, by `-soname`; null where it has none */
 extern struct object *objects;       /* in the order in which they are read */
 extern struct library *libraries;    /* in their order */
@@ -293,9 +292,8 @@ static inline struct kind *kind_of(const struct section *s, const Elf64_Rela *r)
     return kind->is_known ? kind : ask_kind(s, r, kind);
 }
 struct linker_utils_symbol known_symbol(const struct symbol *s, int64_t addend);
-struct linker_utils_addresses addresses_of(const struct section *s);
-void relocate_section(struct section *s, const struct linker_utils_symbol_facts *facts,
-                      const struct linker_utils_symbol *values);
+struct linker_utils_section section_of(const struct section *s);
+void relocate_section(struct section *s, const struct linker_utils_object *known);
 /* rewrite.c */
 void rewrite_object(struct object *o, uint32_t first, uint32_t last), relocate(void);
 void relax_near(bool is_final);

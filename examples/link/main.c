@@ -143,15 +143,14 @@ static void read_arguments(char **argument) {
 }
 
 int main(int argc, char **argv) {
-    size_t none;
     if (argc > 0) read_arguments(argv + 1);
     is_dynamic = libraries || !linked.is_fixed;
     if (is_dynamic && is_placed) fail("--section-start is for static executables");
     make_sections();
     if (!path || !objects) fail("%s", usage);
     if (!is_placed) make_room(headers, 8, HEADERS);
-    shrinks = !linker_utils_section_items(machine, NULL, 0, 0, NULL, 0, NULL, 0, NULL, 0, &none,
-                                          NULL);
+    shrinks = !linker_utils_section_items(machine, &(struct linker_utils_section){0}, NULL, 0,
+                                          &(struct linker_utils_items){0}, NULL);
     expect_ok(linker_utils_get_dynamic_types(machine, &types));
     expect_ok(linker_utils_get_got(machine, 0, 0, &known_got));
     EACH_SECTION(s) add_section(s);

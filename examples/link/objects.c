@@ -141,7 +141,7 @@ void read_heads(struct object *o, uint16_t type, const char *otherwise) {
     memcpy(&head, bytes_at(o, 0, sizeof head), sizeof head);
     if (memcmp(head.e_ident, ELFMAG "\2\1", 6) || head.e_type != type || !head.e_shnum)
         fail_of(o, "%s of little-endian ELF64", otherwise);
-    if (!machine) machine = head.e_machine;
+    if (!machine) linked.machine = machine = head.e_machine;
     demand(o, machine == head.e_machine && !linker_utils_relocate(machine, 0, 0, NULL, 0),
            "of another architecture");
     Elf64_Shdr table = {.sh_offset = head.e_shoff, .sh_size = head.e_shnum * sizeof table,

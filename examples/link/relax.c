@@ -35,30 +35,30 @@ static void check_items(const struct section *s, size_t at, uint32_t status) {
 static void add_items(struct section *s) {
     static struct linker_utils_rela *relocations; /* of one section after another */
     static size_t room;
-    const struct output *o = s->output;
-    size_t all = s->relocations_len, most = all + s->deleted_len, len = 0, at = SIZE_MAX;
-    uint64_t base = o->base + s->offset;
+    size_t all = s->relocations_len, most = all + s->deleted_len, at = SIZE_MAX;
+    struct linker_utils_section here = section_of(s);
     progress("relaxing", s->object);
-    if (s->gap) items[items_len++] = alignment_item(base - s->gap, s->gap + code_unit(), s->gap);
+    if (s->gap)
+        items[items_len++] = alignment_item(here.base - s->gap, s->gap + code_unit(), s->gap);
     relocations = grow(relocations, all, &room, sizeof *relocations);
     for (size_t i = 0; i < all; i++) {
         expect_symbol(s, &s->relocations[i]);
         relocations[i] = seen(s, &s->relocations[i]);
     }
-    uint32_t status = linker_utils_rewritten_items(
-        machine, o->bytes + s->offset, s->len, base, relocations, all, s->deleted, s->deleted_len,
-        items + items_len, most, makers + items_len, most, &len, &at);
+    struct linker_utils_items made = {items + items_len, most, makers + items_len, most, 0};
+    uint32_t status = linker_utils_rewritten_items(machine, &here, relocations, all, &made, &at);
     check_items(s, at, status);
     s->first_item = (uint32_t)items_len;
-    s->items_len = (uint32_t)len;
-    items_len += len;
+    s->items_len = (uint32_t)made.items_used;
+    items_len += made.items_used;
 }
 
 /* Writes a section anew: what becomes shorter, and without what it loses. Its relocations go to
  * where their bytes are. Items that lose nothing count no more. Returns how long it is then. */
 static uint64_t pack(struct section *s, uint8_t *packed) {
     const struct run *run = s->output->run;
-    uint64_t base = s->output->base + s->offset, len = s->len;
+    struct linker_utils_section here = section_of(s);
+    uint64_t len = s->len;
     size_t first = s->first_item, last = first, at = SIZE_MAX;
     for (size_t i = first; i < first + s->items_len; i++) {
         if (stay[i] == items[i].len) continue;
@@ -67,9 +67,9 @@ static uint64_t pack(struct section *s, uint8_t *packed) {
         makers[last++] = makers[i];
     }
     s->items_len = (uint32_t)(last - first);
-    uint32_t status = linker_utils_pack_run(machine, BYTES_OF(s), base, items + first, s->items_len,
-                                            run->deltas, run->deltas_len, run->start,
-                                            s->relocations, s->relocations_len, packed, len, &at);
+    struct linker_utils_run part = {run->start, items + first, s->items_len, run->deltas,
+                                    run->deltas_len};
+    uint32_t status = linker_utils_pack_run(machine, &here, &part, packed, len, &at);
     check_items(s, at < s->items_len ? makers[first + at] : SIZE_MAX, status);
     return len;
 }
@@ -113,19 +113,19 @@ static void relax_run(struct run *run) {
         .offset = end, .target = end, .len = (uint32_t)unit, .kind = LINKER_UTILS_ITEM_SITE,
         .shapes = {.shorter = {{.max_forward = 1, .granularity = (uint32_t)unit}},
                    .longest = (uint32_t)unit, .count = 1}};
-    size_t len = items_len, *places = zeros(len, sizeof *places);
-    uint64_t *freed = zeros(len + 1, sizeof *freed);
-    uint8_t *shapes = zeros(len, 1);
+    size_t len = items_len;
     stay = zeros(len, sizeof *stay);
-    uint32_t status = linker_utils_relax(items, len, run->start, shapes, len, stay, len, places,
-                                         len, freed, len + 1, &at);
+    struct linker_utils_run all = {run->start, items, len, NULL, 0};
+    struct linker_utils_relaxed relaxed = {zeros(len, 1), len, stay, len, zeros(len + 1, 8),
+                                           len + 1, zeros(len, sizeof(size_t)), len};
+    uint32_t status = linker_utils_relax(&all, &relaxed, &at);
     EACH_SECTION(s)
         if (status && s->output && s->output->run == run && at - s->first_item < s->items_len)
             check_items(s, makers[at], status);
     if (status) fail("the code can't be relaxed: %s", linker_utils_status_text(status));
-    free(places), free(freed), free(shapes);
+    free(relaxed.places), free(relaxed.freed), free(relaxed.shapes);
     run->deltas = zeros(len, sizeof *run->deltas);
-    expect_ok(linker_utils_run_deltas(items, len, stay, len, run->deltas, len, &run->deltas_len));
+    expect_ok(linker_utils_run_deltas(&all, &relaxed, run->deltas, len, &run->deltas_len));
     run->heads_len = linker_utils_deltas_block_count(run->deltas, run->deltas_len);
     run->heads = zeros(run->heads_len, sizeof *run->heads);
     expect_ok(linker_utils_deltas_heads(run->deltas, run->deltas_len, run->heads, run->heads_len));

@@ -82,13 +82,12 @@ struct linker_utils_symbol known_symbol(const struct symbol *s, int64_t addend) 
     return known;
 }
 
-/* What is known of the linked file, for the relocations of a section. */
-struct linker_utils_addresses addresses_of(const struct section *s) {
-    return (struct linker_utils_addresses){
-        .section = s->output->address + s->offset, .got_base = known_got.base,
-        .thread_origin = tls.origins.thread_pointer, .module_origin = tls.origins.module_block,
-        .module_entry = module.entries ? address_of(got, module.entries->offset) : 0,
-        .has_tls = tls.len > 0};
+/* A section in the linked file, as the library takes it. */
+struct linker_utils_section section_of(const struct section *s) {
+    const struct output *o = s->output;
+    return (struct linker_utils_section){
+        BYTES_OF(s), s->relocations, s->relocations_len, o->address + s->offset,
+        o->base + s->offset, s->deleted, s->deleted_len};
 }
 
 /* Adds the value of a relocation to a ULEB128 number, or subtracts it, modulo what its bytes hold,
@@ -107,29 +106,27 @@ static void change_number(const struct section *s, Elf64_Rela *r, int64_t value)
 
 /* Writes the values of a section's relocations, if facts are as rewrites were chosen by them. Those
  * at ULEB128 numbers that are there are first, each by itself. */
-void relocate_section(struct section *s, const struct linker_utils_symbol_facts *facts,
-                      const struct linker_utils_symbol *values) {
+void relocate_section(struct section *s, const struct linker_utils_object *known) {
     static uint64_t *memory; /* for one section after another */
     static size_t room;
-    size_t count = s->object->symbols_len, at = 0;
-    struct linker_utils_addresses here = addresses_of(s);
+    size_t at = 0;
+    struct linker_utils_section here = section_of(s);
     int64_t value = 0;
     for (; s->has_numbers && at < s->relocations_len; at++) {
         Elf64_Rela *r = &s->relocations[at];
         if (kind_of(s, r)->role == LINKER_UTILS_ROLE_NONE) continue;
-        check(s, r, linker_utils_value_at(machine, &here, TABLE_OF(s), values, count, at, &value));
+        check(s, r, linker_utils_value_at(&linked, known, &here, at, &value));
         change_number(s, r, value);
     }
-    size_t memory_len = linker_utils_relocate_memory(TABLE_OF(s));
+    size_t memory_len = linker_utils_relocate_memory(&here);
     memory = grow(memory, memory_len, &room, sizeof *memory);
-    uint32_t status = linker_utils_relocate_rewritten_section(
-        machine, &linked, facts, count, s->object->facts, count, &here, TABLE_OF(s), values, count,
-        BYTES_OF(s), memory, memory_len, &at);
+    uint32_t status = linker_utils_relocate_rewritten_section(&linked, known, &here, memory,
+                                                              memory_len, &at);
     if (!status) return;
     const Elf64_Rela *r = &s->relocations[at < s->relocations_len ? at : 0];
     const struct linker_utils_relocation_reach *reach = &kind_of(s, r)->reach;
     if (status == LINKER_UTILS_OUT_OF_REACH &&
-        !linker_utils_value_at(machine, &here, TABLE_OF(s), values, count, at, &value))
+        !linker_utils_value_at(&linked, known, &here, at, &value))
         fail_at(s, r, " out of reach: %" PRId64 " is not in [%" PRId64 ", %" PRId64 "), to '%s'",
                 value, reach->min, reach->max, symbol_at(s, r)->name);
     check(s, r, status);

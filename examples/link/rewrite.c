@@ -8,6 +8,7 @@
 static struct linker_utils_symbol_facts *facts;
 static struct linker_utils_symbol *values;
 struct linker_utils_kept_groups *kept;
+static struct linker_utils_object known;
 static const struct symbol *tls_get_addr;
 
 /* Whether the library is not shown a relocation: nothing here has its symbol, or it would be
@@ -49,42 +50,36 @@ static bool note_symbols(struct object *o) {
             .is_tls_get_addr = s == tls_get_addr};
     }
     o->facts = grow(o->facts, len, &o->facts_room, sizeof *o->facts);
-    expect_ok(linker_utils_keep_facts(&linked, facts + o->facts_len, len - o->facts_len,
-                                      o->facts + o->facts_len, len - o->facts_len));
+    size_t at = o->facts_len, more = len - at;
+    known = (struct linker_utils_object){facts + at, more, .kept_facts = o->facts + at,
+                                         .kept_facts_len = more};
+    expect_ok(linker_utils_keep_facts(&linked, &known));
+    known = (struct linker_utils_object){facts, len, values, len, kept, len, .kept_facts = o->facts,
+                                         .kept_facts_len = len};
     o->facts_len = len;
     return hides;
 }
 
 /* Rewrites a section of an object in a phase, or notes which groups of it stay. With words of
  * addresses: has code compute those that it loads from there, all that load a word or none. */
-static void rewrite_in(uint32_t phase, struct section *s, const struct section *words,
+static void rewrite_in(uint32_t phase, struct section *s, const struct linker_utils_words *words,
                        bool is_survey) {
-    static struct linker_utils_decision *decisions; /* of one section after another */
-    static struct linker_utils_deletion *deleted;
-    static size_t rooms[2];
-    size_t count = s->object->symbols_len, len = s->relocations_len, used = 0, at = 0;
-    struct linker_utils_addresses here = addresses_of(s);
-    uint64_t start = words ? words->output->address + words->offset : 0;
-    decisions = grow(decisions, len, &rooms[0], sizeof *decisions);
-    deleted = grow(deleted, len, &rooms[1], sizeof *deleted);
+    static struct linker_utils_rewritten made; /* of one section after another */
+    struct linker_utils_section here = section_of(s);
+    size_t len = s->relocations_len, at = 0;
+    made.decisions = grow(made.decisions, len, &made.decisions_len, sizeof *made.decisions);
+    made.deleted = grow(made.deleted, len, &made.deleted_len, sizeof *made.deleted);
+    made.deleted_used = 0;
     uint32_t status =
-        is_survey && words ? linker_utils_survey_address_loads(
-                  machine, &linked, facts, count, &here, values, count, start, TABLE_OF(words),
-                  TABLE_OF(s), BYTES_OF(s), words->kept_words, words->relocations_len)
-        : is_survey ? linker_utils_survey_placed_section(
-                          machine, phase, &linked, facts, count, &here, values, count, TABLE_OF(s),
-                          BYTES_OF(s), kept, count)
-        : words ? linker_utils_rewrite_address_loads(
-                      machine, &linked, facts, count, &here, values, count, start, TABLE_OF(words),
-                      words->kept_words, words->relocations_len, TABLE_OF(s), BYTES_OF(s),
-                      decisions, len, &at)
-                : linker_utils_rewrite_placed_section(
-                      machine, phase, &linked, facts, count, &here, values, count, kept, count,
-                      TABLE_OF(s), BYTES_OF(s), decisions, len, deleted, len, &used, &at);
+        is_survey && words ? linker_utils_survey_address_loads(&linked, &known, &here, words)
+        : is_survey ? linker_utils_survey_placed_section(&linked, &known, &here, phase)
+        : words ? linker_utils_rewrite_address_loads(&linked, &known, &here, words, &made, &at)
+                : linker_utils_rewrite_placed_section(&linked, &known, &here, phase, &made, &at);
     check(s, &s->relocations[at < len ? at : 0], status);
-    if (!used) return;
-    s->deleted_len = (uint32_t)used;
-    s->deleted = memcpy(take(used, sizeof *deleted), deleted, used * sizeof *deleted);
+    if (!made.deleted_used) return;
+    s->deleted_len = (uint32_t)made.deleted_used;
+    s->deleted = memcpy(take(s->deleted_len, sizeof *s->deleted), made.deleted,
+                        s->deleted_len * sizeof *s->deleted);
 }
 
 /* Whether the loads from the GOT of a section stay: all of it or none, as in ld.lld. One stays too
@@ -120,11 +115,14 @@ void rewrite_object(struct object *o, uint32_t first, uint32_t last) {
     bool is_early = first == LINKER_UTILS_PHASE_EARLY, hides = note_symbols(o);
     bool keeps = is_early && o->is_threaded && has_offsets(o);
     if (hides) hide(o);
-    EACH_SECTION_OF(o, words)
-        for (int is_survey = 1; words->kept_words && is_survey >= 0; is_survey--)
-            EACH_SECTION_OF(o, s)
-                if (is_code(s) && first == LINKER_UTILS_PHASE_GOT_LOADS)
-                    rewrite_in(first, s, words, is_survey);
+    EACH_SECTION_OF(o, of) {
+        if (!of->kept_words || first != LINKER_UTILS_PHASE_GOT_LOADS) continue;
+        size_t len = of->relocations_len;
+        struct linker_utils_words words = {of->output->address + of->offset, of->relocations, len,
+                                           of->kept_words, len};
+        for (int is_survey = 1; is_survey >= 0; is_survey--)
+            EACH_SECTION_OF(o, s) if (is_code(s)) rewrite_in(first, s, &words, is_survey);
+    }
     for (uint32_t phase = first; phase <= last; phase++) {
         bool is_of_got = phase == LINKER_UTILS_PHASE_GOT_LOADS;
         memset(kept, 0, (o->symbols_len + 1) * sizeof *kept);
@@ -158,18 +156,17 @@ static int by_offset(const void *left, const void *right) {
     return order(a->offset, b->offset);
 }
 
-/* Deletes the high parts of addresses near a pointer in a section, all of a symbol or none. */
-static uint32_t rewrite_near(struct section *s, uint64_t pointer, const bool *stays, size_t *at) {
-    size_t count = s->object->symbols_len, len = s->relocations_len, used = 0;
-    struct linker_utils_addresses here = addresses_of(s);
-    struct linker_utils_decision *decisions = zeros(len, sizeof *decisions);
+/* Deletes the high parts of addresses near the pointer in a section, all of a symbol or none. */
+static uint32_t rewrite_near(struct section *s, const struct linker_utils_section *here,
+                             size_t *at) {
+    size_t len = s->relocations_len;
     struct linker_utils_deletion *deleted = take(s->deleted_len + len, sizeof *deleted);
     if (s->deleted_len) memcpy(deleted, s->deleted, s->deleted_len * sizeof *deleted);
-    uint32_t status = linker_utils_rewrite_global_pointer(
-        machine, &linked, facts, count, &here, values, count, pointer, stays, count, TABLE_OF(s),
-        BYTES_OF(s), decisions, len, deleted + s->deleted_len, len, &used, at);
-    free(decisions);
-    s->deleted_len += (uint32_t)used;
+    struct linker_utils_rewritten made = {zeros(len, sizeof *made.decisions), len,
+                                          deleted + s->deleted_len, len, 0};
+    uint32_t status = linker_utils_rewrite_global_pointer(&linked, &known, here, &made, at);
+    free(made.decisions);
+    s->deleted_len += (uint32_t)made.deleted_used;
     s->deleted = deleted;
     qsort(deleted, s->deleted_len, sizeof *deleted, by_offset);
     return status;
@@ -180,27 +177,25 @@ static uint32_t rewrite_near(struct section *s, uint64_t pointer, const bool *st
 void relax_near(bool is_final) {
     const struct symbol *to = named("__global_pointer$");
     if (!relaxes || !relaxes_near || !to || !to->output) return;
-    uint64_t pointer = address_of(to->output, to->offset);
+    linked.global_pointer = address_of(to->output, to->offset);
     EACH_OBJECT(o) {
-        size_t count = o->symbols_len, at = 0;
-        bool *stays = zeros(count, 1), hides = note_symbols(o);
+        size_t at = 0;
+        bool hides = note_symbols(o);
+        known.kept_high_parts = zeros(o->symbols_len, 1);
+        known.kept_high_parts_len = o->symbols_len;
         if (hides) hide(o);
         for (int step = is_final ? 2 : 0; step < (is_final ? 3 : 2); step++)
             EACH_SECTION_OF(o, s) {
                 if (!is_code(s) || !s->output->shrinks) continue;
-                struct linker_utils_addresses here = addresses_of(s);
+                struct linker_utils_section here = section_of(s);
                 uint32_t status =
-                    step == 1 ? rewrite_near(s, pointer, stays, &at)
-                    : is_final
-                        ? linker_utils_from_global_pointer(&here, values, count, pointer,
-                                                           TABLE_OF(s), BYTES_OF(s), &at)
-                        : linker_utils_survey_global_pointer(machine, &linked, facts, count, &here,
-                                                             values, count, pointer, TABLE_OF(s),
-                                                             BYTES_OF(s), stays, count);
+                    step == 1  ? rewrite_near(s, &here, &at)
+                    : is_final ? linker_utils_from_global_pointer(&linked, &known, &here, &at)
+                               : linker_utils_survey_global_pointer(&linked, &known, &here);
                 check(s, &s->relocations[at < s->relocations_len ? at : 0], status);
             }
         if (hides) hide(o);
-        free(stays);
+        free(known.kept_high_parts);
     }
 }
 
@@ -210,6 +205,6 @@ void relocate(void) {
     EACH_OBJECT(o) {
         progress("relocating", o);
         rewrite_object(o, relaxes ? LINKER_UTILS_PHASE_GOT_LOADS : last + 1, last);
-        EACH_SECTION_OF(o, s) if (s->relocations_len) relocate_section(s, facts, values);
+        EACH_SECTION_OF(o, s) if (s->relocations_len) relocate_section(s, &known);
     }
 }

@@ -2,8 +2,9 @@
 """What repeats the heads of the exports in `crates/linker_utils_c/src`, and the library's structs:
 `include/linker_utils_inline.h`, which begins with `bindings/inline_head.h`; `bindings/rust/src/raw.rs`;
 and the list of structs for a test, `bindings/rust/tests/data/structs.rs`. The names of structs in C are
-those that the headers have for the same parameters and fields, and the order is the headers'. A
-function or a struct that isn't the same in the headers and in the library is an error. Makes
+those that the headers have for the same parameters and fields, and the order is the headers'. What
+calls in C take by structs in place of parameters PASSED says. A function or a struct that isn't the
+same in the headers and in the library, or isn't as PASSED says, is an error. Makes
 `include/linker_utils_types.h` too, of the tables of relocations and of dynamic ones.
 """
 import re
@@ -31,6 +32,53 @@ STRUCT = r"(?m)^#\[repr\(C\)\]\n(?:#\[.*\]\n)*pub struct (\w+) \{\n((?:.*\n)*?)\
 MUST_USE = "LINKER_UTILS_MUST_USE "
 STATUSES = "A call that returns `uint32_t` returns an `enum linker_utils_status`, except for (.*?):"
 COLUMNS = 100
+# The structs by which calls in C take parameters of exports: beside which parameters of an export (or
+# beside any), and of each field the parameters that it has, by name and type. The first struct that has a
+# parameter takes it. Where fields have those of a struct, as `addresses.section`, that is made of them.
+PASSED = {
+    "words": ("words_start", {"address": "words_start: u64", "relocations": "words: &[u8]",
+                              "kept": "kept: &[bool], kept: &mut [bool]"}),
+    "link": ("output addresses", {"machine": "machine: u16",
+                                  "is_executable": "output.is_executable: bool",
+                                  "is_fixed": "output.is_fixed: bool",
+                                  "has_near_symbols": "output.has_near_symbols: bool",
+                                  "got_base": "addresses.got_base: u64",
+                                  "thread_origin": "addresses.thread_origin: u64",
+                                  "module_origin": "addresses.module_origin: u64",
+                                  "module_entry": "addresses.module_entry: u64",
+                                  "has_tls": "addresses.has_tls: bool",
+                                  "global_pointer": "global_pointer: u64"}),
+    "object": ("", {"facts": "symbols: &[SymbolFacts], facts: &[SymbolFacts]",
+                    "values": "symbols: &[Symbol], values: &[Symbol]",
+                    "kept_groups": "kept: &[KeptGroups], kept: &mut [KeptGroups]",
+                    "kept_facts": "kept: &[KeptFacts], kept: &mut [KeptFacts]",
+                    "kept_high_parts": "kept: &[bool], kept: &mut [bool]"}),
+    "section": ("", {"bytes": "section: &[u8], section: &mut [u8]", "bytes_len": "section_len: usize",
+                     "relocations": "relocations: &[u8], relocations: &mut [u8]",
+                     "address": "addresses.section: u64", "base": "base: u64",
+                     "deleted": "deleted: &[Deletion]"}),
+    "rewritten": ("decisions", {"decisions": "decisions: &mut [DecisionNumbers]",
+                                "deleted": "deleted: &mut [Deletion]",
+                                "deleted_used": "deleted_used: &mut usize"}),
+    "branches": ("branches", {"branches": "branches: &[Branch]", "targets": "targets: &[u64]",
+                              "boundaries": "boundaries: &[u64]"}),
+    "placement": ("branches", {"stubs": "stubs: &mut [PlacedStub]", "stubs_used": "stubs_used: &mut usize",
+                               "ways": "ways: &mut [usize]", "before": "before: &mut [u64]"}),
+    "merge": ("merged", {"additional": "additional: &[Deletion]", "merged": "merged: &mut [RelaxDelta]"}),
+    "translation": ("queries", {"queries": "queries: &[u64]", "outputs": "outputs: &mut [u64]"}),
+    "calls": ("calls", {"calls": "calls: &[Call]", "deltas": "deltas: &[RelaxDelta]", "link": "link: u32"}),
+    "items": ("makers", {"items": "items: &mut [ItemNumbers]", "makers": "makers: &mut [usize]",
+                         "items_used": "len: &mut usize"}),
+    "run": ("base start items", {"start": "start: u64", "items": "items: &[ItemNumbers]",
+                                 "deltas": "deltas: &[RelaxDelta]"}),
+    "relaxed": ("", {"shapes": "shapes: &mut [u8]", "kept": "kept: &[u64], kept: &mut [u64]",
+                     "places": "places: &mut [usize]", "freed": "freed: &mut [u64]"}),
+    "windows": ("original", {"original": "original: &[u8]", "offset": "offset: u64",
+                             "others": "others: &[FieldBits]", "linked": "linked: &[u8]"}),
+}
+# those that come first where a call has a link
+FIRST = ["link", "object", "section"]
+MOST_PARAMETERS = 6
 
 
 def stop(why):
@@ -55,7 +103,37 @@ def exports():
 def parameter(name, kind):
     pointer, pointed = re.fullmatch(r"(&mut|&)?(.*)", kind).groups()
     return SimpleNamespace(name=name, pointer=pointer, kind=pointed.strip("[]"), is_slice=pointed[0] == "[",
+                           typed=f"{name}: {kind.replace('&mut', '&mut ')}", is_relas=False, passed=None, parts=[],
                            may_be_null=(name, kind) == ("faulty", "&mutusize"))
+
+
+def pass_parameters(found, structs):
+    """Says of each parameter of the exports in which field of which struct its callers in C pass it, or
+    for each field of the parameter's struct."""
+    unused = {each for _, fields in PASSED.values() for typed in fields.values() for each in typed.split(", ")}
+
+    def place(typed, export):
+        names = {it.name for it in export.parameters}
+        for struct, (beside, fields) in PASSED.items():
+            if beside and not names & set(beside.split()):
+                continue
+            for field, all_typed in fields.items():
+                if typed in all_typed.split(", "):
+                    unused.discard(typed)
+                    return struct, field
+
+    for export in found.values():
+        if not export.name.endswith("_nonnull"):
+            continue
+        for it in export.parameters:
+            it.passed = place(it.typed, export)
+            if it.pointer == "&" and not it.is_slice and not it.passed:
+                parts = [place(f"{it.name}.{field}: {kind}", export) for field, kind in structs.get(it.kind, [])]
+                if any(parts) and not all(parts):
+                    stop(f"PASSED has some fields of `{it.typed}` and not others")
+                it.parts = parts if any(parts) else []
+    if unused:
+        stop(f"no export has a parameter of PASSED: {', '.join(sorted(unused))}")
 
 
 def library_structs():
@@ -69,9 +147,13 @@ def library_structs():
     return found
 
 
-def header():
+def headers():
+    """The headers' text, with the structs that are written by hand of the inline functions."""
+    return "".join((ROOT / name).read_text() for name in [*(f"include/{name}" for name in HEADERS), HEAD])
+
+
+def header(text):
     """The functions that the headers declare, and the fields of their structs, as texts."""
-    text = "".join((ROOT / "include" / name).read_text() for name in HEADERS)
     numbers = re.findall(r"`(\w+)`", re.search(STATUSES, re.sub(r"\n \*  ", "", text))[1])
     text = re.sub(r"/\*.*?\*/", "", text.replace("\\\n", " "), flags=re.S)
     text = re.sub(r"(?m)^#.*$", "", text)
@@ -116,32 +198,75 @@ class Names:
     def pointed(self, it):
         return "const " * (it.pointer == "&") + self.of_c(it.kind)
 
-    def parameters(self, export, is_counted):
-        """The parameters in C, of the export, or as its callers count relocations."""
+    def slices(self, it, name, is_counted):
+        """A parameter, or a field, in C: of a slice two of them. Callers count relocations."""
+        kind = self.pointed(it)
+        if is_counted and it.is_relas:
+            kind = kind.replace("uint8_t", "void")
+        yield f"{kind} {'*' * bool(it.pointer)}{name}"
+        if it.is_slice:
+            yield f"size_t {name}_len"
+
+    def structs_of(self, it):
+        """The structs by which callers pass a parameter."""
+        return [struct for struct, _ in it.parts or ([it.passed] if it.passed else [])]
+
+    def of_export(self, export):
+        """The export's parameters in C."""
+        return [text for it in export.parameters for text in self.slices(it, it.name, False)]
+
+    def of_call(self, export):
+        """The parameters of a call in C, with structs in place of what they have."""
+        places = {}
         for it in export.parameters:
-            kind = self.pointed(it)
-            if is_counted and it.is_relas:
-                kind = kind.replace("uint8_t", "void")
-            yield f"{kind} {'*' * bool(it.pointer)}{it.name}"
-            if it.is_slice:
-                yield f"size_t {it.name}_len"
+            for struct in self.structs_of(it) or [it.typed]:
+                places.setdefault(struct, []).append(it)
+        for place in dict.fromkeys([*(FIRST if "link" in places else []), *places]):
+            passed = places.get(place, [])
+            if place not in PASSED:
+                yield from (text for it in passed for text in self.slices(it, it.name, True))
+            elif passed:
+                is_written = any(it.pointer == "&mut" and not it.is_slice for it in passed)
+                yield f"{'const ' * (not is_written)}struct linker_utils_{place} *{place}"
 
     def arguments(self, export):
         """What a wrapper passes to its export."""
         for it in export.parameters:
+            name = "->".join(it.passed) if it.passed else it.name
             if it.is_relas:
-                yield f"LINKER_UTILS_RELAS({self.pointed(it)}, {it.name})"
+                yield f"LINKER_UTILS_RELAS({self.pointed(it)}, {name})"
             elif it.is_slice:
-                yield f"LINKER_UTILS_SLICE({self.pointed(it)}, {it.name})"
-                yield f"{it.name}_len"
+                yield f"LINKER_UTILS_SLICE({self.pointed(it)}, {name})"
+                yield f"{name}_len"
+            elif it.may_be_null:
+                yield f"{name} ? {name} : &ignored"
             else:
-                yield f"{it.name} ? {it.name} : &ignored" if it.may_be_null else it.name
+                yield "&" * bool(it.parts or it.passed and it.pointer) + name
+
+    def fields(self, struct, found):
+        """The fields of a struct of PASSED, as all exports take them. It is `const` where none writes."""
+        fields = {}
+        for it in (it for export in found for it in export.parameters):
+            if it.passed and it.passed[0] == struct:
+                fields.setdefault(it.passed[1], []).append(it)
+            for (of, field), (_, kind) in zip(it.parts, self.structs.get(it.kind, [])):
+                if of == struct:
+                    fields.setdefault(field, []).append(parameter(field, kind))
+        counts = {f"{field}_len" for field, every in fields.items() if every[0].is_slice}
+        for field, every in fields.items():
+            it = next((it for it in every if it.pointer == "&mut"), every[0])
+            if field in counts:
+                continue
+            yield from self.slices(it, field, True) if it.is_slice else [f"{self.of_c(it.kind)} {field}"]
 
 
 def compare_functions(functions, of_c, found, names):
-    """The headers' functions, each with its export, which has to be the same. None is named as a struct. The headers say which
-    bytes are relocations of a file, that callers count."""
+    """The headers' functions, each with its export, which has to be the same but for what structs pass.
+    None is named as a struct. The headers say which bytes are relocations of a file, that callers count."""
     listed = []
+    pass_parameters(found, names.structs)
+    of_struct = {struct: {re.search(r"\w+$", text)[0]: text for text in of_c.get(f"linker_utils_{struct}", [])}
+                 for struct in PASSED}
     for name, declared in functions.items():
         if name in of_c:
             stop(f"{name} is a function and a struct")
@@ -154,16 +279,24 @@ def compare_functions(functions, of_c, found, names):
             continue
         texts = {re.search(r"\w+$", text)[0]: text for text in declared.parameters}
         for it in export.parameters:
-            text = texts.get(it.name, "")
-            names.of_c(it.kind, text)
+            text = of_struct[it.passed[0]].get(it.passed[1], "") if it.passed else texts.get(it.name, "")
+            made_of = re.sub(r"\B([A-Z])", r"_\1", it.kind).lower()
+            names.of_c(it.kind, f"struct linker_utils_{made_of}" if it.parts else text)
             it.is_relas = it.is_slice and it.kind == "u8" and "void *" in text
-        wanted = list(names.parameters(export, True))
+        wanted = list(names.of_call(export))
         if (declared.result, declared.parameters) != (IN_C[export.result], wanted):
             stop(f"the headers declare {name} otherwise than its export is, which has\n"
                  f"    {IN_C[export.result]} ({', '.join(wanted)})")
+        if len(wanted) > MOST_PARAMETERS:
+            stop(f"{name} has more than {MOST_PARAMETERS} parameters")
         listed.append((name, declared, export))
     for name in found:
         stop(f"{name} is exported, and the headers don't declare it")
+    for struct in PASSED:
+        wanted = list(names.fields(struct, [export for _, _, export in listed]))
+        if sorted(wanted) != sorted(of_c.get(f"linker_utils_{struct}", [])):
+            stop(f"struct linker_utils_{struct} is otherwise in the headers than PASSED says, by which it has\n    "
+                 + ", ".join(wanted))
     return listed
 
 
@@ -181,16 +314,16 @@ def compare_structs(of_c, names):
             stop(f"struct {name} is otherwise in the headers than `{kind}` in the library, which has\n    "
                  + ", ".join(wanted))
         compared.append(kind)
-    for name in of_c.keys() - set(names.in_c.values()):
+    for name in of_c.keys() - set(names.in_c.values()) - {f"linker_utils_{struct}" for struct in PASSED}:
         stop(f"no export takes a struct {name}, which the headers have")
     if len(set(names.in_c.values())) < len(compared):
         stop("two structs of the library have one name in the headers")
     return sorted(compared, key=lambda kind: list(of_c).index(names.in_c[kind]))
 
 
-def wrapped(text, indent):
+def wrapped(text, indent, later=0):
     """A text in lines that are indented."""
-    return textwrap.fill(text, COLUMNS, initial_indent=" " * indent, subsequent_indent=" " * indent,
+    return textwrap.fill(text, COLUMNS, initial_indent=" " * indent, subsequent_indent=" " * (later or indent),
                          break_on_hyphens=False, break_long_words=False) + "\n"
 
 
@@ -209,17 +342,21 @@ def make_inline(listed, names):
  *
  * The inline functions of linker_utils.h, which includes this file and says what they do. No export
  * of the archive takes a null pointer to a slice, even with a count of 0. So each function replaces
- * null by the address of an array, and calls the export of the same name that ends in `_nonnull`.
- * It replaces a null `faulty` by the address of a variable. */
+ * null by the address of an array, and calls the export of the same name that ends in `_nonnull`,
+ * with what the structs have in place of them. It replaces a null `faulty` by the address of a
+ * variable. */
 #ifndef LINKER_UTILS_INLINE_H
 #define LINKER_UTILS_INLINE_H
 
 """
     text += (ROOT / HEAD).read_text().partition("\n\n")[2]
     for name, declared, export in (it for it in listed if it[1].is_inline):
-        text += "\n" + laid_out(f"{declared.result} {export.name}", list(names.parameters(export, False)), ";")
+        text += "\n" + laid_out(f"{declared.result} {export.name}", names.of_export(export), ";")
         text += laid_out(f"static inline {declared.result} {name}", declared.parameters, " {")
         text += "    size_t ignored;\n" * any(it.may_be_null for it in export.parameters)
+        for it in (it for it in export.parameters if it.parts):
+            values = ", ".join("->".join(part) for part in it.parts)
+            text += wrapped(f"{names.pointed(it)} {it.name} = {{{values}}};", 4, 8)
         call = "return " * bool(export.result) + export.name
         text += laid_out(call, list(names.arguments(export)), ";", 4) + "}\n"
     return text + "\n#undef LINKER_UTILS_SLICE\n#undef LINKER_UTILS_RELAS\n\n#endif\n"
@@ -345,9 +482,13 @@ static inline const char *linker_utils_kind_name(uint32_t kind) {{
 """
 
 
+def compared(text, found, library):
+    """What the headers' text declares, compared with the exports and the library's structs."""
+    (functions, structs), names = header(text), Names(library)
+    return compare_functions(functions, structs, found, names), names, compare_structs(structs, names)
+
+
 def make():
-    (functions, structs), names = header(), Names(library_structs())
-    listed = compare_functions(functions, structs, exports(), names)
-    kinds = compare_structs(structs, names)
+    listed, names, kinds = compared(headers(), exports(), library_structs())
     return {INLINE: make_inline(listed, names), RAW: make_raw(listed, names, kinds),
             STRUCTS: make_structs(names, kinds), TYPES: make_types()}

@@ -60,22 +60,26 @@ static void empty_containers() {
     vector room;
     std::vector<uint64_t> words;
     std::vector<size_t> places;
-    const linker_utils_addresses addresses{};
-    const linker_utils_output_facts output{};
+    linker_utils_link link{};
+    link.machine = EM_RISCV;
+    const lu::object object({});
+    const lu::section section(room), constants = lu::section::of_constants(none);
+    const lu::run run({});
     const linker_utils_link_facts facts{};
     const lu::row call(EM_AARCH64, R_AARCH64_CALL26);
-    EXPECT(lu::relocate_section(EM_RISCV, addresses, std::vector<Elf64_Rela>(), {}, room, words));
-    EXPECT(lu::survey(EM_RISCV, output, {}, {}, none, {}));
-    EXPECT(lu::rewrite_section(EM_RISCV, output, {}, {}, {}, room, {}));
-    EXPECT(*lu::section_items(EM_RISCV, none, 0, {}, {}, places) == 0);
+    std::vector<Elf64_Rela> no_relas;
+    EXPECT(lu::relocate_section(link, object, lu::section(room, no_relas), words));
+    EXPECT(lu::survey(link, object, constants));
+    EXPECT(lu::rewrite_section(link, object, section, {}));
+    EXPECT(*lu::section_items(EM_RISCV, constants, {}, {}, places) == 0);
     uint64_t freed[1] = {1};
-    EXPECT(lu::relax({}, 0, room, words, places, freed) && freed[0] == 0);
+    EXPECT(lu::relax(run, room, words, places, freed) && freed[0] == 0);
     EXPECT(lu::deltas::create({})->size() == 0 && lu::deltas().merged({})->total_deleted() == 0);
-    EXPECT(lu::packed_run_len(0, 7, lu::deltas()) == 7);
-    EXPECT(lu::pack_run(EM_RISCV, none, 0, {}, *lu::deltas::of_run({}, words), 0, {}, room));
+    EXPECT(lu::packed_run_len(lu::section::of_constants(vector(7)), run) == 7);
+    EXPECT(lu::pack_run(EM_RISCV, constants, lu::run({}, 0, *lu::deltas::of_run(run, words)), room));
     EXPECT(call.write(4, room).status == LINKER_UTILS_TOO_SHORT);
     EXPECT(call.apply(linker_utils_operands{}, room).status == LINKER_UTILS_TOO_SHORT);
-    EXPECT(call.choose(none, 0, facts)->relocation == R_AARCH64_CALL26);
+    EXPECT(call.choose(constants, 0, facts)->relocation == R_AARCH64_CALL26);
     EXPECT(lu::name(EM_AARCH64, R_AARCH64_CALL26, {}).status == LINKER_UTILS_TOO_SHORT);
 }
 
@@ -100,36 +104,39 @@ static void expect(const lu::outcome &ended, uint32_t status, size_t faulty) {
 }
 
 static void entries_are_named() {
-    vector code(16);
+    vector code(16), packed(16);
     /* x86-64: `mov x@gottpoff(%rip), %rax`, twice at one place */
-    vector section = {0x48, 0x8b, 0x05, 0, 0, 0, 0};
+    vector loads = {0x48, 0x8b, 0x05, 0, 0, 0, 0};
     std::vector<Elf64_Rela> relas(2, {3, ELF64_R_INFO(UINT64_C(1), R_X86_64_GOTTPOFF), -4});
     std::vector<linker_utils_symbol_facts> symbols(2);
     std::vector<linker_utils_kept_groups> kept(2);
     std::vector<linker_utils_decision> decisions(2);
     symbols[1].is_local = true;
-    expect(lu::rewrite_section(EM_X86_64, {true, true, true}, symbols, kept, relas, section,
-                               decisions),
-           LINKER_UTILS_OVERLAPS, 1);
-    expect(lu::relocate_section(EM_X86_64, {}, relas, {}, section, {}), LINKER_UTILS_SHORT_MEMORY,
+    linker_utils_link link{};
+    link.machine = EM_X86_64;
+    link.is_executable = link.is_fixed = link.has_near_symbols = true;
+    const lu::object object(symbols, {}, kept);
+    const lu::section section(loads, relas);
+    expect(lu::rewrite_section(link, object, section, decisions), LINKER_UTILS_OVERLAPS, 1);
+    expect(lu::relocate_section(link, object, section, {}), LINKER_UTILS_SHORT_MEMORY,
            lu::no_index);
     std::vector<uint64_t> memory(2);
-    expect(lu::relocate_section(EM_X86_64, {}, relas, {}, section, memory), LINKER_UTILS_NO_SYMBOL,
-           0);
+    expect(lu::relocate_section(link, object, section, memory), LINKER_UTILS_NO_SYMBOL, 0);
     /* RISC-V: 3 bytes of nops; and alignments that overlap, and lie past the section */
     const linker_utils_rela odd[] = {{0, 0, 4, R_RISCV_ALIGN, 0, 0, 0},
                                      {8, 0, 3, R_RISCV_ALIGN, 0, 0, 0}};
     std::vector<linker_utils_item> items(2);
     std::vector<size_t> makers(2), places(2);
-    expect(lu::section_items(EM_RISCV, code, 0, odd, items, makers),
+    const lu::section in(code);
+    expect(lu::section_items(EM_RISCV, in, odd, items, makers),
            LINKER_UTILS_MALFORMED_RELOCATION, 1);
     for (auto &item : items) item.kind = LINKER_UTILS_ITEM_ALIGNMENT, item.alignment = item.len = 8;
     std::vector<uint64_t> freed(3);
     vector shapes(2);
-    expect(lu::relax(items, 0, shapes, memory, places, freed), LINKER_UTILS_ITEMS_OVERLAP, 1);
+    const lu::run run(items);
+    expect(lu::relax(run, shapes, memory, places, freed), LINKER_UTILS_ITEMS_OVERLAP, 1);
     items[1].offset = 12;
-    expect(lu::pack_run(EM_RISCV, code, 0, items, {}, 0, {}, code),
-           LINKER_UTILS_ITEM_OUT_OF_SECTION, 1);
+    expect(lu::pack_run(EM_RISCV, in, run, packed), LINKER_UTILS_ITEM_OUT_OF_SECTION, 1);
 }
 
 static void lists_are_moved() {

@@ -182,24 +182,35 @@ struct given {
     uint8_t *section, *relocations;
     struct linker_utils_symbol *symbols;
     size_t len, relocations_len, symbols_len;
-    struct linker_utils_addresses addresses;
-    uint16_t machine;
+    struct linker_utils_link link;
+    uint64_t address;
 };
+
+static struct linker_utils_section section_of(const struct given *it) {
+    return (struct linker_utils_section){
+        .bytes = it->section, .bytes_len = it->len, .relocations = it->relocations,
+        .relocations_len = it->relocations_len / 24, .address = it->address};
+}
+
+static struct linker_utils_object object_of(const struct given *it) {
+    return (struct linker_utils_object){.values = it->symbols, .values_len = it->symbols_len};
+}
 
 static void relocation_at(const struct given *it, size_t i, uint64_t words[3]) {
     memcpy(words, it->relocations + 24 * i, 24);
 }
 
 static uint32_t value_at(const struct given *it, size_t i, int64_t *value) {
-    return linker_utils_value_at(it->machine, &it->addresses, it->relocations, it->relocations_len / 24,
-                                 it->symbols, it->symbols_len, i, value);
+    const struct linker_utils_object object = object_of(it);
+    const struct linker_utils_section section = section_of(it);
+    return linker_utils_value_at(&it->link, &object, &section, i, value);
 }
 
 static uint32_t role_of(const struct given *it, size_t i, uint64_t offset) {
     uint64_t words[3];
     if (i >= it->relocations_len / 24) return 0;
     relocation_at(it, i, words);
-    return words[0] == offset ? linker_utils_uleb128_role(it->machine, (uint32_t)words[1]) : 0;
+    return words[0] == offset ? linker_utils_uleb128_role(it->link.machine, (uint32_t)words[1]) : 0;
 }
 
 /* How many bytes the field of a relocation has; 0 of one without a field. That of a ULEB128 number
@@ -209,8 +220,8 @@ static uint64_t field_len(const struct given *it, size_t i) {
     struct linker_utils_relocation_info info;
     size_t len = 0;
     relocation_at(it, i, words);
-    if (linker_utils_relocation(it->machine, (uint32_t)words[1], &info)) return 0;
-    if (linker_utils_uleb128_role(it->machine, (uint32_t)words[1])) { /* at most ten bytes */
+    if (linker_utils_relocation(it->link.machine, (uint32_t)words[1], &info)) return 0;
+    if (linker_utils_uleb128_role(it->link.machine, (uint32_t)words[1])) { /* at most ten bytes */
         while (len < 10 && words[0] < it->len && len < it->len - words[0])
             if (it->section[words[0] + len++] < 0x80) break;
         return len;
@@ -227,7 +238,7 @@ static uint32_t kind_of(const struct given *it, size_t i) {
     uint64_t words[3];
     struct linker_utils_relocation_info info;
     relocation_at(it, i, words);
-    return linker_utils_relocation(it->machine, (uint32_t)words[1], &info) ? 0 : info.kind;
+    return linker_utils_relocation(it->link.machine, (uint32_t)words[1], &info) ? 0 : info.kind;
 }
 
 /* Whether two relocations at one offset compose: the second adds to the number that the first sets or
@@ -268,9 +279,9 @@ static bool overlaps(const struct given *it, size_t k) {
  * bytes than a limit allows. */
 static bool is_aligned(const struct given *it, const uint64_t *words) {
     uint32_t type = (uint32_t)words[1];
-    bool is_stated = it->machine == EM_LOONGARCH && words[1] >> 32;
-    if (type != (it->machine == EM_RISCV ? 43 : it->machine == EM_LOONGARCH ? 102 : UINT32_MAX)) return true;
-    uint64_t place = it->addresses.section + words[0], power = 1, nops = words[2], most = 0;
+    bool is_stated = it->link.machine == EM_LOONGARCH && words[1] >> 32;
+    if (type != (it->link.machine == EM_RISCV ? 43 : it->link.machine == EM_LOONGARCH ? 102 : UINT32_MAX)) return true;
+    uint64_t place = it->address + words[0], power = 1, nops = words[2], most = 0;
     if (is_stated) {
         if (words[2] % 256 > 32) return false;
         power = UINT64_C(1) << words[2] % 256, most = words[2] / 256;
@@ -285,14 +296,14 @@ static bool is_aligned(const struct given *it, const uint64_t *words) {
 /* Whether R_PPC64_REL24 (10) has a symbol that says another TOC pointer, and no stub. */
 static bool loses_toc(const struct given *it, const uint64_t *words) {
     const struct linker_utils_symbol *symbol = &it->symbols[words[1] >> 32];
-    return it->machine == EM_PPC64 && (uint32_t)words[1] == 10 && !symbol->stub &&
+    return it->link.machine == EM_PPC64 && (uint32_t)words[1] == 10 && !symbol->stub &&
            !symbol->is_undefined_weak && symbol->other >> 5 == 1;
 }
 
 /* Whether the bytes are an instruction as long as that of a relocation, as far as it shows. */
 static bool has_length(const struct given *it, uint32_t type, const uint8_t *bytes) {
-    if (it->machine == EM_PPC64) return type < 128 || type > 151 || bytes[3] >> 2 == 1;
-    if (it->machine != EM_RISCV) return true;
+    if (it->link.machine == EM_PPC64) return type < 128 || type > 151 || bytes[3] >> 2 == 1;
+    if (it->link.machine != EM_RISCV) return true;
     if (type >= 44 && type <= 46) return (bytes[0] & 3) != 3;
     return !((type >= 16 && type < 32) || (type >= 62 && type <= 64)) || (bytes[0] & 3) == 3;
 }
@@ -311,7 +322,7 @@ static const struct {
 /* Whether a relocation begins such a sequence, has more than 32 signed bits, and lacks the third. */
 static bool lacks_upper(const struct given *it, const uint64_t *words, int64_t value) {
     uint64_t other[3];
-    if (it->machine != EM_LOONGARCH || value == (int32_t)value) return false;
+    if (it->link.machine != EM_LOONGARCH || value == (int32_t)value) return false;
     for (size_t k = 0; k < sizeof SEQUENCES / sizeof *SEQUENCES; k++) {
         if (SEQUENCES[k].high != (uint32_t)words[1]) continue;
         for (size_t i = 0; i < it->relocations_len / 24; i++) {
@@ -329,8 +340,8 @@ static bool lacks_upper(const struct given *it, const uint64_t *words, int64_t v
 static bool lacks_offset(const struct given *it, uint32_t type, int64_t value, const uint8_t *bytes) {
     uint32_t word = bytes[0] | bytes[1] << 8 | bytes[2] << 16 | (uint32_t)bytes[3] << 24;
     if (value >= -0x800 && value < 0x800) return false;
-    if (it->machine == EM_RISCV) return (type == 30 || type == 31) && (word >> 15 & 31) == 4;
-    return it->machine == EM_LOONGARCH && (type == 84 || type == 123) && (word >> 5 & 31) == 2;
+    if (it->link.machine == EM_RISCV) return (type == 30 || type == 31) && (word >> 15 & 31) == 4;
+    return it->link.machine == EM_LOONGARCH && (type == 84 || type == 123) && (word >> 5 & 31) == 2;
 }
 
 /* Writes the values one by one, up to the first that is rejected. */
@@ -367,7 +378,7 @@ static uint32_t one_by_one(const struct given *it, uint8_t *section, size_t *at)
             return LINKER_UTILS_OTHER_LENGTH;
         if (len >= 4 && lacks_offset(it, (uint32_t)words[1], value, dest))
             return LINKER_UTILS_OUT_OF_REACH;
-        status = is_inside ? linker_utils_relocate(it->machine, (uint32_t)words[1], value, dest, len)
+        status = is_inside ? linker_utils_relocate(it->link.machine, (uint32_t)words[1], value, dest, len)
                            : LINKER_UTILS_TOO_SHORT;
         if (status) return status;
     }
@@ -376,7 +387,9 @@ static uint32_t one_by_one(const struct given *it, uint8_t *section, size_t *at)
 
 /* Relocates a section in one call and one by one. Returns the status. */
 static uint32_t relocate(const struct given *it) {
-    size_t memory_len = linker_utils_relocate_memory(it->relocations, it->relocations_len / 24);
+    const struct linker_utils_object object = object_of(it);
+    const struct linker_utils_section section = section_of(it);
+    size_t memory_len = linker_utils_relocate_memory(&section);
     size_t faulty = SIZE_MAX, first = SIZE_MAX;
     uint64_t *memory = room(3, memory_len * sizeof *memory);
     uint8_t *copy = room(4, it->len);
@@ -386,9 +399,8 @@ static uint32_t relocate(const struct given *it) {
     if (it->len) memcpy(was, it->section, it->len);
     size_t count = it->relocations_len / 24, overlapping = 0;
     while (overlapping < count && !overlaps(it, overlapping)) overlapping++;
-    uint32_t status = linker_utils_relocate_section(
-        it->machine, &it->addresses, it->relocations, it->relocations_len / 24, it->symbols, it->symbols_len,
-        it->section, it->len, memory, memory_len, &faulty);
+    uint32_t status =
+        linker_utils_relocate_section(&it->link, &object, &section, memory, memory_len, &faulty);
     bool is_kept = !it->len || !memcmp(was, it->section, it->len);
     bool is_same = !it->len || !memcmp(copy, it->section, it->len);
     free(was);
@@ -426,10 +438,10 @@ static void reorder(uint8_t *relocations, size_t len) {
 /* A copy of a section, damaged in so many places. */
 static struct given damaged(const struct input *input, size_t places) {
     struct given it = {.len = input->len, .relocations_len = input->relocations_len,
-                       .symbols_len = input->symbols_len, .machine = input->machine,
-                       .addresses = {.section = input->start, .got_base = GOT, .thread_origin = START,
-                                     .module_origin = START, .module_entry = GOT,
-                                     .has_tls = !places || below(8)}};
+                       .symbols_len = input->symbols_len, .address = input->start,
+                       .link = {.machine = input->machine, .got_base = GOT, .thread_origin = START,
+                                .module_origin = START, .module_entry = GOT,
+                                .has_tls = !places || below(8)}};
     bool cuts = places && below(8) == 0;
     if (cuts) it.len = below(it.len + 1);
     if (cuts && below(2)) it.relocations_len = below(it.relocations_len + 1);

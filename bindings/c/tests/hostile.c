@@ -12,10 +12,11 @@
  * an inaccessible page too, and is inaccessible once it is freed.
  *
  * That it finds mistakes is tested each time too: `run` links it with the faults of faults.c, and
- * it has to find each. By hand it was also compiled over three changed copies of the header, in
+ * it has to find each. By hand it was also compiled over four changed copies of the header, in
  * which `linker_utils_write` passed on `dest_len + 1`, `linker_utils_deltas_translate_all` a
- * `faulty` that is null, and `linker_utils_pack` the length that `packed` should have: each ended
- * it with status 1 within 5,000 calls.
+ * `faulty` that is null, `linker_utils_pack` the length that `packed` should have, and
+ * `linker_utils_survey` the count of facts as that of groups: each ended it with status 1 within
+ * 6,000 calls.
  *
  * The linker has to be given --wrap for malloc, realloc, calloc, posix_memalign, aligned_alloc and
  * free, so that the archive's allocations are the ones below. */
@@ -206,7 +207,7 @@ void *__wrap_aligned_alloc(size_t alignment, size_t size) {
 
 /* ---- The buffers of a call. */
 
-#define BUFFERS 16
+#define BUFFERS 20
 #define BUFFER_LEN ((size_t)1 << 17)
 
 /* Of SCRATCH nothing is known after a call. */
@@ -274,6 +275,17 @@ static void *output(size_t size) {
     return buffer->given;
 }
 
+/* One value that a call only reads. */
+static const void *input(const void *value, size_t size) {
+    struct buffer *buffer = place(READ, 1, size);
+    memcpy(filled(buffer), value, size);
+    return buffer->given;
+}
+
+/* A struct of the header that a call only reads. */
+#define INPUT(name, ...) \
+    input(&(struct linker_utils_##name){__VA_ARGS__}, sizeof(struct linker_utils_##name))
+
 /* Bytes, of which some are the instructions of calls. */
 static struct buffer *bytes(enum use use, size_t len) {
     static const uint32_t words[12] = {0x00000097, 0x000080e7, 0x00000317, 0x00030067,
@@ -290,6 +302,11 @@ static struct buffer *bytes(enum use use, size_t len) {
         }
     }
     return buffer;
+}
+
+/* A section of these bytes, of which a slice of none may be null. */
+static const struct linker_utils_section *section_of(const struct buffer *bytes) {
+    return INPUT(section, .bytes = bytes->given, .bytes_len = bytes->len);
 }
 
 static size_t any_section_len(void) {
@@ -475,6 +492,17 @@ static void call_operands_of(void) {
     finish(true);
 }
 
+static void call_section_of(void) {
+    uint8_t byte;
+    size_t len = below(2);
+    struct linker_utils_section made = CALL(section_of, &byte, len);
+    expect(made.bytes == &byte && made.bytes_len == len && !made.relocations &&
+               !made.relocations_len && !made.address && !made.base && !made.deleted &&
+               !made.deleted_len,
+           "another section");
+    finish(true);
+}
+
 static void call_version(void) {
     const char *version = CALL(version, );
     expect(strcmp(version, LINKER_UTILS_VERSION) == 0, "another version than the header");
@@ -534,13 +562,15 @@ static void call_apply(void) {
     (void)linker_utils_rewrite_window(machine, rewrite, n, &window);
     uint64_t start = offset < window.back ? 0 : offset - window.back;
     changes(section, start, start + window.len);
-    const void *read = section->given ? section->read_only + section->at : NULL;
-    uint32_t can = CALL(can_apply, machine, rewrite, n, read, section->len, offset);
-    uint32_t meant = CALL(matches, machine, rewrite, n, read, section->len, offset);
+    void *read_only = section->given ? section->read_only + section->at : NULL;
+    const struct linker_utils_section *to = section_of(section);
+    const struct linker_utils_section *read =
+        INPUT(section, .bytes = read_only, .bytes_len = section->len);
+    uint32_t can = CALL(can_apply, machine, rewrite, n, read, offset);
+    uint32_t meant = CALL(matches, machine, rewrite, n, read, offset);
     expect(meant == LINKER_UTILS_DOES_NOT_MATCH || meant == can, "`can_apply` rejects what matches");
     finish_buffers(false);
-    uint32_t status = CALL(apply, machine, rewrite, n, section->given, section->len, given_offset,
-                           addend);
+    uint32_t status = CALL(apply, machine, rewrite, n, to, given_offset, addend);
     expect(status == can, "`can_apply` and `apply` differ");
     expect(status != LINKER_UTILS_OK || *given_offset - before + 1 <= 16, "the offset goes far");
     finish_with(status, 0 NO_REWRITE OR(CANNOT_APPLY));
@@ -552,7 +582,8 @@ static void call_matches(void) {
     uint8_t n = (uint8_t)(once_in(8) ? any_number() : below(8));
     struct buffer *section = bytes(READ, any_section_len());
     uint64_t offset = any_offset(section->len);
-    uint32_t status = CALL(matches, machine, rewrite, n, section->given, section->len, offset);
+    const struct linker_utils_section *in = section_of(section);
+    uint32_t status = CALL(matches, machine, rewrite, n, in, offset);
     finish_with(status, 0 NO_REWRITE OR(DOES_NOT_MATCH));
 }
 
@@ -576,11 +607,10 @@ static void call_choose(void) {
     uint64_t offset = any_offset(section->len);
     struct buffer *given = any_facts();
     struct linker_utils_choice *choice = output(sizeof *choice);
-    uint32_t status =
-        CALL(choose, machine, r_type, section->given, section->len, offset, given->given, choice);
+    const struct linker_utils_section *in = section_of(section);
+    uint32_t status = CALL(choose, machine, r_type, in, offset, given->given, choice);
     if (status == LINKER_UTILS_OK) {
-        uint32_t meant = CALL(matches, machine, choice->rewrite, choice->opcode_len, section->given,
-                              section->len, offset);
+        uint32_t meant = CALL(matches, machine, choice->rewrite, choice->opcode_len, in, offset);
         expect(meant == LINKER_UTILS_OK, "a choice that doesn't match");
         expect(choice->modifier <= 1 && choice->deleted_start <= 4 && choice->deleted_len <= 6,
                "no choice's numbers");
@@ -601,11 +631,11 @@ static void call_relocation_fits(void) {
     struct buffer *given = any_facts();
     struct linker_utils_link_facts facts = *(struct linker_utils_link_facts *)given->given;
     struct linker_utils_choice choice;
-    bool fits = CALL(relocation_fits, machine, r_type, section->given, section->len, offset,
-                     given->given);
+    const struct linker_utils_section *in = section_of(section);
+    bool fits = CALL(relocation_fits, machine, r_type, in, offset, given->given);
     facts.group_fits = 1;
-    bool is_known = linker_utils_choose(machine, r_type, section->given, section->len, offset,
-                                        &facts, &choice) == LINKER_UTILS_OK;
+    bool is_known =
+        linker_utils_choose(machine, r_type, in, offset, &facts, &choice) == LINKER_UTILS_OK;
     expect(fits == (is_known && !linker_utils_is_unchanged(machine, r_type, &choice)),
            "not what fits");
     finish(true);
@@ -798,8 +828,8 @@ static void call_row_choose(void) {
     uint64_t offset = any_offset(section->len);
     struct buffer *given = any_facts();
     struct linker_utils_choice *choice = output(sizeof *choice);
-    uint32_t status = CALL(row_choose, any_handle(), section->given, section->len, offset,
-                           given->given, choice);
+    const struct linker_utils_section *in = section_of(section);
+    uint32_t status = CALL(row_choose, any_handle(), in, offset, given->given, choice);
     finish_with(status, 0 OR(UNKNOWN_RELOCATION));
 }
 
@@ -810,10 +840,11 @@ static void call_row_fits(void) {
     uint64_t offset = any_offset(section->len);
     struct buffer *given = any_facts();
     struct linker_utils_row row;
-    bool fits = CALL(row_fits, handle, section->given, section->len, offset, given->given);
+    const struct linker_utils_section *in = section_of(section);
+    bool fits = CALL(row_fits, handle, in, offset, given->given);
     bool is_known = linker_utils_row_of(handle, &row) == LINKER_UTILS_OK;
-    expect(fits == (is_known && linker_utils_relocation_fits(row.machine, row.r_type, section->given,
-                                                             section->len, offset, given->given)),
+    expect(fits == (is_known && linker_utils_relocation_fits(row.machine, row.r_type, in, offset,
+                                                             given->given)),
            "not what fits");
     finish(true);
 }
@@ -831,9 +862,9 @@ static void call_relocate_all(void) {
         uint32_t r_type = once_in(8) ? any_relocation_type() : (uint32_t)below(60);
         entry[i] = (struct linker_utils_relocation_entry){any_offset(section->len), value, r_type};
     }
+    const struct linker_utils_section *in = section_of(section);
     size_t *faulty = any_faulty();
-    uint32_t status = CALL(relocate_all, machine, section->given, section->len, given->given, count,
-                           faulty);
+    uint32_t status = CALL(relocate_all, machine, in, given->given, count, faulty);
     expect_status(status, 0 NOT_RELOCATED);
     bool is_of_entry = status != LINKER_UTILS_OK && status != LINKER_UTILS_UNKNOWN_ARCHITECTURE;
     finish_faulty(faulty, is_of_entry, count);
@@ -905,30 +936,45 @@ static struct buffer *relocations(enum use use, uint16_t machine, size_t section
     return buffer;
 }
 
-static struct buffer *addresses(void) {
-    struct buffer *buffer = place(READ, 1, sizeof(struct linker_utils_addresses));
-    struct linker_utils_addresses *at = filled(buffer);
+/* What a linker knows of the output. */
+static const struct linker_utils_link *any_link(uint16_t machine) {
     bool is_wild = once_in(8);
     uint64_t any_address = any_number();
-    *at = (struct linker_utils_addresses){
-        .section = is_wild ? any_address : 0x11000, .got_base = is_wild ? any_address : 0x12000,
-        .thread_origin = is_wild ? any_address : 0x11000, .module_origin = 0x11000,
-        .module_entry = once_in(2) ? 0 : 0x12040, .has_tls = !once_in(4)};
-    return buffer;
+    return INPUT(link, .machine = machine, .got_base = is_wild ? any_address : 0x12000,
+                 .thread_origin = is_wild ? any_address : 0x11000, .module_origin = 0x11000,
+                 .module_entry = once_in(2) ? 0 : 0x12040, .has_tls = !once_in(4),
+                 .global_pointer = any_number(), .is_executable = !once_in(4),
+                 .is_fixed = once_in(2), .has_near_symbols = !once_in(4));
 }
 
-#define SYMBOLS(buffer) (buffer)->given, LEN(buffer, struct linker_utils_symbol)
-#define RELAS(buffer) (buffer)->given, (buffer)->len / 24
+/* The same bytes, and relocations. */
+static const struct linker_utils_section *relocated(const struct buffer *bytes,
+                                                    const struct buffer *relocations) {
+    return INPUT(section, .bytes = bytes ? bytes->given : NULL, .bytes_len = bytes ? bytes->len : 0,
+                 .relocations = relocations->given, .relocations_len = relocations->len / 24,
+                 .address = once_in(8) ? any_number() : 0x11000);
+}
+
+/* Fields of an object, of which a slice of no elements may be null. */
+#define SLICE(field, buffer, type) .field = (buffer)->given, .field##_len = LEN(buffer, type)
+#define VALUES(buffer) SLICE(values, buffer, struct linker_utils_symbol)
+#define FACTS(buffer) SLICE(facts, buffer, struct linker_utils_symbol_facts)
+#define GROUPS(buffer) SLICE(kept_groups, buffer, struct linker_utils_kept_groups)
+#define KEPT_FACTS(buffer) SLICE(kept_facts, buffer, struct linker_utils_kept_facts)
+#define HIGH_PARTS(buffer) SLICE(kept_high_parts, buffer, bool)
+
 #define NO_VALUE_AT NO_RELOCATION OR(NO_SYMBOL) OR(NO_ENTRY) OR(NO_TLS_BASE) OR(NO_HIGH_PART)
 
 static void call_value_at(void) {
     uint16_t machine = any_machine();
-    struct buffer *known = symbols(any_len(8)), *where = addresses();
+    struct buffer *known = symbols(any_len(8));
     struct buffer *given = relocations(READ, machine, 40, LEN(known, struct linker_utils_symbol));
+    const struct linker_utils_link *link = any_link(machine);
+    const struct linker_utils_object *object = INPUT(object, VALUES(known));
+    const struct linker_utils_section *section = relocated(NULL, given);
     size_t index = once_in(8) ? (size_t)any_number() : below(given->len / 24 + 1);
     int64_t *value = output(sizeof(int64_t));
-    uint32_t status = CALL(value_at, machine, where->given, RELAS(given), SYMBOLS(known),
-                           index, value);
+    uint32_t status = CALL(value_at, link, object, section, index, value);
     expect((status != LINKER_UTILS_TOO_SHORT) | (index >= given->len / 24), "a relocation is there");
     finish_with(status, 0 NO_VALUE_AT OR(TOO_SHORT) OR(NO_VALUE));
 }
@@ -936,18 +982,20 @@ static void call_value_at(void) {
 static void call_relocate_section(void) {
     uint16_t machine = any_machine();
     struct buffer *section = bytes(WRITTEN, any_section_len());
-    struct buffer *known = symbols(any_len(8)), *where = addresses();
+    struct buffer *known = symbols(any_len(8));
     struct buffer *given =
         relocations(READ, machine, section->len, LEN(known, struct linker_utils_symbol));
-    size_t needed = CALL(relocate_memory, RELAS(given));
+    const struct linker_utils_link *link = any_link(machine);
+    const struct linker_utils_object *object = INPUT(object, VALUES(known));
+    const struct linker_utils_section *in = relocated(section, given);
+    size_t needed = CALL(relocate_memory, in);
     expect(needed == given->len / 24, "it needs other memory");
     size_t count = needed + (once_in(4) ? below(4) : 0);
     bool is_short = needed > 0 && once_in(16);
     if (is_short) count = below(needed);
     struct buffer *memory = place(SCRATCH, count, sizeof(uint64_t));
     size_t *faulty = any_faulty();
-    uint32_t status = CALL(relocate_section, machine, where->given, RELAS(given),
-                           SYMBOLS(known), section->given, section->len, memory->given, count, faulty);
+    uint32_t status = CALL(relocate_section, link, object, in, memory->given, count, faulty);
     expect_status(status, 0 NO_VALUE_AT NOT_RELOCATED OR(ULEB128_ENDED) OR(ULEB128_TOO_LARGE)
                               OR(DOES_NOT_FIT) OR(OVERLAPS) OR(SHORT_MEMORY) OR(NOT_ALIGNED)
                               OR(NEEDS_STUB) OR(OTHER_LENGTH));
@@ -958,15 +1006,7 @@ static void call_relocate_section(void) {
     finish(status == LINKER_UTILS_OK);
 }
 
-/* What a linker knows of the output and of symbols before addresses are known. */
-static struct buffer *output_facts(void) {
-    struct buffer *buffer = place(READ, 1, sizeof(struct linker_utils_output_facts));
-    struct linker_utils_output_facts *at = filled(buffer);
-    *at = (struct linker_utils_output_facts){
-        .is_executable = !once_in(4), .is_fixed = once_in(2), .has_near_symbols = !once_in(4)};
-    return buffer;
-}
-
+/* What a linker knows of symbols before addresses are known. */
 static struct buffer *symbol_facts(size_t count) {
     struct buffer *buffer = place(READ, count, sizeof(struct linker_utils_symbol_facts));
     struct linker_utils_symbol_facts *at = filled(buffer);
@@ -987,32 +1027,31 @@ static struct buffer *kept_groups(enum use use, size_t count) {
     return buffer;
 }
 
-#define FACTS(buffer) (buffer)->given, LEN(buffer, struct linker_utils_symbol_facts)
-#define KEPT(buffer) (buffer)->given, LEN(buffer, struct linker_utils_kept_groups)
-
 static void call_survey(void) {
     uint16_t machine = any_machine();
     struct buffer *section = bytes(READ, any_section_len());
-    struct buffer *facts = output_facts(), *known = symbol_facts(any_len(8));
+    struct buffer *known = symbol_facts(any_len(8));
     struct buffer *kept = kept_groups(WRITTEN, any_len(8));
     size_t symbols_len = LEN(known, struct linker_utils_symbol_facts);
     struct buffer *given = relocations(READ, machine, section->len, symbols_len);
-    uint32_t status = CALL(survey, machine, facts->given, FACTS(known), RELAS(given),
-                           section->given, section->len, KEPT(kept));
+    const struct linker_utils_link *link = any_link(machine);
+    const struct linker_utils_object *object = INPUT(object, FACTS(known), GROUPS(kept));
+    const struct linker_utils_section *in = relocated(section, given);
+    uint32_t status = CALL(survey, link, object, in);
     /* what stays already stays */
     const uint8_t *now = filled(kept);
     for (size_t i = 0; i < kept->len; i++) expect(now[i] <= 1 && now[i] >= kept->was[i], "no flags");
     finish_with(status, 0 OR(UNKNOWN_ARCHITECTURE));
 }
 
-#define KEPT_FACTS(buffer) (buffer)->given, LEN(buffer, struct linker_utils_kept_facts)
-
 static void call_keep_facts(void) {
-    struct buffer *facts = output_facts(), *known = symbol_facts(any_len(8));
+    struct buffer *known = symbol_facts(any_len(8));
     size_t symbols_len = LEN(known, struct linker_utils_symbol_facts);
     size_t count = once_in(8) ? any_len(8) : symbols_len;
     struct buffer *kept = place(WRITTEN, count, sizeof(struct linker_utils_kept_facts));
-    uint32_t status = CALL(keep_facts, facts->given, FACTS(known), KEPT_FACTS(kept));
+    const struct linker_utils_link *link = any_link(any_machine());
+    const struct linker_utils_object *object = INPUT(object, FACTS(known), KEPT_FACTS(kept));
+    uint32_t status = CALL(keep_facts, link, object);
     expect((status == LINKER_UTILS_OK) == (count == symbols_len), "other lengths");
     const struct linker_utils_kept_facts *now = filled(kept);
     for (size_t i = 0; i < count && status == LINKER_UTILS_OK; i++)
@@ -1021,12 +1060,13 @@ static void call_keep_facts(void) {
 }
 
 /* What is kept of an object's symbols, sometimes of others or of fewer. */
-static struct buffer *kept_facts(struct buffer *output, struct buffer *known) {
+static struct buffer *kept_facts(const struct linker_utils_link *link, struct buffer *known) {
     size_t count = LEN(known, struct linker_utils_symbol_facts);
     struct buffer *buffer = place(READ, count, sizeof(struct linker_utils_kept_facts));
     struct linker_utils_kept_facts *at = filled(buffer);
-    expect(linker_utils_keep_facts(filled(output), filled(known), count, at, count) == 0,
-           "nothing is kept");
+    const struct linker_utils_object object = {FACTS(known), .kept_facts = at,
+                                               .kept_facts_len = count};
+    expect(linker_utils_keep_facts(link, &object) == 0, "nothing is kept");
     for (size_t i = 0; i < count; i++)
         if (once_in(64)) at[i].bits = (uint16_t)any_number();
     return buffer;
@@ -1040,19 +1080,22 @@ static size_t limit_of(uint32_t status, size_t relocations_len, size_t symbols_l
 static void call_relocate_rewritten_section(void) {
     uint16_t machine = any_machine();
     struct buffer *section = bytes(WRITTEN, any_section_len());
-    struct buffer *known = symbols(any_len(8)), *where = addresses();
+    struct buffer *known = symbols(any_len(8));
     size_t symbols_len = LEN(known, struct linker_utils_symbol);
-    struct buffer *output = output_facts(), *facts = symbol_facts(symbols_len);
-    struct buffer *kept = kept_facts(output, facts);
+    struct buffer *facts = symbol_facts(once_in(8) ? any_len(8) : symbols_len);
+    const struct linker_utils_link *link = any_link(machine);
+    struct buffer *kept = kept_facts(link, facts);
     struct buffer *given = relocations(READ, machine, section->len, symbols_len);
+    const struct linker_utils_object *object =
+        INPUT(object, FACTS(facts), VALUES(known), KEPT_FACTS(kept));
+    const struct linker_utils_section *in = relocated(section, given);
     size_t needed = given->len / 24;
     bool is_short = needed > 0 && once_in(16);
     size_t count = is_short ? below(needed) : needed + (once_in(4) ? below(4) : 0);
     struct buffer *memory = place(SCRATCH, count, sizeof(uint64_t));
     size_t *faulty = any_faulty();
-    uint32_t status = CALL(relocate_rewritten_section, machine, output->given, FACTS(facts),
-                           KEPT_FACTS(kept), where->given, RELAS(given), SYMBOLS(known),
-                           section->given, section->len, memory->given, count, faulty);
+    uint32_t status =
+        CALL(relocate_rewritten_section, link, object, in, memory->given, count, faulty);
     expect_status(status, 0 NO_VALUE_AT NOT_RELOCATED OR(ULEB128_ENDED) OR(ULEB128_TOO_LARGE)
                               OR(DOES_NOT_FIT) OR(OVERLAPS) OR(SHORT_MEMORY) OR(FACTS_CHANGED)
                               OR(NOT_ALIGNED) OR(NEEDS_STUB) OR(OTHER_LENGTH)
@@ -1094,10 +1137,23 @@ static void keep_decisions(struct buffer *decisions, size_t needed) {
     keep_written(decisions, needed * sizeof(struct linker_utils_decision));
 }
 
+/* What rewriting writes; of the struct itself how many deletions there are, if there may be some. */
+static struct linker_utils_rewritten *rewritten_of(struct buffer *decisions, struct buffer *deleted) {
+    struct buffer *buffer = place(WRITTEN, 1, sizeof(struct linker_utils_rewritten));
+    struct linker_utils_rewritten *at = filled(buffer);
+    *at = (struct linker_utils_rewritten){
+        SLICE(decisions, decisions, struct linker_utils_decision), .deleted_used = any()};
+    if (deleted) at->deleted = deleted->given;
+    if (deleted) at->deleted_len = LEN(deleted, struct linker_utils_deletion);
+    size_t from = offsetof(struct linker_utils_rewritten, deleted_used);
+    changes(buffer, from, deleted ? from + sizeof at->deleted_used : from);
+    return buffer->given;
+}
+
 static void call_rewrite_section(void) {
     uint16_t machine = any_machine();
     struct buffer *section = bytes(WRITTEN, any_section_len());
-    struct buffer *facts = output_facts(), *known = symbol_facts(any_len(8));
+    struct buffer *known = symbol_facts(any_len(8));
     struct buffer *kept = kept_groups(READ, any_len(8));
     size_t symbols_len = LEN(known, struct linker_utils_symbol_facts);
     struct buffer *given = relocations(WRITTEN, machine, section->len, symbols_len);
@@ -1107,10 +1163,12 @@ static void call_rewrite_section(void) {
     struct buffer *decisions = place(WRITTEN, count, sizeof(struct linker_utils_decision));
     changes(given, 0, 24 * needed);
     changes(decisions, 0, needed * sizeof(struct linker_utils_decision));
+    const struct linker_utils_link *link = any_link(machine);
+    const struct linker_utils_object *object = INPUT(object, FACTS(known), GROUPS(kept));
+    const struct linker_utils_section *in = relocated(section, given);
+    const struct linker_utils_rewritten *rewritten = rewritten_of(decisions, NULL);
     size_t *faulty = any_faulty();
-    uint32_t status = CALL(rewrite_section, machine, facts->given, FACTS(known), KEPT(kept),
-                           RELAS(given), section->given, section->len, decisions->given,
-                           count, faulty);
+    uint32_t status = CALL(rewrite_section, link, object, in, rewritten, faulty);
     expect_status(status,
                   0 OR(UNKNOWN_ARCHITECTURE) OR(SHORT_MEMORY) OR(NOT_SURVEYED) OR(OVERLAPS));
     expect((status == LINKER_UTILS_SHORT_MEMORY) <= is_short, "the memory is long enough");
@@ -1137,14 +1195,15 @@ static void call_has_rewrites(void) {
 static void call_survey_placed_section(void) {
     uint16_t machine = any_machine();
     struct buffer *section = bytes(READ, any_section_len());
-    struct buffer *facts = output_facts(), *known = symbol_facts(any_len(8));
-    struct buffer *values = symbols(any_len(8)), *where = addresses();
+    struct buffer *known = symbol_facts(any_len(8)), *values = symbols(any_len(8));
     struct buffer *kept = kept_groups(WRITTEN, any_len(8));
     size_t symbols_len = LEN(known, struct linker_utils_symbol_facts);
     struct buffer *given = relocations(READ, machine, section->len, symbols_len);
-    uint32_t status = CALL(survey_placed_section, machine, any_phase(), facts->given, FACTS(known),
-                           where->given, SYMBOLS(values), RELAS(given), section->given,
-                           section->len, KEPT(kept));
+    const struct linker_utils_link *link = any_link(machine);
+    const struct linker_utils_object *object = INPUT(object, FACTS(known), VALUES(values),
+                                                     GROUPS(kept));
+    const struct linker_utils_section *in = relocated(section, given);
+    uint32_t status = CALL(survey_placed_section, link, object, in, any_phase());
     const uint8_t *now = filled(kept);
     for (size_t i = 0; i < kept->len; i++) expect(now[i] <= 1 && now[i] >= kept->was[i], "no flags");
     finish_with(status, 0 OR(UNKNOWN_ARCHITECTURE) OR(UNKNOWN_PHASE) OR(FACTS_CONTRADICT));
@@ -1153,8 +1212,7 @@ static void call_survey_placed_section(void) {
 static void call_rewrite_placed_section(void) {
     uint16_t machine = any_machine();
     struct buffer *section = bytes(WRITTEN, any_section_len());
-    struct buffer *facts = output_facts(), *known = symbol_facts(any_len(8));
-    struct buffer *values = symbols(any_len(8)), *where = addresses();
+    struct buffer *known = symbol_facts(any_len(8)), *values = symbols(any_len(8));
     struct buffer *kept = kept_groups(READ, any_len(8));
     size_t symbols_len = LEN(known, struct linker_utils_symbol_facts);
     struct buffer *given = relocations(WRITTEN, machine, section->len, symbols_len);
@@ -1163,14 +1221,16 @@ static void call_rewrite_placed_section(void) {
     size_t count = any_room(needed, &is_short), room = any_room(needed, &has_little_room);
     struct buffer *decisions = place(WRITTEN, count, sizeof(struct linker_utils_decision));
     struct buffer *deleted = place(WRITTEN, room, sizeof(struct linker_utils_deletion));
-    size_t *deleted_used = output(sizeof *deleted_used);
     changes(given, 0, 24 * needed);
     changes(decisions, 0, needed * sizeof(struct linker_utils_decision));
+    const struct linker_utils_link *link = any_link(machine);
+    const struct linker_utils_object *object =
+        INPUT(object, FACTS(known), VALUES(values), GROUPS(kept));
+    const struct linker_utils_section *in = relocated(section, given);
+    struct linker_utils_rewritten *rewritten = rewritten_of(decisions, deleted);
     size_t *faulty = any_faulty();
-    uint32_t status = CALL(rewrite_placed_section, machine, any_phase(), facts->given, FACTS(known),
-                           where->given, SYMBOLS(values), KEPT(kept), RELAS(given),
-                           section->given, section->len, decisions->given, count, deleted->given,
-                           room, deleted_used, faulty);
+    uint32_t status =
+        CALL(rewrite_placed_section, link, object, in, any_phase(), rewritten, faulty);
     expect_status(status, 0 OR(UNKNOWN_ARCHITECTURE) OR(UNKNOWN_PHASE) OR(SHORT_MEMORY)
                               OR(NOT_SURVEYED) OR(OVERLAPS) OR(FACTS_CONTRADICT));
     expect((status == LINKER_UTILS_SHORT_MEMORY) <= (is_short || has_little_room),
@@ -1178,12 +1238,12 @@ static void call_rewrite_placed_section(void) {
     if (status == LINKER_UTILS_OK) {
         const struct linker_utils_deletion *at = filled(deleted);
         expect_decisions(filled(decisions), needed, machine);
-        expect(*deleted_used <= room && *deleted_used <= needed, "more than there is room for");
-        for (size_t i = 0; i < *deleted_used && i < room; i++)
+        expect(rewritten->deleted_used <= room && rewritten->deleted_used <= needed, "more than there is room for");
+        for (size_t i = 0; i < rewritten->deleted_used && i < room; i++)
             expect(at[i].offset + at[i].bytes <= section->len &&
                        (i == 0 || at[i - 1].offset + at[i - 1].bytes <= at[i].offset),
                    "deletes what isn't there, or twice");
-        changes(deleted, 0, *deleted_used * sizeof *at);
+        changes(deleted, 0, rewritten->deleted_used * sizeof *at);
     }
     bool is_of_entry = status == LINKER_UTILS_NOT_SURVEYED || status == LINKER_UTILS_OVERLAPS;
     finish_faulty(faulty, is_of_entry || status == LINKER_UTILS_FACTS_CONTRADICT,
@@ -1204,18 +1264,25 @@ static struct buffer *kept_words(enum use use, size_t count) {
     return buffer;
 }
 
+static const struct linker_utils_words *words_of(const struct buffer *words,
+                                                 const struct buffer *kept) {
+    return INPUT(words, .address = any_number(), .relocations = words->given,
+                 .relocations_len = words->len / 24, .kept = kept->given, .kept_len = kept->len);
+}
+
 static void call_survey_address_loads(void) {
     uint16_t machine = any_machine();
     struct buffer *section = bytes(READ, any_section_len());
-    struct buffer *facts = output_facts(), *known = symbol_facts(any_len(8));
-    struct buffer *values = symbols(any_len(8)), *where = addresses();
+    struct buffer *known = symbol_facts(any_len(8)), *values = symbols(any_len(8));
     size_t symbols_len = LEN(known, struct linker_utils_symbol_facts);
     struct buffer *words = relocations(READ, machine, any_section_len(), symbols_len);
     struct buffer *kept = kept_words(WRITTEN, any_len(8));
     struct buffer *given = relocations(READ, machine, section->len, symbols_len);
-    uint32_t status = CALL(survey_address_loads, machine, facts->given, FACTS(known), where->given,
-                           SYMBOLS(values), any_number(), RELAS(words), RELAS(given),
-                           section->given, section->len, kept->given, kept->len);
+    const struct linker_utils_link *link = any_link(machine);
+    const struct linker_utils_object *object = INPUT(object, FACTS(known), VALUES(values));
+    const struct linker_utils_section *in = relocated(section, given);
+    const struct linker_utils_words *all_words = words_of(words, kept);
+    uint32_t status = CALL(survey_address_loads, link, object, in, all_words);
     const uint8_t *now = filled(kept);
     for (size_t i = 0; i < kept->len; i++) expect(now[i] <= 1 && now[i] >= kept->was[i], "no flags");
     finish_with(status, 0 OR(UNKNOWN_ARCHITECTURE) OR(FACTS_CONTRADICT));
@@ -1224,8 +1291,7 @@ static void call_survey_address_loads(void) {
 static void call_rewrite_address_loads(void) {
     uint16_t machine = any_machine();
     struct buffer *section = bytes(WRITTEN, any_section_len());
-    struct buffer *facts = output_facts(), *known = symbol_facts(any_len(8));
-    struct buffer *values = symbols(any_len(8)), *where = addresses();
+    struct buffer *known = symbol_facts(any_len(8)), *values = symbols(any_len(8));
     size_t symbols_len = LEN(known, struct linker_utils_symbol_facts);
     struct buffer *words = relocations(READ, machine, any_section_len(), symbols_len);
     struct buffer *kept = kept_words(READ, any_len(8));
@@ -1236,11 +1302,14 @@ static void call_rewrite_address_loads(void) {
     struct buffer *decisions = place(WRITTEN, count, sizeof(struct linker_utils_decision));
     changes(given, 0, 24 * needed);
     changes(decisions, 0, needed * sizeof(struct linker_utils_decision));
+    const struct linker_utils_link *link = any_link(machine);
+    const struct linker_utils_object *object = INPUT(object, FACTS(known), VALUES(values));
+    const struct linker_utils_section *in = relocated(section, given);
+    const struct linker_utils_words *all_words = words_of(words, kept);
+    const struct linker_utils_rewritten *rewritten = rewritten_of(decisions, NULL);
     size_t *faulty = any_faulty();
-    uint32_t status = CALL(rewrite_address_loads, machine, facts->given, FACTS(known), where->given,
-                           SYMBOLS(values), any_number(), RELAS(words), kept->given,
-                           kept->len, RELAS(given), section->given, section->len,
-                           decisions->given, count, faulty);
+    uint32_t status =
+        CALL(rewrite_address_loads, link, object, in, all_words, rewritten, faulty);
     expect_status(status, 0 OR(UNKNOWN_ARCHITECTURE) OR(SHORT_MEMORY) OR(NOT_SURVEYED)
                               OR(OVERLAPS) OR(FACTS_CONTRADICT));
     expect((status == LINKER_UTILS_SHORT_MEMORY) <= is_short, "the memory is long enough");
@@ -1260,14 +1329,15 @@ static uint16_t mostly_riscv(void) {
 static void call_survey_global_pointer(void) {
     uint16_t machine = mostly_riscv();
     struct buffer *section = bytes(READ, any_section_len());
-    struct buffer *facts = output_facts(), *known = symbol_facts(any_len(8));
-    struct buffer *values = symbols(any_len(8)), *where = addresses();
+    struct buffer *known = symbol_facts(any_len(8)), *values = symbols(any_len(8));
     size_t symbols_len = LEN(known, struct linker_utils_symbol_facts);
     struct buffer *kept = kept_words(WRITTEN, any_len(8));
     struct buffer *given = relocations(READ, machine, section->len, symbols_len);
-    uint32_t status = CALL(survey_global_pointer, machine, facts->given, FACTS(known), where->given,
-                           SYMBOLS(values), any_number(), RELAS(given), section->given,
-                           section->len, kept->given, kept->len);
+    const struct linker_utils_link *link = any_link(machine);
+    const struct linker_utils_object *object =
+        INPUT(object, FACTS(known), VALUES(values), HIGH_PARTS(kept));
+    const struct linker_utils_section *in = relocated(section, given);
+    uint32_t status = CALL(survey_global_pointer, link, object, in);
     const uint8_t *now = filled(kept);
     for (size_t i = 0; i < kept->len; i++) expect(now[i] <= 1 && now[i] >= kept->was[i], "no flags");
     finish_with(status, 0 OR(UNKNOWN_ARCHITECTURE) OR(FACTS_CONTRADICT));
@@ -1276,8 +1346,7 @@ static void call_survey_global_pointer(void) {
 static void call_rewrite_global_pointer(void) {
     uint16_t machine = mostly_riscv();
     struct buffer *section = bytes(READ, any_section_len());
-    struct buffer *facts = output_facts(), *known = symbol_facts(any_len(8));
-    struct buffer *values = symbols(any_len(8)), *where = addresses();
+    struct buffer *known = symbol_facts(any_len(8)), *values = symbols(any_len(8));
     struct buffer *kept = kept_words(READ, any_len(8));
     size_t symbols_len = LEN(known, struct linker_utils_symbol_facts);
     struct buffer *given = relocations(WRITTEN, machine, section->len, symbols_len);
@@ -1286,14 +1355,15 @@ static void call_rewrite_global_pointer(void) {
     size_t count = any_room(needed, &is_short), room = any_room(needed, &has_little_room);
     struct buffer *decisions = place(WRITTEN, count, sizeof(struct linker_utils_decision));
     struct buffer *deleted = place(WRITTEN, room, sizeof(struct linker_utils_deletion));
-    size_t *deleted_used = output(sizeof *deleted_used);
     changes(given, 0, 24 * needed);
     changes(decisions, 0, needed * sizeof(struct linker_utils_decision));
+    const struct linker_utils_link *link = any_link(machine);
+    const struct linker_utils_object *object =
+        INPUT(object, FACTS(known), VALUES(values), HIGH_PARTS(kept));
+    const struct linker_utils_section *in = relocated(section, given);
+    struct linker_utils_rewritten *rewritten = rewritten_of(decisions, deleted);
     size_t *faulty = any_faulty();
-    uint32_t status = CALL(rewrite_global_pointer, machine, facts->given, FACTS(known), where->given,
-                           SYMBOLS(values), any_number(), kept->given, kept->len, RELAS(given),
-                           section->given, section->len, decisions->given, count,
-                           deleted->given, room, deleted_used, faulty);
+    uint32_t status = CALL(rewrite_global_pointer, link, object, in, rewritten, faulty);
     expect_status(status, 0 OR(UNKNOWN_ARCHITECTURE) OR(SHORT_MEMORY) OR(NOT_SURVEYED)
                               OR(OVERLAPS) OR(FACTS_CONTRADICT));
     expect((status == LINKER_UTILS_SHORT_MEMORY) <= (is_short || has_little_room),
@@ -1301,10 +1371,10 @@ static void call_rewrite_global_pointer(void) {
     if (status == LINKER_UTILS_OK) {
         const struct linker_utils_deletion *at = filled(deleted);
         expect_decisions(filled(decisions), needed, machine);
-        expect(*deleted_used <= room && *deleted_used <= needed, "more than there is room for");
-        for (size_t i = 0; i < *deleted_used && i < room; i++)
+        expect(rewritten->deleted_used <= room && rewritten->deleted_used <= needed, "more than there is room for");
+        for (size_t i = 0; i < rewritten->deleted_used && i < room; i++)
             expect(at[i].bytes == 4 && at[i].offset + 4 <= section->len, "deletes what isn't there");
-        changes(deleted, 0, *deleted_used * sizeof *at);
+        changes(deleted, 0, rewritten->deleted_used * sizeof *at);
     }
     bool is_of_entry = status == LINKER_UTILS_NOT_SURVEYED || status == LINKER_UTILS_OVERLAPS;
     finish_faulty(faulty, is_of_entry || status == LINKER_UTILS_FACTS_CONTRADICT,
@@ -1319,7 +1389,7 @@ static void call_rewrite_global_pointer(void) {
 
 static void call_from_global_pointer(void) {
     struct buffer *section = bytes(WRITTEN, any_section_len());
-    struct buffer *values = symbols(any_len(8)), *where = addresses();
+    struct buffer *values = symbols(any_len(8));
     size_t symbols_len = LEN(values, struct linker_utils_symbol);
     struct buffer *given = relocations(WRITTEN, LINKER_UTILS_RISCV, section->len, symbols_len);
     size_t needed = given->len / 24;
@@ -1327,9 +1397,11 @@ static void call_from_global_pointer(void) {
     for (size_t i = 0; i < needed; i++)
         if (once_in(4)) memcpy(listed + 24 * i + 8, &(uint32_t){(uint32_t)(47 + below(2))}, 4);
     changes(given, 0, 24 * needed);
+    const struct linker_utils_link *link = any_link(any_machine());
+    const struct linker_utils_object *object = INPUT(object, VALUES(values));
+    const struct linker_utils_section *in = relocated(section, given);
     size_t *faulty = any_faulty();
-    uint32_t status = CALL(from_global_pointer, where->given, SYMBOLS(values), any_number(),
-                           RELAS(given), section->given, section->len, faulty);
+    uint32_t status = CALL(from_global_pointer, link, object, in, faulty);
     expect_status(status, 0 OR(OUT_OF_REACH));
     finish_faulty(faulty, status == LINKER_UTILS_OUT_OF_REACH, needed);
     finish(status == LINKER_UTILS_OK);
@@ -1541,13 +1613,15 @@ static bool is_route(const struct linker_utils_route *route) {
 
 static void call_route_at(void) {
     uint16_t machine = any_machine();
-    struct buffer *known = symbols(any_len(8)), *where = addresses();
+    struct buffer *known = symbols(any_len(8));
     struct buffer *given = relocations(READ, machine, 40, LEN(known, struct linker_utils_symbol));
     struct buffer *section = bytes(READ, any_len(48));
+    const struct linker_utils_link *link = any_link(machine);
+    const struct linker_utils_object *object = INPUT(object, VALUES(known));
+    const struct linker_utils_section *in = relocated(section, given);
     size_t index = once_in(8) ? (size_t)any_number() : below(given->len / 24 + 1);
     struct linker_utils_route *route = output(sizeof *route);
-    uint32_t status = CALL(route_at, machine, where->given, RELAS(given), SYMBOLS(known),
-                           index, section->given, section->len, route);
+    uint32_t status = CALL(route_at, link, object, in, index, route);
     expect(status || is_route(route), "no route");
     finish_with(status, 0 UNKNOWN OR(TOO_SHORT) OR(NO_SYMBOL) OR(NO_ENTRY) OR(NOT_A_BRANCH)
                 OR(NO_ROOM) OR(UNSUPPORTED) OR(MISALIGNED) OR(OUT_OF_REACH));
@@ -1560,8 +1634,8 @@ static void call_route_by_word(void) {
     size_t index = once_in(8) ? (size_t)any_number() : below(given->len / 24 + 1);
     uint64_t word = any_number();
     struct linker_utils_route *route = output(sizeof *route);
-    uint32_t status = CALL(route_by_word, machine, word, RELAS(given), index,
-                           section->given, section->len, route);
+    const struct linker_utils_section *in = relocated(section, given);
+    uint32_t status = CALL(route_by_word, machine, word, in, index, route);
     expect(status || (is_route(route) && route->is_by_stub && route->target == word), "no route");
     finish_with(status, 0 UNKNOWN OR(TOO_SHORT) OR(NOT_A_BRANCH) OR(NO_ROOM));
 }
@@ -1616,18 +1690,26 @@ static void call_place_stubs(void) {
     struct buffer *ways = place(WRITTEN, once_in(20) ? below(24) : len, sizeof(size_t));
     size_t before_len = once_in(20) ? below(16) : boundaries_len + 1;
     struct buffer *before = place(WRITTEN, before_len, sizeof(uint64_t));
-    size_t *stubs_used = output(sizeof *stubs_used), *faulty = any_faulty();
-    uint32_t status = CALL(place_stubs, given->given, len, targets->given, targets_len,
-                           boundaries->given, boundaries_len, shape->given, stubs->given, room,
-                           stubs_used, ways->given, LEN(ways, size_t), before->given, before_len,
-                           faulty);
+    const struct linker_utils_branches *from = INPUT(
+        branches, .branches = given->given, .branches_len = len, .targets = targets->given,
+        .targets_len = targets_len, .boundaries = boundaries->given,
+        .boundaries_len = boundaries_len);
+    struct buffer *to = place(WRITTEN, 1, sizeof(struct linker_utils_placement));
+    struct linker_utils_placement *placement = filled(to);
+    *placement = (struct linker_utils_placement){
+        .stubs = stubs->given, .stubs_len = room, .stubs_used = any(), SLICE(ways, ways, size_t),
+        .before = before->given, .before_len = before_len};
+    changes(to, offsetof(struct linker_utils_placement, stubs_used),
+            offsetof(struct linker_utils_placement, stubs_used) + sizeof placement->stubs_used);
+    size_t *faulty = any_faulty();
+    uint32_t status = CALL(place_stubs, from, shape->given, placement, faulty);
     expect_status(status, 0 OR(DIFFERENT_LENGTHS) OR(SHORT_MEMORY) OR(STUB_WITHOUT_LENGTH)
                   OR(NOT_ASCENDING) OR(NO_TARGET) OR(CODE_TOO_LONG) OR(OUT_OF_MEMORY) OR(NO_BOUNDARY)
                   OR(STUB_TOO_FAR));
     expect(was_refused == (status == LINKER_UTILS_OUT_OF_MEMORY), "tells nothing of memory");
-    expect(status || *stubs_used <= room, "more stubs than there is room for");
+    expect(status || placement->stubs_used <= room, "more stubs than there is room for");
     allocations = 0;
-    if (!status) changes(stubs, 0, *stubs_used * sizeof(struct linker_utils_placed_stub));
+    if (!status) changes(stubs, 0, placement->stubs_used * sizeof(struct linker_utils_placed_stub));
     finish_faulty(faulty, ABOUT_ONE(status), 24);
     finish(status == LINKER_UTILS_OK);
 }
@@ -1644,7 +1726,8 @@ static void call_jal_site(void) {
     uint64_t site = any_offset(section->len);
     changes(section, site, site > 1000 ? 0 : site + 4);
     int64_t distance = (int64_t)any_number();
-    uint32_t status = CALL(jal_site, section->given, section->len, site, distance);
+    const struct linker_utils_section *in = section_of(section);
+    uint32_t status = CALL(jal_site, in, site, distance);
     finish_with(status, 0 OR(OUT_OF_SECTION) OR(ODD_DISTANCE) OR(TOO_FAR));
 }
 
@@ -1654,7 +1737,8 @@ static void call_jal_site_with(void) {
     changes(section, site, site > 1000 ? 0 : site + 4);
     int64_t distance = (int64_t)any_number();
     uint32_t link = once_in(8) ? (uint32_t)any_number() : (uint32_t)below(2);
-    uint32_t status = CALL(jal_site_with, section->given, section->len, site, distance, link);
+    const struct linker_utils_section *in = section_of(section);
+    uint32_t status = CALL(jal_site_with, in, site, distance, link);
     finish_with(status, 0 OR(UNKNOWN_LINK_REGISTER) OR(OUT_OF_SECTION) OR(NOT_A_CALL)
                             OR(ODD_DISTANCE) OR(TOO_FAR));
 }
@@ -1664,14 +1748,16 @@ static void call_relax_call(void) {
     struct buffer *listed = deltas(any_count());
     uint64_t site = any_offset(section->len), target = any_offset(section->len);
     changes(section, site, site > 1000 ? 0 : site + 4);
-    uint32_t status = CALL(relax_call, section->given, section->len, DELTAS(listed), site, target);
+    const struct linker_utils_section *in = section_of(section);
+    uint32_t status = CALL(relax_call, in, DELTAS(listed), site, target);
     finish_with(status, 0 OR(OUT_OF_SECTION) OR(SITE_DELETED) OR(ODD_DISTANCE) OR(TOO_FAR));
 }
 
 static void call_tests(void) {
     struct buffer *section = bytes(READ, any_section_len());
     uint64_t site = any_offset(section->len);
-    bool is_call = CALL(is_plain_call, section->given, section->len, site);
+    const struct linker_utils_section *in = section_of(section);
+    bool is_call = CALL(is_plain_call, in, site);
     bool has_room = section->len >= 8 && site <= section->len - 8;
     expect(!is_call || has_room, "a call beyond the section");
     finish_buffers(true);
@@ -1836,6 +1922,9 @@ static void call_deltas_merge(void) {
     }
     size_t merged_len = once_in(8) ? any_count() : count + additional_len;
     struct buffer *merged = place(WRITTEN, merged_len, sizeof(struct linker_utils_delta));
+    const struct linker_utils_merge *merge =
+        INPUT(merge, SLICE(additional, additional, struct linker_utils_deletion),
+              SLICE(merged, merged, struct linker_utils_delta));
     size_t *faulty = any_faulty();
     uint32_t can = CALL(deletions_mergeable, DELTAS(listed), DELETIONS(additional));
     expect_status(can, 0 OR(INVALID_DELETIONS) OR(NOT_MERGEABLE));
@@ -1845,8 +1934,7 @@ static void call_deltas_merge(void) {
     allocations = 0;
     was_refused = false;
     finish_buffers(false);
-    uint32_t status = CALL(deltas_merge, DELTAS(listed), DELETIONS(additional), DELTAS(merged),
-                           faulty);
+    uint32_t status = CALL(deltas_merge, DELTAS(listed), merge, faulty);
     if (merged_len != count + additional_len) {
         expect(status == LINKER_UTILS_DIFFERENT_LENGTHS, "writes to another length");
         expect(!was_refused, "allocates for another length");
@@ -1925,9 +2013,10 @@ static void call_deltas_translate_all(void) {
     }
     size_t outputs_len = once_in(8) ? any_count() : count;
     struct buffer *outputs = place(WRITTEN, outputs_len, sizeof(uint64_t));
+    const struct linker_utils_translation *translation =
+        INPUT(translation, SLICE(queries, queries, uint64_t), SLICE(outputs, outputs, uint64_t));
     size_t *faulty = any_faulty();
-    uint32_t status = CALL(deltas_translate_all, DELTAS(listed), queries->given, count,
-                           outputs->given, outputs_len, faulty);
+    uint32_t status = CALL(deltas_translate_all, DELTAS(listed), translation, faulty);
     expect((status == LINKER_UTILS_DIFFERENT_LENGTHS) == (outputs_len != count), "a wrong status");
     finish_faulty(faulty, status == LINKER_UTILS_NOT_ASCENDING, count);
     finish_with(status, 0 OR(DIFFERENT_LENGTHS) OR(NOT_ASCENDING));
@@ -1958,14 +2047,17 @@ static void call_pack(void) {
         call[i].target = any_offset(section->len);
         site += once_in(8) ? any_number() : 8;
     }
-    size_t wanted = CALL(packed_len, section->given, section->len, DELTAS(listed));
+    const struct linker_utils_section *in = section_of(section);
+    size_t wanted = CALL(packed_len, in, DELTAS(listed));
     finish_buffers(false);
     size_t len = wanted > BUFFER_LEN || once_in(8) ? any_len(40) : wanted;
     struct buffer *packed = bytes(WRITTEN, len);
+    const struct linker_utils_calls *jumps =
+        INPUT(calls, SLICE(calls, calls, struct linker_utils_call),
+              SLICE(deltas, listed, struct linker_utils_delta),
+              .link = once_in(8) ? (uint32_t)any_number() : (uint32_t)below(2));
     size_t *faulty = any_faulty();
-    uint32_t link = once_in(8) ? (uint32_t)any_number() : (uint32_t)below(2);
-    uint32_t status = CALL(pack, section->given, section->len, DELTAS(listed), calls->given,
-                           calls_len, link, packed->given, len, faulty);
+    uint32_t status = CALL(pack, in, jumps, packed->given, len, faulty);
     expect(status != LINKER_UTILS_OK || len == wanted, "packs to another length");
     finish_faulty(faulty,
                   status != LINKER_UTILS_OK && status != LINKER_UTILS_UNKNOWN_LINK_REGISTER &&
@@ -1989,13 +2081,15 @@ static void call_shrink_calls(void) {
     }
     size_t len = once_in(8) ? any_len(8) : count;
     struct buffer *chosen = bytes(WRITTEN, len);
+    const struct linker_utils_calls *calls =
+        INPUT(calls, SLICE(calls, given, struct linker_utils_call),
+              SLICE(deltas, listed, struct linker_utils_delta));
     size_t *faulty = any_faulty();
-    uint32_t can = CALL(calls_shrinkable, DELTAS(listed), given->given, count, faulty);
+    uint32_t can = CALL(calls_shrinkable, calls, faulty);
     expect_status(can, 0 OR(CALLS_NOT_SHRINKABLE));
     finish_faulty(faulty, can != LINKER_UTILS_OK, count);
     finish_buffers(false);
-    uint32_t status = CALL(shrink_calls, DELTAS(listed), given->given, count, chosen->given, len,
-                           faulty);
+    uint32_t status = CALL(shrink_calls, calls, chosen->given, len, faulty);
     expect(status == (len != count ? LINKER_UTILS_DIFFERENT_LENGTHS : can),
            "`calls_shrinkable` and `shrink_calls` differ");
     finish_faulty(faulty, status == LINKER_UTILS_CALLS_NOT_SHRINKABLE, count);
@@ -2065,7 +2159,7 @@ static struct buffer *run_items(size_t count) {
     return buffer;
 }
 
-#define ITEMS(buffer) (buffer)->given, LEN(buffer, struct linker_utils_item)
+#define ITEMS(buffer) SLICE(items, buffer, struct linker_utils_item)
 #define FAULTS \
     OR(ITEMS_OVERLAP) OR(ENDS_TOO_HIGH) OR(TOO_MANY_SHAPES) OR(SHAPE_TOO_LONG) \
     OR(SHAPES_NOT_ASCENDING) OR(BAD_GRANULARITY) OR(BAD_REACH) OR(BAD_ALIGNMENT) OR(UNEVEN_SHAPE) \
@@ -2086,14 +2180,17 @@ static void call_relax(void) {
     struct buffer *kept = place(WRITTEN, lens[1], sizeof(uint64_t));
     struct buffer *places = place(WRITTEN, lens[2], sizeof(size_t));
     struct buffer *freed = place(WRITTEN, lens[3], sizeof(uint64_t));
+    const struct linker_utils_run *run = INPUT(run, ITEMS(items), .start = start);
+    const struct linker_utils_relaxed *relaxed =
+        INPUT(relaxed, SLICE(shapes, shapes, uint8_t), SLICE(kept, kept, uint64_t),
+              SLICE(places, places, size_t), SLICE(freed, freed, uint64_t));
     size_t *faulty = any_faulty();
-    uint32_t can = CALL(items_relaxable, ITEMS(items), start, faulty);
+    uint32_t can = CALL(items_relaxable, run, faulty);
     expect_status(can, 0 FAULTS);
     finish_faulty(faulty, can != LINKER_UTILS_OK, count);
     expect(allocations == 0, "allocates");
     finish_buffers(false);
-    uint32_t status = CALL(relax, ITEMS(items), start, shapes->given, lens[0], kept->given, lens[1],
-                           places->given, lens[2], freed->given, lens[3], faulty);
+    uint32_t status = CALL(relax, run, relaxed, faulty);
     uint32_t wanted = have_lens ? can : LINKER_UTILS_DIFFERENT_LENGTHS;
     expect(status == wanted, "`items_relaxable` and `relax` differ");
     finish_faulty(faulty, status != LINKER_UTILS_OK && status != LINKER_UTILS_DIFFERENT_LENGTHS,
@@ -2124,7 +2221,9 @@ static void call_run_deltas(void) {
     const struct linker_utils_item *item = filled(items);
     for (size_t i = 0; i < count && i < kept_len; i++) losing += stay[i] < item[i].len;
     changes(lost, 0, losing * sizeof(struct linker_utils_delta));
-    uint32_t status = CALL(run_deltas, ITEMS(items), kept->given, kept_len, DELTAS(lost), len);
+    const struct linker_utils_run *run = INPUT(run, ITEMS(items));
+    const struct linker_utils_relaxed *relaxed = INPUT(relaxed, SLICE(kept, kept, uint64_t));
+    uint32_t status = CALL(run_deltas, run, relaxed, DELTAS(lost), len);
     bool is_ok = kept_len == count && deltas_len == count;
     expect(status == (is_ok ? LINKER_UTILS_OK : LINKER_UTILS_DIFFERENT_LENGTHS), "another status");
     expect(!is_ok || *len == losing, "another count of deltas");
@@ -2168,24 +2267,31 @@ static void call_items(bool is_rewritten) {
     struct buffer *items = place(WRITTEN, items_len, sizeof(struct linker_utils_item));
     size_t makers_len = once_in(8) ? any_len(8) : count;
     struct buffer *makers = place(WRITTEN, makers_len, sizeof(size_t));
-    uint64_t base = once_in(8) ? any_number() : below(64);
-    size_t *len = output(sizeof(size_t));
+    const struct linker_utils_section *in = INPUT(
+        section, .bytes = section->given, .bytes_len = section_len,
+        .base = once_in(8) ? any_number() : below(64), .deleted = deleted ? deleted->given : NULL,
+        .deleted_len = deleted_len);
+    struct buffer *to = place(WRITTEN, 1, sizeof(struct linker_utils_items));
+    struct linker_utils_items *made = filled(to);
+    *made = (struct linker_utils_items){ITEMS(items), SLICE(makers, makers, size_t),
+                                        .items_used = any()};
+    changes(to, offsetof(struct linker_utils_items, items_used), sizeof *made);
     size_t *faulty = any_faulty();
     uint32_t status =
         is_rewritten
-            ? CALL(rewritten_items, machine, section->given, section_len, base, given->given,
-                   relocations_len, DELETIONS(deleted), ITEMS(items), makers->given, makers_len, len,
-                   faulty)
-            : CALL(section_items, machine, section->given, section_len, base, given->given,
-                   relocations_len, ITEMS(items), makers->given, makers_len, len, faulty);
+            ? CALL(rewritten_items, machine, in, given->given, relocations_len, made, faulty)
+            : CALL(section_items, machine, in, given->given, relocations_len, made, faulty);
     expect(!was_refused || status == LINKER_UTILS_OUT_OF_MEMORY, "tells nothing of memory");
     bool is_known = machine == LINKER_UTILS_RISCV || machine == LINKER_UTILS_LOONGARCH64;
     expect((status == LINKER_UTILS_UNKNOWN_ARCHITECTURE) == !is_known, "another machine");
     expect((status == LINKER_UTILS_DIFFERENT_LENGTHS) ==
                (is_known && (items_len != count || makers_len != count)), "another length");
-    expect(status != LINKER_UTILS_OK || *len <= count, "more items than relocations and deletions");
-    changes(items, 0, *len * sizeof(struct linker_utils_item));
-    changes(makers, 0, *len * sizeof(size_t));
+    expect(status != LINKER_UTILS_OK || made->items_used <= count,
+           "more items than relocations and deletions");
+    if (status == LINKER_UTILS_OK) {
+        changes(items, 0, made->items_used * sizeof(struct linker_utils_item));
+        changes(makers, 0, made->items_used * sizeof(size_t));
+    }
     bool overlap = status == LINKER_UTILS_ITEMS_OVERLAP;
     if (overlap) { /* nothing is said of them then */
         keep_written(items, items->len);
@@ -2223,8 +2329,9 @@ static void call_has_its_instructions(void) {
         .kind = (uint32_t)(once_in(8) ? any() : 0),
         .shapes = any_shapes(machine == LINKER_UTILS_RISCV),
     };
-    uint32_t status =
-        CALL(has_its_instructions, machine, section->given, section->len, base, items->given);
+    const struct linker_utils_section *in =
+        INPUT(section, .bytes = section->given, .bytes_len = section->len, .base = base);
+    uint32_t status = CALL(has_its_instructions, machine, in, items->given);
     expect((status == LINKER_UTILS_UNKNOWN_ARCHITECTURE) == !is_known, "another machine");
     finish_with(status, 0 OR(UNKNOWN_ARCHITECTURE) OR(NOT_ITS_INSTRUCTIONS));
 }
@@ -2266,7 +2373,12 @@ static void call_pack_run(void) {
         listed = place(READ, lost_len, sizeof *lost);
         memcpy(filled(listed), lost, lost_len * sizeof *lost);
     }
-    size_t wanted = CALL(packed_run_len, base, section_len, DELTAS(listed));
+    const struct linker_utils_run *run =
+        INPUT(run, ITEMS(items), SLICE(deltas, listed, struct linker_utils_delta),
+              .start = any_number());
+    const struct linker_utils_section *of_len =
+        INPUT(section, .bytes_len = section_len, .base = base);
+    size_t wanted = CALL(packed_run_len, of_len, run);
     finish_buffers(false);
     bool is_high = section_len > UINT64_MAX - base;
     expect(!is_high || wanted == 0, "has a length above 2^64 - 1");
@@ -2278,9 +2390,11 @@ static void call_pack_run(void) {
     bool is_packed = machine == LINKER_UTILS_RISCV || machine == LINKER_UTILS_LOONGARCH64;
     struct buffer *moved = relocations(WRITTEN, machine, section_len, 8);
     changes(moved, 0, 24 * (moved->len / 24));
+    const struct linker_utils_section *in =
+        INPUT(section, .bytes = section->given, .bytes_len = section_len, .base = base,
+              .relocations = moved->given, .relocations_len = moved->len / 24);
     size_t *faulty = any_faulty();
-    uint32_t status = CALL(pack_run, machine, section->given, section_len, base, ITEMS(items),
-                           DELTAS(listed), any_number(), RELAS(moved), packed->given, len, faulty);
+    uint32_t status = CALL(pack_run, machine, in, run, packed->given, len, faulty);
     expect((status == LINKER_UTILS_UNKNOWN_ARCHITECTURE) == !is_packed, "another machine");
     expect((status == LINKER_UTILS_ENDS_TOO_HIGH) == (is_packed && is_high), "another end");
     expect((status == LINKER_UTILS_DIFFERENT_LENGTHS) == (is_packed && !is_high && len != wanted),
@@ -2306,13 +2420,6 @@ static struct linker_utils_field_value any_field_value(void) {
     value.first_bit = (uint8_t)(once_in(8) ? any() : limits[below(3)]);
     value.end_bit = (uint8_t)(once_in(8) ? any() : limits[2 + below(4)]);
     return value;
-}
-
-/* One value that a call only reads. */
-static const void *input(const void *value, size_t size) {
-    struct buffer *buffer = place(READ, 1, size);
-    memcpy(filled(buffer), value, size);
-    return buffer->given;
 }
 
 static void expect_field_value(const struct linker_utils_field_value *value) {
@@ -2416,8 +2523,9 @@ static void call_recognise_window(void) {
     struct buffer *original = bytes(READ, once_in(16) ? 60 + below(10) : any_len(24));
     uint64_t offset = any_offset(original->len);
     struct linker_utils_window_bounds *window = output(sizeof *window);
-    uint32_t status = CALL(recognise_window, machine, r_type, original->given, original->len, offset,
-                           window);
+    const struct linker_utils_windows *windows =
+        INPUT(windows, SLICE(original, original, uint8_t), .offset = offset);
+    uint32_t status = CALL(recognise_window, machine, r_type, windows, window);
     expect(status != LINKER_UTILS_OK || window->len == 0 ||
                (window->back <= offset && offset - window->back + window->len <= original->len),
            "the window isn't in the bytes");
@@ -2445,18 +2553,19 @@ static void call_recognised(bool is_chosen) {
     struct buffer *found = place(WRITTEN, found_len, sizeof(struct linker_utils_recognised));
     struct linker_utils_recognised *at = filled(found);
     size_t *count = is_chosen ? NULL : output(sizeof *count);
+    const struct linker_utils_windows *windows =
+        INPUT(windows, SLICE(original, original, uint8_t), .offset = offset,
+              SLICE(others, others, struct linker_utils_window_bits),
+              SLICE(linked, linked, uint8_t));
     if (is_chosen) {
-        uint32_t status = CALL(recognise_chosen, machine, r_type, original->given, original->len,
-                               offset, others->given, others_len, linked->given, linked_len,
-                               facts->given, found->given);
+        uint32_t status =
+            CALL(recognise_chosen, machine, r_type, windows, facts->given, found->given);
         if (status == LINKER_UTILS_OK) expect_recognised(at);
         finish_with(status,
                     0 OR(UNKNOWN_ARCHITECTURE) OR(WINDOW_TOO_LONG) OR(LEAVES_OTHER_BYTES));
         return;
     }
-    uint32_t status = CALL(recognise, machine, r_type, original->given, original->len, offset,
-                           others->given, others_len, linked->given, linked_len, found->given,
-                           found_len, count);
+    uint32_t status = CALL(recognise, machine, r_type, windows, found->given, found_len, count);
     if (status == LINKER_UTILS_OK) {
         expect(*count <= found_len, "more than there is room for");
         for (size_t i = 0; i < *count; i++) expect_recognised(&at[i]);
@@ -2483,8 +2592,10 @@ static void call_destination(void) {
         .addend = (int64_t)any_number(), .place = any_number(), .got_base = any_number(),
         .tls_base = any_number(), .has_tls_base = once_in(2)};
     struct linker_utils_destination *found = output(sizeof *found);
-    uint32_t status = CALL(get_destination, machine, made->given, original->given, original->len, offset,
-                           given->given, (uint8_t)any(), found);
+    const struct linker_utils_windows *windows =
+        INPUT(windows, SLICE(original, original, uint8_t), .offset = offset);
+    uint32_t status = CALL(get_destination, machine, made->given, windows, given->given,
+                           (uint8_t)any(), found);
     if (status == LINKER_UTILS_OK) {
         expect_field_value(&found->address);
         expect(found->reference <= LINKER_UTILS_REFERENCE_PLT_ENTRY && found->has_symbol <= 1 &&
@@ -2504,7 +2615,7 @@ static void call_recognise_chosen(void) {
 }
 
 static void (*const all[])(void) = {
-    call_status_text, call_operands_of, call_version, call_window, call_write, call_read, call_apply, call_matches,
+    call_status_text, call_operands_of, call_section_of, call_version, call_window, call_write, call_read, call_apply, call_matches,
     call_choose, call_relocation_fits, call_is_unchanged, call_rewrite_window,
     call_next_modifier, call_relocation, call_relocation_name, call_value, call_reach, call_relocate,
     call_find, call_row_of, call_row_value, call_row_write, call_row_apply, call_row_reach,

@@ -70,10 +70,11 @@ static void run(uint8_t *part, struct results *to) {
     uint32_t failures = 0;
     size_t faulty;
 #define EXPECT(call) failures += linker_utils_##call != LINKER_UTILS_OK
-    EXPECT(relocate_all(LINKER_UTILS_AARCH64, part, PART, entries, PART / 4, &faulty));
+    const struct linker_utils_section of_part = linker_utils_section_of(part, PART);
+    EXPECT(relocate_all(LINKER_UTILS_AARCH64, &of_part, entries, PART / 4, &faulty));
 
-    EXPECT(deltas_translate_all(deltas, DELETIONS, queries, DELETIONS, to->outputs, DELETIONS,
-                                NULL));
+    const struct linker_utils_translation translation = {queries, DELETIONS, to->outputs, DELETIONS};
+    EXPECT(deltas_translate_all(deltas, DELETIONS, &translation, NULL));
     for (size_t i = 0; i < DELETIONS; i++) {
         uint64_t input;
         EXPECT(deltas_output_to_input(deltas, DELETIONS, queries[i], &to->inputs[i]));
@@ -84,9 +85,11 @@ static void run(uint8_t *part, struct results *to) {
     }
     to->sums[1] = linker_utils_deltas_total_deleted(deltas, DELETIONS);
     to->sums[2] = linker_utils_has_valid_deltas(deltas, DELETIONS);
-    EXPECT(deltas_merge(deltas, DELETIONS, more, DELETIONS, to->merged, 2 * DELETIONS, &faulty));
+    const struct linker_utils_merge merge = {more, DELETIONS, to->merged, 2 * DELETIONS};
+    EXPECT(deltas_merge(deltas, DELETIONS, &merge, &faulty));
 
-    EXPECT(shrink_calls(NULL, 0, calls, CALLS, to->chosen, CALLS, &faulty));
+    struct linker_utils_calls jumps = {calls, CALLS, NULL, 0, LINKER_UTILS_LINK_OF_JALR};
+    EXPECT(shrink_calls(&jumps, to->chosen, CALLS, &faulty));
     struct linker_utils_deletion behind[CALLS];
     struct linker_utils_delta of_jumps[CALLS];
     for (size_t i = 0; i < CALLS; i++) {
@@ -95,27 +98,36 @@ static void run(uint8_t *part, struct results *to) {
         behind[i].bytes = 4;
     }
     EXPECT(deltas_create(behind, CALLS, of_jumps, CALLS, &faulty));
-    EXPECT(pack(code, LENGTH, of_jumps, CALLS, calls, CALLS, LINKER_UTILS_LINK_OF_JALR, to->packed,
-                linker_utils_packed_len(code, LENGTH, of_jumps, CALLS), &faulty));
+    const struct linker_utils_section whole = linker_utils_section_of(code, LENGTH);
+    jumps.deltas = of_jumps;
+    jumps.deltas_len = CALLS;
+    EXPECT(pack(&whole, &jumps, to->packed, linker_utils_packed_len(&whole, of_jumps, CALLS),
+                &faulty));
 
-    EXPECT(section_items(riscv, code, LENGTH, 0, relocations, 3 * CALLS, to->items, 3 * CALLS,
-                         to->makers, 3 * CALLS, &to->items_len, &faulty));
-    const size_t items = to->items_len;
-    EXPECT(relax(to->items, items, 0x10000, to->shapes, items, to->kept, items, to->places, items,
-                 to->freed, items + 1, &faulty));
-    EXPECT(run_deltas(to->items, items, to->kept, items, to->freed_list, items, &to->freed_len));
-    size_t packed_len = linker_utils_packed_run_len(0, LENGTH, to->freed_list, to->freed_len);
-    EXPECT(pack_run(riscv, code, LENGTH, 0, to->items, items, to->freed_list, to->freed_len,
-                    0x10000, NULL, 0, to->packed_run, packed_len, &faulty));
+    struct linker_utils_items made = {to->items, 3 * CALLS, to->makers, 3 * CALLS, 0};
+    EXPECT(section_items(riscv, &whole, relocations, 3 * CALLS, &made, &faulty));
+    const size_t items = made.items_used;
+    struct linker_utils_run of_code = {0x10000, to->items, items, to->freed_list, 0};
+    const struct linker_utils_relaxed relaxed = {to->shapes, items,     to->kept,   items,
+                                                 to->freed,  items + 1, to->places, items};
+    EXPECT(relax(&of_code, &relaxed, &faulty));
+    EXPECT(run_deltas(&of_code, &relaxed, to->freed_list, items, &of_code.deltas_len));
+    EXPECT(pack_run(riscv, &whole, &of_code, to->packed_run,
+                    linker_utils_packed_run_len(&whole, &of_code), &faulty));
+    to->items_len = items;
+    to->freed_len = of_code.deltas_len;
 
-    EXPECT(choose(x86_64, R_X86_64_REX_GOTPCRELX, got_load, 8, 4, &facts, &to->choice));
+    const struct linker_utils_section loaded = linker_utils_section_of((uint8_t *)got_load, 8);
+    EXPECT(choose(x86_64, R_X86_64_REX_GOTPCRELX, &loaded, 4, &facts, &to->choice));
     uint8_t linked[8];
     uint64_t offset = 4;
     int64_t addend = -4;
     memcpy(linked, got_load, sizeof linked);
-    EXPECT(apply(x86_64, to->choice.rewrite, to->choice.opcode_len, linked, 8, &offset, &addend));
-    EXPECT(recognise(x86_64, R_X86_64_REX_GOTPCRELX, got_load, 8, 4, NULL, 0, linked, 8, to->found,
-                     LINKER_UTILS_CANDIDATES, &to->count));
+    const struct linker_utils_section of_linked = linker_utils_section_of(linked, 8);
+    const struct linker_utils_windows windows = {got_load, 8, 4, NULL, 0, linked, 8};
+    EXPECT(apply(x86_64, to->choice.rewrite, to->choice.opcode_len, &of_linked, &offset, &addend));
+    EXPECT(recognise(x86_64, R_X86_64_REX_GOTPCRELX, &windows, to->found, LINKER_UTILS_CANDIDATES,
+                     &to->count));
     failures += to->count == 0;
     EXPECT(read_value(x86_64, R_X86_64_PC32, linked + 4, 4, &to->value));
     EXPECT(solve(x86_64, R_X86_64_PC32, &to->value, &facts.operands, &to->reference, &to->address));
@@ -125,6 +137,16 @@ static void run(uint8_t *part, struct results *to) {
 /* How many calls a section of the output has: the first so many of the code. The last one is of the
  * next section's begin, and stays long. */
 static size_t calls_of(size_t n) { return CALLS - 9 * n; }
+
+static struct linker_utils_section section_of(size_t n) {
+    return linker_utils_section_of(code, 16 * calls_of(n));
+}
+
+static struct linker_utils_run run_of(const struct output *in, size_t n, uint64_t start) {
+    struct linker_utils_run part = {start, in->items[n], in->items_len[n], in->lost[n],
+                                    in->lost_len[n]};
+    return part;
+}
 
 static uint32_t relax_section(struct output *to, size_t n) {
     uint32_t failures = 0;
@@ -139,14 +161,17 @@ static uint32_t relax_section(struct output *to, size_t n) {
         to->relas[n][i].r_info = ELF64_R_INFO(i == count - 3 ? CALLS + 1 : target + 1, own[i].r_type);
         to->relas[n][i].r_addend = own[i].addend;
     }
-    EXPECT(section_items(LINKER_UTILS_RISCV, code, 16 * calls_of(n), 0, own, count, to->items[n],
-                         count, to->makers[n], count, &to->items_len[n], NULL));
-    const size_t items = to->items_len[n];
-    EXPECT(relax(to->items[n], items, 0x10000, to->shapes[n], items, to->kept[n], items,
-                 to->places[n], items, to->freed[n], items + 1, NULL));
-    EXPECT(run_deltas(to->items[n], items, to->kept[n], items, to->lost[n], items,
-                      &to->lost_len[n]));
-    to->len[n] = linker_utils_packed_run_len(0, 16 * calls_of(n), to->lost[n], to->lost_len[n]);
+    const struct linker_utils_section whole = section_of(n);
+    struct linker_utils_items made = {to->items[n], count, to->makers[n], count, 0};
+    EXPECT(section_items(LINKER_UTILS_RISCV, &whole, own, count, &made, NULL));
+    const size_t items = to->items_len[n] = made.items_used;
+    const struct linker_utils_relaxed relaxed = {to->shapes[n], items,     to->kept[n],   items,
+                                                 to->freed[n],  items + 1, to->places[n], items};
+    struct linker_utils_run part = run_of(to, n, 0x10000);
+    EXPECT(relax(&part, &relaxed, NULL));
+    EXPECT(run_deltas(&part, &relaxed, to->lost[n], items, &part.deltas_len));
+    to->lost_len[n] = part.deltas_len;
+    to->len[n] = linker_utils_packed_run_len(&whole, &part);
     return failures;
 }
 
@@ -162,15 +187,19 @@ static uint32_t pack_section(struct output *to, size_t n) {
     const uint64_t start = address_in(to, n, 0);
     uint8_t *bytes = to->bytes + (start - 0x10000);
     uint64_t memory[3 * CALLS];
-    struct linker_utils_addresses at = {0, 0, 0, 0, 0, false};
-    at.section = start;
     for (size_t i = 0; i < CALLS; i++) to->symbols[n][i + 1].address = address_in(to, n, 16 * i);
     to->symbols[n][CALLS + 1].address = address_in(to, (n + 1) % THREADS, 0);
-    EXPECT(pack_run(LINKER_UTILS_RISCV, code, 16 * calls_of(n), 0, to->items[n], to->items_len[n],
-                    to->lost[n], to->lost_len[n], start, to->relas[n], 3 * calls_of(n), bytes,
-                    to->len[n], NULL));
-    EXPECT(relocate_section(LINKER_UTILS_RISCV, &at, to->relas[n], 3 * calls_of(n), to->symbols[n],
-                            CALLS + 2, bytes, to->len[n], memory, 3 * CALLS, NULL));
+    const struct linker_utils_link link = {.machine = LINKER_UTILS_RISCV};
+    const struct linker_utils_object object = {.values = to->symbols[n], .values_len = CALLS + 2};
+    const struct linker_utils_run part = run_of(to, n, start);
+    struct linker_utils_section packed = section_of(n);
+    packed.relocations = to->relas[n];
+    packed.relocations_len = 3 * calls_of(n);
+    packed.address = start;
+    EXPECT(pack_run(LINKER_UTILS_RISCV, &packed, &part, bytes, to->len[n], NULL));
+    packed.bytes = bytes;
+    packed.bytes_len = to->len[n];
+    EXPECT(relocate_section(&link, &object, &packed, memory, 3 * CALLS, NULL));
     return failures;
 }
 

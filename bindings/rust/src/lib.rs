@@ -361,7 +361,7 @@ pub struct Symbol {
 }
 
 /// What a linker knows of a section and of the output that it is in. Each field is explained at
-/// `struct linker_utils_addresses` in `include/linker_utils.h`.
+/// `struct linker_utils_link` in `include/linker_utils.h`.
 #[repr(C)]
 #[derive(Debug, Clone, Copy, Default, PartialEq, Eq)]
 pub struct Addresses {
@@ -426,8 +426,8 @@ pub struct SymbolFacts {
     pub other: u8,
 }
 
-/// What a linker knows of the output. Each field is explained at `struct linker_utils_output_facts`
-/// in `include/linker_utils.h`.
+/// What a linker knows of the output. Each field is explained at `struct linker_utils_link` in
+/// `include/linker_utils.h`.
 #[repr(C)]
 #[derive(Debug, Clone, Copy, Default, PartialEq, Eq)]
 pub struct OutputFacts {

@@ -386,13 +386,6 @@ extern "C" {
         deleted_used: *mut usize,
         faulty: *mut usize,
     ) -> u32;
-    pub fn linker_utils_read_value_nonnull(
-        machine: u16,
-        r_type: u32,
-        bytes: *const u8,
-        bytes_len: usize,
-        value: *mut FieldValue,
-    ) -> u32;
     pub fn linker_utils_relocation(machine: u16, r_type: u32, info: *mut RelocationInfo) -> u32;
     pub fn linker_utils_asks_for_got(machine: u16, r_type: u32) -> bool;
     pub fn linker_utils_may_use_plt(machine: u16, r_type: u32) -> bool;
@@ -1015,6 +1008,13 @@ extern "C" {
         packed: *mut u8,
         packed_len: usize,
         faulty: *mut usize,
+    ) -> u32;
+    pub fn linker_utils_read_value_nonnull(
+        machine: u16,
+        r_type: u32,
+        bytes: *const u8,
+        bytes_len: usize,
+        value: *mut FieldValue,
     ) -> u32;
     pub fn linker_utils_solve(
         machine: u16,

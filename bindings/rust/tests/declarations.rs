@@ -191,17 +191,28 @@ fn the_functions_are_those_of_the_library() {
 
 // ---- what a C compiler makes of the header
 
-/// The fields of the header's structs.
+/// The fields of the header's structs that the archive's functions take, or that others of these have.
+/// The crate hasn't those that only inline functions take.
 fn structs_of_c() -> BTreeMap<String, Vec<String>> {
     let header = header();
-    let structs = header.split("\nstruct ").skip(1).map(|part| {
+    let bodies = header.split("\nstruct ").skip(1).map(|part| {
         let (name, rest) = part.split_at(part.find(' ').expect("a name"));
-        let fields = bracketed(rest.trim_start()).0.split(';').map(str::trim);
-        let name_of = |field: &str| declared_in_c(field.split('[').next().expect("a field")).1.to_string();
-        let fields = fields.filter(|it| !it.is_empty()).map(name_of);
-        (name.to_string(), fields.collect())
+        (name, bracketed(rest.trim_start()).0)
     });
-    structs.collect()
+    let bodies = bodies.collect::<BTreeMap<_, _>>();
+    let functions = functions_of_c().into_values().collect::<String>();
+    let mut structs = BTreeMap::new();
+    let mut taken = functions.split([' ', '*']).collect::<Vec<_>>();
+    while let Some(name) = taken.pop() {
+        let Some(body) = bodies.get(name).filter(|_| !structs.contains_key(name)) else {
+            continue;
+        };
+        taken.extend(body.split_whitespace());
+        let fields = body.split(';').map(str::trim).filter(|it| !it.is_empty());
+        let name_of = |field: &str| declared_in_c(field.split('[').next().expect("a field")).1.to_string();
+        structs.insert(name.to_string(), fields.map(name_of).collect());
+    }
+    structs
 }
 
 /// What a C program prints of the header: the sizes of its structs and their fields' offsets, and the

@@ -31,23 +31,14 @@ layout! {
         address, size, stub, address_entry, thread_entry, module_entry, descriptor, entry_addend,
         other, is_thread_local, is_undefined_weak,
     }
-    "linker_utils_addresses": raw::Addresses {
-        section, got_base, thread_origin, module_origin, module_entry, has_tls,
-    }
     "linker_utils_symbol_facts": raw::SymbolFacts {
         is_local, is_ifunc, is_absolute, is_undefined_weak, is_tls_get_addr, other,
-    }
-    "linker_utils_output_facts": raw::OutputFacts {
-        is_executable, is_fixed, has_near_symbols,
     }
     "linker_utils_kept_groups": raw::KeptGroups {
         initial_exec, general_dynamic, local_dynamic, descriptor, got_load,
     }
     "linker_utils_decision": raw::Decision {
         addend, symbol, rewrite, relocation, machine, fate, opcode_len,
-    }
-    "linker_utils_field_value": raw::FieldValue {
-        bits, rounding, first_bit, end_bit,
     }
     "linker_utils_relocation_info": raw::RelocationInfo {
         kind, form, mask, machine, is_bits, byte_size, first_bit, end_bit, has_range, thunkable,
@@ -126,6 +117,9 @@ layout! {
     "linker_utils_rela": raw::Rela {
         offset, target, addend, r_type, has_symbol, has_target, may_compress,
     }
+    "linker_utils_field_value": raw::FieldValue {
+        bits, rounding, first_bit, end_bit,
+    }
     "linker_utils_window_bits": raw::FieldBits {
         offset, bits,
     }
@@ -134,5 +128,11 @@ layout! {
     }
     "linker_utils_destination": raw::Destination {
         address, addend, symbol, reference, has_symbol,
+    }
+    "linker_utils_output_facts": raw::OutputFacts {
+        is_executable, is_fixed, has_near_symbols,
+    }
+    "linker_utils_addresses": raw::Addresses {
+        section, got_base, thread_origin, module_origin, module_entry, has_tls,
     }
 }
