@@ -241,7 +241,7 @@ struct linker_utils_link {
     uint64_t thread_origin; /* the thread pointer's */
     uint64_t module_origin; /* the origin of offsets in the module's TLS block */
     uint64_t module_entry; /* of the output's LINKER_UTILS_ENTRY_MODULE; 0 if there is none */
-    uint64_t global_pointer; /* that of RISC-V's `__global_pointer$`, for the calls of that name */
+    uint64_t global_pointer; /* RISC-V's `__global_pointer$`, for the calls of that name */
     uint16_t machine;
     bool has_tls; /* the output has a TLS segment, so that there are the two origins */
     bool is_executable; /* position-independent or not */
@@ -264,7 +264,7 @@ struct linker_utils_object {
  * rewrite or pack its relocations: for others both may be constants, by a cast. */
 struct linker_utils_section {
     uint8_t *bytes; size_t bytes_len;
-    /* As the file has them: so many of 24 bytes, `Elf64_Rela`, little-endian, at any alignment. */
+    /* As the file has them: n of 24 bytes, `Elf64_Rela`, little-endian, at any alignment. */
     void *relocations; size_t relocations_len;
     uint64_t address; /* of the first byte, from which `r_offset` counts */
     uint64_t base; /* its input offset in a run that is relaxed */
@@ -552,13 +552,13 @@ LINKER_UTILS_MUST_USE static inline uint32_t linker_utils_relocate_section(
  * rewritten: all of a group or none. The relocations of a group are those of one kind and one
  * symbol in an object, whatever their addends; of local-dynamic TLS all of an object. Those of one
  * label of RISC-V in a section are a group too, which needs no survey. First a survey of each
- * section of code of an object notes which groups stay, then each of them is rewritten, with the
- * same facts and addresses. The array of what stays begins with all false. Each survey, also one of
- * linker_utils_further.h, only adds to it, and what has no element stays. Before addresses are
- * known the calls are `linker_utils_survey` and `linker_utils_rewrite_section`. Once they are,
- * `linker_utils_survey_placed_section` and `linker_utils_rewrite_placed_section` do so for each
- * later phase, in the order of `enum linker_utils_phase`. What is left a linker may rewrite by
- * `linker_utils_choose`. */
+ * section of code of an object notes which groups are kept, then each of them is rewritten, with
+ * the same facts and addresses. The array of kept groups begins with all false. Each survey, also
+ * one of linker_utils_further.h, only adds to it, and a group without an element is kept. Before
+ * addresses are known the calls are `linker_utils_survey` and `linker_utils_rewrite_section`. Once
+ * they are, `linker_utils_survey_placed_section` and `linker_utils_rewrite_placed_section` do so
+ * for each later phase, in the order of `enum linker_utils_phase`. What is left a linker may
+ * rewrite by `linker_utils_choose`. */
 
 /* Whether an architecture has rewrites in a phase. In one without them a linker surveys and
  * rewrites nothing: each relocation would stay. False of a machine or a phase that isn't known. */
@@ -575,8 +575,8 @@ struct linker_utils_symbol_facts {
     uint8_t other; /* `st_other`, of which PowerPC64 reads what a call does with the TOC pointer */
 };
 
-/* Which groups of a symbol stay as they are. The element at index 0 is of all of the object: it has
- * local-dynamic TLS, and what stays whichever symbol it is of. No call tests that 32 bits hold
+/* Which groups of a symbol are kept. The element at index 0 is of all of the object: it has
+ * local-dynamic TLS, and what is kept whichever symbol it is of. No call tests that 32 bits hold
  * LoongArch's offsets. */
 struct linker_utils_kept_groups {
     bool initial_exec; /* loads of an offset from the thread pointer; in its phase all with one */
@@ -608,7 +608,7 @@ struct linker_utils_rewritten {
     size_t deleted_used;
 };
 
-/* Notes in `kept_groups` which stay, since a relocation of this section is of them and has no
+/* Notes in `kept_groups` which are kept, since a relocation of this section is of them and has no
  * rewrite. Its instruction is none that a rewrite is meant for, its symbol may be of another file,
  * or what the rewrite takes along isn't there. An offset in the module's TLS block that stands in
  * data counts from the block: where the object has one that is loaded, set `local_dynamic` at index
@@ -634,10 +634,10 @@ LINKER_UTILS_MUST_USE static inline uint32_t linker_utils_rewrite_section(
     const struct linker_utils_section *section, const struct linker_utils_rewritten *rewritten,
     size_t *faulty);
 
-/* Notes in `kept_groups` which stay in a phase once addresses are known, as `linker_utils_survey`
- * does before. So do those with a distance out of reach or an instruction without a mark. Each
- * phase has an array of its own. LINKER_UTILS_UNKNOWN_ARCHITECTURE; LINKER_UTILS_UNKNOWN_PHASE;
- * LINKER_UTILS_FACTS_CONTRADICT. */
+/* Notes in `kept_groups` which are kept in a phase once addresses are known, as
+ * `linker_utils_survey` does before. So are those with a distance out of reach or an instruction
+ * without a mark. Each phase has an array of its own. LINKER_UTILS_UNKNOWN_ARCHITECTURE;
+ * LINKER_UTILS_UNKNOWN_PHASE; LINKER_UTILS_FACTS_CONTRADICT. */
 LINKER_UTILS_MUST_USE static inline uint32_t linker_utils_survey_placed_section(
     const struct linker_utils_link *link, const struct linker_utils_object *object,
     const struct linker_utils_section *section, uint32_t phase);

@@ -188,7 +188,7 @@ inline outcome apply(uint16_t machine, const linker_utils_choice &choice,
                                &addend)};
 }
 
-/* Notes which groups of an object stay: `linker_utils_survey`. */
+/* Notes which groups of an object are kept: `linker_utils_survey`. */
 inline outcome survey(const linker_utils_link &link, const linker_utils_object &object,
                       const linker_utils_section &section) noexcept {
     return {linker_utils_survey(&link, &object, &section)};
@@ -299,13 +299,13 @@ inline outcome relax(const linker_utils_run &run, span<uint8_t> shapes, span<uin
     return {linker_utils_relax(&run, &relaxed, &faulty), faulty};
 }
 
-/* How many bytes of a section stay: `linker_utils_packed_run_len`. */
+/* How many bytes of a section are kept: `linker_utils_packed_run_len`. */
 inline size_t packed_run_len(const linker_utils_section &section,
                              const linker_utils_run &run) noexcept {
     return linker_utils_packed_run_len(&section, &run);
 }
 
-/* Writes what stays of a section: `linker_utils_pack_run`. */
+/* Writes the kept bytes of a section: `linker_utils_pack_run`. */
 inline outcome pack_run(uint16_t machine, const linker_utils_section &section,
                         const linker_utils_run &run, span<uint8_t> packed) noexcept {
     size_t faulty = no_index;

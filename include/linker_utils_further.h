@@ -289,11 +289,11 @@ LINKER_UTILS_MUST_USE static inline uint32_t linker_utils_address_section(
 LINKER_UTILS_MUST_USE uint32_t linker_utils_entry_relocation(
     uint16_t machine, uint32_t r_type, uint32_t *entry_type);
 
-/* A section of addresses of an object, and which of its words stay. */
+/* A section of addresses of an object, and which of its words are kept. */
 struct linker_utils_words {
     uint64_t address; /* the section's */
     const void *relocations; size_t relocations_len; /* as a section's, ascending by offset */
-    bool *kept; size_t kept_len; /* by relocation: whether its word stays */
+    bool *kept; size_t kept_len; /* by relocation: whether its word is kept */
 };
 
 /* Notes in `kept` which words of an object's section of addresses stay, by one of its sections of
@@ -333,9 +333,9 @@ LINKER_UTILS_MUST_USE static inline uint32_t linker_utils_survey_global_pointer(
 
 /* Has the high parts go of the symbols that don't stay by `kept_high_parts`. The bytes stay until
  * what is listed in `deleted` is deleted, as for `linker_utils_rewritten_items`. The relocation of
- * a high part gets the type 0. That of a low part gets the symbol and the addend of the address.
- * Its type becomes 47 or 48, which `elf.h` names R_RISCV_GPREL_I and R_RISCV_GPREL_S. No other call
- * takes these: each requires `linker_utils_from_global_pointer`.
+ * a high part gets the type 0. A low part's relocation gets the symbol and the addend of the
+ * address. Its type becomes 47 or 48, which `elf.h` names R_RISCV_GPREL_I and R_RISCV_GPREL_S. No
+ * other call takes these: each requires `linker_utils_from_global_pointer`.
  *
  * It may only be called where x3 is `global_pointer` wherever this code runs, and never changes.
  * What sets x3 has to be without marks, as the C libraries have it. `deleted` needs an element for
@@ -1003,8 +1003,8 @@ LINKER_UTILS_MUST_USE static inline uint32_t linker_utils_shrink_calls(
  * reach their target, and alignments, which are nops. What lies between two sections can be an
  * alignment whose nops no file has. Before a section that is aligned to n, a multiple of the run's
  * granularity, it may have the nops up to the next multiple of n and n more. Deletions that are
- * decided already are sites with one shape. LINKER_UTILS_UNKNOWN_ARCHITECTURE of other machines than
- * LINKER_UTILS_RISCV and LINKER_UTILS_LOONGARCH64. */
+ * decided already are sites with one shape. LINKER_UTILS_UNKNOWN_ARCHITECTURE of other machines
+ * than LINKER_UTILS_RISCV and LINKER_UTILS_LOONGARCH64. */
 
 /* A form of a site's instructions. It reaches a target at an output offset that lies at most
  * `max_backward` below its own, or less than `max_forward` above it, or at it. The distance is a
@@ -1053,7 +1053,7 @@ struct linker_utils_run {
 /* What relaxing a run chooses, for each item. */
 struct linker_utils_relaxed {
     uint8_t *shapes; size_t shapes_len; /* the index of a site's shape */
-    uint64_t *kept; size_t kept_len; /* how many of the item's bytes stay, from the first one on */
+    uint64_t *kept; size_t kept_len; /* how many of the item's bytes are kept, from the first on */
     uint64_t *freed; size_t freed_len; /* how many bytes those before it lose, and last all */
     size_t *places; size_t places_len; /* room for the work */
 };
@@ -1103,8 +1103,8 @@ struct linker_utils_items {
  * register. R_LARCH_ALIGN makes an alignment, unless there are no nops. Without a symbol its addend
  * is how many bytes of nops there are, and they align to the next power of two above it. With a
  * symbol the lowest 8 bits of the addend are the exponent of two of what they align to, 4 bytes
- * more than the nops. The others are its limit: how many bytes of nops may stay. Without a symbol,
- * and where these are 0 or no fewer than the nops, the alignment has no limit.
+ * more than the nops. The others are its limit: how many bytes of nops may be kept. Without a
+ * symbol, and where these are 0 or no fewer than the nops, the alignment has no limit.
  *
  * `items_len` and `makers_len` are `relocations_len`, since a relocation makes at most one item.
  * LINKER_UTILS_UNKNOWN_ARCHITECTURE; LINKER_UTILS_DIFFERENT_LENGTHS; LINKER_UTILS_ENDS_TOO_HIGH
@@ -1190,9 +1190,9 @@ LINKER_UTILS_MUST_USE static inline uint32_t linker_utils_run_deltas(
     const struct linker_utils_run *run, const struct linker_utils_relaxed *relaxed,
     struct linker_utils_delta *deltas, size_t deltas_len, size_t *len);
 
-/* How many bytes of a section of a relaxed run stay: as many as `linker_utils_pack_run` writes. Of
- * the section only `bytes_len` and `base` are read. 0 where the two add up to 2^64 or more. O(log
- * n) for n deltas. */
+/* How many bytes of a section of a relaxed run are kept: as many as `linker_utils_pack_run` writes.
+ * Of the section only `bytes_len` and `base` are read. 0 where the two add up to 2^64 or more.
+ * O(log n) for n deltas. */
 static inline size_t linker_utils_packed_run_len(
     const struct linker_utils_section *section, const struct linker_utils_run *run);
 
@@ -1233,7 +1233,7 @@ LINKER_UTILS_MUST_USE static inline uint32_t linker_utils_has_its_instructions(
  * R_LARCH_CALL36, and R_LARCH_PCREL20_S2 of R_LARCH_PCALA_HI20. The others at the begin of such a
  * site, those of alignments among the items, and those whose byte is deleted, as
  * R_LARCH_PCALA_LO12, get the type 0. All others keep their type, and each its symbol and addend.
- * One after the section's end stays as it is.
+ * One after the section's end is unchanged.
  *
  * LINKER_UTILS_UNKNOWN_ARCHITECTURE; LINKER_UTILS_ENDS_TOO_HIGH where `base` and `bytes_len` add up
  * to 2^64 or more. LINKER_UTILS_DIFFERENT_LENGTHS where `packed_len` is not
@@ -1280,7 +1280,7 @@ struct linker_utils_field_value {
  *   the rounding is 0: `linker_utils_solve` takes the bias off.
  * - MOVN and MOVZ have 16 bits and the sign; a MOVK has 16 bits.
  * - A `jirl` at R_LARCH_PCALA_LO12 has bits 2 to 11, and bits 0 and 1 are 0.
- * - Whole bytes have the low bits of the value; that of R_RISCV_SET6 has 6.
+ * - Whole bytes have the low bits of the value; the field of R_RISCV_SET6 has 6.
  *
  * LINKER_UTILS_TOO_SHORT where there are fewer bytes than the field has.
  * LINKER_UTILS_HOLDS_NO_VALUE of a relocation of no bytes, of one that adds or subtracts, of one at
@@ -1346,7 +1346,7 @@ struct linker_utils_window_bits {
  * at the same place. After a rewrite that deletes bytes the linked one has fewer. */
 struct linker_utils_windows {
     const uint8_t *original; size_t original_len; /* at most 64, but to ask for the window */
-    uint64_t offset; /* that of the relocation in the original bytes */
+    uint64_t offset; /* the relocation's in the original bytes */
     /* Bits that other relocations write (`linker_utils_field_bits`), also one that is skipped; all
      * of an instruction that another one rewrites or deletes. */
     const struct linker_utils_window_bits *others; size_t others_len;

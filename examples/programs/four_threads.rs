@@ -85,7 +85,7 @@ fn read(archive: &[u8]) -> Result<Output<'_>, Box<dyn Error>> {
     Ok((machine.ok_or("it has no members")?, members, globals))
 }
 
-/// What so many threads leave of each member.
+/// What n threads leave of each member.
 fn run(output: &Output, threads: usize) -> Result<Vec<Vec<Vec<u8>>>, String> {
     let left: Vec<_> = output.1.iter().map(|member| (member, OnceLock::new())).collect();
     let next = AtomicUsize::new(0);

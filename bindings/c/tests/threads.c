@@ -134,7 +134,7 @@ static void run(uint8_t *part, struct results *to) {
     to->failures += failures;
 }
 
-/* How many calls a section of the output has: the first so many of the code. The last one is of the
+/* How many calls a section of the output has: the first n of the code. The last one is of the
  * next section's begin, and stays long. */
 static size_t calls_of(size_t n) { return CALLS - 9 * n; }
 
