@@ -60,8 +60,9 @@
  *     assert(status == LINKER_UTILS_OUT_OF_REACH && bl[1] == 0x04);
  * Rewrites:
  *     uint8_t code[7] = {0x48, 0x8b, 0x3d}; uint64_t offset = 3; struct linker_utils_choice it;
- *     static struct linker_utils_link_facts local; local.is_local = local.has_fixed_distance = 1;
- *     local.operands = linker_utils_operands_of(0x404000, -4, 0x401003); int64_t addend = -4;
+ *     static struct linker_utils_link_facts local; local.is_local = 1; int64_t addend = -4;
+ *     local.is_pcrel_link_time_constant = 1;
+ *     local.operands = linker_utils_operands_of(0x404000, -4, 0x401003);
  *     struct linker_utils_section mov = linker_utils_section_of(code, sizeof code);
  *     status = linker_utils_choose(EM_X86_64, R_X86_64_REX_GOTPCRELX, &mov, 3, &local, &it);
  *     status |= linker_utils_apply(EM_X86_64, it.rewrite, it.opcode_len, &mov, &offset, &addend);
@@ -255,8 +256,10 @@ struct linker_utils_link {
 struct linker_utils_object {
     const struct linker_utils_symbol_facts *facts; size_t facts_len; /* once names are resolved */
     const struct linker_utils_symbol *values; size_t values_len; /* once addresses are known */
-    struct linker_utils_kept_groups *kept_groups; size_t kept_groups_len; /* by surveys */
-    struct linker_utils_kept_facts *kept_facts; size_t kept_facts_len; /* by `.._keep_facts` */
+    /* by surveys */
+    struct linker_utils_unrelaxable_groups *unrelaxable_groups; size_t unrelaxable_groups_len;
+    /* by `linker_utils_snapshot_facts` */
+    struct linker_utils_facts_snapshot *facts_snapshot; size_t facts_snapshot_len;
     bool *kept_high_parts; size_t kept_high_parts_len; /* by `.._survey_global_pointer` */
 };
 
@@ -293,7 +296,7 @@ struct linker_utils_link_facts {
     uint8_t has_fixed_address;
     /* So is the distance from the code to the symbol. It is for any symbol of the output, and for
      * an absolute one only in an output that is always loaded at one address. */
-    uint8_t has_fixed_distance;
+    uint8_t is_pcrel_link_time_constant;
     uint8_t is_executable; /* The output is an executable, position-independent or not. */
     /* x86-64: the sequence that computed the base of local-dynamic TLS for this relocation was
      * rewritten to local-exec, so that the base is the thread pointer. */
@@ -578,7 +581,7 @@ struct linker_utils_symbol_facts {
 /* Which groups of a symbol are kept. The element at index 0 is of all of the object: it has
  * local-dynamic TLS, and what is kept whichever symbol it is of. No call tests that 32 bits hold
  * LoongArch's offsets. */
-struct linker_utils_kept_groups {
+struct linker_utils_unrelaxable_groups {
     bool initial_exec; /* loads of an offset from the thread pointer; in its phase all with one */
     bool general_dynamic; /* calls for the address of a thread-local variable */
     bool local_dynamic; /* calls for the address of the module's TLS block, and offsets in it */
@@ -589,7 +592,7 @@ struct linker_utils_kept_groups {
 /* What becomes of a relocation and of its instruction. All except `fate` is 0 where the instruction
  * isn't rewritten. */
 struct linker_utils_decision {
-    /* What the relocation gets before the rewrite with LINKER_UTILS_FATE_REDIRECTED; else 0. */
+    /* What the relocation gets before the rewrite with LINKER_UTILS_FATE_REWRITTEN_WITH_SYMBOL; else 0. */
     int64_t addend;
     uint32_t symbol;
     uint32_t rewrite; /* by the machine's enum of rewrites */
@@ -608,7 +611,7 @@ struct linker_utils_rewritten {
     size_t deleted_used;
 };
 
-/* Notes in `kept_groups` which are kept, since a relocation of this section is of them and has no
+/* Notes in `unrelaxable_groups` which are kept, since a relocation of this section is of them and has no
  * rewrite. Its instruction is none that a rewrite is meant for, its symbol may be of another file,
  * or what the rewrite takes along isn't there. An offset in the module's TLS block that stands in
  * data counts from the block: where the object has one that is loaded, set `local_dynamic` at index
@@ -634,7 +637,7 @@ LINKER_UTILS_MUST_USE static inline uint32_t linker_utils_rewrite_section(
     const struct linker_utils_section *section, const struct linker_utils_rewritten *rewritten,
     size_t *faulty);
 
-/* Notes in `kept_groups` which are kept in a phase once addresses are known, as
+/* Notes in `unrelaxable_groups` which are kept in a phase once addresses are known, as
  * `linker_utils_survey` does before. So are those with a distance out of reach or an instruction
  * without a mark. Each phase has an array of its own. LINKER_UTILS_UNKNOWN_ARCHITECTURE;
  * LINKER_UTILS_UNKNOWN_PHASE; LINKER_UTILS_FACTS_CONTRADICT. */
@@ -650,7 +653,7 @@ LINKER_UTILS_MUST_USE static inline uint32_t linker_utils_survey_placed_section(
  *
  * What is to be deleted ascends, as `linker_utils_deltas_create` takes it. They are bytes of the
  * section, apart from each other and from all that is rewritten, and still there. Only
- * LINKER_UTILS_PHASE_THREAD_OFFSETS has any, at most one for each relocation.
+ * LINKER_UTILS_PHASE_TLS_LOCAL_EXEC has any, at most one for each relocation.
  *
  * LINKER_UTILS_UNKNOWN_ARCHITECTURE; LINKER_UTILS_UNKNOWN_PHASE; LINKER_UTILS_FACTS_CONTRADICT of
  * the symbol `faulty`; LINKER_UTILS_SHORT_MEMORY where there are fewer decisions than relocations;

@@ -65,7 +65,7 @@ template <class Void> struct relas {
 struct object : linker_utils_object {
     explicit object(span<const linker_utils_symbol_facts> facts,
                     span<const linker_utils_symbol> values = {},
-                    span<linker_utils_kept_groups> kept = {}) noexcept
+                    span<linker_utils_unrelaxable_groups> kept = {}) noexcept
         : linker_utils_object{facts.data(), facts.size(), values.data(), values.size(), kept.data(),
                               kept.size(), nullptr, 0, nullptr, 0} {}
 };

@@ -302,17 +302,17 @@ struct linker_utils_words {
  * A relocation is of the word at the address that it refers to, whichever its symbol. Where an
  * architecture has no such section nothing is noted. It takes a search in log n steps for each
  * load. LINKER_UTILS_UNKNOWN_ARCHITECTURE; LINKER_UTILS_FACTS_CONTRADICT. */
-LINKER_UTILS_MUST_USE static inline uint32_t linker_utils_survey_address_loads(
+LINKER_UTILS_MUST_USE static inline uint32_t linker_utils_survey_toc_loads(
     const struct linker_utils_link *link, const struct linker_utils_object *object,
     const struct linker_utils_section *section, const struct linker_utils_words *words);
 
 /* Has the instructions of a section of code compute the addresses that they load from such words:
  * all that load a word, or none. Their relocations become those after it. The fate of these is
- * LINKER_UTILS_FATE_REDIRECTED: they get the symbol and the addend of the word's relocation.
+ * LINKER_UTILS_FATE_REWRITTEN_WITH_SYMBOL: they get the symbol and the addend of the word's relocation.
  * Nothing is deleted. The statuses, and what an error leaves, are those of
  * `linker_utils_rewrite_section`; before LINKER_UTILS_SHORT_MEMORY comes
  * LINKER_UTILS_FACTS_CONTRADICT, of the symbol `faulty`. */
-LINKER_UTILS_MUST_USE static inline uint32_t linker_utils_rewrite_address_loads(
+LINKER_UTILS_MUST_USE static inline uint32_t linker_utils_rewrite_toc_loads(
     const struct linker_utils_link *link, const struct linker_utils_object *object,
     const struct linker_utils_section *section, const struct linker_utils_words *words,
     const struct linker_utils_rewritten *rewritten, size_t *faulty);
@@ -335,7 +335,7 @@ LINKER_UTILS_MUST_USE static inline uint32_t linker_utils_survey_global_pointer(
  * what is listed in `deleted` is deleted, as for `linker_utils_rewritten_items`. The relocation of
  * a high part gets the type 0. A low part's relocation gets the symbol and the addend of the
  * address. Its type becomes 47 or 48, which `elf.h` names R_RISCV_GPREL_I and R_RISCV_GPREL_S. No
- * other call takes these: each requires `linker_utils_from_global_pointer`.
+ * other call takes these: each requires `linker_utils_finish_gp_relaxation`.
  *
  * It may only be called where x3 is `global_pointer` wherever this code runs, and never changes.
  * What sets x3 has to be without marks, as the C libraries have it. `deleted` needs an element for
@@ -354,7 +354,7 @@ LINKER_UTILS_MUST_USE static inline uint32_t linker_utils_rewrite_global_pointer
  * relocation with the index `faulty`, its symbol isn't in the table, or its instruction isn't in
  * the section: then nothing changes. It never comes where the symbol and the global pointer are in
  * one run (`linker_utils_relax`), since no distance gets longer there. */
-LINKER_UTILS_MUST_USE static inline uint32_t linker_utils_from_global_pointer(
+LINKER_UTILS_MUST_USE static inline uint32_t linker_utils_finish_gp_relaxation(
     const struct linker_utils_link *link, const struct linker_utils_object *object,
     const struct linker_utils_section *section, size_t *faulty);
 
@@ -374,7 +374,7 @@ LINKER_UTILS_MUST_USE static inline uint32_t linker_utils_get_provided_symbol(
 /* Functions that compilers call and linkers provide, which save or restore registers, in one run of
  * code. They take registers that stubs change, so that branches have to reach them directly: a
  * linker may place a run more than once. */
-struct linker_utils_provided_run {
+struct linker_utils_save_restore_routines {
     uint64_t len; /* how many instructions of 4 bytes the run has */
     /* The number in the first function's name. That with a number n begins
      * 4 * `spacing` * (n - `first`) bytes after the run's start. */
@@ -387,9 +387,9 @@ struct linker_utils_provided_run {
  * after it in decimal, to `prefix`, its length to `prefix_used`, and the numbers to `run`.
  * LINKER_UTILS_NOT_PROVIDED where there is none with this index or above; LINKER_UTILS_TOO_SHORT.
  * No prefix is longer than LINKER_UTILS_NAME_SIZE. */
-LINKER_UTILS_MUST_USE static inline uint32_t linker_utils_get_provided_run(
+LINKER_UTILS_MUST_USE static inline uint32_t linker_utils_get_save_restore_routines(
     uint16_t machine, size_t index, uint8_t *prefix, size_t prefix_len, size_t *prefix_used,
-    struct linker_utils_provided_run *run);
+    struct linker_utils_save_restore_routines *run);
 
 /* The instruction at an index of the run with an index, into `word`. LINKER_UTILS_NOT_PROVIDED
  * where either is too large. */
@@ -696,20 +696,20 @@ LINKER_UTILS_MUST_USE uint32_t linker_utils_next_modifier(
 /* ---- Kept facts: values that are written only where choices of rewrites would read the same. */
 
 /* What choices read of a symbol and of the output; 0 where nothing is kept. */
-struct linker_utils_kept_facts {
+struct linker_utils_facts_snapshot {
     uint16_t bits;
 };
 
-/* Keeps in `kept_facts` what choices read of the output and of each symbol of an object. A linker
+/* Keeps in `facts_snapshot` what choices read of the output and of each symbol of an object. A linker
  * calls it with the facts that it passes to `linker_utils_survey` and
- * `linker_utils_rewrite_section`. LINKER_UTILS_DIFFERENT_LENGTHS where `kept_facts_len` isn't
+ * `linker_utils_rewrite_section`. LINKER_UTILS_DIFFERENT_LENGTHS where `facts_snapshot_len` isn't
  * `facts_len`: nothing is written then. */
-LINKER_UTILS_MUST_USE static inline uint32_t linker_utils_keep_facts(
+LINKER_UTILS_MUST_USE static inline uint32_t linker_utils_snapshot_facts(
     const struct linker_utils_link *link, const struct linker_utils_object *object);
 
 /* Writes the values of a section whose instructions were rewritten, as
  * `linker_utils_relocate_section`, or none of them. The facts are those that hold now, and
- * `kept_facts` those of `linker_utils_keep_facts` when rewrites were chosen. So a symbol that was
+ * `facts_snapshot` those of `linker_utils_snapshot_facts` when rewrites were chosen. So a symbol that was
  * local then, and isn't any more, doesn't get code that bypasses its entry of the GOT.
  *
  * LINKER_UTILS_UNKNOWN_ARCHITECTURE; LINKER_UTILS_SHORT_MEMORY; LINKER_UTILS_FACTS_CONTRADICT, and

@@ -203,7 +203,7 @@ uint32_t linker_utils_survey_nonnull(
     uint16_t machine, const struct linker_utils_output_facts *output,
     const struct linker_utils_symbol_facts *symbols, size_t symbols_len, const uint8_t *relocations,
     size_t relocations_len, const uint8_t *section, size_t section_len,
-    struct linker_utils_kept_groups *kept, size_t kept_len);
+    struct linker_utils_unrelaxable_groups *kept, size_t kept_len);
 static inline uint32_t linker_utils_survey(
     const struct linker_utils_link *link, const struct linker_utils_object *object,
     const struct linker_utils_section *section) {
@@ -214,14 +214,14 @@ static inline uint32_t linker_utils_survey(
         LINKER_UTILS_SLICE(const struct linker_utils_symbol_facts, object->facts),
         object->facts_len, LINKER_UTILS_RELAS(const uint8_t, section->relocations),
         LINKER_UTILS_SLICE(const uint8_t, section->bytes), section->bytes_len,
-        LINKER_UTILS_SLICE(struct linker_utils_kept_groups, object->kept_groups),
-        object->kept_groups_len);
+        LINKER_UTILS_SLICE(struct linker_utils_unrelaxable_groups, object->unrelaxable_groups),
+        object->unrelaxable_groups_len);
 }
 
 uint32_t linker_utils_rewrite_section_nonnull(
     uint16_t machine, const struct linker_utils_output_facts *output,
     const struct linker_utils_symbol_facts *symbols, size_t symbols_len,
-    const struct linker_utils_kept_groups *kept, size_t kept_len, uint8_t *relocations,
+    const struct linker_utils_unrelaxable_groups *kept, size_t kept_len, uint8_t *relocations,
     size_t relocations_len, uint8_t *section, size_t section_len,
     struct linker_utils_decision *decisions, size_t decisions_len, size_t *faulty);
 static inline uint32_t linker_utils_rewrite_section(
@@ -235,8 +235,8 @@ static inline uint32_t linker_utils_rewrite_section(
         link->machine, &output,
         LINKER_UTILS_SLICE(const struct linker_utils_symbol_facts, object->facts),
         object->facts_len,
-        LINKER_UTILS_SLICE(const struct linker_utils_kept_groups, object->kept_groups),
-        object->kept_groups_len, LINKER_UTILS_RELAS(uint8_t, section->relocations),
+        LINKER_UTILS_SLICE(const struct linker_utils_unrelaxable_groups, object->unrelaxable_groups),
+        object->unrelaxable_groups_len, LINKER_UTILS_RELAS(uint8_t, section->relocations),
         LINKER_UTILS_SLICE(uint8_t, section->bytes), section->bytes_len,
         LINKER_UTILS_SLICE(struct linker_utils_decision, rewritten->decisions),
         rewritten->decisions_len, faulty ? faulty : &ignored);
@@ -247,7 +247,7 @@ uint32_t linker_utils_survey_placed_section_nonnull(
     const struct linker_utils_symbol_facts *symbols, size_t symbols_len,
     const struct linker_utils_addresses *addresses, const struct linker_utils_symbol *values,
     size_t values_len, const uint8_t *relocations, size_t relocations_len, const uint8_t *section,
-    size_t section_len, struct linker_utils_kept_groups *kept, size_t kept_len);
+    size_t section_len, struct linker_utils_unrelaxable_groups *kept, size_t kept_len);
 static inline uint32_t linker_utils_survey_placed_section(
     const struct linker_utils_link *link, const struct linker_utils_object *object,
     const struct linker_utils_section *section, uint32_t phase) {
@@ -262,15 +262,15 @@ static inline uint32_t linker_utils_survey_placed_section(
         LINKER_UTILS_SLICE(const struct linker_utils_symbol, object->values), object->values_len,
         LINKER_UTILS_RELAS(const uint8_t, section->relocations),
         LINKER_UTILS_SLICE(const uint8_t, section->bytes), section->bytes_len,
-        LINKER_UTILS_SLICE(struct linker_utils_kept_groups, object->kept_groups),
-        object->kept_groups_len);
+        LINKER_UTILS_SLICE(struct linker_utils_unrelaxable_groups, object->unrelaxable_groups),
+        object->unrelaxable_groups_len);
 }
 
 uint32_t linker_utils_rewrite_placed_section_nonnull(
     uint16_t machine, uint32_t phase, const struct linker_utils_output_facts *output,
     const struct linker_utils_symbol_facts *symbols, size_t symbols_len,
     const struct linker_utils_addresses *addresses, const struct linker_utils_symbol *values,
-    size_t values_len, const struct linker_utils_kept_groups *kept, size_t kept_len,
+    size_t values_len, const struct linker_utils_unrelaxable_groups *kept, size_t kept_len,
     uint8_t *relocations, size_t relocations_len, uint8_t *section, size_t section_len,
     struct linker_utils_decision *decisions, size_t decisions_len,
     struct linker_utils_deletion *deleted, size_t deleted_len, size_t *deleted_used,
@@ -289,8 +289,8 @@ static inline uint32_t linker_utils_rewrite_placed_section(
         LINKER_UTILS_SLICE(const struct linker_utils_symbol_facts, object->facts),
         object->facts_len, &addresses,
         LINKER_UTILS_SLICE(const struct linker_utils_symbol, object->values), object->values_len,
-        LINKER_UTILS_SLICE(const struct linker_utils_kept_groups, object->kept_groups),
-        object->kept_groups_len, LINKER_UTILS_RELAS(uint8_t, section->relocations),
+        LINKER_UTILS_SLICE(const struct linker_utils_unrelaxable_groups, object->unrelaxable_groups),
+        object->unrelaxable_groups_len, LINKER_UTILS_RELAS(uint8_t, section->relocations),
         LINKER_UTILS_SLICE(uint8_t, section->bytes), section->bytes_len,
         LINKER_UTILS_SLICE(struct linker_utils_decision, rewritten->decisions),
         rewritten->decisions_len,
@@ -375,21 +375,21 @@ static inline uint32_t linker_utils_address_section(
         machine, LINKER_UTILS_SLICE(uint8_t, name), name_len, name_used);
 }
 
-uint32_t linker_utils_survey_address_loads_nonnull(
+uint32_t linker_utils_survey_toc_loads_nonnull(
     uint16_t machine, const struct linker_utils_output_facts *output,
     const struct linker_utils_symbol_facts *symbols, size_t symbols_len,
     const struct linker_utils_addresses *addresses, const struct linker_utils_symbol *values,
     size_t values_len, uint64_t words_start, const uint8_t *words, size_t words_len,
     const uint8_t *relocations, size_t relocations_len, const uint8_t *section, size_t section_len,
     bool *kept, size_t kept_len);
-static inline uint32_t linker_utils_survey_address_loads(
+static inline uint32_t linker_utils_survey_toc_loads(
     const struct linker_utils_link *link, const struct linker_utils_object *object,
     const struct linker_utils_section *section, const struct linker_utils_words *words) {
     const struct linker_utils_output_facts output = {link->is_executable, link->is_fixed,
         link->has_near_symbols};
     const struct linker_utils_addresses addresses = {section->address, link->got_base,
         link->thread_origin, link->module_origin, link->module_entry, link->has_tls};
-    return linker_utils_survey_address_loads_nonnull(
+    return linker_utils_survey_toc_loads_nonnull(
         link->machine, &output,
         LINKER_UTILS_SLICE(const struct linker_utils_symbol_facts, object->facts),
         object->facts_len, &addresses,
@@ -400,7 +400,7 @@ static inline uint32_t linker_utils_survey_address_loads(
         LINKER_UTILS_SLICE(bool, words->kept), words->kept_len);
 }
 
-uint32_t linker_utils_rewrite_address_loads_nonnull(
+uint32_t linker_utils_rewrite_toc_loads_nonnull(
     uint16_t machine, const struct linker_utils_output_facts *output,
     const struct linker_utils_symbol_facts *symbols, size_t symbols_len,
     const struct linker_utils_addresses *addresses, const struct linker_utils_symbol *values,
@@ -408,7 +408,7 @@ uint32_t linker_utils_rewrite_address_loads_nonnull(
     const bool *kept, size_t kept_len, uint8_t *relocations, size_t relocations_len,
     uint8_t *section, size_t section_len, struct linker_utils_decision *decisions,
     size_t decisions_len, size_t *faulty);
-static inline uint32_t linker_utils_rewrite_address_loads(
+static inline uint32_t linker_utils_rewrite_toc_loads(
     const struct linker_utils_link *link, const struct linker_utils_object *object,
     const struct linker_utils_section *section, const struct linker_utils_words *words,
     const struct linker_utils_rewritten *rewritten, size_t *faulty) {
@@ -417,7 +417,7 @@ static inline uint32_t linker_utils_rewrite_address_loads(
         link->has_near_symbols};
     const struct linker_utils_addresses addresses = {section->address, link->got_base,
         link->thread_origin, link->module_origin, link->module_entry, link->has_tls};
-    return linker_utils_rewrite_address_loads_nonnull(
+    return linker_utils_rewrite_toc_loads_nonnull(
         link->machine, &output,
         LINKER_UTILS_SLICE(const struct linker_utils_symbol_facts, object->facts),
         object->facts_len, &addresses,
@@ -485,17 +485,17 @@ static inline uint32_t linker_utils_rewrite_global_pointer(
         rewritten->deleted_len, &rewritten->deleted_used, faulty ? faulty : &ignored);
 }
 
-uint32_t linker_utils_from_global_pointer_nonnull(
+uint32_t linker_utils_finish_gp_relaxation_nonnull(
     const struct linker_utils_addresses *addresses, const struct linker_utils_symbol *values,
     size_t values_len, uint64_t global_pointer, uint8_t *relocations, size_t relocations_len,
     uint8_t *section, size_t section_len, size_t *faulty);
-static inline uint32_t linker_utils_from_global_pointer(
+static inline uint32_t linker_utils_finish_gp_relaxation(
     const struct linker_utils_link *link, const struct linker_utils_object *object,
     const struct linker_utils_section *section, size_t *faulty) {
     size_t ignored;
     const struct linker_utils_addresses addresses = {section->address, link->got_base,
         link->thread_origin, link->module_origin, link->module_entry, link->has_tls};
-    return linker_utils_from_global_pointer_nonnull(
+    return linker_utils_finish_gp_relaxation_nonnull(
         &addresses, LINKER_UTILS_SLICE(const struct linker_utils_symbol, object->values),
         object->values_len, link->global_pointer, LINKER_UTILS_RELAS(uint8_t, section->relocations),
         LINKER_UTILS_SLICE(uint8_t, section->bytes), section->bytes_len,
@@ -512,13 +512,13 @@ static inline uint32_t linker_utils_get_provided_symbol(
         machine, index, LINKER_UTILS_SLICE(uint8_t, name), name_len, name_used, symbol);
 }
 
-uint32_t linker_utils_get_provided_run_nonnull(
+uint32_t linker_utils_get_save_restore_routines_nonnull(
     uint16_t machine, size_t index, uint8_t *prefix, size_t prefix_len, size_t *prefix_used,
-    struct linker_utils_provided_run *run);
-static inline uint32_t linker_utils_get_provided_run(
+    struct linker_utils_save_restore_routines *run);
+static inline uint32_t linker_utils_get_save_restore_routines(
     uint16_t machine, size_t index, uint8_t *prefix, size_t prefix_len, size_t *prefix_used,
-    struct linker_utils_provided_run *run) {
-    return linker_utils_get_provided_run_nonnull(
+    struct linker_utils_save_restore_routines *run) {
+    return linker_utils_get_save_restore_routines_nonnull(
         machine, index, LINKER_UTILS_SLICE(uint8_t, prefix), prefix_len, prefix_used, run);
 }
 
@@ -643,23 +643,24 @@ static inline uint32_t linker_utils_can_apply(
         section->bytes_len, offset);
 }
 
-uint32_t linker_utils_keep_facts_nonnull(
+uint32_t linker_utils_snapshot_facts_nonnull(
     const struct linker_utils_output_facts *output, const struct linker_utils_symbol_facts *symbols,
-    size_t symbols_len, struct linker_utils_kept_facts *kept, size_t kept_len);
-static inline uint32_t linker_utils_keep_facts(
+    size_t symbols_len, struct linker_utils_facts_snapshot *kept, size_t kept_len);
+static inline uint32_t linker_utils_snapshot_facts(
     const struct linker_utils_link *link, const struct linker_utils_object *object) {
     const struct linker_utils_output_facts output = {link->is_executable, link->is_fixed,
         link->has_near_symbols};
-    return linker_utils_keep_facts_nonnull(
+    return linker_utils_snapshot_facts_nonnull(
         &output, LINKER_UTILS_SLICE(const struct linker_utils_symbol_facts, object->facts),
-        object->facts_len, LINKER_UTILS_SLICE(struct linker_utils_kept_facts, object->kept_facts),
-        object->kept_facts_len);
+        object->facts_len,
+        LINKER_UTILS_SLICE(struct linker_utils_facts_snapshot, object->facts_snapshot),
+        object->facts_snapshot_len);
 }
 
 uint32_t linker_utils_relocate_rewritten_section_nonnull(
     uint16_t machine, const struct linker_utils_output_facts *output,
     const struct linker_utils_symbol_facts *facts, size_t facts_len,
-    const struct linker_utils_kept_facts *kept, size_t kept_len,
+    const struct linker_utils_facts_snapshot *kept, size_t kept_len,
     const struct linker_utils_addresses *addresses, const uint8_t *relocations,
     size_t relocations_len, const struct linker_utils_symbol *symbols, size_t symbols_len,
     uint8_t *section, size_t section_len, uint64_t *memory, size_t memory_len, size_t *faulty);
@@ -676,8 +677,9 @@ static inline uint32_t linker_utils_relocate_rewritten_section(
         link->machine, &output,
         LINKER_UTILS_SLICE(const struct linker_utils_symbol_facts, object->facts),
         object->facts_len,
-        LINKER_UTILS_SLICE(const struct linker_utils_kept_facts, object->kept_facts),
-        object->kept_facts_len, &addresses, LINKER_UTILS_RELAS(const uint8_t, section->relocations),
+        LINKER_UTILS_SLICE(const struct linker_utils_facts_snapshot, object->facts_snapshot),
+        object->facts_snapshot_len, &addresses,
+        LINKER_UTILS_RELAS(const uint8_t, section->relocations),
         LINKER_UTILS_SLICE(const struct linker_utils_symbol, object->values), object->values_len,
         LINKER_UTILS_SLICE(uint8_t, section->bytes), section->bytes_len,
         LINKER_UTILS_SLICE(uint64_t, memory), memory_len, faulty ? faulty : &ignored);

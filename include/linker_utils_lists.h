@@ -496,7 +496,7 @@ enum linker_utils_ppc64_rewrite {
     /* Turns `addis 2,12`, at the entry of a function, into `lis 2,0`. */
     LINKER_UTILS_PPC64_REWRITE_ADDIS_TO_LIS = 16,
     /* Writes `addi 2,2,0` after that. The addend is then 0. */
-    LINKER_UTILS_PPC64_REWRITE_ADDI_BEHIND_LIS = 17,
+    LINKER_UTILS_PPC64_REWRITE_ADDI_AFTER_LIS = 17,
     /* Writes `nop` in place of `addis rT,13`. */
     LINKER_UTILS_PPC64_REWRITE_ADDIS_THREAD_TO_NOP = 18,
     /* Makes register 13, the thread pointer, the base of an instruction: bits 16 to 20. */
@@ -612,10 +612,11 @@ enum linker_utils_modifier {
  *                                LDR_X0               TLSIE_LD64_GOTTPREL_LO12_NC  (8)
  *   TLSDESC_ADD_LO12             REPLACE_WITH_NOP     NONE                         (9)
  *   TLSDESC_CALL                 REPLACE_WITH_NOP     NONE                         (10)
- *   (1) has_fixed_distance, ADR_PREL_LO21 in reach
+ *   (1) is_pcrel_link_time_constant, ADR_PREL_LO21 in reach
  *   (2) is_undefined_weak
- *   (3) is_local, not is_ifunc, has_fixed_distance, ADR_PREL_PG_HI21 in reach if known
- *   (4) is_local, not is_ifunc, has_fixed_distance, ADR_PREL_PG_HI21 at -4 in reach if known
+ *   (3) is_local, not is_ifunc, is_pcrel_link_time_constant, ADR_PREL_PG_HI21 in reach if known
+ *   (4) is_local, not is_ifunc, is_pcrel_link_time_constant, ADR_PREL_PG_HI21 at -4 in reach if
+ *       known
  *   (5) is_local, not is_ifunc, is_executable, group_fits, TLSLE_MOVW_TPREL_G1 in reach if known
  *   (6) is_local, not is_ifunc, is_executable, TLSLE_MOVW_TPREL_G1 in reach if known
  *   (7) is_executable, TLSIE_ADR_GOTTPREL_PAGE21 in reach if known
@@ -654,12 +655,13 @@ enum linker_utils_modifier {
  *   TLSDESC_CALL       CALL_TO_ADDI_ZERO      TPREL_LO12_I  (14)
  *                      CALL_TO_ADDI           TPREL_LO12_I  (10)
  *                      CALL_TO_LD             PCREL_LO12_I  (12)
- *   (1) has_fixed_distance, may_compress, is_relaxable, plt_entry is symbol, RVC_JUMP in reach
- *   (2) has_fixed_distance, is_relaxable, plt_entry is symbol, JAL in reach
- *   (3) is_local, not is_ifunc, has_fixed_distance, is_label_relaxable, addend 0, PCREL_HI20 in
- *       reach if known
- *   (4) is_local, not is_ifunc, has_fixed_distance, is_label_relaxable, has_got_high_part, addend
- *       0, PCREL_HI20 in reach if known
+ *   (1) is_pcrel_link_time_constant, may_compress, is_relaxable, plt_entry is symbol, RVC_JUMP in
+ *       reach
+ *   (2) is_pcrel_link_time_constant, is_relaxable, plt_entry is symbol, JAL in reach
+ *   (3) is_local, not is_ifunc, is_pcrel_link_time_constant, is_label_relaxable, addend 0,
+ *       PCREL_HI20 in reach if known
+ *   (4) is_local, not is_ifunc, is_pcrel_link_time_constant, is_label_relaxable, has_got_high_part,
+ *       addend 0, PCREL_HI20 in reach if known
  *   (5) has_fixed_address, is_relaxable, S + A in 12 bits
  *   (6) has_fixed_address, may_compress, is_relaxable, RVC_LUI in reach
  *   (7) is_relaxable, TPREL_LO12_I in -0x800..0x800
@@ -698,14 +700,15 @@ enum linker_utils_modifier {
  *   TLS_LE_HI20_R     DELETE            NONE               (15)
  *   TLS_LE_ADD_R      DELETE            NONE               (15)
  *   TLS_LE_LO12_R     BASE_TO_TP        TLS_LE_LO12_R      (15)
- *   (1) has_fixed_distance, is_relaxable, PCREL20_S2 in reach
- *   (2) has_fixed_distance, is_relaxable, PCREL20_S2 at -4 in reach
- *   (3) is_local, not is_ifunc, has_fixed_distance, is_relaxable, addend 0, PCREL20_S2 in reach
- *   (4) is_local, not is_ifunc, has_fixed_distance, addend 0, PCALA_HI20 in -0x80000000..0x80000000
- *       if known
- *   (5) is_local, not is_ifunc, has_fixed_distance, is_relaxable, addend 0, PCREL20_S2 at -4 in
+ *   (1) is_pcrel_link_time_constant, is_relaxable, PCREL20_S2 in reach
+ *   (2) is_pcrel_link_time_constant, is_relaxable, PCREL20_S2 at -4 in reach
+ *   (3) is_local, not is_ifunc, is_pcrel_link_time_constant, is_relaxable, addend 0, PCREL20_S2 in
  *       reach
- *   (6) is_local, not is_ifunc, has_fixed_distance, addend 0, PCALA_HI20 at -4 in
+ *   (4) is_local, not is_ifunc, is_pcrel_link_time_constant, addend 0, PCALA_HI20 in
+ *       -0x80000000..0x80000000 if known
+ *   (5) is_local, not is_ifunc, is_pcrel_link_time_constant, is_relaxable, addend 0, PCREL20_S2 at
+ *       -4 in reach
+ *   (6) is_local, not is_ifunc, is_pcrel_link_time_constant, addend 0, PCALA_HI20 at -4 in
  *       -0x80000000..0x80000000 if known
  *   (7) is_relaxable, group_fits, TLS_GD_PCREL20_S2 at -4 in reach
  *   (8) is_local, not is_ifunc, is_executable, group_fits, addend 0, TLS_LE_LO12 in 0x0..0x1000
@@ -713,7 +716,7 @@ enum linker_utils_modifier {
  *       -0x80000000..0x80000000 if known
  *   (10) is_relaxable, group_fits, TLS_LD_PCREL20_S2 in reach
  *   (11) is_relaxable, group_fits, TLS_GD_PCREL20_S2 in reach
- *   (12) has_fixed_distance, is_relaxable, B26 in reach
+ *   (12) is_pcrel_link_time_constant, is_relaxable, B26 in reach
  *   (13) is_executable, group_fits, TLS_IE_PC_HI20 in -0x80000000..0x80000000 if known
  *   (14) is_executable, group_fits
  *   (15) is_relaxable, TLS_LE_LO12_R in -0x800..0x800
@@ -755,10 +758,10 @@ enum linker_utils_modifier {
  *                                PADDI_TO_PLD           GOT_TPREL_PCREL34  (10)
  *   GOT_TLSLD_PCREL34            PADDI_TO_PADDI4096     NONE               (10)
  *   GOT_TPREL_PCREL34            PLD_TO_PADDI_THREAD    TPREL34            (6)
- *   REL16_LO                     ADDI_BEHIND_LIS        ADDR16_LO          (14)
+ *   REL16_LO                     ADDI_AFTER_LIS         ADDR16_LO          (14)
  *   REL16_HA                     ADDIS_TO_LIS           ADDR16_HA          (15)
  *   (1) may_change_toc
- *   (2) is_local, not is_ifunc, has_fixed_distance, TOC16_HA in reach if known
+ *   (2) is_local, not is_ifunc, is_pcrel_link_time_constant, TOC16_HA in reach if known
  *   (3) toc_base_is_exclusive, TOC16 in reach
  *   (4) is_local, not is_ifunc, is_executable, group_fits, TPREL16_HA in reach if known
  *   (5) is_local, not is_ifunc, is_executable, group_fits, TPREL16_HA in reach if known,
@@ -770,7 +773,7 @@ enum linker_utils_modifier {
  *   (10) is_executable, group_fits
  *   (11) is_local, not is_ifunc, is_executable, is_relaxable, group_fits, TPREL34 in reach if known
  *   (12) is_executable, is_relaxable, group_fits
- *   (13) is_local, not is_ifunc, has_fixed_distance, PCREL34 in reach if known
+ *   (13) is_local, not is_ifunc, is_pcrel_link_time_constant, PCREL34 in reach if known
  *   (14) is_local, not is_ifunc, has_fixed_address, group_fits, addend 4, ADDR16_HA in reach if
  *       known
  *   (15) is_local, not is_ifunc, has_fixed_address, group_fits, addend 0, ADDR16_HA in reach if
@@ -818,7 +821,7 @@ enum linker_utils_modifier {
  *                 REX_TEST_INDIRECT_TO_ABSOLUTE  32S       (11)
  *                 REX_MOV_INDIRECT_TO_ABSOLUTE   32S       (12)
  *                 MOV_INDIRECT_TO_LEA            PC32      (1)
- *   (1) is_local, not is_ifunc, has_fixed_distance, addend -4, PC32 in reach if known
+ *   (1) is_local, not is_ifunc, is_pcrel_link_time_constant, addend -4, PC32 in reach if known
  *   (2) is_executable, has_local_exec_base, TPOFF64 in reach if known
  *   (3) is_local, not is_ifunc, is_executable, group_fits, addend -4, TPOFF32 in reach if known
  *   (4) is_executable, group_fits, addend -4, GOTTPOFF in reach if known
@@ -852,17 +855,17 @@ enum linker_utils_entry_class {
 
 /* When rewrites are made: what a linker has to know before. */
 enum linker_utils_phase {
-    LINKER_UTILS_PHASE_EARLY = 0, /* before addresses are known */
+    LINKER_UTILS_PHASE_PRE_LAYOUT = 0, /* before addresses are known */
     /* once offsets from the thread pointer are known: RISC-V's and LoongArch's `lui` and `add` of
      * one of 12 bits are to be deleted, and PowerPC64's `addis` of one of 16 bits becomes a `nop`.
      * RISC-V's TLS descriptors become offsets. */
-    LINKER_UTILS_PHASE_THREAD_OFFSETS = 1,
+    LINKER_UTILS_PHASE_TLS_LOCAL_EXEC = 1,
     /* once addresses are known: AArch64's and RISC-V's loads of an address from the GOT become its
      * computation */
-    LINKER_UTILS_PHASE_GOT_LOADS = 2,
+    LINKER_UTILS_PHASE_GOT_TO_PC_REL = 2,
     /* after these: AArch64's `adrp` and `add` become `nop` and `adr`, and PowerPC64's `addis` of a
      * distance from the TOC pointer becomes a `nop` */
-    LINKER_UTILS_PHASE_DISTANCES = 3
+    LINKER_UTILS_PHASE_SHORT_PC_REL = 3
 };
 
 /* What becomes of a relocation and of its instruction. */
@@ -870,10 +873,10 @@ enum linker_utils_fate {
     LINKER_UTILS_FATE_KEPT = 0, /* both stay as they are */
     LINKER_UTILS_FATE_REWRITTEN = 1,
     /* the relocation goes: the rewrite at the one before or at the next one takes it along */
-    LINKER_UTILS_FATE_TAKEN_ALONG = 2,
+    LINKER_UTILS_FATE_CONSUMED = 2,
     /* the instruction is rewritten, and the relocation gets another symbol and addend: those of the
      * high part whose label was its symbol, or of the word that it loaded */
-    LINKER_UTILS_FATE_REDIRECTED = 3
+    LINKER_UTILS_FATE_REWRITTEN_WITH_SYMBOL = 3
 };
 
 /* Where a symbol is that linkers define. */

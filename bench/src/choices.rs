@@ -32,7 +32,7 @@ impl Site {
         let facts = facts(self);
         sathunne::LinkFacts {
             is_local: facts.is_local,
-            has_fixed_distance: facts.has_fixed_distance,
+            is_pcrel_link_time_constant: facts.is_pcrel_link_time_constant,
             is_relaxable: facts.is_relaxable,
             has_addresses: facts.has_addresses,
             operands: self.operands(),
@@ -150,7 +150,7 @@ fn operands(site: &Site) -> Operands {
 fn facts(site: &Site) -> LinkFacts {
     LinkFacts {
         is_local: true,
-        has_fixed_distance: true,
+        is_pcrel_link_time_constant: true,
         is_relaxable: true,
         has_addresses: true,
         operands: operands(site),
@@ -181,7 +181,7 @@ fn by_exports(machine: u16, sites: &[Site], section: &mut [u8], chooses: bool) -
             let known = facts(site);
             let numbers = sathunne::raw::LinkFacts {
                 is_local: known.is_local.into(),
-                has_fixed_distance: known.has_fixed_distance.into(),
+                is_pcrel_link_time_constant: known.is_pcrel_link_time_constant.into(),
                 is_relaxable: known.is_relaxable.into(),
                 has_addresses: known.has_addresses.into(),
                 operands: of,

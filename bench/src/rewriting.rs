@@ -50,7 +50,7 @@ struct Input {
     machine: u16,
     bytes: Vec<u8>,
     symbols: Vec<sathunne::SymbolFacts>,
-    kept: Vec<sathunne::KeptGroups>,
+    kept: Vec<sathunne::UnrelaxableGroups>,
 }
 
 impl Input {
@@ -82,7 +82,7 @@ fn input(random: &mut Random, machine: u16, sequences: &[Sequence]) -> Input {
     let symbols: Vec<_> = (0..SYMBOLS)
         .map(|at| if at % 8 == 0 { imported } else { defined })
         .collect();
-    let mut kept = vec![sathunne::KeptGroups::default(); SYMBOLS];
+    let mut kept = vec![sathunne::UnrelaxableGroups::default(); SYMBOLS];
     let (section, relocations) = bytes.split_at(LEN);
     let (is_executable, is_fixed, has_near_symbols) = EXECUTABLE;
     let output = sathunne::OutputFacts {
@@ -101,12 +101,12 @@ fn input(random: &mut Random, machine: u16, sequences: &[Sequence]) -> Input {
 }
 
 /// The same symbols and groups for the crate.
-fn of_crate(input: &Input) -> (Vec<rewriting::SymbolFacts>, Vec<rewriting::KeptGroups>) {
+fn of_crate(input: &Input) -> (Vec<rewriting::SymbolFacts>, Vec<rewriting::UnrelaxableGroups>) {
     let symbols = input.symbols.iter().map(|it| rewriting::SymbolFacts {
         is_local: it.is_local,
         ..rewriting::SymbolFacts::default()
     });
-    let kept = input.kept.iter().map(|it| rewriting::KeptGroups {
+    let kept = input.kept.iter().map(|it| rewriting::UnrelaxableGroups {
         initial_exec: it.initial_exec,
         general_dynamic: it.general_dynamic,
         local_dynamic: it.local_dynamic,
@@ -124,10 +124,10 @@ fn surveys(report: &mut Report, input: &Input) {
         is_fixed,
         has_near_symbols,
     };
-    let none = vec![sathunne::KeptGroups::default(); SYMBOLS];
+    let none = vec![sathunne::UnrelaxableGroups::default(); SYMBOLS];
     let exports = Side::over(
         none.clone(),
-        |kept: &mut Vec<_>| kept.fill(sathunne::KeptGroups::default()),
+        |kept: &mut Vec<_>| kept.fill(sathunne::UnrelaxableGroups::default()),
         move |kept: &mut Vec<_>| {
             // SAFETY: a slice's pointer and length are its own, and a reference is of one value.
             let status = unsafe {
@@ -146,13 +146,13 @@ fn surveys(report: &mut Report, input: &Input) {
             };
             assert_eq!(status, 0);
         },
-        |kept: &Vec<sathunne::KeptGroups>| kept.iter().filter(|it| it.initial_exec).count(),
+        |kept: &Vec<sathunne::UnrelaxableGroups>| kept.iter().filter(|it| it.initial_exec).count(),
     );
     let (symbols, _) = of_crate(input);
     let architecture = Architecture::from_machine(input.machine).expect("an architecture");
     let erased = Side::over(
-        vec![rewriting::KeptGroups::default(); SYMBOLS],
-        |kept: &mut Vec<_>| kept.fill(rewriting::KeptGroups::default()),
+        vec![rewriting::UnrelaxableGroups::default(); SYMBOLS],
+        |kept: &mut Vec<_>| kept.fill(rewriting::UnrelaxableGroups::default()),
         move |kept: &mut Vec<_>| {
             let output = rewriting::OutputFacts {
                 is_executable,
@@ -161,7 +161,7 @@ fn surveys(report: &mut Report, input: &Input) {
             };
             rewriting::survey(architecture, &output, &symbols, relocations, section, kept);
         },
-        |kept: &Vec<rewriting::KeptGroups>| kept.iter().filter(|it| it.initial_exec).count(),
+        |kept: &Vec<rewriting::UnrelaxableGroups>| kept.iter().filter(|it| it.initial_exec).count(),
     );
     let name = format!("`linker_utils_survey`, {}", name_of(input.machine));
     report.line(&name, input.count(), true, [Some(exports), None, Some(erased), None]);
@@ -267,8 +267,8 @@ fn surveys_of_placed(report: &mut Report, input: &Input) {
     };
     let values = vec![Symbol { address: 0x60_0010, ..Symbol::default() }; SYMBOLS];
     let exports = Side::over(
-        vec![sathunne::KeptGroups::default(); SYMBOLS],
-        |kept: &mut Vec<_>| kept.fill(sathunne::KeptGroups::default()),
+        vec![sathunne::UnrelaxableGroups::default(); SYMBOLS],
+        |kept: &mut Vec<_>| kept.fill(sathunne::UnrelaxableGroups::default()),
         move |kept: &mut Vec<_>| {
             // SAFETY: a slice's pointer and length are its own, and a reference is of one value.
             let status = unsafe {
@@ -291,7 +291,7 @@ fn surveys_of_placed(report: &mut Report, input: &Input) {
             };
             assert_eq!(status, 0);
         },
-        |kept: &Vec<sathunne::KeptGroups>| kept.iter().filter(|it| it.got_load).count(),
+        |kept: &Vec<sathunne::UnrelaxableGroups>| kept.iter().filter(|it| it.got_load).count(),
     );
     let name = format!("`linker_utils_survey_placed_section`, {}", name_of(input.machine));
     report.line(&name, input.count(), true, [Some(exports), None, None, None]);
@@ -305,7 +305,7 @@ fn rewrites_of_placed(report: &mut Report, input: &Input) {
         has_near_symbols,
     };
     let values = vec![Symbol { address: 0x60_0010, ..Symbol::default() }; SYMBOLS];
-    let kept = vec![sathunne::KeptGroups::default(); SYMBOLS];
+    let kept = vec![sathunne::UnrelaxableGroups::default(); SYMBOLS];
     let mut decisions = vec![sathunne::raw::Decision::default(); input.count()];
     let mut used = 0;
     let exports = anew(input, move |bytes| {
@@ -418,7 +418,7 @@ fn address_loads(report: &mut Report, loads: &Loads) {
             call_over!(
                 loads,
                 output,
-                linker_utils_survey_address_loads_nonnull,
+                linker_utils_survey_toc_loads_nonnull,
                 relocations.as_ptr(),
                 relocations.len(),
                 section.as_ptr(),
@@ -429,7 +429,7 @@ fn address_loads(report: &mut Report, loads: &Loads) {
         },
         |kept: &Vec<bool>| kept.iter().filter(|it| **it).count(),
     );
-    let name = "`linker_utils_survey_address_loads`";
+    let name = "`linker_utils_survey_toc_loads`";
     report.line(name, loads.count(), true, [Some(exports), None, None, None]);
     let mut decisions = vec![sathunne::raw::Decision::default(); loads.count()];
     let exports = Side::over(
@@ -441,7 +441,7 @@ fn address_loads(report: &mut Report, loads: &Loads) {
             call_over!(
                 loads,
                 output,
-                linker_utils_rewrite_address_loads_nonnull,
+                linker_utils_rewrite_toc_loads_nonnull,
                 kept.as_ptr(),
                 kept.len(),
                 relocations.as_mut_ptr(),
@@ -455,7 +455,7 @@ fn address_loads(report: &mut Report, loads: &Loads) {
         },
         Vec::clone,
     );
-    let name = "`linker_utils_rewrite_address_loads`";
+    let name = "`linker_utils_rewrite_toc_loads`";
     report.line(name, loads.count(), true, [Some(exports), None, None, None]);
 }
 
@@ -543,7 +543,7 @@ fn near_addresses(report: &mut Report, input: &Input) {
         }
         // SAFETY: a slice's pointer and length are its own, and a reference is of one value.
         let status = unsafe {
-            linker_utils_from_global_pointer_nonnull(
+            linker_utils_finish_gp_relaxation_nonnull(
                 &PLACED,
                 values.as_ptr(),
                 values.len(),
@@ -557,7 +557,7 @@ fn near_addresses(report: &mut Report, input: &Input) {
         };
         assert_eq!(status, 0);
     };
-    let name = "`linker_utils_from_global_pointer`";
+    let name = "`linker_utils_finish_gp_relaxation`";
     report.line(name, input.count(), true, [Some(anew(input, base)), None, None, None]);
 }
 

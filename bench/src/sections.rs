@@ -184,7 +184,7 @@ fn by_kept(input: &Input) -> Side<'_> {
         ..sathunne::SymbolFacts::default()
     };
     let facts = vec![own; input.symbols.len()];
-    let kept = sathunne::keep_facts(&output, &facts).expect("memory");
+    let kept = sathunne::snapshot_facts(&output, &facts).expect("memory");
     Side::writes(input.section.clone(), move |section| {
         // SAFETY: a slice's pointer and length are its own, and a reference is of one value.
         let status = unsafe {
@@ -215,11 +215,11 @@ fn by_kept(input: &Input) -> Side<'_> {
 fn kept() -> Side<'static> {
     let output = sathunne::OutputFacts::default();
     let facts = [sathunne::SymbolFacts::default(); 1000];
-    let mut kept = [sathunne::KeptFacts::default(); 1000];
+    let mut kept = [sathunne::FactsSnapshot::default(); 1000];
     Side::number(move || {
         let (from, to) = (facts.as_ptr(), kept.as_mut_ptr());
         // SAFETY: a slice's pointer and length are its own, and a reference is of one value.
-        let status = unsafe { linker_utils_keep_facts_nonnull(&output, from, 1000, to, 1000) };
+        let status = unsafe { linker_utils_snapshot_facts_nonnull(&output, from, 1000, to, 1000) };
         u64::from(status) + u64::from(kept[999].bits)
     })
 }
@@ -380,7 +380,7 @@ pub fn sections(report: &mut Report) {
         report.line(name_of(input.machine), input.count(), true, sides);
     }
     report.heading("What relocations require, and values", Beside::Nothing);
-    let name = "`linker_utils_keep_facts`, a symbol";
+    let name = "`linker_utils_snapshot_facts`, a symbol";
     report.line(name, 1000, true, [Some(kept()), None, None, None]);
     for input in &inputs {
         requirements(report, input);

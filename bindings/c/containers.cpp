@@ -84,7 +84,7 @@ static void rewriting() {
         symbols[2].is_local = is_local;
         bytes own = code;
         std::vector<Elf64_Rela> given = relas;
-        std::vector<linker_utils_kept_groups> kept(symbols.size());
+        std::vector<linker_utils_unrelaxable_groups> kept(symbols.size());
         std::vector<linker_utils_decision> decisions(given.size());
         const lu::object object(symbols, {}, kept);
         const lu::section section(own, given);

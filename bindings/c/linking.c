@@ -20,7 +20,7 @@ static int link_section(uint16_t machine, const struct linker_utils_section *sec
     const Elf64_Rela *rela = (const Elf64_Rela *)section->relocations;
     int words = 0;
     struct linker_utils_link link;
-    struct linker_utils_kept_groups kept[SYMBOLS];
+    struct linker_utils_unrelaxable_groups kept[SYMBOLS];
     struct linker_utils_decision decisions[MOST];
     struct linker_utils_deletion deleted[MOST];
     struct linker_utils_object object = {facts, SYMBOLS, symbols, SYMBOLS, kept,
@@ -62,7 +62,7 @@ static int link_section(uint16_t machine, const struct linker_utils_section *sec
     link.thread_origin = origins.thread_pointer;
     link.module_origin = origins.module_block;
     link.has_tls = true;
-    for (uint32_t phase = LINKER_UTILS_PHASE_THREAD_OFFSETS; phase <= LINKER_UTILS_PHASE_DISTANCES;
+    for (uint32_t phase = LINKER_UTILS_PHASE_TLS_LOCAL_EXEC; phase <= LINKER_UTILS_PHASE_SHORT_PC_REL;
          phase++) {
         memset(kept, 0, sizeof kept);
         if (linker_utils_survey_placed_section(&link, &object, section, phase) ||

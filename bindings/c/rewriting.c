@@ -29,13 +29,13 @@ int main(void) {
         struct linker_utils_section section = linker_utils_section_of(bytes, sizeof bytes);
         section.relocations = given;
         section.relocations_len = 2;
-        struct linker_utils_kept_groups kept[3];
+        struct linker_utils_unrelaxable_groups kept[3];
         for (int i = 0; i < 3; i++) {
-            const struct linker_utils_kept_groups all = {false, false, false, false, false};
+            const struct linker_utils_unrelaxable_groups all = {false, false, false, false, false};
             kept[i] = all;
         }
-        object.kept_groups = kept;
-        object.kept_groups_len = 3;
+        object.unrelaxable_groups = kept;
+        object.unrelaxable_groups_len = 3;
         if (linker_utils_survey(&link, &object, &section)) return 1;
         struct linker_utils_decision decisions[2];
         const struct linker_utils_rewritten rewritten = {decisions, 2, NULL, 0, 0};

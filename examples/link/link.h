@@ -112,7 +112,7 @@ struct object {
     const Elf64_Sym *mentions;   /* of its symbols, as it says itself */
     struct symbol **symbols;     /* as all objects say */
     int64_t *addends;            /* of these; null where all are 0 */
-    struct linker_utils_kept_facts *facts; /* of these, as rewrites were chosen by them */
+    struct linker_utils_facts_snapshot *facts; /* of these, as rewrites were chosen by them */
     size_t len, sections_len, symbols_len, mentions_len, resolved_len, symbols_room, addends_room;
     size_t facts_len, facts_room;
     bool is_threaded, is_compressed; /* it has thread-local symbols; the shortest instructions */
@@ -225,7 +225,7 @@ extern bool has_far_symbols;
 extern uint64_t span; /* of the linked file's addresses */
 extern struct tls tls;
 extern struct kind kinds[2048]; /* by type */
-extern struct linker_utils_kept_groups *kept; /* which groups of the last object stay */
+extern struct linker_utils_unrelaxable_groups *kept; /* which groups of the last object stay */
 
 static inline int order(uint64_t a, uint64_t b) { return a < b ? -1 : a > b; }
 

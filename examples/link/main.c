@@ -160,7 +160,7 @@ int main(int argc, char **argv) {
     linked.has_near_symbols = !is_long();
     EACH_OBJECT(o) {
         progress("rewriting", o);
-        rewrite_object(o, LINKER_UTILS_PHASE_EARLY, LINKER_UTILS_PHASE_EARLY);
+        rewrite_object(o, LINKER_UTILS_PHASE_PRE_LAYOUT, LINKER_UTILS_PHASE_PRE_LAYOUT);
         require(o);
     }
     if (is_dynamic) make_imports();

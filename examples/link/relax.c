@@ -135,7 +135,7 @@ static void relax_run(struct run *run) {
 
 /* Relaxes all code. */
 void relax(void) {
-    uint32_t phase = LINKER_UTILS_PHASE_THREAD_OFFSETS;
+    uint32_t phase = LINKER_UTILS_PHASE_TLS_LOCAL_EXEC;
     EACH_OBJECT(o)
         if (o->is_threaded && (shrinks || (has_short_offsets && relaxes)))
             rewrite_object(o, phase, phase);

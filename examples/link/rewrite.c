@@ -7,7 +7,7 @@
 /* What is known of the symbols of one object after another, and their addresses once they are. */
 static struct linker_utils_symbol_facts *facts;
 static struct linker_utils_symbol *values;
-struct linker_utils_kept_groups *kept;
+struct linker_utils_unrelaxable_groups *kept;
 static struct linker_utils_object known;
 static const struct symbol *tls_get_addr;
 
@@ -51,11 +51,11 @@ static bool note_symbols(struct object *o) {
     }
     o->facts = grow(o->facts, len, &o->facts_room, sizeof *o->facts);
     size_t at = o->facts_len, more = len - at;
-    known = (struct linker_utils_object){facts + at, more, .kept_facts = o->facts + at,
-                                         .kept_facts_len = more};
-    expect_ok(linker_utils_keep_facts(&linked, &known));
-    known = (struct linker_utils_object){facts, len, values, len, kept, len, .kept_facts = o->facts,
-                                         .kept_facts_len = len};
+    known = (struct linker_utils_object){facts + at, more, .facts_snapshot = o->facts + at,
+                                         .facts_snapshot_len = more};
+    expect_ok(linker_utils_snapshot_facts(&linked, &known));
+    known = (struct linker_utils_object){facts, len, values, len, kept, len, .facts_snapshot = o->facts,
+                                         .facts_snapshot_len = len};
     o->facts_len = len;
     return hides;
 }
@@ -71,9 +71,9 @@ static void rewrite_in(uint32_t phase, struct section *s, const struct linker_ut
     made.deleted = grow(made.deleted, len, &made.deleted_len, sizeof *made.deleted);
     made.deleted_used = 0;
     uint32_t status =
-        is_survey && words ? linker_utils_survey_address_loads(&linked, &known, &here, words)
+        is_survey && words ? linker_utils_survey_toc_loads(&linked, &known, &here, words)
         : is_survey ? linker_utils_survey_placed_section(&linked, &known, &here, phase)
-        : words ? linker_utils_rewrite_address_loads(&linked, &known, &here, words, &made, &at)
+        : words ? linker_utils_rewrite_toc_loads(&linked, &known, &here, words, &made, &at)
                 : linker_utils_rewrite_placed_section(&linked, &known, &here, phase, &made, &at);
     check(s, &s->relocations[at < len ? at : 0], status);
     if (!made.deleted_used) return;
@@ -112,11 +112,11 @@ static bool has_offsets(struct object *o) {
 
 /* Rewrites the instructions of an object in some phases, all of a group or none. */
 void rewrite_object(struct object *o, uint32_t first, uint32_t last) {
-    bool is_early = first == LINKER_UTILS_PHASE_EARLY, hides = note_symbols(o);
+    bool is_early = first == LINKER_UTILS_PHASE_PRE_LAYOUT, hides = note_symbols(o);
     bool keeps = is_early && o->is_threaded && has_offsets(o);
     if (hides) hide(o);
     EACH_SECTION_OF(o, of) {
-        if (!of->kept_words || first != LINKER_UTILS_PHASE_GOT_LOADS) continue;
+        if (!of->kept_words || first != LINKER_UTILS_PHASE_GOT_TO_PC_REL) continue;
         size_t len = of->relocations_len;
         struct linker_utils_words words = {of->output->address + of->offset, of->relocations, len,
                                            of->kept_words, len};
@@ -124,7 +124,7 @@ void rewrite_object(struct object *o, uint32_t first, uint32_t last) {
             EACH_SECTION_OF(o, s) if (is_code(s)) rewrite_in(first, s, &words, is_survey);
     }
     for (uint32_t phase = first; phase <= last; phase++) {
-        bool is_of_got = phase == LINKER_UTILS_PHASE_GOT_LOADS;
+        bool is_of_got = phase == LINKER_UTILS_PHASE_GOT_TO_PC_REL;
         memset(kept, 0, (o->symbols_len + 1) * sizeof *kept);
         for (size_t i = 1; has_far_symbols && i < o->symbols_len; i++)
             if (o->symbols[i]->is_far)
@@ -190,7 +190,7 @@ void relax_near(bool is_final) {
                 struct linker_utils_section here = section_of(s);
                 uint32_t status =
                     step == 1  ? rewrite_near(s, &here, &at)
-                    : is_final ? linker_utils_from_global_pointer(&linked, &known, &here, &at)
+                    : is_final ? linker_utils_finish_gp_relaxation(&linked, &known, &here, &at)
                                : linker_utils_survey_global_pointer(&linked, &known, &here);
                 check(s, &s->relocations[at < s->relocations_len ? at : 0], status);
             }
@@ -201,10 +201,10 @@ void relax_near(bool is_final) {
 
 /* Makes the rewrites of each object that wait for all addresses, and writes its values. */
 void relocate(void) {
-    uint32_t last = LINKER_UTILS_PHASE_DISTANCES;
+    uint32_t last = LINKER_UTILS_PHASE_SHORT_PC_REL;
     EACH_OBJECT(o) {
         progress("relocating", o);
-        rewrite_object(o, relaxes ? LINKER_UTILS_PHASE_GOT_LOADS : last + 1, last);
+        rewrite_object(o, relaxes ? LINKER_UTILS_PHASE_GOT_TO_PC_REL : last + 1, last);
         EACH_SECTION_OF(o, s) if (s->relocations_len) relocate_section(s, &known);
     }
 }

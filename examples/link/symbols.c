@@ -169,9 +169,9 @@ static void define_end(struct output *o, bool is_end) {
 static void define_runs(void) {
     uint8_t prefix[LINKER_UTILS_NAME_SIZE];
     char name[LINKER_UTILS_NAME_SIZE + 16];
-    struct linker_utils_provided_run run;
+    struct linker_utils_save_restore_routines run;
     size_t len = 0, most = sizeof prefix;
-    for (size_t i = 0; !linker_utils_get_provided_run(machine, i, prefix, most, &len, &run); i++) {
+    for (size_t i = 0; !linker_utils_get_save_restore_routines(machine, i, prefix, most, &len, &run); i++) {
         bool is_made = false;
         for (uint32_t at = 0, word; at < run.len; at++) {
             uint32_t function = at / run.spacing;

@@ -7,7 +7,7 @@ use crate::linker_output::dynamic::{DynamicType, DynamicTypes, named};
 use crate::linker_output::flags::FlagRules;
 use crate::linker_output::got::{GotHeader, GotLayout, ThreadPointer};
 use crate::linker_output::layout::{
-    CodeUnit, Interpreter, ProvidedRun, ProvidedSymbol, SymbolPlace,
+    CodeUnit, Interpreter, SaveRestoreRoutines, ProvidedSymbol, SymbolPlace,
 };
 use crate::linker_output::lazy_plt::{LazyField, LazyPiece, LazyPlt, LazyTarget, LazyWord};
 use crate::linker_output::stubs::{Stub, StubField};
@@ -55,7 +55,7 @@ pub(crate) static TARGET: Target = Target {
     }],
     runs: &[
         // `str x19, [sp]` and `str x20, [sp, 8]`
-        ProvidedRun {
+        SaveRestoreRoutines {
             prefix: "_keep_",
             first: 19,
             count: 2,

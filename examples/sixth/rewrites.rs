@@ -4,7 +4,7 @@ use crate::linker_base::relaxation::RelocationModifier;
 use crate::linker_base::rewrite::{RewriteWindow, has_window, overwrite};
 use crate::linker_base::utils::u32_from_slice;
 use crate::linker_elf::elf::choice_table::{
-    Chosen, ChosenByTable, ChosenKind, Table, by_table, choice_by, conditions,
+    Chosen, ChoiceTable, RewriteSet, Table, by_table, choice_by, conditions,
 };
 use crate::linker_elf::elf::{Choice, InstructionRewrite, LinkFacts, Operands};
 use crate::linker_elf::sixth::SixthRelocation as Names;
@@ -86,17 +86,17 @@ impl InstructionRewrite for RelaxationKind {
 
 /// The instructions that an entry is for: what its rewrite is meant for.
 #[derive(Debug)]
-pub enum AskedFor {
+pub enum Pattern {
     OfRewrite,
 }
 
-impl ChosenKind for RelaxationKind {
+impl RewriteSet for RelaxationKind {
     type Relocation = Names;
 
-    type Originals = AskedFor;
+    type Originals = Pattern;
 
     #[inline(always)]
-    fn stand_at(self, _originals: &AskedFor, section: &[u8], offset: u64) -> bool {
+    fn matches_at(self, _originals: &Pattern, section: &[u8], offset: u64) -> bool {
         self.matches(section, offset)
     }
 
@@ -124,7 +124,7 @@ macro_rules! choices {
     };
 }
 
-impl ChosenByTable for RelaxationKind {
+impl ChoiceTable for RelaxationKind {
     #[inline(always)]
     fn entries(name: Names, _section: &[u8], _offset: u64) -> Table<Self> {
         choices!(by_table(when, name, table => table))

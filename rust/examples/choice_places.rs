@@ -10,7 +10,7 @@
 //! where it isn't.
 
 use linker_utils::aarch64::{self, AArch64Relocation};
-use linker_utils::choice_table::ChosenByTable;
+use linker_utils::choice_table::ChoiceTable;
 use linker_utils::elf::{Architecture, LinkFacts, Operands};
 use linker_utils::loongarch64::{self, LoongArch64Relocation};
 use linker_utils::ppc64::{self, Ppc64Relocation};
@@ -50,7 +50,7 @@ fn facts(addend: i64) -> LinkFacts {
         is_local: true,
         is_undefined_weak: true,
         has_fixed_address: true,
-        has_fixed_distance: true,
+        is_pcrel_link_time_constant: true,
         is_executable: true,
         has_local_exec_base: true,
         may_compress: true,

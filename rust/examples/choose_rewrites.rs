@@ -44,7 +44,7 @@ fn main() {
         // a position-independent executable that defines both
         let facts = LinkFacts {
             is_local: true,
-            has_fixed_distance: true,
+            is_pcrel_link_time_constant: true,
             is_executable: true,
             has_addresses: true,
             operands,

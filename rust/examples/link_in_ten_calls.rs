@@ -4,7 +4,7 @@
 use linker_utils::aarch64::AArch64Relocation::*;
 use linker_utils::elf::Architecture;
 use linker_utils::output::{Target, entry_words, static_words};
-use linker_utils::rewriting::{Decision, KeptGroups, OutputFacts, Phase, SymbolFacts};
+use linker_utils::rewriting::{Decision, UnrelaxableGroups, OutputFacts, Phase, SymbolFacts};
 use linker_utils::rewriting::{rewrite_placed_section, rewrite_section, survey, survey_placed_section};
 use linker_utils::section::{Addresses, EntryClass, Symbol, memory_len, needs, relocate_section, relocation_at};
 use linker_utils::x86_64::X86_64Relocation::*;
@@ -26,7 +26,7 @@ fn link(
     let count = rela.len() / 24;
     let mut decisions = vec![Decision::Kept; count];
     // 1 and 2: rewrites that need no address
-    let mut kept = vec![KeptGroups::default(); facts.len()];
+    let mut kept = vec![UnrelaxableGroups::default(); facts.len()];
     survey(architecture, &output, facts, rela, code, &mut kept);
     rewrite_section(architecture, &output, facts, &kept, rela, code, &mut decisions).unwrap();
     // 3 to 6: which entries of the GOT are still needed, and what they hold
@@ -57,8 +57,8 @@ fn link(
         module_entry: 0,
         has_tls: true,
     };
-    for phase in [Phase::ThreadOffsets, Phase::GotLoads, Phase::Distances] {
-        let mut kept = vec![KeptGroups::default(); facts.len()];
+    for phase in [Phase::TlsLocalExec, Phase::GotToPcRel, Phase::ShortPcRel] {
+        let mut kept = vec![UnrelaxableGroups::default(); facts.len()];
         let (at, deleted) = (&addresses, &mut vec![(0, 0); count]);
         survey_placed_section(architecture, phase, &output, facts, at, symbols, rela, code, &mut kept)
             .unwrap();

@@ -14,7 +14,7 @@
 use linker_utils::aarch64::{self, AArch64Relocation};
 use linker_utils::architecture::Relaxation;
 use linker_utils::choice_table::{
-    ChoiceEntry, ChosenByTable, ChosenKind, Conditions, RelocationName, ValueCondition,
+    ChoiceEntry, ChoiceTable, RewriteSet, Conditions, RelocationName, ValueCondition,
     ValueConditions, choice_by,
 };
 use linker_utils::elf::{
@@ -53,7 +53,7 @@ macro_rules! statements {
 }
 
 statements! {
-    is_local is_ifunc is_undefined_weak has_fixed_address has_fixed_distance is_executable
+    is_local is_ifunc is_undefined_weak has_fixed_address is_pcrel_link_time_constant is_executable
     has_local_exec_base may_compress is_relaxable has_got_high_part is_label_relaxable toc_base_is_exclusive
     may_change_toc has_addresses group_fits
 }
@@ -85,11 +85,11 @@ impl InstructionRewrite for Probe {
     }
 }
 
-impl ChosenKind for Probe {
+impl RewriteSet for Probe {
     type Relocation = Probe;
     type Originals = Probe;
 
-    fn stand_at(self, _: &Probe, _: &[u8], _: u64) -> bool {
+    fn matches_at(self, _: &Probe, _: &[u8], _: u64) -> bool {
         true
     }
 
@@ -105,7 +105,7 @@ impl RelocationName for Probe {
 }
 
 /// What a bit of a mask of facts asks for: statements, each with how it is said.
-fn asked_for(bit: u32) -> Vec<&'static str> {
+fn has_pattern(bit: u32) -> Vec<&'static str> {
     let entry = Probe { is_entry: true };
     let table: &'static [_] = Box::leak(Box::new([ChoiceEntry {
         originals: entry,
@@ -138,7 +138,7 @@ fn asked_for(bit: u32) -> Vec<&'static str> {
 /// The same, found once.
 fn said_of(bit: u32) -> &'static [&'static str] {
     static SAID: [OnceLock<Vec<&str>>; 32] = [const { OnceLock::new() }; 32];
-    SAID[bit.trailing_zeros() as usize].get_or_init(|| asked_for(bit))
+    SAID[bit.trailing_zeros() as usize].get_or_init(|| has_pattern(bit))
 }
 
 // ---- Conditions, instructions and entries.
@@ -176,7 +176,7 @@ fn instructions(architecture: Architecture, originals: &str) -> String {
     match (architecture, name, &numbers[..]) {
         (_, "OfRewrite", []) => String::new(),
         (Architecture::AArch64, "AdrpOfPair", []) => "`adrp xN` before `ldr xN, [xN]`".into(),
-        (Architecture::AArch64, "LdrOfPair", []) => "`ldr xN, [xN]` behind `adrp xN`".into(),
+        (Architecture::AArch64, "LdrOfPair", []) => "`ldr xN, [xN]` after `adrp xN`".into(),
         (Architecture::AArch64, "OfDescriptor", [at]) => {
             format!("`{}` of a TLS descriptor's sequence", ["adrp", "ldr", "add", "blr"][at / 4])
         }
@@ -191,9 +191,9 @@ fn instructions(architecture: Architecture, originals: &str) -> String {
             "any but an integer store of its own base".into()
         }
         (Architecture::LoongArch64, "Load", [0]) => "`pcalau12i rd` before `ld.d rd, rd`".into(),
-        (Architecture::LoongArch64, "Load", [4]) => "`ld.d rd, rd` behind `pcalau12i rd`".into(),
+        (Architecture::LoongArch64, "Load", [4]) => "`ld.d rd, rd` after `pcalau12i rd`".into(),
         (Architecture::LoongArch64, "Sum", [0]) => "`pcalau12i rd` before `addi.d rd, rd`".into(),
-        (Architecture::LoongArch64, "Sum", [4]) => "`addi.d rd, rd` behind `pcalau12i rd`".into(),
+        (Architecture::LoongArch64, "Sum", [4]) => "`addi.d rd, rd` after `pcalau12i rd`".into(),
         (Architecture::LoongArch64, "Pcalau12i", []) => "`pcalau12i`".into(),
         (Architecture::LoongArch64, "Ld", []) => "`ld.d`".into(),
         (Architecture::LoongArch64, "PageOfDescriptor", []) => "`pcalau12i a0`".into(),
@@ -236,7 +236,7 @@ fn effects(architecture: Architecture, kind: Relaxation) -> [String; 3] {
     [written, deleted, others.join(", ")]
 }
 
-/// The words of an entry behind its relocation and the opcodes, and the relocations of its
+/// The words of an entry after its relocation and the opcodes, and the relocations of its
 /// conditions.
 fn describe<O: Debug, K: Copy + Debug, R: Copy + Debug>(
     architecture: Architecture,

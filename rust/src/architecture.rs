@@ -295,7 +295,7 @@ impl Architecture {
     /// let call = [0xff, 0x15, 0, 0, 0, 0];
     /// let facts = LinkFacts {
     ///     is_local: true,
-    ///     has_fixed_distance: true,
+    ///     is_pcrel_link_time_constant: true,
     ///     operands: Operands { addend: -4, ..Operands::default() },
     ///     ..LinkFacts::default()
     /// };

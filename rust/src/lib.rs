@@ -60,7 +60,7 @@ pub mod link_in_ten_calls {
     use crate::output::{LazyPlt, Target, static_words};
     use crate::placement::place_stubs;
     use crate::rewriting::{
-        keep_facts, relocate_rewritten_section, rewrite_placed_section, rewrite_section, survey,
+        snapshot_facts, relocate_rewritten_section, rewrite_placed_section, rewrite_section, survey,
         survey_placed_section,
     };
     use crate::runs::{items::rewritten_items_into, packing::pack_run, relaxation::relax};
@@ -116,18 +116,20 @@ pub mod rewriting {
     pub use crate::linker_rewriting::facts::{OutputFacts, SymbolFacts};
     #[cfg(feature = "riscv64")]
     pub use crate::linker_rewriting::global_pointer::{
-        GPREL_I, GPREL_S, from_global_pointer, rewrite_global_pointer, survey_global_pointer,
+        GPREL_I, GPREL_S, finish_gp_relaxation, rewrite_global_pointer, survey_global_pointer,
     };
     pub use crate::linker_rewriting::groups::{
-        Group, KeptGroups, Scope, has_rewrites, scope_in, scope_of,
+        Group, UnrelaxableGroups, Scope, has_rewrites, scope_in, scope_of,
     };
     pub use crate::linker_rewriting::kept::{
-        KeptFacts, WritingError, first_changed, keep_facts, relocate_rewritten_section,
+        FactsSnapshot, WritingError, first_changed, snapshot_facts, relocate_rewritten_section,
     };
     pub use crate::linker_rewriting::phases::Phase;
+    #[cfg(feature = "riscv64")]
     pub use crate::linker_rewriting::sections::{rewrite_placed_section, rewrite_section};
     pub use crate::linker_rewriting::surveys::{survey, survey_placed_section};
-    pub use crate::linker_rewriting::words::{rewrite_address_loads, survey_address_loads};
+    #[cfg(feature = "riscv64")]
+    pub use crate::linker_rewriting::toc_indirection::{rewrite_toc_loads, survey_toc_loads};
 }
 
 pub mod output {
@@ -139,7 +141,7 @@ pub mod output {
         GotHeader, GotLayout, Origins, ThreadPointer, entry_words, static_words,
     };
     pub use crate::linker_output::layout::{
-        CodeUnit, Interpreter, ProvidedRun, ProvidedSymbol, RunWord, SymbolPlace,
+        CodeUnit, Interpreter, SaveRestoreRoutines, ProvidedSymbol, RunWord, SymbolPlace,
     };
     pub use crate::linker_output::lazy_plt::{
         LazyEntry, LazyField, LazyPiece, LazyPlt, LazyTarget, LazyWord,

@@ -14,10 +14,11 @@ pub mod facts;
 pub mod global_pointer;
 pub mod groups;
 pub mod kept;
-mod labels;
 pub mod phases;
 mod relocations;
+#[cfg(feature = "riscv64")]
+mod riscv_pcrel_groups;
 pub mod sections;
 mod sequences;
 pub mod surveys;
-pub mod words;
+pub mod toc_indirection;

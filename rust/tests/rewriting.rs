@@ -5,11 +5,11 @@
 use linker_utils::elf::Architecture::{self, AArch64, LoongArch64, Ppc64, RiscV, X86_64};
 use linker_utils::relaxation::AsDeletion;
 use linker_utils::rewriting::{
-    AsDecision, Decision, FromDeletion, GPREL_I, GPREL_S, Group, KeptFacts, KeptGroups,
+    AsDecision, Decision, FromDeletion, GPREL_I, GPREL_S, Group, FactsSnapshot, UnrelaxableGroups,
     OutputFacts, Phase, RewritingError, Scope, SymbolFacts, WritingError, first_changed,
-    from_global_pointer, has_rewrites, keep_facts, relocate_rewritten_section,
-    rewrite_address_loads, rewrite_global_pointer, rewrite_placed_section, rewrite_section,
-    scope_in, scope_of, survey, survey_address_loads, survey_global_pointer, survey_placed_section,
+    finish_gp_relaxation, has_rewrites, snapshot_facts, relocate_rewritten_section,
+    rewrite_toc_loads, rewrite_global_pointer, rewrite_placed_section, rewrite_section,
+    scope_in, scope_of, survey, survey_toc_loads, survey_global_pointer, survey_placed_section,
 };
 use linker_utils::section::{Addresses, Rela, Symbol, relocate_section, relocation_at};
 
@@ -80,7 +80,7 @@ fn rewritten_in(
     symbols: &[SymbolFacts],
     sections: &[&Section],
 ) -> Vec<(Section, Vec<Decision>)> {
-    let mut kept = [KeptGroups::default(); 5];
+    let mut kept = [UnrelaxableGroups::default(); 5];
     for it in sections {
         let entries = bytes_of(&it.relocations);
         survey(
@@ -208,7 +208,7 @@ fn loads_from_the_got_are_rewritten_alone() {
 
 #[test]
 fn what_has_evex_is_no_mov() {
-    // vpcompressd %zmm0, x@GOTPCREL(%rip), which ld.lld 19 leaves, and behind it
+    // vpcompressd %zmm0, x@GOTPCREL(%rip), which ld.lld 19 leaves, and after it
     // mov x@GOTPCREL(%rip), %rax
     let evex = [0x62, 0xf2, 0x7d, 0x48, 0x8b, 0x05, 0, 0, 0, 0];
     let mov = [0x48, 0x8b, 0x05, 0, 0, 0, 0];
@@ -357,7 +357,7 @@ fn what_is_taken_along_is_not_rewritten() {
         made[0].0.bytes,
         words(&[0x6000_0000, 0x3c6d_0000, 0x6000_0000, 0x3863_0000])
     );
-    assert_eq!(made[0].1[3], Decision::TakenAlong);
+    assert_eq!(made[0].1[3], Decision::Consumed);
     assert_eq!(made[0].0.relocations[3].code, 0);
     // Where the group stays, the call of an imported function is rewritten: its nop restores the TOC
     // pointer, ld 2,24(1).
@@ -407,7 +407,7 @@ fn prefixed_general_dynamic_needs_no_call() {
         assert_eq!(made[0].0.relocations[0], rela(0, code, symbol, 0));
         assert_eq!(made[0].0.relocations[1].code, 0);
         assert_eq!(made[0].0.relocations[2].code, 0);
-        assert_eq!(made[0].1[2], Decision::TakenAlong);
+        assert_eq!(made[0].1[2], Decision::Consumed);
     }
 }
 
@@ -653,7 +653,7 @@ fn calls_of_ppc64_restore_the_toc_pointer_where_it_may_change() {
 }
 
 /// Rewrites a section by a table of groups that stay. What comes of an error is as it was.
-fn error_of(section: &Section, kept: &[KeptGroups], room: usize) -> RewritingError {
+fn error_of(section: &Section, kept: &[UnrelaxableGroups], room: usize) -> RewritingError {
     let entries = bytes_of(&section.relocations);
     let (mut entries_after, mut bytes_after) = (entries.clone(), section.bytes.clone());
     let error = rewrite_section(
@@ -696,7 +696,7 @@ fn rewritten_alone(section: &Section) -> (Result<(), RewritingError>, Vec<Decisi
         X86_64,
         &EXECUTABLE,
         &symbols(),
-        &[KeptGroups::default(); 5],
+        &[UnrelaxableGroups::default(); 5],
         &mut entries,
         &mut bytes,
         &mut decisions,
@@ -779,7 +779,7 @@ fn on_errors_nothing_is_changed() {
         section.relocations.extend(relocations);
         section
     };
-    let kept = [KeptGroups::default(); 5];
+    let kept = [UnrelaxableGroups::default(); 5];
     let one = with(&[], &[]);
     assert_eq!(error_of(&one, &kept, 0), RewritingError::TooShort);
     // a nop isn't a call by a descriptor, and nobody has noted that
@@ -800,7 +800,7 @@ fn groups_stay_where_tables_are_too_short() {
     let mut entries = bytes_of(&section.relocations);
     let mut bytes = section.bytes.clone();
     survey(X86_64, &EXECUTABLE, &symbols(), &entries, &bytes, &mut []);
-    let mut decisions = [Decision::TakenAlong; 2];
+    let mut decisions = [Decision::Consumed; 2];
     rewrite_section(
         X86_64,
         &EXECUTABLE,
@@ -820,12 +820,12 @@ fn groups_stay_where_tables_are_too_short() {
 
 #[test]
 fn scopes_are_those_of_the_relocation() {
-    assert_eq!(scope_of(X86_64, 19), Scope::Alone);
+    assert_eq!(scope_of(X86_64, 19), Scope::Independent);
     assert_eq!(scope_of(X86_64, 34), Scope::Grouped(Group::Descriptor));
     assert_eq!(scope_of(Ppc64, 67), Scope::Grouped(Group::InitialExec));
-    assert_eq!(scope_of(Ppc64, 11), Scope::Unlisted);
-    assert_eq!(scope_of(RiscV, 62), Scope::Unlisted);
-    assert_eq!(scope_of(LoongArch64, u32::MAX), Scope::Unlisted);
+    assert_eq!(scope_of(Ppc64, 11), Scope::NotRelaxable);
+    assert_eq!(scope_of(RiscV, 62), Scope::NotRelaxable);
+    assert_eq!(scope_of(LoongArch64, u32::MAX), Scope::NotRelaxable);
 }
 
 #[test]
@@ -957,7 +957,7 @@ fn placed(
     sections: &[&Section],
 ) -> Vec<(Section, Vec<(u64, u32)>)> {
     let symbols = symbols();
-    let mut kept = [KeptGroups::default(); 5];
+    let mut kept = [UnrelaxableGroups::default(); 5];
     for it in sections {
         survey_placed_section(
             architecture,
@@ -1050,7 +1050,7 @@ fn loads_of_aarch64_become_addresses() {
     let values = values(0x401e4, 0);
     let loads = placed(
         AArch64,
-        Phase::GotLoads,
+        Phase::GotToPcRel,
         &addresses,
         &values,
         &[&loads_and_pages()],
@@ -1064,7 +1064,7 @@ fn loads_of_aarch64_become_addresses() {
     // the words of ld.lld 19 at the same addresses: nop; adr x0, x; nop; adr x1, x
     let near = placed(
         AArch64,
-        Phase::Distances,
+        Phase::ShortPcRel,
         &addresses,
         &values,
         &[&loads[0].0],
@@ -1076,7 +1076,7 @@ fn loads_of_aarch64_become_addresses() {
     assert_eq!(near[0].0.relocations[0].code, 0);
     // an adr reaches 1 MiB
     let far = self::values(0x201c8 + 0x10_0004, 0);
-    let near = placed(AArch64, Phase::Distances, &addresses, &far, &[&loads[0].0]);
+    let near = placed(AArch64, Phase::ShortPcRel, &addresses, &far, &[&loads[0].0]);
     let codes: Vec<_> = near[0].0.relocations.iter().map(|it| it.code).collect();
     assert_eq!(codes, [275, 277, 0, 274]);
 }
@@ -1088,7 +1088,7 @@ fn pairs_of_aarch64_are_whole() {
         ..Addresses::default()
     };
     let values = values(0x401e4, 0x401f0);
-    let phases = [(Phase::GotLoads, 0), (Phase::Distances, 2)];
+    let phases = [(Phase::GotToPcRel, 0), (Phase::ShortPcRel, 2)];
     let unchanged = |phase, section: &Section| {
         let made = placed(AArch64, phase, &addresses, &values, &[section]);
         assert_eq!(made[0].0.bytes, section.bytes);
@@ -1111,10 +1111,10 @@ fn pairs_of_aarch64_are_whole() {
     let mut lone = loads_and_pages();
     lone.bytes.extend(0xf940_0000_u32.to_le_bytes());
     lone.relocations.push(rela(16, 312, 1, 0));
-    unchanged(Phase::GotLoads, &lone);
+    unchanged(Phase::GotToPcRel, &lone);
     // and none of another symbol
     lone.relocations[4].symbol = 3;
-    let made = placed(AArch64, Phase::GotLoads, &addresses, &values, &[&lone]);
+    let made = placed(AArch64, Phase::GotToPcRel, &addresses, &values, &[&lone]);
     assert_eq!(made[0].0.relocations[1].code, 277);
     assert_eq!(made[0].0.relocations[4].code, 312);
 }
@@ -1141,7 +1141,7 @@ fn a_field_in_what_is_deleted_is_an_error() {
         let mut entries = bytes_of(&section.relocations);
         let result = rewrite_placed_section(
             RiscV,
-            Phase::ThreadOffsets,
+            Phase::TlsLocalExec,
             &EXECUTABLE,
             &symbols(),
             &Addresses {
@@ -1149,7 +1149,7 @@ fn a_field_in_what_is_deleted_is_an_error() {
                 ..Addresses::default()
             },
             &values(0x1008, 0),
-            &[KeptGroups::default(); 5],
+            &[UnrelaxableGroups::default(); 5],
             &mut entries,
             &mut section.bytes,
             &mut [Decision::Kept; 9],
@@ -1175,7 +1175,7 @@ fn short_thread_offsets_of_riscv_lose_their_high_part() {
         ..Addresses::default()
     };
     let near = values(0x1008, 0x17ff);
-    let phase = Phase::ThreadOffsets;
+    let phase = Phase::TlsLocalExec;
     let made = placed(RiscV, phase, &addresses, &near, &[&thread_offset(1)]);
     assert_eq!(made[0].1, [(0, 4), (4, 4)]);
     // the words of ld.lld 19: lw a1, 8(tp); sw a1, 8(tp)
@@ -1239,7 +1239,7 @@ fn short_thread_offsets_of_loongarch_lose_their_high_part() {
     let values = values(0x1008, 0);
     let made = placed(
         LoongArch64,
-        Phase::ThreadOffsets,
+        Phase::TlsLocalExec,
         &addresses,
         &values,
         &[&section],
@@ -1261,7 +1261,7 @@ fn stores_of_their_own_base_keep_its_high_part() {
     };
     let values = values(0x8008, 0);
     let made = |architecture, section: &Section| {
-        let phase = Phase::ThreadOffsets;
+        let phase = Phase::TlsLocalExec;
         let made = placed(architecture, phase, &addresses, &values, &[section]);
         let deletes = !made[0].1.is_empty();
         assert_eq!(deletes, made[0].0.bytes != section.bytes);
@@ -1316,7 +1316,7 @@ fn stores_of_their_own_base_keep_the_high_part_of_ppc64() {
     };
     let values = values(0x1008, 0);
     for (store, stays) in [(0xf929_0000, true), (0xf869_0000, false)] {
-        let phase = Phase::ThreadOffsets;
+        let phase = Phase::TlsLocalExec;
         let made = placed(Ppc64, phase, &addresses, &values, &[&section(store)]);
         assert_eq!(made[0].0.bytes == section(store).bytes, stays, "{store:x}");
     }
@@ -1335,7 +1335,7 @@ fn short_thread_offsets_of_ppc64_lose_their_high_part() {
         ..Addresses::default()
     };
     let values = values(0x1008, 0);
-    let phase = Phase::ThreadOffsets;
+    let phase = Phase::TlsLocalExec;
     let made = placed(Ppc64, phase, &addresses, &values, &[&section(0x3889_0000)]);
     // the words of GNU ld: nop; lwz 3,-28664(13); addi 4,13,-28664
     assert_eq!(
@@ -1386,7 +1386,7 @@ fn two_phases_rewrite_what_general_dynamic_of_ppc64_became() {
         ..Addresses::default()
     };
     let values = values(0x1008, 0);
-    let phase = Phase::ThreadOffsets;
+    let phase = Phase::TlsLocalExec;
     let made = placed(Ppc64, phase, &addresses, &values, &[&between[0].0]);
     // the words of GNU ld, which has those of a call the other way round
     assert_eq!(
@@ -1418,12 +1418,12 @@ fn deletions_need_room() {
         let mut bytes = section.bytes.clone();
         let rewritten = rewrite_placed_section(
             RiscV,
-            Phase::ThreadOffsets,
+            Phase::TlsLocalExec,
             &EXECUTABLE,
             &symbols(),
             &addresses,
             &values(0x1008, 0),
-            &[KeptGroups::default(); 5],
+            &[UnrelaxableGroups::default(); 5],
             &mut entries,
             &mut bytes,
             &mut [Decision::Kept; 8],
@@ -1483,12 +1483,12 @@ fn decisions_and_deletions_may_be_the_callers_own() {
     }; 3];
     let rewritten = rewrite_placed_section(
         RiscV,
-        Phase::ThreadOffsets,
+        Phase::TlsLocalExec,
         &EXECUTABLE,
         &symbols(),
         &addresses,
         &values(0x1008, 0),
-        &[KeptGroups::default(); 5],
+        &[UnrelaxableGroups::default(); 5],
         &mut entries,
         &mut bytes,
         &mut made,
@@ -1509,7 +1509,7 @@ fn decisions_and_deletions_may_be_the_callers_own() {
     );
     let (expected, _) = &placed(
         RiscV,
-        Phase::ThreadOffsets,
+        Phase::TlsLocalExec,
         &addresses,
         &values(0x1008, 0),
         &[&section],
@@ -1544,7 +1544,7 @@ fn short_distances_of_ppc64_lose_their_high_part() {
         ..Addresses::default()
     };
     let values = values(0x1002_0000, 0x1001_feff);
-    let phase = Phase::Distances;
+    let phase = Phase::ShortPcRel;
     let made = placed(Ppc64, phase, &addresses, &values, &[&section(1)]);
     // the words of GNU ld at the same addresses: nop; addi 3,2,-32512; nop; lwz 5,-32512(2); nop;
     // ld 7,-32512(2)
@@ -1583,14 +1583,14 @@ fn short_distances_of_ppc64_lose_their_high_part() {
 #[test]
 fn phases_without_rewrites_list_no_relocation() {
     let phases = [
-        Phase::Early,
-        Phase::ThreadOffsets,
-        Phase::GotLoads,
-        Phase::Distances,
+        Phase::PreLayout,
+        Phase::TlsLocalExec,
+        Phase::GotToPcRel,
+        Phase::ShortPcRel,
     ];
     for architecture in [AArch64, RiscV, LoongArch64, Ppc64, X86_64] {
         for phase in phases {
-            let is_listed = |code| scope_in(architecture, phase, code) != Scope::Unlisted;
+            let is_listed = |code| scope_in(architecture, phase, code) != Scope::NotRelaxable;
             assert_eq!(has_rewrites(architecture, phase), (0..2048).any(is_listed));
         }
     }
@@ -1614,7 +1614,7 @@ fn load_by_label() -> Section {
 fn loads_of_one_label_become_sums() {
     let addresses = Addresses::default();
     let values = values(0x1008, 0);
-    let phase = Phase::GotLoads;
+    let phase = Phase::GotToPcRel;
     let made = placed(RiscV, phase, &addresses, &values, &[&load_by_label()]);
     assert_eq!(made[0].1, []);
     // auipc a0, 1; addi a0, a0, 8
@@ -1664,7 +1664,7 @@ fn labels_of_one_symbol_are_apart() {
     values[4].address = 8;
     let made = placed(
         RiscV,
-        Phase::GotLoads,
+        Phase::GotToPcRel,
         &Addresses::default(),
         &values,
         &[&two],
@@ -1693,7 +1693,7 @@ fn descriptors_of_riscv_become_offsets() {
         ..Addresses::default()
     };
     let mark = [rela(0, 51, 0, 0)];
-    let phase = Phase::ThreadOffsets;
+    let phase = Phase::TlsLocalExec;
     // addi a0, zero, 8, and without a mark three nops before it
     let near = values(0x1008, 0);
     let made = placed(RiscV, phase, &addresses, &near, &[&section(&mark)]);
@@ -1726,7 +1726,7 @@ fn descriptors_of_riscv_become_offsets() {
 }
 
 #[test]
-fn values_are_written_where_the_kept_facts_still_hold() {
+fn values_are_written_where_the_facts_snapshot_still_hold() {
     // addr32 call x, which was call *x@GOTPCREL(%rip)
     let call = [0x67, 0xe8, 0, 0, 0, 0];
     let entries = bytes_of(&[rela(2, 2, 1, -4)]);
@@ -1735,7 +1735,7 @@ fn values_are_written_where_the_kept_facts_still_hold() {
         ..Addresses::default()
     };
     let values = values(0x2000, 0);
-    let written = |kept: &[KeptFacts], output: &OutputFacts, facts: &[SymbolFacts]| {
+    let written = |kept: &[FactsSnapshot], output: &OutputFacts, facts: &[SymbolFacts]| {
         let mut section = call;
         let mut values = values;
         for (value, known) in values.iter_mut().zip(facts) {
@@ -1755,10 +1755,10 @@ fn values_are_written_where_the_kept_facts_still_hold() {
         (result, section)
     };
     let facts = symbols();
-    let mut kept = [KeptFacts::default(); 5];
+    let mut kept = [FactsSnapshot::default(); 5];
     let changed = (Err(WritingError::Changed(0)), call);
     assert_eq!(written(&kept, &EXECUTABLE, &facts), changed);
-    keep_facts(&EXECUTABLE, &facts, &mut kept);
+    snapshot_facts(&EXECUTABLE, &facts, &mut kept);
     // 0x2000 - 0x1006
     let done = (Ok(()), [0x67, 0xe8, 0xfa, 0x0f, 0, 0]);
     assert_eq!(written(&kept, &EXECUTABLE, &facts), done);
@@ -1869,7 +1869,7 @@ fn with_addresses(
 ) -> ([bool; 2], Section, Vec<Decision>) {
     let mut entries = bytes_of(&section.relocations);
     let mut kept = [false; 2];
-    survey_address_loads(
+    survey_toc_loads(
         architecture,
         &EXECUTABLE,
         &symbols(),
@@ -1884,7 +1884,7 @@ fn with_addresses(
     .unwrap();
     let mut bytes = section.bytes.clone();
     let mut decisions = vec![Decision::Kept; section.relocations.len()];
-    rewrite_address_loads(
+    rewrite_toc_loads(
         architecture,
         &EXECUTABLE,
         &symbols(),
@@ -1912,7 +1912,7 @@ fn all_loads_of_a_word_compute_its_address() {
     assert!(
         decisions
             .iter()
-            .all(|it| matches!(it, Decision::Redirected(..)))
+            .all(|it| matches!(it, Decision::RewrittenWithSymbol(..)))
     );
     // each `ld` becomes an `addi`, and the relocations are those of the words
     let code = [
@@ -2002,7 +2002,7 @@ fn loads_that_were_not_surveyed_are_an_error() {
     let given = bytes_of(&section.relocations);
     let (mut entries, mut bytes) = (given.clone(), section.bytes.clone());
     let mut rewrite = |decisions: &mut [Decision]| {
-        rewrite_address_loads(
+        rewrite_toc_loads(
             Ppc64,
             &EXECUTABLE,
             &symbols(),
@@ -2106,7 +2106,7 @@ fn high_parts_near_the_global_pointer_go() {
     // lw a1, 5(gp), with a value of 5, as ld.lld --relax-gp writes it
     let mut bytes = code[4..8].to_vec();
     let none = Addresses::default();
-    from_global_pointer(&none, &values, GLOBAL_POINTER, &mut low, &mut bytes).unwrap();
+    finish_gp_relaxation(&none, &values, GLOBAL_POINTER, &mut low, &mut bytes).unwrap();
     assert_eq!(bytes, words(&[0x0001_a583]));
     let addend = GLOBAL_POINTER.wrapping_neg() as i64;
     assert_eq!(low, bytes_of(&[rela(0, 27, 1, addend)]));
@@ -2223,8 +2223,8 @@ fn with_both(facts: &[SymbolFacts; 4], values: &[Symbol; 4]) -> [Option<usize>; 
     let entries = marked(&[(0, 26, 1, true), (4, 27, 1, true)]);
     let word = bytes_of(&[rela(0, ADDR64, 2, 0)]);
     let (mut kept, mut symbols_kept, mut words_kept) =
-        ([KeptGroups::default(); 4], [false; 4], [false; 1]);
-    let (start, gp, phase) = (0x8000, GLOBAL_POINTER, Phase::GotLoads);
+        ([UnrelaxableGroups::default(); 4], [false; 4], [false; 1]);
+    let (start, gp, phase) = (0x8000, GLOBAL_POINTER, Phase::GotToPcRel);
     let surveys = [
         survey_placed_section(
             RiscV,
@@ -2237,7 +2237,7 @@ fn with_both(facts: &[SymbolFacts; 4], values: &[Symbol; 4]) -> [Option<usize>; 
             &code,
             &mut kept,
         ),
-        survey_address_loads(
+        survey_toc_loads(
             RiscV,
             &EXECUTABLE,
             facts,
@@ -2262,7 +2262,7 @@ fn with_both(facts: &[SymbolFacts; 4], values: &[Symbol; 4]) -> [Option<usize>; 
         ),
     ];
     let noted = (kept, symbols_kept, words_kept);
-    assert!(surveys[0].is_ok() || noted == ([KeptGroups::default(); 4], [false; 4], [false]));
+    assert!(surveys[0].is_ok() || noted == ([UnrelaxableGroups::default(); 4], [false; 4], [false]));
     let (mut after, mut bytes) = (entries.clone(), code.clone());
     let (mut decisions, mut deleted) = ([Decision::Kept; 4], [(0, 0); 4]);
     let placed = rewrite_placed_section(
@@ -2278,7 +2278,7 @@ fn with_both(facts: &[SymbolFacts; 4], values: &[Symbol; 4]) -> [Option<usize>; 
         &mut decisions,
         &mut deleted,
     );
-    let loads = rewrite_address_loads(
+    let loads = rewrite_toc_loads(
         RiscV,
         &EXECUTABLE,
         facts,
@@ -2306,13 +2306,13 @@ fn with_both(facts: &[SymbolFacts; 4], values: &[Symbol; 4]) -> [Option<usize>; 
         &mut deleted,
     );
     assert!(near.is_ok() || turned == entries);
-    let mut kept_facts = [KeptFacts::default(); 4];
-    keep_facts(&EXECUTABLE, facts, &mut kept_facts);
+    let mut facts_snapshot = [FactsSnapshot::default(); 4];
+    snapshot_facts(&EXECUTABLE, facts, &mut facts_snapshot);
     let written = relocate_rewritten_section(
         RiscV,
         &EXECUTABLE,
         facts,
-        &kept_facts,
+        &facts_snapshot,
         &addresses,
         &entries,
         values,
@@ -2405,8 +2405,8 @@ fn calls_of_other_files_on_ppc64_go_by_a_stub() {
         ..Addresses::default()
     };
     let written = |architecture, code, facts: SymbolFacts, value: Symbol| {
-        let (facts, mut kept) = ([SymbolFacts::default(), facts], [KeptFacts::default(); 2]);
-        keep_facts(&EXECUTABLE, &facts, &mut kept);
+        let (facts, mut kept) = ([SymbolFacts::default(), facts], [FactsSnapshot::default(); 2]);
+        snapshot_facts(&EXECUTABLE, &facts, &mut kept);
         let mut section = words(&[0x4800_0001, 0xe841_0018]);
         let before = section.clone();
         let result = relocate_rewritten_section(

@@ -813,7 +813,7 @@ fn fields_that_overlap_have_to_compose() {
         ),
         ("by one byte", X86_64, vec![(1, 0), (1, 7)], overlaps(1)),
         (
-            "by one byte, behind",
+            "by one byte, after",
             X86_64,
             vec![(1, 7), (1, 0)],
             overlaps(1),
@@ -873,7 +873,7 @@ fn fields_that_overlap_have_to_compose() {
         // R_RISCV_SET_ULEB128 60, SUB_ULEB128 61; numbers of one byte, at 1 of two
         ("a pair", RiscV, vec![(60, 0), (61, 0)], Ok(())),
         (
-            "a pair behind",
+            "a pair after",
             RiscV,
             vec![(35, 4), (39, 4), (60, 0), (61, 0)],
             Ok(()),
@@ -885,7 +885,7 @@ fn fields_that_overlap_have_to_compose() {
             overlaps(2),
         ),
         (
-            "a byte behind a number",
+            "a byte after a number",
             RiscV,
             vec![(60, 1), (61, 1), (33, 3)],
             Ok(()),

@@ -12,7 +12,7 @@ RUST, HEADER = "rust/doc/lib.md", "include/linker_utils.h"
 MARKS = {RUST: ("<!-- of docs/MANUAL.md, by tools/generate -->", "<!-- end -->"),
          HEADER: (" * Examples, of docs/MANUAL.md by tools/generate; each goes on from those before it:", " * End of the examples.")}
 PART = re.compile(r"(.*?)\n\n(.*?)```rust\n(.*?)```\n\n(?:[^`].*?\n\n)?```c\n(.*?)```\n", re.S)
-MOST = 7  # lines of an example
+MOST = 8  # lines of an example
 PAGE, RUST_PAGE = "docs/LINK.md", "rust/doc/link_in_ten_calls.md"
 # by the language of a block of the page: the file, and how the line with its function begins
 FUNCTIONS = {"rust": ("rust/examples/link_in_ten_calls.rs", "fn link("),

@@ -109,7 +109,7 @@ static void entries_are_named() {
     vector loads = {0x48, 0x8b, 0x05, 0, 0, 0, 0};
     std::vector<Elf64_Rela> relas(2, {3, ELF64_R_INFO(UINT64_C(1), R_X86_64_GOTTPOFF), -4});
     std::vector<linker_utils_symbol_facts> symbols(2);
-    std::vector<linker_utils_kept_groups> kept(2);
+    std::vector<linker_utils_unrelaxable_groups> kept(2);
     std::vector<linker_utils_decision> decisions(2);
     symbols[1].is_local = true;
     linker_utils_link link{};

@@ -959,8 +959,8 @@ static const struct linker_utils_section *relocated(const struct buffer *bytes,
 #define SLICE(field, buffer, type) .field = (buffer)->given, .field##_len = LEN(buffer, type)
 #define VALUES(buffer) SLICE(values, buffer, struct linker_utils_symbol)
 #define FACTS(buffer) SLICE(facts, buffer, struct linker_utils_symbol_facts)
-#define GROUPS(buffer) SLICE(kept_groups, buffer, struct linker_utils_kept_groups)
-#define KEPT_FACTS(buffer) SLICE(kept_facts, buffer, struct linker_utils_kept_facts)
+#define GROUPS(buffer) SLICE(unrelaxable_groups, buffer, struct linker_utils_unrelaxable_groups)
+#define FACTS_SNAPSHOT(buffer) SLICE(facts_snapshot, buffer, struct linker_utils_facts_snapshot)
 #define HIGH_PARTS(buffer) SLICE(kept_high_parts, buffer, bool)
 
 #define NO_VALUE_AT NO_RELOCATION OR(NO_SYMBOL) OR(NO_ENTRY) OR(NO_TLS_BASE) OR(NO_HIGH_PART)
@@ -1017,11 +1017,11 @@ static struct buffer *symbol_facts(size_t count) {
     return buffer;
 }
 
-static struct buffer *kept_groups(enum use use, size_t count) {
-    struct buffer *buffer = place(use, count, sizeof(struct linker_utils_kept_groups));
-    struct linker_utils_kept_groups *at = filled(buffer);
+static struct buffer *unrelaxable_groups(enum use use, size_t count) {
+    struct buffer *buffer = place(use, count, sizeof(struct linker_utils_unrelaxable_groups));
+    struct linker_utils_unrelaxable_groups *at = filled(buffer);
     for (size_t i = 0; i < count; i++)
-        at[i] = (struct linker_utils_kept_groups){
+        at[i] = (struct linker_utils_unrelaxable_groups){
             .initial_exec = once_in(4), .general_dynamic = once_in(4), .local_dynamic = once_in(4),
             .descriptor = once_in(4), .got_load = once_in(4)};
     return buffer;
@@ -1031,7 +1031,7 @@ static void call_survey(void) {
     uint16_t machine = any_machine();
     struct buffer *section = bytes(READ, any_section_len());
     struct buffer *known = symbol_facts(any_len(8));
-    struct buffer *kept = kept_groups(WRITTEN, any_len(8));
+    struct buffer *kept = unrelaxable_groups(WRITTEN, any_len(8));
     size_t symbols_len = LEN(known, struct linker_utils_symbol_facts);
     struct buffer *given = relocations(READ, machine, section->len, symbols_len);
     const struct linker_utils_link *link = any_link(machine);
@@ -1044,29 +1044,29 @@ static void call_survey(void) {
     finish_with(status, 0 OR(UNKNOWN_ARCHITECTURE));
 }
 
-static void call_keep_facts(void) {
+static void call_snapshot_facts(void) {
     struct buffer *known = symbol_facts(any_len(8));
     size_t symbols_len = LEN(known, struct linker_utils_symbol_facts);
     size_t count = once_in(8) ? any_len(8) : symbols_len;
-    struct buffer *kept = place(WRITTEN, count, sizeof(struct linker_utils_kept_facts));
+    struct buffer *kept = place(WRITTEN, count, sizeof(struct linker_utils_facts_snapshot));
     const struct linker_utils_link *link = any_link(any_machine());
-    const struct linker_utils_object *object = INPUT(object, FACTS(known), KEPT_FACTS(kept));
-    uint32_t status = CALL(keep_facts, link, object);
+    const struct linker_utils_object *object = INPUT(object, FACTS(known), FACTS_SNAPSHOT(kept));
+    uint32_t status = CALL(snapshot_facts, link, object);
     expect((status == LINKER_UTILS_OK) == (count == symbols_len), "other lengths");
-    const struct linker_utils_kept_facts *now = filled(kept);
+    const struct linker_utils_facts_snapshot *now = filled(kept);
     for (size_t i = 0; i < count && status == LINKER_UTILS_OK; i++)
         expect(now[i].bits >> 15 == 1, "nothing is kept");
     finish_with(status, 0 OR(DIFFERENT_LENGTHS));
 }
 
 /* What is kept of an object's symbols, sometimes of others or of fewer. */
-static struct buffer *kept_facts(const struct linker_utils_link *link, struct buffer *known) {
+static struct buffer *facts_snapshot(const struct linker_utils_link *link, struct buffer *known) {
     size_t count = LEN(known, struct linker_utils_symbol_facts);
-    struct buffer *buffer = place(READ, count, sizeof(struct linker_utils_kept_facts));
-    struct linker_utils_kept_facts *at = filled(buffer);
-    const struct linker_utils_object object = {FACTS(known), .kept_facts = at,
-                                               .kept_facts_len = count};
-    expect(linker_utils_keep_facts(link, &object) == 0, "nothing is kept");
+    struct buffer *buffer = place(READ, count, sizeof(struct linker_utils_facts_snapshot));
+    struct linker_utils_facts_snapshot *at = filled(buffer);
+    const struct linker_utils_object object = {FACTS(known), .facts_snapshot = at,
+                                               .facts_snapshot_len = count};
+    expect(linker_utils_snapshot_facts(link, &object) == 0, "nothing is kept");
     for (size_t i = 0; i < count; i++)
         if (once_in(64)) at[i].bits = (uint16_t)any_number();
     return buffer;
@@ -1084,10 +1084,10 @@ static void call_relocate_rewritten_section(void) {
     size_t symbols_len = LEN(known, struct linker_utils_symbol);
     struct buffer *facts = symbol_facts(once_in(8) ? any_len(8) : symbols_len);
     const struct linker_utils_link *link = any_link(machine);
-    struct buffer *kept = kept_facts(link, facts);
+    struct buffer *kept = facts_snapshot(link, facts);
     struct buffer *given = relocations(READ, machine, section->len, symbols_len);
     const struct linker_utils_object *object =
-        INPUT(object, FACTS(facts), VALUES(known), KEPT_FACTS(kept));
+        INPUT(object, FACTS(facts), VALUES(known), FACTS_SNAPSHOT(kept));
     const struct linker_utils_section *in = relocated(section, given);
     size_t needed = given->len / 24;
     bool is_short = needed > 0 && once_in(16);
@@ -1121,9 +1121,9 @@ static void keep_written(struct buffer *buffer, size_t len) {
 static void expect_decisions(const struct linker_utils_decision *made, size_t count,
                              uint16_t machine) {
     for (size_t i = 0; i < count; i++) {
-        bool is_redirected = made[i].fate == LINKER_UTILS_FATE_REDIRECTED;
+        bool is_redirected = made[i].fate == LINKER_UTILS_FATE_REWRITTEN_WITH_SYMBOL;
         bool is_made = is_redirected || made[i].fate == LINKER_UTILS_FATE_REWRITTEN;
-        expect(made[i].fate <= LINKER_UTILS_FATE_REDIRECTED, "no fate");
+        expect(made[i].fate <= LINKER_UTILS_FATE_REWRITTEN_WITH_SYMBOL, "no fate");
         expect(is_redirected || (made[i].symbol == 0 && made[i].addend == 0), "another symbol");
         expect(is_made ? made[i].machine == machine
                        : made[i].rewrite == 0 && made[i].relocation == 0 &&
@@ -1154,7 +1154,7 @@ static void call_rewrite_section(void) {
     uint16_t machine = any_machine();
     struct buffer *section = bytes(WRITTEN, any_section_len());
     struct buffer *known = symbol_facts(any_len(8));
-    struct buffer *kept = kept_groups(READ, any_len(8));
+    struct buffer *kept = unrelaxable_groups(READ, any_len(8));
     size_t symbols_len = LEN(known, struct linker_utils_symbol_facts);
     struct buffer *given = relocations(WRITTEN, machine, section->len, symbols_len);
     size_t needed = given->len / 24;
@@ -1188,7 +1188,7 @@ static void call_has_rewrites(void) {
     uint16_t machine = any_machine();
     uint32_t phase = any_phase();
     bool has_rewrites = CALL(has_rewrites, machine, phase);
-    expect(!has_rewrites || phase <= LINKER_UTILS_PHASE_DISTANCES, "there is no such phase");
+    expect(!has_rewrites || phase <= LINKER_UTILS_PHASE_SHORT_PC_REL, "there is no such phase");
     finish(true);
 }
 
@@ -1196,7 +1196,7 @@ static void call_survey_placed_section(void) {
     uint16_t machine = any_machine();
     struct buffer *section = bytes(READ, any_section_len());
     struct buffer *known = symbol_facts(any_len(8)), *values = symbols(any_len(8));
-    struct buffer *kept = kept_groups(WRITTEN, any_len(8));
+    struct buffer *kept = unrelaxable_groups(WRITTEN, any_len(8));
     size_t symbols_len = LEN(known, struct linker_utils_symbol_facts);
     struct buffer *given = relocations(READ, machine, section->len, symbols_len);
     const struct linker_utils_link *link = any_link(machine);
@@ -1213,7 +1213,7 @@ static void call_rewrite_placed_section(void) {
     uint16_t machine = any_machine();
     struct buffer *section = bytes(WRITTEN, any_section_len());
     struct buffer *known = symbol_facts(any_len(8)), *values = symbols(any_len(8));
-    struct buffer *kept = kept_groups(READ, any_len(8));
+    struct buffer *kept = unrelaxable_groups(READ, any_len(8));
     size_t symbols_len = LEN(known, struct linker_utils_symbol_facts);
     struct buffer *given = relocations(WRITTEN, machine, section->len, symbols_len);
     size_t needed = given->len / 24;
@@ -1270,7 +1270,7 @@ static const struct linker_utils_words *words_of(const struct buffer *words,
                  .relocations_len = words->len / 24, .kept = kept->given, .kept_len = kept->len);
 }
 
-static void call_survey_address_loads(void) {
+static void call_survey_toc_loads(void) {
     uint16_t machine = any_machine();
     struct buffer *section = bytes(READ, any_section_len());
     struct buffer *known = symbol_facts(any_len(8)), *values = symbols(any_len(8));
@@ -1282,13 +1282,13 @@ static void call_survey_address_loads(void) {
     const struct linker_utils_object *object = INPUT(object, FACTS(known), VALUES(values));
     const struct linker_utils_section *in = relocated(section, given);
     const struct linker_utils_words *all_words = words_of(words, kept);
-    uint32_t status = CALL(survey_address_loads, link, object, in, all_words);
+    uint32_t status = CALL(survey_toc_loads, link, object, in, all_words);
     const uint8_t *now = filled(kept);
     for (size_t i = 0; i < kept->len; i++) expect(now[i] <= 1 && now[i] >= kept->was[i], "no flags");
     finish_with(status, 0 OR(UNKNOWN_ARCHITECTURE) OR(FACTS_CONTRADICT));
 }
 
-static void call_rewrite_address_loads(void) {
+static void call_rewrite_toc_loads(void) {
     uint16_t machine = any_machine();
     struct buffer *section = bytes(WRITTEN, any_section_len());
     struct buffer *known = symbol_facts(any_len(8)), *values = symbols(any_len(8));
@@ -1309,7 +1309,7 @@ static void call_rewrite_address_loads(void) {
     const struct linker_utils_rewritten *rewritten = rewritten_of(decisions, NULL);
     size_t *faulty = any_faulty();
     uint32_t status =
-        CALL(rewrite_address_loads, link, object, in, all_words, rewritten, faulty);
+        CALL(rewrite_toc_loads, link, object, in, all_words, rewritten, faulty);
     expect_status(status, 0 OR(UNKNOWN_ARCHITECTURE) OR(SHORT_MEMORY) OR(NOT_SURVEYED)
                               OR(OVERLAPS) OR(FACTS_CONTRADICT));
     expect((status == LINKER_UTILS_SHORT_MEMORY) <= is_short, "the memory is long enough");
@@ -1387,7 +1387,7 @@ static void call_rewrite_global_pointer(void) {
     finish(status == LINKER_UTILS_OK);
 }
 
-static void call_from_global_pointer(void) {
+static void call_finish_gp_relaxation(void) {
     struct buffer *section = bytes(WRITTEN, any_section_len());
     struct buffer *values = symbols(any_len(8));
     size_t symbols_len = LEN(values, struct linker_utils_symbol);
@@ -1401,7 +1401,7 @@ static void call_from_global_pointer(void) {
     const struct linker_utils_object *object = INPUT(object, VALUES(values));
     const struct linker_utils_section *in = relocated(section, given);
     size_t *faulty = any_faulty();
-    uint32_t status = CALL(from_global_pointer, link, object, in, faulty);
+    uint32_t status = CALL(finish_gp_relaxation, link, object, in, faulty);
     expect_status(status, 0 OR(OUT_OF_REACH));
     finish_faulty(faulty, status == LINKER_UTILS_OUT_OF_REACH, needed);
     finish(status == LINKER_UTILS_OK);
@@ -1526,12 +1526,12 @@ static void call_provided_symbol(void) {
     finish_with(status, 0 UNKNOWN OR(NOT_PROVIDED) OR(TOO_SHORT));
 }
 
-static void call_provided_run(void) {
+static void call_save_restore_routines(void) {
     struct buffer *prefix = bytes(WRITTEN, any_len(LINKER_UTILS_NAME_SIZE));
     size_t *prefix_used = output(sizeof(size_t));
-    struct linker_utils_provided_run *run = output(sizeof *run);
+    struct linker_utils_save_restore_routines *run = output(sizeof *run);
     size_t index = once_in(4) ? (size_t)any_number() : below(9);
-    uint32_t status = CALL(get_provided_run, any_machine(), index, prefix->given, prefix->len, prefix_used,
+    uint32_t status = CALL(get_save_restore_routines, any_machine(), index, prefix->given, prefix->len, prefix_used,
                            run);
     if (status == LINKER_UTILS_OK) changes(prefix, 0, *prefix_used);
     expect(status || run->len / run->spacing >= run->count, "no run");
@@ -2621,14 +2621,14 @@ static void (*const all[])(void) = {
     call_find, call_row_of, call_row_value, call_row_write, call_row_apply, call_row_reach,
     call_row_needs, call_row_choose, call_row_fits,
     call_relocate_all, call_needs, call_value_at, call_relocate_section, call_survey,
-    call_rewrite_section, call_has_rewrites, call_survey_placed_section, call_keep_facts,
+    call_rewrite_section, call_has_rewrites, call_survey_placed_section, call_snapshot_facts,
     call_relocate_rewritten_section,
-    call_survey_address_loads, call_rewrite_address_loads,
-    call_survey_global_pointer, call_rewrite_global_pointer, call_from_global_pointer,
+    call_survey_toc_loads, call_rewrite_toc_loads,
+    call_survey_global_pointer, call_rewrite_global_pointer, call_finish_gp_relaxation,
     call_rewrite_placed_section, call_dynamic_types, call_dynamic_name, call_dynamic_words,
     call_entry_words, call_origins, call_static_words, call_got, call_join_flags,
     call_output_facts, call_interpreter, call_address_section, call_entry_relocation,
-    call_provided_symbol, call_provided_run, call_provided_word, call_stub, call_write_stub,
+    call_provided_symbol, call_save_restore_routines, call_provided_word, call_stub, call_write_stub,
     call_lazy_plt, call_write_lazy_header, call_write_lazy_entry, call_lazy_words, call_route_at,
     call_route_by_word,
     call_most_stubs, call_place_stubs, call_clui_rel_info, call_jal_site, call_jal_site_with, call_relax_call,

@@ -251,7 +251,7 @@ int main(void) {
             relocations[count].may_compress = 1;
         }
     }
-    facts.is_local = facts.has_fixed_distance = facts.is_relaxable = facts.has_addresses = 1;
+    facts.is_local = facts.is_pcrel_link_time_constant = facts.is_relaxable = facts.has_addresses = 1;
     facts.operands.symbol = 0x8000;
     facts.operands.addend = -4;
     facts.operands.place = 0x4000;

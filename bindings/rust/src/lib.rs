@@ -148,7 +148,7 @@ pub struct LinkFacts {
     pub is_ifunc: bool,
     pub is_undefined_weak: bool,
     pub has_fixed_address: bool,
-    pub has_fixed_distance: bool,
+    pub is_pcrel_link_time_constant: bool,
     pub is_executable: bool,
     pub has_local_exec_base: bool,
     pub may_compress: bool,
@@ -169,7 +169,7 @@ impl From<&LinkFacts> for raw::LinkFacts {
             is_ifunc: facts.is_ifunc.into(),
             is_undefined_weak: facts.is_undefined_weak.into(),
             has_fixed_address: facts.has_fixed_address.into(),
-            has_fixed_distance: facts.has_fixed_distance.into(),
+            is_pcrel_link_time_constant: facts.is_pcrel_link_time_constant.into(),
             is_executable: facts.is_executable.into(),
             has_local_exec_base: facts.has_local_exec_base.into(),
             may_compress: facts.may_compress.into(),
@@ -437,10 +437,10 @@ pub struct OutputFacts {
 }
 
 /// Which groups of a symbol stay as they are. Each field is explained at
-/// `struct linker_utils_kept_groups` in `include/linker_utils.h`.
+/// `struct linker_utils_unrelaxable_groups` in `include/linker_utils.h`.
 #[repr(C)]
 #[derive(Debug, Clone, Copy, Default, PartialEq, Eq)]
-pub struct KeptGroups {
+pub struct UnrelaxableGroups {
     pub initial_exec: bool,
     pub general_dynamic: bool,
     pub local_dynamic: bool,
@@ -448,11 +448,11 @@ pub struct KeptGroups {
     pub got_load: bool,
 }
 
-/// What choices of rewrites read of a symbol and of the output, as `struct linker_utils_kept_facts` in
+/// What choices of rewrites read of a symbol and of the output, as `struct linker_utils_facts_snapshot` in
 /// `include/linker_utils_further.h` explains.
 #[repr(C)]
 #[derive(Debug, Clone, Copy, Default, PartialEq, Eq)]
-pub struct KeptFacts {
+pub struct FactsSnapshot {
     pub bits: u16,
 }
 
@@ -466,9 +466,9 @@ pub enum Decision {
         rewrite: Rewrite,
         relocation: u32,
     },
-    TakenAlong,
+    Consumed,
     /// The same, and it gets another symbol and addend.
-    Redirected {
+    RewrittenWithSymbol {
         rewrite: Rewrite,
         relocation: u32,
         symbol: u32,
@@ -525,7 +525,7 @@ pub struct ProvidedSymbol {
 /// Functions that compilers call and linkers provide, in one run of code. That with a number n begins
 /// 4 * `spacing` * (n - `first`) bytes after the run's start.
 #[derive(Debug, Clone, PartialEq, Eq)]
-pub struct ProvidedRun {
+pub struct SaveRestoreRoutines {
     /// The functions' names without the number, which stands after it in decimal.
     pub prefix: String,
     /// The least number.
@@ -1207,7 +1207,7 @@ pub fn survey(
     symbols: &[SymbolFacts],
     relocations: &[u8],
     section: &[u8],
-    kept: &mut [KeptGroups],
+    kept: &mut [UnrelaxableGroups],
 ) {
     let status = unsafe {
         raw::linker_utils_survey_nonnull(
@@ -1248,13 +1248,13 @@ fn decided(architecture: Architecture, made: &raw::Decision) -> Decision {
                 relocation,
             }
         }
-        Some(Fate::Redirected) => Decision::Redirected {
+        Some(Fate::RewrittenWithSymbol) => Decision::RewrittenWithSymbol {
             rewrite: rewrite(),
             relocation: made.relocation,
             symbol: made.symbol,
             addend: made.addend,
         },
-        Some(Fate::TakenAlong) => Decision::TakenAlong,
+        Some(Fate::Consumed) => Decision::Consumed,
         _ => Decision::Kept,
     }
 }
@@ -1266,7 +1266,7 @@ pub fn rewrite_section(
     architecture: Architecture,
     output: &OutputFacts,
     symbols: &[SymbolFacts],
-    kept: &[KeptGroups],
+    kept: &[UnrelaxableGroups],
     relocations: &mut [u8],
     section: &mut [u8],
 ) -> Result<Vec<Decision>, ArrayError> {
@@ -1319,7 +1319,7 @@ pub fn survey_placed_section(
     placed: Placed<'_>,
     relocations: &[u8],
     section: &[u8],
-    kept: &mut [KeptGroups],
+    kept: &mut [UnrelaxableGroups],
 ) -> Result<(), Status> {
     let status = unsafe {
         raw::linker_utils_survey_placed_section_nonnull(
@@ -1347,7 +1347,7 @@ pub fn survey_placed_section(
 /// of addresses, ascending by offset, and `words_start` is its address; `kept` has an element for each,
 /// false at first.
 /// The error is `FactsContradict`.
-pub fn survey_address_loads(
+pub fn survey_toc_loads(
     architecture: Architecture,
     placed: Placed<'_>,
     words_start: u64,
@@ -1357,7 +1357,7 @@ pub fn survey_address_loads(
     kept: &mut [bool],
 ) -> Result<(), Status> {
     let status = unsafe {
-        raw::linker_utils_survey_address_loads_nonnull(
+        raw::linker_utils_survey_toc_loads_nonnull(
             architecture.machine(),
             placed.output,
             placed.symbols.as_ptr(),
@@ -1380,9 +1380,9 @@ pub fn survey_address_loads(
 }
 
 /// Has the instructions of a section of code compute the addresses that they load from such words, all
-/// that load a word or none, as `survey_address_loads` noted. What became of each relocation is returned.
+/// that load a word or none, as `survey_toc_loads` noted. What became of each relocation is returned.
 /// The entry at fault is the first relocation that isn't accepted.
-pub fn rewrite_address_loads(
+pub fn rewrite_toc_loads(
     architecture: Architecture,
     placed: Placed<'_>,
     words_start: u64,
@@ -1393,7 +1393,7 @@ pub fn rewrite_address_loads(
 ) -> Result<Vec<Decision>, ArrayError> {
     let mut decisions = decisions_of(relocations)?;
     result_over(|faulty| unsafe {
-        raw::linker_utils_rewrite_address_loads_nonnull(
+        raw::linker_utils_rewrite_toc_loads_nonnull(
             architecture.machine(),
             placed.output,
             placed.symbols.as_ptr(),
@@ -1427,7 +1427,7 @@ pub fn rewrite_placed_section(
     architecture: Architecture,
     phase: Phase,
     placed: Placed<'_>,
-    kept: &[KeptGroups],
+    kept: &[UnrelaxableGroups],
     relocations: &mut [u8],
     section: &mut [u8],
 ) -> Result<(Vec<Decision>, Vec<Deletion>), ArrayError> {
@@ -1544,7 +1544,7 @@ pub fn rewrite_global_pointer(
 
 /// Writes the base of each low part that `rewrite_global_pointer` left without one, once addresses are
 /// final. The entry at fault is the first relocation that no base reaches.
-pub fn from_global_pointer(
+pub fn finish_gp_relaxation(
     addresses: &Addresses,
     values: &[Symbol],
     global_pointer: u64,
@@ -1552,7 +1552,7 @@ pub fn from_global_pointer(
     section: &mut [u8],
 ) -> Result<(), ArrayError> {
     result_over(|faulty| unsafe {
-        raw::linker_utils_from_global_pointer_nonnull(
+        raw::linker_utils_finish_gp_relaxation_nonnull(
             addresses,
             values.as_ptr(),
             values.len(),
@@ -1579,12 +1579,12 @@ fn deletions_for(decisions: &[raw::Decision]) -> Result<Vec<Deletion>, ArrayErro
 
 /// What choices of rewrites read of an object's symbols and of the output. The error is
 /// `OutOfMemory`.
-pub fn keep_facts(output: &OutputFacts, symbols: &[SymbolFacts]) -> Result<Vec<KeptFacts>, Status> {
+pub fn snapshot_facts(output: &OutputFacts, symbols: &[SymbolFacts]) -> Result<Vec<FactsSnapshot>, Status> {
     let (mut kept, len) = (Vec::new(), symbols.len());
     kept.try_reserve_exact(len).map_err(|_| Status::OutOfMemory)?;
-    kept.resize(len, KeptFacts::default());
+    kept.resize(len, FactsSnapshot::default());
     let status = unsafe {
-        raw::linker_utils_keep_facts_nonnull(output, symbols.as_ptr(), len, kept.as_mut_ptr(), len)
+        raw::linker_utils_snapshot_facts_nonnull(output, symbols.as_ptr(), len, kept.as_mut_ptr(), len)
     };
     result_of(status, kept)
 }
@@ -1594,7 +1594,7 @@ pub fn keep_facts(output: &OutputFacts, symbols: &[SymbolFacts]) -> Result<Vec<K
 pub struct Facts<'a> {
     pub output: &'a OutputFacts,
     pub symbols: &'a [SymbolFacts],
-    pub kept: &'a [KeptFacts],
+    pub kept: &'a [FactsSnapshot],
 }
 
 /// Writes the values of a section whose instructions were rewritten, as `relocate_section`, where the
@@ -1777,13 +1777,13 @@ pub fn provided_symbols(architecture: Architecture) -> Vec<ProvidedSymbol> {
 }
 
 /// The functions that compilers call and linkers provide.
-pub fn provided_runs(architecture: Architecture) -> Vec<ProvidedRun> {
+pub fn save_restore_routines(architecture: Architecture) -> Vec<SaveRestoreRoutines> {
     let machine = architecture.machine();
     let run = |index| {
-        let mut run = raw::ProvidedRun::default();
+        let mut run = raw::SaveRestoreRoutines::default();
         let prefix = text_of(|prefix, used| unsafe {
             let (at, len) = (prefix.as_mut_ptr(), prefix.len());
-            raw::linker_utils_get_provided_run_nonnull(machine, index, at, len, used, &mut run)
+            raw::linker_utils_get_save_restore_routines_nonnull(machine, index, at, len, used, &mut run)
         });
         let word = |at| {
             let mut word = 0;
@@ -1791,7 +1791,7 @@ pub fn provided_runs(architecture: Architecture) -> Vec<ProvidedRun> {
             debug_assert_eq!(status, 0);
             word
         };
-        prefix.ok().map(|prefix| ProvidedRun {
+        prefix.ok().map(|prefix| SaveRestoreRoutines {
             prefix,
             first: run.first,
             count: run.count,

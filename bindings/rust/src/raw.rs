@@ -4,9 +4,10 @@
 //! requires of pointers and counts, and does, is said there. No pointer to a slice may be null.
 
 pub use crate::{
-    Addresses, BlockHead, Branch, Call, Deletion, Delta, DynamicTypes, FieldBits, FieldValue, Item,
-    KeptFacts, KeptGroups, LazyEntry, LazyPlt, Operands, Origins, OutputFacts, PlacedStub, Rela,
+    Addresses, BlockHead, Branch, Call, Deletion, Delta, DynamicTypes, FactsSnapshot, FieldBits,
+    FieldValue, Item, LazyEntry, LazyPlt, Operands, Origins, OutputFacts, PlacedStub, Rela,
     Relocation, RewriteWindow, Shape, Shapes, Stub, StubShape, Symbol, SymbolFacts,
+    UnrelaxableGroups,
 };
 use std::ffi::c_char;
 
@@ -27,7 +28,7 @@ pub struct LinkFacts {
     pub is_ifunc: u8,
     pub is_undefined_weak: u8,
     pub has_fixed_address: u8,
-    pub has_fixed_distance: u8,
+    pub is_pcrel_link_time_constant: u8,
     pub is_executable: u8,
     pub has_local_exec_base: u8,
     pub may_compress: u8,
@@ -170,10 +171,10 @@ pub struct ProvidedSymbol {
     pub place: u32,
 }
 
-/// `struct linker_utils_provided_run`.
+/// `struct linker_utils_save_restore_routines`.
 #[repr(C)]
 #[derive(Debug, Clone, Copy, Default, PartialEq, Eq)]
-pub struct ProvidedRun {
+pub struct SaveRestoreRoutines {
     pub len: u64,
     pub first: u32,
     pub count: u32,
@@ -330,7 +331,7 @@ extern "C" {
         relocations_len: usize,
         section: *const u8,
         section_len: usize,
-        kept: *mut KeptGroups,
+        kept: *mut UnrelaxableGroups,
         kept_len: usize,
     ) -> u32;
     pub fn linker_utils_rewrite_section_nonnull(
@@ -338,7 +339,7 @@ extern "C" {
         output: *const OutputFacts,
         symbols: *const SymbolFacts,
         symbols_len: usize,
-        kept: *const KeptGroups,
+        kept: *const UnrelaxableGroups,
         kept_len: usize,
         relocations: *mut u8,
         relocations_len: usize,
@@ -361,7 +362,7 @@ extern "C" {
         relocations_len: usize,
         section: *const u8,
         section_len: usize,
-        kept: *mut KeptGroups,
+        kept: *mut UnrelaxableGroups,
         kept_len: usize,
     ) -> u32;
     pub fn linker_utils_rewrite_placed_section_nonnull(
@@ -373,7 +374,7 @@ extern "C" {
         addresses: *const Addresses,
         values: *const Symbol,
         values_len: usize,
-        kept: *const KeptGroups,
+        kept: *const UnrelaxableGroups,
         kept_len: usize,
         relocations: *mut u8,
         relocations_len: usize,
@@ -485,7 +486,7 @@ extern "C" {
         name_used: *mut usize,
     ) -> u32;
     pub fn linker_utils_entry_relocation(machine: u16, r_type: u32, entry_type: *mut u32) -> u32;
-    pub fn linker_utils_survey_address_loads_nonnull(
+    pub fn linker_utils_survey_toc_loads_nonnull(
         machine: u16,
         output: *const OutputFacts,
         symbols: *const SymbolFacts,
@@ -503,7 +504,7 @@ extern "C" {
         kept: *mut bool,
         kept_len: usize,
     ) -> u32;
-    pub fn linker_utils_rewrite_address_loads_nonnull(
+    pub fn linker_utils_rewrite_toc_loads_nonnull(
         machine: u16,
         output: *const OutputFacts,
         symbols: *const SymbolFacts,
@@ -562,7 +563,7 @@ extern "C" {
         deleted_used: *mut usize,
         faulty: *mut usize,
     ) -> u32;
-    pub fn linker_utils_from_global_pointer_nonnull(
+    pub fn linker_utils_finish_gp_relaxation_nonnull(
         addresses: *const Addresses,
         values: *const Symbol,
         values_len: usize,
@@ -581,13 +582,13 @@ extern "C" {
         name_used: *mut usize,
         symbol: *mut ProvidedSymbol,
     ) -> u32;
-    pub fn linker_utils_get_provided_run_nonnull(
+    pub fn linker_utils_get_save_restore_routines_nonnull(
         machine: u16,
         index: usize,
         prefix: *mut u8,
         prefix_len: usize,
         prefix_used: *mut usize,
-        run: *mut ProvidedRun,
+        run: *mut SaveRestoreRoutines,
     ) -> u32;
     pub fn linker_utils_provided_word(machine: u16, run: usize, index: u64, word: *mut u32) -> u32;
     pub fn linker_utils_get_stub(machine: u16, kind: u32, stub: *mut Stub) -> u32;
@@ -713,11 +714,11 @@ extern "C" {
         opcode_len: u8,
         modifier: *mut u32,
     ) -> u32;
-    pub fn linker_utils_keep_facts_nonnull(
+    pub fn linker_utils_snapshot_facts_nonnull(
         output: *const OutputFacts,
         symbols: *const SymbolFacts,
         symbols_len: usize,
-        kept: *mut KeptFacts,
+        kept: *mut FactsSnapshot,
         kept_len: usize,
     ) -> u32;
     pub fn linker_utils_relocate_rewritten_section_nonnull(
@@ -725,7 +726,7 @@ extern "C" {
         output: *const OutputFacts,
         facts: *const SymbolFacts,
         facts_len: usize,
-        kept: *const KeptFacts,
+        kept: *const FactsSnapshot,
         kept_len: usize,
         addresses: *const Addresses,
         relocations: *const u8,

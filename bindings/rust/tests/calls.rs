@@ -450,7 +450,7 @@ fn tells_what_a_rewrite_is_meant_for() {
 fn choices_are_by_what_the_linker_knows() {
     let mut facts = LinkFacts {
         is_local: true,
-        has_fixed_distance: true,
+        is_pcrel_link_time_constant: true,
         ..LinkFacts::default()
     };
     // `call *f@GOTPCREL(%rip)` with R_X86_64_GOTPCRELX becomes `addr32 call f` with R_X86_64_PC32

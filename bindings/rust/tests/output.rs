@@ -94,7 +94,7 @@ fn linkers_provide_symbols_and_functions() {
     assert_eq!(provided_symbols(RISCV)[0].place, SymbolPlace::SmallData);
     assert_eq!(provided_symbols(AARCH64), []);
     // `_savegpr0_31`: std 31,-8(1); std 0,16(1); blr
-    let runs = provided_runs(PPC64);
+    let runs = save_restore_routines(PPC64);
     let save = runs.iter().find(|run| run.prefix == "_savegpr0_").expect("it is there");
     assert_eq!((save.first, save.count, save.words.len()), (14, 18, 20));
     assert_eq!(save.words[17..], [0xfbe1_fff8, 0xf801_0010, 0x4e80_0020]);
@@ -102,7 +102,7 @@ fn linkers_provide_symbols_and_functions() {
     let restore = runs.iter().find(|run| run.prefix == "_restvr_").expect("it is there");
     assert_eq!((restore.first, restore.count, restore.spacing), (20, 12, 2));
     assert_eq!(restore.words[22..], [0x3980_fff0, 0x7fec_00ce, 0x4e80_0020]);
-    assert_eq!(provided_runs(X86_64), []);
+    assert_eq!(save_restore_routines(X86_64), []);
 }
 
 #[test]

@@ -44,13 +44,13 @@ fn a_call_goes_with_its_sequence() {
     // R_X86_64_TLSGD and R_X86_64_PLT32, which become R_X86_64_TPOFF32 and none
     let mut relocations = relas(&[(4, 19, 1, -4), (12, 4, 2, -4)]);
     let (mut section, symbols) = (GENERAL_DYNAMIC, symbols());
-    let mut kept = [KeptGroups::default(); 4];
+    let mut kept = [UnrelaxableGroups::default(); 4];
     survey(X86_64, &EXECUTABLE, &symbols, &relocations, &section, &mut kept);
-    assert_eq!(kept, [KeptGroups::default(); 4]);
+    assert_eq!(kept, [UnrelaxableGroups::default(); 4]);
     let (given, code) = (&mut relocations, &mut section);
     let made = rewrite_section(X86_64, &EXECUTABLE, &symbols, &kept, given, code).unwrap();
     assert!(matches!(made[0], Decision::Rewritten { relocation: 23, .. }));
-    assert_eq!(made[1..], [Decision::TakenAlong]);
+    assert_eq!(made[1..], [Decision::Consumed]);
     assert_eq!(relocations, relas(&[(12, 23, 1, 0), (12, 0, 2, -4)]));
     // mov %fs:0, %rax; lea x@tpoff(%rax), %rax
     assert_eq!(section, [0x64, 0x48, 0x8b, 4, 0x25, 0, 0, 0, 0, 0x48, 0x8d, 0x80, 0, 0, 0, 0]);
@@ -64,12 +64,12 @@ fn a_group_is_rewritten_or_stays() {
     let listed = relas(&[(0, 541, 1, 0), (4, 542, 1, 0)]);
     let whole = code([adrp, ldr]);
     let survey_both = |other: [u32; 2]| {
-        let mut kept = [KeptGroups::default(); 4];
+        let mut kept = [UnrelaxableGroups::default(); 4];
         survey(AARCH64, &EXECUTABLE, &symbols(), &listed, &whole, &mut kept);
         survey(AARCH64, &EXECUTABLE, &symbols(), &listed, &code(other), &mut kept);
         kept
     };
-    let rewritten = |kept: &[KeptGroups], section: &[u8]| {
+    let rewritten = |kept: &[UnrelaxableGroups], section: &[u8]| {
         let (mut section, mut relocations) = (section.to_vec(), listed.clone());
         let (given, code) = (&mut relocations, &mut section);
         let made = rewrite_section(AARCH64, &EXECUTABLE, &symbols(), kept, given, code);
@@ -87,7 +87,7 @@ fn a_group_is_rewritten_or_stays() {
     assert_eq!(made, Ok(vec![Decision::Kept; 2]));
     assert_eq!((section, relocations), (whole.clone(), listed.clone()));
     // that section, by what was noted of the first alone
-    let (made, section, relocations) = rewritten(&[KeptGroups::default(); 4], &code([adrp, nop]));
+    let (made, section, relocations) = rewritten(&[UnrelaxableGroups::default(); 4], &code([adrp, nop]));
     let index = Some(1);
     let status = Status::NotSurveyed;
     assert_eq!(made, Err(ArrayError { status, index }));
@@ -100,7 +100,7 @@ fn windows_ascend() {
     let mut section = [0x48, 0x8b, 0x05, 0, 0, 0, 0, 0x48, 0x8b, 0x05, 0, 0, 0, 0];
     let mut relocations = relas(&[(10, 42, 1, -4), (3, 42, 1, -4)]);
     let before = (section, relocations.clone());
-    let (given, code, kept) = (&mut relocations, &mut section, [KeptGroups::default(); 4]);
+    let (given, code, kept) = (&mut relocations, &mut section, [UnrelaxableGroups::default(); 4]);
     let made = rewrite_section(X86_64, &EXECUTABLE, &symbols(), &kept, given, code);
     let index = Some(1);
     let status = Status::Overlaps;
@@ -112,7 +112,7 @@ fn windows_ascend() {
 fn decisions_are_as_many_as_relocations() {
     // nop, with R_X86_64_TLSDESC_CALL
     let (mut relocations, mut section) = (relas(&[(0, 35, 1, 0)]), [0x90]);
-    let kept = [KeptGroups::default(); 4];
+    let kept = [UnrelaxableGroups::default(); 4];
     let mut with = |decisions: &mut [raw::Decision]| {
         let mut faulty = 7;
         // SAFETY: a slice's pointer and length are its own, and a reference is of one value
@@ -150,7 +150,7 @@ fn a_short_offset_from_the_thread_pointer_needs_one_instruction() {
     let code = [0x0000_0537u32, 0x0045_0533, 0x0005_2583].map(u32::to_le_bytes).concat();
     let listed = [(0, 29), (0, 51), (4, 32), (4, 51), (8, 30), (8, 51)];
     let listed = listed.map(|(offset, r_type)| (offset, r_type, u32::from(r_type != 51), 0));
-    let (riscv, phase) = (Architecture::RiscV, Phase::ThreadOffsets);
+    let (riscv, phase) = (Architecture::RiscV, Phase::TlsLocalExec);
     assert!(has_rewrites(riscv, phase) && !has_rewrites(X86_64, phase));
     let symbols = symbols();
     for (address, is_short) in [(0x1008, true), (0x1800, false)] {
@@ -164,7 +164,7 @@ fn a_short_offset_from_the_thread_pointer_needs_one_instruction() {
             values: &values,
         };
         let (mut section, mut relocations) = (code.clone(), relas(&listed));
-        let mut kept = [KeptGroups::default(); 4];
+        let mut kept = [UnrelaxableGroups::default(); 4];
         survey_placed_section(riscv, phase, placed, &relocations, &section, &mut kept).unwrap();
         assert_eq!(kept[1].initial_exec, !is_short);
         let (given, bytes) = (&mut relocations, &mut section);
@@ -186,7 +186,7 @@ fn a_near_address_needs_one_instruction() {
     // adrp x0, x; add x0, x0, :lo12:x, with R_AARCH64_ADR_PREL_PG_HI21 and _ADD_ABS_LO12_NC
     let mut section = [0x9000_0000u32, 0x9100_0000].map(u32::to_le_bytes).concat();
     let mut relocations = relas(&[(0, 275, 1, 0), (4, 277, 1, 0)]);
-    let (symbols, kept) = (symbols(), [KeptGroups::default(); 4]);
+    let (symbols, kept) = (symbols(), [UnrelaxableGroups::default(); 4]);
     let mut values = [Symbol::default(); 4];
     values[1].address = 0x2004;
     let addresses = Addresses { section: 0x1000, ..Addresses::default() };
@@ -197,12 +197,12 @@ fn a_near_address_needs_one_instruction() {
         values: &values,
     };
     let (given, code) = (&mut relocations, &mut section);
-    let made = rewrite_placed_section(AARCH64, Phase::Distances, placed, &kept, given, code);
+    let made = rewrite_placed_section(AARCH64, Phase::ShortPcRel, placed, &kept, given, code);
     let (decisions, deleted) = made.unwrap();
     // nop; adr x0, x, with R_AARCH64_ADR_PREL_LO21
     assert_eq!(words(&section), [0xd503_201f, 0x1000_0000]);
     assert_eq!(relocations, relas(&[(0, 0, 1, 0), (4, 274, 1, 0)]));
-    assert_eq!((decisions[0], deleted), (Decision::TakenAlong, vec![]));
+    assert_eq!((decisions[0], deleted), (Decision::Consumed, vec![]));
     assert!(matches!(decisions[1], Decision::Rewritten { relocation: 274, .. }));
 }
 
@@ -236,10 +236,10 @@ fn values_are_written_where_facts_are_as_kept() {
         address,
         ..Symbol::default()
     });
-    let kept = keep_facts(&EXECUTABLE, &symbols()).unwrap();
+    let kept = snapshot_facts(&EXECUTABLE, &symbols()).unwrap();
     assert_eq!(kept.len(), 4);
     assert_eq!((kept[0], kept[1] == kept[0]), (kept[3], false));
-    let written = |output: &OutputFacts, symbols: &[SymbolFacts], kept: &[KeptFacts]| {
+    let written = |output: &OutputFacts, symbols: &[SymbolFacts], kept: &[FactsSnapshot]| {
         let facts = Facts {
             output,
             symbols,
@@ -274,7 +274,7 @@ fn values_are_written_where_facts_are_as_kept() {
     };
     assert_eq!(written(&far, &symbols(), &kept), changed(0));
     assert_eq!(written(&EXECUTABLE, &symbols(), &kept[..1]), changed(0));
-    assert_eq!(written(&EXECUTABLE, &symbols(), &[KeptFacts::default(); 4]), changed(0));
+    assert_eq!(written(&EXECUTABLE, &symbols(), &[FactsSnapshot::default(); 4]), changed(0));
     // of another symbol
     others = symbols();
     others[3].is_local = true;
@@ -307,18 +307,18 @@ fn loads_from_words_compute_the_address() {
     let mut relocations = relas(&[(0, 50, 3, 0), (4, 64, 3, 0)]);
     let mut section = words([0x3c62_0000, 0xe863_0000]);
     let mut kept = [false];
-    survey_address_loads(machine, placed, start, &table, &relocations, &section, &mut kept).unwrap();
+    survey_toc_loads(machine, placed, start, &table, &relocations, &section, &mut kept).unwrap();
     assert_eq!(kept, [false]);
     let (given, code) = (&mut relocations, &mut section);
-    let made = rewrite_address_loads(machine, placed, start, &table, &kept, given, code).unwrap();
-    assert!(made.iter().all(|it| matches!(it, Decision::Redirected { symbol: 1, addend: 0, .. })));
+    let made = rewrite_toc_loads(machine, placed, start, &table, &kept, given, code).unwrap();
+    assert!(made.iter().all(|it| matches!(it, Decision::RewrittenWithSymbol { symbol: 1, addend: 0, .. })));
     assert_eq!(section, words([0x3c62_0000, 0x3863_0000]));
     // R_PPC64_TOC16_HA and R_PPC64_TOC16_LO of the word's symbol
     assert_eq!(relocations, relas(&[(0, 50, 1, 0), (4, 48, 1, 0)]));
     // lwz 3,.toc@toc@l(3), which loads no address, keeps the word
     let relocations = relas(&[(0, 64, 3, 0)]);
     let section = 0x8063_0000u32.to_le_bytes();
-    survey_address_loads(machine, placed, start, &table, &relocations, &section, &mut kept).unwrap();
+    survey_toc_loads(machine, placed, start, &table, &relocations, &section, &mut kept).unwrap();
     assert_eq!(kept, [true]);
 }
 
@@ -360,12 +360,12 @@ fn high_parts_near_the_global_pointer_go() {
     let mut section = section[4..].to_vec();
     let mut low = relas(&[(0, 47, 1, 0)]);
     assert_eq!(relocations[56..72], low[8..24]);
-    from_global_pointer(&addresses, &values, global_pointer, &mut low, &mut section).unwrap();
+    finish_gp_relaxation(&addresses, &values, global_pointer, &mut low, &mut section).unwrap();
     assert_eq!(section, 0x0001_a583u32.to_le_bytes());
     // R_RISCV_LO12_I, whose value is x less the global pointer
     assert_eq!(low, relas(&[(0, 27, 1, -0x1_2800)]));
     // 2,048 above the global pointer no base reaches it
     let far = [Symbol::default(), Symbol { address: 0x1_3000, ..Symbol::default() }];
     let mut low = relas(&[(0, 47, 1, 0)]);
-    assert!(from_global_pointer(&addresses, &far, global_pointer, &mut low, &mut section).is_err());
+    assert!(finish_gp_relaxation(&addresses, &far, global_pointer, &mut low, &mut section).is_err());
 }

@@ -277,7 +277,7 @@ fn link(
 fn facts_with(is_local: bool, operands: Operands) -> LinkFacts {
     LinkFacts {
         is_local,
-        has_fixed_distance: true,
+        is_pcrel_link_time_constant: true,
         is_executable: true,
         has_addresses: true,
         operands,

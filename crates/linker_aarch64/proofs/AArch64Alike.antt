@@ -2,7 +2,7 @@
 -- one if that doesn't hold, of the place of the first.
 use Rattle.std.proofs.Common.{◌≡◌, ◌↔◌, ◌≤◌, inl, inr, ℕ, ◌+◌, ◌-◌, List, [], ◌∷◌, sym, subst, arith}
 use Rattle.std.specs.Prelude.{◌⊎◌}
-use Rattle.linker_aarch64.specs.AArch64Rewrites.{IsDescriptorSequence, IsOfDescriptor, to_address, to_local_exec, halves_to_local_exec, to_initial_exec, IsEntryLoad, AArch64Applies, AArch64Choice, AArch64Entry, IsAskedFor, erased, descriptor_entries, GotPairIsChosenAlike, InitialExecIsChosenAlike, DescriptorIsChosenAlike}
+use Rattle.linker_aarch64.specs.AArch64Rewrites.{IsDescriptorSequence, IsOfDescriptor, to_address, to_local_exec, halves_to_local_exec, to_initial_exec, IsEntryLoad, AArch64Applies, AArch64Choice, AArch64Entry, HasPattern, erased, descriptor_entries, GotPairIsChosenAlike, InitialExecIsChosenAlike, DescriptorIsChosenAlike}
 use Rattle.linker_aarch64.specs.AArch64Rewrites.{aarch64_matches}
 use Rattle.linker_elf.specs.AArch64Relocations.{aarch64_row}
 use Rattle.linker_elf.specs.Choices.{AllHold, IsFirst, entry, choice, RowReaches, facts_on}
@@ -132,7 +132,7 @@ initial_exec_halves s t o p n facts a b high low h k =
 -- one of them, n bytes after the first, at an offset and with facts that are those n bytes on
 one_of_four : (name : AArch64Relocation) (n : ℕ) (s : List ℕ) (o at : ℕ) (facts here : LinkFacts)
     (local initial chosen : AArch64Choice)
-    → (IsAskedFor name s at ↔ IsDescriptorSequence s o)
+    → (HasPattern name s at ↔ IsDescriptorSequence s o)
     → (IsDescriptorSequence s o → aarch64_matches local.kind s at)
     → (IsDescriptorSequence s o → aarch64_matches initial.kind s at)
     → (AllHold aarch64_row here.operands here to_local_exec ↔ AllHold aarch64_row facts.operands facts to_local_exec)
@@ -141,14 +141,14 @@ one_of_four : (name : AArch64Relocation) (n : ℕ) (s : List ℕ) (o at : ℕ) (
     → Three (IsDescriptorSequence s o × AllHold aarch64_row facts.operands facts to_local_exec)
     (IsDescriptorSequence s o × AllHold aarch64_row facts.operands facts (to_initial_exec 0))
     local initial (choice NoOp name) chosen
-one_of_four name n s o at facts here local initial chosen asked m m' le ie h =
+one_of_four name n s o at facts here local initial chosen pattern m m' le ie h =
     let P : Type 0 = IsDescriptorSequence s o × AllHold aarch64_row facts.operands facts to_local_exec in
     let Q : Type 0 = IsDescriptorSequence s o × AllHold aarch64_row facts.operands facts (to_initial_exec 0) in
     let d = entry local.kind local.relocation to_local_exec in
     let e = entry initial.kind initial.relocation (to_initial_exec n) in
     three_of_first (AArch64Applies name s at here) d e P Q (choice NoOp name) chosen
-    (λ x. (asked.0 x.0.1, le.0 x.1), λ p. ((m p.0, asked.1 p.0), le.1 p.1))
-    (λ x. (asked.0 x.0.1, ie.0 x.1), λ p. ((m' p.0, asked.1 p.0), ie.1 p.1))
+    (λ x. (pattern.0 x.0.1, le.0 x.1), λ p. ((m p.0, pattern.1 p.0), le.1 p.1))
+    (λ x. (pattern.0 x.0.1, ie.0 x.1), λ p. ((m' p.0, pattern.1 p.0), ie.1 p.1))
     h
 
 pub descriptor : DescriptorIsChosenAlike

@@ -250,16 +250,16 @@ abbrev pub IsCall : ℕ → Type 0
 IsCall word = word / 2 ^ 26 ≡ 0x25
 
 -- what is required beside what the rewrite is meant for
-abbrev pub IsAskedFor : AArch64Relocation → List ℕ → ℕ → Type 0
-IsAskedFor r.R_AARCH64_ADR_GOT_PAGE section o = IsEntryLoad section (o + 4)
-IsAskedFor r.R_AARCH64_LD64_GOT_LO12_NC section o = IsEntryLoad section o
-IsAskedFor r.R_AARCH64_TLSDESC_ADR_PAGE21 section o = IsOfDescriptor 0 section o
-IsAskedFor r.R_AARCH64_TLSDESC_LD64_LO12 section o = IsOfDescriptor 4 section o
-IsAskedFor r.R_AARCH64_TLSDESC_ADD_LO12 section o = IsOfDescriptor 8 section o
-IsAskedFor r.R_AARCH64_TLSDESC_CALL section o = IsOfDescriptor 12 section o
-IsAskedFor r.R_AARCH64_CALL26 section o = HasWord section o IsCall
-IsAskedFor r.R_AARCH64_JUMP26 section o = HasWord section o IsBranch
-IsAskedFor name section o = ⊤
+abbrev pub HasPattern : AArch64Relocation → List ℕ → ℕ → Type 0
+HasPattern r.R_AARCH64_ADR_GOT_PAGE section o = IsEntryLoad section (o + 4)
+HasPattern r.R_AARCH64_LD64_GOT_LO12_NC section o = IsEntryLoad section o
+HasPattern r.R_AARCH64_TLSDESC_ADR_PAGE21 section o = IsOfDescriptor 0 section o
+HasPattern r.R_AARCH64_TLSDESC_LD64_LO12 section o = IsOfDescriptor 4 section o
+HasPattern r.R_AARCH64_TLSDESC_ADD_LO12 section o = IsOfDescriptor 8 section o
+HasPattern r.R_AARCH64_TLSDESC_CALL section o = IsOfDescriptor 12 section o
+HasPattern r.R_AARCH64_CALL26 section o = HasWord section o IsCall
+HasPattern r.R_AARCH64_JUMP26 section o = HasWord section o IsBranch
+HasPattern name section o = ⊤
 
 -- ---- the table
 
@@ -332,7 +332,7 @@ aarch64_entries name = []
 -- conditions hold
 abbrev pub AArch64Applies : AArch64Relocation → List ℕ → ℕ → LinkFacts → AArch64Entry → Type 0
 AArch64Applies name =
-    Applies (λ kind section o. aarch64_matches kind section o × IsAskedFor name section o)
+    Applies (λ kind section o. aarch64_matches kind section o × HasPattern name section o)
     aarch64_row (λ kind o operands. operands)
 
 -- that of the first entry that applies, and else to leave the instruction and the relocation

@@ -3,7 +3,7 @@
 ghost use Rattle.std.specs.Prelude.{◌==◌, ◌≡◌, ◌↔◌, ◌<◌, ◌+◌, ◌^◌, IsTrue};
 ghost use Rattle.linker_base.specs.Rewrite.{CanRewrite};
 ghost use Rattle.linker_aarch64.specs.AArch64Rewrites as rewrites;
-ghost use Rattle.linker_aarch64.specs.Inner.Choices.{IsThere, aarch64_tables};
+ghost use Rattle.linker_aarch64.specs.Inner.Choices.{MatchesPattern, aarch64_tables};
 ghost use Rattle.linker_aarch64.specs.declared.rewrites.RelaxationKind.TheVariants as kinds;
 ghost use Rattle.linker_elf.specs.Choices.{Fits, choice, operands_after};
 ghost use Rattle.linker_elf.proofs.SameNames.{equalities, exact_code};
@@ -15,7 +15,7 @@ use super::rewrites::{
 use linker_base::rewrite::has_window;
 use linker_elf::aarch64::{AArch64Relocation, AArch64Relocation as Names};
 use linker_elf::elf::choice_table::{
-    Chosen, ChosenByTable, ChosenKind, Table, by_table, choice_by, conditions,
+    ChoiceTable, Chosen, RewriteSet, Table, by_table, choice_by, conditions,
 };
 use linker_elf::elf::{Choice, LinkFacts, Operands};
 
@@ -67,7 +67,7 @@ pub fn is_tls_descriptor_sequence(section: &[u8], offset: u64) -> bool
 }
 
 /// The instructions that an entry is for: what its rewrite is meant for, or others.
-pub enum AskedFor {
+pub enum Pattern {
     /// What the rewrite is meant for.
     OfRewrite,
     /// The `adrp` of a pair `adrp xN`, `ldr xN, [xN, #imm]`.
@@ -82,29 +82,29 @@ pub enum AskedFor {
     B,
 }
 
-impl ChosenKind for RelaxationKind {
+impl RewriteSet for RelaxationKind {
     type Relocation = Names;
 
-    type Originals = AskedFor;
+    type Originals = Pattern;
 
-    ghost are_at = { IsThere };
+    ghost are_at = { MatchesPattern };
 
     ghost tables = { aarch64_tables };
 
     ghost laws = { equalities kinds.NoOp names (λ x y. x.0 == y.0, tt) (exact_code, tt) };
 
     #[inline(always)]
-    fn stand_at(self, originals: &AskedFor, section: &[u8], offset: u64) -> bool {
+    fn matches_at(self, originals: &Pattern, section: &[u8], offset: u64) -> bool {
         match *originals {
-            AskedFor::OfRewrite => self.matches(section, offset),
-            AskedFor::AdrpOfPair => is_entry_load(section, offset),
-            AskedFor::LdrOfPair => 4 <= offset && is_entry_load(section, offset - 4),
-            AskedFor::OfDescriptor(back) => {
+            Pattern::OfRewrite => self.matches(section, offset),
+            Pattern::AdrpOfPair => is_entry_load(section, offset),
+            Pattern::LdrOfPair => 4 <= offset && is_entry_load(section, offset - 4),
+            Pattern::OfDescriptor(back) => {
                 back <= offset && is_tls_descriptor_sequence(section, offset - back)
             }
             _ if !has_window(section, offset, 0, 4) => false,
-            AskedFor::Bl => word_at(section, offset) >> 26 == 0x25,
-            AskedFor::B => word_at(section, offset) >> 26 == 0x05,
+            Pattern::Bl => word_at(section, offset) >> 26 == 0x25,
+            Pattern::B => word_at(section, offset) >> 26 == 0x05,
         }
     }
 
@@ -189,7 +189,7 @@ macro_rules! choices {
     };
 }
 
-impl ChosenByTable for RelaxationKind {
+impl ChoiceTable for RelaxationKind {
     ghost sampled = { λ name none section o. none };
 
     #[inline(always)]
@@ -213,7 +213,8 @@ impl ChosenByTable for RelaxationKind {
 ///
 /// // `adrp x3, :got:v` and `ldr x3, [x3, :got_lo12:v]`, where v is defined in the output
 /// let mut section = [0x03, 0, 0, 0x90, 0x63, 0, 0x40, 0xf9];
-/// let facts = LinkFacts { is_local: true, has_fixed_distance: true, ..LinkFacts::default() };
+/// let mut facts = LinkFacts { is_local: true, ..LinkFacts::default() };
+/// facts.is_pcrel_link_time_constant = true;
 /// let page = choose(AArch64Relocation::R_AARCH64_ADR_GOT_PAGE, &section, 0, &facts);
 /// assert_eq!(page.kind, RelaxationKind::NoOp);
 /// assert_eq!(page.relocation, AArch64Relocation::R_AARCH64_ADR_PREL_PG_HI21);

@@ -14,7 +14,7 @@ use Rattle.linker_base.proofs.Rank.{rank_kept, rank_gone, rank-mono, rank_all_ke
 
 -- ---- bytes put over others
 
-module _ (xs ys : List ℕ) (at n : ℕ) (room : at + length ys ≤ length xs) (behind : n ≡ at + length ys) where
+module _ (xs ys : List ℕ) (at n : ℕ) (room : at + length ys ≤ length xs) (following : n ≡ at + length ys) where
   front_length : length (take at xs) ≡ at
   front_length = length-take at xs ∙ omega arith
 

@@ -69,7 +69,7 @@ merged_more ds ps i j at merged delta bytes valid within place upto is first sum
     let whole : take (i + 1 + j) (set merged at delta) ≡ old ++ delta ∷ [] =
     rw (next, take_more (set merged at delta) at delta (omega (arith, free, length-set merged at delta)), take-set-le at merged at delta (omega arith), get_or-set_same merged at delta delta free, place) refl in
     let joined : map deletion_of (old ++ delta ∷ []) ≡ map deletion_of old ++ deletion_of delta ∷ [] = map-append deletion_of old (delta ∷ []) in
-    let behind : IsPermutation ((take i ds ++ d ∷ []) ++ take j ps) ((take i ds ++ take j ps) ++ d ∷ []) =
+    let following : IsPermutation ((take i ds ++ d ∷ []) ++ take j ps) ((take i ds ++ take j ps) ++ d ∷ []) =
     rw (append_assoc (take i ds) (d ∷ []) (take j ps), append_assoc (take i ds) (take j ps) (d ∷ [])) (IsPermutation-append_right (take i ds) (d ∷ [] ++ take j ps) (take j ps ++ d ∷ []) (IsPermutation-append_comm (d ∷ []) (take j ps))) in
     let bytes_before : bytes ≡ bytes_of (map deletion_of old) =
     omega (arith, upto.sum, sum_by-append (λ (e : ℕ × ℕ). e.1) (take i ds) (take j ps), sum_by-IsPermutation (λ (e : ℕ × ℕ). e.1) (take i ds ++ take j ps) (map deletion_of old) upto.front.same) in
@@ -78,7 +78,7 @@ merged_more ds ps i j at merged delta bytes valid within place upto is first sum
       added_within = upto.added_within;
       size = omega (arith, upto.size, length-set merged at delta);
       front = rw whole (record {
-        same = rw (joined, is, more) (IsPermutation-trans ((take i ds ++ d ∷ []) ++ take j ps) ((take i ds ++ take j ps) ++ d ∷ []) (map deletion_of old ++ d ∷ []) behind (IsPermutation-append_left (d ∷ []) (take i ds ++ take j ps) (map deletion_of old) upto.front.same));
+        same = rw (joined, is, more) (IsPermutation-trans ((take i ds ++ d ∷ []) ++ take j ps) ((take i ds ++ take j ps) ++ d ∷ []) (map deletion_of old ++ d ∷ []) following (IsPermutation-append_left (d ∷ []) (take i ds ++ take j ps) (map deletion_of old) upto.front.same));
         rise = rw (joined, is) (IsNonDecreasingBy-push (λ e. e.0) (map deletion_of old) d upto.front.rise (λ e some. upto.front.below_old within (length (map deletion_of old) - 1) e (omega arith)));
         below_old = λ some. rw (joined, is) (All-push (λ e. e.0 ≤ (get_or ds (i + 1) (0, 0)).0) (map deletion_of old) d (λ k e low. omega (arith, upto.front.below_old within k e low, (valid.ascending i (i + 1) (0, 0) (omega arith) some).0)) (omega (arith, (valid.ascending i (i + 1) (0, 0) (omega arith) some).0)));
         below_added = λ some. rw (joined, is) (All-push (λ e. e.0 ≤ (get_or ps j (0, 0)).0) (map deletion_of old) d (upto.front.below_added some) (first some));

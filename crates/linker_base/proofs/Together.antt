@@ -75,7 +75,7 @@ walked_more ds ps i j next after walked within first begins fits is =
       old_follows = λ valid some. let step = valid.old.ascending i (i + 1) (0, 0) (omega arith) some in omega (arith, step.0, step.1, is);
       added_follows = λ valid some. elim (disjoint_across ds ps valid.disjoint j (0, 0) some i (0, 0) within) [
         | inl before ↦ omega (arith, before.0, before.1, is)
-        | inr behind ↦ absurd (omega (arith, behind.0, first some))
+        | inr following ↦ absurd (omega (arith, following.0, first some))
       ];
     }
 

@@ -84,17 +84,6 @@ taken_begin_below ds ascending i k some bound = (
       rw (get_or-take k ds (k - 1) (0, 0) low) at (all (k - 1) (0, 0) (omega (arith, length-take k ds))),
 )
 
--- a query that is a step back passes nothing
-pub step_back_stays : (ds : List (ℕ × ℕ)) → IsValid ds → (passed i : ℕ) → passed ≤ length ds → (All (λ d. d.0 < i) (take passed ds) → ⊥) → max passed (begun_below ds i) ≡ passed
-step_back_stays ds valid passed i within back = elim (cases_lt passed (begun_below ds i)) [
-  | inr le ↦ omega arith
-  | inl less ↦
-      let parted = begun_parted ds i valid.ascending in
-      absurd (back (λ k d inside.
-      let low : k < passed = omega (arith, length-take passed ds) in
-      rw (get_or-take passed ds k d low) (parted.0 k d (omega arith) (omega arith))))
-]
-
 -- the bytes that are passed end at the end of the last deletion or below
 pub walked_below_end : (deltas : List RelaxDelta) → AreValidDeltas deltas → (reached : Reached) (k : ℕ) → IsWalked deltas k reached → reached.deleted ≤ reached.end
 walked_below_end deltas listed reached k walked =

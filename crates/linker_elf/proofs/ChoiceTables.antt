@@ -4,7 +4,7 @@ use Rattle.std.proofs.lemmas.Option.{none-some}
 use Rattle.std.proofs.lemmas.Bool.{eqb-true, eq-eqb}
 use Rattle.std.proofs.Common.{◌≡◌, ◌↔◌, ◌<◌, ◌≤◌, ◌++◌, ℕ, ℤ, List, [], ◌∷◌, Option, Some, None, Bool, true, false, if◌then◌else◌, not, ◌&&◌, ◌||◌, ◌==◌, zero, suc, IsTrue, refl, sym, ap, ◌∙◌, subst, arith, inl, inr, bit_and, length, drop, get_or, IfSome, true≢false}
 use Rattle.std.specs.Bool.{⊤}
-use Rattle.linker_elf.specs.Choices.{Condition, Entry, Holds, AllHold, choice, Applies, IsFirst, bound, weak_zero, fixed_address, fixed_distance, executable, local_exec_base, compressible, marked, label_marked, got_high_part, private_base, changed_toc, without_plt, group_fits}
+use Rattle.linker_elf.specs.Choices.{Condition, Entry, ConditionHolds, AllHold, choice, Applies, IsFirst, bound, weak_zero, fixed_address, fixed_distance, executable, local_exec_base, compressible, marked, label_marked, got_high_part, private_base, changed_toc, without_plt, group_fits}
 use Rattle.linker_elf.specs.Inner.ChoiceTables.{with_fact, fact_conditions, is_held, facts_hold, value_conditions, ValuesHold, addend_condition, conditions_of, EntryApplies, IsFirstOf, IsChoiceAt, IsTableOf, AreEqualities, AreSampled, seldom_facts_hold}
 use Rattle.linker_elf.specs.declared.elf.RelocationKindInfo.{RelocationKindInfo}
 use Rattle.linker_elf.specs.declared.elf.choice.Choice.{Choice}
@@ -41,19 +41,19 @@ both false b = (λ h. absurd (true≢false (sym h)), λ h. absurd (true≢false 
 
 -- by whether a mask lacks the bit, and whether the condition holds
 by_bit : {R : Type 0} → (row : R → Option RelocationKindInfo) (after : Operands) (facts : LinkFacts)
-    → (c : Condition R) (cs : List (Condition R)) (lacks b : Bool) → (IsTrue b ↔ Holds row after facts c)
+    → (c : Condition R) (cs : List (Condition R)) (lacks b : Bool) → (IsTrue b ↔ ConditionHolds row after facts c)
     → AllHold row after facts (if lacks then cs else c ∷ cs) ↔ (IsTrue (lacks || b) × AllHold row after facts cs)
 by_bit row after facts c cs true b known = (λ h. (refl, h), λ h. h.1)
 by_bit row after facts c cs false b known = (λ h. (known.1 h.0, h.1), λ h. (known.0 h.0, h.1))
 
 first : {R : Type 0} → (row : R → Option RelocationKindInfo) (after : Operands) (facts : LinkFacts) (mask bit : ℕ)
-    → (c : Condition R) (cs : List (Condition R)) (b : Bool) → (IsTrue b ↔ Holds row after facts c)
+    → (c : Condition R) (cs : List (Condition R)) (b : Bool) → (IsTrue b ↔ ConditionHolds row after facts c)
     → AllHold row after facts (with_fact mask bit c cs) ↔ (IsTrue (is_held mask bit b) × AllHold row after facts cs)
 first row after facts mask bit c cs b known = by_bit row after facts c cs (bit_and mask bit == 0) b known
 
 next : {R A : Type 0} → (row : R → Option RelocationKindInfo) (after : Operands) (facts : LinkFacts) (mask bit : ℕ)
     → (c : Condition R) (cs : List (Condition R)) (p b : Bool)
-    → (A ↔ (IsTrue p × AllHold row after facts (with_fact mask bit c cs))) → (IsTrue b ↔ Holds row after facts c)
+    → (A ↔ (IsTrue p × AllHold row after facts (with_fact mask bit c cs))) → (IsTrue b ↔ ConditionHolds row after facts c)
     → A ↔ (IsTrue (p && is_held mask bit b) × AllHold row after facts cs)
 next row after facts mask bit c cs p b so_far known =
     let one = first row after facts mask bit c cs b known in
@@ -94,7 +94,7 @@ all_facts {R} row after facts mask =
     (first row after facts mask 1 bound f1 _ (is_bound facts.is_local facts.is_ifunc))
     (same (facts.is_undefined_weak ≡ true)))
     (same (facts.has_fixed_address ≡ true)))
-    (same (facts.has_fixed_distance ≡ true)))
+    (same (facts.is_pcrel_link_time_constant ≡ true)))
     (same (facts.is_executable ≡ true)))
     (same (facts.has_local_exec_base ≡ true)))
     (same (facts.may_compress ≡ true)))
@@ -210,13 +210,13 @@ none_at A (e ∷ es) (suc i) is = none_at A es i (omega (arith, is))
 -- ---- the first entry
 
 -- from the entry of an index on it is the one after, or the choice of the index
-pub behind : {O K R : Type 0} → (A : ChoiceEntry O K R → Type 0) (es : List (ChoiceEntry O K R)) (otherwise c : Choice K R) (i : ℕ)
+pub following : {O K R : Type 0} → (A : ChoiceEntry O K R → Type 0) (es : List (ChoiceEntry O K R)) (otherwise c : Choice K R) (i : ℕ)
     → IsChoiceAt A es i None → IsFirstOf A (drop (suc i) es) otherwise c → IsFirstOf A (drop i es) otherwise c
-behind A [] otherwise c zero none later = later
-behind A [] otherwise c (suc i) none later = later
-behind A (e ∷ es) otherwise c zero (inl h) later = absurd (none-some _ h.1)
-behind A (e ∷ es) otherwise c zero (inr h) later = inr (h.0, later)
-behind A (e ∷ es) otherwise c (suc i) none later = behind A es otherwise c i none later
+following A [] otherwise c zero none later = later
+following A [] otherwise c (suc i) none later = later
+following A (e ∷ es) otherwise c zero (inl h) later = absurd (none-some _ h.1)
+following A (e ∷ es) otherwise c zero (inr h) later = inr (h.0, later)
+following A (e ∷ es) otherwise c (suc i) none later = following A es otherwise c i none later
 
 pub here : {O K R : Type 0} → (A : ChoiceEntry O K R → Type 0) (es : List (ChoiceEntry O K R)) (otherwise c : Choice K R) (i : ℕ)
     → IsChoiceAt A es i (Some c) → IsFirstOf A (drop i es) otherwise c
@@ -232,34 +232,34 @@ nowhere A es otherwise few = subst (λ l. IsFirstOf A l otherwise otherwise) (sy
 -- ---- tables
 
 -- where the code's entries are the definition's, the first one of both is the same
-pub first_of_table : {O K R : Type 0} → (are_at : O → K → List ℕ → ℕ → Type 0) (Asked : K → List ℕ → ℕ → Type 0)
+pub first_of_table : {O K R : Type 0} → (are_at : O → K → List ℕ → ℕ → Type 0) (Required : K → List ℕ → ℕ → Type 0)
     → (row : R → Option RelocationKindInfo) (after : K → ℕ → Operands → Operands) (section : List ℕ) (o : ℕ) (facts : LinkFacts)
-    → (es : List (ChoiceEntry O K R)) (ds : List (Entry K R)) (otherwise chosen : Choice K R) → IsTableOf are_at Asked es ds
+    → (es : List (ChoiceEntry O K R)) (ds : List (Entry K R)) (otherwise chosen : Choice K R) → IsTableOf are_at Required es ds
     → IsFirstOf (EntryApplies are_at row after section o facts) es otherwise chosen
-    → IsFirst (Applies Asked row after section o facts) ds otherwise chosen
-first_of_table are_at Asked row after section o facts [] [] otherwise chosen table first = first
-first_of_table are_at Asked row after section o facts (e ∷ es) [] otherwise chosen table first = absurd table
-first_of_table are_at Asked row after section o facts [] (d ∷ ds) otherwise chosen table first = absurd table
-first_of_table {O} {K} {R} are_at Asked row after section o facts (e ∷ es) (d ∷ ds) otherwise chosen table (inl h) =
-    subst (λ x. IsFirst (Applies Asked row after section o facts) (x ∷ ds) otherwise chosen) table.0
+    → IsFirst (Applies Required row after section o facts) ds otherwise chosen
+first_of_table are_at Required row after section o facts [] [] otherwise chosen table first = first
+first_of_table are_at Required row after section o facts (e ∷ es) [] otherwise chosen table first = absurd table
+first_of_table are_at Required row after section o facts [] (d ∷ ds) otherwise chosen table first = absurd table
+first_of_table {O} {K} {R} are_at Required row after section o facts (e ∷ es) (d ∷ ds) otherwise chosen table (inl h) =
+    subst (λ x. IsFirst (Applies Required row after section o facts) (x ∷ ds) otherwise chosen) table.0
     (inl (((table.1.0 section o).0 h.0.0, h.0.1), h.1))
-first_of_table {O} {K} {R} are_at Asked row after section o facts (e ∷ es) (d ∷ ds) otherwise chosen table (inr h) =
-    subst (λ x. IsFirst (Applies Asked row after section o facts) (x ∷ ds) otherwise chosen) table.0
+first_of_table {O} {K} {R} are_at Required row after section o facts (e ∷ es) (d ∷ ds) otherwise chosen table (inr h) =
+    subst (λ x. IsFirst (Applies Required row after section o facts) (x ∷ ds) otherwise chosen) table.0
     (inr (
       λ a. h.0 ((table.1.0 section o).1 a.0, a.1),
-      first_of_table are_at Asked row after section o facts es ds otherwise chosen table.1.1 h.1,
+      first_of_table are_at Required row after section o facts es ds otherwise chosen table.1.1 h.1,
     ))
 
 -- whether the code's table is empty is whether the definition's is
-is_empty_table : {O K R : Type 0} → (are_at : O → K → List ℕ → ℕ → Type 0) (Asked : K → List ℕ → ℕ → Type 0)
-    → (es : List (ChoiceEntry O K R)) (ds : List (Entry K R)) (is : Bool) → IsTableOf are_at Asked es ds → is ≡ (length es == 0)
+is_empty_table : {O K R : Type 0} → (are_at : O → K → List ℕ → ℕ → Type 0) (Required : K → List ℕ → ℕ → Type 0)
+    → (es : List (ChoiceEntry O K R)) (ds : List (Entry K R)) (is : Bool) → IsTableOf are_at Required es ds → is ≡ (length es == 0)
     → (not is ≡ false) ↔ (ds ≡ [])
-is_empty_table are_at Asked [] [] is table known = (λ h. refl, λ h. ap not known)
-is_empty_table are_at Asked [] (d ∷ ds) is table known = absurd table
-is_empty_table are_at Asked (e ∷ es) [] is table known = absurd table
-is_empty_table are_at Asked (e ∷ es) (d ∷ ds) true table known =
+is_empty_table are_at Required [] [] is table known = (λ h. refl, λ h. ap not known)
+is_empty_table are_at Required [] (d ∷ ds) is table known = absurd table
+is_empty_table are_at Required (e ∷ es) [] is table known = absurd table
+is_empty_table are_at Required (e ∷ es) (d ∷ ds) true table known =
     absurd (let none : length (e ∷ es) ≡ 0 = eqb-true (length (e ∷ es)) 0 (sym known) in omega (arith, none))
-is_empty_table are_at Asked (e ∷ es) (d ∷ ds) false table known =
+is_empty_table are_at Required (e ∷ es) (d ∷ ds) false table known =
     (λ h. absurd (true≢false h), λ h. absurd (let none : length (d ∷ ds) ≡ 0 = ap length h in omega (arith, none)))
 
 -- whether the code's table for the sample has entries is whether the definition has some somewhere

@@ -121,45 +121,45 @@ symbol_and_addend operands =
 
 -- A condition holds of the facts, where `row` is that of a name, and `after` are the operands after
 -- the rewrite.
-abbrev pub Holds : {R : Type 0} → (R → Option RelocationKindInfo) → Operands → LinkFacts
+abbrev pub ConditionHolds : {R : Type 0} → (R → Option RelocationKindInfo) → Operands → LinkFacts
     → Condition R → Type 0
-Holds row after facts bound = IsBound facts
-Holds row after facts weak_zero = facts.is_undefined_weak ≡ true
-Holds row after facts fixed_address = facts.has_fixed_address ≡ true
-Holds row after facts fixed_distance = facts.has_fixed_distance ≡ true
-Holds row after facts executable = facts.is_executable ≡ true
-Holds row after facts local_exec_base = facts.has_local_exec_base ≡ true
-Holds row after facts compressible = facts.may_compress ≡ true
-Holds row after facts marked = facts.is_relaxable ≡ true
-Holds row after facts label_marked = facts.is_label_relaxable ≡ true
-Holds row after facts got_high_part = facts.has_got_high_part ≡ true
-Holds row after facts private_base = facts.toc_base_is_exclusive ≡ true
-Holds row after facts changed_toc = facts.may_change_toc ≡ true
-Holds row after facts without_plt = facts.operands.plt_entry ≡ facts.operands.symbol
-Holds row after facts group_fits = facts.group_fits ≡ true
-Holds row after facts (addend a) = facts.operands.addend ≡ a
-Holds row after facts low_12 =
+ConditionHolds row after facts bound = IsBound facts
+ConditionHolds row after facts weak_zero = facts.is_undefined_weak ≡ true
+ConditionHolds row after facts fixed_address = facts.has_fixed_address ≡ true
+ConditionHolds row after facts fixed_distance = facts.is_pcrel_link_time_constant ≡ true
+ConditionHolds row after facts executable = facts.is_executable ≡ true
+ConditionHolds row after facts local_exec_base = facts.has_local_exec_base ≡ true
+ConditionHolds row after facts compressible = facts.may_compress ≡ true
+ConditionHolds row after facts marked = facts.is_relaxable ≡ true
+ConditionHolds row after facts label_marked = facts.is_label_relaxable ≡ true
+ConditionHolds row after facts got_high_part = facts.has_got_high_part ≡ true
+ConditionHolds row after facts private_base = facts.toc_base_is_exclusive ≡ true
+ConditionHolds row after facts changed_toc = facts.may_change_toc ≡ true
+ConditionHolds row after facts without_plt = facts.operands.plt_entry ≡ facts.operands.symbol
+ConditionHolds row after facts group_fits = facts.group_fits ≡ true
+ConditionHolds row after facts (addend a) = facts.operands.addend ≡ a
+ConditionHolds row after facts low_12 =
     HasAddresses facts × IsWithin (Some low_12_bounds) (symbol_and_addend facts.operands)
-Holds row after facts (in_reach name n) =
+ConditionHolds row after facts (in_reach name n) =
     HasAddresses facts × RowReaches (row name) (operands_before n after)
-Holds row after facts (in_reach_if_known name n) =
+ConditionHolds row after facts (in_reach_if_known name n) =
     HasAddresses facts → RowReaches (row name) (operands_before n after)
-Holds row after facts (within name bounds n) =
+ConditionHolds row after facts (within name bounds n) =
     HasAddresses facts × RowIsWithin (row name) bounds (operands_before n after)
-Holds row after facts (within_if_known name bounds n) =
+ConditionHolds row after facts (within_if_known name bounds n) =
     HasAddresses facts → RowIsWithin (row name) bounds (operands_before n after)
 
 abbrev pub AllHold : {R : Type 0} → (R → Option RelocationKindInfo) → Operands → LinkFacts
     → List (Condition R) → Type 0
 AllHold row after facts [] = ⊤
-AllHold row after facts (c ∷ cs) = Holds row after facts c × AllHold row after facts cs
+AllHold row after facts (c ∷ cs) = ConditionHolds row after facts c × AllHold row after facts cs
 
 -- An entry applies: what is required with its rewrite is at an offset of the section, and its
 -- conditions hold, where `after` gives the operands after a rewrite at an offset.
 abbrev pub Applies : {K R : Type 0} → (K → List ℕ → ℕ → Type 0) → (R → Option RelocationKindInfo)
     → (K → ℕ → Operands → Operands) → List ℕ → ℕ → LinkFacts → Entry K R → Type 0
-Applies Asked row after section o facts e =
-    Asked e.kind section o × AllHold row (after e.kind o facts.operands) facts e.conditions
+Applies Required row after section o facts e =
+    Required e.kind section o × AllHold row (after e.kind o facts.operands) facts e.conditions
 
 -- The choice is that of the first entry that applies, and else the last one.
 abbrev pub IsFirst : {K R : Type 0} → (Entry K R → Type 0) → List (Entry K R) → Choice K R

@@ -18,10 +18,10 @@ use Rattle.linker_elf.specs.declared.elf.RelocationKind.TheVariants.{Relative}
 use Rattle.linker_elf.specs.declared.elf.RelocationKindInfo.{RelocationKindInfo}
 use Rattle.linker_elf.specs.declared.elf.value.Operands.{Operands}
 use Rattle.linker_final.proofs.AArch64Chosen.{IsOfEntry, of_entry}
-use Rattle.linker_final.specs.AArch64Anywhere.{AddressesAnywhere, IsAppliedAt, IsLeft, IsNamedAs}
+use Rattle.linker_final.specs.AArch64Anywhere.{AddressesAnywhere, IsAppliedAt, UntouchedAt, IsNamedAs}
 use Rattle.linker_final.specs.AArch64Final.{AddressIsAlike, AreOfAddress, Addresses as AddressesByAdr}
 use Rattle.linker_final.specs.Final.{AreRewritten, Linked, instruction_at, two_at}
-use Rattle.linker_laws.specs.AArch64RewriteLaws.{IsPair, IsRelocated, IsRewritten, Laws, behind, pair, word_of}
+use Rattle.linker_laws.specs.AArch64RewriteLaws.{IsPair, IsRelocated, IsRewritten, Laws, following, pair, word_of}
 use Rattle.linker_rewriting.specs.Rewritten.{IsDone, IsMade, relocation_after}
 use Rattle.linker_section.specs.Relocations.{relocation_in}
 use Rattle.linker_section.specs.Values.{operands_with}
@@ -74,7 +74,7 @@ module _ (addresses : Addresses) (symbol : Symbol) (is_there : symbol.is_undefin
   place_same = omega arith
 
   pub adr_value : (addend : ℤ) → addend ≡ r.addend
-      → value_of adr_after.row (behind 4 was)
+      → value_of adr_after.row (following 4 was)
       ≡ value_of adr_after.row (operands_with AArch64 addresses adr_after.row symbol (rela (r.offset + 4) code r.symbol addend) 0)
   adr_value addend same =
       ap (λ x. value_of adr_after.row (record was { symbol = x; place = sum_64 (sum_64 addresses.section r.offset) 4 })) (there _ ∙ sym (there _))
@@ -83,7 +83,7 @@ module _ (addresses : Addresses) (symbol : Symbol) (is_there : symbol.is_undefin
 
 -- ---- a pair
 
-module _ (laws : Laws) (l : Linked) (rewriting : AreRewritten l) (aarch64 : l.setting.architecture ≡ AArch64)
+module _ (laws : Laws) (l : Linked) (rewriting : AreRewritten l) (aarch64 : l.context.architecture ≡ AArch64)
     (i j : ℕ) (of : AreOfAddress l i j) where
   abbrev first : Rela
   first = relocation_in l.relocations i
@@ -118,8 +118,8 @@ module _ (laws : Laws) (l : Linked) (rewriting : AreRewritten l) (aarch64 : l.se
       named_after l rewriting j of.low_chosen of.together.second_below of.low_decided
       (entry kinds.AdrpAddToNopAdr names.R_AARCH64_ADR_PREL_LO21 to_adr) by.kind_is by.code_is (λ o. refl) (λ a. refl)
 
-  wherever : (w : Operands) → IsLeft l first.offset
-      → IsAppliedAt names.R_AARCH64_ADR_PREL_LO21 (behind 4 w) l (first.offset + 4) → AddressIsAlike l i w
+  wherever : (w : Operands) → UntouchedAt l first.offset
+      → IsAppliedAt names.R_AARCH64_ADR_PREL_LO21 (following 4 w) l (first.offset + 4) → AddressIsAlike l i w
   wherever w left applied s adrp add small at of_page of_low =
       let o = first.offset in
       let next = of.together.next in
@@ -140,10 +140,10 @@ module _ (laws : Laws) (l : Linked) (rewriting : AreRewritten l) (aarch64 : l.se
             (subst (λ x. AreOfOneRegister (word_of (drop o l.section)) x) word_second one);
         second_is = subst IsAdd64 word_second is_add;
       } in
-      let low : IsRelocated names.R_AARCH64_ADD_ABS_LO12_NC (behind 4 w) (drop 4 (two_at l.section o)) add =
-      subst (λ xs. IsRelocated names.R_AARCH64_ADD_ABS_LO12_NC (behind 4 w) xs add) (sym (second_same l.section o)) of_low in
-      let written : IsRelocated names.R_AARCH64_ADR_PREL_LO21 (behind 4 w) (drop 4 (two_at l.rewritten o)) (instruction_at l.final (o + 4)) =
-      subst (λ xs. IsRelocated names.R_AARCH64_ADR_PREL_LO21 (behind 4 w) xs (instruction_at l.final (o + 4))) (sym (second_same l.rewritten o)) applied in
+      let low : IsRelocated names.R_AARCH64_ADD_ABS_LO12_NC (following 4 w) (drop 4 (two_at l.section o)) add =
+      subst (λ xs. IsRelocated names.R_AARCH64_ADD_ABS_LO12_NC (following 4 w) xs add) (sym (second_same l.section o)) of_low in
+      let written : IsRelocated names.R_AARCH64_ADR_PREL_LO21 (following 4 w) (drop 4 (two_at l.rewritten o)) (instruction_at l.final (o + 4)) =
+      subst (λ xs. IsRelocated names.R_AARCH64_ADR_PREL_LO21 (following 4 w) xs (instruction_at l.final (o + 4))) (sym (second_same l.rewritten o)) applied in
       let word : word_of (two_at l.rewritten o) ≡ word_of (instruction_at l.final o) =
       first_same l.rewritten o ∙ ap word_of (sym left) in
       subst (λ x. RunAlike (pair adrp add) (x ∷ word_of (instruction_at l.final (o + 4)) ∷ []) s) word
@@ -173,8 +173,8 @@ addresses laws l linked aarch64 i j of left alone symbol is_symbol is_there =
     let code = code_of (aarch64_name names.R_AARCH64_ADR_PREL_LO21) in
     any.2 w
     (left_alone l linked aarch64 i of.together.first_below (any.0) o (left.0) (omega (arith, inside, next)) alone)
-    (subst (IsAppliedAt names.R_AARCH64_ADR_PREL_LO21 (behind 4 w) l) next
+    (subst (IsAppliedAt names.R_AARCH64_ADR_PREL_LO21 (following 4 w) l) next
     (applied_there l linked aarch64 j of.together.second_below names.R_AARCH64_ADR_PREL_LO21 adr_after (any.1) (left.1) symbol
-    (ap (slice_get l.symbols) of.together.same_symbol ∙ is_symbol) 0 refl (behind 4 w)
+    (ap (slice_get l.symbols) of.together.same_symbol ∙ is_symbol) 0 refl (following 4 w)
     (adr_value l.addresses symbol is_there r code q.addend of.together.same_addend
     ∙ ap (λ n. value_of adr_after.row (operands_with AArch64 l.addresses adr_after.row symbol (rela n code r.symbol q.addend) 0)) (sym next))))

@@ -1,7 +1,7 @@
 -- Instructions of AArch64 that are rewritten each by itself do in the final bytes what the object's do.
 use Rattle.std.proofs.Common.{◌≡◌, ℕ, ◌+◌, ◌<◌, ◌≤◌, [], ◌∷◌, length, drop, false, refl, subst, Bool, true, eqb}
 use Rattle.std.proofs.lemmas.Bool.{eq-eqb}
-use Rattle.linker_aarch64.specs.AArch64Rewrites.{AArch64Entry, aarch64_entries, halves_to_local_exec, IsLdr64, IsIntoOwnSource, IsAdrp, IsAskedFor, rd_of, rn_of}
+use Rattle.linker_aarch64.specs.AArch64Rewrites.{AArch64Entry, aarch64_entries, halves_to_local_exec, IsLdr64, IsIntoOwnSource, IsAdrp, HasPattern, rd_of, rn_of}
 use Rattle.linker_aarch64.specs.declared.rewrites.RelaxationKind.TheVariants as kinds
 use Rattle.linker_elf.specs.AArch64Relocations.{aarch64_name, insn_row}
 use Rattle.linker_elf.specs.Choices.{entry, weak_zero}
@@ -17,7 +17,7 @@ use Rattle.linker_elf.specs.declared.elf.choice.Choice.{Choice}
 use Rattle.linker_final.proofs.AArch64Chosen.{of_entry}
 use Rattle.linker_final.specs.AArch64Anywhere.{BranchesAnywhere, EachBranchGoes, HighHalvesAnywhere, LowHalvesAnywhere}
 use Rattle.linker_final.specs.AArch64Final.{HighHalves, LowHalves, Branches, BranchDoesTheSame}
-use Rattle.linker_final.specs.Final.{InstructionIsLeft, Linked, IsLinked, count, instruction_at}
+use Rattle.linker_final.specs.Final.{UntouchedInstruction, Linked, IsLinked, count, instruction_at}
 use Rattle.linker_laws.specs.AArch64RewriteLaws.{IsRewritten, Laws, BranchToNop, with_entry, word_of}
 use Rattle.linker_rewriting.specs.Decisions.{decision_at}
 use Rattle.linker_rewriting.specs.declared.decisions.Decision.TheVariants.{Rewritten}
@@ -120,7 +120,7 @@ low_halves laws l linked aarch64 i chosen below is_name decided left symbol is_s
 module _ (name : AArch64Relocation) (named : IsNamed (aarch64_name name))
     (entries : aarch64_entries name ≡ (entry kinds.ReplaceWithNop names.R_AARCH64_NONE (weak_zero ∷ []) ∷ []))
     (is_branch : ℕ → Bool) (differing : ℕ → Bool) (law : BranchToNop name is_branch differing)
-    (is_one : (l : Linked) (o : ℕ) → IsAskedFor name l.section o
+    (is_one : (l : Linked) (o : ℕ) → HasPattern name l.section o
     → (o + 4 ≤ length l.section) × (is_branch (word_of (drop o l.section)) ≡ true)) where
   abbrev e : AArch64Entry
   e = entry kinds.ReplaceWithNop names.R_AARCH64_NONE (weak_zero ∷ [])
@@ -129,7 +129,7 @@ module _ (name : AArch64Relocation) (named : IsNamed (aarch64_name name))
   branch_goes l rewriting aarch64 i chosen below is_name decided =
       let o = (relocation_in l.relocations i).offset in
       let by = of_entry l rewriting aarch64 i chosen below decided name named is_name e entries in
-      let one = is_one l o by.meant.asked in (
+      let one = is_one l o by.meant.pattern in (
         named_after l rewriting i chosen below decided e by.kind_is by.code_is (λ o. refl) (λ a. refl),
         λ left w s branch small at on of_branch.
             let is : is_branch (word_of (instruction_at l.section o)) ≡ true =
@@ -138,16 +138,16 @@ module _ (name : AArch64Relocation) (named : IsNamed (aarch64_name name))
             (becomes_nop l rewriting i chosen below decided by.kind_is left) branch of_branch,
       )
 
-  pub branch_alike : (l : Linked) → IsLinked l → l.setting.architecture ≡ AArch64
+  pub branch_alike : (l : Linked) → IsLinked l → l.context.architecture ≡ AArch64
       → (i : ℕ) (chosen : Choice Relaxation ℕ) → i < count l
       → IsNameOf aarch64_name (relocation_in l.relocations i).code name
-      → decision_at l.decisions i ≡ Rewritten chosen → InstructionIsLeft l i
+      → decision_at l.decisions i ≡ Rewritten chosen → UntouchedInstruction l i
       → (row : RelocationKindInfo) → BranchDoesTheSame name differing l i row
   branch_alike l linked aarch64 i chosen below is_name decided left row alone symbol is_symbol =
       let rewriting = are_rewritten l linked in
       let o = (relocation_in l.relocations i).offset in
       let by = of_entry l rewriting aarch64 i chosen below decided name named is_name e entries in
-      let one = is_one l o by.meant.asked in
+      let one = is_one l o by.meant.pattern in
       let any = branch_goes l rewriting aarch64 i chosen below is_name decided in
       any.1 (left_alone l linked aarch64 i below (any.0) o left (one.0) alone)
       (operands_with AArch64 l.addresses row symbol (relocation_in l.relocations i) 0)
@@ -158,17 +158,17 @@ branch_row = thunkable_row (aligned_row 4 (signed_row 28 (insn_row PltRelative 2
 pub branches_anywhere : Laws → BranchesAnywhere
 branches_anywhere laws = (
   branch_goes names.R_AARCH64_JUMP26 tt refl is_b (λ _. false) (laws.weak.0)
-      (λ l o asked. (asked.0, eq-eqb _ _ (asked.1))),
+      (λ l o pattern. (pattern.0, eq-eqb _ _ (pattern.1))),
   branch_goes names.R_AARCH64_CALL26 tt refl is_bl (λ n. eqb n 30) (laws.weak.1)
-      (λ l o asked. (asked.0, eq-eqb _ _ (asked.1))),
+      (λ l o pattern. (pattern.0, eq-eqb _ _ (pattern.1))),
 )
 
 pub branches : Laws → Branches
 branches laws = (
   λ l linked aarch64 i chosen below is_name decided left.
       branch_alike names.R_AARCH64_JUMP26 tt refl is_b (λ _. false) (laws.weak.0)
-      (λ l o asked. (asked.0, eq-eqb _ _ (asked.1))) l linked aarch64 i chosen below is_name decided left branch_row,
+      (λ l o pattern. (pattern.0, eq-eqb _ _ (pattern.1))) l linked aarch64 i chosen below is_name decided left branch_row,
   λ l linked aarch64 i chosen below is_name decided left.
       branch_alike names.R_AARCH64_CALL26 tt refl is_bl (λ n. eqb n 30) (laws.weak.1)
-      (λ l o asked. (asked.0, eq-eqb _ _ (asked.1))) l linked aarch64 i chosen below is_name decided left branch_row,
+      (λ l o pattern. (pattern.0, eq-eqb _ _ (pattern.1))) l linked aarch64 i chosen below is_name decided left branch_row,
 )

@@ -1,6 +1,6 @@
 -- The rewrite that is chosen for a relocation of AArch64 with one entry in its table.
 use Rattle.std.proofs.Common.{◌≡◌, ℕ, ◌<◌, List, [], ◌∷◌, true, false, refl, sym, ap, subst, ◌∙◌}
-use Rattle.linker_aarch64.specs.AArch64Rewrites.{AArch64Entry, AArch64Applies, IsAskedFor, aarch64_entries, aarch64_matches}
+use Rattle.linker_aarch64.specs.AArch64Rewrites.{AArch64Entry, AArch64Applies, HasPattern, aarch64_entries, aarch64_matches}
 use Rattle.linker_aarch64.specs.declared.rewrites.RelaxationKind.TheVariants as kinds
 use Rattle.linker_elf.specs.AArch64Relocations.{aarch64_name}
 use Rattle.linker_elf.specs.ElfNames.{IsNamed, IsNameOf, code_of}
@@ -12,7 +12,7 @@ use Rattle.linker_final.proofs.Entries.{IsOfEntry as IsOfEntryIn, IsOfOne as IsO
 use Rattle.linker_final.specs.Final.{AreRewritten, Linked, count}
 use Rattle.linker_rewriting.specs.Decisions.{decision_at}
 use Rattle.linker_rewriting.specs.Groups.{IsScopeIn, aarch64_scope, aarch64_scope_in}
-use Rattle.linker_rewriting.specs.Labels.{is_labelled}
+use Rattle.linker_rewriting.specs.RiscVPcrelGroups.{is_labelled}
 use Rattle.linker_rewriting.specs.declared.decisions.Decision.TheVariants.{Rewritten}
 use Rattle.linker_rewriting.specs.declared.groups.Scope.{Scope}
 use Rattle.linker_rewriting.specs.declared.groups.Scope.TheVariants.{Labelled}
@@ -37,22 +37,22 @@ early_unlabelled names.R_AARCH64_TLSDESC_ADD_LO12 = refl
 early_unlabelled names.R_AARCH64_TLSDESC_CALL = refl
 early_unlabelled name = refl
 
-loads_unlabelled : (name : AArch64Relocation) → is_labelled (aarch64_scope_in phases.GotLoads name) ≡ false
+loads_unlabelled : (name : AArch64Relocation) → is_labelled (aarch64_scope_in phases.GotToPcRel name) ≡ false
 loads_unlabelled names.R_AARCH64_ADR_GOT_PAGE = refl
 loads_unlabelled names.R_AARCH64_LD64_GOT_LO12_NC = refl
 loads_unlabelled name = refl
 
-distances_unlabelled : (name : AArch64Relocation) → is_labelled (aarch64_scope_in phases.Distances name) ≡ false
+distances_unlabelled : (name : AArch64Relocation) → is_labelled (aarch64_scope_in phases.ShortPcRel name) ≡ false
 distances_unlabelled names.R_AARCH64_ADR_PREL_PG_HI21 = refl
 distances_unlabelled names.R_AARCH64_ADD_ABS_LO12_NC = refl
 distances_unlabelled name = refl
 
 unlabelled_in : (phase : Phase) (name : AArch64Relocation)
     → is_labelled (aarch64_scope_in phase name) ≡ false
-unlabelled_in phases.Early name = early_unlabelled name
-unlabelled_in phases.ThreadOffsets name = refl
-unlabelled_in phases.GotLoads name = loads_unlabelled name
-unlabelled_in phases.Distances name = distances_unlabelled name
+unlabelled_in phases.PreLayout name = early_unlabelled name
+unlabelled_in phases.TlsLocalExec name = refl
+unlabelled_in phases.GotToPcRel name = loads_unlabelled name
+unlabelled_in phases.ShortPcRel name = distances_unlabelled name
 
 -- AArch64 has no labels
 unlabelled : (phase : Phase) (code : ℕ) (scope : Scope) → IsScopeIn AArch64 phase code scope
@@ -68,7 +68,7 @@ unlabelled phase code scope is labelled =
 pub record IsMeant (name : AArch64Relocation) (section : List ℕ) (o : ℕ) (e : AArch64Entry) : Type 0
   where
     pub matches : aarch64_matches e.kind section o
-    pub asked : IsAskedFor name section o
+    pub pattern : HasPattern name section o
 
 abbrev pub IsOfEntry : AArch64Relocation → AArch64Entry → List ℕ → ℕ → Choice Relaxation ℕ → Type 0
 IsOfEntry name e section o = IsOfEntryIn aarch64_name relaxations.AArch64 (IsMeant name section o) e
@@ -77,19 +77,19 @@ abbrev pub IsOfOne : AArch64Relocation → List AArch64Entry → List ℕ → �
 IsOfOne name es section o = IsOfOneIn aarch64_name relaxations.AArch64 (IsMeant name section o) es
 
 -- a relocation that is rewritten has the name of its code
-pub named_there : (l : Linked) → AreRewritten l → l.setting.architecture ≡ AArch64 → (i : ℕ)
+pub named_there : (l : Linked) → AreRewritten l → l.context.architecture ≡ AArch64 → (i : ℕ)
     (chosen : Choice Relaxation ℕ) → i < count l → decision_at l.decisions i ≡ Rewritten chosen
     → (name : AArch64Relocation) → IsNamed (aarch64_name name)
     → code_of (aarch64_name name) ≡ (relocation_in l.relocations i).code
     → IsNameOf aarch64_name (relocation_in l.relocations i).code name
 named_there l rewriting aarch64 i chosen below decided name named code =
     let r = relocation_in l.relocations i in
-    let c = chosen_at l.setting l.kept l.relocations l.section l.decisions (count l) i chosen rewriting.decided below decided
-    (λ scope is. unlabelled l.setting.phase r.code scope (subst (λ x. IsScopeIn x l.setting.phase r.code scope) aarch64 is)) in
+    let c = chosen_at l.context l.kept l.relocations l.section l.decisions (count l) i chosen rewriting.decided below decided
+    (λ scope is. unlabelled l.context.phase r.code scope (subst (λ x. IsScopeIn x l.context.phase r.code scope) aarch64 is)) in
     let is = subst (λ x. IsArchitectureChoice x r.code l.section r.offset c.facts chosen) aarch64 c.is_choice in
     subst (IsNameOf aarch64_name r.code) (is.is_name.named name named code) is.is_name
 
-module _ (l : Linked) (rewriting : AreRewritten l) (aarch64 : l.setting.architecture ≡ AArch64) (i : ℕ)
+module _ (l : Linked) (rewriting : AreRewritten l) (aarch64 : l.context.architecture ≡ AArch64) (i : ℕ)
     (chosen : Choice Relaxation ℕ) (below : i < count l)
     (decided : decision_at l.decisions i ≡ Rewritten chosen)
     (name : AArch64Relocation) (named : IsNamed (aarch64_name name))
@@ -98,11 +98,11 @@ module _ (l : Linked) (rewriting : AreRewritten l) (aarch64 : l.setting.architec
     pub of_one : IsOfOne name (aarch64_entries name) l.section (relocation_in l.relocations i).offset chosen
     of_one =
         let r = relocation_in l.relocations i in
-        let c = chosen_at l.setting l.kept l.relocations l.section l.decisions (count l) i chosen rewriting.decided below decided
-        (λ scope is. unlabelled l.setting.phase r.code scope (subst (λ x. IsScopeIn x l.setting.phase r.code scope) aarch64 is)) in
+        let c = chosen_at l.context l.kept l.relocations l.section l.decisions (count l) i chosen rewriting.decided below decided
+        (λ scope is. unlabelled l.context.phase r.code scope (subst (λ x. IsScopeIn x l.context.phase r.code scope) aarch64 is)) in
         of_one_in aarch64_name relaxations.AArch64 (IsMeant name l.section r.offset) chosen
         (λ n. AArch64Applies n l.section r.offset c.facts) aarch64_entries kinds.NoOp refl r.code name named is_name
-        (λ e applies. record { matches = applies.0.0; asked = applies.0.1 })
+        (λ e applies. record { matches = applies.0.0; pattern = applies.0.1 })
         (subst (λ x. IsArchitectureChoice x r.code l.section r.offset c.facts chosen) aarch64 c.is_choice) c.changed
 
     -- the only one

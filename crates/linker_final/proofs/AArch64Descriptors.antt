@@ -18,10 +18,10 @@ use Rattle.linker_final.proofs.AArch64Alone.{high_after, low_after}
 use Rattle.linker_final.proofs.AArch64Chosen.{IsOfOne, of_one}
 use Rattle.linker_final.proofs.AArch64Written.{IsAfter, applied_so, applied_there, becomes, becomes_nop, entry_there, left_alone, named_after}
 use Rattle.linker_final.proofs.Written.{are_rewritten, rela}
-use Rattle.linker_final.specs.AArch64Anywhere.{DescriptorsAnywhere, EachDescriptorAnywhere, IsAppliedAt, IsLeft, IsNamedAs, LoadedOffsetIsAlikeAnywhere, OffsetIsAlikeAnywhere}
+use Rattle.linker_final.specs.AArch64Anywhere.{DescriptorsAnywhere, EachDescriptorAnywhere, IsAppliedAt, UntouchedAt, IsNamedAs, LoadedOffsetIsAlikeAnywhere, OffsetIsAlikeAnywhere}
 use Rattle.linker_final.specs.AArch64Final.{AreOfDescriptor, Descriptors, EachDescriptor, LoadsOffset, OffsetIsTheSame}
-use Rattle.linker_final.specs.Final.{InstructionIsLeft, AreRewritten, Linked, IsLinked, IsWrittenByNoOther, instruction_at}
-use Rattle.linker_laws.specs.AArch64RewriteLaws.{IsRewritten, Laws, behind, with_entry}
+use Rattle.linker_final.specs.Final.{UntouchedInstruction, AreRewritten, Linked, IsLinked, IsWrittenByNoOther, instruction_at}
+use Rattle.linker_laws.specs.AArch64RewriteLaws.{IsRewritten, Laws, following, with_entry}
 use Rattle.linker_section.specs.Relocations.{relocation_in}
 use Rattle.linker_section.specs.Values.{is_there, operands_by, operands_with}
 use Rattle.linker_section.specs.declared.needed.EntryClass.TheVariants.{ThreadOffset}
@@ -86,7 +86,7 @@ call_erased section o chosen (inr (inr nothing)) = absurd nothing
 -- ---- the sequence
 
 -- the two instructions that go become `nop`
-module _ (l : Linked) (rewriting : AreRewritten l) (aarch64 : l.setting.architecture ≡ AArch64)
+module _ (l : Linked) (rewriting : AreRewritten l) (aarch64 : l.context.architecture ≡ AArch64)
     (high low : RelaxationKind) (i j k m : ℕ) (of : AreOfDescriptor l high low i j k m) where
   pub add_gone : IsErased l.section (relocation_in l.relocations k).offset of.add_chosen
   add_gone =
@@ -117,14 +117,14 @@ module _ (l : Linked) (rewriting : AreRewritten l) (aarch64 : l.setting.architec
   pub fourth_at : (relocation_in l.relocations m).offset ≡ (relocation_in l.relocations i).offset + 12
   fourth_at = let n = of.third.next in let third = third_at in omega (arith, n, third)
 
-  pub add_nop : IsLeft l (relocation_in l.relocations k).offset
+  pub add_nop : UntouchedAt l (relocation_in l.relocations k).offset
       → IsRewritten kinds.ReplaceWithNop (instruction_at l.section ((relocation_in l.relocations i).offset + 8))
       (instruction_at l.final ((relocation_in l.relocations i).offset + 8))
   add_nop left =
       subst (λ n. IsRewritten kinds.ReplaceWithNop (instruction_at l.section n) (instruction_at l.final n)) third_at
       (becomes_nop l rewriting k of.add_chosen of.second.second_below of.add_decided add_gone.kind_is left)
 
-  pub call_nop : IsLeft l (relocation_in l.relocations m).offset
+  pub call_nop : UntouchedAt l (relocation_in l.relocations m).offset
       → IsRewritten kinds.ReplaceWithNop (instruction_at l.section ((relocation_in l.relocations i).offset + 12))
       (instruction_at l.final ((relocation_in l.relocations i).offset + 12))
   call_nop left =
@@ -165,7 +165,7 @@ to_local_anywhere laws l rewriting aarch64 i j k m of =
           (call_nop l rewriting aarch64 kinds.MovzX0Lsl16 kinds.MovkX0 i j k m of call_left)
           adrp ldr add (instruction_at l.final o) (instruction_at l.final (o + 4)) object
           (applied_so names.R_AARCH64_TLSLE_MOVW_TPREL_G1 high_after (with_entry applied.entry w) w (instruction_at l.rewritten o) (instruction_at l.final o) refl applied.first_is)
-          (applied_so names.R_AARCH64_TLSLE_MOVW_TPREL_G0_NC low_after (behind 4 (with_entry applied.entry w)) (behind 4 w) (instruction_at l.rewritten (o + 4)) (instruction_at l.final (o + 4)) refl applied.second_is),
+          (applied_so names.R_AARCH64_TLSLE_MOVW_TPREL_G0_NC low_after (following 4 (with_entry applied.entry w)) (following 4 w) (instruction_at l.rewritten (o + 4)) (instruction_at l.final (o + 4)) refl applied.second_is),
     )
 
 -- ---- for initial-exec
@@ -255,42 +255,42 @@ descriptors_anywhere laws = (to_local_anywhere laws, to_initial_anywhere laws)
 
 -- ---- in the final bytes
 
-module _ (l : Linked) (linked : IsLinked l) (aarch64 : l.setting.architecture ≡ AArch64)
+module _ (l : Linked) (linked : IsLinked l) (aarch64 : l.context.architecture ≡ AArch64)
     (high low : RelaxationKind) (i j k m : ℕ) (of : AreOfDescriptor l high low i j k m) where
-  add_left : InstructionIsLeft l k → IsWrittenByNoOther l k (relocation_in l.relocations k).offset
-      → IsLeft l (relocation_in l.relocations k).offset
+  add_left : UntouchedInstruction l k → IsWrittenByNoOther l k (relocation_in l.relocations k).offset
+      → UntouchedAt l (relocation_in l.relocations k).offset
   add_left left alone =
       left_alone l linked aarch64 k of.second.second_below (add_named l (are_rewritten l linked) aarch64 high low i j k m of)
       (relocation_in l.relocations k).offset left (add_gone l (are_rewritten l linked) aarch64 high low i j k m of).inside alone
 
-  call_left : InstructionIsLeft l m → IsWrittenByNoOther l m (relocation_in l.relocations m).offset
-      → IsLeft l (relocation_in l.relocations m).offset
+  call_left : UntouchedInstruction l m → IsWrittenByNoOther l m (relocation_in l.relocations m).offset
+      → UntouchedAt l (relocation_in l.relocations m).offset
   call_left left alone =
       left_alone l linked aarch64 m of.third.second_below (call_named l (are_rewritten l linked) aarch64 high low i j k m of)
       (relocation_in l.relocations m).offset left (call_gone l (are_rewritten l linked) aarch64 high low i j k m of).inside alone
 
 to_local : Laws → EachDescriptor kinds.MovzX0Lsl16 kinds.MovkX0 OffsetIsTheSame
-to_local laws l linked aarch64 i j k m of left behind_left add_alone call_alone symbol is_symbol got =
+to_local laws l linked aarch64 i j k m of left after_left add_alone call_alone symbol is_symbol got =
     let r2 = relocation_in l.relocations j in
     let w = operands_with AArch64 l.addresses high_after.row symbol (relocation_in l.relocations i) got in
     let low_code = code_of (aarch64_name names.R_AARCH64_TLSLE_MOVW_TPREL_G0_NC) in
     let any = to_local_anywhere laws l (are_rewritten l linked) aarch64 i j k m of in
     any.4
-    (add_left l linked aarch64 kinds.MovzX0Lsl16 kinds.MovkX0 i j k m of (behind_left.0) add_alone)
-    (call_left l linked aarch64 kinds.MovzX0Lsl16 kinds.MovkX0 i j k m of (behind_left.1) call_alone) w
+    (add_left l linked aarch64 kinds.MovzX0Lsl16 kinds.MovkX0 i j k m of (after_left.0) add_alone)
+    (call_left l linked aarch64 kinds.MovzX0Lsl16 kinds.MovkX0 i j k m of (after_left.1) call_alone) w
     (record {
       entry = got;
       first_is =
           applied_there l linked aarch64 i of.first.first_below names.R_AARCH64_TLSLE_MOVW_TPREL_G1 high_after (any.0) (left.0) symbol is_symbol 0 refl (with_entry got w) refl;
       second_is =
-          subst (IsAppliedAt names.R_AARCH64_TLSLE_MOVW_TPREL_G0_NC (behind 4 (with_entry got w)) l) of.first.next
+          subst (IsAppliedAt names.R_AARCH64_TLSLE_MOVW_TPREL_G0_NC (following 4 (with_entry got w)) l) of.first.next
           (applied_there l linked aarch64 j of.first.second_below names.R_AARCH64_TLSLE_MOVW_TPREL_G0_NC low_after (any.1) (left.1) symbol
-          (ap (slice_get l.symbols) of.first.same_symbol ∙ is_symbol) 0 refl (behind 4 (with_entry got w))
+          (ap (slice_get l.symbols) of.first.same_symbol ∙ is_symbol) 0 refl (following 4 (with_entry got w))
           (ap (λ x. value_of low_after.row (operands_with AArch64 l.addresses low_after.row symbol (rela r2.offset low_code r2.symbol x) 0)) (sym of.first.same_addend)));
     })
 
 to_initial : Laws → EachDescriptor kinds.AdrpX0 kinds.LdrX0 LoadsOffset
-to_initial laws l linked aarch64 i j k m of left behind_left add_alone call_alone symbol is_symbol small got =
+to_initial laws l linked aarch64 i j k m of left after_left add_alone call_alone symbol is_symbol small got =
     let r = relocation_in l.relocations i in
     let r2 = relocation_in l.relocations j in
     let w = operands_with AArch64 l.addresses high_after.row symbol r got in
@@ -302,8 +302,8 @@ to_initial laws l linked aarch64 i j k m of left behind_left add_alone call_alon
     entry_there l linked aarch64 i of.first.first_below names.R_AARCH64_TLSIE_ADR_GOTTPREL_PAGE21 entry_high (any.0) (left.0) symbol is_symbol
     (record { class = ThreadOffset; addend = r.addend }) refl in
     any.4
-    (add_left l linked aarch64 kinds.AdrpX0 kinds.LdrX0 i j k m of (behind_left.0) add_alone)
-    (call_left l linked aarch64 kinds.AdrpX0 kinds.LdrX0 i j k m of (behind_left.1) call_alone) w
+    (add_left l linked aarch64 kinds.AdrpX0 kinds.LdrX0 i j k m of (after_left.0) add_alone)
+    (call_left l linked aarch64 kinds.AdrpX0 kinds.LdrX0 i j k m of (after_left.1) call_alone) w
     (record {
       entry = e;
       first_is =
@@ -311,11 +311,11 @@ to_initial laws l linked aarch64 i j k m of left behind_left add_alone call_alon
           (ap (λ b. operands_by AArch64 l.addresses entry_high.row (rela r.offset high_code r.symbol r.addend) symbol (cond b (Some e) None)) there)
           (with_entry e w) refl;
       second_is =
-          subst (IsAppliedAt names.R_AARCH64_TLSIE_LD64_GOTTPREL_LO12_NC (behind 4 (with_entry e w)) l) of.first.next
+          subst (IsAppliedAt names.R_AARCH64_TLSIE_LD64_GOTTPREL_LO12_NC (following 4 (with_entry e w)) l) of.first.next
           (applied_there l linked aarch64 j of.first.second_below names.R_AARCH64_TLSIE_LD64_GOTTPREL_LO12_NC entry_low (any.1) (left.1) symbol
           (ap (slice_get l.symbols) of.first.same_symbol ∙ is_symbol) e
           (ap (λ b. operands_by AArch64 l.addresses entry_low.row (rela r2.offset low_code r2.symbol r2.addend) symbol (cond b (Some e) None)) (subst (λ x. is_there l.addresses symbol (record { class = ThreadOffset; addend = x }) ≡ true) (sym of.first.same_addend) there))
-          (behind 4 (with_entry e w))
+          (following 4 (with_entry e w))
           (ap (λ x. value_of entry_low.row (operands_with AArch64 l.addresses entry_low.row symbol (rela r2.offset low_code r2.symbol x) e)) (sym of.first.same_addend)));
     }) small
 

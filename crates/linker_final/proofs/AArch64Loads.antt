@@ -20,7 +20,7 @@ use Rattle.linker_final.proofs.AArch64Chosen.{IsOfEntry, of_entry}
 use Rattle.linker_final.specs.AArch64Anywhere.{AreAppliedAt, GotLoadsAnywhere, IsAppliedAt, IsNamedAs}
 use Rattle.linker_final.specs.AArch64Final.{AreOfLoad, GotLoads, LoadIsAlike}
 use Rattle.linker_final.specs.Final.{AreRewritten, Linked, IsRewrittenByNoOther, instruction_at}
-use Rattle.linker_laws.specs.AArch64RewriteLaws.{IsPair, IsRelocated, IsRewritten, Laws, behind, with_entry, word_of}
+use Rattle.linker_laws.specs.AArch64RewriteLaws.{IsPair, IsRelocated, IsRewritten, Laws, following, with_entry, word_of}
 use Rattle.linker_section.specs.Relocations.{relocation_in}
 use Rattle.linker_section.specs.Values.{operands_with}
 use Rattle.linker_section.specs.declared.facts.Addresses.{Addresses}
@@ -94,7 +94,7 @@ module _ (addresses : Addresses) (symbol : Symbol) (is_there : symbol.is_undefin
       ap (λ x. value_of page_after.row (record was { symbol = x })) (there _ ∙ sym (there _))
 
   pub low_value : (offset : ℕ) (addend : ℤ) → addend ≡ r.addend
-      → value_of low_after.row (behind 4 was)
+      → value_of low_after.row (following 4 was)
       ≡ value_of low_after.row (operands_with AArch64 addresses low_after.row symbol (rela offset code r.symbol addend) 0)
   low_value offset addend same =
       ap (λ x. value_of low_after.row (record was { symbol = x })) (there _ ∙ sym (there _))
@@ -102,7 +102,7 @@ module _ (addresses : Addresses) (symbol : Symbol) (is_there : symbol.is_undefin
 
 -- ---- a pair
 
-module _ (laws : Laws) (l : Linked) (rewriting : AreRewritten l) (aarch64 : l.setting.architecture ≡ AArch64)
+module _ (laws : Laws) (l : Linked) (rewriting : AreRewritten l) (aarch64 : l.context.architecture ≡ AArch64)
     (i j : ℕ) (of : AreOfLoad l i j) (alone : IsRewrittenByNoOther l i (relocation_in l.relocations i).offset) where
   abbrev first : Rela
   first = relocation_in l.relocations i
@@ -136,14 +136,14 @@ module _ (laws : Laws) (l : Linked) (rewriting : AreRewritten l) (aarch64 : l.se
   wherever w applied s adrp ldr small holds at of_entry_page of_entry_low =
       let o = first.offset in
       let next = of.together.next in
-      let asked = low_entry.meant.asked in
-      let inside = asked.1.1.0 in
+      let pattern = low_entry.meant.pattern in
+      let inside = pattern.1.1.0 in
       let back : second.offset - 4 ≡ o = omega (arith, next) in
       let is_ldr : IsLdr64 (word_of (drop (o + 4) l.section)) =
-      subst (λ n. IsLdr64 (word_of (drop n l.section))) next (asked.1.1.1.0) in
+      subst (λ n. IsLdr64 (word_of (drop n l.section))) next (pattern.1.1.1.0) in
       let one : AreOfOneRegister (word_of (drop o l.section)) (word_of (drop (o + 4) l.section)) =
       subst (λ n. AreOfOneRegister (word_of (drop n l.section)) (word_of (drop (o + 4) l.section))) back
-      (subst (λ n. AreOfOneRegister (word_of (drop (second.offset - 4) l.section)) (word_of (drop n l.section))) next (asked.1.1.1.1)) in
+      (subst (λ n. AreOfOneRegister (word_of (drop (second.offset - 4) l.section)) (word_of (drop n l.section))) next (pattern.1.1.1.1)) in
       let together : IsPair IsLdr64 w s (instruction_at l.section o) (instruction_at l.section (o + 4)) =
       record {
         small = small;
@@ -158,8 +158,8 @@ module _ (laws : Laws) (l : Linked) (rewriting : AreRewritten l) (aarch64 : l.se
       let page_written : IsRelocated names.R_AARCH64_ADR_PREL_PG_HI21 w (instruction_at l.section o) (instruction_at l.final o) =
       subst (λ xs. IsRelocated names.R_AARCH64_ADR_PREL_PG_HI21 w xs (instruction_at l.final o)) stayed
       (applied_so names.R_AARCH64_ADR_PREL_PG_HI21 page_after (with_entry applied.entry w) w (instruction_at l.rewritten o) (instruction_at l.final o) refl applied.first_is) in
-      let low_written : IsRelocated names.R_AARCH64_ADD_ABS_LO12_NC (behind 4 w) (instruction_at l.rewritten (o + 4)) (instruction_at l.final (o + 4)) =
-      applied_so names.R_AARCH64_ADD_ABS_LO12_NC low_after (behind 4 (with_entry applied.entry w)) (behind 4 w) (instruction_at l.rewritten (o + 4)) (instruction_at l.final (o + 4)) refl applied.second_is in
+      let low_written : IsRelocated names.R_AARCH64_ADD_ABS_LO12_NC (following 4 w) (instruction_at l.rewritten (o + 4)) (instruction_at l.final (o + 4)) =
+      applied_so names.R_AARCH64_ADD_ABS_LO12_NC low_after (following 4 (with_entry applied.entry w)) (following 4 w) (instruction_at l.rewritten (o + 4)) (instruction_at l.final (o + 4)) refl applied.second_is in
       let added : IsRewritten kinds.LdrToAdd (instruction_at l.section (o + 4)) (instruction_at l.rewritten (o + 4)) =
       subst (λ n. IsRewritten kinds.LdrToAdd (instruction_at l.section n) (instruction_at l.rewritten n)) next
       (becomes l rewriting j of.low_chosen of.together.second_below of.low_decided kinds.LdrToAdd is_ldr64 (λ word. 0x91000000 + field word 0 21) refl low_entry.kind_is) in
@@ -189,8 +189,8 @@ joined laws l linked aarch64 i j of left alone symbol is_symbol is_there got =
           applied_there l linked aarch64 i of.together.first_below names.R_AARCH64_ADR_PREL_PG_HI21 page_after (any.0) (left.0) symbol is_symbol 0 refl
           (with_entry got w) (page_value l.addresses symbol is_there r (code_of (aarch64_name names.R_AARCH64_ADR_PREL_PG_HI21)) got);
       second_is =
-          subst (IsAppliedAt names.R_AARCH64_ADD_ABS_LO12_NC (behind 4 (with_entry got w)) l) of.together.next
+          subst (IsAppliedAt names.R_AARCH64_ADD_ABS_LO12_NC (following 4 (with_entry got w)) l) of.together.next
           (applied_there l linked aarch64 j of.together.second_below names.R_AARCH64_ADD_ABS_LO12_NC low_after (any.1) (left.1) symbol
-          (ap (slice_get l.symbols) of.together.same_symbol ∙ is_symbol) 0 refl (behind 4 (with_entry got w))
+          (ap (slice_get l.symbols) of.together.same_symbol ∙ is_symbol) 0 refl (following 4 (with_entry got w))
           (low_value l.addresses symbol is_there r (code_of (aarch64_name names.R_AARCH64_ADD_ABS_LO12_NC)) got q.offset q.addend of.together.same_addend));
     })

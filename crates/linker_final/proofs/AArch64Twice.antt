@@ -20,12 +20,12 @@ use Rattle.linker_final.proofs.AArch64Loads.{got_loads_anywhere, got_row, low_af
 use Rattle.linker_final.proofs.AArch64Written.{applied_so, applied_there, left_alone}
 use Rattle.linker_final.proofs.Twice.{bytes_between, relocation_between}
 use Rattle.linker_final.proofs.Written.{rela, second_same}
-use Rattle.linker_final.specs.AArch64Anywhere.{IsAppliedAt, IsLeft}
+use Rattle.linker_final.specs.AArch64Anywhere.{IsAppliedAt, UntouchedAt}
 use Rattle.linker_final.specs.AArch64Final.{AreOfAddress}
 use Rattle.linker_final.specs.AArch64Twice.{FinalLoadsTwice, IsRewrittenTwice, LoadsTwice, RunsCompose}
 use Rattle.linker_final.specs.Final.{Linked, instruction_at, two_at}
 use Rattle.linker_laws.specs.AArch64Machine.{AreAlikeBut, State, RunAlike, run}
-use Rattle.linker_laws.specs.AArch64RewriteLaws.{IsRelocated, Laws, behind, pair, with_entry, word_of}
+use Rattle.linker_laws.specs.AArch64RewriteLaws.{IsRelocated, Laws, following, pair, with_entry, word_of}
 use Rattle.linker_section.specs.Relocations.{relocation_in}
 use Rattle.linker_section.specs.Values.{operands_with}
 use Rattle.linker_section.specs.declared.facts.Addresses.{Addresses}
@@ -149,14 +149,14 @@ loads_twice laws l m i j twice w applied left adr s adrp ldr small holds at of_p
     let adrp_there : IsRelocated page_name w (two_at m.section o) (with_word (word_of between) (drop 4 both)) =
     subst (λ xs. IsRelocated page_name w xs (with_word (word_of between) (drop 4 both))) (sym same)
     (wider w both between of_first) in
-    let add_there : IsRelocated low_name (behind 4 w) (instruction_at m.section (o + 4)) (instruction_at l.final (o + 4)) =
-    subst (λ xs. IsRelocated low_name (behind 4 w) xs (instruction_at l.final (o + 4))) (sym (sym (second_same m.section o) ∙ (ap (drop 4) same ∙ second_same l.rewritten o)))
-    (applied_so low_name low_after (behind 4 (with_entry applied.entry w)) (behind 4 w) (instruction_at l.rewritten (o + 4)) (instruction_at l.final (o + 4)) refl applied.second_is) in
+    let add_there : IsRelocated low_name (following 4 w) (instruction_at m.section (o + 4)) (instruction_at l.final (o + 4)) =
+    subst (λ xs. IsRelocated low_name (following 4 w) xs (instruction_at l.final (o + 4))) (sym (sym (second_same m.section o) ∙ (ap (drop 4) same ∙ second_same l.rewritten o)))
+    (applied_so low_name low_after (following 4 (with_entry applied.entry w)) (following 4 w) (instruction_at l.rewritten (o + 4)) (instruction_at l.final (o + 4)) refl applied.second_is) in
     let ends : RunAlike (pair (with_word (word_of between) (drop 4 both)) (instruction_at l.final (o + 4)))
     (pair (instruction_at m.final o) (instruction_at m.final (o + 4))) s =
-    subst (λ n. IsLeft m n → IsAppliedAt names.R_AARCH64_ADR_PREL_LO21 (behind 4 w) m (n + 4)
+    subst (λ n. UntouchedAt m n → IsAppliedAt names.R_AARCH64_ADR_PREL_LO21 (following 4 w) m (n + 4)
     → IsRelocated page_name w (two_at m.section n) (with_word (word_of between) (drop 4 both))
-    → IsRelocated low_name (behind 4 w) (instruction_at m.section (n + 4)) (instruction_at l.final (o + 4))
+    → IsRelocated low_name (following 4 w) (instruction_at m.section (n + 4)) (instruction_at l.final (o + 4))
     → RunAlike (pair (with_word (word_of between) (drop 4 both)) (instruction_at l.final (o + 4))) (pair (instruction_at m.final n) (instruction_at m.final (n + 4))) s) there
     (λ left adr of_adrp of_add. second.2 w left adr s (with_word (word_of between) (drop 4 both)) (instruction_at l.final (o + 4)) small at of_adrp of_add)
     left adr adrp_there add_there in
@@ -182,7 +182,7 @@ module _ (addresses : Addresses) (symbol : Symbol) (is_there : symbol.is_undefin
   place_same : sum_64 (sum_64 addresses.section r.offset) 4 ≡ sum_64 addresses.section (r.offset + 4)
   place_same = omega arith
 
-  adr_of_load : value_of adr_after.row (behind 4 was) ≡ value_of adr_after.row is
+  adr_of_load : value_of adr_after.row (following 4 was) ≡ value_of adr_after.row is
   adr_of_load =
       ap (λ x. value_of adr_after.row (record was { symbol = x; place = sum_64 (sum_64 addresses.section r.offset) 4 })) (strong _ ∙ sym (strong _))
       ∙ ap (λ x. value_of adr_after.row (record is { place = x })) place_same
@@ -207,11 +207,11 @@ final_loads_twice laws l m i j twice linked left alone symbol is_symbol is_there
     let low_symbol : (relocation_in m.relocations j).symbol ≡ r.symbol = ap (λ (q : Rela). q.symbol) low ∙ twice.load.together.same_symbol in
     let low_addend : (relocation_in m.relocations j).addend ≡ r.addend = ap (λ (q : Rela). q.addend) low ∙ twice.load.together.same_addend in
     loads_twice laws l m i j twice w applied
-    (subst (IsLeft m) there
+    (subst (UntouchedAt m) there
     (left_alone m linked architecture i of.together.first_below (any.0) (relocation_in m.relocations i).offset (left.0) (omega (arith, inside, next)) alone))
-    (subst (IsAppliedAt names.R_AARCH64_ADR_PREL_LO21 (behind 4 w) m) low_place
+    (subst (IsAppliedAt names.R_AARCH64_ADR_PREL_LO21 (following 4 w) m) low_place
     (applied_there m linked architecture j of.together.second_below names.R_AARCH64_ADR_PREL_LO21 adr_after (any.1) (left.1) symbol
-    (ap (slice_get m.symbols) low_symbol ∙ is_symbol) 0 refl (behind 4 w)
+    (ap (slice_get m.symbols) low_symbol ∙ is_symbol) 0 refl (following 4 w)
     (adr_of_load m.addresses symbol is_there r code got
     ∙ (ap (λ n. value_of adr_after.row (operands_with AArch64 m.addresses adr_after.row symbol (rela n code r.symbol r.addend) 0)) (sym low_place)
     ∙ ap (λ a. value_of adr_after.row (operands_with AArch64 m.addresses adr_after.row symbol (rela (relocation_in m.relocations j).offset code r.symbol a) 0)) (sym low_addend)))))

@@ -19,8 +19,8 @@ use Rattle.linker_elf.specs.declared.elf.value.Operands.{Operands}
 use Rattle.linker_final.proofs.InstructionFields.{IsOfInstruction}
 use Rattle.linker_final.proofs.Phases.{relocation_left}
 use Rattle.linker_final.proofs.Written.{IsRowOf, applied_after, by_name, entry_is_there, made_there, rela, relocation_is, unwritten_without, with_operands}
-use Rattle.linker_final.specs.AArch64Anywhere.{IsAppliedAt, IsLeft, IsNamedAs}
-use Rattle.linker_final.specs.Final.{InstructionIsLeft, IsLeftAlone, AreRewritten, Linked, IsLinked, IsWrittenByNoOther, count, instruction_at}
+use Rattle.linker_final.specs.AArch64Anywhere.{IsAppliedAt, UntouchedAt, IsNamedAs}
+use Rattle.linker_final.specs.Final.{UntouchedInstruction, UntouchedBytes, AreRewritten, Linked, IsLinked, IsWrittenByNoOther, count, instruction_at}
 use Rattle.linker_laws.specs.AArch64RewriteLaws.{BeginsRewritten, IsRelocated, IsRewritten}
 use Rattle.linker_rewriting.specs.Decisions.{decision_at}
 use Rattle.linker_rewriting.specs.declared.decisions.Decision.TheVariants.{Rewritten}
@@ -44,9 +44,9 @@ pub record IsAfter (name : AArch64Relocation) : Type 0 where
   pub named : IsNamed (aarch64_name name)
   pub of : IsOfInstruction 4 row
 
-row_of : (l : Linked) → l.setting.architecture ≡ AArch64 → (name : AArch64Relocation)
+row_of : (l : Linked) → l.context.architecture ≡ AArch64 → (name : AArch64Relocation)
     → IsNamed (aarch64_name name) → (row : RelocationKindInfo) → aarch64_row name ≡ Some row
-    → IsRowOf l.setting.architecture (code_of (aarch64_name name)) row
+    → IsRowOf l.context.architecture (code_of (aarch64_name name)) row
 row_of l aarch64 name named row is found there =
     by_name aarch64_name aarch64_row name named found
     (subst (λ x. IsRow x (code_of (aarch64_name name)) found) aarch64 there) ∙ is
@@ -84,7 +84,7 @@ becomes l rewriting i chosen below decided kind test new is kind_is =
 pub becomes_nop : (l : Linked) → AreRewritten l → (i : ℕ) (chosen : Choice Relaxation ℕ) → i < count l
     → decision_at l.decisions i ≡ Rewritten chosen
     → chosen.kind ≡ relaxations.AArch64 kinds.ReplaceWithNop
-    → IsLeft l (relocation_in l.relocations i).offset
+    → UntouchedAt l (relocation_in l.relocations i).offset
     → IsRewritten kinds.ReplaceWithNop (instruction_at l.section (relocation_in l.relocations i).offset)
     (instruction_at l.final (relocation_in l.relocations i).offset)
 becomes_nop l rewriting i chosen below decided kind_is left =
@@ -101,7 +101,7 @@ applied_so name a o p before new same is =
 
 -- ---- what a call that writes values does then
 
-module _ (l : Linked) (linked : IsLinked l) (aarch64 : l.setting.architecture ≡ AArch64) (i : ℕ)
+module _ (l : Linked) (linked : IsLinked l) (aarch64 : l.context.architecture ≡ AArch64) (i : ℕ)
     (below : i < count l) where
   abbrev r : Rela
   r = relocation_in l.relocations i
@@ -111,7 +111,7 @@ module _ (l : Linked) (linked : IsLinked l) (aarch64 : l.setting.architecture �
 
   -- the relocation that a rewrite left is applied
   pub applied_there : (name : AArch64Relocation) (a : IsAfter name) → IsNamedAs name l i
-      → InstructionIsLeft l i → (symbol : Symbol) → slice_get l.symbols r.symbol ≡ Some symbol → (got : ℕ)
+      → UntouchedInstruction l i → (symbol : Symbol) → slice_get l.symbols r.symbol ≡ Some symbol → (got : ℕ)
       → operands_by AArch64 l.addresses a.row (after name) symbol
       (entry_address l.addresses symbol (entry_of a.row r.addend symbol.is_thread_local))
       ≡ Ok (operands_with AArch64 l.addresses a.row symbol (after name) got)
@@ -132,7 +132,7 @@ module _ (l : Linked) (linked : IsLinked l) (aarch64 : l.setting.architecture �
 
   -- the entry of its formula is there
   pub entry_there : (name : AArch64Relocation) (a : IsAfter name) → IsNamedAs name l i
-      → InstructionIsLeft l i → (symbol : Symbol) → slice_get l.symbols r.symbol ≡ Some symbol
+      → UntouchedInstruction l i → (symbol : Symbol) → slice_get l.symbols r.symbol ≡ Some symbol
       → (entry : Entry) → entry_of a.row r.addend symbol.is_thread_local ≡ Some entry
       → is_there l.addresses symbol entry ≡ true
   entry_there name a named left symbol is_symbol entry is_entry =
@@ -141,8 +141,8 @@ module _ (l : Linked) (linked : IsLinked l) (aarch64 : l.setting.architecture �
       (row_of l aarch64 name a.named a.row a.is) symbol is_symbol entry is_entry
 
   -- an instruction is left that no other relocation writes, where the own one goes
-  pub left_alone : IsNamedAs names.R_AARCH64_NONE l i → (p : ℕ) → IsLeftAlone l i p 4 → p + 4 ≤ length l.section
-      → IsWrittenByNoOther l i p → IsLeft l p
+  pub left_alone : IsNamedAs names.R_AARCH64_NONE l i → (p : ℕ) → UntouchedBytes l i p 4 → p + 4 ≤ length l.section
+      → IsWrittenByNoOther l i p → UntouchedAt l p
   left_alone named p left inside alone =
       unwritten_without l linked i below p left (row_of l aarch64 names.R_AARCH64_NONE tt (bytes_row NoValue 0) refl)
       (ap (λ (x : Rela). x.code) named) inside alone

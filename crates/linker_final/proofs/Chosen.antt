@@ -5,18 +5,18 @@ use Rattle.linker_elf.specs.declared.elf.choice.Choice.{Choice}
 use Rattle.linker_elf.specs.declared.elf.choice.LinkFacts.{LinkFacts}
 use Rattle.linker_rewriting.specs.Candidates.{IsCandidate, IsCandidateWith}
 use Rattle.linker_rewriting.specs.Decisions.{AreDecidedIn, IsDecidedAfter, IsDecidedAlone, IsScopeDecision, IsGroupDecision, IsLabelDecision, IsMatchedDecision, decision_at, decision_ahead, decision_of, is_taken}
-use Rattle.linker_rewriting.specs.Facts.{Setting, link_facts, facts_by, facts_at, facts_with}
+use Rattle.linker_rewriting.specs.Facts.{RelaxContext, link_facts, facts_by, facts_at, facts_with}
 use Rattle.linker_rewriting.specs.Groups.{IsScopeIn, group_stays}
 use Rattle.linker_rewriting.specs.Sequences.{is_marked_in}
 use Rattle.linker_rewriting.specs.declared.decisions.Decision.{Decision}
-use Rattle.linker_rewriting.specs.declared.decisions.Decision.TheVariants.{Kept, Rewritten, TakenAlong, Redirected}
+use Rattle.linker_rewriting.specs.declared.decisions.Decision.TheVariants.{Kept, Rewritten, Consumed, RewrittenWithSymbol}
 use Rattle.linker_rewriting.specs.declared.facts.OutputFacts.{OutputFacts}
 use Rattle.linker_rewriting.specs.declared.facts.SymbolFacts.{SymbolFacts}
-use Rattle.linker_rewriting.specs.declared.groups.KeptGroups.{KeptGroups}
+use Rattle.linker_rewriting.specs.declared.groups.UnrelaxableGroups.{UnrelaxableGroups}
 use Rattle.linker_rewriting.specs.declared.groups.Scope.{Scope}
-use Rattle.linker_rewriting.specs.declared.groups.Scope.TheVariants.{Unlisted, Alone, Grouped, Ahead, Matched, Labelled}
+use Rattle.linker_rewriting.specs.declared.groups.Scope.TheVariants.{NotRelaxable, Independent, Grouped, FirstOfPair, IfGroupMatches, Labelled}
 use Rattle.linker_rewriting.specs.declared.phases.Phase.{Phase}
-use Rattle.linker_rewriting.specs.declared.phases.Phase.TheVariants.{Early, ThreadOffsets, GotLoads, Distances}
+use Rattle.linker_rewriting.specs.declared.phases.Phase.TheVariants.{PreLayout, TlsLocalExec, GotToPcRel, ShortPcRel}
 use Rattle.linker_section.specs.Relocations.{relocation_in}
 use Rattle.linker_section.specs.declared.facts.Addresses.{Addresses}
 use Rattle.linker_section.specs.declared.facts.Symbol.{Symbol}
@@ -27,7 +27,7 @@ use Rattle.linker_utils.specs.declared.elf.Architecture.{Architecture}
 use Rattle.linker_utils.specs.declared.elf.Architecture.TheVariants.{AArch64, RiscV, LoongArch64, Ppc64, X86_64}
 
 -- a relocation's rewrite, by facts with its addend
-pub record IsChosen (s : Setting) (section : List ℕ) (r : Rela) (chosen : Choice Relaxation ℕ)
+pub record IsChosen (s : RelaxContext) (section : List ℕ) (r : Rela) (chosen : Choice Relaxation ℕ)
     : Type 0 where
   pub facts : LinkFacts
   pub is_choice : IsArchitectureChoice s.architecture r.code section r.offset facts chosen
@@ -35,7 +35,7 @@ pub record IsChosen (s : Setting) (section : List ℕ) (r : Rela) (chosen : Choi
   pub addend : facts.operands.addend ≡ r.addend
   pub marked : Bool
   -- before addresses are known the calls of PowerPC64 alone are marked
-  pub unmarked : s.phase ≡ Early → (s.architecture ≡ Ppc64 → ⊥) → marked ≡ false
+  pub unmarked : s.phase ≡ PreLayout → (s.architecture ≡ Ppc64 → ⊥) → marked ≡ false
   pub facts_are : link_facts s.phase s.output s.symbols s.addresses s.values r r marked ≡ Some facts
 
 -- ---- the facts have the addend of their subject
@@ -66,13 +66,13 @@ placed_has phase output addresses r subject marked symbol (Some value) =
 at_has : (phase : Phase) (output : OutputFacts) (addresses : Addresses) (values : List Symbol)
     (r subject : Rela) (marked : Bool) (symbol : SymbolFacts)
     → HasAddend subject.addend (facts_at phase output addresses values r subject marked symbol)
-at_has Early output addresses values r subject marked symbol = has_some subject.addend _ refl
-at_has ThreadOffsets output addresses values r subject marked symbol =
-    placed_has ThreadOffsets output addresses r subject marked symbol (slice_get values subject.symbol)
-at_has GotLoads output addresses values r subject marked symbol =
-    placed_has GotLoads output addresses r subject marked symbol (slice_get values subject.symbol)
-at_has Distances output addresses values r subject marked symbol =
-    placed_has Distances output addresses r subject marked symbol (slice_get values subject.symbol)
+at_has PreLayout output addresses values r subject marked symbol = has_some subject.addend _ refl
+at_has TlsLocalExec output addresses values r subject marked symbol =
+    placed_has TlsLocalExec output addresses r subject marked symbol (slice_get values subject.symbol)
+at_has GotToPcRel output addresses values r subject marked symbol =
+    placed_has GotToPcRel output addresses r subject marked symbol (slice_get values subject.symbol)
+at_has ShortPcRel output addresses values r subject marked symbol =
+    placed_has ShortPcRel output addresses r subject marked symbol (slice_get values subject.symbol)
 
 by_has : (phase : Phase) (output : OutputFacts) (addresses : Addresses) (values : List Symbol)
     (r subject : Rela) (marked : Bool) (symbol : Option SymbolFacts)
@@ -84,16 +84,16 @@ by_has phase output addresses values r subject marked (Some symbol) =
 -- ---- candidates
 
 unmarked_in : (bytes : List ℕ) (n : ℕ) (r : Rela) (architecture : Architecture)
-    → (architecture ≡ Ppc64 → ⊥) → is_marked_in Early architecture bytes n r ≡ false
+    → (architecture ≡ Ppc64 → ⊥) → is_marked_in PreLayout architecture bytes n r ≡ false
 unmarked_in bytes n r AArch64 isnt = refl
 unmarked_in bytes n r RiscV isnt = refl
 unmarked_in bytes n r LoongArch64 isnt = refl
 unmarked_in bytes n r Ppc64 isnt = absurd (isnt refl)
 unmarked_in bytes n r X86_64 isnt = refl
 
-with_facts : (s : Setting) (bytes section : List ℕ) (n : ℕ) (r : Rela)
+with_facts : (s : RelaxContext) (bytes section : List ℕ) (n : ℕ) (r : Rela)
     (chosen : Choice Relaxation ℕ) (marked : Bool) (f : Option LinkFacts)
-    → (s.phase ≡ Early → (s.architecture ≡ Ppc64 → ⊥) → marked ≡ false)
+    → (s.phase ≡ PreLayout → (s.architecture ≡ Ppc64 → ⊥) → marked ≡ false)
     → link_facts s.phase s.output s.symbols s.addresses s.values r r marked ≡ f → HasAddend r.addend f
     → IsCandidateWith s bytes section n r f (Some chosen) → IsChosen s section r chosen
 unfolding HasAddend
@@ -110,7 +110,7 @@ with_facts s bytes section n r chosen marked (Some facts) unmarked facts_are has
       facts_are = facts_are;
     }
 
-of_candidate : (s : Setting) (bytes section : List ℕ) (n : ℕ) (r : Rela)
+of_candidate : (s : RelaxContext) (bytes section : List ℕ) (n : ℕ) (r : Rela)
     (chosen : Choice Relaxation ℕ) → IsCandidate s bytes section n r (Some chosen)
     → IsChosen s section r chosen
 of_candidate s bytes section n r chosen is =
@@ -127,7 +127,7 @@ of_candidate s bytes section n r chosen is =
 -- by which an instruction is rewritten
 abbrev pub choice_of : Decision → Option (Choice Relaxation ℕ)
 choice_of (Rewritten chosen) = Some chosen
-choice_of (Redirected chosen subject) = Some chosen
+choice_of (RewrittenWithSymbol chosen subject) = Some chosen
 choice_of decision = None
 
 abbrev choice_in : Choice Relaxation ℕ → Option (Choice Relaxation ℕ) → Choice Relaxation ℕ
@@ -135,18 +135,18 @@ choice_in other None = other
 choice_in other (Some chosen) = chosen
 
 -- what becomes of a relocation alone or with its group
-pub record IsChosenAlone (s : Setting) (section : List ℕ) (r : Rela) (decision : Decision)
+pub record IsChosenAlone (s : RelaxContext) (section : List ℕ) (r : Rela) (decision : Decision)
     (mine : Choice Relaxation ℕ) : Type 0 where
   pub chosen : IsChosen s section r mine
   pub is : decision ≡ Rewritten mine
 
 -- and by its label
-pub record IsOfLabel (s : Setting) (bytes section : List ℕ) (n : ℕ) (r : Rela) (decision : Decision)
+pub record IsOfLabel (s : RelaxContext) (bytes section : List ℕ) (n : ℕ) (r : Rela) (decision : Decision)
     : Type 0 where
   pub scope_is : IsScopeIn s.architecture s.phase r.code Labelled
   pub label_is : IsLabelDecision s bytes section n r decision
 
-module _ (s : Setting) (bytes section : List ℕ) (n : ℕ) (r : Rela) (decision : Decision)
+module _ (s : RelaxContext) (bytes section : List ℕ) (n : ℕ) (r : Rela) (decision : Decision)
     (chosen : Choice Relaxation ℕ) (by : choice_of decision ≡ Some chosen) where
   isnt : (other : Decision) → choice_of other ≡ None → decision ≡ other → ⊥
   isnt other none same = let e : Some chosen ≡ None = sym by ∙ (ap choice_of same ∙ none) in cc
@@ -177,30 +177,30 @@ module _ (s : Setting) (bytes section : List ℕ) (n : ℕ) (r : Rela) (decision
 
   of_ahead : (is_rewritten : Bool) → decision ≡ decision_ahead is_rewritten
       → IsChosenAlone s section r decision chosen
-  of_ahead true is = absurd (isnt TakenAlong refl is)
+  of_ahead true is = absurd (isnt Consumed refl is)
   of_ahead false is = absurd (isnt Kept refl is)
 
-  of_scope : (kept : List KeptGroups) (scope : Scope) → IsScopeIn s.architecture s.phase r.code scope
+  of_scope : (kept : List UnrelaxableGroups) (scope : Scope) → IsScopeIn s.architecture s.phase r.code scope
       → IsScopeDecision s kept bytes section n r scope decision
       → IsChosenAlone s section r decision chosen ⊎ IsOfLabel s bytes section n r decision
-  of_scope kept Unlisted of is = absurd (isnt Kept refl is)
-  of_scope kept Alone of is = inl (of_option (is.0) (is.1) (is.2))
+  of_scope kept NotRelaxable of is = absurd (isnt Kept refl is)
+  of_scope kept Independent of is = inl (of_option (is.0) (is.1) (is.2))
   of_scope kept (Grouped group) of is = inl (of_group (group_stays kept group r.symbol) is)
-  of_scope kept (Matched group) of is = inl (of_match (group_stays kept group r.symbol) is)
+  of_scope kept (IfGroupMatches group) of is = inl (of_match (group_stays kept group r.symbol) is)
   of_scope kept Labelled of is = inr (record { scope_is = of; label_is = is })
-  of_scope kept Ahead of is = inl (of_ahead (is.0) (is.2))
+  of_scope kept FirstOfPair of is = inl (of_ahead (is.0) (is.2))
 
-  of_decided : (kept : List KeptGroups) (taken : Bool) → r ≡ relocation_in bytes n
+  of_decided : (kept : List UnrelaxableGroups) (taken : Bool) → r ≡ relocation_in bytes n
       → IsDecidedAfter s kept bytes section n taken decision
       → IsChosenAlone s section r decision chosen ⊎ IsOfLabel s bytes section n r decision
-  of_decided kept true is_there is = absurd (isnt TakenAlong refl is)
+  of_decided kept true is_there is = absurd (isnt Consumed refl is)
   of_decided kept false is_there is =
       let alone : IsDecidedAlone s kept bytes section n r decision =
       subst (λ x. IsDecidedAlone s kept bytes section n x decision) (sym is_there) is in
       of_scope kept (alone.0) (alone.1) (alone.2)
 
 -- alone or with its group, or by its label
-pub chosen_or_labelled : (s : Setting) (kept : List KeptGroups) (bytes section : List ℕ)
+pub chosen_or_labelled : (s : RelaxContext) (kept : List UnrelaxableGroups) (bytes section : List ℕ)
     (decisions : List Decision) (limit n : ℕ) (decision : Decision) (chosen : Choice Relaxation ℕ)
     → AreDecidedIn s kept bytes section decisions limit → n < limit
     → decision_at decisions n ≡ decision → choice_of decision ≡ Some chosen
@@ -211,7 +211,7 @@ chosen_or_labelled s kept bytes section decisions limit n decision chosen decide
     (subst (IsDecidedAfter s kept bytes section n (is_taken decisions n)) is (decided n below))
 
 -- of a relocation whose scope is no label
-pub chosen_at : (s : Setting) (kept : List KeptGroups) (bytes section : List ℕ)
+pub chosen_at : (s : RelaxContext) (kept : List UnrelaxableGroups) (bytes section : List ℕ)
     (decisions : List Decision) (limit n : ℕ) (chosen : Choice Relaxation ℕ)
     → AreDecidedIn s kept bytes section decisions limit → n < limit
     → decision_at decisions n ≡ Rewritten chosen

@@ -89,7 +89,7 @@ eight_bytes (a ∷ b ∷ c ∷ d ∷ e ∷ f ∷ g ∷ h ∷ i ∷ xs) number lo
 
 -- What is left of a relocation of n bytes: its formula has a value, the bytes between accept it, and
 -- those in the end are its lowest.
-pub record IsLeft (n : ℕ) (row : RelocationKindInfo) (operands : Operands) (o : ℕ) (before after : List ℕ)
+pub record UntouchedField (n : ℕ) (row : RelocationKindInfo) (operands : Operands) (o : ℕ) (before after : List ℕ)
     : Type 0 where
   pub value : ℤ
   pub value_is : value_of row operands ≡ Some value
@@ -115,7 +115,7 @@ module _ (n : ℕ) (there : 0 < n) (are : AreLowest n) (architecture : Architect
     → IsField architecture bytes before j other
     → (offset_at bytes i < offset_at bytes j) ⊎ (field_end bytes before j other ≤ offset_at bytes i))
   where
-    pub left : IsLeft n row operands (offset_at bytes i) before after
+    pub left : UntouchedField n row operands (offset_at bytes i) before after
     left =
         let o = offset_at bytes i in
         let found = written.can.found in
@@ -171,5 +171,5 @@ module _ (n : ℕ) (there : 0 < n) (are : AreLowest n) (architecture : Architect
             subst (λ p. 0 < field_len other (drop p before)) (sym same) some in
             elim (alone j other most isnt (record { is_row = has.is_row; some = wide })) [
               | inl ahead ↦ absurd (omega (arith, ahead, same))
-              | inr behind ↦ absurd (omega (arith, behind, same, wide))
+              | inr following ↦ absurd (omega (arith, following, same, wide))
             ]

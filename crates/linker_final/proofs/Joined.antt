@@ -5,10 +5,10 @@ use Rattle.linker_elf.specs.Applied.{IsApplied}
 use Rattle.linker_elf.specs.declared.elf.RelocationKindInfo.{RelocationKindInfo}
 use Rattle.linker_elf.specs.declared.elf.value.Operands.{Operands}
 use Rattle.linker_final.proofs.InstructionFields.{IsOfInstruction, applied}
-use Rattle.linker_final.proofs.PackedBytes.{packed_there, place_behind, places_inside, same_there, stay_inside}
+use Rattle.linker_final.proofs.PackedBytes.{packed_there, place_after, places_inside, same_there, stay_inside}
 use Rattle.linker_final.proofs.Phases.{later_as_many, later_bytes, later_keep, later_length}
 use Rattle.linker_final.proofs.Written.{rela}
-use Rattle.linker_final.specs.Final.{InstructionIsLeft, IsLeftAlone, Linked, count, instruction_at}
+use Rattle.linker_final.specs.Final.{UntouchedInstruction, UntouchedBytes, Linked, count, instruction_at}
 use Rattle.linker_final.specs.Joined.{IsRewrittenAndPacked, IsKeptInstruction}
 use Rattle.linker_final.specs.Packed.{IsUnwritten, Packed, StayTogether, architecture_of, place_of}
 use Rattle.linker_final.specs.Packed as packed
@@ -20,7 +20,7 @@ use Rattle.linker_section.specs.declared.relocations.Rela.{Rela}
 use Rattle.linker_utils.specs.Architectures.{IsRow}
 
 -- an instruction that stays, in which no relocation has a field
-pub unwritten_there : (l : Linked) (p : Packed) → IsRewrittenAndPacked l p → (i o : ℕ) → IsLeftAlone l i o 4
+pub unwritten_there : (l : Linked) (p : Packed) → IsRewrittenAndPacked l p → (i o : ℕ) → UntouchedBytes l i o 4
     → StayTogether p o 4 → IsUnwritten p (place_of p o) 4
     → instruction_at p.final (place_of p o) ≡ instruction_at l.rewritten o
 unwritten_there l p joined i o left stay free =
@@ -32,7 +32,7 @@ unwritten_there l p joined i o left stay free =
 module _ (l : Linked) (p : Packed) (joined : IsRewrittenAndPacked l p) (i : ℕ) (below : i < count l)
     (code symbol : ℕ) (addend : ℤ)
     (after_is : relocation_in l.relocations_after i ≡ rela (relocation_in l.relocations i).offset code symbol addend)
-    (kept : IsKeptInstruction p i) (left : InstructionIsLeft l i) where
+    (kept : IsKeptInstruction p i) (left : UntouchedInstruction l i) where
   abbrev o : ℕ
   o = (relocation_in l.relocations i).offset
 
@@ -82,8 +82,8 @@ module _ (l : Linked) (p : Packed) (joined : IsRewrittenAndPacked l p) (i : ℕ)
       let len = joined.packed.written.same_length in
       omega (arith, inside, len)
 
-  pub behind : place_of p (o + 4) ≡ place_of p o + 4
-  behind = place_behind p joined.packed o 4 (omega arith) stay
+  pub following : place_of p (o + 4) ≡ place_of p o + 4
+  following = place_after p joined.packed o 4 (omega arith) stay
 
   -- what is written there, is written to what was rewritten
   pub kept_there : (row : RelocationKindInfo) (y : Operands)

@@ -88,7 +88,7 @@ alone bytes i j row other is (of_pair same next begins ends) =
 
 -- ---- a relocation at an index
 
-pub record IsThere (bytes : List ℕ) (i : ℕ) (r : Rela) : Type 0 where
+pub record IsRelocationAt (bytes : List ℕ) (i : ℕ) (r : Rela) : Type 0 where
   pub within : i < length bytes / 24
   pub is : relocation_in bytes i ≡ r
 
@@ -97,12 +97,12 @@ rela_in other None = other
 rela_in other (Some r) = r
 
 there_by : (bytes : List ℕ) (i : ℕ) (r : Rela) (within : Bool) → ltb i (length bytes / 24) ≡ within
-    → cond within (Some (relocation_in bytes i)) None ≡ Some r → IsThere bytes i r
+    → cond within (Some (relocation_in bytes i)) None ≡ Some r → IsRelocationAt bytes i r
 there_by bytes i r true within is =
     record { within = ltb-true i (length bytes / 24) within; is = ap (rela_in r) is }
 there_by bytes i r false within is = absurd (let e : None ≡ Some r = is in cc)
 
-there_is : (bytes : List ℕ) (i : ℕ) (r : Rela) → relocation_at bytes i ≡ Some r → IsThere bytes i r
+there_is : (bytes : List ℕ) (i : ℕ) (r : Rela) → relocation_at bytes i ≡ Some r → IsRelocationAt bytes i r
 there_is bytes i r is = there_by bytes i r (ltb i (length bytes / 24)) refl is
 
 -- ---- the high part at an offset

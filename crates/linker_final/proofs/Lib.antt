@@ -7,7 +7,7 @@ pub mod AArch64Twice
 pub mod AArch64Written
 pub mod Branches
 pub mod Chosen
-pub mod Early
+pub mod PreLayout
 pub mod Entries
 pub mod Fields
 pub mod Inner

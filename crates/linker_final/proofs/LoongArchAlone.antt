@@ -13,11 +13,11 @@ use Rattle.linker_elf.specs.declared.elf.value.Operands.{Operands}
 use Rattle.linker_elf.specs.declared.loongarch64.forms.LoongArch64Instruction.TheVariants.{Shift5, Shift10}
 use Rattle.linker_elf.specs.declared.loongarch64.relocations.LoongArch64Relocation.{LoongArch64Relocation}
 use Rattle.linker_elf.specs.declared.loongarch64.relocations.LoongArch64Relocation.TheVariants as names
-use Rattle.linker_final.proofs.Early.{isnt}
+use Rattle.linker_final.proofs.PreLayout.{isnt}
 use Rattle.linker_final.proofs.LoongArchChosen.{IsByTable, IsEntry, by_table, entry_by}
 use Rattle.linker_final.proofs.LoongArchWritten.{IsAfter, becomes, named_after, relocated_there}
 use Rattle.linker_final.proofs.Written.{are_rewritten, word_same}
-use Rattle.linker_final.specs.Final.{AreRewritten, InstructionIsLeft, Linked, IsLinked, count, instruction_at}
+use Rattle.linker_final.specs.Final.{AreRewritten, UntouchedInstruction, Linked, IsLinked, count, instruction_at}
 use Rattle.linker_final.specs.LoongArchFinal.{Anywhere, HighDoesTheSame, HighHalves, HighHalvesAnywhere, InPlace, LowDoesTheSame, LowHalves, LowHalvesAnywhere, LowParts, MovedLowParts, named_as}
 use Rattle.linker_laws.specs.LoongArchRewriteLaws.{HighHalfToLu12i, Laws, word_of}
 use Rattle.linker_loongarch64.specs.LoongArchRewrites.{IsLd, IsPcalau12i, adds_low12, by_low_part, rd_of, rj_of, to_local_exec, tp}
@@ -156,7 +156,7 @@ high_halves_anywhere laws l made loongarch i chosen below is_name decided any =
     let by = high_entry l.section o chosen
     (by_table l made.decided loongarch i chosen below decided names.R_LARCH_TLS_IE_PC_HI20 tt is_name) in
     high_anywhere names.R_LARCH_TLS_IE_PC_HI20 laws.high_half l made i chosen below decided by.kind_is by.code_is
-    (subst IsPcalau12i (word_same l.section o) (by.asked.1))
+    (subst IsPcalau12i (word_same l.section o) (by.pattern.1))
 
 pub low_halves_anywhere : Laws → LowHalvesAnywhere
 low_halves_anywhere laws l made loongarch i chosen below is_name decided any =
@@ -166,7 +166,7 @@ low_halves_anywhere laws l made loongarch i chosen below is_name decided any =
       named_after l made i chosen below decided kinds.LowToOri by.kind_is names.R_LARCH_TLS_LE_LO12 by.code_is,
       λ x y ori of_offset s t c ld small same holds has agree of_entry.
           laws.low_half x y s t c (instruction_at l.section o) (instruction_at l.rewritten o) small
-          (subst IsLd (word_same l.section o) (by.asked.1)) same holds has agree
+          (subst IsLd (word_same l.section o) (by.pattern.1)) same holds has agree
           (becomes l made.done i chosen below decided kinds.LowToOri by.kind_is (λ word. 0x03800000 + field word 0 10) refl)
           ld ori of_entry of_offset,
     )
@@ -190,7 +190,7 @@ low_takes =
     record { taken = λ addresses r symbol. refl; same = λ addresses r symbol got code. refl }
 
 pub in_place : (Holds : List ℕ → List ℕ → Operands → Operands → Type 0) (l : Linked) → IsLinked l
-    → l.setting.architecture ≡ LoongArch64 → (i : ℕ) → i < count l → InstructionIsLeft l i
+    → l.context.architecture ≡ LoongArch64 → (i : ℕ) → i < count l → UntouchedInstruction l i
     → (name : LoongArch64Relocation) (a : IsAfter name) → TakesOffset a.row
     → (relocation_in l.relocations_after i ≡ named_as name (relocation_in l.relocations i)) × Anywhere name Holds l i
     → InPlace Holds l i high_after.row
@@ -221,12 +221,12 @@ moved_low_parts laws l all done loongarch i chosen below is_name decided x y bas
     let by = part_entry l.section o chosen
     (by_table l all loongarch i chosen below decided names.R_LARCH_TLS_LE_LO12_R tt is_name) in
     laws.low_offset x y s t differing (instruction_at l.section o) (instruction_at l.rewritten o)
-    (subst (λ word. IsTrue (adds_low12 (word / 2 ^ 22))) (word_same l.section o) (by.asked.1.0)) alike over stores same short
+    (subst (λ word. IsTrue (adds_low12 (word / 2 ^ 22))) (word_same l.section o) (by.pattern.1.0)) alike over stores same short
     (becomes l done i chosen below decided kinds.BaseToTp by.kind_is (λ word. word - rj_of word * 2 ^ 5 + tp * 2 ^ 5) refl)
     low base of_low of_base
 
 -- what becomes of its relocation
-pub part_named : (l : Linked) → AreRewritten l → l.setting.architecture ≡ LoongArch64
+pub part_named : (l : Linked) → AreRewritten l → l.context.architecture ≡ LoongArch64
     → (i : ℕ) (chosen : Choice Relaxation ℕ) → i < count l
     → IsNameOf loongarch_name (relocation_in l.relocations i).code names.R_LARCH_TLS_LE_LO12_R
     → decision_at l.decisions i ≡ Rewritten chosen

@@ -7,18 +7,18 @@ use Rattle.linker_elf.specs.declared.elf.choice.LinkFacts.{LinkFacts}
 use Rattle.linker_elf.specs.declared.loongarch64.relocations.LoongArch64Relocation.{LoongArch64Relocation}
 use Rattle.linker_elf.specs.declared.loongarch64.relocations.LoongArch64Relocation.TheVariants as names
 use Rattle.linker_final.proofs.Chosen.{IsChosen, chosen_at}
-use Rattle.linker_final.proofs.Early.{AreEarly, IsListed, are_early, listed_at}
+use Rattle.linker_final.proofs.PreLayout.{AreEarly, IsListed, are_early, listed_at}
 use Rattle.linker_final.proofs.Entries.{IsOfEntry, IsOfOne, of_one}
 use Rattle.linker_final.specs.Final.{Linked, count}
-use Rattle.linker_loongarch64.specs.LoongArchRewrites.{IsAskedFor, LoongArchApplies, LoongArchEntry, loongarch_entries}
+use Rattle.linker_loongarch64.specs.LoongArchRewrites.{HasPattern, LoongArchApplies, LoongArchEntry, loongarch_entries}
 use Rattle.linker_loongarch64.specs.declared.rewrites.RelaxationKind.{RelaxationKind}
 use Rattle.linker_loongarch64.specs.declared.rewrites.RelaxationKind.TheVariants as kinds
 use Rattle.linker_rewriting.specs.Decisions.{AreDecidedIn, decision_at}
 use Rattle.linker_rewriting.specs.Groups.{IsScopeIn, loongarch_scope, loongarch_scope_in}
-use Rattle.linker_rewriting.specs.Labels.{is_labelled}
+use Rattle.linker_rewriting.specs.RiscVPcrelGroups.{is_labelled}
 use Rattle.linker_rewriting.specs.declared.decisions.Decision.TheVariants.{Rewritten}
 use Rattle.linker_rewriting.specs.declared.groups.Scope.{Scope}
-use Rattle.linker_rewriting.specs.declared.groups.Scope.TheVariants.{Labelled, Unlisted}
+use Rattle.linker_rewriting.specs.declared.groups.Scope.TheVariants.{Labelled, NotRelaxable}
 use Rattle.linker_rewriting.specs.declared.phases.Phase.{Phase}
 use Rattle.linker_rewriting.specs.declared.phases.Phase.TheVariants as phases
 use Rattle.linker_section.specs.Relocations.{relocation_in}
@@ -44,7 +44,7 @@ early_unlabelled names.R_LARCH_TLS_DESC_LD = refl
 early_unlabelled names.R_LARCH_TLS_DESC_CALL = refl
 early_unlabelled name = refl
 
-thread_unlabelled : (name : LoongArch64Relocation) → is_labelled (loongarch_scope_in phases.ThreadOffsets name) ≡ false
+thread_unlabelled : (name : LoongArch64Relocation) → is_labelled (loongarch_scope_in phases.TlsLocalExec name) ≡ false
 thread_unlabelled names.R_LARCH_TLS_LE_HI20_R = refl
 thread_unlabelled names.R_LARCH_TLS_LE_ADD_R = refl
 thread_unlabelled names.R_LARCH_TLS_LE_LO12_R = refl
@@ -52,10 +52,10 @@ thread_unlabelled name = refl
 
 unlabelled_in : (phase : Phase) (name : LoongArch64Relocation)
     → is_labelled (loongarch_scope_in phase name) ≡ false
-unlabelled_in phases.Early name = early_unlabelled name
-unlabelled_in phases.ThreadOffsets name = thread_unlabelled name
-unlabelled_in phases.GotLoads name = refl
-unlabelled_in phases.Distances name = refl
+unlabelled_in phases.PreLayout name = early_unlabelled name
+unlabelled_in phases.TlsLocalExec name = thread_unlabelled name
+unlabelled_in phases.GotToPcRel name = refl
+unlabelled_in phases.ShortPcRel name = refl
 
 -- LoongArch has no labels
 unlabelled : (phase : Phase) (code : ℕ) (scope : Scope) → IsScopeIn LoongArch64 phase code scope
@@ -67,12 +67,12 @@ unlabelled phase code scope is labelled =
 
 -- what has no scope in the phase of offsets from the thread pointer has one before addresses are known
 only_early : (name : LoongArch64Relocation)
-    → loongarch_scope_in phases.ThreadOffsets name ≡ Unlisted → (phase : Phase)
-    → (loongarch_scope_in phase name ≡ Unlisted → ⊥) → phase ≡ phases.Early
-only_early name without phases.Early listed = refl
-only_early name without phases.ThreadOffsets listed = absurd (listed without)
-only_early name without phases.GotLoads listed = absurd (listed refl)
-only_early name without phases.Distances listed = absurd (listed refl)
+    → loongarch_scope_in phases.TlsLocalExec name ≡ NotRelaxable → (phase : Phase)
+    → (loongarch_scope_in phase name ≡ NotRelaxable → ⊥) → phase ≡ phases.PreLayout
+only_early name without phases.PreLayout listed = refl
+only_early name without phases.TlsLocalExec listed = absurd (listed without)
+only_early name without phases.GotToPcRel listed = absurd (listed refl)
+only_early name without phases.ShortPcRel listed = absurd (listed refl)
 
 -- ---- the entry
 
@@ -82,23 +82,23 @@ pub record IsByTable (name : LoongArch64Relocation) (section : List ℕ) (o : �
   pub facts : LinkFacts
   pub one : IsOfOne loongarch_name relaxations.LoongArch64 (LoongArchApplies name section o facts)
       (loongarch_entries name) chosen
-  pub early : loongarch_scope_in phases.ThreadOffsets name ≡ Unlisted → AreEarly facts
+  pub early : loongarch_scope_in phases.TlsLocalExec name ≡ NotRelaxable → AreEarly facts
 
 pub by_table : (l : Linked)
-    → AreDecidedIn l.setting l.kept l.relocations l.section l.decisions (count l)
-    → l.setting.architecture ≡ LoongArch64
+    → AreDecidedIn l.context l.kept l.relocations l.section l.decisions (count l)
+    → l.context.architecture ≡ LoongArch64
     → (i : ℕ) (chosen : Choice Relaxation ℕ) → i < count l → decision_at l.decisions i ≡ Rewritten chosen
     → (name : LoongArch64Relocation) → IsNamed (loongarch_name name)
     → IsNameOf loongarch_name (relocation_in l.relocations i).code name
     → IsByTable name l.section (relocation_in l.relocations i).offset chosen
 by_table l all loongarch i chosen below decided name named is_name =
     let r = relocation_in l.relocations i in
-    let c : IsChosen l.setting l.section r chosen =
-    chosen_at l.setting l.kept l.relocations l.section l.decisions (count l) i chosen all below decided
-    (λ scope is. unlabelled l.setting.phase r.code scope (subst (λ x. IsScopeIn x l.setting.phase r.code scope) loongarch is)) in
-    let listed : IsListed l.setting r =
-    listed_at l.setting l.kept l.relocations l.section l.decisions (count l) i chosen all below decided in
-    let scope = subst (λ x. IsScopeIn x l.setting.phase r.code listed.scope) loongarch listed.is_scope in
+    let c : IsChosen l.context l.section r chosen =
+    chosen_at l.context l.kept l.relocations l.section l.decisions (count l) i chosen all below decided
+    (λ scope is. unlabelled l.context.phase r.code scope (subst (λ x. IsScopeIn x l.context.phase r.code scope) loongarch is)) in
+    let listed : IsListed l.context r =
+    listed_at l.context l.kept l.relocations l.section l.decisions (count l) i chosen all below decided in
+    let scope = subst (λ x. IsScopeIn x l.context.phase r.code listed.scope) loongarch listed.is_scope in
     let same : scope.name ≡ name = scope.is_name.named name named is_name.code_is in
     record {
       facts = c.facts;
@@ -106,9 +106,9 @@ by_table l all loongarch i chosen below decided name named is_name =
           (λ n. LoongArchApplies n l.section r.offset c.facts) loongarch_entries kinds.NoOp refl r.code name named is_name
           (λ e applies. applies)
           (subst (λ x. IsArchitectureChoice x r.code l.section r.offset c.facts chosen) loongarch c.is_choice) c.changed;
-      early = λ without. are_early l.setting l.section r chosen
-          (only_early name without l.setting.phase
-          (λ unlisted. listed.listed (scope.value_is ∙ (ap (loongarch_scope_in l.setting.phase) same ∙ unlisted))))
+      early = λ without. are_early l.context l.section r chosen
+          (only_early name without l.context.phase
+          (λ unlisted. listed.listed (scope.value_is ∙ (ap (loongarch_scope_in l.context.phase) same ∙ unlisted))))
           (λ ppc64. let e : LoongArch64 ≡ Ppc64 = sym loongarch ∙ ppc64 in cc) c;
     }
 
@@ -117,14 +117,14 @@ pub record IsEntry (kind : RelaxationKind) (relocation name : LoongArch64Relocat
     (o : ℕ) (chosen : Choice Relaxation ℕ) : Type 0 where
   pub kind_is : chosen.kind ≡ relaxations.LoongArch64 kind
   pub code_is : chosen.relocation ≡ code_of (loongarch_name relocation)
-  pub asked : IsAskedFor name kind section o
+  pub pattern : HasPattern name kind section o
 
 pub entry_by : (name : LoongArch64Relocation) (section : List ℕ) (o : ℕ) (chosen : Choice Relaxation ℕ)
     (facts : LinkFacts) (e : LoongArchEntry)
     → IsOfEntry loongarch_name relaxations.LoongArch64 (LoongArchApplies name section o facts) e chosen
     → IsEntry e.kind e.relocation name section o chosen
 entry_by name section o chosen facts e this =
-    record { kind_is = this.kind_is; code_is = this.code_is; asked = this.meant.0 }
+    record { kind_is = this.kind_is; code_is = this.code_is; pattern = this.meant.0 }
 
 -- ---- kinds
 

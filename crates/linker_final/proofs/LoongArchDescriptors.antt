@@ -21,7 +21,7 @@ use Rattle.linker_final.proofs.LoongArchChosen.{IsByTable, IsEntry, by_table, en
 use Rattle.linker_final.proofs.LoongArchWritten.{IsAfter, becomes, named_after, relocated_there, unwritten_nop}
 use Rattle.linker_final.proofs.RiscVWritten.{stays}
 use Rattle.linker_final.proofs.Written.{are_rewritten, word_same}
-use Rattle.linker_final.specs.Final.{InstructionIsLeft, Linked, IsLinked, count, instruction_at}
+use Rattle.linker_final.specs.Final.{UntouchedInstruction, Linked, IsLinked, count, instruction_at}
 use Rattle.linker_final.specs.LoongArchFinal.{Anywhere, AnywhereUnchanged, AnywhereUnwritten, CallDoesNothing, Descriptors, DescriptorsAnywhere, EachAnywhere, HasOffsetEntry, HighDoesTheSame, InPlaceByEntry, InPlaceUnwritten, IsAny, IsKind, LoadDoesNothing, LowLoadsOffset, LowMakesOffset, PageDoesTheSame, named_as, with_entry}
 use Rattle.linker_laws.specs.LoongArchRewriteLaws.{IsRelocated, Laws, word_of}
 use Rattle.linker_loongarch64.specs.LoongArchRewrites.{IsCallOfDescriptor, IsLoadOfDescriptor, IsLowOfDescriptor, IsPageOfDescriptor, page_to_initial_exec, to_initial_exec, to_local_exec}
@@ -177,7 +177,7 @@ module _ (laws : Laws) where
       let o = (relocation_in l.relocations i).offset in
       let by = high_entry l.section o chosen kind
       (by_table l made.decided loongarch i chosen below decided names.R_LARCH_TLS_DESC_PC_HI20 tt is_name) in
-      let is : IsPageOfDescriptor (word_of (instruction_at l.section o)) = subst IsPageOfDescriptor (word_same l.section o) (by.asked.1) in
+      let is : IsPageOfDescriptor (word_of (instruction_at l.section o)) = subst IsPageOfDescriptor (word_same l.section o) (by.pattern.1) in
       high_anywhere names.R_LARCH_TLS_DESC_PC_HI20 laws.descriptor_high_half l made i chosen below decided by.kind_is by.code_is
       (is.0)
 
@@ -190,7 +190,7 @@ module _ (laws : Laws) where
         named_after l made i chosen below decided kinds.LowToOri by.kind_is names.R_LARCH_TLS_LE_LO12 by.code_is,
         λ x y ori of_offset s t c addi small same has agree of_descriptor.
             laws.descriptor_low_half x y s t c (instruction_at l.section o) (instruction_at l.rewritten o) small
-            (subst IsLowOfDescriptor (word_same l.section o) (by.asked.1)) same has agree
+            (subst IsLowOfDescriptor (word_same l.section o) (by.pattern.1)) same has agree
             (becomes l made.done i chosen below decided kinds.LowToOri by.kind_is (λ word. 0x03800000 + field word 0 10) refl)
             addi ori of_descriptor of_offset,
       )
@@ -201,11 +201,11 @@ module _ (laws : Laws) where
       let o = (relocation_in l.relocations i).offset in
       let by = page_entry l.section o chosen kind
       (by_table l made.decided loongarch i chosen below decided names.R_LARCH_TLS_DESC_PC_HI20 tt is_name) in
-      let is : IsPageOfDescriptor (word_of (instruction_at l.section o)) = subst IsPageOfDescriptor (word_same l.section o) (by.asked.1) in (
+      let is : IsPageOfDescriptor (word_of (instruction_at l.section o)) = subst IsPageOfDescriptor (word_same l.section o) (by.pattern.1) in (
         named_after l made i chosen below decided kinds.NoOp by.kind_is names.R_LARCH_TLS_IE_PC_HI20 by.code_is,
         λ alone x y pcala1 of_entry s t c pcala small new_small at new_at agree fits new_fits of_descriptor.
             let stayed : instruction_at l.rewritten o ≡ instruction_at l.section o =
-            stays l made i below (Rewritten chosen) decided (ap (λ k. window_of_rewrite (relaxation_rewrite k)) by.kind_is) alone (by.asked.0) in
+            stays l made i below (Rewritten chosen) decided (ap (λ k. window_of_rewrite (relaxation_rewrite k)) by.kind_is) alone (by.pattern.0) in
             laws.descriptor_page x y s t c (instruction_at l.section o) small new_small at new_at agree (is.1) pcala pcala1
             (record { is = is.0; fits = fits; applied = of_descriptor })
             (record {
@@ -224,7 +224,7 @@ module _ (laws : Laws) where
         named_after l made i chosen below decided kinds.AddiToLd by.kind_is names.R_LARCH_TLS_IE_PC_LO12 by.code_is,
         λ x y ld of_entry s t c addi small holds has agree of_descriptor.
             laws.descriptor_entry x y s t c (instruction_at l.section o) (instruction_at l.rewritten o) small
-            (subst IsLowOfDescriptor (word_same l.section o) (by.asked.1)) holds has agree
+            (subst IsLowOfDescriptor (word_same l.section o) (by.pattern.1)) holds has agree
             (becomes l made.done i chosen below decided kinds.AddiToLd by.kind_is (λ word. 0x28c00000 + field word 0 22) refl)
             addi ld of_descriptor of_entry,
       )
@@ -237,7 +237,7 @@ module _ (laws : Laws) where
         named_after l made i chosen below decided kinds.ReplaceWithNop by.kind_is names.R_LARCH_NONE by.code_is,
         λ x s t c small has agree.
             laws.descriptor_load x s t c (instruction_at l.section o) (instruction_at l.rewritten o) small
-            (subst IsLoadOfDescriptor (word_same l.section o) (by.asked.1)) has agree
+            (subst IsLoadOfDescriptor (word_same l.section o) (by.pattern.1)) has agree
             (becomes l made.done i chosen below decided kinds.ReplaceWithNop by.kind_is (λ _. 0x03400000) refl),
       )
 
@@ -249,7 +249,7 @@ module _ (laws : Laws) where
         named_after l made i chosen below decided kinds.ReplaceWithNop by.kind_is names.R_LARCH_NONE by.code_is,
         λ call c d x s t descriptor has function agree.
             laws.descriptor_call call c x s t d (instruction_at l.section o) (instruction_at l.rewritten o) descriptor
-            (subst IsCallOfDescriptor (word_same l.section o) (by.asked.1)) has function agree
+            (subst IsCallOfDescriptor (word_same l.section o) (by.pattern.1)) has function agree
             (becomes l made.done i chosen below decided kinds.ReplaceWithNop by.kind_is (λ _. 0x03400000) refl),
       )
 
@@ -284,8 +284,8 @@ low_takes_entry =
       same = λ addresses r symbol got code. refl;
     }
 
-module _ (l : Linked) (linked : IsLinked l) (loongarch : l.setting.architecture ≡ LoongArch64) (i : ℕ)
-    (below : i < count l) (left : InstructionIsLeft l i) where
+module _ (l : Linked) (linked : IsLinked l) (loongarch : l.context.architecture ≡ LoongArch64) (i : ℕ)
+    (below : i < count l) (left : UntouchedInstruction l i) where
   abbrev r : Rela
   r = relocation_in l.relocations i
 
@@ -329,11 +329,11 @@ descriptors laws =
       load = λ l linked loongarch i chosen below is_name decided left any.
           let by = load_goes l.section (relocation_in l.relocations i).offset chosen
           (by_table l linked.decided loongarch i chosen below decided names.R_LARCH_TLS_DESC_LD tt is_name) in
-          in_place_unwritten l linked loongarch i below left LoadDoesNothing (by.asked.0)
+          in_place_unwritten l linked loongarch i below left LoadDoesNothing (by.pattern.0)
           (goes laws l (are_rewritten l linked) loongarch i chosen below is_name decided any);
       call = λ l linked loongarch i chosen below is_name decided left any.
           let by = call_goes l.section (relocation_in l.relocations i).offset chosen
           (by_table l linked.decided loongarch i chosen below decided names.R_LARCH_TLS_DESC_CALL tt is_name) in
-          in_place_unwritten l linked loongarch i below left CallDoesNothing (by.asked.0)
+          in_place_unwritten l linked loongarch i below left CallDoesNothing (by.pattern.0)
           (called laws l (are_rewritten l linked) loongarch i chosen below is_name decided any);
     }

@@ -13,7 +13,7 @@ use Rattle.linker_final.proofs.LoongArchAlone.{TakesOffset, high_after, high_hal
 use Rattle.linker_final.proofs.LoongArchDescriptors.{TakesEntry, descriptors_anywhere, entry_high, entry_low, high_takes_entry, low_takes_entry}
 use Rattle.linker_final.proofs.LoongArchWritten.{IsAfter, as_named, row_of}
 use Rattle.linker_final.proofs.Written.{IsRowOf, row_in, with_operands}
-use Rattle.linker_final.specs.Final.{InstructionIsLeft, Linked, count, instruction_at}
+use Rattle.linker_final.specs.Final.{UntouchedInstruction, Linked, count, instruction_at}
 use Rattle.linker_final.specs.Joined.{IsRewrittenAndPacked, IsKeptInstruction, final_instruction}
 use Rattle.linker_final.specs.LoongArchFinal.{Anywhere, CallDoesNothing, HighDoesTheSame, LoadDoesNothing, LowDoesTheSame, LowLoadsOffset, LowMakesOffset, PageDoesTheSame, named_as, with_entry}
 use Rattle.linker_final.specs.LoongArchJoined.{InFinalBytes, InFinalBytesByEntry, PackedDescriptors, PackedHighHalves, PackedLowHalves, PackedLowParts}
@@ -34,7 +34,7 @@ use Rattle.linker_utils.specs.declared.elf.Architecture.TheVariants.{LoongArch64
 module _ (l : Linked) (p : Packed) (joined : IsRewrittenAndPacked l p) (loongarch : p.machine ≡ loongarch64)
     (i : ℕ) (below : i < count l) (name : LoongArch64Relocation) (a : IsAfter name)
     (after_is : relocation_in l.relocations_after i ≡ named_as name (relocation_in l.relocations i))
-    (kept : IsKeptInstruction p i) (left : InstructionIsLeft l i) where
+    (kept : IsKeptInstruction p i) (left : UntouchedInstruction l i) where
   abbrev r : Rela
   r = relocation_in l.relocations i
 

@@ -14,17 +14,17 @@ use Rattle.linker_elf.specs.declared.elf.RelocationKindInfo.{RelocationKindInfo}
 use Rattle.linker_elf.specs.declared.elf.choice.Choice.{Choice}
 use Rattle.linker_elf.specs.declared.loongarch64.forms.LoongArch64Instruction.TheVariants.{Shift5, Shift10}
 use Rattle.linker_elf.specs.declared.loongarch64.relocations.LoongArch64Relocation.TheVariants as names
-use Rattle.linker_final.proofs.Early.{isnt}
+use Rattle.linker_final.proofs.PreLayout.{isnt}
 use Rattle.linker_final.proofs.LoongArchChosen.{IsByTable, IsEntry, by_table, entry_by}
 use Rattle.linker_final.proofs.LoongArchPairs.{AreOfLoad, load_of}
 use Rattle.linker_final.proofs.LoongArchWritten.{IsAfter, applied_there, becomes}
 use Rattle.linker_final.proofs.Written.{are_rewritten, rela, stays, with_operands, word_same}
-use Rattle.linker_final.specs.Final.{AreLeft, Linked, IsLinked, IsRewrittenByNoOther, instruction_at}
+use Rattle.linker_final.specs.Final.{UntouchedInstructions, Linked, IsLinked, IsRewrittenByNoOther, instruction_at}
 use Rattle.linker_final.specs.LoongArchFinal.{GotLoads, LoadsTheSame}
-use Rattle.linker_laws.specs.LoongArchRewriteLaws.{IsPair, IsRewritten, Laws, behind, word_of}
+use Rattle.linker_laws.specs.LoongArchRewriteLaws.{IsPair, IsRewritten, Laws, following, word_of}
 use Rattle.linker_loongarch64.specs.LoongArchRewrites.{AreOfOneRegister, IsLd, bound_by_pages}
 use Rattle.linker_loongarch64.specs.declared.rewrites.RelaxationKind.TheVariants as kinds
-use Rattle.linker_rewriting.specs.Facts.{Setting}
+use Rattle.linker_rewriting.specs.Facts.{RelaxContext}
 use Rattle.linker_section.specs.Relocations.{relocation_in}
 use Rattle.linker_section.specs.Values.{operands_with}
 use Rattle.linker_section.specs.declared.facts.Addresses.{Addresses}
@@ -80,7 +80,7 @@ low_after =
 -- the low part is that of the first one's S + A, wherever the second one is
 low_value : (addresses : Addresses) (symbol : Symbol) (r : Rela) (got offset code index : ℕ) (addend : ℤ)
     → addend ≡ r.addend
-    → value_of low_after.row (behind 4 (operands_with LoongArch64 addresses got_row symbol r got))
+    → value_of low_after.row (following 4 (operands_with LoongArch64 addresses got_row symbol r got))
     ≡ value_of low_after.row (operands_with LoongArch64 addresses low_after.row symbol (rela offset code index addend) 0)
 low_value addresses symbol r got offset code index addend same =
     ap (λ x. value_of low_after.row (operands_with LoongArch64 addresses low_after.row symbol (rela offset code index x) 0)) (sym same)
@@ -120,8 +120,8 @@ low_entry section o chosen by =
 
 -- ---- a pair
 
-module _ (laws : Laws) (l : Linked) (linked : IsLinked l) (loongarch : l.setting.architecture ≡ LoongArch64)
-    (i j : ℕ) (of : AreOfLoad l i j) (left : AreLeft l i j) (alone : IsRewrittenByNoOther l i (relocation_in l.relocations i).offset) where
+module _ (laws : Laws) (l : Linked) (linked : IsLinked l) (loongarch : l.context.architecture ≡ LoongArch64)
+    (i j : ℕ) (of : AreOfLoad l i j) (left : UntouchedInstructions l i j) (alone : IsRewrittenByNoOther l i (relocation_in l.relocations i).offset) where
   abbrev first : Rela
   first = relocation_in l.relocations i
 
@@ -143,7 +143,7 @@ module _ (laws : Laws) (l : Linked) (linked : IsLinked l) (loongarch : l.setting
       let o = first.offset in
       let w = operands_with LoongArch64 l.addresses got_row symbol first got in
       let next = of.next in
-      let there = page.asked in
+      let there = page.pattern in
       let together : IsPair IsLd w s (instruction_at l.section o) (instruction_at l.section (o + 4)) =
       record {
         small = small;
@@ -165,11 +165,11 @@ module _ (laws : Laws) (l : Linked) (linked : IsLinked l) (loongarch : l.setting
       (subst (λ xs. IsApplied page_after.row (operands_with LoongArch64 l.addresses page_after.row symbol (rela o page_code first.symbol first.addend) 0) xs (instruction_at l.final o)) stayed
       (applied_there l linked loongarch i of.page_chosen of.page_below of.page_decided (left.0) kinds.NoOp page.kind_is
       names.R_LARCH_PCALA_HI20 page.code_is page_after symbol 0 refl is_symbol)) in
-      let low_written : IsApplied low_after.row (behind 4 w) (instruction_at l.rewritten (o + 4)) (instruction_at l.final (o + 4)) =
-      subst (λ n. IsApplied low_after.row (behind 4 w) (instruction_at l.rewritten n) (instruction_at l.final n)) next
+      let low_written : IsApplied low_after.row (following 4 w) (instruction_at l.rewritten (o + 4)) (instruction_at l.final (o + 4)) =
+      subst (λ n. IsApplied low_after.row (following 4 w) (instruction_at l.rewritten n) (instruction_at l.final n)) next
       (with_operands low_after.row
       (operands_with LoongArch64 l.addresses low_after.row symbol (rela second.offset low_code second.symbol second.addend) 0)
-      (behind 4 w) (instruction_at l.rewritten second.offset) (instruction_at l.final second.offset)
+      (following 4 w) (instruction_at l.rewritten second.offset) (instruction_at l.final second.offset)
       (low_value l.addresses symbol first got second.offset low_code second.symbol second.addend of.same_addend)
       (applied_there l linked loongarch j of.low_chosen of.low_below of.low_decided (left.1) kinds.LdToAddi low.kind_is
       names.R_LARCH_PCALA_LO12 low.code_is low_after symbol 0 refl
@@ -182,6 +182,6 @@ module _ (laws : Laws) (l : Linked) (linked : IsLinked l) (loongarch : l.setting
       together holds added pcala ld (instruction_at l.final o) (instruction_at l.final (o + 4)) loads fits page_written low_written
 
 pub got_loads : Laws → GotLoads
-got_loads laws l linked setting i chosen below is_name decided left alone =
-    loads_the_same laws l linked (ap (λ (x : Setting). x.architecture) setting) i (i + 2)
-    (load_of l linked.decided setting i chosen below is_name decided) left alone
+got_loads laws l linked context i chosen below is_name decided left alone =
+    loads_the_same laws l linked (ap (λ (x : RelaxContext). x.architecture) context) i (i + 2)
+    (load_of l linked.decided context i chosen below is_name decided) left alone

@@ -23,7 +23,7 @@ use Rattle.linker_final.proofs.PutBack.{window_length}
 use Rattle.linker_final.specs.Final.{AreBytes}
 use Rattle.linker_final.specs.LoongArchPacked.{CallsTheSame, AddressesAreMade, LoadedAddressesAreMade, words_in}
 use Rattle.linker_final.specs.Packed.{Packed, IsPacked, IsSiteOf}
-use Rattle.linker_final.specs.Packed.{site_behind, site_bytes, site_len, site_offset, site_place, site_target}
+use Rattle.linker_final.specs.Packed.{site_after, site_bytes, site_len, site_offset, site_place, site_target}
 use Rattle.linker_laws.proofs.AArch64Pairs.{word_made}
 use Rattle.linker_laws.proofs.AArch64Steps.{address_is}
 use Rattle.linker_laws.proofs.LoongArchCalls.{call_is, new_first, new_second, not_higher, target_is}
@@ -33,7 +33,7 @@ use Rattle.linker_laws.proofs.LoongArchWords.{high_after, low_after}
 use Rattle.linker_laws.proofs.Words.{word_below}
 use Rattle.linker_laws.specs.LoongArchMachine.{AreAlikeBut, EndSo, State, b, bl, branch_target, decode, execute, far_address, go_on, go_to, jirl, near_address, next_pc, page_address, pcaddu_18, read, register_target, run, step, sum_of, with_register, write}
 use Rattle.linker_laws.specs.LoongArchRelocationLaws as relocation_laws
-use Rattle.linker_laws.specs.LoongArchRewriteLaws.{Fits32, HaveCalled, HaveMade, IsRelocated, IsRewritten, LoadsEntry, behind, no_register, pair, word_of}
+use Rattle.linker_laws.specs.LoongArchRewriteLaws.{Fits32, HaveCalled, HaveMade, IsRelocated, IsRewritten, LoadsEntry, following, no_register, pair, word_of}
 use Rattle.linker_laws.specs.Machine.{Relocated, loaded, wrapped}
 use Rattle.linker_laws.specs.Schemes.{AreAddresses, IsAddress, entry_and_addend, plt_address, symbol_address}
 use Rattle.linker_loongarch64.specs.LoongArchRewrites.{AreOfOneRegister, IsAddi, IsCall, IsLd, rd_of, rj_of, signed_32, word_at}
@@ -113,20 +113,20 @@ both_call old new link base back new_back target new_target s t alike one other 
     })
 
 -- A run of words makes an address, and goes on after them.
-pub record Made (words : List ℕ) (n value behind : ℕ) (s : State) : Type 0 where
+pub record Made (words : List ℕ) (n value following : ℕ) (s : State) : Type 0 where
   pub end : State
   pub runs : run words s ≡ Some end
   pub keeps : (m : ℕ) → (m == n) ≡ false → read m end ≡ read m s
   pub floats : end.floats ≡ s.floats
   pub memory : end.memory ≡ s.memory
   pub made : read n end ≡ value
-  pub next : end.pc ≡ behind
+  pub next : end.pc ≡ following
 
-pub both_make : (old new : List ℕ) (n value new_value behind new_behind : ℕ) (s t : State)
-    → AreAlikeBut no_register s t → Made old n value behind s → Made new n new_value new_behind t
-    → EndSo old s new t (HaveMade n value new_value behind new_behind)
-both_make old new n value new_value behind new_behind s t alike one other =
-    ends_so old new s t one.end other.end (HaveMade n value new_value behind new_behind)
+pub both_make : (old new : List ℕ) (n value new_value following new_after : ℕ) (s t : State)
+    → AreAlikeBut no_register s t → Made old n value following s → Made new n new_value new_after t
+    → EndSo old s new t (HaveMade n value new_value following new_after)
+both_make old new n value new_value following new_after s t alike one other =
+    ends_so old new s t one.end other.end (HaveMade n value new_value following new_after)
     one.runs other.runs
     (record {
       alike = record {
@@ -473,13 +473,13 @@ module _ (relative : relocation_laws.RelativeAddresses) (section : List ℕ) (o 
 
   pub by_addi : (pcala addi : List ℕ) → Fits32 names.R_LARCH_PCALA_HI20 x
       → IsRelocated names.R_LARCH_PCALA_HI20 x high_there pcala
-      → IsRelocated names.R_LARCH_PCALA_LO12 (behind 4 x) low_there addi
+      → IsRelocated names.R_LARCH_PCALA_LO12 (following 4 x) low_there addi
       → (s : State) → s.pc ≡ x.place
       → Made (pair pcala addi) (destination section o) (symbol_address x) (sum_64 x.place 8) s
   by_addi pcala addi fits high low s hs =
       let second = word_of_front (drop (o + 4) section) in
       let op : IsAddi (word_of low_there) = subst IsAddi (sym second) at.second in
-      sum_run x (behind 4 x) (destination section o) (symbol_address x) high_there low_there pcala addi
+      sum_run x (following 4 x) (destination section o) (symbol_address x) high_there low_there pcala addi
       (of_front section o at) op (ap rd_of second) high low
       (relative.0 x small x.place high_there pcala high (subst (ValueIsWithin signed_32) high.value_is fits) (sum_64 x.place 4) low_there addi low (ap not (no_jirl (word_of low_there) op)))
       s hs
@@ -520,7 +520,7 @@ calls law p is machine i here of at x small original relocated s t hs ht alike =
     let final : LoongArchBecomes section o place target code =
     subst (λ m. SiteBecomes m p.section here code) machine (site_becomes p is i here of) in
     both_call (pair original (drop 4 original)) (words_in (site_len p here) code) link base
-    (sum_64 x.place 8) (site_behind p here) (plt_address x) target s t alike
+    (sum_64 x.place 8) (site_after p here) (plt_address x) target s t alike
     (from_there law section o is.section_bytes inside at x original relocated small s hs)
     (subst (λ n. Called (words_in n code) link base (sum_64 place n) target t) (site_length p is i here of)
     (becomes_call law section o is.section_bytes inside place target code (omega arith) (omega arith)
@@ -532,7 +532,7 @@ module _ (law : relocation_laws.Calls) (p : Packed) (is : IsPacked p) (machine :
     (at : IsPcalaAt p.section.bytes (site_offset p here)) where
   made_there : (t : State) → t.pc ≡ site_place p here
       → Made (words_in (site_len p here) (site_bytes p here)) (destination p.section.bytes (site_offset p here))
-      (site_target p here) (site_behind p here) t
+      (site_target p here) (site_after p here) t
   made_there t ht =
       let section = p.section.bytes in
       let o = site_offset p here in
@@ -550,7 +550,7 @@ addresses law relative p is machine i here of at x small pcala addi fits high lo
     let section = p.section.bytes in
     let o = site_offset p here in
     both_make (pair pcala addi) (words_in (site_len p here) (site_bytes p here)) (destination section o)
-    (symbol_address x) (site_target p here) (sum_64 x.place 8) (site_behind p here) s t alike
+    (symbol_address x) (site_target p here) (sum_64 x.place 8) (site_after p here) s t alike
     (by_addi relative section o at x small pcala addi fits high low s hs)
     (made_there law p is machine i here of at t ht)
 
@@ -559,6 +559,6 @@ loaded_addresses law relative p is machine i here of at x small ld pcala_of ld_o
     let section = p.section.bytes in
     let o = site_offset p here in
     both_make (pair pcala_of ld_of) (words_in (site_len p here) (site_bytes p here)) (destination section o)
-    (symbol_address x) (site_target p here) (sum_64 x.place 8) (site_behind p here) s t alike
+    (symbol_address x) (site_target p here) (sum_64 x.place 8) (site_after p here) s t alike
     (by_ld relative section o at x small ld pcala_of ld_of load made old s holds hs)
     (made_there law p is machine i here of at t ht)

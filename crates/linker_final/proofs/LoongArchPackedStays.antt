@@ -16,14 +16,14 @@ use Rattle.linker_elf.specs.declared.elf.value.Operands.{Operands}
 use Rattle.linker_elf.specs.declared.loongarch64.relocations.LoongArch64Relocation.{LoongArch64Relocation}
 use Rattle.linker_elf.specs.declared.loongarch64.relocations.LoongArch64Relocation.TheVariants as names
 use Rattle.linker_final.proofs.LoongArchPackedSites.{Made, both_call, both_make, by_addi, by_ld, either, first_of_window, from_there, second_at, second_of_window}
-use Rattle.linker_final.proofs.PackedBytes.{place_behind, places_inside, stay_inside}
+use Rattle.linker_final.proofs.PackedBytes.{place_after, places_inside, stay_inside}
 use Rattle.linker_final.proofs.PackedInstructions.{instructions}
 use Rattle.linker_final.proofs.PutBack.{window_length}
 use Rattle.linker_final.specs.LoongArchPacked.{LongAddressesStay, LongCallsStay, LongLoadedAddressesStay, IsPairOf, StaysAs, operands_at}
 use Rattle.linker_final.specs.Packed.{Packed, IsPacked, architecture_of, place_of}
 use Rattle.linker_laws.specs.LoongArchMachine.{State}
 use Rattle.linker_laws.specs.LoongArchRelocationLaws as relocation_laws
-use Rattle.linker_laws.specs.LoongArchRewriteLaws.{Fits32, behind, pair}
+use Rattle.linker_laws.specs.LoongArchRewriteLaws.{Fits32, following, pair}
 use Rattle.linker_laws.specs.Schemes.{AreAddresses, plt_address, symbol_address}
 use Rattle.linker_loongarch64.specs.LoongArchRewrites.{rd_of, word_at}
 use Rattle.linker_runs.specs.LoongArchSites.{destination}
@@ -127,7 +127,7 @@ module _ (relative : relocation_laws.RelativeAddresses) (p : Packed) (is : IsPac
 
   -- where the second instruction goes
   next_place : place_of p (o + 4) ≡ place_of p o + 4
-  next_place = place_behind p is o 4 (omega arith) of.high.stays
+  next_place = place_after p is o 4 (omega arith) of.high.stays
 
   low_place : sum_64 p.addresses.section (offset_at p.relocations_after j) ≡ sum_64 y.place 4
   low_place =
@@ -137,14 +137,14 @@ module _ (relative : relocation_laws.RelativeAddresses) (p : Packed) (is : IsPac
       let e = ap (place_of p) of.next in
       omega (arith, first, second, next, e)
 
-  low_applied : IsApplied low_row (behind 4 y) (take 4 (drop (o + 4) p.section.bytes))
+  low_applied : IsApplied low_row (following 4 y) (take 4 (drop (o + 4) p.section.bytes))
       (take 4 (drop (place_of p o + 4) p.final))
   low_applied =
       let own = applied p is machine j names.R_LARCH_PCALA_LO12 4 of.low low_row _ _ refl refl refl refl refl symbol
       (ap (slice_get p.symbols) of.same_symbol ∙ symbol_is) (operands_at p j low_row symbol) refl tt in
       let there : IsApplied low_row (operands_at p j low_row symbol) (take 4 (drop (o + 4) p.section.bytes)) (take 4 (drop (place_of p (o + 4)) p.final)) =
       subst (λ q. IsApplied low_row (operands_at p j low_row symbol) (take 4 (drop q p.section.bytes)) (take 4 (drop (place_of p q) p.final))) of.next own in
-      subst (λ q. IsApplied low_row (behind 4 y) (take 4 (drop (o + 4) p.section.bytes)) (take 4 (drop q p.final))) next_place
+      subst (λ q. IsApplied low_row (following 4 y) (take 4 (drop (o + 4) p.section.bytes)) (take 4 (drop q p.final))) next_place
       (subst (λ q. IsApplied low_row (record y { place = q }) (take 4 (drop (o + 4) p.section.bytes)) (take 4 (drop (place_of p (o + 4)) p.final))) low_place
       (subst (λ a. IsApplied low_row (record y { addend = a; place = sum_64 p.addresses.section (offset_at p.relocations_after j) }) (take 4 (drop (o + 4) p.section.bytes)) (take 4 (drop (place_of p (o + 4)) p.final))) of.same_addend there))
 

@@ -10,18 +10,18 @@ use Rattle.linker_elf.specs.declared.elf.choice.Choice.{Choice}
 use Rattle.linker_elf.specs.declared.elf.choice.LinkFacts.{LinkFacts}
 use Rattle.linker_elf.specs.declared.loongarch64.relocations.LoongArch64Relocation.{LoongArch64Relocation}
 use Rattle.linker_elf.specs.declared.loongarch64.relocations.LoongArch64Relocation.TheVariants as names
-use Rattle.linker_final.proofs.Early.{isnt}
+use Rattle.linker_final.proofs.PreLayout.{isnt}
 use Rattle.linker_final.specs.Final.{Linked, count}
 use Rattle.linker_rewriting.proofs.LoongArchLoads.{loads_are_whole}
 use Rattle.linker_rewriting.specs.Candidates.{IsCandidate, IsCandidateWith}
 use Rattle.linker_rewriting.specs.Decisions.{AreDecidedIn, IsDecidedAfter, IsDecidedAlone, IsScopeDecision, decision_at, decision_of, is_taken, takes_next}
-use Rattle.linker_rewriting.specs.Facts.{Setting, early, link_facts}
+use Rattle.linker_rewriting.specs.Facts.{RelaxContext, pre_layout, link_facts}
 use Rattle.linker_rewriting.specs.Groups.{IsScopeIn, loongarch_scope_in}
 use Rattle.linker_rewriting.specs.Rewritten.{IsLoadAt, IsRewritten}
 use Rattle.linker_rewriting.specs.Sequences.{IsWhole, is_load_at, is_loongarch_part, is_mark_of, is_marked_in, is_marked_load, is_part, mark_code, place_in_load}
 use Rattle.linker_rewriting.specs.declared.decisions.Decision.{Decision}
-use Rattle.linker_rewriting.specs.declared.decisions.Decision.TheVariants.{Kept, Rewritten, TakenAlong}
-use Rattle.linker_rewriting.specs.declared.phases.Phase.TheVariants.{Early}
+use Rattle.linker_rewriting.specs.declared.decisions.Decision.TheVariants.{Kept, Rewritten, Consumed}
+use Rattle.linker_rewriting.specs.declared.phases.Phase.TheVariants.{PreLayout}
 use Rattle.linker_section.specs.Relocations.{relocation_at, relocation_in}
 use Rattle.linker_section.specs.declared.relocations.Rela.{Rela}
 use Rattle.linker_utils.specs.declared.architecture.Relaxation.{Relaxation}
@@ -133,8 +133,8 @@ whole_is bytes n is_name whole =
 
 -- ---- decisions
 
-module _ (l : Linked) (all : AreDecidedIn l.setting l.kept l.relocations l.section l.decisions (count l))
-    (setting : l.setting ≡ early LoongArch64 l.setting.output l.setting.symbols) (n : ℕ) (below : n < count l) where
+module _ (l : Linked) (all : AreDecidedIn l.context l.kept l.relocations l.section l.decisions (count l))
+    (context : l.context ≡ pre_layout LoongArch64 l.context.output l.context.symbols) (n : ℕ) (below : n < count l) where
   abbrev decision : Decision
   decision = decision_at l.decisions n
 
@@ -143,17 +143,17 @@ module _ (l : Linked) (all : AreDecidedIn l.setting l.kept l.relocations l.secti
       → (relocation_in l.relocations n).code ≡ code_of (loongarch_name name)
       → is_taken l.decisions n ≡ false
       → IsNameOf loongarch_name (relocation_in l.relocations n).code name
-      × IsScopeDecision l.setting l.kept l.relocations l.section n (relocation_in l.relocations n)
-      (loongarch_scope_in Early name) decision
+      × IsScopeDecision l.context l.kept l.relocations l.section n (relocation_in l.relocations n)
+      (loongarch_scope_in PreLayout name) decision
   by_scope name named code_is taken =
       let r = relocation_in l.relocations n in
-      let alone : IsDecidedAlone l.setting l.kept l.relocations l.section n r decision =
-      subst (λ t. IsDecidedAfter l.setting l.kept l.relocations l.section n t decision) taken (all n below) in
-      let scope = subst (λ (x : Setting). IsScopeIn x.architecture x.phase r.code (alone.0)) setting (alone.1) in
+      let alone : IsDecidedAlone l.context l.kept l.relocations l.section n r decision =
+      subst (λ t. IsDecidedAfter l.context l.kept l.relocations l.section n t decision) taken (all n below) in
+      let scope = subst (λ (x : RelaxContext). IsScopeIn x.architecture x.phase r.code (alone.0)) context (alone.1) in
       let same : scope.name ≡ name = scope.is_name.named name named (sym code_is) in (
         subst (IsNameOf loongarch_name r.code) same scope.is_name,
-        subst (λ z. IsScopeDecision l.setting l.kept l.relocations l.section n r z decision)
-            (scope.value_is ∙ ap (loongarch_scope_in Early) same) (alone.2),
+        subst (λ z. IsScopeDecision l.context l.kept l.relocations l.section n r z decision)
+            (scope.value_is ∙ ap (loongarch_scope_in PreLayout) same) (alone.2),
       )
 
   -- a mark takes nothing along
@@ -162,8 +162,8 @@ module _ (l : Linked) (all : AreDecidedIn l.setting l.kept l.relocations l.secti
   mark_takes code_is =
       elim (cases_Bool (is_taken l.decisions n)) [
         | inl taken ↦
-            let along : decision ≡ TakenAlong =
-            subst (λ t. IsDecidedAfter l.setting l.kept l.relocations l.section n t decision) taken (all n below) in
+            let along : decision ≡ Consumed =
+            subst (λ t. IsDecidedAfter l.context l.kept l.relocations l.section n t decision) taken (all n below) in
             ap takes_next along
         | inr taken ↦
             let stays : decision ≡ Kept = (by_scope names.R_LARCH_RELAX tt code_is taken).1 in
@@ -175,20 +175,20 @@ module _ (l : Linked) (all : AreDecidedIn l.setting l.kept l.relocations l.secti
   rewritten_alone chosen decided =
       elim (cases_Bool (is_taken l.decisions n)) [
         | inl taken ↦
-            let along : decision ≡ TakenAlong =
-            subst (λ t. IsDecidedAfter l.setting l.kept l.relocations l.section n t decision) taken (all n below) in
-            absurd (let e : Rewritten chosen ≡ TakenAlong = sym decided ∙ along in cc)
+            let along : decision ≡ Consumed =
+            subst (λ t. IsDecidedAfter l.context l.kept l.relocations l.section n t decision) taken (all n below) in
+            absurd (let e : Rewritten chosen ≡ Consumed = sym decided ∙ along in cc)
         | inr taken ↦ taken
       ]
 
 -- a candidate's sequence is whole
-whole_with : (s : Setting) (bytes section : List ℕ) (n : ℕ) (r : Rela) (chosen : Choice Relaxation ℕ)
+whole_with : (s : RelaxContext) (bytes section : List ℕ) (n : ℕ) (r : Rela) (chosen : Choice Relaxation ℕ)
     (facts : Option LinkFacts) → IsCandidateWith s bytes section n r facts (Some chosen)
     → IsWhole s.architecture bytes n r true
 whole_with s bytes section n r chosen None is = absurd (let e : Some chosen ≡ None = is in cc)
 whole_with s bytes section n r chosen (Some facts) is = is.3
 
-whole_of : (s : Setting) (bytes section : List ℕ) (n : ℕ) (r : Rela) (chosen : Choice Relaxation ℕ)
+whole_of : (s : RelaxContext) (bytes section : List ℕ) (n : ℕ) (r : Rela) (chosen : Choice Relaxation ℕ)
     → IsCandidate s bytes section n r (Some chosen) → IsWhole s.architecture bytes n r true
 whole_of s bytes section n r chosen =
     whole_with s bytes section n r chosen
@@ -207,20 +207,20 @@ of_candidate d None is rewritten = absurd (let none : IsRewritten Kept = subst I
 
 -- ---- a load
 
-pub load_of : (l : Linked) → AreDecidedIn l.setting l.kept l.relocations l.section l.decisions (count l)
-    → l.setting ≡ early LoongArch64 l.setting.output l.setting.symbols
+pub load_of : (l : Linked) → AreDecidedIn l.context l.kept l.relocations l.section l.decisions (count l)
+    → l.context ≡ pre_layout LoongArch64 l.context.output l.context.symbols
     → (i : ℕ) (chosen : Choice Relaxation ℕ) → i < count l
     → IsNameOf loongarch_name (relocation_in l.relocations i).code names.R_LARCH_GOT_PC_HI20
     → decision_at l.decisions i ≡ Rewritten chosen → AreOfLoad l i (i + 2)
-load_of l all setting i chosen below is_name decided =
+load_of l all context i chosen below is_name decided =
     let r = relocation_in l.relocations i in
-    let loongarch : l.setting.architecture ≡ LoongArch64 = ap (λ (x : Setting). x.architecture) setting in
-    let taken : is_taken l.decisions i ≡ false = rewritten_alone l all setting i below chosen decided in
-    let page = by_scope l all setting i below names.R_LARCH_GOT_PC_HI20 tt (sym is_name.code_is) taken in
+    let loongarch : l.context.architecture ≡ LoongArch64 = ap (λ (x : RelaxContext). x.architecture) context in
+    let taken : is_taken l.decisions i ≡ false = rewritten_alone l all context i below chosen decided in
+    let page = by_scope l all context i below names.R_LARCH_GOT_PC_HI20 tt (sym is_name.code_is) taken in
     let page_made = of_candidate (decision_at l.decisions i) (page.1.0) (page.1.2) (subst IsRewritten (sym decided) tt) in
-    let whole : IsWhole l.setting.architecture l.relocations i r true =
-    whole_of l.setting l.relocations l.section i r page_made.chosen
-    (subst (IsCandidate l.setting l.relocations l.section i r) page_made.candidate_is (page.1.1)) in
+    let whole : IsWhole l.context.architecture l.relocations i r true =
+    whole_of l.context l.relocations l.section i r page_made.chosen
+    (subst (IsCandidate l.context l.relocations l.section i r) page_made.candidate_is (page.1.1)) in
     let load = load_is l.relocations i
     (whole_is l.relocations i is_name (subst (λ x. IsWhole x l.relocations i r true) loongarch whole)) in
     let within = load.within in
@@ -228,11 +228,11 @@ load_of l all setting i chosen below is_name decided =
     let low_code = load.low.code_is in
     let taken_low : is_taken l.decisions (i + 2) ≡ false =
     subst (λ k. is_taken l.decisions k ≡ false) (let e : suc (i + 1) ≡ i + 2 = omega arith in e)
-    (mark_takes l all setting (i + 1) mark load.mark_code_is) in
-    let both = loads_are_whole l.setting.output l.setting.symbols l.kept l.relocations l.section l.decisions (count l) i
-    (subst (λ x. AreDecidedIn x l.kept l.relocations l.section l.decisions (count l)) setting all)
+    (mark_takes l all context (i + 1) mark load.mark_code_is) in
+    let both = loads_are_whole l.context.output l.context.symbols l.kept l.relocations l.section l.decisions (count l) i
+    (subst (λ x. AreDecidedIn x l.kept l.relocations l.section l.decisions (count l)) context all)
     within (omega arith) load.all taken taken_low in
-    let by = by_scope l all setting (i + 2) within names.R_LARCH_GOT_PC_LO12 tt low_code taken_low in
+    let by = by_scope l all context (i + 2) within names.R_LARCH_GOT_PC_LO12 tt low_code taken_low in
     let made = of_candidate (decision_at l.decisions (i + 2)) (by.1.0) (by.1.2)
     (both.0 (subst IsRewritten (sym decided) tt)) in
     record {

@@ -16,7 +16,7 @@ use Rattle.linker_elf.specs.declared.loongarch64.relocations.LoongArch64Relocati
 use Rattle.linker_elf.specs.declared.loongarch64.relocations.LoongArch64Relocation.TheVariants as names
 use Rattle.linker_final.proofs.InstructionFields.{IsOfInstruction}
 use Rattle.linker_final.proofs.Written.{IsRowOf, applied_after, are_rewritten, by_name, rela, unwritten_without, with_operands}
-use Rattle.linker_final.specs.Final.{AreRewritten, InstructionIsLeft, Linked, IsLinked, IsWrittenByNoOther, count, instruction_at}
+use Rattle.linker_final.specs.Final.{AreRewritten, UntouchedInstruction, Linked, IsLinked, IsWrittenByNoOther, count, instruction_at}
 use Rattle.linker_final.specs.LoongArchFinal.{named_as}
 use Rattle.linker_laws.specs.LoongArchRewriteLaws.{BeginsRewritten, IsRelocated, IsRewritten}
 use Rattle.linker_loongarch64.specs.LoongArchRewrites.{loongarch_rewrite, rewrites_word}
@@ -104,10 +104,10 @@ named_after l made i chosen below decided kind kind_is name code_is =
     ∙ (ap (λ x. rela x code r.symbol (addend_after (loongarch_rewrite kind) r.addend)) (unmoved kind r.offset)
     ∙ ap (λ x. rela r.offset code r.symbol x) (same_addend kind r.addend)))))
 
-module _ (l : Linked) (linked : IsLinked l) (loongarch : l.setting.architecture ≡ LoongArch64) (i : ℕ)
+module _ (l : Linked) (linked : IsLinked l) (loongarch : l.context.architecture ≡ LoongArch64) (i : ℕ)
     (below : i < count l) (name : LoongArch64Relocation) (a : IsAfter name)
     (after_is : relocation_in l.relocations_after i ≡ named_as name (relocation_in l.relocations i))
-    (left : InstructionIsLeft l i) where
+    (left : UntouchedInstruction l i) where
   abbrev r : Rela
   r = relocation_in l.relocations i
 
@@ -122,7 +122,7 @@ module _ (l : Linked) (linked : IsLinked l) (loongarch : l.setting.architecture 
       let after = named_as name r in
       subst (λ x. IsApplied a.row (operands_with x l.addresses a.row symbol after got) (instruction_at l.rewritten r.offset) (instruction_at l.final r.offset)) loongarch
       (applied_after l linked i below 4 (omega arith) a.row a.of after after_is left
-      (row_of l.setting.architecture loongarch name a.named a.row a.is) symbol is_symbol got
+      (row_of l.context.architecture loongarch name a.named a.row a.is) symbol is_symbol got
       (subst (λ x. operands_in x l.addresses a.row after (Some symbol) ≡ Ok (operands_with x l.addresses a.row symbol after got)) (sym loongarch) taken))
 
   -- by operands with the same value
@@ -139,9 +139,9 @@ module _ (l : Linked) (linked : IsLinked l) (loongarch : l.setting.architecture 
       (applied_after_it symbol got taken is_symbol))
 
 -- the relocation of a rewrite's name is applied to what it leaves
-pub applied_there : (l : Linked) (linked : IsLinked l) (loongarch : l.setting.architecture ≡ LoongArch64) (i : ℕ)
+pub applied_there : (l : Linked) (linked : IsLinked l) (loongarch : l.context.architecture ≡ LoongArch64) (i : ℕ)
     (chosen : Choice Relaxation ℕ) (below : i < count l)
-    (decided : decision_at l.decisions i ≡ Rewritten chosen) (left : InstructionIsLeft l i)
+    (decided : decision_at l.decisions i ≡ Rewritten chosen) (left : UntouchedInstruction l i)
     (kind : RelaxationKind) (kind_is : chosen.kind ≡ relaxations.LoongArch64 kind)
     (name : LoongArch64Relocation) (code_is : chosen.relocation ≡ code_of (loongarch_name name))
     (a : IsAfter name) (symbol : Symbol) (got : ℕ)
@@ -177,13 +177,13 @@ becomes l done i chosen below decided kind kind_is new is =
 -- ---- instructions without a field
 
 -- one whose relocation has no type then
-pub unwritten_nop : (l : Linked) → IsLinked l → l.setting.architecture ≡ LoongArch64 → (i : ℕ) → i < count l
+pub unwritten_nop : (l : Linked) → IsLinked l → l.context.architecture ≡ LoongArch64 → (i : ℕ) → i < count l
     → relocation_in l.relocations_after i ≡ named_as names.R_LARCH_NONE (relocation_in l.relocations i)
-    → InstructionIsLeft l i → (relocation_in l.relocations i).offset + 4 ≤ length l.section
+    → UntouchedInstruction l i → (relocation_in l.relocations i).offset + 4 ≤ length l.section
     → IsWrittenByNoOther l i (relocation_in l.relocations i).offset
     → instruction_at l.final (relocation_in l.relocations i).offset
     ≡ instruction_at l.rewritten (relocation_in l.relocations i).offset
 unwritten_nop l linked loongarch i below after_is left inside alone =
     unwritten_without l linked i below (relocation_in l.relocations i).offset left
-    (row_of l.setting.architecture loongarch names.R_LARCH_NONE tt (bytes_row NoValue 0) refl)
+    (row_of l.context.architecture loongarch names.R_LARCH_NONE tt (bytes_row NoValue 0) refl)
     (ap (λ (x : Rela). x.code) after_is) inside alone

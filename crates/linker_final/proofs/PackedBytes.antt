@@ -76,8 +76,8 @@ module _ (p : Packed) (is : IsPacked p) (o n : ℕ) (some : 0 < n) (stay : StayT
       omega (arith, all, low, e)
 
   -- and what is after them goes after them
-  pub place_behind : place_of p (o + n) ≡ place_of p o + n
-  place_behind =
+  pub place_after : place_of p (o + n) ≡ place_of p o + n
+  place_after =
       let d = p.section.deletions in
       let b = p.section.base in
       let last = next_place (n - 1) (omega (arith, some)) in

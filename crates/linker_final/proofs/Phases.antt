@@ -4,7 +4,7 @@ use Rattle.std.proofs.lemmas.List.{length-take, length-drop, get_or-take, get_or
 use Rattle.std.proofs.lemmas.List.Elements.{All-head, All-tail, All-weaker}
 use Rattle.std.specs.List.{All}
 use Rattle.std.specs.Prelude.{min}
-use Rattle.linker_final.specs.Final.{ArePhases, IsLeftAlone, IsLinked, Keeps, LeavesAlone, LeftAloneIsTheSame, Linked, RewritesNone, RewritingPhase, count, count_of}
+use Rattle.linker_final.specs.Final.{ArePhases, UntouchedBytes, IsLinked, Keeps, UntouchedInPhase, UntouchedBytesAreTheSame, Linked, RewritesNone, RewritingPhase, count, count_of}
 use Rattle.linker_rewriting.specs.Rewritten.{relocation_after}
 use Rattle.linker_section.specs.Relocations.{relocation_in}
 
@@ -36,11 +36,11 @@ phases_keep (p ∷ phases) relocations section relocations_last last is i below 
     let rewritten = is.1 in
     let taken = (is.0).same_relocations in
     let within : i < count_of p = subst (λ bytes. i < length bytes / 24) (sym taken) below in
-    let behind : i < length p.relocations_after / 24 = subst (λ n. i < n / 24) (sym rewritten.as_many) within in
+    let following : i < length p.relocations_after / 24 = subst (λ n. i < n / 24) (sym rewritten.as_many) within in
     let here : relocation_in p.relocations_after i ≡ relocation_in p.relocations i =
     rewritten.relocations i within
     ∙ ap (λ d. relocation_after d (relocation_in p.relocations i)) (All-head (Keeps i) p phases kept) in
-    phases_keep phases p.relocations_after p.rewritten relocations_last last (is.2) i behind (All-tail (Keeps i) p phases kept)
+    phases_keep phases p.relocations_after p.rewritten relocations_last last (is.2) i following (All-tail (Keeps i) p phases kept)
     ∙ (here ∙ ap (λ bytes. relocation_in bytes i) taken)
 
 -- a byte that no rewrite of any has
@@ -71,15 +71,15 @@ same_window start len xs ys same each =
     ∙ (sym (get_or-drop start ys i 0) ∙ sym (get_or-take len (drop start ys) i 0 within)))))
 
 -- what all leave alone
-module _ (phases : List RewritingPhase) (i start len : ℕ) (alone : All (LeavesAlone i start len) phases) where
+module _ (phases : List RewritingPhase) (i start len : ℕ) (alone : All (UntouchedInPhase i start len) phases) where
   pub all_keep : All (Keeps i) phases
-  all_keep = All-weaker (LeavesAlone i start len) (Keeps i) (λ p leaves. leaves.kept) phases alone
+  all_keep = All-weaker (UntouchedInPhase i start len) (Keeps i) (λ p leaves. leaves.kept) phases alone
 
   pub none_rewrites : (at : ℕ) → start ≤ at → at < start + len → All (RewritesNone at) phases
   none_rewrites at from less =
-      All-weaker (LeavesAlone i start len) (RewritesNone at) (λ p leaves. leaves.apart at from less) phases alone
+      All-weaker (UntouchedInPhase i start len) (RewritesNone at) (λ p leaves. leaves.apart at from less) phases alone
 
-pub left_alone_is_the_same : LeftAloneIsTheSame
+pub left_alone_is_the_same : UntouchedBytesAreTheSame
 left_alone_is_the_same phases relocations section relocations_last last are i start len below alone = (
   phases_keep phases relocations section relocations_last last are i below (all_keep phases i start len alone),
   same_window start len last section (phases_same_length phases relocations section relocations_last last are)
@@ -96,7 +96,7 @@ module _ (l : Linked) (later : ArePhases l.later l.relocations_after l.rewritten
   pub later_length : length l.last ≡ length l.rewritten
   later_length = phases_same_length l.later l.relocations_after l.rewritten l.relocations_last l.last later
 
-  module _ (i start len : ℕ) (left : IsLeftAlone l i start len) where
+  module _ (i start len : ℕ) (left : UntouchedBytes l i start len) where
     pub later_keep : i < length l.relocations_after / 24
         → relocation_in l.relocations_last i ≡ relocation_in l.relocations_after i
     later_keep below =
@@ -122,7 +122,7 @@ module _ (l : Linked) (linked : IsLinked l) where
   pub last_within : (i : ℕ) → i < count l → i < length l.relocations_last / 24
   last_within i below = subst (λ n. i < n / 24) (sym last_as_many) below
 
-  module _ (i start len : ℕ) (left : IsLeftAlone l i start len) where
+  module _ (i start len : ℕ) (left : UntouchedBytes l i start len) where
     pub relocation_left : i < count l
         → relocation_in l.relocations_last i ≡ relocation_in l.relocations_after i
     relocation_left below =
@@ -136,9 +136,9 @@ module _ (l : Linked) (linked : IsLinked l) where
 
 -- fewer bytes
 pub left_within : (l : Linked) (i start len start' len' : ℕ) → start ≤ start' → start' + len' ≤ start + len
-    → IsLeftAlone l i start len → IsLeftAlone l i start' len'
+    → UntouchedBytes l i start len → UntouchedBytes l i start' len'
 left_within l i start len start' len' low high left =
-    All-weaker (LeavesAlone i start len) (LeavesAlone i start' len')
+    All-weaker (UntouchedInPhase i start len) (UntouchedInPhase i start' len')
     (λ p leaves.
     record {
       kept = leaves.kept;

@@ -17,8 +17,8 @@ use Rattle.linker_final.proofs.Ppc64Written.{IsAfter, after_is, applied_so, appl
 use Rattle.linker_final.proofs.Ppc64Written.{entry_high_after, entry_low_after, thread_high_after, thread_low_after}
 use Rattle.linker_final.proofs.Phases.{left_within}
 use Rattle.linker_final.proofs.Written.{are_rewritten, first_same, second_same, stays}
-use Rattle.linker_final.specs.Final.{IsLeftAlone, AreRewritten, Linked, IsLinked, IsWrittenByNoOther, count, instruction_at, two_at}
-use Rattle.linker_final.specs.Ppc64Anywhere.{Becomes, EachAnywhere, GeneralArgumentAnywhere, GeneralCallAnywhere, GeneralDynamicAnywhere, GeneralHighAnywhere, Goes, GoesAt, IsCallApplied, IsCallLeft, IsLeft, IsMarkAs, LocalDynamicAnywhere, ModuleCallAnywhere, named_as, named_behind}
+use Rattle.linker_final.specs.Final.{UntouchedBytes, AreRewritten, Linked, IsLinked, IsWrittenByNoOther, count, instruction_at, two_at}
+use Rattle.linker_final.specs.Ppc64Anywhere.{Becomes, EachAnywhere, GeneralArgumentAnywhere, GeneralCallAnywhere, GeneralDynamicAnywhere, GeneralHighAnywhere, Goes, GoesAt, IsCallApplied, UntouchedCall, UntouchedAt, IsMarkAs, LocalDynamicAnywhere, ModuleCallAnywhere, named_as, named_after}
 use Rattle.linker_final.specs.Ppc64Final.{CallToBlockIsAlike, CallToLowHalfIsAlike, CallToSumIsAlike, EachChosen, EachRewritten, EntryIsAlike, ForOperands, GeneralArgumentIsAlike, GeneralCallIsAlike, GeneralDynamic, GeneralHighIsAlike, HighArgumentIsAlike, LoadedArgumentIsAlike, LocalDynamic, ModuleCallIsAlike, NoEntryIsAlike, NoModuleIsAlike, ThreadArgumentIsAlike, final, object, offset_of}
 use Rattle.linker_final.specs.Ppc64PrefixedFinal.{BranchToNopIsAlike, BranchToSumIsAlike}
 use Rattle.linker_laws.specs.Ppc64RewriteLaws.{CallSo, IsRelocated, Laws, Leads, at_place, both, entry_from_toc, with_entry, without_register, word_of}
@@ -121,7 +121,7 @@ module _ (laws : Laws) (l : Linked) (rewriting : AreRewritten l) (i : ℕ) (chos
   )
 
   to_sum : IsOfEntry (entry kinds.CallToAdd names.R_PPC64_NONE to_initial_exec) l.section (offset_of l i) chosen
-      → IsMarkAs names.R_PPC64_NONE l i × (IsCallLeft l i → (o : Operands) → CallToSumIsAlike l i o)
+      → IsMarkAs names.R_PPC64_NONE l i × (UntouchedCall l i → (o : Operands) → CallToSumIsAlike l i o)
   to_sum by = (
     after_is l rewriting i chosen below decided kinds.CallToAdd by.kind_is names.R_PPC64_NONE by.code_is,
     λ left o f s t thread call changes c bl agree called.
@@ -135,7 +135,7 @@ module _ (laws : Laws) (l : Linked) (rewriting : AreRewritten l) (i : ℕ) (chos
   )
 
   to_block : IsOfEntry (entry kinds.CallToAddi4096 names.R_PPC64_NONE to_module) l.section (offset_of l i) chosen
-      → IsMarkAs names.R_PPC64_NONE l i × (IsCallLeft l i → CallToBlockIsAlike l i)
+      → IsMarkAs names.R_PPC64_NONE l i × (UntouchedCall l i → CallToBlockIsAlike l i)
   to_block by = (
     after_is l rewriting i chosen below decided kinds.CallToAddi4096 by.kind_is names.R_PPC64_NONE by.code_is,
     λ left f s t call changes c bl agree called.
@@ -224,17 +224,17 @@ local_dynamic_anywhere laws = (
 
 -- ---- calls in the final bytes
 
-module _ (l : Linked) (linked : IsLinked l) (ppc64 : l.setting.architecture ≡ Ppc64) (i : ℕ)
+module _ (l : Linked) (linked : IsLinked l) (ppc64 : l.context.architecture ≡ Ppc64) (i : ℕ)
     (below : i < count l) where
   -- the low half after a call is applied
   pub call_applied : IsMarkAs names.R_PPC64_TPREL16_LO l i → offset_of l i + 4 ≤ length l.section
       → (symbol : Symbol) → slice_get l.symbols (relocation_in l.relocations i).symbol ≡ Some symbol
       → (o : Operands)
       → value_of thread_low_after.row o
-      ≡ value_of thread_low_after.row (operands_with Ppc64 l.addresses thread_low_after.row symbol (named_behind names.R_PPC64_TPREL16_LO (relocation_in l.relocations i)) 0)
-      → IsLeftAlone l i (offset_of l i) 8 → IsWrittenByNoOther l i (offset_of l i) → IsCallApplied o l i
+      ≡ value_of thread_low_after.row (operands_with Ppc64 l.addresses thread_low_after.row symbol (named_after names.R_PPC64_TPREL16_LO (relocation_in l.relocations i)) 0)
+      → UntouchedBytes l i (offset_of l i) 8 → IsWrittenByNoOther l i (offset_of l i) → IsCallApplied o l i
   call_applied mark inside symbol is_symbol o same left alone =
-      let after = named_behind names.R_PPC64_TPREL16_LO (relocation_in l.relocations i) in (
+      let after = named_after names.R_PPC64_TPREL16_LO (relocation_in l.relocations i) in (
         left_beside l linked ppc64 i below names.R_PPC64_TPREL16_LO thread_low_after after mark refl (offset_of l i)
             (left_within l i (offset_of l i) 8 (offset_of l i) 4 (omega arith) (omega arith) left) inside
             (inl (omega arith)) alone,
@@ -251,25 +251,25 @@ module _ (l : Linked) (linked : IsLinked l) (ppc64 : l.setting.architecture ≡ 
 
   -- both instructions are left
   pub call_left : IsMarkAs names.R_PPC64_NONE l i → offset_of l i + 4 ≤ length l.section
-      → offset_of l i + 4 + 4 ≤ length l.section → IsLeftAlone l i (offset_of l i) 8
-      → IsWrittenByNoOther l i (offset_of l i) → IsWrittenByNoOther l i (offset_of l i + 4) → IsCallLeft l i
-  call_left mark inside behind left alone alone_behind =
-      let after = named_behind names.R_PPC64_NONE (relocation_in l.relocations i) in (
+      → offset_of l i + 4 + 4 ≤ length l.section → UntouchedBytes l i (offset_of l i) 8
+      → IsWrittenByNoOther l i (offset_of l i) → IsWrittenByNoOther l i (offset_of l i + 4) → UntouchedCall l i
+  call_left mark inside following left alone alone_after =
+      let after = named_after names.R_PPC64_NONE (relocation_in l.relocations i) in (
         left_alone l linked ppc64 i below after mark refl (offset_of l i) (left_within l i (offset_of l i) 8 (offset_of l i) 4 (omega arith) (omega arith) left) inside alone,
-        left_alone l linked ppc64 i below after mark refl (offset_of l i + 4) (left_within l i (offset_of l i) 8 (offset_of l i + 4) 4 (omega arith) (omega arith) left) behind alone_behind,
+        left_alone l linked ppc64 i below after mark refl (offset_of l i + 4) (left_within l i (offset_of l i) 8 (offset_of l i + 4) 4 (omega arith) (omega arith) left) following alone_after,
       )
 
   -- a call of prefixed code is alone
   pub branch_left : relocation_in l.relocations_after i ≡ named_as names.R_PPC64_NONE (relocation_in l.relocations i)
-      → offset_of l i + 4 ≤ length l.section → IsLeftAlone l i (offset_of l i) 4
-      → IsWrittenByNoOther l i (offset_of l i) → IsLeft l (offset_of l i)
+      → offset_of l i + 4 ≤ length l.section → UntouchedBytes l i (offset_of l i) 4
+      → IsWrittenByNoOther l i (offset_of l i) → UntouchedAt l (offset_of l i)
   branch_left gone inside left alone =
       left_alone l linked ppc64 i below (named_as names.R_PPC64_NONE (relocation_in l.relocations i)) gone refl (offset_of l i) left inside alone
 
   -- the entry of the offset is there, which the formula of a relocation has
   pub with_thread_entry : (n : ℕ) (name : Ppc64Relocation) (a : IsAfter n name)
       → relocation_in l.relocations_after i ≡ named_as name (relocation_in l.relocations i)
-      → IsLeftAlone l i (offset_of l i) n → (symbol : Symbol) → slice_get l.symbols (relocation_in l.relocations i).symbol ≡ Some symbol
+      → UntouchedBytes l i (offset_of l i) n → (symbol : Symbol) → slice_get l.symbols (relocation_in l.relocations i).symbol ≡ Some symbol
       → entry_of a.row (relocation_in l.relocations i).addend symbol.is_thread_local
       ≡ Some (record { class = ThreadOffset; addend = (relocation_in l.relocations i).addend })
       → operands_by Ppc64 l.addresses a.row (named_as name (relocation_in l.relocations i)) symbol
@@ -346,7 +346,7 @@ call laws l linked ppc64 i chosen below is_name decided symbol got is_symbol sma
           let its = to_sum laws l rewriting i chosen below decided by in
           inr (inr (inr (
             by.kind_is,
-            λ left alone alone_behind. its.1 (call_left l linked ppc64 i below (its.0) (by.meant.0) (by.meant.1.0) left alone alone_behind) w,
+            λ left alone alone_after. its.1 (call_left l linked ppc64 i below (its.0) (by.meant.0) (by.meant.1.0) left alone alone_after) w,
           )))
       | inr (inr (inr (inr nothing))) ↦ absurd nothing
     ]
@@ -362,7 +362,7 @@ module_call laws l linked ppc64 i chosen below is_name decided =
           let its = to_block laws l rewriting i chosen below decided by in
           inr (
             by.kind_is,
-            λ left alone alone_behind. its.1 (call_left l linked ppc64 i below (its.0) (by.meant.0) (by.meant.1.0) left alone alone_behind),
+            λ left alone alone_after. its.1 (call_left l linked ppc64 i below (its.0) (by.meant.0) (by.meant.1.0) left alone alone_after),
           )
       | inr (inr nothing) ↦ absurd nothing
     ]

@@ -14,7 +14,7 @@ use Rattle.linker_ppc64.specs.declared.rewrites.RelaxationKind.{RelaxationKind}
 use Rattle.linker_ppc64.specs.declared.rewrites.RelaxationKind.TheVariants as kinds
 use Rattle.linker_rewriting.specs.Decisions.{decision_at}
 use Rattle.linker_rewriting.specs.Groups.{IsScopeIn, ppc64_scope, ppc64_scope_in}
-use Rattle.linker_rewriting.specs.Labels.{is_labelled}
+use Rattle.linker_rewriting.specs.RiscVPcrelGroups.{is_labelled}
 use Rattle.linker_rewriting.specs.declared.decisions.Decision.TheVariants.{Rewritten}
 use Rattle.linker_rewriting.specs.declared.groups.Scope.{Scope}
 use Rattle.linker_rewriting.specs.declared.groups.Scope.TheVariants.{Labelled}
@@ -57,13 +57,13 @@ early_unlabelled names.R_PPC64_GOT_TLSLD_PCREL34 = refl
 early_unlabelled names.R_PPC64_TLSLD = refl
 early_unlabelled name = refl
 
-offsets_unlabelled : (name : Ppc64Relocation) → is_labelled (ppc64_scope_in phases.ThreadOffsets name) ≡ false
+offsets_unlabelled : (name : Ppc64Relocation) → is_labelled (ppc64_scope_in phases.TlsLocalExec name) ≡ false
 offsets_unlabelled names.R_PPC64_TPREL16_HA = refl
 offsets_unlabelled names.R_PPC64_TPREL16_LO = refl
 offsets_unlabelled names.R_PPC64_TPREL16_LO_DS = refl
 offsets_unlabelled name = refl
 
-distances_unlabelled : (name : Ppc64Relocation) → is_labelled (ppc64_scope_in phases.Distances name) ≡ false
+distances_unlabelled : (name : Ppc64Relocation) → is_labelled (ppc64_scope_in phases.ShortPcRel name) ≡ false
 distances_unlabelled names.R_PPC64_TOC16_HA = refl
 distances_unlabelled names.R_PPC64_TOC16_LO = refl
 distances_unlabelled names.R_PPC64_TOC16_LO_DS = refl
@@ -71,10 +71,10 @@ distances_unlabelled name = refl
 
 unlabelled_in : (phase : Phase) (name : Ppc64Relocation)
     → is_labelled (ppc64_scope_in phase name) ≡ false
-unlabelled_in phases.Early name = early_unlabelled name
-unlabelled_in phases.ThreadOffsets name = offsets_unlabelled name
-unlabelled_in phases.GotLoads name = refl
-unlabelled_in phases.Distances name = distances_unlabelled name
+unlabelled_in phases.PreLayout name = early_unlabelled name
+unlabelled_in phases.TlsLocalExec name = offsets_unlabelled name
+unlabelled_in phases.GotToPcRel name = refl
+unlabelled_in phases.ShortPcRel name = distances_unlabelled name
 
 -- PowerPC64 has no labels
 unlabelled : (phase : Phase) (code : ℕ) (scope : Scope) → IsScopeIn Ppc64 phase code scope
@@ -95,19 +95,19 @@ IsOfOne es section o =
     IsOfOneIn ppc64_name relaxations.Ppc64 (λ (e : Entry RelaxationKind Ppc64Relocation). ppc64_matches e.kind section o) es
 
 -- a relocation that is rewritten has the name of its code
-pub named_there : (l : Linked) → AreRewritten l → l.setting.architecture ≡ Ppc64 → (i : ℕ)
+pub named_there : (l : Linked) → AreRewritten l → l.context.architecture ≡ Ppc64 → (i : ℕ)
     (chosen : Choice Relaxation ℕ) → i < count l → decision_at l.decisions i ≡ Rewritten chosen
     → (name : Ppc64Relocation) → IsNamed (ppc64_name name)
     → code_of (ppc64_name name) ≡ (relocation_in l.relocations i).code
     → IsNameOf ppc64_name (relocation_in l.relocations i).code name
 named_there l rewriting ppc64 i chosen below decided name named code =
     let r = relocation_in l.relocations i in
-    let c = chosen_at l.setting l.kept l.relocations l.section l.decisions (count l) i chosen rewriting.decided below decided
-    (λ scope is. unlabelled l.setting.phase r.code scope (subst (λ x. IsScopeIn x l.setting.phase r.code scope) ppc64 is)) in
+    let c = chosen_at l.context l.kept l.relocations l.section l.decisions (count l) i chosen rewriting.decided below decided
+    (λ scope is. unlabelled l.context.phase r.code scope (subst (λ x. IsScopeIn x l.context.phase r.code scope) ppc64 is)) in
     let is = subst (λ x. IsArchitectureChoice x r.code l.section r.offset c.facts chosen) ppc64 c.is_choice in
     subst (IsNameOf ppc64_name r.code) (is.is_name.named name named code) is.is_name
 
-module _ (l : Linked) (rewriting : AreRewritten l) (ppc64 : l.setting.architecture ≡ Ppc64) (i : ℕ)
+module _ (l : Linked) (rewriting : AreRewritten l) (ppc64 : l.context.architecture ≡ Ppc64) (i : ℕ)
     (chosen : Choice Relaxation ℕ) (below : i < count l)
     (decided : decision_at l.decisions i ≡ Rewritten chosen)
     (name : Ppc64Relocation) (named : IsNamed (ppc64_name name))
@@ -116,8 +116,8 @@ module _ (l : Linked) (rewriting : AreRewritten l) (ppc64 : l.setting.architectu
     pub of_one : IsOfOne (ppc64_entries name) l.section (relocation_in l.relocations i).offset chosen
     of_one =
         let r = relocation_in l.relocations i in
-        let c = chosen_at l.setting l.kept l.relocations l.section l.decisions (count l) i chosen rewriting.decided below decided
-        (λ scope is. unlabelled l.setting.phase r.code scope (subst (λ x. IsScopeIn x l.setting.phase r.code scope) ppc64 is)) in
+        let c = chosen_at l.context l.kept l.relocations l.section l.decisions (count l) i chosen rewriting.decided below decided
+        (λ scope is. unlabelled l.context.phase r.code scope (subst (λ x. IsScopeIn x l.context.phase r.code scope) ppc64 is)) in
         of_one_in ppc64_name relaxations.Ppc64 (λ (e : Entry RelaxationKind Ppc64Relocation). ppc64_matches e.kind l.section r.offset) chosen
         (λ n. Ppc64Applies l.section r.offset c.facts) ppc64_entries kinds.NoOp refl r.code name named is_name
         (λ e applies. applies.0)

@@ -36,7 +36,7 @@ module _ (laws : Laws) (l : Linked) (rewriting : AreRewritten l) (i : ℕ) (chos
     λ p small applied f s pld at holds of_entry_there.
         let o = offset_of l i in
         let inside = by.meant.0 in
-        let behind = by.meant.1.0 in
+        let following = by.meant.1.0 in
         let first : word_of (two_at l.section o) ≡ word_of (drop o l.section) =
         first_same l.section o ∙ sym (word_same l.section o) in
         let second : word_of (drop 4 (two_at l.section o)) ≡ word_of (drop (o + 4) l.section) =
@@ -49,7 +49,7 @@ module _ (laws : Laws) (l : Linked) (rewriting : AreRewritten l) (i : ℕ) (chos
         let small1 : word_of (drop o l.section) < 2 ^ 32 =
         word_below (drop o l.section) (All-drop (λ b. b < 2 ^ 8) o l.section section_bytes) (omega (arith, inside, d1)) in
         let small2 : word_of (drop (o + 4) l.section) < 2 ^ 32 =
-        word_below (drop (o + 4) l.section) (All-drop (λ b. b < 2 ^ 8) (o + 4) l.section section_bytes) (omega (arith, behind, d2)) in
+        word_below (drop (o + 4) l.section) (All-drop (λ b. b < 2 ^ 8) (o + 4) l.section section_bytes) (omega (arith, following, d2)) in
         laws.prefixed f p s (two_at l.section o) (two_at l.rewritten o) small at
         (omega (arith, first, small1)) (omega (arith, second, small2)) is holds
         (becomes l rewriting i chosen below decided kinds.PldToPaddi by.kind_is (replaces 0 8 paddi) refl refl)

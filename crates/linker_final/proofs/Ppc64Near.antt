@@ -12,8 +12,8 @@ use Rattle.linker_final.proofs.Ppc64Written.{after_is, applied_so, becomes, beco
 use Rattle.linker_final.proofs.Ppc64Written.{near_entry_after, thread_high_after, thread_low_after}
 use Rattle.linker_final.proofs.Written.{are_rewritten, first_same, second_same}
 use Rattle.linker_final.specs.Final.{AreRewritten, Linked, count, instruction_at, two_at}
-use Rattle.linker_final.specs.Ppc64Anywhere.{Becomes, EachAnywhere, Goes, IsCallApplied, IsCallLeft, LeavesItsEntry, NearAnywhere, NearArgumentsAnywhere, named_behind}
-use Rattle.linker_final.specs.Ppc64Final.{EachRewritten, ForOperands, IfAlone, IfAloneBehind, IfCallIsLeft, IsCallBy, LeavesEntry, NearArguments, NearIsAlike, NearToInitialExec, NearToLocalExec, NearToModule, final, object, offset_of}
+use Rattle.linker_final.specs.Ppc64Anywhere.{Becomes, EachAnywhere, Goes, IsCallApplied, UntouchedCall, LeavesItsEntry, NearAnywhere, NearArgumentsAnywhere, named_after}
+use Rattle.linker_final.specs.Ppc64Final.{EachRewritten, ForOperands, IfAlone, IfAloneAfter, IfUntouchedCall, IsCallBy, LeavesEntry, NearArguments, NearIsAlike, NearToInitialExec, NearToLocalExec, NearToModule, final, object, offset_of}
 use Rattle.linker_laws.specs.Ppc64Machine.{State}
 use Rattle.linker_laws.specs.Ppc64RewriteLaws.{CallLeaves, IsRelocated, Laws, Leaves, at_place, from_thread, one, only, two, with_entry, word_of}
 use Rattle.linker_ppc64.specs.Ppc64Rewrites.{addis_of_thread, is_addi, ppc64_entries, registers_of, rewrites_call, rewrites_word, rt_of, to_initial_exec, to_local_exec, to_module, to_near_initial_exec}
@@ -78,9 +78,9 @@ call_words : (l : Linked) (o : ℕ) (second : List ℕ)
     → instruction_at l.final o ≡ instruction_at l.rewritten o
     → second ≡ instruction_at l.final (o + 4)
     → two (two_at l.rewritten o) second ≡ two (instruction_at l.final o) (instruction_at l.final (o + 4))
-call_words l o second first behind =
+call_words l o second first following =
     ap (λ w. w ∷ word_of second ∷ []) (first_same l.rewritten o ∙ ap word_of (sym first))
-    ∙ ap (λ xs. word_of (instruction_at l.final o) ∷ word_of xs ∷ []) behind
+    ∙ ap (λ xs. word_of (instruction_at l.final o) ∷ word_of xs ∷ []) following
 
 -- ---- wherever the section goes
 
@@ -108,7 +108,7 @@ module _ (laws : Laws) (l : Linked) (rewriting : AreRewritten l) (i : ℕ) (chos
 
   to_initial_exec_anywhere : IsOfEntry (entry kinds.AddiToLd names.R_PPC64_GOT_TPREL16_DS to_near_initial_exec) l.section (offset_of l i) chosen
       → Becomes names.R_PPC64_GOT_TPREL16_DS l i (λ entry o.
-      (j : ℕ) → IsCallBy l names.R_PPC64_TLSGD kinds.CallToAdd j → IsCallLeft l j → NearToInitialExec l i j entry o)
+      (j : ℕ) → IsCallBy l names.R_PPC64_TLSGD kinds.CallToAdd j → UntouchedCall l j → NearToInitialExec l i j entry o)
   to_initial_exec_anywhere by = (
     word_after l rewriting i chosen below decided kinds.AddiToLd by.kind_is names.R_PPC64_GOT_TPREL16_DS by.code_is
         (λ word. 0xe8000000 + registers_of word) refl,
@@ -126,7 +126,7 @@ module _ (laws : Laws) (l : Linked) (rewriting : AreRewritten l) (i : ℕ) (chos
   )
 
   to_module_anywhere : IsOfEntry (entry kinds.AddiToAddisThread names.R_PPC64_NONE to_module) l.section (offset_of l i) chosen
-      → Goes l i (λ o. (j : ℕ) → IsCallBy l names.R_PPC64_TLSLD kinds.CallToAddi4096 j → IsCallLeft l j → NearToModule l i j)
+      → Goes l i (λ o. (j : ℕ) → IsCallBy l names.R_PPC64_TLSLD kinds.CallToAddi4096 j → UntouchedCall l j → NearToModule l i j)
   to_module_anywhere by = (
     word_after l rewriting i chosen below decided kinds.AddiToAddisThread by.kind_is names.R_PPC64_NONE by.code_is
         (λ word. addis_of_thread (rt_of word)) refl,
@@ -205,13 +205,13 @@ general laws l linked ppc64 i chosen below is_name decided left symbol got is_sy
                   (call_applied l linked ppc64 j call.below
                   (after_is l rewriting j call.chosen call.below call.decided kinds.CallToAddi call.kind_is low second.code_is)
                   (second.meant.0) symbol (ap (slice_get l.symbols) of.same_symbol ∙ is_symbol) w
-                  (ap (λ x. value_of thread_low_after.row (operands_with Ppc64 l.addresses thread_low_after.row symbol (record (named_behind low r) { addend = x }) 0)) (sym of.same_addend))
+                  (ap (λ x. value_of thread_low_after.row (operands_with Ppc64 l.addresses thread_low_after.row symbol (record (named_after low r) { addend = x }) 0)) (sym of.same_addend))
                   call_is_left alone),
             )
         | inr its ↦
             inr (
               its.0,
-              λ j call call_is_left alone behind.
+              λ j call call_is_left alone following.
                   let second = to_initial l.section (offset_of l j) call.chosen call.kind_is
                   (of_one l rewriting ppc64 j call.chosen call.below call.decided names.R_PPC64_TLSGD tt call.is_name) in
                   in_final l linked ppc64 i below names.R_PPC64_GOT_TPREL16_DS near_entry_after _ (its.1) left symbol is_symbol symbol.thread_entry
@@ -219,7 +219,7 @@ general laws l linked ppc64 i chosen below is_name decided left symbol got is_sy
                   j call
                   (call_left l linked ppc64 j call.below
                   (after_is l rewriting j call.chosen call.below call.decided kinds.CallToAdd call.kind_is names.R_PPC64_NONE second.code_is)
-                  (second.meant.0) (second.meant.1.0) call_is_left alone behind),
+                  (second.meant.0) (second.meant.1.0) call_is_left alone following),
             )
       ],
     )
@@ -228,19 +228,19 @@ local : Laws → EachRewritten 4 names.R_PPC64_GOT_TLSLD16 (λ l i chosen.
     ForOperands names.R_PPC64_GOT_TLSLD16 l i (λ symbol o.
     LeavesEntry names.R_PPC64_GOT_TLSLD16 l i o
     × ((j : ℕ) → IsCallBy l names.R_PPC64_TLSLD kinds.CallToAddi4096 j
-    → IfCallIsLeft l j (IfAlone l i (IfAlone l j (IfAloneBehind l j (NearToModule l i j)))))))
+    → IfUntouchedCall l j (IfAlone l i (IfAlone l j (IfAloneAfter l j (NearToModule l i j)))))))
 local laws l linked ppc64 i chosen below is_name decided left symbol got is_symbol small =
     let rewriting = are_rewritten l linked in
     let by = of_entry l rewriting ppc64 i chosen below decided names.R_PPC64_GOT_TLSLD16 tt is_name
     (entry kinds.AddiToAddisThread names.R_PPC64_NONE to_module) refl in (
       module_entry laws l rewriting ppc64 i chosen below is_name decided _ small,
-      λ j call call_is_left alone call_alone behind.
+      λ j call call_is_left alone call_alone following.
           let second = to_block l.section (offset_of l j) call.chosen call.kind_is
           (of_one l rewriting ppc64 j call.chosen call.below call.decided names.R_PPC64_TLSLD tt call.is_name) in
           gone_in_final l linked ppc64 i below _ (to_module_anywhere laws l rewriting i chosen below decided by) left (by.meant.0) alone _ small j call
           (call_left l linked ppc64 j call.below
           (after_is l rewriting j call.chosen call.below call.decided kinds.CallToAddi4096 call.kind_is names.R_PPC64_NONE second.code_is)
-          (second.meant.0) (second.meant.1.0) call_is_left call_alone behind),
+          (second.meant.0) (second.meant.1.0) call_is_left call_alone following),
     )
 
 pub near_arguments : Laws → NearArguments

@@ -15,7 +15,7 @@ use Rattle.linker_final.proofs.Ppc64Halves.{nop_goes}
 use Rattle.linker_final.proofs.Ppc64Written.{after_is, applied_so, becomes, becomes_marked, gone_in_final, in_final, left_alone, test_at, test_there, thread_high_after, thread_low_after, thread_low_words_after, word_after}
 use Rattle.linker_final.proofs.Written.{are_rewritten}
 use Rattle.linker_final.specs.Final.{AreRewritten, IsLinked, Linked, count, instruction_at}
-use Rattle.linker_final.specs.Ppc64Anywhere.{Becomes, EachAnywhere, Goes, GoesAt, InitialExecAnywhere, IsLeft, VariableAnywhere, named_as}
+use Rattle.linker_final.specs.Ppc64Anywhere.{Becomes, EachAnywhere, Goes, GoesAt, InitialExecAnywhere, UntouchedAt, VariableAnywhere, named_as}
 use Rattle.linker_final.specs.Ppc64Final.{HighIsAlike, InitialExec, MarkedIsAlike, NearOffsetIsAlike, OffsetIsAlike, OverOffsetIsAlike, final, object, offset_of}
 use Rattle.linker_final.specs.Ppc64PrefixedFinal.{OverVariableIsAlike, marked_final, marked_object, marked_offset}
 use Rattle.linker_laws.specs.Ppc64Machine.{access_with, word_access_with}
@@ -129,7 +129,7 @@ module _ (laws : Laws) (l : Linked) (rewriting : AreRewritten l) (i : ℕ) (chos
   over_variable : (kind : RelaxationKind) → chosen.kind ≡ relaxations.Ppc64 kind
       → (does : Use) → OverVariable kind does → (new : ℕ → ℕ)
       → ppc64_rewrite kind ≡ Some (rewrites_marked new) → HasTest does.test l.section (marked_offset l i)
-      → IsLeft l (marked_offset l i) → (o : Operands) → OverVariableIsAlike does l i o
+      → UntouchedAt l (marked_offset l i) → (o : Operands) → OverVariableIsAlike does l i o
   over_variable kind kind_is does law new is meant left o f s t c agree has requires =
       law f o s t c (marked_object l i) (marked_final l i) agree (test_at l (marked_offset l i) does.test meant)
       (subst (IsRewritten kind (marked_object l i)) (sym left)
@@ -194,7 +194,7 @@ initial_exec_anywhere laws = (
 -- ---- in the final bytes
 
 -- an instruction that begins before its mark, whose relocation goes
-marked_in_final : (l : Linked) (linked : IsLinked l) (ppc64 : l.setting.architecture ≡ Ppc64) (i : ℕ)
+marked_in_final : (l : Linked) (linked : IsLinked l) (ppc64 : l.context.architecture ≡ Ppc64) (i : ℕ)
     (below : i < count l) (does : Use)
     → GoesAt (marked_offset l i) l i ((o : Operands) → OverVariableIsAlike does l i o)
     → marked_offset l i + 4 ≤ length l.section → (o : Operands) → MarkedIsAlike does l i o

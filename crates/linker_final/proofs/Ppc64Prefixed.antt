@@ -17,7 +17,7 @@ use Rattle.linker_final.proofs.Ppc64Chosen.{IsOfEntry, of_entry, of_one}
 use Rattle.linker_final.proofs.Ppc64Written.{after_is, applied_so, applied_there, becomes, entry_prefixed_after, left_alone, thread_prefixed_after}
 use Rattle.linker_final.proofs.Written.{are_rewritten, first_same, second_same, word_same}
 use Rattle.linker_final.specs.Final.{AreBytes, AreRewritten, Linked, count, instruction_at, two_at}
-use Rattle.linker_final.specs.Ppc64Anywhere.{BecomesPrefixed, EachAnywhere, IsLeft, PrefixedArgumentAnywhere, PrefixedGoes, PrefixedThreadsAnywhere, named_as}
+use Rattle.linker_final.specs.Ppc64Anywhere.{BecomesPrefixed, EachAnywhere, UntouchedAt, PrefixedArgumentAnywhere, PrefixedGoes, PrefixedThreadsAnywhere, named_as}
 use Rattle.linker_final.specs.Ppc64Final.{PrefixedThreads, offset_of}
 use Rattle.linker_final.specs.Ppc64PrefixedFinal.{BlockArgumentIsAlike, EntryArgumentIsAlike, PrefixedOffsetIsAlike, VariableArgumentIsAlike, prefixed_final, prefixed_object}
 use Rattle.linker_laws.proofs.Words.{word_below}
@@ -41,7 +41,7 @@ is_prefixed : (l : Linked) (i : ℕ) (test : ℕ → ℕ → Bool) → AreBytes 
 is_prefixed l i test bytes meant p small s at =
     let o = offset_of l i in
     let inside = meant.0 in
-    let behind = meant.1.0 in
+    let following = meant.1.0 in
     let first : word_of (two_at l.section o) ≡ word_of (drop o l.section) =
     first_same l.section o ∙ sym (word_same l.section o) in
     let second : word_of (drop 4 (two_at l.section o)) ≡ word_of (drop (o + 4) l.section) =
@@ -51,7 +51,7 @@ is_prefixed l i test bytes meant p small s at =
     let small1 : word_of (drop o l.section) < 2 ^ 32 =
     word_below (drop o l.section) (All-drop (λ b. b < 2 ^ 8) o l.section bytes) (omega (arith, inside, d1)) in
     let small2 : word_of (drop (o + 4) l.section) < 2 ^ 32 =
-    word_below (drop (o + 4) l.section) (All-drop (λ b. b < 2 ^ 8) (o + 4) l.section bytes) (omega (arith, behind, d2)) in
+    word_below (drop (o + 4) l.section) (All-drop (λ b. b < 2 ^ 8) (o + 4) l.section bytes) (omega (arith, following, d2)) in
     record {
       small = small;
       at = at;
@@ -67,7 +67,7 @@ two_parts bytes o =
     ∙ (ap (λ x. x ++ drop 4 (two_at bytes o)) (take-take 4 8 (drop o bytes) (omega arith))
     ∙ ap (λ x. instruction_at bytes o ++ x) (second_same bytes o))
 
-both_left : (l : Linked) (o : ℕ) → IsLeft l o → IsLeft l (o + 4) → two_at l.final o ≡ two_at l.rewritten o
+both_left : (l : Linked) (o : ℕ) → UntouchedAt l o → UntouchedAt l (o + 4) → two_at l.final o ≡ two_at l.rewritten o
 both_left l o first second =
     two_parts l.final o
     ∙ (ap (λ x. x ++ instruction_at l.final (o + 4)) first
@@ -177,7 +177,7 @@ prefixed_threads laws = (
                   (with_entry e w) refl),
             )
       ],
-  λ l linked ppc64 i chosen below is_name decided left symbol got is_symbol small alone behind.
+  λ l linked ppc64 i chosen below is_name decided left symbol got is_symbol small alone following.
       let o = offset_of l i in
       let rewriting = are_rewritten l linked in
       let by = of_entry l rewriting ppc64 i chosen below decided names.R_PPC64_GOT_TLSLD_PCREL34 tt is_name
@@ -187,7 +187,7 @@ prefixed_threads laws = (
       there.1
       (both_left l o
       (left_alone l linked ppc64 i below after (there.0) refl o (left_within l i o 8 o 4 (omega arith) (omega arith) left) (by.meant.0) alone)
-      (left_alone l linked ppc64 i below after (there.0) refl (o + 4) (left_within l i o 8 (o + 4) 4 (omega arith) (omega arith) left) (by.meant.1.0) behind))
+      (left_alone l linked ppc64 i below after (there.0) refl (o + 4) (left_within l i o 8 (o + 4) 4 (omega arith) (omega arith) left) (by.meant.1.0) following))
       (operands_with Ppc64 l.addresses (prefixed_row TlsLd) symbol (relocation_in l.relocations i) got) small,
   λ l linked ppc64 i chosen below is_name decided left symbol got is_symbol small.
       let r = relocation_in l.relocations i in

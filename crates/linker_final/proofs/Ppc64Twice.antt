@@ -21,10 +21,10 @@ use Rattle.linker_final.proofs.Ppc64Offsets.{accessed as accessed_becomes, added
 use Rattle.linker_final.proofs.Ppc64Written.{IsAfter, applied_so, applied_there, becomes, becomes_left, left_alone, test_there, thread_after, thread_high_after, thread_low_after, thread_low_words_after, thread_words_after, toc_after, toc_high_after, toc_low_after}
 use Rattle.linker_final.proofs.Twice.{bytes_between, relocation_between}
 use Rattle.linker_final.proofs.Written.{stays}
-use Rattle.linker_final.specs.Final.{IsLeftAlone, IsLinked, IsWrittenByNoOther, Linked, count, instruction_at}
-use Rattle.linker_final.specs.Ppc64Anywhere.{Becomes, Goes, IsAppliedAt, IsLeft, named_as}
+use Rattle.linker_final.specs.Final.{UntouchedBytes, IsLinked, IsWrittenByNoOther, Linked, count, instruction_at}
+use Rattle.linker_final.specs.Ppc64Anywhere.{Becomes, Goes, IsAppliedAt, UntouchedAt, named_as}
 use Rattle.linker_final.specs.Ppc64Final.{OverBaseIsAlike, OverOffsetIsAlike, ThreadHighIsAlike, VectorIsAlike, final, object, offset_of}
-use Rattle.linker_final.specs.Ppc64Twice.{EachFinal, EachFinalVariable, EachTwice, EachVariableTwice, FinalInitialExecTwice, FinalLoadsTwice, FinalNopDoesTheSame, IfLeft, IfUnwritten, InitialExecTwice, IsRewrittenTwice, LoadsTwice, NearOffsetDoesTheSame, NopInPlace, NopIsAlikeTwice, OffsetDoesTheSame, StepsCompose, SumDoesTheSame, SumIsAlikeTwice, VariableIsAlikeTwice}
+use Rattle.linker_final.specs.Ppc64Twice.{EachFinal, EachFinalVariable, EachTwice, EachVariableTwice, FinalInitialExecTwice, FinalLoadsTwice, FinalNopDoesTheSame, IfUntouched, IfUnwritten, InitialExecTwice, IsRewrittenTwice, LoadsTwice, NearOffsetDoesTheSame, NopInPlace, NopIsAlikeTwice, OffsetDoesTheSame, StepsCompose, SumDoesTheSame, SumIsAlikeTwice, VariableIsAlikeTwice}
 use Rattle.linker_laws.proofs.AArch64Pairs.{word_is, word_made}
 use Rattle.linker_laws.proofs.Ppc64Words.{step_nop}
 use Rattle.linker_laws.specs.Ppc64Machine.{AreAlikeBut, Formats, State, access_with, go_on, step, Access, loads, loads_signed, stores, word_access_with}
@@ -284,19 +284,19 @@ module _ (laws : Laws) (l m : Linked) (i : ℕ) (name : Ppc64Relocation) (twice 
       (entry kinds.AddisThreadToNop names.R_PPC64_NONE without_high_offset) refl
 
   -- `nop`
-  blank : IsLeft m (offset_of m i) → word_of (final m i) ≡ nop
+  blank : UntouchedAt m (offset_of m i) → word_of (final m i) ≡ nop
   blank left =
       word_is nop (final m i) (omega arith)
       (becomes_left m twice.calls.second i twice.chosen_again twice.below_again twice.decided_again kinds.AddisThreadToNop its_entry.kind_is (λ word. nop) refl left)
 
-  pub left_in_final : IsLinked m → IsLeftAlone m i (offset_of m i) 4 → IsWrittenByNoOther m i (offset_of m i)
-      → IsLeft m (offset_of m i)
+  pub left_in_final : IsLinked m → UntouchedBytes m i (offset_of m i) 4 → IsWrittenByNoOther m i (offset_of m i)
+      → UntouchedAt m (offset_of m i)
   left_in_final linked left alone =
       left_alone m linked twice.calls.second_architecture i twice.below_again (named_as names.R_PPC64_NONE (relocation_in m.relocations i)) (goes.0) refl
       (offset_of m i) left (its_entry.meant.0) alone
 
   module _ (o : Operands) (e : ℕ) (small : AreAddresses o) (applied : IsAppliedAt names.R_PPC64_TPREL16_HA e o l (offset_of l i))
-      (left : IsLeft m (offset_of m i)) (f : Formats) (s t : State) (c : Changes) (insn : List ℕ) (number : ℕ)
+      (left : UntouchedAt m (offset_of m i)) (f : Formats) (s t : State) (c : Changes) (insn : List ℕ) (number : ℕ)
       (agree : AgreeBut c s t) where
     there : IsRelocated names.R_PPC64_TPREL16_HA o (object m i) (final l i)
     there =
@@ -330,7 +330,7 @@ module _ (laws : Laws) (l m : Linked) (i : ℕ) (name : Ppc64Relocation) (twice 
         (goes.1 left o small f s s c (final l i) (alike_itself c s) there))
         leaves
 
-offset : Laws → EachTwice names.R_PPC64_GOT_TPREL16_LO_DS names.R_PPC64_TPREL16_HA (IfLeft OffsetDoesTheSame)
+offset : Laws → EachTwice names.R_PPC64_GOT_TPREL16_LO_DS names.R_PPC64_TPREL16_HA (IfUntouched OffsetDoesTheSame)
 offset laws l m i twice o e small applied left f s t c ld got_entry agree leads holds of_entry_there =
     let name = names.R_PPC64_GOT_TPREL16_LO_DS in
     let between = names.R_PPC64_TPREL16_HA in
@@ -342,7 +342,7 @@ offset laws l m i twice o e small applied left f s t c ld got_entry agree leads 
     (HasOffset o (rt_of (word_of (object l i))) (s.registers 13))
     (first.1 o e small applied f s s c ld got_entry (alike_itself c s) leads holds of_entry_there) (λ u w has. has.offset_is)
 
-near_offset : Laws → EachTwice names.R_PPC64_GOT_TPREL16_DS names.R_PPC64_TPREL16_HA (IfLeft NearOffsetDoesTheSame)
+near_offset : Laws → EachTwice names.R_PPC64_GOT_TPREL16_DS names.R_PPC64_TPREL16_HA (IfUntouched NearOffsetDoesTheSame)
 near_offset laws l m i twice o e small applied left f s t c ld agree toc base holds of_entry_there =
     let first = (initial_exec_anywhere laws).2 l twice.calls.first twice.calls.first_architecture i twice.chosen twice.below twice.is_name twice.decided in
     in_place_of_one laws l m i names.R_PPC64_GOT_TPREL16_DS twice (first.0) o e small applied left f s t c ld (thread_offset o) agree
@@ -610,8 +610,8 @@ initial_exec_twice laws = (offset laws, near_offset laws, add laws, access laws,
 -- ---- in the final bytes
 
 -- a relocation that the second call was passed and gives a name is applied
-pub applied_again : (m : Linked) (i : ℕ) → i < count m → m.setting.architecture ≡ Ppc64 → (r : Rela)
-    → relocation_in m.relocations i ≡ r → IsLinked m → IsLeftAlone m i (offset_of m i) 4 → (symbol : Symbol)
+pub applied_again : (m : Linked) (i : ℕ) → i < count m → m.context.architecture ≡ Ppc64 → (r : Rela)
+    → relocation_in m.relocations i ≡ r → IsLinked m → UntouchedBytes m i (offset_of m i) 4 → (symbol : Symbol)
     → slice_get m.symbols r.symbol ≡ Some symbol → (new : Ppc64Relocation) (a : IsAfter 4 new)
     → relocation_in m.relocations_after i ≡ named_as new (relocation_in m.relocations i)
     → ((r : Rela) → operands_by Ppc64 m.addresses a.row r symbol

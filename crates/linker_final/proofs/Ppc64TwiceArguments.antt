@@ -19,9 +19,9 @@ use Rattle.linker_final.proofs.Ppc64Written.{applied_so, becomes, left_beside, t
 use Rattle.linker_final.proofs.Twice.{bytes_between}
 use Rattle.linker_final.proofs.Written.{first_same, second_same, stays_ahead}
 use Rattle.linker_final.specs.Final.{IsRewrittenByNoOther, Linked, instruction_at, two_at}
-use Rattle.linker_final.specs.Ppc64Anywhere.{Becomes, IsCallApplied, IsLeft, IsMarkAs, named_as, named_behind}
+use Rattle.linker_final.specs.Ppc64Anywhere.{Becomes, IsCallApplied, UntouchedAt, IsMarkAs, named_as, named_after}
 use Rattle.linker_final.specs.Ppc64Final.{CallToLowHalfIsAlike, HighArgumentIsAlike, OverBaseIsAlike, final, object, offset_of}
-use Rattle.linker_final.specs.Ppc64Twice.{ArgumentDoesTheSame, CallIsAlikeTwice, EachCallTwice, EachFinalBy, EachFinalCall, EachTwiceBy, FinalGeneralDynamicTwice, FinalNearArgumentsTwice, GeneralDynamicTwice, IfLeft, IfUnwritten, IsRewrittenTwice, NearArgumentDoesTheSame, NearArgumentsTwice, final_at_call}
+use Rattle.linker_final.specs.Ppc64Twice.{ArgumentDoesTheSame, CallIsAlikeTwice, EachCallTwice, EachFinalBy, EachFinalCall, EachTwiceBy, FinalGeneralDynamicTwice, FinalNearArgumentsTwice, GeneralDynamicTwice, IfUntouched, IfUnwritten, IsRewrittenTwice, NearArgumentDoesTheSame, NearArgumentsTwice, final_at_call}
 use Rattle.linker_laws.proofs.Ppc64Calls.{first_made, second_made}
 use Rattle.linker_laws.proofs.Ppc64Words.{step_nop}
 use Rattle.linker_laws.specs.Ppc64Machine.{Formats, State, continue, go_on, next_pc, run, step}
@@ -61,7 +61,7 @@ module _ (laws : Laws) (l m : Linked) (i : ℕ) where
             absurd (let e : kinds.AddiToAddisThread ≡ kinds.AddiToLd = same_kind twice.chosen.kind kinds.AddiToAddisThread kinds.AddiToLd kind (its.0) in cc)
       ]
 
-argument : Laws → EachTwiceBy kinds.AddiToAddisThread names.R_PPC64_GOT_TLSGD16_LO names.R_PPC64_TPREL16_HA (IfLeft ArgumentDoesTheSame)
+argument : Laws → EachTwiceBy kinds.AddiToAddisThread names.R_PPC64_GOT_TLSGD16_LO names.R_PPC64_TPREL16_HA (IfUntouched ArgumentDoesTheSame)
 argument laws l m i twice kind o e small applied left f s t c addi got_entry agree leads of_entry_there =
     let name = names.R_PPC64_GOT_TLSGD16_LO in
     let first = high_argument laws l m i twice kind in
@@ -71,7 +71,7 @@ argument laws l m i twice kind o e small applied left f s t c addi got_entry agr
     (HasArgument r got_entry (λ n. LowHalfLeads o n (from_thread o (s.registers 13))))
     (first.1 o e small applied f s s c addi got_entry (alike_itself c s) leads of_entry_there) (λ u w has. has.entry_is)
 
-near_argument : Laws → EachTwiceBy kinds.AddiToAddisThread names.R_PPC64_GOT_TLSGD16 names.R_PPC64_TPREL16_HA (IfLeft NearArgumentDoesTheSame)
+near_argument : Laws → EachTwiceBy kinds.AddiToAddisThread names.R_PPC64_GOT_TLSGD16 names.R_PPC64_TPREL16_HA (IfUntouched NearArgumentDoesTheSame)
 near_argument laws l m i twice kind o e small applied left f s t c addi agree toc base of_entry_there =
     in_place_of_one laws l m i names.R_PPC64_GOT_TLSGD16 twice (near_named laws l m i twice kind) o e small applied left f s t c addi o.got_entry agree
     (((near_arguments_anywhere laws).0 l twice.calls.first twice.calls.first_architecture i twice.chosen twice.below twice.is_name twice.decided).0
@@ -80,8 +80,8 @@ near_argument laws l m i twice kind o e small applied left f s t c addi agree to
 -- ---- calls
 
 -- a `nop`, and an instruction
-run_behind_nop : (f : Formats) (x y : ℕ) (s : State) → x ≡ nop → run f (x ∷ y ∷ []) s ≡ step f y (go_on s)
-run_behind_nop f x y s blank =
+run_after_nop : (f : Formats) (x y : ℕ) (s : State) → x ≡ nop → run f (x ∷ y ∷ []) s ≡ step f y (go_on s)
+run_after_nop f x y s blank =
     ap (continue (next_pc s) (λ r. run f (y ∷ []) r)) (step_nop f x s blank)
     ∙ cond-true (eqb (next_pc s) (next_pc s)) (step f y (go_on s)) None (eq-eqb (next_pc s) (next_pc s) refl)
 
@@ -93,17 +93,17 @@ on c s t alike =
 module _ (f : Formats) (call : State → Option State) (c d e : Changes) (b t : State) (new newer : List ℕ)
     (all : (w x y : State) → AgreeBut d w x → AgreeBut e x y → AgreeBut c w y)
     (second : IsSomeAnd (run f new b) (λ x. IsSomeAnd (run f newer t) (λ y. (y.link ≡ t.link) × AgreeBut e x y))) where
-  behind : (w : State) (p q : Option State) → IsSomeAnd p (λ x. (x.link ≡ b.link) × AgreeBut d w x)
+  following : (w : State) (p q : Option State) → IsSomeAnd p (λ x. (x.link ≡ b.link) × AgreeBut d w x)
       → IsSomeAnd p (λ x. IsSomeAnd q (λ y. (y.link ≡ t.link) × AgreeBut e x y))
       → IsSomeAnd q (λ y. (y.link ≡ t.link) × AgreeBut c w y)
-  behind w None q first then = absurd first
-  behind w (Some x) None first then = absurd then
-  behind w (Some x) (Some y) first then = (then.0, all w x y (first.1) (then.1))
+  following w None q first then = absurd first
+  following w (Some x) None first then = absurd then
+  following w (Some x) (Some y) first then = (then.0, all w x y (first.1) (then.1))
 
   returned : (p : Option State) → IsSomeAnd p (λ w. IsSomeAnd (run f new b) (λ x. (x.link ≡ b.link) × AgreeBut d w x))
       → IsSomeAnd p (λ w. IsSomeAnd (run f newer t) (λ y. (y.link ≡ t.link) × AgreeBut c w y))
   returned None first = absurd first
-  returned (Some w) first = behind w (run f new b) (run f newer t) first second
+  returned (Some w) first = following w (run f new b) (run f newer t) first second
 
   called : (bl : List ℕ) (p : Option State)
       → IsSomeAnd p (λ u. (v : State) → call u ≡ Some v
@@ -143,7 +143,7 @@ module _ (laws : Laws) (l m : Linked) (i : ℕ) (twice : IsRewrittenTwice 8 name
   p = offset_of l i
 
   abbrev after : Rela
-  after = named_behind names.R_PPC64_TPREL16_LO (relocation_in l.relocations i)
+  after = named_after names.R_PPC64_TPREL16_LO (relocation_in l.relocations i)
 
   first : IsMarkAs names.R_PPC64_TPREL16_LO l i × ((o : Operands) → IsCallApplied o l i → CallToLowHalfIsAlike l i o)
   first =
@@ -197,7 +197,7 @@ module _ (laws : Laws) (l m : Linked) (i : ℕ) (twice : IsRewrittenTwice 8 name
   inside = let there = its_entry.meant.0 in omega (arith, there, offset_is)
 
   -- the `nop` in the bytes after
-  nop_left : IsRewrittenByNoOther m i p → IsLeft m p → word_of (instruction_at m.final p) ≡ nop
+  nop_left : IsRewrittenByNoOther m i p → UntouchedAt m p → word_of (instruction_at m.final p) ≡ nop
   nop_left alone left =
       ap word_of (left
       ∙ (stays_ahead m twice.calls.second i twice.chosen_again twice.below_again twice.decided_again (rewrites_word (over_base 13)) (ap relaxation_rewrite its_entry.kind_is) refl
@@ -234,9 +234,9 @@ module _ (laws : Laws) (l m : Linked) (i : ℕ) (twice : IsRewrittenTwice 8 name
       call_through f call (without_register 3 (both c changes)) (without_register 3 (both d changes)) (without_register 3 d) b t
       (two (final l i) addi) (final_at_call l m i) (without_third c changes)
       (subst (λ q. IsSomeAnd q (λ x. IsSomeAnd (run f (final_at_call l m i) t) (λ y. (y.link ≡ t.link) × AgreeBut (without_register 3 d) x y)))
-      (sym (run_behind_nop f (word_of (final l i)) (word_of addi) b (ap word_of (applied.0) ∙ nop_made)))
+      (sym (run_after_nop f (word_of (final l i)) (word_of addi) b (ap word_of (applied.0) ∙ nop_made)))
       (subst (λ q. IsSomeAnd (step f (word_of addi) (go_on b)) (λ x. IsSomeAnd q (λ y. (y.link ≡ t.link) × AgreeBut (without_register 3 d) x y)))
-      (sym (run_behind_nop f (word_of (instruction_at m.final p)) (word_of (final m i)) t (nop_left alone left)))
+      (sym (run_after_nop f (word_of (instruction_at m.final p)) (word_of (final m i)) t (nop_left alone left)))
       (without_links f (word_of addi) (word_of (final m i)) (go_on b) (go_on t) (AgreeBut (without_register 3 d)) steps)))
       bl s between
     where

@@ -19,8 +19,8 @@ use Rattle.linker_elf.specs.declared.ppc64.relocations.Ppc64Relocation.TheVarian
 use Rattle.linker_final.proofs.InstructionFields.{IsOfInstruction}
 use Rattle.linker_final.proofs.Phases.{relocation_left}
 use Rattle.linker_final.proofs.Written.{IsRowOf, apart_with, applied_after, by_name, entry_is_there, made_there, rela, relocation_is, unwritten_but, unwritten_without, with_operands, word_same}
-use Rattle.linker_final.specs.Final.{IsLeftAlone, AreRewritten, Linked, IsLinked, IsWrittenByNoOther, count, instruction_at}
-use Rattle.linker_final.specs.Ppc64Anywhere.{Becomes, Goes, IsLeft, named_as}
+use Rattle.linker_final.specs.Final.{UntouchedBytes, AreRewritten, Linked, IsLinked, IsWrittenByNoOther, count, instruction_at}
+use Rattle.linker_final.specs.Ppc64Anywhere.{Becomes, Goes, UntouchedAt, named_as}
 use Rattle.linker_final.specs.Ppc64Final.{final, object, offset_of}
 use Rattle.linker_final.specs.Ppc64PrefixedFinal.{marked_object, marked_offset}
 use Rattle.linker_laws.specs.Ppc64RewriteLaws.{IsRelocated, IsRewritten, at_place, with_entry, word_of}
@@ -50,15 +50,15 @@ pub record IsAfter (n : ℕ) (name : Ppc64Relocation) : Type 0 where
   pub named : IsNamed (ppc64_name name)
   pub of : IsOfInstruction n row
 
-pub row_of : (l : Linked) → l.setting.architecture ≡ Ppc64 → (name : Ppc64Relocation)
+pub row_of : (l : Linked) → l.context.architecture ≡ Ppc64 → (name : Ppc64Relocation)
     → IsNamed (ppc64_name name) → (row : RelocationKindInfo) → ppc64_row name ≡ Some row
-    → IsRowOf l.setting.architecture (code_of (ppc64_name name)) row
+    → IsRowOf l.context.architecture (code_of (ppc64_name name)) row
 row_of l ppc64 name named row is found there =
     by_name ppc64_name ppc64_row name named found
     (subst (λ x. IsRow x (code_of (ppc64_name name)) found) ppc64 there) ∙ is
 
-pub no_row : (l : Linked) → l.setting.architecture ≡ Ppc64
-    → IsRowOf l.setting.architecture 0 (bytes_row NoValue 0)
+pub no_row : (l : Linked) → l.context.architecture ≡ Ppc64
+    → IsRowOf l.context.architecture 0 (bytes_row NoValue 0)
 no_row l ppc64 = row_of l ppc64 names.R_PPC64_NONE tt (bytes_row NoValue 0) refl
 
 -- ---- what a call of rewriting leaves
@@ -97,7 +97,7 @@ module _ (l : Linked) (rewriting : AreRewritten l) (i : ℕ) (chosen : Choice Re
 
   -- an instruction becomes another, which is left
   pub becomes_left : (new : ℕ → ℕ) → ppc64_rewrite kind ≡ Some (rewrites_word new)
-      → IsLeft l (offset_of l i) → IsRewritten kind (object l i) (final l i)
+      → UntouchedAt l (offset_of l i) → IsRewritten kind (object l i) (final l i)
   becomes_left new is left =
       subst (IsRewritten kind (object l i)) (sym left) (becomes (rewrites_word new) is refl)
 
@@ -136,12 +136,12 @@ applied_so n name a o p before new same is =
 
 -- ---- what a call that writes values does then
 
-module _ (l : Linked) (linked : IsLinked l) (ppc64 : l.setting.architecture ≡ Ppc64) (i : ℕ)
+module _ (l : Linked) (linked : IsLinked l) (ppc64 : l.context.architecture ≡ Ppc64) (i : ℕ)
     (below : i < count l) where
   -- the relocation that a rewrite left is applied to n bytes
   pub applied_there : (n : ℕ) → 0 < n → (name : Ppc64Relocation) (a : IsAfter n name) (after : Rela)
       → relocation_in l.relocations_after i ≡ after → after.code ≡ code_of (ppc64_name name)
-      → IsLeftAlone l i after.offset n → (symbol : Symbol) → slice_get l.symbols after.symbol ≡ Some symbol → (got : ℕ)
+      → UntouchedBytes l i after.offset n → (symbol : Symbol) → slice_get l.symbols after.symbol ≡ Some symbol → (got : ℕ)
       → operands_by Ppc64 l.addresses a.row after symbol
       (entry_address l.addresses symbol (entry_of a.row after.addend symbol.is_thread_local))
       ≡ Ok (operands_with Ppc64 l.addresses a.row symbol after got)
@@ -154,7 +154,7 @@ module _ (l : Linked) (linked : IsLinked l) (ppc64 : l.setting.architecture ≡ 
       subst (λ x. IsApplied a.row (operands_with x l.addresses a.row symbol after got)
       (take n (drop after.offset l.rewritten)) (take n (drop after.offset l.final))) ppc64
       (applied_after l linked i below n some a.row a.of after is_after left
-      (subst (λ x. IsRowOf l.setting.architecture x a.row) (sym code) (row_of l ppc64 name a.named a.row a.is))
+      (subst (λ x. IsRowOf l.context.architecture x a.row) (sym code) (row_of l ppc64 name a.named a.row a.is))
       symbol is_symbol got
       (subst (λ x. operands_by x l.addresses a.row after symbol
       (entry_address l.addresses symbol (entry_of a.row after.addend symbol.is_thread_local))
@@ -165,38 +165,38 @@ module _ (l : Linked) (linked : IsLinked l) (ppc64 : l.setting.architecture ≡ 
   -- the entry of its formula is there
   pub entry_there : (n : ℕ) (name : Ppc64Relocation) (a : IsAfter n name) (after : Rela)
       → relocation_in l.relocations_after i ≡ after → after.code ≡ code_of (ppc64_name name)
-      → IsLeftAlone l i after.offset n → (symbol : Symbol) → slice_get l.symbols after.symbol ≡ Some symbol
+      → UntouchedBytes l i after.offset n → (symbol : Symbol) → slice_get l.symbols after.symbol ≡ Some symbol
       → (entry : Entry) → entry_of a.row after.addend symbol.is_thread_local ≡ Some entry
       → is_there l.addresses symbol entry ≡ true
   entry_there n name a after is_after code left symbol is_symbol entry is_entry =
       entry_is_there l linked i below n a.row a.of after
       (relocation_left l linked i after.offset n left below ∙ is_after)
-      (subst (λ x. IsRowOf l.setting.architecture x a.row) (sym code) (row_of l ppc64 name a.named a.row a.is))
+      (subst (λ x. IsRowOf l.context.architecture x a.row) (sym code) (row_of l ppc64 name a.named a.row a.is))
       symbol is_symbol entry is_entry
 
   -- an instruction is left that no other relocation writes, where the own one goes
   pub left_alone : (after : Rela) → relocation_in l.relocations_after i ≡ after → after.code ≡ 0
-      → (p : ℕ) → IsLeftAlone l i p 4 → p + 4 ≤ length l.section → IsWrittenByNoOther l i p → IsLeft l p
+      → (p : ℕ) → UntouchedBytes l i p 4 → p + 4 ≤ length l.section → IsWrittenByNoOther l i p → UntouchedAt l p
   left_alone after is_after gone p left inside alone =
       unwritten_without l linked i below p left (no_row l ppc64) (ap (λ (x : Rela). x.code) is_after ∙ gone) inside alone
 
   -- and one beside that of the own relocation
   pub left_beside : (name : Ppc64Relocation) (a : IsAfter 4 name) (after : Rela)
       → relocation_in l.relocations_after i ≡ after → after.code ≡ code_of (ppc64_name name)
-      → (p : ℕ) → IsLeftAlone l i p 4 → p + 4 ≤ length l.section
+      → (p : ℕ) → UntouchedBytes l i p 4 → p + 4 ≤ length l.section
       → (p + 4 ≤ after.offset) ⊎ (after.offset + 4 ≤ p)
-      → IsWrittenByNoOther l i p → IsLeft l p
+      → IsWrittenByNoOther l i p → UntouchedAt l p
   left_beside name a after is_after code p left inside beside alone =
       unwritten_but l linked i p left inside
       (apart_with l i after (relocation_left l linked i p 4 left below ∙ is_after) a.row
-      (subst (λ x. IsRowOf l.setting.architecture x a.row) (sym code) (row_of l ppc64 name a.named a.row a.is))
+      (subst (λ x. IsRowOf l.context.architecture x a.row) (sym code) (row_of l ppc64 name a.named a.row a.is))
       4 a.of p beside) alone
 
 -- What holds anywhere holds in the final bytes: where a relocation is applied, and where one goes.
 
-pub in_final : (l : Linked) (linked : IsLinked l) (ppc64 : l.setting.architecture ≡ Ppc64) (i : ℕ)
+pub in_final : (l : Linked) (linked : IsLinked l) (ppc64 : l.context.architecture ≡ Ppc64) (i : ℕ)
     (below : i < count l) (name : Ppc64Relocation) (a : IsAfter 4 name)
-    (Holds : ℕ → Operands → Type 0) → Becomes name l i Holds → IsLeftAlone l i (offset_of l i) 4
+    (Holds : ℕ → Operands → Type 0) → Becomes name l i Holds → UntouchedBytes l i (offset_of l i) 4
     → (symbol : Symbol) → slice_get l.symbols (relocation_in l.relocations i).symbol ≡ Some symbol
     → (got : ℕ)
     → operands_by Ppc64 l.addresses a.row (named_as name (relocation_in l.relocations i)) symbol
@@ -213,9 +213,9 @@ in_final l linked ppc64 i below name a Holds holds left symbol is_symbol got ent
           symbol is_symbol got entry_is (at_place o.place (with_entry got o)) same,
     )
 
-pub gone_in_final : (l : Linked) (linked : IsLinked l) (ppc64 : l.setting.architecture ≡ Ppc64)
+pub gone_in_final : (l : Linked) (linked : IsLinked l) (ppc64 : l.context.architecture ≡ Ppc64)
     (i : ℕ) (below : i < count l) (Holds : Operands → Type 0) → Goes l i Holds
-    → IsLeftAlone l i (offset_of l i) 4 → offset_of l i + 4 ≤ length l.section → IsWrittenByNoOther l i (offset_of l i)
+    → UntouchedBytes l i (offset_of l i) 4 → offset_of l i + 4 ≤ length l.section → IsWrittenByNoOther l i (offset_of l i)
     → (o : Operands) → AreAddresses o → Holds o
 gone_in_final l linked ppc64 i below Holds holds left inside alone =
     holds.1 (left_alone l linked ppc64 i below (named_as names.R_PPC64_NONE (relocation_in l.relocations i)) (holds.0) refl (offset_of l i) left inside alone)

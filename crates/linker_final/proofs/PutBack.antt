@@ -121,7 +121,7 @@ module _ (start len : ℕ) (r : Rewrite) (o : ℕ) (section middle final : List 
               ∙ (window_byte a r.len at middle from within
               ∙ sym (back_inside start len middle final inside middle_length at
               (omega (arith, first, from)) (omega (arith, last, within)))))
-          | inr behind ↦ outside_window x at (inr behind) ∙ unchanged at (inr behind)
+          | inr following ↦ outside_window x at (inr following) ∙ unchanged at (inr following)
         ]
       ])
     where

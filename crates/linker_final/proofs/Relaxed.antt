@@ -13,7 +13,7 @@ use Rattle.linker_elf.specs.Value.{sum_64}
 use Rattle.linker_final.proofs.PackedBytes.{addresses}
 use Rattle.linker_final.specs.Packed.{Packed, IsPacked}
 use Rattle.linker_final.specs.Relaxed.{AreRelaxedAndPacked, packed_of}
-use Rattle.linker_final.specs.Relaxed.{Run, AlignmentsHold, Holds, HoldsIn, IsAligned, IsOfRun, IsSkipped, LeadsInto, SectionsAreAligned}
+use Rattle.linker_final.specs.Relaxed.{Run, AlignmentsHold, AlignmentHolds, HoldsIn, IsAligned, IsOfRun, IsSkipped, LeadsInto, SectionsAreAligned}
 use Rattle.linker_final.specs.Relaxed.{code_at, code_index, padding_at, padding_index, padding_len}
 use Rattle.linker_final.specs.declared.packed.RunSection.{RunSection}
 use Rattle.linker_runs.proofs.First.{first_bytes}
@@ -89,7 +89,7 @@ by_limit power address padding (Some most) some exact =
     ]
 
 exact_holds : (alignment : Alignment) (address padding : ℕ) → 0 < alignment.alignment
-    → IsExact alignment (needed alignment.alignment address) padding → Holds alignment address padding
+    → IsExact alignment (needed alignment.alignment address) padding → AlignmentHolds alignment address padding
 exact_holds alignment address padding some exact =
     by_limit alignment.alignment address padding alignment.max_skip some exact
 

@@ -9,16 +9,16 @@ use Rattle.linker_elf.specs.declared.riscv64.relocations.RiscVRelocation.{RiscVR
 use Rattle.linker_final.proofs.Chosen.{choice_of, chosen_or_labelled}
 use Rattle.linker_final.proofs.Entries.{IsOfApplied, of_first}
 use Rattle.linker_final.specs.Final.{AreRewritten, Linked, count}
-use Rattle.linker_riscv64.specs.RiscVRewrites.{AppliesToRiscV, IsAskedFor, IsRiscVChoice, RiscVEntry, riscv_entries}
+use Rattle.linker_riscv64.specs.RiscVRewrites.{AppliesToRiscV, HasPattern, IsRiscVChoice, RiscVEntry, riscv_entries}
 use Rattle.linker_riscv64.specs.declared.rewrites.RelaxationKind.{RelaxationKind}
 use Rattle.linker_riscv64.specs.declared.rewrites.RelaxationKind.TheVariants as kinds
 use Rattle.linker_rewriting.specs.Candidates.{IsCandidateWith}
 use Rattle.linker_rewriting.specs.Decisions.{IsLabelDecision, decision_at, label_decision}
-use Rattle.linker_rewriting.specs.Facts.{Setting}
+use Rattle.linker_rewriting.specs.Facts.{RelaxContext}
 use Rattle.linker_rewriting.proofs.LabelGroups.{one_index}
-use Rattle.linker_rewriting.specs.Labels.{IsHighIn, IsLabelCandidate, label_facts}
+use Rattle.linker_rewriting.specs.RiscVPcrelGroups.{IsHighIn, IsLabelCandidate, label_facts}
 use Rattle.linker_rewriting.specs.declared.decisions.Decision.{Decision}
-use Rattle.linker_rewriting.specs.declared.decisions.Decision.TheVariants.{Kept, Redirected, Rewritten}
+use Rattle.linker_rewriting.specs.declared.decisions.Decision.TheVariants.{Kept, RewrittenWithSymbol, Rewritten}
 use Rattle.linker_rewriting.specs.declared.decisions.Subject.{Subject}
 use Rattle.linker_rewriting.specs.declared.phases.Phase.{Phase}
 use Rattle.linker_rewriting.specs.declared.phases.Phase.TheVariants as phases
@@ -32,13 +32,13 @@ use Rattle.linker_utils.specs.declared.elf.Architecture.TheVariants.{RiscV}
 -- ---- choices by some facts
 
 -- a relocation's rewrite, by its own facts or by those of its label
-pub record IsChosenAnyhow (s : Setting) (section : List ℕ) (r : Rela) (chosen : Choice Relaxation ℕ)
+pub record IsChosenAnyhow (s : RelaxContext) (section : List ℕ) (r : Rela) (chosen : Choice Relaxation ℕ)
     : Type 0 where
   pub facts : LinkFacts
   pub is_choice : IsArchitectureChoice s.architecture r.code section r.offset facts chosen
   pub changed : ¬ IsUnchanged r.code chosen
 
-by_facts : (s : Setting) (bytes section : List ℕ) (n : ℕ) (r : Rela) (chosen : Choice Relaxation ℕ)
+by_facts : (s : RelaxContext) (bytes section : List ℕ) (n : ℕ) (r : Rela) (chosen : Choice Relaxation ℕ)
     (facts : Option LinkFacts) → IsCandidateWith s bytes section n r facts (Some chosen)
     → IsChosenAnyhow s section r chosen
 by_facts s bytes section n r chosen None is = absurd (let e : Some chosen ≡ None = is in cc)
@@ -51,12 +51,12 @@ chosen_in other (Some chosen) = chosen
 
 label_choice : (phase : Phase) (chosen : Choice Relaxation ℕ) (high : Rela)
     → choice_of (label_decision phase chosen high) ≡ Some chosen
-label_choice phases.ThreadOffsets chosen high = refl
-label_choice phases.Early chosen high = refl
-label_choice phases.GotLoads chosen high = refl
-label_choice phases.Distances chosen high = refl
+label_choice phases.TlsLocalExec chosen high = refl
+label_choice phases.PreLayout chosen high = refl
+label_choice phases.GotToPcRel chosen high = refl
+label_choice phases.ShortPcRel chosen high = refl
 
-by_label : (s : Setting) (bytes section : List ℕ) (n : ℕ) (r : Rela) (decision : Decision)
+by_label : (s : RelaxContext) (bytes section : List ℕ) (n : ℕ) (r : Rela) (decision : Decision)
     (chosen : Choice Relaxation ℕ) → choice_of decision ≡ Some chosen
     → IsLabelDecision s bytes section n r decision → IsChosenAnyhow s section r chosen
 by_label s bytes section n r decision chosen by (inl stays) =
@@ -72,42 +72,42 @@ by_label s bytes section n r decision chosen by (inr of) =
 -- ---- subjects
 
 abbrev subject_in : Subject → Decision → Subject
-subject_in other (Redirected chosen subject) = subject
+subject_in other (RewrittenWithSymbol chosen subject) = subject
 subject_in other decision = other
 
 abbrev subject_of : Rela → Subject
 subject_of high = record { symbol = high.symbol; addend = high.addend }
 
 of_phase : (phase : Phase) (chosen mine : Choice Relaxation ℕ) (subject : Subject) (high : Rela)
-    → Redirected chosen subject ≡ label_decision phase mine high → subject ≡ subject_of high
-of_phase phases.ThreadOffsets chosen mine subject high is = ap (subject_in subject) is
-of_phase phases.Early chosen mine subject high is =
-    absurd (let e : Redirected chosen subject ≡ Rewritten mine = is in cc)
-of_phase phases.GotLoads chosen mine subject high is =
-    absurd (let e : Redirected chosen subject ≡ Rewritten mine = is in cc)
-of_phase phases.Distances chosen mine subject high is =
-    absurd (let e : Redirected chosen subject ≡ Rewritten mine = is in cc)
+    → RewrittenWithSymbol chosen subject ≡ label_decision phase mine high → subject ≡ subject_of high
+of_phase phases.TlsLocalExec chosen mine subject high is = ap (subject_in subject) is
+of_phase phases.PreLayout chosen mine subject high is =
+    absurd (let e : RewrittenWithSymbol chosen subject ≡ Rewritten mine = is in cc)
+of_phase phases.GotToPcRel chosen mine subject high is =
+    absurd (let e : RewrittenWithSymbol chosen subject ≡ Rewritten mine = is in cc)
+of_phase phases.ShortPcRel chosen mine subject high is =
+    absurd (let e : RewrittenWithSymbol chosen subject ≡ Rewritten mine = is in cc)
 
-of_high : (s : Setting) (bytes section : List ℕ) (n : ℕ) (r : Rela) (chosen : Choice Relaxation ℕ)
+of_high : (s : RelaxContext) (bytes section : List ℕ) (n : ℕ) (r : Rela) (chosen : Choice Relaxation ℕ)
     (subject : Subject) (high : ℕ) → IsHighIn s bytes r (Some high)
-    → IsLabelDecision s bytes section n r (Redirected chosen subject)
+    → IsLabelDecision s bytes section n r (RewrittenWithSymbol chosen subject)
     → subject ≡ subject_of (relocation_in bytes high)
 of_high s bytes section n r chosen subject high is_high (inl stays) =
-    absurd (let e : Redirected chosen subject ≡ Kept = stays.1 in cc)
+    absurd (let e : RewrittenWithSymbol chosen subject ≡ Kept = stays.1 in cc)
 of_high s bytes section n r chosen subject high is_high (inr of) =
     of_phase s.phase chosen (of.3) subject (relocation_in bytes (of.0)) (of.5)
     ∙ ap (λ m. subject_of (relocation_in bytes m)) (one_index s bytes r (of.0) high (of.1) is_high)
 
 -- a relocation gets the symbol and the addend of the high part at its label
 pub of_subject : (l : Linked) → AreRewritten l → (n : ℕ) (chosen : Choice Relaxation ℕ) (subject : Subject)
-    → n < count l → decision_at l.decisions n ≡ Redirected chosen subject
-    → (high : ℕ) → IsHighIn l.setting l.relocations (relocation_in l.relocations n) (Some high)
+    → n < count l → decision_at l.decisions n ≡ RewrittenWithSymbol chosen subject
+    → (high : ℕ) → IsHighIn l.context l.relocations (relocation_in l.relocations n) (Some high)
     → subject ≡ subject_of (relocation_in l.relocations high)
 of_subject l made n chosen subject below decided high is_high =
-    elim (chosen_or_labelled l.setting l.kept l.relocations l.section l.decisions (count l) n (Redirected chosen subject) chosen made.decided below decided refl) [
-      | inl alone ↦ absurd (let e : Redirected chosen subject ≡ Rewritten chosen = alone.is in cc)
+    elim (chosen_or_labelled l.context l.kept l.relocations l.section l.decisions (count l) n (RewrittenWithSymbol chosen subject) chosen made.decided below decided refl) [
+      | inl alone ↦ absurd (let e : RewrittenWithSymbol chosen subject ≡ Rewritten chosen = alone.is in cc)
       | inr label ↦
-          of_high l.setting l.relocations l.section n (relocation_in l.relocations n) chosen subject high is_high label.label_is
+          of_high l.context l.relocations l.section n (relocation_in l.relocations n) chosen subject high is_high label.label_is
     ]
 
 -- ---- the entry
@@ -116,7 +116,7 @@ pub record IsOfEntry (name : RiscVRelocation) (e : RiscVEntry) (section : List �
     (chosen : Choice Relaxation ℕ) : Type 0 where
   pub kind_is : chosen.kind ≡ relaxations.RiscV e.kind
   pub code_is : chosen.relocation ≡ code_of (riscv_name e.relocation)
-  pub asked : IsAskedFor name e.kind section o
+  pub pattern : HasPattern name e.kind section o
 
 abbrev pub IsOfSome : RiscVRelocation → List RiscVEntry → List ℕ → ℕ → Choice Relaxation ℕ → Type 0
 IsOfSome name [] section o chosen = ⊥
@@ -127,19 +127,19 @@ of_named : (name : RiscVRelocation) (section : List ℕ) (o : ℕ) (facts : Link
     (chosen : Choice Relaxation ℕ) (named : Choice RelaxationKind RiscVRelocation)
     → chosen.kind ≡ relaxations.RiscV named.kind
     → chosen.relocation ≡ code_of (riscv_name named.relocation) → (es : List RiscVEntry)
-    → IsOfApplied (AppliesToRiscV (IsAskedFor name) section o facts) es named
+    → IsOfApplied (AppliesToRiscV (HasPattern name) section o facts) es named
     → IsOfSome name es section o chosen
 of_named name section o facts chosen named kind_is code_is [] nothing = absurd nothing
 of_named name section o facts chosen named kind_is code_is (e ∷ es) (inl this) =
     inl (record {
       kind_is = kind_is ∙ ap (λ (q : Choice RelaxationKind RiscVRelocation). relaxations.RiscV q.kind) (this.1);
       code_is = code_is ∙ ap (λ (q : Choice RelaxationKind RiscVRelocation). code_of (riscv_name q.relocation)) (this.1);
-      asked = this.0.0;
+      pattern = this.0.0;
     })
 of_named name section o facts chosen named kind_is code_is (e ∷ es) (inr other) =
     inr (of_named name section o facts chosen named kind_is code_is es other)
 
-module _ (l : Linked) (made : AreRewritten l) (riscv : l.setting.architecture ≡ RiscV) (i : ℕ)
+module _ (l : Linked) (made : AreRewritten l) (riscv : l.context.architecture ≡ RiscV) (i : ℕ)
     (decision : Decision) (chosen : Choice Relaxation ℕ) (below : i < count l)
     (decided : decision_at l.decisions i ≡ decision) (by : choice_of decision ≡ Some chosen)
     (name : RiscVRelocation) (named : IsNamed (riscv_name name))
@@ -148,12 +148,12 @@ module _ (l : Linked) (made : AreRewritten l) (riscv : l.setting.architecture �
     abbrev r : Rela
     r = relocation_in l.relocations i
 
-    anyhow : IsChosenAnyhow l.setting l.section r chosen
+    anyhow : IsChosenAnyhow l.context l.section r chosen
     anyhow =
-        elim (chosen_or_labelled l.setting l.kept l.relocations l.section l.decisions (count l) i decision chosen made.decided below decided by) [
+        elim (chosen_or_labelled l.context l.kept l.relocations l.section l.decisions (count l) i decision chosen made.decided below decided by) [
           | inl own ↦
               record { facts = own.chosen.facts; is_choice = own.chosen.is_choice; changed = own.chosen.changed }
-          | inr label ↦ by_label l.setting l.relocations l.section i r decision chosen by label.label_is
+          | inr label ↦ by_label l.context l.relocations l.section i r decision chosen by label.label_is
         ]
 
     pub of_some : IsOfSome name (riscv_entries name) l.section r.offset chosen
@@ -162,7 +162,7 @@ module _ (l : Linked) (made : AreRewritten l) (riscv : l.setting.architecture �
         let h = subst (λ x. IsArchitectureChoice x r.code l.section r.offset c.facts chosen) riscv c.is_choice in
         let same : h.name ≡ name = h.is_name.named name named is_name.code_is in
         of_named name l.section r.offset c.facts chosen h.named h.kind_is h.code_is (riscv_entries name)
-        (of_first (AppliesToRiscV (IsAskedFor name) l.section r.offset c.facts) (riscv_entries name) (choice kinds.NoOp name) h.named
+        (of_first (AppliesToRiscV (HasPattern name) l.section r.offset c.facts) (riscv_entries name) (choice kinds.NoOp name) h.named
         (λ e. c.changed (
           subst relaxation_no_op (sym (h.kind_is ∙ ap (λ (q : Choice RelaxationKind RiscVRelocation). relaxations.RiscV q.kind) e)) refl,
           h.code_is ∙ (ap (λ (q : Choice RelaxationKind RiscVRelocation). code_of (riscv_name q.relocation)) e ∙ is_name.code_is),

@@ -22,7 +22,7 @@ use Rattle.linker_final.proofs.RiscVChosen.{IsOfSome, of_some, of_subject}
 use Rattle.linker_final.proofs.RiscVOffsets.{low_i, of_low_i}
 use Rattle.linker_final.proofs.RiscVWritten.{IsAfter, applied_there, becomes, bytes_there, long_there, made_is, redirected_after, word_bytes}
 use Rattle.linker_final.specs.Final.{instruction_at}
-use Rattle.linker_final.specs.Final.{AreBytes, AreRewritten, InstructionIsLeft, Linked, IsLinked, count}
+use Rattle.linker_final.specs.Final.{AreBytes, AreRewritten, UntouchedInstruction, Linked, IsLinked, count}
 use Rattle.linker_final.specs.RiscVFinal.{Descriptors, DescriptorsAnywhere, IsOfDescriptor, OffsetIsTheSameAnywhere, ShortDescriptors, ShortDescriptorsAnywhere, ShortOffsetIsTheSameAnywhere, named_as}
 use Rattle.linker_laws.specs.Machine.{Relocated}
 use Rattle.linker_laws.specs.RiscVRewriteLaws.{Laws, after_rewrite}
@@ -30,7 +30,7 @@ use Rattle.linker_riscv64.specs.RiscVRewrites.{riscv_entries, riscv_rewrite, rew
 use Rattle.linker_riscv64.specs.declared.rewrites.RelaxationKind.{RelaxationKind}
 use Rattle.linker_riscv64.specs.declared.rewrites.RelaxationKind.TheVariants as kinds
 use Rattle.linker_rewriting.specs.Rewritten.{IsMade}
-use Rattle.linker_rewriting.specs.declared.decisions.Decision.TheVariants.{Redirected}
+use Rattle.linker_rewriting.specs.declared.decisions.Decision.TheVariants.{RewrittenWithSymbol}
 use Rattle.linker_rewriting.specs.declared.decisions.Subject.{Subject}
 use Rattle.linker_section.specs.Needed.{entry_of}
 use Rattle.linker_section.specs.Relocations.{relocation_in}
@@ -69,7 +69,7 @@ add_becomes section o chosen kind (inl this) =
 add_becomes section o chosen kind (inr (inl this)) =
     absurd (let e : kinds.AddiToLui ≡ kinds.ReplaceWithLongNop = same_kind chosen.kind kinds.AddiToLui kinds.ReplaceWithLongNop kind this.kind_is in cc)
 add_becomes section o chosen kind (inr (inr (inl this))) =
-    record { code_is = this.code_is; inside = this.asked.0 }
+    record { code_is = this.code_is; inside = this.pattern.0 }
 add_becomes section o chosen kind (inr (inr (inr (inl this)))) =
     absurd (let e : kinds.AddiToLui ≡ kinds.AddiToAuipc = same_kind chosen.kind kinds.AddiToLui kinds.AddiToAuipc kind this.kind_is in cc)
 add_becomes section o chosen kind (inr (inr (inr (inr nothing)))) = absurd nothing
@@ -78,8 +78,8 @@ call_becomes : (section : List ℕ) (o : ℕ) (chosen : Choice Relaxation ℕ)
     → chosen.kind ≡ relaxations.RiscV kinds.CallToAddi
     → IsOfSome names.R_RISCV_TLSDESC_CALL (riscv_entries names.R_RISCV_TLSDESC_CALL) section o chosen
     → Becomes names.R_RISCV_TPREL_LO12_I section o chosen
-call_becomes section o chosen kind (inl this) = record { code_is = this.code_is; inside = this.asked.0 }
-call_becomes section o chosen kind (inr (inl this)) = record { code_is = this.code_is; inside = this.asked.0 }
+call_becomes section o chosen kind (inl this) = record { code_is = this.code_is; inside = this.pattern.0 }
+call_becomes section o chosen kind (inr (inl this)) = record { code_is = this.code_is; inside = this.pattern.0 }
 call_becomes section o chosen kind (inr (inr (inl this))) =
     absurd (let e : kinds.CallToAddi ≡ kinds.CallToLd = same_kind chosen.kind kinds.CallToAddi kinds.CallToLd kind this.kind_is in cc)
 call_becomes section o chosen kind (inr (inr (inr nothing))) = absurd nothing
@@ -88,8 +88,8 @@ short_becomes : (section : List ℕ) (o : ℕ) (chosen : Choice Relaxation ℕ)
     → chosen.kind ≡ relaxations.RiscV kinds.CallToAddiZero
     → IsOfSome names.R_RISCV_TLSDESC_CALL (riscv_entries names.R_RISCV_TLSDESC_CALL) section o chosen
     → Becomes names.R_RISCV_TPREL_LO12_I section o chosen
-short_becomes section o chosen kind (inl this) = record { code_is = this.code_is; inside = this.asked.0 }
-short_becomes section o chosen kind (inr (inl this)) = record { code_is = this.code_is; inside = this.asked.0 }
+short_becomes section o chosen kind (inl this) = record { code_is = this.code_is; inside = this.pattern.0 }
+short_becomes section o chosen kind (inr (inl this)) = record { code_is = this.code_is; inside = this.pattern.0 }
 short_becomes section o chosen kind (inr (inr (inl this))) =
     absurd (let e : kinds.CallToAddiZero ≡ kinds.CallToLd = same_kind chosen.kind kinds.CallToAddiZero kinds.CallToLd kind this.kind_is in cc)
 short_becomes section o chosen kind (inr (inr (inr nothing))) = absurd nothing
@@ -137,18 +137,18 @@ module _ (l : Linked) (rewriting : AreRewritten l) (high : ℕ)
   pub made_there : instruction_at l.rewritten (first.offset + distance)
       ≡ rewritten (Some (rewrites_word new)) (instruction_at l.section (first.offset + distance)) 0
   made_there =
-      subst (λ m. instruction_at l.rewritten m ≡ rewritten (Some (rewrites_word new)) (instruction_at l.section m) 0) of.behind
-      (becomes l rewriting n of.below (Redirected of.chosen of.subject) of.decided new
+      subst (λ m. instruction_at l.rewritten m ≡ rewritten (Some (rewrites_word new)) (instruction_at l.section m) 0) of.following
+      (becomes l rewriting n of.below (RewrittenWithSymbol of.chosen of.subject) of.decided new
       (λ done. subst (λ q. IsMade q r.offset l.section l.rewritten) rewrites
       (subst (λ k. IsMade (relaxation_rewrite k) r.offset l.section l.rewritten) of.kind_is done)) becomes_one.inside)
 
 -- and its relocation in the final bytes
-module _ (l : Linked) (linked : IsLinked l) (riscv : l.setting.architecture ≡ RiscV) (high : ℕ)
+module _ (l : Linked) (linked : IsLinked l) (riscv : l.context.architecture ≡ RiscV) (high : ℕ)
     (distance : ℕ) (n : ℕ) (below : n < count l)
-    (behind : (relocation_in l.relocations n).offset ≡ (relocation_in l.relocations high).offset + distance)
+    (following : (relocation_in l.relocations n).offset ≡ (relocation_in l.relocations high).offset + distance)
     (after_name : RiscVRelocation)
     (is_after : relocation_in l.relocations_after n ≡ named_as after_name (relocation_in l.relocations n) (relocation_in l.relocations high))
-    (left : InstructionIsLeft l n)
+    (left : UntouchedInstruction l n)
     (inside : (relocation_in l.relocations n).offset + 4 ≤ length l.section)
     (word : ℕ)
     (made : instruction_at l.rewritten ((relocation_in l.relocations high).offset + distance) ≡ to_le_bytes w32 word)
@@ -170,12 +170,12 @@ module _ (l : Linked) (linked : IsLinked l) (riscv : l.setting.architecture ≡ 
       let sl = linked.same_length in
       let fl = linked.written.same_length in
       let ll = last_length l linked in
-      let final_inside : at + 4 ≤ length l.final = omega (arith, inside, behind, sl, ll, fl) in
+      let final_inside : at + 4 ≤ length l.final = omega (arith, inside, following, sl, ll, fl) in
       let written : IsApplied a.row x (instruction_at l.rewritten after.offset) (instruction_at l.final after.offset) =
       with_operands a.row (operands_with RiscV l.addresses a.row symbol after 0) x (instruction_at l.rewritten after.offset) (instruction_at l.final after.offset) same_value
       (applied_there l linked riscv n below after_name a after is_after left refl of_row symbol 0 no_entry is_symbol) in
       let there : IsApplied a.row x (instruction_at l.rewritten at) (instruction_at l.final at) =
-      subst (λ m. IsApplied a.row x (instruction_at l.rewritten m) (instruction_at l.final m)) behind written in
+      subst (λ m. IsApplied a.row x (instruction_at l.rewritten m) (instruction_at l.final m)) following written in
       record {
         applied =
             subst (λ q. IsSomeAnd q (λ row. IsApplied row x (instruction_at l.rewritten at) (instruction_at l.final at))) (sym is_row) there;
@@ -186,19 +186,19 @@ module _ (l : Linked) (linked : IsLinked l) (riscv : l.setting.architecture ≡ 
 
 -- ---- the sequence
 
-module _ (laws : Laws) (l : Linked) (rewriting : AreRewritten l) (riscv : l.setting.architecture ≡ RiscV)
+module _ (laws : Laws) (l : Linked) (rewriting : AreRewritten l) (riscv : l.context.architecture ≡ RiscV)
     (high add call : ℕ)
     (of_add : IsOfDescriptor l high names.R_RISCV_TLSDESC_ADD_LO12 8 kinds.AddiToLui add)
     (of_call : IsOfDescriptor l high names.R_RISCV_TLSDESC_CALL 12 kinds.CallToAddi call) where
   add_made : Becomes names.R_RISCV_TPREL_HI20 l.section (relocation_in l.relocations add).offset of_add.chosen
   add_made =
       add_becomes l.section (relocation_in l.relocations add).offset of_add.chosen of_add.kind_is
-      (of_some l rewriting riscv add (Redirected of_add.chosen of_add.subject) of_add.chosen of_add.below of_add.decided refl names.R_RISCV_TLSDESC_ADD_LO12 tt of_add.name_is)
+      (of_some l rewriting riscv add (RewrittenWithSymbol of_add.chosen of_add.subject) of_add.chosen of_add.below of_add.decided refl names.R_RISCV_TLSDESC_ADD_LO12 tt of_add.name_is)
 
   call_made : Becomes names.R_RISCV_TPREL_LO12_I l.section (relocation_in l.relocations call).offset of_call.chosen
   call_made =
       call_becomes l.section (relocation_in l.relocations call).offset of_call.chosen of_call.kind_is
-      (of_some l rewriting riscv call (Redirected of_call.chosen of_call.subject) of_call.chosen of_call.below of_call.decided refl names.R_RISCV_TLSDESC_CALL tt of_call.name_is)
+      (of_some l rewriting riscv call (RewrittenWithSymbol of_call.chosen of_call.subject) of_call.chosen of_call.below of_call.decided refl names.R_RISCV_TLSDESC_CALL tt of_call.name_is)
 
   abbrev o : ℕ
   o = (relocation_in l.relocations high).offset
@@ -246,26 +246,26 @@ descriptors laws l linked riscv high add call of_add of_call left symbol is_symb
     let x = operands_with RiscV l.addresses low_i.row symbol first got in
     let becomes_add = add_made laws l rewriting riscv high add call of_add of_call in
     let becomes_call = call_made laws l rewriting riscv high add call of_add of_call in
-    let behind = of_add.behind in
-    let behind_call = of_call.behind in
+    let following = of_add.following in
+    let after_call = of_call.following in
     let add_inside = becomes_add.inside in
     let call_inside = becomes_call.inside in
     let lui_made = lui_there laws l rewriting riscv high add call of_add of_call
-    ∙ made_is (λ _. 0x537) (instruction_at l.section (o + 8)) (long_there l.section (o + 8) (omega (arith, behind, add_inside))) in
+    ∙ made_is (λ _. 0x537) (instruction_at l.section (o + 8)) (long_there l.section (o + 8) (omega (arith, following, add_inside))) in
     let low_made = addi_there laws l rewriting riscv high add call of_add of_call
-    ∙ made_is (λ _. 0x50513) (instruction_at l.section (o + 12)) (long_there l.section (o + 12) (omega (arith, behind_call, call_inside))) in
+    ∙ made_is (λ _. 0x50513) (instruction_at l.section (o + 12)) (long_there l.section (o + 12) (omega (arith, after_call, call_inside))) in
     let lui : Relocated (riscv_row names.R_RISCV_TPREL_HI20) x (instruction_at l.rewritten (o + 8)) (instruction_at l.final (o + 8)) =
-    relocated l linked riscv high 8 add of_add.below behind names.R_RISCV_TPREL_HI20 (add_after laws l rewriting riscv high add call of_add of_call)
+    relocated l linked riscv high 8 add of_add.below following names.R_RISCV_TPREL_HI20 (add_after laws l rewriting riscv high add call of_add of_call)
     (left.0) add_inside 0x537 lui_made high_tp refl of_high_tp symbol is_symbol x refl refl in
     let low : Relocated (riscv_row names.R_RISCV_TPREL_LO12_I) x (instruction_at l.rewritten (o + 12)) (instruction_at l.final (o + 12)) =
-    relocated l linked riscv high 12 call of_call.below behind_call names.R_RISCV_TPREL_LO12_I (call_after laws l rewriting riscv high add call of_add of_call)
+    relocated l linked riscv high 12 call of_call.below after_call names.R_RISCV_TPREL_LO12_I (call_after laws l rewriting riscv high add call of_add of_call)
     (left.1) call_inside 0x50513 low_made low_i refl of_low_i symbol is_symbol x refl refl in
     wherever laws l rewriting riscv high add call of_add of_call x x refl (ran.0).small function c h k auipc_of ld_of addi_of
     (instruction_at l.final (o + 8)) (instruction_at l.final (o + 12)) ran small alike lui low
 
 -- ---- the short one
 
-module _ (laws : Laws) (l : Linked) (rewriting : AreRewritten l) (riscv : l.setting.architecture ≡ RiscV)
+module _ (laws : Laws) (l : Linked) (rewriting : AreRewritten l) (riscv : l.context.architecture ≡ RiscV)
     (high call : ℕ)
     (of_call : IsOfDescriptor l high names.R_RISCV_TLSDESC_CALL 12 kinds.CallToAddiZero call) where
   abbrev place : ℕ
@@ -274,7 +274,7 @@ module _ (laws : Laws) (l : Linked) (rewriting : AreRewritten l) (riscv : l.sett
   short_made : Becomes names.R_RISCV_TPREL_LO12_I l.section (relocation_in l.relocations call).offset of_call.chosen
   short_made =
       short_becomes l.section (relocation_in l.relocations call).offset of_call.chosen of_call.kind_is
-      (of_some l rewriting riscv call (Redirected of_call.chosen of_call.subject) of_call.chosen of_call.below of_call.decided refl names.R_RISCV_TLSDESC_CALL tt of_call.name_is)
+      (of_some l rewriting riscv call (RewrittenWithSymbol of_call.chosen of_call.subject) of_call.chosen of_call.below of_call.decided refl names.R_RISCV_TLSDESC_CALL tt of_call.name_is)
 
   short_after : relocation_in l.relocations_after call ≡ named_as names.R_RISCV_TPREL_LO12_I (relocation_in l.relocations call) (relocation_in l.relocations high)
   short_after =
@@ -304,12 +304,12 @@ short_descriptors laws l linked riscv high call of_call left symbol is_symbol fu
     let o = first.offset in
     let x = operands_with RiscV l.addresses low_i.row symbol first got in
     let becomes_call = short_made laws l rewriting riscv high call of_call in
-    let behind = of_call.behind in
+    let following = of_call.following in
     let inside = becomes_call.inside in
     let made = short_there laws l rewriting riscv high call of_call
-    ∙ made_is (λ _. 0x513) (instruction_at l.section (o + 12)) (long_there l.section (o + 12) (omega (arith, behind, inside))) in
+    ∙ made_is (λ _. 0x513) (instruction_at l.section (o + 12)) (long_there l.section (o + 12) (omega (arith, following, inside))) in
     let low : Relocated (riscv_row names.R_RISCV_TPREL_LO12_I) x (instruction_at l.rewritten (o + 12)) (instruction_at l.final (o + 12)) =
-    relocated l linked riscv high 12 call of_call.below behind names.R_RISCV_TPREL_LO12_I (short_after laws l rewriting riscv high call of_call)
+    relocated l linked riscv high 12 call of_call.below following names.R_RISCV_TPREL_LO12_I (short_after laws l rewriting riscv high call of_call)
     left inside 0x513 made low_i refl of_low_i symbol is_symbol x refl refl in
     short_wherever laws l rewriting riscv high call of_call x x refl is_low function c h k auipc_of ld_of addi_of
     (instruction_at l.final (o + 12)) ran small alike low

@@ -12,7 +12,7 @@ use Rattle.linker_elf.specs.declared.riscv64.forms.RiscVInstruction.TheVariants.
 use Rattle.linker_elf.specs.declared.riscv64.relocations.RiscVRelocation.{RiscVRelocation}
 use Rattle.linker_elf.specs.declared.riscv64.relocations.RiscVRelocation.TheVariants as names
 use Rattle.linker_final.proofs.InstructionFields.{IsOfInstruction, applied_found}
-use Rattle.linker_final.proofs.Joined.{behind, code_is, addend_is, final_inside, kept_there, own_there, rewritten_inside, symbol_is, within}
+use Rattle.linker_final.proofs.Joined.{following, code_is, addend_is, final_inside, kept_there, own_there, rewritten_inside, symbol_is, within}
 use Rattle.linker_final.proofs.Labels.{low_found}
 use Rattle.linker_final.proofs.Phases.{later_bytes}
 use Rattle.linker_final.proofs.RiscVDescriptors.{descriptors_anywhere, high_tp, of_high_tp, short_descriptors_anywhere}
@@ -20,7 +20,7 @@ use Rattle.linker_final.proofs.RiscVLoads.{got_loads_anywhere, high_after, low_a
 use Rattle.linker_final.proofs.RiscVOffsets.{low_i, of_low_i, low_s, of_low_s, low_parts_anywhere, mapped}
 use Rattle.linker_final.proofs.RiscVWritten.{IsAfter, bytes_there, long_there, row_in}
 use Rattle.linker_final.proofs.Written.{rela, with_operands}
-use Rattle.linker_final.specs.Final.{AreBytes, AreLeft, InstructionIsLeft, IsRewrittenByNoOther, Linked, count, instruction_at}
+use Rattle.linker_final.specs.Final.{AreBytes, UntouchedInstructions, UntouchedInstruction, IsRewrittenByNoOther, Linked, count, instruction_at}
 use Rattle.linker_final.specs.Joined.{IsRewrittenAndPacked, IsKeptInstruction, final_instruction}
 use Rattle.linker_final.specs.Packed.{Packed, architecture_of, place_of}
 use Rattle.linker_final.specs.RiscVFinal.{IsOfDescriptor, LoadsTheSameAnywhere, LowPartsAnywhereOf, named_as}
@@ -44,7 +44,7 @@ use Rattle.linker_utils.specs.declared.elf.Architecture.TheVariants.{RiscV}
 module _ (l : Linked) (p : Packed) (joined : IsRewrittenAndPacked l p) (riscv : p.machine ≡ RiscV64)
     (i : ℕ) (below : i < count l) (name : RiscVRelocation) (a : IsAfter name) (subject : Rela)
     (after_is : relocation_in l.relocations_after i ≡ named_as name (relocation_in l.relocations i) subject)
-    (kept : IsKeptInstruction p i) (left : InstructionIsLeft l i) where
+    (kept : IsKeptInstruction p i) (left : UntouchedInstruction l i) where
   abbrev o : ℕ
   o = (relocation_in l.relocations i).offset
 
@@ -127,7 +127,7 @@ packed_low_parts laws =
 
 module _ (laws : Laws) (l : Linked) (p : Packed) (joined : IsRewrittenAndPacked l p)
     (riscv : p.machine ≡ RiscV64) (i j : ℕ) (of : AreOfFinalLoad l p i j)
-    (left : AreLeft l i j) (alone : IsRewrittenByNoOther l i (relocation_in l.relocations i).offset) where
+    (left : UntouchedInstructions l i j) (alone : IsRewrittenByNoOther l i (relocation_in l.relocations i).offset) where
   abbrev first : Rela
   first = relocation_in l.relocations i
 
@@ -177,7 +177,7 @@ module _ (laws : Laws) (l : Linked) (p : Packed) (joined : IsRewrittenAndPacked 
   loads_the_same : FinalBytesLoadTheSame l p i high_after.row
   loads_the_same over not_zero symbol is_symbol x small new_small h k auipc_of ld_of holds at new_at alike of_auipc of_ld =
       let o = first.offset in
-      let next = behind l p joined i of.pair.first_below (code_of (riscv_name names.R_RISCV_PCREL_HI20)) first.symbol first.addend (any.0) of.high_kept (left.0) in
+      let next = following l p joined i of.pair.first_below (code_of (riscv_name names.R_RISCV_PCREL_HI20)) first.symbol first.addend (any.0) of.high_kept (left.0) in
       let lower : Relocated (Some low_after.row) (y symbol is_symbol) (instruction_at l.rewritten (o + 4)) (instruction_at p.final (place_of p o + 4)) =
       subst (λ q. Relocated (Some low_after.row) (y symbol is_symbol) (instruction_at l.rewritten (o + 4)) (instruction_at p.final q)) next
       (subst (λ n. Relocated (Some low_after.row) (y symbol is_symbol) (instruction_at l.rewritten n) (final_instruction p n)) of.pair.next (low symbol is_symbol)) in
@@ -195,7 +195,7 @@ module _ (l : Linked) (p : Packed) (joined : IsRewrittenAndPacked l p) (riscv : 
     (of_call : IsOfDescriptor l high names.R_RISCV_TLSDESC_CALL 12 kind call)
     (call_after : relocation_in l.relocations_after call
     ≡ named_as names.R_RISCV_TPREL_LO12_I (relocation_in l.relocations call) (relocation_in l.relocations high))
-    (kept : IsKeptInstruction p call) (left : InstructionIsLeft l call)
+    (kept : IsKeptInstruction p call) (left : UntouchedInstruction l call)
     (symbol : Symbol)
     (is_symbol : slice_get p.symbols (relocation_in p.relocations_after call).symbol ≡ Some symbol) where
   abbrev start : ℕ
@@ -205,7 +205,7 @@ module _ (l : Linked) (p : Packed) (joined : IsRewrittenAndPacked l p) (riscv : 
       (instruction_at l.rewritten (start + 12)) (final_instruction p (start + 12))
   call_relocated =
       let y = final_operands p call low_i.row symbol in
-      subst (λ n. Relocated (Some low_i.row) y (instruction_at l.rewritten n) (final_instruction p n)) of_call.behind
+      subst (λ n. Relocated (Some low_i.row) y (instruction_at l.rewritten n) (final_instruction p n)) of_call.following
       (relocated_own l p joined riscv call of_call.below names.R_RISCV_TPREL_LO12_I low_i (relocation_in l.relocations high)
       call_after kept left of_low_i symbol refl is_symbol)
 
@@ -227,7 +227,7 @@ module _ (l : Linked) (p : Packed) (joined : IsRewrittenAndPacked l p) (riscv : 
     (call_after : relocation_in l.relocations_after call
     ≡ named_as names.R_RISCV_TPREL_LO12_I (relocation_in l.relocations call) (relocation_in l.relocations high))
     (add_kept : IsKeptInstruction p add) (call_kept : IsKeptInstruction p call)
-    (left : AreLeft l add call) where
+    (left : UntouchedInstructions l add call) where
   abbrev sequence : ℕ
   sequence = (relocation_in l.relocations high).offset
 
@@ -270,15 +270,15 @@ module _ (l : Linked) (p : Packed) (joined : IsRewrittenAndPacked l p) (riscv : 
         old_bytes = own.old_bytes;
         bytes = own.bytes;
       } in
-      subst (λ n. Relocated (Some high_tp.row) y (instruction_at l.rewritten n) (final_instruction p n)) of_add.behind one
+      subst (λ n. Relocated (Some high_tp.row) y (instruction_at l.rewritten n) (final_instruction p n)) of_add.following one
 
   -- the `jalr` is after it
-  pub call_behind : place_of p (sequence + 12) ≡ place_of p (sequence + 8) + 4
-  call_behind =
+  pub call_following : place_of p (sequence + 12) ≡ place_of p (sequence + 8) + 4
+  call_following =
       let e : sequence + 12 ≡ sequence + 8 + 4 = omega arith in
       ap (place_of p) e
-      ∙ subst (λ n. place_of p (n + 4) ≡ place_of p n + 4) of_add.behind
-      (behind l p joined add of_add.below (code_of (riscv_name names.R_RISCV_TPREL_HI20)) subject.symbol subject.addend add_after add_kept (left.0))
+      ∙ subst (λ n. place_of p (n + 4) ≡ place_of p n + 4) of_add.following
+      (following l p joined add of_add.below (code_of (riscv_name names.R_RISCV_TPREL_HI20)) subject.symbol subject.addend add_after add_kept (left.0))
 
 pub packed_descriptors : Laws → PackedDescriptors
 packed_descriptors laws l p joined riscv high add call of_add of_call add_kept call_kept left symbol is_symbol x one addresses function c h k auipc_of ld_of addi_of ran small alike =
@@ -287,7 +287,7 @@ packed_descriptors laws l p joined riscv high add call of_add of_call add_kept c
     let y = final_operands p call low_i.row symbol in
     let low : Relocated (Some low_i.row) y (instruction_at l.rewritten (o + 12)) (instruction_at p.final (place_of p (o + 8) + 4)) =
     subst (λ q. Relocated (Some low_i.row) y (instruction_at l.rewritten (o + 12)) (instruction_at p.final q))
-    (call_behind l p joined riscv high add call of_add of_call (any.0) (any.1) add_kept call_kept left)
+    (call_following l p joined riscv high add call of_add of_call (any.0) (any.1) add_kept call_kept left)
     (call_relocated l p joined riscv high call kinds.CallToAddi of_call (any.1) call_kept (left.1) symbol is_symbol) in
     (any.2) x y one addresses function c h k auipc_of ld_of addi_of
     (final_instruction p (o + 8)) (instruction_at p.final (place_of p (o + 8) + 4)) ran small alike

@@ -22,7 +22,7 @@ use Rattle.linker_final.proofs.RiscVChosen.{IsOfEntry, of_entry}
 use Rattle.linker_final.proofs.Phases.{bytes_left, last_length}
 use Rattle.linker_final.proofs.RiscVWritten.{IsAfter, applied_there, becomes, bytes_there, last_is, long_there, made_is, rewritten_after, row_after, stays, within_after, word_bytes}
 use Rattle.linker_final.specs.Final.{IsRewrittenByNoOther, instruction_at}
-use Rattle.linker_final.specs.Final.{AreBytes, AreLeft, AreRewritten, Linked, IsLinked}
+use Rattle.linker_final.specs.Final.{AreBytes, UntouchedInstructions, AreRewritten, Linked, IsLinked}
 use Rattle.linker_final.specs.RiscVFinal.{AreOfLoad, AreOfPair, GotLoads, GotLoadsAnywhere, LoadsTheSame, LoadsTheSameAnywhere, named_as}
 use Rattle.linker_laws.specs.Machine.{Relocated, but}
 use Rattle.linker_laws.specs.RiscVMachine.{Hart, register}
@@ -96,7 +96,7 @@ same_address base y address at a b has =
 
 -- ---- a pair
 
-module _ (laws : Laws) (l : Linked) (rewriting : AreRewritten l) (riscv : l.setting.architecture ≡ RiscV)
+module _ (laws : Laws) (l : Linked) (rewriting : AreRewritten l) (riscv : l.context.architecture ≡ RiscV)
     (i j : ℕ) (of : AreOfPair l i j)
     (alone : IsRewrittenByNoOther l i (relocation_in l.relocations i).offset) where
   abbrev first : Rela
@@ -129,33 +129,33 @@ module _ (laws : Laws) (l : Linked) (rewriting : AreRewritten l) (riscv : l.sett
   both_inside : first.offset + 4 + 4 ≤ length l.section
   both_inside =
       let next = of.next in
-      let asked = low_entry.asked in
-      let inside : second.offset + 4 ≤ length l.section = asked.0 in
+      let pattern = low_entry.pattern in
+      let inside : second.offset + 4 ≤ length l.section = pattern.0 in
       omega (arith, inside, next)
 
   auipc_there : instruction_at l.rewritten first.offset ≡ instruction_at l.section first.offset
   auipc_there =
       stays l rewriting i of.first_below (Rewritten of.high_chosen) of.high_decided
-      (ap (λ k. window_of_rewrite (relaxation_rewrite k)) high_entry.kind_is) alone (high_entry.asked.0)
+      (ap (λ k. window_of_rewrite (relaxation_rewrite k)) high_entry.kind_is) alone (high_entry.pattern.0)
 
   addi_there : instruction_at l.rewritten (first.offset + 4) ≡ after_rewrite kinds.LdToAddi (instruction_at l.section (first.offset + 4)) 0
   addi_there =
       subst (λ n. instruction_at l.rewritten n ≡ rewritten (Some (rewrites_word load_to_addi)) (instruction_at l.section n) 0) of.next
       (becomes l rewriting j of.second_below (Rewritten of.low_chosen) of.low_decided load_to_addi
-      (λ done. subst (λ k. IsMade (relaxation_rewrite k) second.offset l.section l.rewritten) low_entry.kind_is done) (low_entry.asked.0))
+      (λ done. subst (λ k. IsMade (relaxation_rewrite k) second.offset l.section l.rewritten) low_entry.kind_is done) (low_entry.pattern.0))
 
   wherever : LoadsTheSameAnywhere l i
   wherever over not_zero x y small new_small h k auipc_of ld_of high low holds at new_at alike of_auipc of_ld of_high of_low =
       let o = first.offset in
       let auipc = instruction_at l.section o in
       let ld = instruction_at l.section (o + 4) in
-      let is_auipc : IsAuipc (word_of auipc) = subst IsAuipc (word_same l.section o) (high_entry.asked.1) in
+      let is_auipc : IsAuipc (word_of auipc) = subst IsAuipc (word_same l.section o) (high_entry.pattern.1) in
       let is_ld : IsLd (word_of ld) =
-      subst (λ n. IsLd (word_of (instruction_at l.section n))) of.next (subst IsLd (word_same l.section second.offset) (low_entry.asked.1)) in
+      subst (λ n. IsLd (word_of (instruction_at l.section n))) of.next (subst IsLd (word_same l.section second.offset) (low_entry.pattern.1)) in
       let together : IsLoadFromGot (word_of auipc) (word_of ld) =
       record { first = is_auipc; second = is_ld; base = over; not_zero = not_zero } in
       laws.got x y h k auipc ld small new_small at new_at alike
-      (long_there l.section o (high_entry.asked.0), long_there l.section (o + 4) both_inside) together holds
+      (long_there l.section o (high_entry.pattern.0), long_there l.section (o + 4) both_inside) together holds
       auipc_of ld_of high low of_auipc of_ld
       (subst (λ xs. Relocated (riscv_row names.R_RISCV_PCREL_HI20) y xs high) auipc_there of_high)
       (subst (λ xs. Relocated (riscv_row names.R_RISCV_PCREL_LO12_I) y xs low) addi_there of_low)
@@ -169,8 +169,8 @@ got_loads_anywhere laws l rewriting riscv i j of alone = (
 
 -- ---- in the final bytes
 
-module _ (laws : Laws) (l : Linked) (linked : IsLinked l) (riscv : l.setting.architecture ≡ RiscV)
-    (i j : ℕ) (of : AreOfLoad l i j) (left : AreLeft l i j)
+module _ (laws : Laws) (l : Linked) (linked : IsLinked l) (riscv : l.context.architecture ≡ RiscV)
+    (i j : ℕ) (of : AreOfLoad l i j) (left : UntouchedInstructions l i j)
     (alone : IsRewrittenByNoOther l i (relocation_in l.relocations i).offset) where
   abbrev one : Rela
   one = relocation_in l.relocations i
@@ -214,13 +214,13 @@ module _ (laws : Laws) (l : Linked) (linked : IsLinked l) (riscv : l.setting.arc
         let within = within_after l linked riscv i of.pair.first_below names.R_RISCV_PCREL_HI20 high_after high_rela high_there (left.0) refl in
         let within' = within_after l linked riscv j of.pair.second_below names.R_RISCV_PCREL_LO12_I low_after low_rela low_there (left.1) refl in
         let at_high : offset_at bytes i ≡ one.offset = ap (λ (x : Rela). x.offset) high_last in
-        let is_row : IsRow l.setting.architecture (relocation_in bytes i).code (Some high_after.row) =
+        let is_row : IsRow l.context.architecture (relocation_in bytes i).code (Some high_after.row) =
         subst (λ x. IsRow x (relocation_in bytes i).code (Some high_after.row)) (sym riscv)
         (row_after l linked riscv i of.pair.first_below names.R_RISCV_PCREL_HI20 high_after high_rela high_there (left.0) refl) in
-        let low_row : IsRow l.setting.architecture (relocation_in bytes j).code (Some low_after.row) =
+        let low_row : IsRow l.context.architecture (relocation_in bytes j).code (Some low_after.row) =
         subst (λ x. IsRow x (relocation_in bytes j).code (Some low_after.row)) (sym riscv)
         (row_after l linked riscv j of.pair.second_below names.R_RISCV_PCREL_LO12_I low_after low_rela low_there (left.1) refl) in
-        let taken : operands_of l.setting.architecture l.addresses l.symbols high_after.row (relocation_in bytes i) ≡ Ok operands =
+        let taken : operands_of l.context.architecture l.addresses l.symbols high_after.row (relocation_in bytes i) ≡ Ok operands =
         subst (λ x. operands_of x l.addresses l.symbols high_after.row (relocation_in bytes i) ≡ Ok operands) (sym riscv)
         (subst (λ x. operands_of RiscV l.addresses l.symbols high_after.row x ≡ Ok operands) (sym high_last)
         (ap (operands_in RiscV l.addresses high_after.row high_rela) is_symbol)) in
@@ -229,9 +229,9 @@ module _ (laws : Laws) (l : Linked) (linked : IsLinked l) (riscv : l.setting.arc
         let bits : BitRange = record { start = 0; end = 32 } in
         subst (λ xs. IsApplied low_after.row operands xs (instruction_at l.final other.offset)) (bytes_left l linked j other.offset 4 (left.1))
         (subst (λ (x : Rela). IsApplied low_after.row operands (instruction_at l.last x.offset) (instruction_at l.final x.offset)) low_last
-        (applied_found l.setting.architecture l.addresses bytes l.symbols l.last l.final linked.written
+        (applied_found l.context.architecture l.addresses bytes l.symbols l.last l.final linked.written
         j within' 4 (omega arith) low_after.row bits (insns.RiscV IType) refl refl refl refl operands
-        (low_found l.setting.architecture l.addresses bytes l.symbols l.last linked.written.can.apart
+        (low_found l.context.architecture l.addresses bytes l.symbols l.last linked.written.can.apart
         i within high_after.row is_row refl operands taken (relocation_in bytes j) low_after.row low_row refl refl
         of.label label_is (of.labels ∙ sym at_high) tt (linked.written.can.found j) (linked.written.can.are_found j within'))))
 

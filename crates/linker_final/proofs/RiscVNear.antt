@@ -24,7 +24,7 @@ use Rattle.linker_laws.specs.RiscVMachine.{Action, Hart, register, adds, adds_wo
 use Rattle.linker_laws.specs.RiscVRewriteLaws.{AreAlike, EndSo, GoOn, StoresTheSame, differs_after, low_row, action_at}
 use Rattle.linker_laws.specs.RiscVRelocationLaws.{even, AbsoluteAddresses, RelativeAddresses}
 use Rattle.linker_laws.specs.Schemes.{symbol_address, IsAddress}
-use Rattle.linker_laws.proofs.RiscVHighParts.{IsOf, of_address}
+use Rattle.linker_laws.proofs.RiscVHighParts.{IsFormulaOf, of_address}
 use Rattle.linker_laws.proofs.Instructions.{unbiased}
 use Rattle.linker_laws.proofs.RiscVLowParts.{alike_used, is_action, some_action, low_sum, i_stands, i_kept, s_stands, s_kept, word_there}
 use Rattle.linker_laws.proofs.RiscVMachine.{at_start, fetched_word, moved_twice, steps, written}
@@ -34,7 +34,7 @@ use Rattle.linker_final.specs.RiscVNear.{FromBase, LowPartsFromBase, ValuesAreDi
 
 -- ---- the instruction of a low part once its relocation is applied
 
-module _ (kind : RelocationKind) (number : Operands → ℕ) (of : IsOf kind number) where
+module _ (kind : RelocationKind) (number : Operands → ℕ) (of : IsFormulaOf kind number) where
   i_decoded : (a : Action) → ((w : ℕ) → with_action w (Some a) ≡ i_type a w) → (x : Operands)
       (before code : List ℕ) → Relocated (Some (pair_row kind 32 IType)) x before code
       → action_of (opcode_of (from_le_bytes w32 before)) (funct3_of (from_le_bytes w32 before)) ≡ Some a
@@ -96,7 +96,7 @@ module _ (kind : RelocationKind) (number : Operands → ℕ) (of : IsOf kind num
       s_kept kind x (number x) before code is.applied (of.1 x) (of.0 SType x) 0 7 refl in
       omega (arith, same, long)
 
-of_distance : IsOf RelativeRiscVLow12 distance
+of_distance : IsFormulaOf RelativeRiscVLow12 distance
 of_distance = (
   λ form x. ap (λ n. Some (cast_signed w64 (difference_64 n x.place)))
       (unbiased (symbol_address x) (sum_below x.symbol _)),
@@ -225,7 +225,7 @@ both_end a differs rd rs1 b rs2 i i' sum code code' long long' low low' is is' h
           (used 4 a rd rs2 v k)) (sym second) (alike_used a differs rd rs2 sum h k apart alike));
     }
 
-module _ (kind : RelocationKind) (number : Operands → ℕ) (of : IsOf kind number)
+module _ (kind : RelocationKind) (number : Operands → ℕ) (of : IsFormulaOf kind number)
     (row : Action → Option RelocationKindInfo)
     (a : Action) (section : List ℕ) (o gp : ℕ) (gp_small : gp < 2 ^ 64)
     (inside : o + 4 ≤ length section)
@@ -414,7 +414,7 @@ from_zero : (z : ℤ) → wrapped z ≡ moved 0 z
 from_zero z = ap wrapped (let e : z ≡ pos 0 +ℤ z = omega (arith, ints) in e)
 
 -- what a low part of the I format holds
-holds_low : (kind : RelocationKind) (number : Operands → ℕ) → IsOf kind number → (x : Operands)
+holds_low : (kind : RelocationKind) (number : Operands → ℕ) → IsFormulaOf kind number → (x : Operands)
     (before code : List ℕ) → Relocated (Some (pair_row kind 32 IType)) x before code
     → (riscv_form IType).machine (from_le_bytes w32 code) ≡ lo12 (number x)
 holds_low kind number of x before code is =

@@ -25,7 +25,7 @@ use Rattle.linker_riscv64.specs.RiscVRewrites.{riscv_entries}
 use Rattle.linker_riscv64.specs.declared.rewrites.RelaxationKind.TheVariants as kinds
 use Rattle.linker_rewriting.specs.Decisions.{decision_at}
 use Rattle.linker_rewriting.specs.Rewritten.{IsMade}
-use Rattle.linker_rewriting.specs.declared.decisions.Decision.TheVariants.{Redirected}
+use Rattle.linker_rewriting.specs.declared.decisions.Decision.TheVariants.{RewrittenWithSymbol}
 use Rattle.linker_rewriting.specs.declared.decisions.Subject.{Subject}
 use Rattle.linker_section.specs.Relocations.{relocation_in}
 use Rattle.linker_section.specs.declared.relocations.Rela.{Rela}
@@ -42,10 +42,10 @@ high_becomes : (section : List ℕ) (o : ℕ) (chosen : Choice Relaxation ℕ)
     → Becomes names.R_RISCV_NONE section o chosen
 high_becomes section o chosen kind (inl this) =
     absurd (let e : kinds.ReplaceWithLongNop ≡ kinds.Delete = same_kind chosen.kind kinds.ReplaceWithLongNop kinds.Delete kind this.kind_is in cc)
-high_becomes section o chosen kind (inr (inl this)) = record { code_is = this.code_is; inside = this.asked.0 }
+high_becomes section o chosen kind (inr (inl this)) = record { code_is = this.code_is; inside = this.pattern.0 }
 high_becomes section o chosen kind (inr (inr (inl this))) =
     absurd (let e : kinds.ReplaceWithLongNop ≡ kinds.Delete = same_kind chosen.kind kinds.ReplaceWithLongNop kinds.Delete kind this.kind_is in cc)
-high_becomes section o chosen kind (inr (inr (inr (inl this)))) = record { code_is = this.code_is; inside = this.asked.0 }
+high_becomes section o chosen kind (inr (inr (inr (inl this)))) = record { code_is = this.code_is; inside = this.pattern.0 }
 high_becomes section o chosen kind (inr (inr (inr (inr (nothing))))) = absurd nothing
 
 load_becomes : (section : List ℕ) (o : ℕ) (chosen : Choice Relaxation ℕ)
@@ -54,10 +54,10 @@ load_becomes : (section : List ℕ) (o : ℕ) (chosen : Choice Relaxation ℕ)
     → Becomes names.R_RISCV_NONE section o chosen
 load_becomes section o chosen kind (inl this) =
     absurd (let e : kinds.ReplaceWithLongNop ≡ kinds.Delete = same_kind chosen.kind kinds.ReplaceWithLongNop kinds.Delete kind this.kind_is in cc)
-load_becomes section o chosen kind (inr (inl this)) = record { code_is = this.code_is; inside = this.asked.0 }
+load_becomes section o chosen kind (inr (inl this)) = record { code_is = this.code_is; inside = this.pattern.0 }
 load_becomes section o chosen kind (inr (inr (inl this))) =
     absurd (let e : kinds.ReplaceWithLongNop ≡ kinds.Delete = same_kind chosen.kind kinds.ReplaceWithLongNop kinds.Delete kind this.kind_is in cc)
-load_becomes section o chosen kind (inr (inr (inr (inl this)))) = record { code_is = this.code_is; inside = this.asked.0 }
+load_becomes section o chosen kind (inr (inr (inr (inl this)))) = record { code_is = this.code_is; inside = this.pattern.0 }
 load_becomes section o chosen kind (inr (inr (inr (inr (nothing))))) = absurd nothing
 
 add_becomes : (section : List ℕ) (o : ℕ) (chosen : Choice Relaxation ℕ)
@@ -66,7 +66,7 @@ add_becomes : (section : List ℕ) (o : ℕ) (chosen : Choice Relaxation ℕ)
     → Becomes names.R_RISCV_NONE section o chosen
 add_becomes section o chosen kind (inl this) =
     absurd (let e : kinds.ReplaceWithLongNop ≡ kinds.Delete = same_kind chosen.kind kinds.ReplaceWithLongNop kinds.Delete kind this.kind_is in cc)
-add_becomes section o chosen kind (inr (inl this)) = record { code_is = this.code_is; inside = this.asked.0 }
+add_becomes section o chosen kind (inr (inl this)) = record { code_is = this.code_is; inside = this.pattern.0 }
 add_becomes section o chosen kind (inr (inr (inl this))) =
     absurd (let e : kinds.ReplaceWithLongNop ≡ kinds.AddiToLui = same_kind chosen.kind kinds.ReplaceWithLongNop kinds.AddiToLui kind this.kind_is in cc)
 add_becomes section o chosen kind (inr (inr (inr (inl this)))) =
@@ -74,8 +74,8 @@ add_becomes section o chosen kind (inr (inr (inr (inl this)))) =
 add_becomes section o chosen kind (inr (inr (inr (inr (nothing))))) = absurd nothing
 
 -- the code of no type has no value
-none_has_no_value : (l : Linked) → l.setting.architecture ≡ RiscV
-    → IsRowOf l.setting.architecture 0 (bytes_row NoValue 0)
+none_has_no_value : (l : Linked) → l.context.architecture ≡ RiscV
+    → IsRowOf l.context.architecture 0 (bytes_row NoValue 0)
 none_has_no_value l riscv found there =
     by_name riscv_name (λ (n : RiscVRelocation). (riscv_relocation n).row) names.R_RISCV_NONE tt found
     (subst (λ x. IsRow x 0 found) riscv there)
@@ -88,10 +88,10 @@ module _ (laws : Laws) (name : RiscVRelocation) (named : IsNamed (riscv_name nam
     → IsOfSome name (riscv_entries name) section o chosen → Becomes names.R_RISCV_NONE section o chosen)
   where
     -- what the rewrite leaves
-    nop_there : (l : Linked) → AreRewritten l → l.setting.architecture ≡ RiscV
+    nop_there : (l : Linked) → AreRewritten l → l.context.architecture ≡ RiscV
         → (i : ℕ) (chosen : Choice Relaxation ℕ) (subject : Subject) → i < count l
         → IsNameOf riscv_name (relocation_in l.relocations i).code name
-        → decision_at l.decisions i ≡ Redirected chosen subject
+        → decision_at l.decisions i ≡ RewrittenWithSymbol chosen subject
         → chosen.kind ≡ relaxations.RiscV kinds.ReplaceWithLongNop
         → let o = (relocation_in l.relocations i).offset in
         Becomes names.R_RISCV_NONE l.section o chosen
@@ -99,9 +99,9 @@ module _ (laws : Laws) (name : RiscVRelocation) (named : IsNamed (riscv_name nam
     nop_there l rewriting riscv i chosen subject below is_name decided kind_is =
         let o = (relocation_in l.relocations i).offset in
         let nop = becomes_nop l.section o chosen kind_is
-        (of_some l rewriting riscv i (Redirected chosen subject) chosen below decided refl name named is_name) in (
+        (of_some l rewriting riscv i (RewrittenWithSymbol chosen subject) chosen below decided refl name named is_name) in (
           nop,
-          becomes l rewriting i below (Redirected chosen subject) decided (λ _. 0x13)
+          becomes l rewriting i below (RewrittenWithSymbol chosen subject) decided (λ _. 0x13)
               (λ done. subst (λ k. IsMade (relaxation_rewrite k) o l.section l.rewritten) kind_is done) nop.inside,
         )
 

@@ -24,7 +24,7 @@ use Rattle.linker_final.specs.RiscVFinal.{HighParts, LowPartDoesTheSame, LowPart
 use Rattle.linker_laws.specs.Machine.{Relocated}
 use Rattle.linker_laws.specs.RiscVMachine.{Action, action_of}
 use Rattle.linker_laws.specs.RiscVRewriteLaws.{Laws, action_at, after_rewrite, offset_row}
-use Rattle.linker_riscv64.specs.RiscVRewrites.{IsAddTp, IsAskedFor, IsLui, adds_low12, by_low_offset, funct3_of, opcode_of, riscv_entries, riscv_matches, tp, with_rs1}
+use Rattle.linker_riscv64.specs.RiscVRewrites.{IsAddTp, HasPattern, IsLui, adds_low12, by_low_offset, funct3_of, opcode_of, riscv_entries, riscv_matches, tp, with_rs1}
 use Rattle.linker_riscv64.specs.declared.rewrites.RelaxationKind.TheVariants as kinds
 use Rattle.linker_rewriting.specs.Decisions.{deleted_of}
 use Rattle.linker_rewriting.specs.Rewritten.{IsMade}
@@ -85,7 +85,7 @@ by_word word = action_of (opcode_of word) (funct3_of word)
 module _ (laws : Laws) (name : RiscVRelocation) (a : IsAfter name) (of : IsOfInstruction 4 a.row)
     (is_row : riscv_row name ≡ Some a.row)
     (entries : riscv_entries name ≡ (entry kinds.BaseToTp name by_low_offset ∷ []))
-    (adds : (section : _) (o : ℕ) → IsAskedFor name kinds.BaseToTp section o → riscv_matches kinds.BaseToTp section o)
+    (adds : (section : _) (o : ℕ) → HasPattern name kinds.BaseToTp section o → riscv_matches kinds.BaseToTp section o)
     (no_entry : (addresses : Addresses) (r : Rela) (symbol : Symbol)
     → operands_by RiscV addresses a.row r symbol
     (entry_address addresses symbol (entry_of a.row r.addend symbol.is_thread_local))
@@ -98,7 +98,7 @@ module _ (laws : Laws) (name : RiscVRelocation) (a : IsAfter name) (of : IsOfIns
       let by : IsOfEntry name (entry kinds.BaseToTp name by_low_offset) l.section o chosen =
       of_entry l rewritten riscv i (Rewritten chosen) chosen below decided refl name a.named is_name
       (entry kinds.BaseToTp name by_low_offset) entries in
-      let is = adds l.section o by.asked in
+      let is = adds l.section o by.pattern in
       let inside : o + 4 ≤ length l.section = is.0 in
       let long : length instruction ≡ 4 = long_there l.section o inside in
       let matches : riscv_matches kinds.BaseToTp instruction 0 =
@@ -122,7 +122,7 @@ module _ (laws : Laws) (name : RiscVRelocation) (a : IsAfter name) (of : IsOfIns
       let by : IsOfEntry name (entry kinds.BaseToTp name by_low_offset) l.section o chosen =
       of_entry l (are_rewritten l linked) riscv i (Rewritten chosen) chosen below decided refl name a.named is_name
       (entry kinds.BaseToTp name by_low_offset) entries in
-      let inside : o + 4 ≤ length l.section = (adds l.section o by.asked).0 in
+      let inside : o + 4 ≤ length l.section = (adds l.section o by.pattern).0 in
       let made =
       becomes l (are_rewritten l linked) i below (Rewritten chosen) decided (with_rs1 tp)
       (λ done. subst (λ k. IsMade (relaxation_rewrite k) o l.section l.rewritten) by.kind_is done) inside
@@ -151,14 +151,14 @@ module _ (laws : Laws) (name : RiscVRelocation) (a : IsAfter name) (of : IsOfIns
 
 pub low_parts : Laws → LowParts
 low_parts laws = (
-  low_parts_of laws names.R_RISCV_TPREL_LO12_I low_i of_low_i refl refl (λ section o asked. asked) (λ addresses r symbol. refl),
-  low_parts_of laws names.R_RISCV_TPREL_LO12_S low_s of_low_s refl refl (λ section o asked. (asked.0, asked.1.0)) (λ addresses r symbol. refl),
+  low_parts_of laws names.R_RISCV_TPREL_LO12_I low_i of_low_i refl refl (λ section o pattern. pattern) (λ addresses r symbol. refl),
+  low_parts_of laws names.R_RISCV_TPREL_LO12_S low_s of_low_s refl refl (λ section o pattern. (pattern.0, pattern.1.0)) (λ addresses r symbol. refl),
 )
 
 pub low_parts_anywhere : Laws → LowPartsAnywhere
 low_parts_anywhere laws = (
-  anywhere_of laws names.R_RISCV_TPREL_LO12_I low_i of_low_i refl refl (λ section o asked. asked) (λ addresses r symbol. refl),
-  anywhere_of laws names.R_RISCV_TPREL_LO12_S low_s of_low_s refl refl (λ section o asked. (asked.0, asked.1.0)) (λ addresses r symbol. refl),
+  anywhere_of laws names.R_RISCV_TPREL_LO12_I low_i of_low_i refl refl (λ section o pattern. pattern) (λ addresses r symbol. refl),
+  anywhere_of laws names.R_RISCV_TPREL_LO12_S low_s of_low_s refl refl (λ section o pattern. (pattern.0, pattern.1.0)) (λ addresses r symbol. refl),
 )
 
 -- ---- what is deleted
@@ -170,9 +170,9 @@ high_parts laws l linked riscv i chosen below is_name decided =
     let by : IsOfEntry names.R_RISCV_TPREL_HI20 (entry kinds.Delete names.R_RISCV_NONE by_low_offset) l.section o chosen =
     of_entry l (are_rewritten l linked) riscv i (Rewritten chosen) chosen below decided refl names.R_RISCV_TPREL_HI20 tt is_name
     (entry kinds.Delete names.R_RISCV_NONE by_low_offset) refl in
-    let asked = by.asked in
-    let long = long_there l.section o asked.0 in
-    let there : HasWord lui 0 IsLui = (omega (arith, long), subst IsLui (word_same l.section o) (asked.1)) in (
+    let pattern = by.pattern in
+    let long = long_there l.section o pattern.0 in
+    let there : HasWord lui 0 IsLui = (omega (arith, long), subst IsLui (word_same l.section o) (pattern.1)) in (
       ap deleted_of decided ∙ ap relaxation_deleted by.kind_is,
       λ symbol is_symbol h k differs original low small new_small alike of_original.
           laws.high_offsets lui 0 there _ low original [] of_original h k differs small new_small alike,
@@ -185,9 +185,9 @@ sums laws l linked riscv i chosen below is_name decided =
     let by : IsOfEntry names.R_RISCV_TPREL_ADD (entry kinds.Delete names.R_RISCV_NONE by_low_offset) l.section o chosen =
     of_entry l (are_rewritten l linked) riscv i (Rewritten chosen) chosen below decided refl names.R_RISCV_TPREL_ADD tt is_name
     (entry kinds.Delete names.R_RISCV_NONE by_low_offset) refl in
-    let asked = by.asked in
-    let long = long_there l.section o asked.0 in
-    let there : HasWord add 0 IsAddTp = (omega (arith, long), subst IsAddTp (word_same l.section o) (asked.1)) in (
+    let pattern = by.pattern in
+    let long = long_there l.section o pattern.0 in
+    let there : HasWord add 0 IsAddTp = (omega (arith, long), subst IsAddTp (word_same l.section o) (pattern.1)) in (
       ap deleted_of decided ∙ ap relaxation_deleted by.kind_is,
       λ h k differs small new_small alike tp_same wide zero_there.
           laws.sums add 0 there [] differs h k small new_small alike tp_same wide zero_there,

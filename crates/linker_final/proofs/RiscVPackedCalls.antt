@@ -18,7 +18,7 @@ use Rattle.linker_final.proofs.PackedInstructions.{instructions}
 use Rattle.linker_final.proofs.PackedSites.{site_becomes, site_inside, site_length, site_small}
 use Rattle.linker_final.proofs.PutBack.{window_length}
 use Rattle.linker_final.specs.Final.{AreBytes}
-use Rattle.linker_final.specs.Packed.{architecture_of, place_of, site_behind, site_bytes, site_len, site_offset, site_place, site_target}
+use Rattle.linker_final.specs.Packed.{architecture_of, place_of, site_after, site_bytes, site_len, site_offset, site_place, site_target}
 use Rattle.linker_final.specs.RiscVPacked.{call_row, IsOfCall, HaveCalled, SitesCallTheSame, LongCallsStay, instructions_in, landing}
 use Rattle.linker_laws.proofs.RiscVJumps.{called, pair_runs, pair_target, pair_keeps, pair_links, pair_floats, pair_memory, same_register, same_link}
 use Rattle.linker_laws.proofs.RiscVMachine.{address_is, at_start, is_long, fetched_half, fetched_word, steps, is_jal, other, written, unwritten}
@@ -285,7 +285,7 @@ sites p is riscv i site of name call_of x small original relocated h k hx ky ali
     (site_length p is i site of)
     (becomes s.bytes o is.section_bytes has.3.0 inside place target code (omega arith) (omega arith) (site_small p is site) final k ky) in
     both 2 (instructions_in (site_len p site)) original code base link
-    (even plt_address x) (sum_64 x.place 8) (landing (site_len p site) target) (site_behind p site) h k alike
+    (even plt_address x) (sum_64 x.place 8) (landing (site_len p site) target) (site_after p site) h k alike
     (from_there s.bytes o is.section_bytes has.3.0 inside x original
     (call_applied name call_of x (drop o s.bytes) original relocated.applied) relocated.bytes relocated.len small h hx)
     goes

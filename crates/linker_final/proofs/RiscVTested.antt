@@ -20,12 +20,12 @@ use Rattle.linker_final.proofs.Entries.{IsOfApplied, of_first}
 use Rattle.linker_final.specs.Final.{count}
 use Rattle.linker_final.specs.RiscVFinal.{OffsetsAreLow, OffsetsAreLowOf}
 use Rattle.linker_laws.specs.RiscVRewriteLaws.{IsLowOffset}
-use Rattle.linker_riscv64.specs.RiscVRewrites.{AppliesToRiscV, IsAskedFor, IsRiscVChoice, by_low_offset, riscv_entries}
+use Rattle.linker_riscv64.specs.RiscVRewrites.{AppliesToRiscV, HasPattern, IsRiscVChoice, by_low_offset, riscv_entries}
 use Rattle.linker_riscv64.specs.declared.rewrites.RelaxationKind.{RelaxationKind}
 use Rattle.linker_riscv64.specs.declared.rewrites.RelaxationKind.TheVariants as kinds
-use Rattle.linker_rewriting.specs.Facts.{Setting, address_in, facts_at, facts_by, facts_with}
+use Rattle.linker_rewriting.specs.Facts.{RelaxContext, address_in, facts_at, facts_by, facts_with}
 use Rattle.linker_rewriting.specs.Groups.{IsScopeIn, riscv_scope_in}
-use Rattle.linker_rewriting.specs.Labels.{is_labelled}
+use Rattle.linker_rewriting.specs.RiscVPcrelGroups.{is_labelled}
 use Rattle.linker_rewriting.specs.declared.decisions.Decision.TheVariants.{Rewritten}
 use Rattle.linker_rewriting.specs.declared.facts.OutputFacts.{OutputFacts}
 use Rattle.linker_rewriting.specs.declared.facts.SymbolFacts.{SymbolFacts}
@@ -82,11 +82,11 @@ module _ (output : OutputFacts) (addresses : Addresses) (values : List Symbol) (
   by_phase : (phase : Phase) (symbol : SymbolFacts)
       → facts_at phase output addresses values r r marked symbol ≡ Some facts
       → facts.operands ≡ placed addresses value r
-  by_phase phases.Early symbol is =
+  by_phase phases.PreLayout symbol is =
       absurd (let e : false ≡ true = ap has_addresses_in is ∙ known in cc)
-  by_phase phases.ThreadOffsets symbol is = by_value phases.ThreadOffsets symbol is
-  by_phase phases.GotLoads symbol is = by_value phases.GotLoads symbol is
-  by_phase phases.Distances symbol is = by_value phases.Distances symbol is
+  by_phase phases.TlsLocalExec symbol is = by_value phases.TlsLocalExec symbol is
+  by_phase phases.GotToPcRel symbol is = by_value phases.GotToPcRel symbol is
+  by_phase phases.ShortPcRel symbol is = by_value phases.ShortPcRel symbol is
 
   by_symbol : (phase : Phase) (symbol : Option SymbolFacts)
       → facts_by phase output addresses values r r marked symbol ≡ Some facts
@@ -126,7 +126,7 @@ abbrev row : RelocationKindInfo
 row = pair_row TpOff 32 IType
 
 -- what the entry's last condition says
-by_test : (s : Setting) (section : List ℕ) (r : Rela) (chosen : Choice Relaxation ℕ)
+by_test : (s : RelaxContext) (section : List ℕ) (r : Rela) (chosen : Choice Relaxation ℕ)
     (c : IsChosen s section r chosen) (value : Symbol) → slice_get s.values r.symbol ≡ Some value
     → value.is_thread_local ≡ true → HasAddresses c.facts → IsTested c.facts.operands
     → IsLowOffset (operands_with RiscV s.addresses row value r 0)
@@ -149,7 +149,7 @@ module _ (name : RiscVRelocation) (named : IsNamed (riscv_name name)) (kind : Re
 
   low_of : OffsetsAreLowOf name
   low_of l rewriting riscv i chosen below is_name decided value is_value thread_local =
-      let s = l.setting in
+      let s = l.context in
       let r = relocation_in l.relocations i in
       let c : IsChosen s l.section r chosen =
       elim (chosen_or_labelled s l.kept l.relocations l.section l.decisions (count l) i (Rewritten chosen) chosen rewriting.decided below decided refl) [
@@ -160,13 +160,13 @@ module _ (name : RiscVRelocation) (named : IsNamed (riscv_name name)) (kind : Re
       let h = subst (λ x. IsArchitectureChoice x r.code l.section r.offset c.facts chosen) riscv c.is_choice in
       let same : h.name ≡ name = h.is_name.named name named is_name.code_is in
       let found =
-      of_first (AppliesToRiscV (IsAskedFor name) l.section r.offset c.facts) (riscv_entries name) (choice kinds.NoOp name) h.named
+      of_first (AppliesToRiscV (HasPattern name) l.section r.offset c.facts) (riscv_entries name) (choice kinds.NoOp name) h.named
       (λ e. c.changed (
         subst relaxation_no_op (sym (h.kind_is ∙ ap (λ (q : Choice RelaxationKind RiscVRelocation). relaxations.RiscV q.kind) e)) refl,
         h.code_is ∙ (ap (λ (q : Choice RelaxationKind RiscVRelocation). code_of (riscv_name q.relocation)) e ∙ is_name.code_is),
       ))
       (subst (λ x. IsRiscVChoice x l.section r.offset c.facts h.named) same h.is_choice) in
-      elim (subst (λ es. IsOfApplied (AppliesToRiscV (IsAskedFor name) l.section r.offset c.facts) es h.named) entries found) [
+      elim (subst (λ es. IsOfApplied (AppliesToRiscV (HasPattern name) l.section r.offset c.facts) es h.named) entries found) [
         | inl this ↦
             let test = this.0.1.1.0 in
             by_test s l.section r chosen c value is_value thread_local (test.0) (test.1)
@@ -174,22 +174,22 @@ module _ (name : RiscVRelocation) (named : IsNamed (riscv_name name)) (kind : Re
       ]
 
 no_label_high : (phase : Phase) → is_labelled (riscv_scope_in phase names.R_RISCV_TPREL_HI20) ≡ false
-no_label_high phases.Early = refl
-no_label_high phases.ThreadOffsets = refl
-no_label_high phases.GotLoads = refl
-no_label_high phases.Distances = refl
+no_label_high phases.PreLayout = refl
+no_label_high phases.TlsLocalExec = refl
+no_label_high phases.GotToPcRel = refl
+no_label_high phases.ShortPcRel = refl
 
 no_label_low : (phase : Phase) → is_labelled (riscv_scope_in phase names.R_RISCV_TPREL_LO12_I) ≡ false
-no_label_low phases.Early = refl
-no_label_low phases.ThreadOffsets = refl
-no_label_low phases.GotLoads = refl
-no_label_low phases.Distances = refl
+no_label_low phases.PreLayout = refl
+no_label_low phases.TlsLocalExec = refl
+no_label_low phases.GotToPcRel = refl
+no_label_low phases.ShortPcRel = refl
 
 no_label_store : (phase : Phase) → is_labelled (riscv_scope_in phase names.R_RISCV_TPREL_LO12_S) ≡ false
-no_label_store phases.Early = refl
-no_label_store phases.ThreadOffsets = refl
-no_label_store phases.GotLoads = refl
-no_label_store phases.Distances = refl
+no_label_store phases.PreLayout = refl
+no_label_store phases.TlsLocalExec = refl
+no_label_store phases.GotToPcRel = refl
+no_label_store phases.ShortPcRel = refl
 
 pub offsets_are_low : OffsetsAreLow
 offsets_are_low = (

@@ -18,11 +18,11 @@ use Rattle.linker_final.proofs.InstructionFields.{IsOfInstruction, applied}
 use Rattle.linker_final.proofs.Phases.{bytes_left, last_within, relocation_left}
 use Rattle.linker_final.proofs.PutBack.{same_windows}
 use Rattle.linker_final.specs.Final.{IsRewrittenByNoOther, instruction_at}
-use Rattle.linker_final.specs.Final.{AreBytes, AreRewritten, IsLeftAlone, Linked, IsLinked, count}
+use Rattle.linker_final.specs.Final.{AreBytes, AreRewritten, UntouchedBytes, Linked, IsLinked, count}
 use Rattle.linker_rewriting.specs.Decisions.{decision_at, window_of, written_end_at, written_end_by}
 use Rattle.linker_rewriting.specs.Rewritten.{IsDone, IsMade, relocation_after}
 use Rattle.linker_rewriting.specs.declared.decisions.Decision.{Decision}
-use Rattle.linker_rewriting.specs.declared.decisions.Decision.TheVariants.{Redirected, Rewritten}
+use Rattle.linker_rewriting.specs.declared.decisions.Decision.TheVariants.{RewrittenWithSymbol, Rewritten}
 use Rattle.linker_rewriting.specs.declared.decisions.Subject.{Subject}
 use Rattle.linker_riscv64.specs.RiscVRewrites.{rewrites_word, riscv_rewrite}
 use Rattle.linker_riscv64.specs.declared.rewrites.RelaxationKind.{RelaxationKind}
@@ -93,7 +93,7 @@ module _ (l : Linked) (made : AreRewritten l) (i : ℕ) (chosen : Choice Relaxat
   rewritten_after decided =
       made.relocations i below ∙ (ap (λ d. relocation_after d r) decided ∙ after_is r.symbol r.addend)
 
-  pub redirected_after : (subject : Subject) → decision_at l.decisions i ≡ Redirected chosen subject
+  pub redirected_after : (subject : Subject) → decision_at l.decisions i ≡ RewrittenWithSymbol chosen subject
       → relocation_in l.relocations_after i
       ≡ rela r.offset (code_of (riscv_name name)) subject.symbol subject.addend
   redirected_after subject decided =
@@ -126,10 +126,10 @@ module _ (architecture : Architecture) (riscv : architecture ≡ RiscV) (r : Rel
   row_in addresses bytes symbols (Some one) has = row_by (Some (one.0)) has.is_row
   row_in addresses bytes symbols None marked = row_by (marked.0) (marked.1)
 
-module _ (l : Linked) (linked : IsLinked l) (riscv : l.setting.architecture ≡ RiscV) (i : ℕ)
+module _ (l : Linked) (linked : IsLinked l) (riscv : l.context.architecture ≡ RiscV) (i : ℕ)
     (below : i < count l) (name : RiscVRelocation) (a : IsAfter name) (after : Rela)
     (after_is : relocation_in l.relocations_after i ≡ after)
-    (left : IsLeftAlone l i after.offset 4)
+    (left : UntouchedBytes l i after.offset 4)
     (code_is : after.code ≡ code_of (riscv_name name)) where
   pub within_after : i < length l.relocations_last / 24
   within_after = last_within l linked i below
@@ -139,7 +139,7 @@ module _ (l : Linked) (linked : IsLinked l) (riscv : l.setting.architecture ≡ 
 
   pub row_after : IsRow RiscV (relocation_in l.relocations_last i).code (Some a.row)
   row_after =
-      row_in l.setting.architecture riscv (relocation_in l.relocations_last i) name a
+      row_in l.context.architecture riscv (relocation_in l.relocations_last i) name a
       (ap (λ (x : Rela). x.code) last_is ∙ code_is) l.addresses l.relocations_last l.symbols
       (linked.written.can.found i) (linked.written.can.are_found i within_after)
 
@@ -157,7 +157,7 @@ module _ (l : Linked) (linked : IsLinked l) (riscv : l.setting.architecture ≡ 
       ap (operands_in RiscV l.addresses a.row after) is_symbol ∙ entry_is in
       subst (λ xs. IsApplied a.row operands xs (instruction_at l.final after.offset)) (bytes_left l linked i after.offset 4 left)
       (subst (λ (x : Rela). IsApplied a.row operands (instruction_at l.last x.offset) (instruction_at l.final x.offset)) last_is
-      (applied l.setting.architecture l.addresses l.relocations_last l.symbols l.last l.final linked.written
+      (applied l.context.architecture l.addresses l.relocations_last l.symbols l.last l.final linked.written
       i within_after 4 (omega arith) a.row of (subst (λ x. IsRow x (relocation_in l.relocations_last i).code (Some a.row)) (sym riscv) row_after)
       operands
       (subst (λ x. operands_of x l.addresses l.symbols a.row (relocation_in l.relocations_last i) ≡ Ok operands) (sym riscv)

@@ -1,13 +1,13 @@
 -- What phases between two calls that rewrite leave alone.
 use Rattle.std.proofs.Common.{◌≡◌, ℕ, ◌/◌, ◌<◌, take, drop, sym, subst}
 use Rattle.linker_final.proofs.Phases.{left_alone_is_the_same}
-use Rattle.linker_final.specs.Final.{IsLeftAlone, Linked, count}
+use Rattle.linker_final.specs.Final.{UntouchedBytes, Linked, count}
 use Rattle.linker_final.specs.Twice.{AreTwoCalls}
 use Rattle.linker_section.specs.Relocations.{relocation_in}
 use Rattle.linker_utils.specs.declared.elf.Architecture.{Architecture}
 
 module _ (architecture : Architecture) (l m : Linked) (calls : AreTwoCalls architecture l m)
-    (i : ℕ) (below : i < count l) (start len : ℕ) (left : IsLeftAlone l i start len) where
+    (i : ℕ) (below : i < count l) (start len : ℕ) (left : UntouchedBytes l i start len) where
   same : (relocation_in m.relocations i ≡ relocation_in l.relocations_after i)
       × (take len (drop start m.section) ≡ take len (drop start l.rewritten))
   same =

@@ -17,7 +17,7 @@ use Rattle.linker_elf.specs.declared.elf.value.Operands.{Operands}
 use Rattle.linker_final.proofs.InstructionFields.{IsOfInstruction, applied, instruction_len}
 use Rattle.linker_final.proofs.Phases.{bytes_left, last_as_many, last_length, last_within, relocation_left}
 use Rattle.linker_final.proofs.PutBack.{same_windows}
-use Rattle.linker_final.specs.Final.{AreRewritten, Linked, IsLeftAlone, IsLinked, IsRewrittenByNoOther, IsWrittenByNoOther, count, instruction_at, two_at}
+use Rattle.linker_final.specs.Final.{AreRewritten, Linked, UntouchedBytes, IsLinked, IsRewrittenByNoOther, IsWrittenByNoOther, count, instruction_at, two_at}
 use Rattle.linker_rewriting.specs.Decisions.{decision_at, start_at, start_by, written_end_at, written_end_by}
 use Rattle.linker_rewriting.specs.Rewritten.{IsDone, IsMade, relocation_after}
 use Rattle.linker_rewriting.specs.declared.decisions.Decision.TheVariants.{Rewritten}
@@ -32,7 +32,7 @@ use Rattle.linker_section.specs.declared.needed.Entry.{Entry}
 use Rattle.linker_section.specs.declared.relocations.Rela.{Rela}
 use Rattle.linker_section.specs.declared.values.ValueError.{ValueError}
 use Rattle.linker_section.specs.declared.values.ValueError.TheVariants.{NoEntry}
-use Rattle.linker_utils.specs.Architectures.{IsOf, IsRow, relaxation_rewrite}
+use Rattle.linker_utils.specs.Architectures.{IsNamedValue, IsRow, relaxation_rewrite}
 use Rattle.linker_utils.specs.declared.architecture.Relaxation.{Relaxation}
 use Rattle.linker_utils.specs.declared.elf.Architecture.{Architecture}
 
@@ -65,7 +65,7 @@ second_same bytes o = drop-take 4 4 (drop o bytes) ∙ ap (take 4) (drop-drop 4 
 
 -- what the code of a name means
 pub by_name : {N A : Type 0} (elf : N → ElfName) (meaning : N → A) (name : N) → IsNamed (elf name)
-    → (value : A) → IsOf elf meaning (code_of (elf name)) value → value ≡ meaning name
+    → (value : A) → IsNamedValue elf meaning (code_of (elf name)) value → value ≡ meaning name
 by_name elf meaning name named value is =
     is.value_is ∙ ap meaning (is.is_name.named name named refl)
 
@@ -96,13 +96,13 @@ with_operands row o p old new same is =
 module _ (l : Linked) (linked : IsLinked l) (i : ℕ) (below : i < count l) (n : ℕ) (some : 0 < n)
     (row : RelocationKindInfo) (of : IsOfInstruction n row)
     (after : Rela) (is_after : relocation_in l.relocations_after i ≡ after)
-    (left : IsLeftAlone l i after.offset n) (only : IsRowOf l.setting.architecture after.code row)
+    (left : UntouchedBytes l i after.offset n) (only : IsRowOf l.context.architecture after.code row)
     (symbol : Symbol) (is_symbol : slice_get l.symbols after.symbol ≡ Some symbol) (got : ℕ)
-    (entry_is : operands_by l.setting.architecture l.addresses row after symbol
+    (entry_is : operands_by l.context.architecture l.addresses row after symbol
     (entry_address l.addresses symbol (entry_of row after.addend symbol.is_thread_local))
-    ≡ Ok (operands_with l.setting.architecture l.addresses row symbol after got)) where
+    ≡ Ok (operands_with l.context.architecture l.addresses row symbol after got)) where
   abbrev operands : Operands
-  operands = operands_with l.setting.architecture l.addresses row symbol after got
+  operands = operands_with l.context.architecture l.addresses row symbol after got
 
   within : i < length l.relocations_last / 24
   within = last_within l linked i below
@@ -110,10 +110,10 @@ module _ (l : Linked) (linked : IsLinked l) (i : ℕ) (below : i < count l) (n :
   is_last : relocation_in l.relocations_last i ≡ after
   is_last = relocation_left l linked i after.offset n left below ∙ is_after
 
-  there : IsRow l.setting.architecture (relocation_in l.relocations_last i).code (Some row)
+  there : IsRow l.context.architecture (relocation_in l.relocations_last i).code (Some row)
   there =
-      row_in l.setting.architecture l.addresses l.relocations_last l.symbols (relocation_in l.relocations_last i) row
-      (subst (λ (x : Rela). IsRowOf l.setting.architecture x.code row) (sym is_last) only)
+      row_in l.context.architecture l.addresses l.relocations_last l.symbols (relocation_in l.relocations_last i) row
+      (subst (λ (x : Rela). IsRowOf l.context.architecture x.code row) (sym is_last) only)
       (linked.written.can.found i) (linked.written.can.are_found i within)
 
   -- is applied to the bytes between
@@ -121,47 +121,47 @@ module _ (l : Linked) (linked : IsLinked l) (i : ℕ) (below : i < count l) (n :
   applied_after =
       subst (λ xs. IsApplied row operands xs (take n (drop after.offset l.final))) (bytes_left l linked i after.offset n left)
       (subst (λ (x : Rela). IsApplied row operands (take n (drop x.offset l.last)) (take n (drop x.offset l.final))) is_last
-      (applied l.setting.architecture l.addresses l.relocations_last l.symbols l.last l.final linked.written
+      (applied l.context.architecture l.addresses l.relocations_last l.symbols l.last l.final linked.written
       i within n some row of there operands
-      (subst (λ x. operands_of l.setting.architecture l.addresses l.symbols row x ≡ Ok operands) (sym is_last)
-      (ap (operands_in l.setting.architecture l.addresses row after) is_symbol ∙ entry_is))))
+      (subst (λ x. operands_of l.context.architecture l.addresses l.symbols row x ≡ Ok operands) (sym is_last)
+      (ap (operands_in l.context.architecture l.addresses row after) is_symbol ∙ entry_is))))
 
 -- ---- entries of the GOT
 
 -- a relocation that has a value has the operands of its formula
 module _ (l : Linked) (r : Rela) (row : RelocationKindInfo) (n : ℕ) (of : IsOfInstruction n row)
-    (only : IsRowOf l.setting.architecture r.code row) where
+    (only : IsRowOf l.context.architecture r.code row) where
   by_row : (result : Result (Option ℤ) ValueError)
-      → IsValueIn l.setting.architecture l.addresses l.relocations_last l.symbols r (Some row) result
+      → IsValueIn l.context.architecture l.addresses l.relocations_last l.symbols r (Some row) result
       → result ≡ value_by (lacks_origin l.addresses l.symbols row r) row
-      (operands_of l.setting.architecture l.addresses l.symbols row r)
+      (operands_of l.context.architecture l.addresses l.symbols row r)
   by_row result is =
-      subst (λ labels. IsValueBy labels l.setting.architecture l.addresses l.relocations_last l.symbols row r result) of.unlabelled is
+      subst (λ labels. IsValueBy labels l.context.architecture l.addresses l.relocations_last l.symbols row r result) of.unlabelled is
       ∙ cond-true (has_value row.kind)
-      (value_by (lacks_origin l.addresses l.symbols row r) row (operands_of l.setting.architecture l.addresses l.symbols row r))
+      (value_by (lacks_origin l.addresses l.symbols row r) row (operands_of l.context.architecture l.addresses l.symbols row r))
       (Ok None) of.valued
 
   has_operands : (found : Option (RelocationKindInfo × ℤ))
-      → IsRowValue l.setting.architecture l.addresses l.relocations_last l.symbols r (Ok found)
-      → (error : ValueError) → operands_of l.setting.architecture l.addresses l.symbols row r ≡ Err error → ⊥
+      → IsRowValue l.context.architecture l.addresses l.relocations_last l.symbols r (Ok found)
+      → (error : ValueError) → operands_of l.context.architecture l.addresses l.symbols row r ≡ Err error → ⊥
   has_operands (Some one) has error fails =
       let value : Ok (Some (one.1))
-      ≡ value_by (lacks_origin l.addresses l.symbols row r) row (operands_of l.setting.architecture l.addresses l.symbols row r) =
+      ≡ value_by (lacks_origin l.addresses l.symbols row r) row (operands_of l.context.architecture l.addresses l.symbols row r) =
       by_row (Ok (Some (one.1)))
-      (subst (λ x. IsValueIn l.setting.architecture l.addresses l.relocations_last l.symbols r x (Ok (Some (one.1)))) (only (Some (one.0)) has.is_row) has.is_value) in
+      (subst (λ x. IsValueIn l.context.architecture l.addresses l.relocations_last l.symbols r x (Ok (Some (one.1)))) (only (Some (one.0)) has.is_row) has.is_value) in
       absurd (let e : Ok (Some (one.1)) ≡ Err error = value ∙ ap (value_by (lacks_origin l.addresses l.symbols row r) row) fails in cc)
   has_operands None marked error fails =
       let value : Ok None
-      ≡ value_by (lacks_origin l.addresses l.symbols row r) row (operands_of l.setting.architecture l.addresses l.symbols row r) =
+      ≡ value_by (lacks_origin l.addresses l.symbols row r) row (operands_of l.context.architecture l.addresses l.symbols row r) =
       by_row (Ok None)
-      (subst (λ x. IsValueIn l.setting.architecture l.addresses l.relocations_last l.symbols r x (Ok None)) (only (marked.0) (marked.1)) (marked.2)) in
+      (subst (λ x. IsValueIn l.context.architecture l.addresses l.relocations_last l.symbols r x (Ok None)) (only (marked.0) (marked.1)) (marked.2)) in
       absurd (let e : Ok None ≡ Err error = value ∙ ap (value_by (lacks_origin l.addresses l.symbols row r) row) fails in cc)
 
 -- the entry that its formula has is there
 pub entry_is_there : (l : Linked) → IsLinked l → (i : ℕ) → i < count l → (n : ℕ)
     (row : RelocationKindInfo) → IsOfInstruction n row
     → (after : Rela) → relocation_in l.relocations_last i ≡ after
-    → IsRowOf l.setting.architecture after.code row
+    → IsRowOf l.context.architecture after.code row
     → (symbol : Symbol) → slice_get l.symbols after.symbol ≡ Some symbol
     → (entry : Entry) → entry_of row after.addend symbol.is_thread_local ≡ Some entry
     → is_there l.addresses symbol entry ≡ true
@@ -173,11 +173,11 @@ entry_is_there l linked i below n row of after is_after only symbol is_symbol en
           ap (entry_address l.addresses symbol) is_entry
           ∙ cond-false (is_there l.addresses symbol entry) (Some (entry_in l.addresses symbol entry.class)) None missing in
           absurd (has_operands l after row n of only (linked.written.can.found i)
-          (subst (λ (x : Rela). IsRowValue l.setting.architecture l.addresses l.relocations_last l.symbols x (Ok (linked.written.can.found i))) is_after
+          (subst (λ (x : Rela). IsRowValue l.context.architecture l.addresses l.relocations_last l.symbols x (Ok (linked.written.can.found i))) is_after
           (linked.written.can.are_found i (last_within l linked i below)))
           NoEntry
-          (ap (operands_in l.setting.architecture l.addresses row after) is_symbol
-          ∙ ap (operands_by l.setting.architecture l.addresses row after symbol) none))
+          (ap (operands_in l.context.architecture l.addresses row after) is_symbol
+          ∙ ap (operands_by l.context.architecture l.addresses row after symbol) none))
     ]
 
 -- ---- bytes that rewrites leave
@@ -265,7 +265,7 @@ module _ (l : Linked) (rewriting : AreRewritten l) (i : ℕ) (chosen : Choice Re
 -- those of an instruction stay
 unwritten : (l : Linked) → IsLinked l → (p : ℕ) → p + 4 ≤ length l.section
     → ((at : ℕ) → p ≤ at → at < p + 4
-    → IsInNoField l.setting.architecture l.relocations_last l.last (length l.relocations_last / 24) at)
+    → IsInNoField l.context.architecture l.relocations_last l.last (length l.relocations_last / 24) at)
     → instruction_at l.final p ≡ instruction_at l.last p
 unwritten l linked p inside free =
     let fl = linked.written.same_length in
@@ -277,11 +277,11 @@ unwritten l linked p inside free =
 -- The field of a relocation is apart from an instruction.
 abbrev pub IsApart : Linked → ℕ → ℕ → Type 0
 IsApart l i p =
-    (row : RelocationKindInfo) → IsField l.setting.architecture l.relocations_last l.last i row
+    (row : RelocationKindInfo) → IsField l.context.architecture l.relocations_last l.last i row
     → (p + 4 ≤ offset_at l.relocations_last i) ⊎ (field_end l.relocations_last l.last i row ≤ p)
 
 -- no other relocation has one in it
-pub unwritten_but : (l : Linked) → IsLinked l → (i p : ℕ) → IsLeftAlone l i p 4
+pub unwritten_but : (l : Linked) → IsLinked l → (i p : ℕ) → UntouchedBytes l i p 4
     → p + 4 ≤ length l.section → IsApart l i p
     → IsWrittenByNoOther l i p → instruction_at l.final p ≡ instruction_at l.rewritten p
 unwritten_but l linked i p left inside apart alone =
@@ -289,9 +289,9 @@ unwritten_but l linked i p left inside apart alone =
     (λ at from less j row lj field. elim (cases_eq j i) [
       | inl same ↦
           subst (λ k. (at < offset_at l.relocations_last k) ⊎ (field_end l.relocations_last l.last k row ≤ at)) (sym same)
-          (elim (apart row (subst (λ k. IsField l.setting.architecture l.relocations_last l.last k row) same field)) [
+          (elim (apart row (subst (λ k. IsField l.context.architecture l.relocations_last l.last k row) same field)) [
             | inl ahead ↦ inl (omega (arith, ahead, less))
-            | inr behind ↦ inr (omega (arith, behind, from))
+            | inr following ↦ inr (omega (arith, following, from))
           ])
       | inr isnt ↦ alone j at (subst (λ n. j < n / 24) (last_as_many l linked) lj) isnt from less row field
     ])
@@ -302,12 +302,12 @@ of_row other None = other
 of_row other (Some row) = row
 
 module _ (l : Linked) (i : ℕ) (after : Rela) (is_after : relocation_in l.relocations_last i ≡ after)
-    (row : RelocationKindInfo) (only : IsRowOf l.setting.architecture after.code row) where
+    (row : RelocationKindInfo) (only : IsRowOf l.context.architecture after.code row) where
   same_row : (other : RelocationKindInfo)
-      → IsField l.setting.architecture l.relocations_last l.last i other → other ≡ row
+      → IsField l.context.architecture l.relocations_last l.last i other → other ≡ row
   same_row other field =
       ap (of_row other)
-      (only (Some other) (subst (λ (x : Rela). IsRow l.setting.architecture x.code (Some other)) is_after field.is_row))
+      (only (Some other) (subst (λ (x : Rela). IsRow l.context.architecture x.code (Some other)) is_after field.is_row))
 
   -- one without a value has no field
   pub apart_without : row ≡ bytes_row NoValue 0 → (p : ℕ) → IsApart l i p
@@ -326,17 +326,17 @@ module _ (l : Linked) (i : ℕ) (after : Rela) (is_after : relocation_in l.reloc
       ∙ instruction_len n row of (drop (offset_at l.relocations_last i) l.last) in
       elim beside [
         | inl ahead ↦ inl (omega (arith, ahead, offset))
-        | inr behind ↦ inr (omega (arith, behind, offset, len))
+        | inr following ↦ inr (omega (arith, following, offset, len))
       ]
 
 -- an instruction stays that no other relocation writes, where the own one is of no type
 pub unwritten_without : (l : Linked) → IsLinked l → (i : ℕ) → i < count l → (p : ℕ)
-    → IsLeftAlone l i p 4 → IsRowOf l.setting.architecture 0 (bytes_row NoValue 0)
+    → UntouchedBytes l i p 4 → IsRowOf l.context.architecture 0 (bytes_row NoValue 0)
     → (relocation_in l.relocations_after i).code ≡ 0 → p + 4 ≤ length l.section
     → IsWrittenByNoOther l i p → instruction_at l.final p ≡ instruction_at l.rewritten p
 unwritten_without l linked i below p left none gone inside alone =
     let is_last = relocation_left l linked i p 4 left below in
     unwritten_but l linked i p left inside
     (apart_without l i (relocation_in l.relocations_after i) is_last (bytes_row NoValue 0)
-    (subst (λ x. IsRowOf l.setting.architecture x (bytes_row NoValue 0)) (sym gone) none) refl p)
+    (subst (λ x. IsRowOf l.context.architecture x (bytes_row NoValue 0)) (sym gone) none) refl p)
     alone

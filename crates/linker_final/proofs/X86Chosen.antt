@@ -17,42 +17,42 @@ use Rattle.linker_utils.specs.Architectures.{IsArchitectureChoice, relaxation_no
 use Rattle.linker_utils.specs.declared.architecture.Relaxation.{Relaxation}
 use Rattle.linker_utils.specs.declared.architecture.Relaxation.TheVariants as relaxations
 use Rattle.linker_utils.specs.declared.elf.Architecture.TheVariants.{X86_64}
-use Rattle.linker_x86_64.specs.X86Rewrites.{IsAskedFor, IsX86Choice, Original, Table, X86Entry, opcode_at, x86_64_after, x86_64_table}
+use Rattle.linker_x86_64.specs.X86Rewrites.{HasPattern, IsX86Choice, Original, Table, X86Entry, opcode_at, x86_64_after, x86_64_table}
 use Rattle.linker_x86_64.specs.declared.rewrites.RelaxationKind.{RelaxationKind}
 use Rattle.linker_x86_64.specs.declared.rewrites.RelaxationKind.TheVariants as kinds
 
 -- It is that of an entry, for a relocation with an addend.
-pub record IsOfEntry (asked : List Original) (e : X86Entry) (section : List ℕ) (o : ℕ) (addend : ℤ)
+pub record IsOfEntry (pattern : List Original) (e : X86Entry) (section : List ℕ) (o : ℕ) (addend : ℤ)
     (chosen : Choice Relaxation ℕ) : Type 0 where
   pub kind_is : chosen.kind ≡ relaxations.X86_64 e.kind
   pub code_is : chosen.relocation ≡ code_of (x86_64_name e.relocation)
-  pub asked_for : IsAskedFor asked e.kind section o
+  pub has_pattern : HasPattern pattern e.kind section o
   pub facts : LinkFacts
   pub same_addend : facts.operands.addend ≡ addend
   pub hold : AllHold x86_64_row (x86_64_after e.kind o facts.operands) facts e.conditions
 
 -- one of some entries
 abbrev pub IsOfOne : List Original → List X86Entry → List ℕ → ℕ → ℤ → Choice Relaxation ℕ → Type 0
-IsOfOne asked [] section o addend chosen = ⊥
-IsOfOne asked (e ∷ es) section o addend chosen =
-    IsOfEntry asked e section o addend chosen ⊎ IsOfOne asked es section o addend chosen
+IsOfOne pattern [] section o addend chosen = ⊥
+IsOfOne pattern (e ∷ es) section o addend chosen =
+    IsOfEntry pattern e section o addend chosen ⊎ IsOfOne pattern es section o addend chosen
 
 module _ (name : X86_64Relocation) (section : List ℕ) (o : ℕ) (facts : LinkFacts) (addend : ℤ)
     (same_addend : facts.operands.addend ≡ addend)
     (chosen : Choice Relaxation ℕ) (named : Choice RelaxationKind X86_64Relocation)
     (kind_is : chosen.kind ≡ relaxations.X86_64 named.kind)
     (code_is : chosen.relocation ≡ code_of (x86_64_name named.relocation))
-    (changed : named ≡ choice kinds.NoOp name → ⊥) (asked : List Original) where
+    (changed : named ≡ choice kinds.NoOp name → ⊥) (pattern : List Original) where
   by_first : (es : List X86Entry)
-      → IsFirst (Applies (IsAskedFor asked) x86_64_row x86_64_after section o facts) es
+      → IsFirst (Applies (HasPattern pattern) x86_64_row x86_64_after section o facts) es
       (choice kinds.NoOp name) named
-      → IsOfOne asked es section o addend chosen
+      → IsOfOne pattern es section o addend chosen
   by_first [] is = absurd (changed is)
   by_first (e ∷ es) (inl this) =
       inl (record {
         kind_is = kind_is ∙ ap (λ (q : Choice RelaxationKind X86_64Relocation). relaxations.X86_64 q.kind) (this.1);
         code_is = code_is ∙ ap (λ (q : Choice RelaxationKind X86_64Relocation). code_of (x86_64_name q.relocation)) (this.1);
-        asked_for = this.0.0;
+        has_pattern = this.0.0;
         facts = facts;
         same_addend = same_addend;
         hold = this.0.1;
@@ -62,7 +62,7 @@ module _ (name : X86_64Relocation) (section : List ℕ) (o : ℕ) (facts : LinkF
 abbrev pub IsOfTable : Table → List ℕ → ℕ → ℤ → Choice Relaxation ℕ → Type 0
 IsOfTable t section o addend chosen = IsOfOne t.instructions t.entries section o addend chosen
 
-pub of_table : (l : Linked) → IsLinked l → l.setting.architecture ≡ X86_64 → (i : ℕ)
+pub of_table : (l : Linked) → IsLinked l → l.context.architecture ≡ X86_64 → (i : ℕ)
     → (chosen : Choice Relaxation ℕ) → i < count l
     → decision_at l.decisions i ≡ Rewritten chosen
     → (name : X86_64Relocation) → IsNamed (x86_64_name name)
@@ -71,8 +71,8 @@ pub of_table : (l : Linked) → IsLinked l → l.setting.architecture ≡ X86_64
     l.section (relocation_in l.relocations i).offset (relocation_in l.relocations i).addend chosen
 of_table l linked x86 i chosen below decided name named is_name =
     let r = relocation_in l.relocations i in
-    let c = chosen_at l.setting l.kept l.relocations l.section l.decisions (count l) i chosen linked.decided below decided
-    (λ scope is. unlabelled l.setting.phase r.code scope (subst (λ x. IsScopeIn x l.setting.phase r.code scope) x86 is)) in
+    let c = chosen_at l.context l.kept l.relocations l.section l.decisions (count l) i chosen linked.decided below decided
+    (λ scope is. unlabelled l.context.phase r.code scope (subst (λ x. IsScopeIn x l.context.phase r.code scope) x86 is)) in
     let h = subst (λ x. IsArchitectureChoice x r.code l.section r.offset c.facts chosen) x86 c.is_choice in
     let same : h.name ≡ name = h.is_name.named name named is_name.code_is in
     let t = x86_64_table name (opcode_at name l.section r.offset) in

@@ -15,11 +15,11 @@ use Rattle.linker_final.proofs.X86Patterns.{of_or, or_first, or_second, there_in
 use Rattle.linker_final.proofs.X86Rows.{tpoff32}
 use Rattle.linker_final.proofs.X86ThreadEntries.{entry_final}
 use Rattle.linker_final.proofs.X86Windows.{HasRewrite, object_bytes, object_has, object_matches, offset_small, unrelocated}
-use Rattle.linker_final.specs.Final.{AreAlone, IsLinked, Linked, count}
+use Rattle.linker_final.specs.Final.{UntouchedByOthers, IsLinked, Linked, count}
 use Rattle.linker_final.specs.X86ThreadFinal.{CallDoesTheSame, DescriptorAddresses, DescriptorCalls, EntryHolds, LeaDoesTheSame, object_in, reads_entry}
 use Rattle.linker_laws.proofs.X86Fields.{thread_row}
 use Rattle.linker_laws.specs.X86ThreadLaws as laws
-use Rattle.linker_laws.specs.X86ThreadLaws.{AgreeBut, IsDescriptorCall, LeaToEntry, LeaToOffset, WritesNothing, behind_call, reg_after_rex, reg_after_rex2}
+use Rattle.linker_laws.specs.X86ThreadLaws.{AgreeBut, IsDescriptorCall, LeaToEntry, LeaToOffset, WritesNothing, after_call, reg_after_rex, reg_after_rex2}
 use Rattle.linker_laws.specs.X86Machine.{State, step}
 use Rattle.linker_rewriting.specs.Decisions.{decision_at}
 use Rattle.linker_rewriting.specs.declared.decisions.Decision.TheVariants.{Rewritten}
@@ -44,11 +44,11 @@ module _ (n : ℕ) (three : 3 ≤ n) (name : X86_64Relocation) (named : IsNamed 
     (of_entry : (bytes : List ℕ) (o : ℕ) → IsTrue (is_one_at (lea_of_descriptor n) bytes o)
     → IsTrue (is_one_at (x86_64_originals kinds.TlsDescToInitialExec) bytes o))
     (to_offset : LeaToOffset n name register_of) (to_entry : LeaToEntry n name register_of)
-    (l : Linked) (linked : IsLinked l) (x86 : l.setting.architecture ≡ X86_64) (i : ℕ)
+    (l : Linked) (linked : IsLinked l) (x86 : l.context.architecture ≡ X86_64) (i : ℕ)
     (chosen : Choice Relaxation ℕ) (below : i < count l)
     (is_name : IsNameOf x86_64_name (relocation_in l.relocations i).code name)
     (decided : decision_at l.decisions i ≡ Rewritten chosen)
-    (alone : AreAlone l i ((relocation_in l.relocations i).offset - n) (n + 4))
+    (alone : UntouchedByOthers l i ((relocation_in l.relocations i).offset - n) (n + 4))
   where
     abbrev r : Rela
     r = relocation_in l.relocations i
@@ -82,8 +82,8 @@ module _ (n : ℕ) (three : 3 ≤ n) (name : X86_64Relocation) (named : IsNamed 
         λ symbol is_symbol entry s t c original addresses ip agree holds was.
         let kind = kinds.TlsDescToLocalExec n in
         let window = own_window n 4 (x86_64_rewrite kind) (rex_mov n) refl (λ window. refl) three (omega arith) in
-        let has = has_rewrite kind this.kind_is window (this.asked_for.0) (this.asked_for.1) in
-        let there = object_has l i n 4 kind has (lea_of_descriptor n) (shaped_of n 4 (lea_of_descriptor n) shape) (this.asked_for.0) in
+        let has = has_rewrite kind this.kind_is window (this.has_pattern.0) (this.has_pattern.1) in
+        let there = object_has l i n 4 kind has (lea_of_descriptor n) (shaped_of n 4 (lea_of_descriptor n) shape) (this.has_pattern.0) in
         let operands = operands_with X86_64 l.addresses thread_row symbol r entry in
         to_offset object original l.final o operands s t c
         (record {
@@ -100,8 +100,8 @@ module _ (n : ℕ) (three : 3 ≤ n) (name : X86_64Relocation) (named : IsNamed 
         λ symbol is_symbol entry s t c original addresses ip agree holds was.
         let kind = kinds.TlsDescToInitialExec in
         let window = own_window n 4 (x86_64_rewrite kind) (replaces 2 1 _) refl (λ window. refl) (omega (arith, three)) (omega arith) in
-        let has = has_rewrite kind this.kind_is window (this.asked_for.0) (this.asked_for.1) in
-        let there = object_has l i n 4 kind has (lea_of_descriptor n) (shaped_of n 4 (lea_of_descriptor n) shape) (this.asked_for.0) in
+        let has = has_rewrite kind this.kind_is window (this.has_pattern.0) (this.has_pattern.1) in
+        let there = object_has l i n 4 kind has (lea_of_descriptor n) (shaped_of n 4 (lea_of_descriptor n) shape) (this.has_pattern.0) in
         let operands = operands_with X86_64 l.addresses thread_row symbol r entry in
         let held : EntryHolds true symbol operands t =
         subst (λ b. EntryHolds b symbol operands t) (ap reads_entry this.kind_is) holds in
@@ -144,9 +144,9 @@ addresses law = (
 -- ---- the call
 
 module _ (law : laws.CallOfDescriptor) (l : Linked) (linked : IsLinked l)
-    (x86 : l.setting.architecture ≡ X86_64) (i : ℕ) (chosen : Choice Relaxation ℕ) (below : i < count l)
+    (x86 : l.context.architecture ≡ X86_64) (i : ℕ) (chosen : Choice Relaxation ℕ) (below : i < count l)
     (decided : decision_at l.decisions i ≡ Rewritten chosen)
-    (alone : AreAlone l i (relocation_in l.relocations i).offset 2)
+    (alone : UntouchedByOthers l i (relocation_in l.relocations i).offset 2)
   where
     abbrev at : ℕ
     at = (relocation_in l.relocations i).offset
@@ -166,16 +166,16 @@ module _ (law : laws.CallOfDescriptor) (l : Linked) (linked : IsLinked l)
           decided = decided;
           kind_is = this.kind_is;
           window = own_window 0 2 (x86_64_rewrite skip) (replaces 0 2 _) refl (λ window. refl) (omega arith) (omega arith);
-          matches = this.asked_for.1;
-          room = there_inside 0 2 (omega arith) (x86_64_originals skip) l.section at ((refl, refl), tt) (this.asked_for.1.1);
-          alone = subst (λ start. AreAlone l i start 2) (let e : at ≡ at - 0 = omega arith in e) alone;
+          matches = this.has_pattern.1;
+          room = there_inside 0 2 (omega arith) (x86_64_originals skip) l.section at ((refl, refl), tt) (this.has_pattern.1.1);
+          alone = subst (λ start. UntouchedByOthers l i start 2) (let e : at ≡ at - 0 = omega arith in e) alone;
         } in
         subst (λ xs. IsSomeAnd (step (drop at xs) t) (λ v. WritesNothing t v
-        × ((u : State) → IsDescriptorCall 2 changed returned s u → u.fs ≡ s.fs → AgreeBut (behind_call changed s c) u v)))
+        × ((u : State) → IsDescriptorCall 2 changed returned s u → u.fs ≡ s.fs → AgreeBut (after_call changed s c) u v)))
         (unrelocated l i 0 2 skip has this.code_is)
         (law operands s t c changed returned (object_in l at 0 2) at
         (object_matches l i 0 2 skip has
-        (object_has l i 0 2 skip has (x86_64_originals skip) (shaped_of 0 2 (x86_64_originals skip) ((refl, refl), tt)) (this.asked_for.1.1)))
+        (object_has l i 0 2 skip has (x86_64_originals skip) (shaped_of 0 2 (x86_64_originals skip) ((refl, refl), tt)) (this.has_pattern.1.1)))
         descriptor agree returns)
     by_call (inr nothing) = absurd nothing
 

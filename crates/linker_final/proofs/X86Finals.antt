@@ -18,7 +18,7 @@ use Rattle.linker_final.proofs.X86Names.{got_name}
 use Rattle.linker_final.proofs.X86Patterns.{there_inside}
 use Rattle.linker_final.proofs.X86Rows.{IsAfterRow}
 use Rattle.linker_final.proofs.X86Windows.{HasRewrite, object_bytes, object_has, object_matches, offset_small, of_row, rela, relocated_after}
-use Rattle.linker_final.specs.Final.{Linked, IsLinked, AreAlone, count, put_back}
+use Rattle.linker_final.specs.Final.{Linked, IsLinked, UntouchedByOthers, count, put_back}
 use Rattle.linker_final.specs.X86Final.{GotOperand, got_operand, DoesTheSame, GotOperands}
 use Rattle.linker_laws.specs.X86RewriteLaws.{IsRelocated, IsBefore, Laws}
 use Rattle.linker_rewriting.specs.Decisions.{decision_at}
@@ -125,10 +125,10 @@ final_is l i back end kind is after a before_is code_is low high symbol is_symbo
 
 module _ (laws : Laws) (name : X86_64Relocation) (operand : GotOperand)
     (wanted : got_operand name ≡ Some operand) (l : Linked) (linked : IsLinked l)
-    (x86 : l.setting.architecture ≡ X86_64) (i : ℕ) (chosen : Choice Relaxation ℕ)
+    (x86 : l.context.architecture ≡ X86_64) (i : ℕ) (chosen : Choice Relaxation ℕ)
     (below : i < count l) (decided : decision_at l.decisions i ≡ Rewritten chosen)
     (is_name : IsNameOf x86_64_name (relocation_in l.relocations i).code name)
-    (alone : AreAlone l i ((relocation_in l.relocations i).offset - operand.back) (operand.back + 4))
+    (alone : UntouchedByOthers l i ((relocation_in l.relocations i).offset - operand.back) (operand.back + 4))
   where
     abbrev r : Rela
     r = relocation_in l.relocations i

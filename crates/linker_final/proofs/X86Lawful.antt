@@ -18,7 +18,7 @@ use Rattle.linker_utils.specs.declared.architecture.Relaxation.{Relaxation}
 use Rattle.linker_utils.specs.declared.architecture.Relaxation.TheVariants as relaxations
 use Rattle.linker_x86_64.specs.X86RelocationsAfter.{x86_64_relocation_after, immediate_of}
 use Rattle.linker_x86_64.specs.X86Rewrites as x86
-use Rattle.linker_x86_64.specs.X86Rewrites.{Original, is_one_at, legacy, x86_64_matches, opcode_at, x86_64_originals, x86_64_rewrite, x86_64_after, x86_64_table, IsAskedFor, X86Entry, Table}
+use Rattle.linker_x86_64.specs.X86Rewrites.{Original, is_one_at, legacy, x86_64_matches, opcode_at, x86_64_originals, x86_64_rewrite, x86_64_after, x86_64_table, HasPattern, X86Entry, Table}
 use Rattle.linker_x86_64.specs.declared.rewrites.RelaxationKind.{RelaxationKind}
 use Rattle.linker_x86_64.specs.declared.rewrites.RelaxationKind.TheVariants as kinds
 
@@ -59,22 +59,22 @@ pub record HasLaw (n : ℕ) (name : X86_64Relocation) (held : Operands → ℕ) 
   pub within : IsWithin n (x86_64_rewrite chosen.kind)
   pub row : IsAfterRow chosen.relocation
 
--- a rewrite that is asked for at some instructions has a law
-pub record Serves (n : ℕ) (name : X86_64Relocation) (held : Operands → ℕ) (asked : List Original)
+-- a rewrite that is pattern for at some instructions has a law
+pub record Serves (n : ℕ) (name : X86_64Relocation) (held : Operands → ℕ) (pattern : List Original)
     (e : X86Entry) : Type 0 where
-  pub serve : (section : List ℕ) (o : ℕ) → IsAskedFor asked e.kind section o
+  pub serve : (section : List ℕ) (o : ℕ) → HasPattern pattern e.kind section o
       → HasLaw n name held section o (choice e.kind e.relocation)
 
--- by a law of the instructions that are asked for
-pub by_asked : (n : ℕ) (name : X86_64Relocation) (held : Operands → ℕ) (asked : List Original)
-    (e : X86Entry) → AreOf n 4 asked → HaveShape n 4 (x86_64_originals e.kind)
+-- by a law of the instructions that are pattern for
+pub by_pattern : (n : ℕ) (name : X86_64Relocation) (held : Operands → ℕ) (pattern : List Original)
+    (e : X86Entry) → AreOf n 4 pattern → HaveShape n 4 (x86_64_originals e.kind)
     → x86_64_relocation_after e.kind name ≡ Some e.relocation
     → IsWithin n (x86_64_rewrite e.kind) → IsAfterRow e.relocation
-    → DoesTheSame n asked name e.kind held → Serves n name held asked e
-by_asked n name held asked e shaped shaped_too after within row law =
+    → DoesTheSame n pattern name e.kind held → Serves n name held pattern e
+by_pattern n name held pattern e shaped shaped_too after within row law =
     record {
       serve = λ section o is. record {
-        instructions = asked;
+        instructions = pattern;
         are_of = shaped;
         there = is.0;
         matches = is.1;
@@ -87,12 +87,12 @@ by_asked n name held asked e shaped shaped_too after within row law =
     }
 
 -- by a law of those that the rewrite is for
-pub by_originals : (n : ℕ) (name : X86_64Relocation) (held : Operands → ℕ) (asked : List Original)
+pub by_originals : (n : ℕ) (name : X86_64Relocation) (held : Operands → ℕ) (pattern : List Original)
     (e : X86Entry) → AreOf n 4 (x86_64_originals e.kind)
     → x86_64_relocation_after e.kind name ≡ Some e.relocation
     → IsWithin n (x86_64_rewrite e.kind) → IsAfterRow e.relocation
-    → DoesTheSame n (x86_64_originals e.kind) name e.kind held → Serves n name held asked e
-by_originals n name held asked e shaped after within row law =
+    → DoesTheSame n (x86_64_originals e.kind) name e.kind held → Serves n name held pattern e
+by_originals n name held pattern e shaped after within row law =
     record {
       serve = λ section o is. record {
         instructions = x86_64_originals e.kind;
@@ -107,19 +107,19 @@ by_originals n name held asked e shaped after within row law =
       };
     }
 
--- a rewrite that is for no instruction is never asked for
-pub by_none : (n : ℕ) (name : X86_64Relocation) (held : Operands → ℕ) (asked : List Original)
-    (e : X86Entry) → x86_64_originals e.kind ≡ [] → Serves n name held asked e
-by_none n name held asked e none = record {
+-- a rewrite that is for no instruction is never pattern for
+pub by_none : (n : ℕ) (name : X86_64Relocation) (held : Operands → ℕ) (pattern : List Original)
+    (e : X86Entry) → x86_64_originals e.kind ≡ [] → Serves n name held pattern e
+by_none n name held pattern e none = record {
   serve = λ section o is.
       absurd (let h : IsTrue (is_one_at [] section o) = subst (λ rs. IsTrue (is_one_at rs section o)) none (is.1.1) in
       let b : false ≡ true = h in cc);
 }
 
 -- nor is one at no instruction
-pub by_unasked : (n : ℕ) (name : X86_64Relocation) (held : Operands → ℕ) (e : X86Entry)
+pub by_no_pattern : (n : ℕ) (name : X86_64Relocation) (held : Operands → ℕ) (e : X86Entry)
     → Serves n name held [] e
-by_unasked n name held e =
+by_no_pattern n name held e =
     record { serve = λ section o is. absurd (let b : false ≡ true = is.0 in cc) }
 
 -- ---- a choice by a table
@@ -131,9 +131,9 @@ AsksForAddend e =
     → facts.operands.addend ≡ neg_ℤ (pos 4)
 
 abbrev pub AllServe : ℕ → X86_64Relocation → (Operands → ℕ) → List Original → List X86Entry → Type 0
-AllServe n name held asked [] = ⊤
-AllServe n name held asked (e ∷ es) =
-    Serves n name held asked e × AsksForAddend e × AllServe n name held asked es
+AllServe n name held pattern [] = ⊤
+AllServe n name held pattern (e ∷ es) =
+    Serves n name held pattern e × AsksForAddend e × AllServe n name held pattern es
 
 -- a choice, by names
 pub record IsServed (n : ℕ) (name : X86_64Relocation) (held : Operands → ℕ) (section : List ℕ)
@@ -144,21 +144,21 @@ pub record IsServed (n : ℕ) (name : X86_64Relocation) (held : Operands → ℕ
   pub code_is : chosen.relocation ≡ code_of (x86_64_name named.relocation)
   pub is_from_end : addend ≡ neg_ℤ (pos 4)
 
-by_entries : (n : ℕ) (name : X86_64Relocation) (held : Operands → ℕ) (asked : List Original)
+by_entries : (n : ℕ) (name : X86_64Relocation) (held : Operands → ℕ) (pattern : List Original)
     (es : List X86Entry) (section : List ℕ) (o : ℕ) (addend : ℤ) (chosen : Choice Relaxation ℕ)
-    → AllServe n name held asked es → IsOfOne asked es section o addend chosen
+    → AllServe n name held pattern es → IsOfOne pattern es section o addend chosen
     → IsServed n name held section o addend chosen
-by_entries n name held asked [] section o addend chosen serve nothing = absurd nothing
-by_entries n name held asked (e ∷ es) section o addend chosen serve (inl this) =
+by_entries n name held pattern [] section o addend chosen serve nothing = absurd nothing
+by_entries n name held pattern (e ∷ es) section o addend chosen serve (inl this) =
     record {
       named = choice e.kind e.relocation;
-      has_law = serve.0.serve section o this.asked_for;
+      has_law = serve.0.serve section o this.has_pattern;
       kind_is = this.kind_is;
       code_is = this.code_is;
       is_from_end = sym this.same_addend ∙ serve.1 this.facts (x86_64_after e.kind o this.facts.operands) this.hold;
     }
-by_entries n name held asked (e ∷ es) section o addend chosen serve (inr other) =
-    by_entries n name held asked es section o addend chosen (serve.2) other
+by_entries n name held pattern (e ∷ es) section o addend chosen serve (inr other) =
+    by_entries n name held pattern es section o addend chosen (serve.2) other
 
 pub record TableServes (n : ℕ) (name : X86_64Relocation) (held : Operands → ℕ) (t : Table) : Type 0
   where
@@ -206,7 +206,7 @@ module _ (n : ℕ) (name : X86_64Relocation) where
       → TableServes n name address (x86.mov_table n)
   movs shaped shaped_too after inside row law long distance lea_law =
       record {
-        serves = (by_asked n name address _ _ shaped shaped_too after inside row law, (λ facts after h. h.1.1.0), (by_asked n name address _ _ shaped shaped_too after inside row law, (λ facts after h. h.1.1.0), (by_asked n name address _ _ shaped ((long, omega arith), tt) distance (lea n long) pc32 lea_law, (λ facts after h. h.1.1.0), tt)));
+        serves = (by_pattern n name address _ _ shaped shaped_too after inside row law, (λ facts after h. h.1.1.0), (by_pattern n name address _ _ shaped shaped_too after inside row law, (λ facts after h. h.1.1.0), (by_pattern n name address _ _ shaped ((long, omega arith), tt) distance (lea n long) pc32 lea_law, (λ facts after h. h.1.1.0), tt)));
       }
 
   -- an offset from the thread pointer
@@ -292,7 +292,7 @@ module _ (laws : Laws) where
   got_6 : (opcode : ℕ) → TableServes 6 names.R_X86_64_CODE_6_GOTPCRELX address (x86.got_table 6 opcode)
   got_6 opcode =
       got 6 names.R_X86_64_CODE_6_GOTPCRELX opcode
-      (record { serves = (by_unasked 6 names.R_X86_64_CODE_6_GOTPCRELX address _, (λ facts after h. h.1.1.0), (by_unasked 6 names.R_X86_64_CODE_6_GOTPCRELX address _, (λ facts after h. h.1.1.0), (by_unasked 6 names.R_X86_64_CODE_6_GOTPCRELX address _, (λ facts after h. h.1.1.0), tt))) })
+      (record { serves = (by_no_pattern 6 names.R_X86_64_CODE_6_GOTPCRELX address _, (λ facts after h. h.1.1.0), (by_no_pattern 6 names.R_X86_64_CODE_6_GOTPCRELX address _, (λ facts after h. h.1.1.0), (by_no_pattern 6 names.R_X86_64_CODE_6_GOTPCRELX address _, (λ facts after h. h.1.1.0), tt))) })
       (operation 6 names.R_X86_64_CODE_6_GOTPCRELX (kinds.RexAddIndirectToAbsolute 6) ((omega arith, omega arith), ((omega arith, omega arith), tt)) refl (within 6 5 5 _ _ (x86_64_rewrite (kinds.RexAddIndirectToAbsolute 6)) refl (omega arith) (omega arith)) signed32 laws.operations.9.0)
       (no_operation 6 names.R_X86_64_CODE_6_GOTPCRELX (kinds.RexSubIndirectToAbsolute 6) refl)
       (no_operation 6 names.R_X86_64_CODE_6_GOTPCRELX (kinds.RexCmpIndirectToAbsolute 6) refl)
@@ -308,7 +308,7 @@ module _ (laws : Laws) where
       either 3 names.R_X86_64_GOTPCREL address (eqb opcode 0x8b) _ _
       (record {
         serves = (
-          by_asked 3 names.R_X86_64_GOTPCREL address _ _ ((omega arith, omega arith), tt)
+          by_pattern 3 names.R_X86_64_GOTPCREL address _ _ ((omega arith, omega arith), tt)
               ((omega arith, omega arith), tt) refl (lea 3 (omega arith)) pc32 laws.loads.1,
           (λ facts after h. h.1.1.0),
           tt,

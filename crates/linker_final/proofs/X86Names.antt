@@ -6,7 +6,7 @@ use Rattle.linker_elf.specs.declared.x86_64.relocations.X86_64Relocation.{X86_64
 use Rattle.linker_elf.specs.declared.x86_64.relocations.X86_64Relocation.TheVariants as names
 use Rattle.linker_final.specs.X86Final.{GotOperand, got_operand}
 use Rattle.linker_rewriting.specs.Groups.{IsScopeIn, x86_64_scope_in}
-use Rattle.linker_rewriting.specs.Labels.{is_labelled}
+use Rattle.linker_rewriting.specs.RiscVPcrelGroups.{is_labelled}
 use Rattle.linker_rewriting.specs.declared.groups.Scope.{Scope}
 use Rattle.linker_rewriting.specs.declared.groups.Scope.TheVariants.{Labelled}
 use Rattle.linker_rewriting.specs.declared.phases.Phase.{Phase}
@@ -33,7 +33,7 @@ got_name name operand is = absurd (let e : None ≡ Some operand = is in cc)
 
 -- ---- scopes
 
-early_unlabelled : (name : X86_64Relocation) → is_labelled (x86_64_scope_in phases.Early name) ≡ false
+early_unlabelled : (name : X86_64Relocation) → is_labelled (x86_64_scope_in phases.PreLayout name) ≡ false
 early_unlabelled names.R_X86_64_GOTPCREL = refl
 early_unlabelled names.R_X86_64_GOTPCRELX = refl
 early_unlabelled names.R_X86_64_REX_GOTPCRELX = refl
@@ -57,10 +57,10 @@ early_unlabelled name = refl
 
 unlabelled_in : (phase : Phase) (name : X86_64Relocation)
     → is_labelled (x86_64_scope_in phase name) ≡ false
-unlabelled_in phases.Early name = early_unlabelled name
-unlabelled_in phases.ThreadOffsets name = refl
-unlabelled_in phases.GotLoads name = refl
-unlabelled_in phases.Distances name = refl
+unlabelled_in phases.PreLayout name = early_unlabelled name
+unlabelled_in phases.TlsLocalExec name = refl
+unlabelled_in phases.GotToPcRel name = refl
+unlabelled_in phases.ShortPcRel name = refl
 
 -- x86-64 has no labels
 pub unlabelled : (phase : Phase) (code : ℕ) (scope : Scope) → IsScopeIn X86_64 phase code scope

@@ -17,7 +17,7 @@ use Rattle.linker_final.proofs.X86Patterns.{there_inside}
 use Rattle.linker_final.proofs.X86Rows.{tpoff32}
 use Rattle.linker_final.proofs.X86ThreadEntries.{entry_final}
 use Rattle.linker_final.proofs.X86Windows.{HasRewrite, no_field, object_bytes, object_has, object_matches, offset_small, unrelocated}
-use Rattle.linker_final.specs.Final.{AreAlone, HasNoByte, IsLeftAlone, IsLinked, Linked, count}
+use Rattle.linker_final.specs.Final.{UntouchedByOthers, HasNoByte, UntouchedBytes, IsLinked, Linked, count}
 use Rattle.linker_final.specs.X86ThreadFinal.{AddressIsTheSame, AreAloneWithNext, BlockIsReplaced, EntryHolds, GeneralDynamic, LocalDynamic, general_dynamic, local_dynamic, object_in, reads_entry}
 use Rattle.linker_laws.proofs.X86Fields.{thread_row, tls_module_row}
 use Rattle.linker_laws.specs.Schemes.{AreAddresses}
@@ -27,7 +27,7 @@ use Rattle.linker_laws.specs.X86ThreadLaws as laws
 use Rattle.linker_laws.specs.X86ThreadLaws.{EndAlike, ReachTheSame, ReplacesCall, ReplacesModuleCall}
 use Rattle.linker_rewriting.specs.Decisions.{IsDecidedAfter, decision_at, start_by, takes_next, written_end_by}
 use Rattle.linker_rewriting.specs.Rewritten.{relocation_after}
-use Rattle.linker_rewriting.specs.declared.decisions.Decision.TheVariants.{Rewritten, TakenAlong}
+use Rattle.linker_rewriting.specs.declared.decisions.Decision.TheVariants.{Rewritten, Consumed}
 use Rattle.linker_section.specs.Relocations.{relocation_in}
 use Rattle.linker_section.specs.Values.{is_of_got, operands_with}
 use Rattle.linker_section.specs.declared.facts.Symbol.{Symbol}
@@ -36,22 +36,22 @@ use Rattle.linker_utils.specs.Architectures.{relaxation_skipped}
 use Rattle.linker_utils.specs.declared.architecture.Relaxation.{Relaxation}
 use Rattle.linker_utils.specs.declared.architecture.Relaxation.TheVariants as relaxations
 use Rattle.linker_utils.specs.declared.elf.Architecture.TheVariants.{X86_64}
-use Rattle.linker_x86_64.specs.X86Rewrites.{IsAskedFor, Original, general_dynamic_table, local_dynamic_table, original, puts, x86_64_matches, x86_64_originals, x86_64_rewrite, x86_64_skipped}
+use Rattle.linker_x86_64.specs.X86Rewrites.{HasPattern, Original, general_dynamic_table, local_dynamic_table, original, puts, x86_64_matches, x86_64_originals, x86_64_rewrite, x86_64_skipped}
 use Rattle.linker_x86_64.specs.declared.rewrites.RelaxationKind.{RelaxationKind}
 use Rattle.linker_x86_64.specs.declared.rewrites.RelaxationKind.TheVariants as kinds
 
 -- ---- the call's relocation
 
 -- a relocation that is taken along has no byte
-module _ (l : Linked) (linked : IsLinked l) (x86 : l.setting.architecture ≡ X86_64) (i : ℕ)
+module _ (l : Linked) (linked : IsLinked l) (x86 : l.context.architecture ≡ X86_64) (i : ℕ)
     (chosen : Choice Relaxation ℕ) (decided : decision_at l.decisions i ≡ Rewritten chosen)
     (takes : is_some (relaxation_skipped chosen.kind) ≡ true) where
-  taken : suc i < count l → decision_at l.decisions (suc i) ≡ TakenAlong
+  taken : suc i < count l → decision_at l.decisions (suc i) ≡ Consumed
   taken below =
-      subst (λ b. IsDecidedAfter l.setting l.kept l.relocations l.section (suc i) b (decision_at l.decisions (suc i)))
+      subst (λ b. IsDecidedAfter l.context l.kept l.relocations l.section (suc i) b (decision_at l.decisions (suc i)))
       (ap takes_next decided ∙ takes) (linked.decided (suc i) below)
 
-  next_has_none : (start len : ℕ) → IsLeftAlone l (suc i) start len → (at : ℕ) → suc i < count l
+  next_has_none : (start len : ℕ) → UntouchedBytes l (suc i) start len → (at : ℕ) → suc i < count l
       → HasNoByte l (suc i) at
   next_has_none start len left at below =
       let o = (relocation_in l.relocations (suc i)).offset in
@@ -63,15 +63,15 @@ module _ (l : Linked) (linked : IsLinked l) (x86 : l.setting.architecture ≡ X8
         subst (λ d. (at < start_by d o) ⊎ (written_end_by d o ≤ at)) (sym is)
             (elim (cases_lt at o) [
               | inl ahead ↦ inl (let e : at < o - 0 = omega (arith, ahead) in e)
-              | inr behind ↦ inr (let e : o - 0 + 0 ≤ at = omega (arith, behind) in e)
+              | inr following ↦ inr (let e : o - 0 + 0 ≤ at = omega (arith, following) in e)
             ]),
         λ row field. absurd (no_field l x86 (suc i) code row field),
       )
 
-  pub alone_with_next : (start len : ℕ) → AreAloneWithNext l i start len → AreAlone l i start len
+  pub alone_with_next : (start len : ℕ) → AreAloneWithNext l i start len → UntouchedByOthers l i start len
   alone_with_next start len alone =
       let next : i + 1 ≡ suc i = omega arith in
-      let left : IsLeftAlone l (suc i) start len = subst (λ k. IsLeftAlone l k start len) next alone.next_left in
+      let left : UntouchedBytes l (suc i) start len = subst (λ k. UntouchedBytes l k start len) next alone.next_left in
       record {
         others = λ j at below isnt from less.
             elim (cases_eq j (suc i)) [
@@ -88,14 +88,14 @@ module _ (l : Linked) (linked : IsLinked l) (x86 : l.setting.architecture ≡ X8
 abbrev any : List Original
 any = original 0 [] ∷ []
 
-module _ (l : Linked) (linked : IsLinked l) (x86 : l.setting.architecture ≡ X86_64) (i : ℕ)
+module _ (l : Linked) (linked : IsLinked l) (x86 : l.context.architecture ≡ X86_64) (i : ℕ)
     (chosen : Choice Relaxation ℕ) (below : i < count l)
     (decided : decision_at l.decisions i ≡ Rewritten chosen)
     (kind : RelaxationKind) (kind_is : chosen.kind ≡ relaxations.X86_64 kind)
     (back call : ℕ) (window : HasWindow back (4 + call) (x86_64_rewrite kind))
     (shape : AreOf back (4 + call) (x86_64_originals kind))
     (skips : is_some (x86_64_skipped kind) ≡ true)
-    (asked : IsAskedFor any kind l.section (relocation_in l.relocations i).offset)
+    (pattern : HasPattern any kind l.section (relocation_in l.relocations i).offset)
     (alone : AreAloneWithNext l i ((relocation_in l.relocations i).offset - back)
     (back + (4 + call))) where
   abbrev r : Rela
@@ -114,8 +114,8 @@ module _ (l : Linked) (linked : IsLinked l) (x86 : l.setting.architecture ≡ X8
         decided = decided;
         kind_is = kind_is;
         window = window;
-        matches = asked.1;
-        room = there_inside back (4 + call) (omega arith) (x86_64_originals kind) l.section o shape (asked.1.1);
+        matches = pattern.1;
+        room = there_inside back (4 + call) (omega arith) (x86_64_originals kind) l.section o shape (pattern.1.1);
         alone = alone_with_next l linked x86 i chosen decided (ap (λ k. is_some (relaxation_skipped k)) kind_is ∙ skips)
             (o - back) (back + (4 + call)) alone;
       }
@@ -127,7 +127,7 @@ module _ (l : Linked) (linked : IsLinked l) (x86 : l.setting.architecture ≡ X8
   matches =
       object_matches l i back (4 + call) kind has
       (object_has l i back (4 + call) kind has (x86_64_originals kind)
-      (shaped_of back (4 + call) (x86_64_originals kind) shape) (asked.1.1))
+      (shaped_of back (4 + call) (x86_64_originals kind) shape) (pattern.1.1))
 
   before : (row : RelocationKindInfo) (symbol : Symbol) (entry : ℕ) (s : State)
       → let operands = operands_with X86_64 l.addresses row symbol r entry in
@@ -201,19 +201,19 @@ general_dynamic_too law l linked x86 i chosen below is_name decided =
         subst (Variable l i chosen) (sym this.kind_is) (λ alone.
         to_local l linked x86 i chosen below decided kinds.TlsGdToLocalExec this.kind_is 4 8
         (own_window 4 12 (x86_64_rewrite kinds.TlsGdToLocalExec) (puts 4 12 _ _ _) refl (λ window. refl) (omega arith) (omega arith))
-        ((refl, refl), ((refl, refl), tt)) refl this.asked_for alone 2 is_name
+        ((refl, refl), ((refl, refl), tt)) refl this.has_pattern alone 2 is_name
         (sym this.same_addend ∙ this.hold.1.1.1.0) (omega arith) (omega arith) (law.0) this.code_is)
     by_entry (inr (inl this)) =
         subst (Variable l i chosen) (sym this.kind_is) (λ alone.
         to_local l linked x86 i chosen below decided kinds.TlsGdToLocalExecLarge this.kind_is 3 15
         (own_window 3 19 (x86_64_rewrite kinds.TlsGdToLocalExecLarge) (puts 3 22 _ _ _) refl (λ window. refl) (omega arith) (omega arith))
-        ((refl, refl), ((refl, refl), tt)) refl this.asked_for alone 3 is_name
+        ((refl, refl), ((refl, refl), tt)) refl this.has_pattern alone 3 is_name
         (sym this.same_addend ∙ this.hold.1.1.1.0) (omega arith) (omega arith) (law.2) this.code_is)
     by_entry (inr (inr (inl this))) =
         subst (Variable l i chosen) (sym this.kind_is) (λ alone.
         to_initial l linked x86 i chosen below decided kinds.TlsGdToInitialExec this.kind_is 4 8
         (own_window 4 12 (x86_64_rewrite kinds.TlsGdToInitialExec) (puts 4 12 _ _ _) refl (λ window. refl) (omega arith) (omega arith))
-        ((refl, refl), ((refl, refl), tt)) refl this.asked_for alone 2 is_name
+        ((refl, refl), ((refl, refl), tt)) refl this.has_pattern alone 2 is_name
         (sym this.same_addend ∙ this.hold.1.1.0) (omega arith) (omega arith) (law.1) refl this.code_is)
     by_entry (inr (inr (inr nothing))) = absurd nothing
 
@@ -235,18 +235,18 @@ local_dynamic_too law l linked x86 i chosen below is_name decided =
         subst (Module l i) (sym this.kind_is) (λ alone.
         block l linked x86 i chosen below decided kinds.TlsLdToLocalExec this.kind_is 3 5
         (own_window 3 9 (x86_64_rewrite kinds.TlsLdToLocalExec) (puts 3 12 _ _ _) refl (λ window. refl) (omega arith) (omega arith))
-        ((refl, refl), tt) refl this.asked_for alone 1 (law.0) refl this.code_is
+        ((refl, refl), tt) refl this.has_pattern alone 1 (law.0) refl this.code_is
         (sym this.same_addend ∙ this.hold.1.1.0))
     by_entry (inr (inl this)) =
         subst (Module l i) (sym this.kind_is) (λ alone.
         block l linked x86 i chosen below decided kinds.TlsLdToLocalExecNoPlt this.kind_is 3 6
         (own_window 3 10 (x86_64_rewrite kinds.TlsLdToLocalExecNoPlt) (puts 3 13 _ _ _) refl (λ window. refl) (omega arith) (omega arith))
-        ((refl, refl), tt) refl this.asked_for alone 1 (law.1) refl this.code_is
+        ((refl, refl), tt) refl this.has_pattern alone 1 (law.1) refl this.code_is
         (sym this.same_addend ∙ this.hold.1.1.0))
     by_entry (inr (inr (inl this))) =
         subst (Module l i) (sym this.kind_is) (λ alone.
         block l linked x86 i chosen below decided kinds.TlsLdToLocalExec64 this.kind_is 3 15
         (own_window 3 19 (x86_64_rewrite kinds.TlsLdToLocalExec64) (puts 3 22 _ _ _) refl (λ window. refl) (omega arith) (omega arith))
-        ((refl, refl), ((refl, refl), tt)) refl this.asked_for alone 2 (law.2) refl this.code_is
+        ((refl, refl), ((refl, refl), tt)) refl this.has_pattern alone 2 (law.2) refl this.code_is
         (sym this.same_addend ∙ this.hold.1.1.0))
     by_entry (inr (inr (inr nothing))) = absurd nothing

@@ -61,7 +61,7 @@ module _ (l : Linked) (i back end : ℕ) (kind : RelaxationKind) (is : HasRewrit
               let after = r_after l i back end kind is in
               let written = is.linked.written.can in
               absurd
-              (are_there l.setting.architecture l.addresses l.relocations_last l.symbols
+              (are_there l.context.architecture l.addresses l.relocations_last l.symbols
               (relocation_in l.relocations_last i) tls_got_row
               (row_after l is.linked is.x86 i is.below names.R_X86_64_GOTTPOFF tt tls_got_row refl
               (ap (λ (x : Rela). x.code) after ∙ code_is)) refl refl (written.found i)

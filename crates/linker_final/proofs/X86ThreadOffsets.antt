@@ -15,7 +15,7 @@ use Rattle.linker_elf.specs.declared.elf.choice.Choice.{Choice}
 use Rattle.linker_elf.specs.declared.elf.value.Operands.{Operands}
 use Rattle.linker_elf.specs.declared.x86_64.relocations.X86_64Relocation.{X86_64Relocation}
 use Rattle.linker_elf.specs.declared.x86_64.relocations.X86_64Relocation.TheVariants as names
-use Rattle.linker_final.proofs.Fields.{AreLowest, IsLeft, eight_bytes, four_bytes, left, len_is}
+use Rattle.linker_final.proofs.Fields.{AreLowest, UntouchedField, eight_bytes, four_bytes, left, len_is}
 use Rattle.linker_final.proofs.Phases.{last_length, last_within, relocation_left}
 use Rattle.linker_final.proofs.PlainRows.{IsPlain}
 use Rattle.linker_final.proofs.PutBack.{back_outside, put_back_is}
@@ -24,7 +24,7 @@ use Rattle.linker_final.proofs.X86Finals.{some_and}
 use Rattle.linker_final.proofs.X86Rows.{tpoff32}
 use Rattle.linker_final.proofs.X86ThreadRows.{plain_long_thread}
 use Rattle.linker_final.proofs.X86Windows.{rela, relocated, row_after, small_byte}
-use Rattle.linker_final.specs.Final.{IsLeftAlone, IsLinked, Linked, count}
+use Rattle.linker_final.specs.Final.{UntouchedBytes, IsLinked, Linked, count}
 use Rattle.linker_final.specs.X86ThreadFinal.{LeadsToTheSame, Offsets, object_in}
 use Rattle.linker_laws.proofs.X86Fields.{block_field, block_row, long_block_field, long_block_row, long_thread_field, long_thread_row, thread_field, thread_row}
 use Rattle.linker_laws.specs.Schemes.{AreAddresses, symbol_address}
@@ -179,11 +179,11 @@ module _ (n : ℕ) (read : ℕ → ℕ) (block_row thread_row : RelocationKindIn
     (name_is : is_of_got X86_64 (code_of (x86_64_name name)) ≡ false)
     (after_is : is_of_got X86_64 (code_of (x86_64_name after)) ≡ false)
     (named : IsNamed (x86_64_name after))
-    (l : Linked) (linked : IsLinked l) (x86 : l.setting.architecture ≡ X86_64) (i : ℕ)
+    (l : Linked) (linked : IsLinked l) (x86 : l.context.architecture ≡ X86_64) (i : ℕ)
     (chosen : Choice Relaxation ℕ) (below : i < count l)
     (is_name : IsNameOf x86_64_name (relocation_in l.relocations i).code name)
     (decided : decision_at l.decisions i ≡ Rewritten chosen)
-    (stays : IsLeftAlone l i (relocation_in l.relocations i).offset n)
+    (stays : UntouchedBytes l i (relocation_in l.relocations i).offset n)
     (kind_is : chosen.kind ≡ relaxations.X86_64 kinds.NoOp)
     (code_is : chosen.relocation ≡ code_of (x86_64_name after)) where
   abbrev r : Rela
@@ -202,21 +202,21 @@ module _ (n : ℕ) (read : ℕ → ℕ) (block_row thread_row : RelocationKindIn
       ∙ (ap (λ d. relocation_after d r) decided
       ∙ ap (λ k. rela (offset_after (relaxation_rewrite k) o) chosen.relocation r.symbol (addend_after (relaxation_rewrite k) r.addend)) kind_is))
 
-  row_there : IsRow l.setting.architecture (relocation_in l.relocations_last i).code (Some thread_row)
+  row_there : IsRow l.context.architecture (relocation_in l.relocations_last i).code (Some thread_row)
   row_there =
       row_after l linked x86 i below after named thread_row is_thread (ap (λ (x : Rela). x.code) r_after ∙ code_is)
 
   within : i < length l.relocations_last / 24
   within = last_within l linked i below
 
-  mine : IsField l.setting.architecture l.relocations_last l.last i thread_row
+  mine : IsField l.context.architecture l.relocations_last l.last i thread_row
   mine =
       let some = rows.some in
       let len = len_is n thread_row (drop (offset_at l.relocations_last i) l.last) rows.plain in
       record { is_row = row_there; some = omega (arith, some, len) }
 
   others_apart : (j : ℕ) (other : RelocationKindInfo) → j < length l.relocations_last / 24
-      → (j ≡ i → ⊥) → IsField l.setting.architecture l.relocations_last l.last j other
+      → (j ≡ i → ⊥) → IsField l.context.architecture l.relocations_last l.last j other
       → (offset_at l.relocations_last i < offset_at l.relocations_last j)
       ⊎ (field_end l.relocations_last l.last j other ≤ offset_at l.relocations_last i)
   others_apart j other lj isnt is_field =
@@ -232,16 +232,16 @@ module _ (n : ℕ) (read : ℕ → ℕ) (block_row thread_row : RelocationKindIn
           → offset_at l.relocations_last i < field_end l.relocations_last l.last j other → ⊥
       overlaps from inside =
           let some = mine.some in
-          let behind : offset_at l.relocations_last j < field_end l.relocations_last l.last i thread_row =
+          let following : offset_at l.relocations_last j < field_end l.relocations_last l.last i thread_row =
           omega (arith, from, some) in
           let apart = linked.written.can.apart in
           elim (cases_lt i j) [
             | inl less ↦
                 not_first l.relocations_last thread_row rows.of other i j
-                (apart i j thread_row other less lj mine is_field (inside, behind))
+                (apart i j thread_row other less lj mine is_field (inside, following))
             | inr most ↦
                 not_second l.relocations_last thread_row rows.of other i j
-                (apart j i other thread_row (omega (arith, most, isnt)) within is_field mine (behind, inside))
+                (apart j i other thread_row (omega (arith, most, isnt)) within is_field mine (following, inside))
           ]
 
   leads : LeadsToTheSame n read name l i block_row
@@ -255,9 +255,9 @@ module _ (n : ℕ) (read : ℕ → ℕ) (block_row thread_row : RelocationKindIn
       let before_is : is_of_got X86_64 r.code ≡ false = ap (is_of_got X86_64) (sym is_name.code_is) ∙ name_is in
       let taken : operands_of X86_64 l.addresses l.symbols thread_row relocation ≡ Ok written =
       ap (operands_in X86_64 l.addresses thread_row relocation) is_symbol ∙ rows.alone l.addresses symbol relocation in
-      let field : IsLeft n thread_row written o l.last l.final =
-      subst (λ (x : Rela). IsLeft n thread_row written x.offset l.last l.final) r_after
-      (left n rows.some rows.lowest l.setting.architecture l.addresses l.relocations_last l.symbols l.last l.final linked.written
+      let field : UntouchedField n thread_row written o l.last l.final =
+      subst (λ (x : Rela). UntouchedField n thread_row written x.offset l.last l.final) r_after
+      (left n rows.some rows.lowest l.context.architecture l.addresses l.relocations_last l.symbols l.last l.final linked.written
       (small_byte l.final linked.final_bytes) i within thread_row rows.plain row_there written
       (subst (λ x. operands_of x l.addresses l.symbols thread_row (relocation_in l.relocations_last i) ≡ Ok written) (sym x86)
       (subst (λ x. operands_of X86_64 l.addresses l.symbols thread_row x ≡ Ok written) (sym r_after) taken))
@@ -278,7 +278,7 @@ module _ (n : ℕ) (read : ℕ → ℕ) (block_row thread_row : RelocationKindIn
       back_outside (o - 0) (0 + n) l.section l.final inside_final (sym final_length) at
       (elim outside [
         | inl ahead ↦ inl (let e : at < o - 0 = omega (arith, ahead) in e)
-        | inr behind ↦ inr (let e : o - 0 + (0 + n) ≤ at = omega (arith, behind) in e)
+        | inr following ↦ inr (let e : o - 0 + (0 + n) ≤ at = omega (arith, following) in e)
       ])) in
       let of_object : IsRelocatedBy block_row operands o object original =
       some_and (λ row. IsRelocatedBy row operands o object original) (x86_64_row name) block_row is_block was in

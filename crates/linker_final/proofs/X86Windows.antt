@@ -17,14 +17,14 @@ use Rattle.linker_elf.specs.declared.elf.choice.Choice.{Choice}
 use Rattle.linker_elf.specs.declared.elf.value.Operands.{Operands}
 use Rattle.linker_elf.specs.declared.x86_64.relocations.X86_64Relocation.{X86_64Relocation}
 use Rattle.linker_elf.specs.declared.x86_64.relocations.X86_64Relocation.TheVariants as names
-use Rattle.linker_final.proofs.Fields.{IsLeft, four_bytes, left, len_is}
+use Rattle.linker_final.proofs.Fields.{UntouchedField, four_bytes, left, len_is}
 use Rattle.linker_final.proofs.Inner.{HasWindow}
 use Rattle.linker_final.proofs.Phases.{byte_left, last_as_many, last_length, last_within, relocation_left}
 use Rattle.linker_final.proofs.PlainRows.{IsPlain}
 use Rattle.linker_final.proofs.PutBack.{put_back_is, back_inside, back_outside, back_rewritten, same_windows}
 use Rattle.linker_final.proofs.X86Lawful.{HaveShape}
 use Rattle.linker_final.proofs.X86Patterns.{one_same}
-use Rattle.linker_final.specs.Final.{Linked, IsLinked, AreAlone, AreBytes, count, put_back}
+use Rattle.linker_final.specs.Final.{Linked, IsLinked, UntouchedByOthers, AreBytes, count, put_back}
 use Rattle.linker_laws.specs.X86RewriteLaws.{IsRelocated, IsRelocatedBy}
 use Rattle.linker_rewriting.specs.Decisions.{decision_at, start_at, written_end_at, start_by, written_end_by}
 use Rattle.linker_rewriting.specs.Rewritten.{IsDone, IsMade, relocation_after}
@@ -104,7 +104,7 @@ end_is decision chosen made o decided is =
 
 -- Bytes agree with the final ones outside of the field, and with those before the write in it.
 module _ (n : ℕ) (row : RelocationKindInfo) (plain : IsPlain n row) (operands was : Operands) (p : ℕ)
-    (before final bytes : List ℕ) (field : IsLeft n row operands p before final)
+    (before final bytes : List ℕ) (field : UntouchedField n row operands p before final)
     (same_value : value_of row was ≡ value_of row operands)
     (long : length bytes ≡ length final) (same_length : length before ≡ length final)
     (outside : (at : ℕ) → (at < p) ⊎ (p + n ≤ at) → get_or bytes at 0 ≡ get_or final at 0) where
@@ -149,9 +149,9 @@ of_row other None = other
 of_row other (Some row) = row
 
 -- a relocation of no type has none
-pub no_field : (l : Linked) → l.setting.architecture ≡ X86_64 → (j : ℕ)
+pub no_field : (l : Linked) → l.context.architecture ≡ X86_64 → (j : ℕ)
     → (relocation_in l.relocations_last j).code ≡ 0 → (row : RelocationKindInfo)
-    → IsField l.setting.architecture l.relocations_last l.last j row → ⊥
+    → IsField l.context.architecture l.relocations_last l.last j row → ⊥
 no_field l x86 j code row field =
     let there : IsRow X86_64 (relocation_in l.relocations_last j).code (Some row) =
     subst (λ x. IsRow x (relocation_in l.relocations_last j).code (Some row)) x86 field.is_row in
@@ -164,10 +164,10 @@ no_field l x86 j code row field =
 
 -- ---- codes of a name
 
-row_by : (l : Linked) → l.setting.architecture ≡ X86_64 → (code : ℕ) (name : X86_64Relocation)
+row_by : (l : Linked) → l.context.architecture ≡ X86_64 → (code : ℕ) (name : X86_64Relocation)
     → IsNamed (x86_64_name name) → (row : RelocationKindInfo) → x86_64_row name ≡ Some row
     → code ≡ code_of (x86_64_name name)
-    → (found : _) → IsRow l.setting.architecture code found → IsRow l.setting.architecture code (Some row)
+    → (found : _) → IsRow l.context.architecture code found → IsRow l.context.architecture code (Some row)
 row_by l x86 code name named row is code_is found has =
     let there : IsRow X86_64 code found = subst (λ x. IsRow x code found) x86 has in
     let same : there.name ≡ name = there.is_name.named name named (sym code_is) in
@@ -175,22 +175,22 @@ row_by l x86 code name named row is code_is found has =
     record { name = there.name; is_name = there.is_name; value_is = sym (ap x86_64_row same ∙ is) } in
     subst (λ x. IsRow x code (Some row)) (sym x86) mine
 
-row_in : (l : Linked) → l.setting.architecture ≡ X86_64 → (r : Rela) (name : X86_64Relocation)
+row_in : (l : Linked) → l.context.architecture ≡ X86_64 → (r : Rela) (name : X86_64Relocation)
     → IsNamed (x86_64_name name) → (row : RelocationKindInfo) → x86_64_row name ≡ Some row
     → r.code ≡ code_of (x86_64_name name)
-    → (found : _) → IsRowValue l.setting.architecture l.addresses l.relocations_last l.symbols r (Ok found)
-    → IsRow l.setting.architecture r.code (Some row)
+    → (found : _) → IsRowValue l.context.architecture l.addresses l.relocations_last l.symbols r (Ok found)
+    → IsRow l.context.architecture r.code (Some row)
 row_in l x86 r name named row is code_is (Some one) has =
     row_by l x86 r.code name named row is code_is (Some (one.0)) has.is_row
 row_in l x86 r name named row is code_is None marked =
     row_by l x86 r.code name named row is code_is (marked.0) (marked.1)
 
 -- a relocation of a code, once the section is written
-pub row_after : (l : Linked) → IsLinked l → l.setting.architecture ≡ X86_64 → (i : ℕ) → i < count l
+pub row_after : (l : Linked) → IsLinked l → l.context.architecture ≡ X86_64 → (i : ℕ) → i < count l
     → (name : X86_64Relocation) → IsNamed (x86_64_name name)
     → (row : RelocationKindInfo) → x86_64_row name ≡ Some row
     → (relocation_in l.relocations_last i).code ≡ code_of (x86_64_name name)
-    → IsRow l.setting.architecture (relocation_in l.relocations_last i).code (Some row)
+    → IsRow l.context.architecture (relocation_in l.relocations_last i).code (Some row)
 row_after l linked x86 i below name named row is code_is =
     row_in l x86 (relocation_in l.relocations_last i) name named row is code_is (linked.written.can.found i)
     (linked.written.can.are_found i (last_within l linked i below))
@@ -200,7 +200,7 @@ row_after l linked x86 i below name named row is code_is =
 -- The relocation at an index is rewritten, and no other has a byte of the window.
 pub record HasRewrite (l : Linked) (i back end : ℕ) (kind : RelaxationKind) : Type 0 where
   pub linked : IsLinked l
-  pub x86 : l.setting.architecture ≡ X86_64
+  pub x86 : l.context.architecture ≡ X86_64
   pub chosen : Choice Relaxation ℕ
   pub below : i < count l
   pub decided : decision_at l.decisions i ≡ Rewritten chosen
@@ -209,7 +209,7 @@ pub record HasRewrite (l : Linked) (i back end : ℕ) (kind : RelaxationKind) : 
   pub matches : x86_64_matches kind l.section (relocation_in l.relocations i).offset
   pub room : (back ≤ (relocation_in l.relocations i).offset)
       × ((relocation_in l.relocations i).offset + end ≤ length l.section)
-  pub alone : AreAlone l i ((relocation_in l.relocations i).offset - back) (back + end)
+  pub alone : UntouchedByOthers l i ((relocation_in l.relocations i).offset - back) (back + end)
 
 module _ (l : Linked) (i back end : ℕ) (kind : RelaxationKind) (is : HasRewrite l i back end kind)
   where
@@ -271,7 +271,7 @@ module _ (l : Linked) (i back end : ℕ) (kind : RelaxationKind) (is : HasRewrit
           | inl same ↦ subst (λ k. (at < start_at l.relocations l.decisions k) ⊎ (written_end_at l.relocations l.decisions k ≤ at)) (sym same)
               (elim window [
                 | inl ahead ↦ inl (subst (λ x. at < x) (sym (start_is (decision_at l.decisions i) chosen w.made o is.decided made_is)) ahead)
-                | inr behind ↦ inr (subst (λ x. x ≤ at) (sym (end_is (decision_at l.decisions i) chosen w.made o is.decided made_is)) behind)
+                | inr following ↦ inr (subst (λ x. x ≤ at) (sym (end_is (decision_at l.decisions i) chosen w.made o is.decided made_is)) following)
               ])
           | inr isnt ↦ (is.alone.others j at lj isnt from less).0
         ])
@@ -343,7 +343,7 @@ module _ (l : Linked) (i back end : ℕ) (kind : RelaxationKind) (is : HasRewrit
 
     apart_by : (j : ℕ) → j < length l.relocations_last / 24 → (j ≡ i → ⊥) → (at : ℕ) → start ≤ at
         → at < o + end → (row : RelocationKindInfo)
-        → IsField l.setting.architecture l.relocations_last l.last j row
+        → IsField l.context.architecture l.relocations_last l.last j row
         → (at < offset_at l.relocations_last j) ⊎ (field_end l.relocations_last l.last j row ≤ at)
     apart_by j lj isnt at from less row is_field =
         let back = is.room.0 in
@@ -351,19 +351,19 @@ module _ (l : Linked) (i back end : ℕ) (kind : RelaxationKind) (is : HasRewrit
 
     -- a byte that the relocation after has not
     in_no_field : (at : ℕ) → start ≤ at → at < o + end
-        → ((row : RelocationKindInfo) → IsField l.setting.architecture l.relocations_last l.last i row
+        → ((row : RelocationKindInfo) → IsField l.context.architecture l.relocations_last l.last i row
         → (at < offset_at l.relocations_last i) ⊎ (field_end l.relocations_last l.last i row ≤ at))
-        → IsInNoField l.setting.architecture l.relocations_last l.last (length l.relocations_last / 24) at
+        → IsInNoField l.context.architecture l.relocations_last l.last (length l.relocations_last / 24) at
     in_no_field at from less own j row lj is_field =
         elim (cases_eq j i) [
           | inl same ↦ subst (λ k. (at < offset_at l.relocations_last k) ⊎ (field_end l.relocations_last l.last k row ≤ at)) (sym same)
-              (own row (subst (λ k. IsField l.setting.architecture l.relocations_last l.last k row) same is_field))
+              (own row (subst (λ k. IsField l.context.architecture l.relocations_last l.last k row) same is_field))
           | inr isnt ↦ apart_by j lj isnt at from less row is_field
         ]
 
     between_same : (at : ℕ)
         → (start ≤ at → at < o + end → (row : RelocationKindInfo)
-        → IsField l.setting.architecture l.relocations_last l.last i row
+        → IsField l.context.architecture l.relocations_last l.last i row
         → (at < offset_at l.relocations_last i) ⊎ (field_end l.relocations_last l.last i row ≤ at))
         → get_or between at 0 ≡ get_or l.final at 0
     between_same at own =
@@ -378,7 +378,7 @@ module _ (l : Linked) (i back end : ℕ) (kind : RelaxationKind) (is : HasRewrit
                 back_inside start len l.rewritten l.final inside_final mid at from less
                 ∙ (sym (byte_left l linked i start len is.alone.left at from less)
                 ∙ sym (linked.written.others at (in_no_field at from below (own from below))))
-            | inr behind ↦ back_outside start len l.rewritten l.final inside_final mid at (inr behind)
+            | inr following ↦ back_outside start len l.rewritten l.final inside_final mid at (inr following)
           ]
         ]
 
@@ -408,9 +408,9 @@ module _ (l : Linked) (i back end : ℕ) (kind : RelaxationKind) (is : HasRewrit
         (rewritten (x86_64_rewrite kind) object o) l.final
     relocated_after after row plain row_is named code_is taken taken_is low high operands same_value =
         let p = w.made.offset o in
-        let field : IsLeft 4 row taken p l.last l.final =
-        subst (λ (x : Rela). IsLeft 4 row taken x.offset l.last l.final) r_after
-        (left 4 (omega arith) four_bytes l.setting.architecture l.addresses l.relocations_last l.symbols l.last l.final linked.written
+        let field : UntouchedField 4 row taken p l.last l.final =
+        subst (λ (x : Rela). UntouchedField 4 row taken x.offset l.last l.final) r_after
+        (left 4 (omega arith) four_bytes l.context.architecture l.addresses l.relocations_last l.symbols l.last l.final linked.written
         (small_byte l.final linked.final_bytes) i within_after row plain row_there taken
         (subst (λ x. operands_of x l.addresses l.symbols row (relocation_in l.relocations_last i) ≡ Ok taken) (sym is.x86)
         (subst (λ x. operands_of X86_64 l.addresses l.symbols row x ≡ Ok taken) (sym r_after) taken_is))
@@ -422,14 +422,14 @@ module _ (l : Linked) (i back end : ℕ) (kind : RelaxationKind) (is : HasRewrit
         (subst (λ xs. IsRelocatedBy row operands (offset_after (x86_64_rewrite kind) o) xs l.final) (sym object_rewritten)
         (subst (λ q. IsRelocatedBy row operands (offset_after q o) between l.final) (sym w.is) base))
       where
-        row_there : IsRow l.setting.architecture (relocation_in l.relocations_last i).code (Some row)
+        row_there : IsRow l.context.architecture (relocation_in l.relocations_last i).code (Some row)
         row_there =
             row_after l linked is.x86 i is.below after named row row_is
             (ap (λ (x : Rela). x.code) r_after ∙ code_is)
 
         others_apart : (j : ℕ) (other : RelocationKindInfo) → j < length l.relocations_last / 24
             → (j ≡ i → ⊥)
-            → IsField l.setting.architecture l.relocations_last l.last j other
+            → IsField l.context.architecture l.relocations_last l.last j other
             → (offset_at l.relocations_last i < offset_at l.relocations_last j)
             ⊎ (field_end l.relocations_last l.last j other ≤ offset_at l.relocations_last i)
         others_apart j other lj isnt is_field =
@@ -437,15 +437,15 @@ module _ (l : Linked) (i back end : ℕ) (kind : RelaxationKind) (is : HasRewrit
             (apart_by j lj isnt (w.made.offset o) low (omega (arith, high)) other is_field)
 
         own_field : (at : ℕ) → (at < w.made.offset o) ⊎ (w.made.offset o + 4 ≤ at) → (other : RelocationKindInfo)
-            → IsField l.setting.architecture l.relocations_last l.last i other
+            → IsField l.context.architecture l.relocations_last l.last i other
             → (at < offset_at l.relocations_last i) ⊎ (field_end l.relocations_last l.last i other ≤ at)
         own_field at outside other is_field =
-            let same : other ≡ row = one_info l.setting.architecture (relocation_in l.relocations_last i).code other row is_field.is_row row_there in
+            let same : other ≡ row = one_info l.context.architecture (relocation_in l.relocations_last i).code other row is_field.is_row row_there in
             let offset : offset_at l.relocations_last i ≡ w.made.offset o = ap (λ (x : Rela). x.offset) r_after in
             let long : field_len other (drop (offset_at l.relocations_last i) l.last) ≡ 4 =
             ap (λ x. field_len x (drop (offset_at l.relocations_last i) l.last)) same
             ∙ len_is 4 row (drop (offset_at l.relocations_last i) l.last) plain in
             elim outside [
               | inl ahead ↦ inl (omega (arith, ahead, offset))
-              | inr behind ↦ inr (omega (arith, behind, offset, long))
+              | inr following ↦ inr (omega (arith, following, offset, long))
             ]

@@ -16,7 +16,7 @@ use Rattle.linker_final.specs.AArch64Final.{AreOfLoad, BranchIsAlike, HighIsAlik
 use Rattle.linker_final.specs.AArch64Final.{LoadIsAlike, LowIsAlike, OffsetIsAlike}
 use Rattle.linker_final.specs.Final.{AreRewritten, IsRewrittenByNoOther, Linked, count}
 use Rattle.linker_final.specs.Final.{instruction_at}
-use Rattle.linker_laws.specs.AArch64RewriteLaws.{IsRelocated, behind, with_entry}
+use Rattle.linker_laws.specs.AArch64RewriteLaws.{IsRelocated, following, with_entry}
 use Rattle.linker_rewriting.specs.Decisions.{decision_at}
 use Rattle.linker_rewriting.specs.declared.decisions.Decision.TheVariants.{Rewritten}
 use Rattle.linker_section.specs.Relocations.{relocation_in}
@@ -32,8 +32,8 @@ IsNamedAs name l i =
     ≡ record (relocation_in l.relocations i) { code = code_of (aarch64_name name) }
 
 -- The bytes after have the rewritten instruction at an offset.
-abbrev pub IsLeft : Linked → ℕ → Type 0
-IsLeft l at = instruction_at l.final at ≡ instruction_at l.rewritten at
+abbrev pub UntouchedAt : Linked → ℕ → Type 0
+UntouchedAt l at = instruction_at l.final at ≡ instruction_at l.rewritten at
 
 -- They have the rewritten instruction with a relocation applied.
 abbrev pub IsAppliedAt : AArch64Relocation → Operands → Linked → ℕ → Type 0
@@ -46,14 +46,14 @@ pub record AreAppliedAt (first second : AArch64Relocation) (operands : Operands)
     (at : ℕ) : Type 0 where
   pub entry : ℕ
   pub first_is : IsAppliedAt first (with_entry entry operands) l at
-  pub second_is : IsAppliedAt second (behind 4 (with_entry entry operands)) l (at + 4)
+  pub second_is : IsAppliedAt second (following 4 (with_entry entry operands)) l (at + 4)
 
 -- ---- the clauses
 
 -- of every load of an address from the GOT
 abbrev pub GotLoadsAnywhere : Type 0
 GotLoadsAnywhere =
-    (l : Linked) → AreRewritten l → l.setting.architecture ≡ AArch64
+    (l : Linked) → AreRewritten l → l.context.architecture ≡ AArch64
     → (i j : ℕ) → AreOfLoad l i j
     → IsRewrittenByNoOther l i (relocation_in l.relocations i).offset
     → IsNamedAs names.R_AARCH64_ADR_PREL_PG_HI21 l i × IsNamedAs names.R_AARCH64_ADD_ABS_LO12_NC l j
@@ -65,12 +65,12 @@ GotLoadsAnywhere =
 -- of every address by two instructions that a linker makes by one
 abbrev pub AddressesAnywhere : Type 0
 AddressesAnywhere =
-    (l : Linked) → AreRewritten l → l.setting.architecture ≡ AArch64
+    (l : Linked) → AreRewritten l → l.context.architecture ≡ AArch64
     → (i j : ℕ) → AreOfAddress l i j
     → let o = (relocation_in l.relocations i).offset in
     IsNamedAs names.R_AARCH64_NONE l i × IsNamedAs names.R_AARCH64_ADR_PREL_LO21 l j
-    × ((operands : Operands) → IsLeft l o
-    → IsAppliedAt names.R_AARCH64_ADR_PREL_LO21 (behind 4 operands) l (o + 4)
+    × ((operands : Operands) → UntouchedAt l o
+    → IsAppliedAt names.R_AARCH64_ADR_PREL_LO21 (following 4 operands) l (o + 4)
     → AddressIsAlike l i operands)
 
 -- Each relocation of a name whose instruction is rewritten gets another. It holds of operands of
@@ -78,7 +78,7 @@ AddressesAnywhere =
 abbrev pub EachBecomes : AArch64Relocation → AArch64Relocation
     → (Linked → ℕ → Operands → Type 0) → Type 0
 EachBecomes name new Holds =
-    (l : Linked) → AreRewritten l → l.setting.architecture ≡ AArch64
+    (l : Linked) → AreRewritten l → l.context.architecture ≡ AArch64
     → (i : ℕ) (chosen : Choice Relaxation ℕ) → i < count l
     → IsNameOf aarch64_name (relocation_in l.relocations i).code name
     → decision_at l.decisions i ≡ Rewritten chosen
@@ -102,12 +102,12 @@ LowHalvesAnywhere =
 -- named.
 abbrev pub EachBranchGoes : AArch64Relocation → (ℕ → Bool) → Type 0
 EachBranchGoes name differing =
-    (l : Linked) → AreRewritten l → l.setting.architecture ≡ AArch64
+    (l : Linked) → AreRewritten l → l.context.architecture ≡ AArch64
     → (i : ℕ) (chosen : Choice Relaxation ℕ) → i < count l
     → IsNameOf aarch64_name (relocation_in l.relocations i).code name
     → decision_at l.decisions i ≡ Rewritten chosen
     → IsNamedAs names.R_AARCH64_NONE l i
-    × (IsLeft l (relocation_in l.relocations i).offset → (operands : Operands)
+    × (UntouchedAt l (relocation_in l.relocations i).offset → (operands : Operands)
     → BranchIsAlike name differing l i operands)
 
 -- of every branch to an undefined weak symbol
@@ -120,12 +120,12 @@ BranchesAnywhere =
 abbrev pub EachDescriptorAnywhere : RelaxationKind → RelaxationKind → AArch64Relocation
     → AArch64Relocation → (Linked → ℕ → Type 0) → Type 0
 EachDescriptorAnywhere high low first second Holds =
-    (l : Linked) → AreRewritten l → l.setting.architecture ≡ AArch64
+    (l : Linked) → AreRewritten l → l.context.architecture ≡ AArch64
     → (i j k m : ℕ) → AreOfDescriptor l high low i j k m
     → IsNamedAs first l i × IsNamedAs second l j × IsNamedAs names.R_AARCH64_NONE l k
     × IsNamedAs names.R_AARCH64_NONE l m
-    × (IsLeft l (relocation_in l.relocations k).offset
-    → IsLeft l (relocation_in l.relocations m).offset → Holds l i)
+    × (UntouchedAt l (relocation_in l.relocations k).offset
+    → UntouchedAt l (relocation_in l.relocations m).offset → Holds l i)
 
 -- for local-exec, and for initial-exec, where the GOT's entry of the offset holds it
 abbrev pub OffsetIsAlikeAnywhere : Linked → ℕ → Type 0

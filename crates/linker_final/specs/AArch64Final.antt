@@ -15,17 +15,17 @@ use Rattle.linker_elf.specs.declared.elf.RelocationKindInfo.{RelocationKindInfo}
 use Rattle.linker_elf.specs.declared.elf.choice.Choice.{Choice}
 use Rattle.linker_elf.specs.declared.elf.value.Operands.{Operands}
 use Rattle.linker_final.specs.Final.{Linked, IsLinked, count, instruction_at, two_at}
-use Rattle.linker_final.specs.Final.{AreLeft, InstructionIsLeft, IsRewrittenByNoOther}
+use Rattle.linker_final.specs.Final.{UntouchedInstructions, UntouchedInstruction, IsRewrittenByNoOther}
 use Rattle.linker_final.specs.Final.{IsWrittenByNoOther}
 use Rattle.linker_laws.specs.AArch64Machine.{State, load_64, RunAlike, RunAlikeBut, next_pc}
-use Rattle.linker_laws.specs.AArch64RewriteLaws.{Descriptor, DescriptorOf, RunAlikeBehindCall, four}
+use Rattle.linker_laws.specs.AArch64RewriteLaws.{Descriptor, DescriptorOf, RunAlikeAfterCall, four}
 use Rattle.linker_laws.specs.AArch64RewriteLaws.{scratch}
 use Rattle.linker_laws.specs.AArch64RewriteLaws.{IsRelocated, Changes, AgreeBut, HasHigh, StepSo}
-use Rattle.linker_laws.specs.AArch64RewriteLaws.{behind, pair, thread_offset, with_register}
+use Rattle.linker_laws.specs.AArch64RewriteLaws.{following, pair, thread_offset, with_register}
 use Rattle.linker_laws.specs.AArch64RewriteLaws.{without_register, word_of}
 use Rattle.linker_laws.specs.Schemes.{AreAddresses, plt_address, symbol_address}
 use Rattle.linker_rewriting.specs.Decisions.{decision_at}
-use Rattle.linker_rewriting.specs.declared.decisions.Decision.TheVariants.{Rewritten, TakenAlong}
+use Rattle.linker_rewriting.specs.declared.decisions.Decision.TheVariants.{Rewritten, Consumed}
 use Rattle.linker_section.specs.Relocations.{relocation_in}
 use Rattle.linker_section.specs.Values.{operands_with}
 use Rattle.linker_section.specs.declared.facts.Symbol.{Symbol}
@@ -64,7 +64,7 @@ LoadIsAlike l i operands =
     → load_64 s.memory operands.got_entry ≡ symbol_address operands
     → s.pc ≡ operands.place
     → IsRelocated names.R_AARCH64_ADR_GOT_PAGE operands (instruction_at l.section o) adrp
-    → IsRelocated names.R_AARCH64_LD64_GOT_LO12_NC (behind 4 operands)
+    → IsRelocated names.R_AARCH64_LD64_GOT_LO12_NC (following 4 operands)
     (instruction_at l.section (o + 4)) ldr
     → RunAlike (pair adrp ldr) (pair (instruction_at l.final o) (instruction_at l.final (o + 4))) s
 
@@ -84,7 +84,7 @@ pub record AreOfAddress (l : Linked) (i j : ℕ) : Type 0 where
   pub together : AreNext l i j
   pub low :
       IsNameOf aarch64_name (relocation_in l.relocations j).code names.R_AARCH64_ADD_ABS_LO12_NC
-  pub page_decided : decision_at l.decisions i ≡ TakenAlong
+  pub page_decided : decision_at l.decisions i ≡ Consumed
   pub low_chosen : Choice Relaxation ℕ
   pub low_decided : decision_at l.decisions j ≡ Rewritten low_chosen
 
@@ -95,7 +95,7 @@ AddressIsAlike l i operands =
     let o = (relocation_in l.relocations i).offset in
     (s : State) (adrp add : List ℕ) → AreAddresses operands → s.pc ≡ operands.place
     → IsRelocated names.R_AARCH64_ADR_PREL_PG_HI21 operands (two_at l.section o) adrp
-    → IsRelocated names.R_AARCH64_ADD_ABS_LO12_NC (behind 4 operands)
+    → IsRelocated names.R_AARCH64_ADD_ABS_LO12_NC (following 4 operands)
     (instruction_at l.section (o + 4)) add
     → RunAlike (pair adrp add) (pair (instruction_at l.final o) (instruction_at l.final (o + 4))) s
 
@@ -174,7 +174,7 @@ OffsetIsAlike l i operands Holds =
     (instruction_at l.section (o + 8)) (instruction_at l.section (o + 12))
     → DescriptorOf operands (instruction_at l.section o) (instruction_at l.section (o + 4))
     (instruction_at l.section (o + 8)) adrp ldr add
-    → RunAlikeBehindCall call (scratch (rd_of (word_of (instruction_at l.section (o + 4)))) c)
+    → RunAlikeAfterCall call (scratch (rd_of (word_of (instruction_at l.section (o + 4)))) c)
     (four adrp ldr add (instruction_at l.section (o + 12)))
     (four (instruction_at l.final o) (instruction_at l.final (o + 4))
     (instruction_at l.final (o + 8)) (instruction_at l.final (o + 12))) s
@@ -225,8 +225,8 @@ BranchDoesTheSame name differing l i row =
 -- where no other rewrite has a byte of the `adrp`
 abbrev pub GotLoads : Type 0
 GotLoads =
-    (l : Linked) → IsLinked l → l.setting.architecture ≡ AArch64
-    → (i j : ℕ) → AreOfLoad l i j → AreLeft l i j
+    (l : Linked) → IsLinked l → l.context.architecture ≡ AArch64
+    → (i j : ℕ) → AreOfLoad l i j → UntouchedInstructions l i j
     → IsRewrittenByNoOther l i (relocation_in l.relocations i).offset
     → IsSomeAnd (aarch64_row names.R_AARCH64_ADR_GOT_PAGE) (LoadsTheSame l i)
 
@@ -242,10 +242,10 @@ ForOperands Holds l i row =
 abbrev pub EachRewritten : AArch64Relocation → AArch64Relocation
     → (Linked → ℕ → RelocationKindInfo → Type 0) → Type 0
 EachRewritten name of_row Holds =
-    (l : Linked) → IsLinked l → l.setting.architecture ≡ AArch64
+    (l : Linked) → IsLinked l → l.context.architecture ≡ AArch64
     → (i : ℕ) (chosen : Choice Relaxation ℕ) → i < count l
     → IsNameOf aarch64_name (relocation_in l.relocations i).code name
-    → decision_at l.decisions i ≡ Rewritten chosen → InstructionIsLeft l i
+    → decision_at l.decisions i ≡ Rewritten chosen → UntouchedInstruction l i
     → IsSomeAnd (aarch64_row of_row) (Holds l i)
 
 -- of every half of initial-exec: S is an offset of the thread's, as in the relocation after
@@ -271,8 +271,8 @@ Branches =
 -- where no other relocation has a field in the first
 abbrev pub Addresses : Type 0
 Addresses =
-    (l : Linked) → IsLinked l → l.setting.architecture ≡ AArch64
-    → (i j : ℕ) → AreOfAddress l i j → AreLeft l i j
+    (l : Linked) → IsLinked l → l.context.architecture ≡ AArch64
+    → (i j : ℕ) → AreOfAddress l i j → UntouchedInstructions l i j
     → IsWrittenByNoOther l i (relocation_in l.relocations i).offset
     → IsSomeAnd (aarch64_row names.R_AARCH64_ADR_PREL_PG_HI21) (MakesTheSame l i)
 
@@ -281,8 +281,8 @@ Addresses =
 abbrev pub EachDescriptor : RelaxationKind → RelaxationKind
     → (Linked → ℕ → RelocationKindInfo → Type 0) → Type 0
 EachDescriptor high low Holds =
-    (l : Linked) → IsLinked l → l.setting.architecture ≡ AArch64
-    → (i j k m : ℕ) → AreOfDescriptor l high low i j k m → AreLeft l i j → AreLeft l k m
+    (l : Linked) → IsLinked l → l.context.architecture ≡ AArch64
+    → (i j k m : ℕ) → AreOfDescriptor l high low i j k m → UntouchedInstructions l i j → UntouchedInstructions l k m
     → IsWrittenByNoOther l k (relocation_in l.relocations k).offset
     → IsWrittenByNoOther l m (relocation_in l.relocations m).offset
     → IsSomeAnd (aarch64_row names.R_AARCH64_TLSLE_MOVW_TPREL_G1) (Holds l i)

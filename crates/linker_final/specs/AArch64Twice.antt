@@ -5,15 +5,15 @@ use Rattle.linker_elf.specs.declared.aarch64.relocations.AArch64Relocation.TheVa
 use Rattle.linker_elf.specs.declared.elf.RelocationKindInfo.{RelocationKindInfo}
 use Rattle.linker_elf.specs.declared.elf.choice.Choice.{Choice}
 use Rattle.linker_elf.specs.declared.elf.value.Operands.{Operands}
-use Rattle.linker_final.specs.AArch64Anywhere.{AreAppliedAt, IsAppliedAt, IsLeft}
+use Rattle.linker_final.specs.AArch64Anywhere.{AreAppliedAt, IsAppliedAt, UntouchedAt}
 use Rattle.linker_final.specs.AArch64Final.{AreOfLoad, LoadIsAlike}
-use Rattle.linker_final.specs.Final.{AreLeft, IsLeftAlone, IsLinked, IsRewrittenByNoOther, Linked}
+use Rattle.linker_final.specs.Final.{UntouchedInstructions, UntouchedBytes, IsLinked, IsRewrittenByNoOther, Linked}
 use Rattle.linker_final.specs.Final.{IsWrittenByNoOther, count}
 use Rattle.linker_final.specs.Twice.{AreTwoCalls}
 use Rattle.linker_laws.specs.AArch64Machine.{RunAlikeBut, State}
-use Rattle.linker_laws.specs.AArch64RewriteLaws.{behind}
+use Rattle.linker_laws.specs.AArch64RewriteLaws.{following}
 use Rattle.linker_rewriting.specs.Decisions.{decision_at}
-use Rattle.linker_rewriting.specs.declared.decisions.Decision.TheVariants.{Rewritten, TakenAlong}
+use Rattle.linker_rewriting.specs.declared.decisions.Decision.TheVariants.{Rewritten, Consumed}
 use Rattle.linker_section.specs.Relocations.{relocation_in}
 use Rattle.linker_section.specs.Values.{operands_with}
 use Rattle.linker_section.specs.declared.facts.Symbol.{Symbol}
@@ -26,11 +26,11 @@ pub record IsRewrittenTwice (l m : Linked) (i j : ℕ) : Type 0 where
   pub calls : AreTwoCalls AArch64 l m
   pub load : AreOfLoad l i j
   pub alone : IsRewrittenByNoOther l i (relocation_in l.relocations i).offset
-  pub page_left : IsLeftAlone l i (relocation_in l.relocations i).offset 8
-  pub low_left : IsLeftAlone l j (relocation_in l.relocations i).offset 8
+  pub page_left : UntouchedBytes l i (relocation_in l.relocations i).offset 8
+  pub low_left : UntouchedBytes l j (relocation_in l.relocations i).offset 8
   pub first_below : i < count m
   pub second_below : j < count m
-  pub page_decided : decision_at m.decisions i ≡ TakenAlong
+  pub page_decided : decision_at m.decisions i ≡ Consumed
   pub low_chosen : Choice Relaxation ℕ
   pub low_decided : decision_at m.decisions j ≡ Rewritten low_chosen
 
@@ -41,7 +41,7 @@ LoadsTwice =
     (l m : Linked) (i j : ℕ) → IsRewrittenTwice l m i j → (operands : Operands)
     → let o = (relocation_in l.relocations i).offset in
     AreAppliedAt names.R_AARCH64_ADR_PREL_PG_HI21 names.R_AARCH64_ADD_ABS_LO12_NC operands l o
-    → IsLeft m o → IsAppliedAt names.R_AARCH64_ADR_PREL_LO21 (behind 4 operands) m (o + 4)
+    → UntouchedAt m o → IsAppliedAt names.R_AARCH64_ADR_PREL_LO21 (following 4 operands) m (o + 4)
     → LoadIsAlike (record l { final = m.final }) i operands
 
 -- They do in the final bytes after the second call, and after later ones that leave the pair
@@ -59,7 +59,7 @@ FinalBytesLoadTheSame l m i row =
 
 abbrev pub FinalLoadsTwice : Type 0
 FinalLoadsTwice =
-    (l m : Linked) (i j : ℕ) → IsRewrittenTwice l m i j → IsLinked m → AreLeft m i j
+    (l m : Linked) (i j : ℕ) → IsRewrittenTwice l m i j → IsLinked m → UntouchedInstructions m i j
     → IsWrittenByNoOther m i (relocation_in m.relocations i).offset
     → IsSomeAnd (aarch64_row names.R_AARCH64_ADR_GOT_PAGE) (FinalBytesLoadTheSame l m i)
 

@@ -11,15 +11,15 @@ use Rattle.linker_final.specs.declared.sections.PhaseError.TheVariants as phase_
 use Rattle.linker_rewriting.specs.Decisions.{IsRejected, IsRejectedIn, IsRejectedPlaced}
 use Rattle.linker_rewriting.specs.Decisions.{AreDecidedIn, decision_at, start_at, written_end_at}
 use Rattle.linker_rewriting.specs.Decisions.{deletions_by}
-use Rattle.linker_rewriting.specs.Facts.{Setting, early}
+use Rattle.linker_rewriting.specs.Facts.{RelaxContext, pre_layout}
 use Rattle.linker_rewriting.specs.Kept.{IsWritingCause}
 use Rattle.linker_rewriting.specs.Rewritten.{AreRelocationsAfter, AreDone, OthersStay}
 use Rattle.linker_rewriting.specs.declared.decisions.Decision.{Decision}
 use Rattle.linker_rewriting.specs.declared.decisions.Decision.TheVariants.{Kept}
 use Rattle.linker_rewriting.specs.declared.facts.OutputFacts.{OutputFacts}
 use Rattle.linker_rewriting.specs.declared.facts.SymbolFacts.{SymbolFacts}
-use Rattle.linker_rewriting.specs.declared.groups.KeptGroups.{KeptGroups}
-use Rattle.linker_rewriting.specs.declared.kept.KeptFacts.{KeptFacts}
+use Rattle.linker_rewriting.specs.declared.groups.UnrelaxableGroups.{UnrelaxableGroups}
+use Rattle.linker_rewriting.specs.declared.kept.FactsSnapshot.{FactsSnapshot}
 use Rattle.linker_section.specs.Fields.{IsField, field_end, field_len}
 use Rattle.linker_section.specs.Relocations.{relocation_in}
 use Rattle.linker_section.specs.Values.{offset_at}
@@ -32,8 +32,8 @@ use Rattle.linker_utils.specs.declared.elf.Architecture.{Architecture}
 
 -- One call of `rewrite_section` or `rewrite_placed_section`: what is passed, and what it leaves.
 pub record RewritingPhase : Type 0 where
-  pub setting : Setting
-  pub kept : List KeptGroups
+  pub context : RelaxContext
+  pub kept : List UnrelaxableGroups
   pub relocations : List ℕ
   pub section : List ℕ
   pub decisions : List Decision
@@ -41,11 +41,11 @@ pub record RewritingPhase : Type 0 where
   pub rewritten : List ℕ
 
 -- of what a call was passed and left
-abbrev pub rewriting_phase : Setting → List KeptGroups → List ℕ → List ℕ → List Decision → List ℕ
+abbrev pub rewriting_phase : RelaxContext → List UnrelaxableGroups → List ℕ → List ℕ → List Decision → List ℕ
     → List ℕ → RewritingPhase
-rewriting_phase setting kept relocations section decisions relocations_after rewritten =
+rewriting_phase context kept relocations section decisions relocations_after rewritten =
     record {
-      setting = setting;
+      context = context;
       kept = kept;
       relocations = relocations;
       section = section;
@@ -59,7 +59,7 @@ count_of p = length p.relocations / 24
 
 -- The call succeeded.
 pub record HasRewritten (p : RewritingPhase) : Type 0 where
-  pub decided : AreDecidedIn p.setting p.kept p.relocations p.section p.decisions (count_of p)
+  pub decided : AreDecidedIn p.context p.kept p.relocations p.section p.decisions (count_of p)
   pub relocations : AreRelocationsAfter p.decisions p.relocations p.relocations_after (count_of p)
   pub done : AreDone p.relocations p.decisions p.section p.rewritten (count_of p)
   pub others : OthersStay p.relocations p.decisions p.section p.rewritten (count_of p)
@@ -94,16 +94,16 @@ abbrev pub Keeps : ℕ → RewritingPhase → Type 0
 Keeps i p = decision_at p.decisions i ≡ Kept
 
 -- A phase leaves alone the relocation at an index and n bytes from a start on.
-pub record LeavesAlone (i start len : ℕ) (p : RewritingPhase) : Type 0 where
+pub record UntouchedInPhase (i start len : ℕ) (p : RewritingPhase) : Type 0 where
   pub kept : Keeps i p
   pub apart : (at : ℕ) → start ≤ at → at < start + len → RewritesNone at p
 
 -- What phases leave alone is the same after them.
-abbrev pub LeftAloneIsTheSame : Type 0
-LeftAloneIsTheSame =
+abbrev pub UntouchedBytesAreTheSame : Type 0
+UntouchedBytesAreTheSame =
     (phases : List RewritingPhase) (relocations section relocations_last last : List ℕ)
     → ArePhases phases relocations section relocations_last last
-    → (i start len : ℕ) → i < length relocations / 24 → All (LeavesAlone i start len) phases
+    → (i start len : ℕ) → i < length relocations / 24 → All (UntouchedInPhase i start len) phases
     → (relocation_in relocations_last i ≡ relocation_in relocations i)
     × (take len (drop start last) ≡ take len (drop start section))
 
@@ -113,8 +113,8 @@ LeftAloneIsTheSame =
 -- then to `relocate_section`, and what they leave.
 pub record Linked : Type 0 where
   -- what rewrites are chosen by
-  pub setting : Setting
-  pub kept : List KeptGroups
+  pub context : RelaxContext
+  pub kept : List UnrelaxableGroups
   -- the object's relocations and bytes, or those that earlier phases left
   pub relocations : List ℕ
   pub section : List ℕ
@@ -140,12 +140,12 @@ AreBytes bytes = All (λ b. b < 2 ^ 8) bytes
 
 -- All calls succeeded: what their contracts ensure.
 pub record IsLinked (l : Linked) : Type 0 where
-  pub decided : AreDecidedIn l.setting l.kept l.relocations l.section l.decisions (count l)
+  pub decided : AreDecidedIn l.context l.kept l.relocations l.section l.decisions (count l)
   pub relocations : AreRelocationsAfter l.decisions l.relocations l.relocations_after (count l)
   pub done : AreDone l.relocations l.decisions l.section l.rewritten (count l)
   pub others : OthersStay l.relocations l.decisions l.section l.rewritten (count l)
   pub later : ArePhases l.later l.relocations_after l.rewritten l.relocations_last l.last
-  pub written : AreWritten l.setting.architecture l.addresses l.relocations_last l.symbols
+  pub written : AreWritten l.context.architecture l.addresses l.relocations_last l.symbols
       l.last l.final
   -- what slices have
   pub as_many : length l.relocations_after ≡ length l.relocations
@@ -156,7 +156,7 @@ pub record IsLinked (l : Linked) : Type 0 where
 
 -- The first call succeeded, whatever becomes of the section then.
 pub record AreRewritten (l : Linked) : Type 0 where
-  pub decided : AreDecidedIn l.setting l.kept l.relocations l.section l.decisions (count l)
+  pub decided : AreDecidedIn l.context l.kept l.relocations l.section l.decisions (count l)
   pub relocations : AreRelocationsAfter l.decisions l.relocations l.relocations_after (count l)
   pub done : AreDone l.relocations l.decisions l.section l.rewritten (count l)
   pub others : OthersStay l.relocations l.decisions l.section l.rewritten (count l)
@@ -167,7 +167,7 @@ abbrev pub linked_by : RewritingPhase → List RewritingPhase → List ℕ → L
     → List Symbol → List ℕ → Linked
 linked_by first later relocations_last last addresses symbols final =
     record {
-      setting = first.setting;
+      context = first.context;
       kept = first.kept;
       relocations = first.relocations;
       section = first.section;
@@ -183,12 +183,12 @@ linked_by first later relocations_last last addresses symbols final =
     }
 
 -- of one phase and that call
-abbrev pub linked : Setting → List KeptGroups → List ℕ → List ℕ → List Decision → List ℕ → List ℕ
+abbrev pub linked : RelaxContext → List UnrelaxableGroups → List ℕ → List ℕ → List Decision → List ℕ → List ℕ
     → Addresses → List Symbol → List ℕ → Linked
-linked setting kept relocations section decisions relocations_after rewritten
+linked context kept relocations section decisions relocations_after rewritten
     addresses symbols final =
     linked_by
-    (rewriting_phase setting kept relocations section decisions relocations_after rewritten) []
+    (rewriting_phase context kept relocations section decisions relocations_after rewritten) []
     relocations_after rewritten addresses symbols final
 
 -- Phases succeed one after the other, and then values are written. Each phase is one that the laws
@@ -202,8 +202,8 @@ AreLinked (p ∷ phases) relocations section relocations_last last addresses sym
     × AreLinked phases p.relocations_after p.rewritten relocations_last last addresses symbols final
 
 -- why a section isn't linked: the bytes are then as before, or rewritten
-abbrev pub IsLinkCause : Architecture → OutputFacts → List SymbolFacts → List KeptGroups
-    → List KeptFacts → Addresses → List Symbol → List ℕ → List ℕ → List Decision → List ℕ → List ℕ
+abbrev pub IsLinkCause : Architecture → OutputFacts → List SymbolFacts → List UnrelaxableGroups
+    → List FactsSnapshot → Addresses → List Symbol → List ℕ → List ℕ → List Decision → List ℕ → List ℕ
     → LinkError → Type 0
 IsLinkCause architecture output facts groups kept addresses symbols relocations section decisions
     relocations_after bytes (Rewriting error) =
@@ -212,7 +212,7 @@ IsLinkCause architecture output facts groups kept addresses symbols relocations 
 IsLinkCause architecture output facts groups kept addresses symbols relocations section decisions
     relocations_after bytes (Writing error) =
     HasRewritten
-    (rewriting_phase (early architecture output facts) groups relocations section decisions
+    (rewriting_phase (pre_layout architecture output facts) groups relocations section decisions
     relocations_after bytes)
     × IsWritingCause architecture output facts kept addresses relocations_after symbols bytes error
 
@@ -227,7 +227,7 @@ pub record AreListed (p : RewritingPhase) (before after : List (ℕ × ℕ)) : T
   pub others : drop len after ≡ drop len before
 
 -- why a section isn't linked in two phases, and what is in an array for what the second one deletes
-abbrev pub IsPhaseCause : Setting → List KeptGroups → Setting → List KeptGroups → List KeptFacts
+abbrev pub IsPhaseCause : RelaxContext → List UnrelaxableGroups → RelaxContext → List UnrelaxableGroups → List FactsSnapshot
     → Addresses → List Symbol → List ℕ → List ℕ → List Decision → List Decision → List ℕ → List ℕ
     → List (ℕ × ℕ) → List (ℕ × ℕ) → PhaseError → Type 0
 IsPhaseCause first groups second placed_groups kept addresses symbols relocations section
@@ -256,23 +256,23 @@ IsPhaseCause first groups second placed_groups kept addresses symbols relocation
 
 -- Later phases leave alone the relocation at an index and n bytes from a start on. Where
 -- there are none, they do.
-abbrev pub IsLeftAlone : Linked → ℕ → ℕ → ℕ → Type 0
-IsLeftAlone l i start len = All (LeavesAlone i start len) l.later
+abbrev pub UntouchedBytes : Linked → ℕ → ℕ → ℕ → Type 0
+UntouchedBytes l i start len = All (UntouchedInPhase i start len) l.later
 
 -- neither the rewrite nor the field of the relocation at an index has a byte
 abbrev pub HasNoByte : Linked → ℕ → ℕ → Type 0
 HasNoByte l j at =
     IsOutside l.relocations l.decisions j at
     × ((row : RelocationKindInfo)
-    → IsField l.setting.architecture l.relocations_last l.last j row
+    → IsField l.context.architecture l.relocations_last l.last j row
     → (at < offset_at l.relocations_last j) ⊎ (field_end l.relocations_last l.last j row ≤ at))
 
 -- No rewrite and no field of another relocation has one of n bytes from a start on, and later
 -- phases leave them alone.
-pub record AreAlone (l : Linked) (i start len : ℕ) : Type 0 where
+pub record UntouchedByOthers (l : Linked) (i start len : ℕ) : Type 0 where
   pub others :
       (j at : ℕ) → j < count l → j ≢ i → start ≤ at → at < start + len → HasNoByte l j at
-  pub left : IsLeftAlone l i start len
+  pub left : UntouchedBytes l i start len
 
 -- ---- instructions of 4 bytes
 
@@ -285,12 +285,12 @@ abbrev pub two_at : List ℕ → ℕ → List ℕ
 two_at bytes o = take 8 (drop o bytes)
 
 -- later phases leave alone the relocation at an index and the instruction at its offset
-abbrev pub InstructionIsLeft : Linked → ℕ → Type 0
-InstructionIsLeft l i = IsLeftAlone l i (relocation_in l.relocations i).offset 4
+abbrev pub UntouchedInstruction : Linked → ℕ → Type 0
+UntouchedInstruction l i = UntouchedBytes l i (relocation_in l.relocations i).offset 4
 
 -- those at two
-abbrev pub AreLeft : Linked → ℕ → ℕ → Type 0
-AreLeft l i j = InstructionIsLeft l i × InstructionIsLeft l j
+abbrev pub UntouchedInstructions : Linked → ℕ → ℕ → Type 0
+UntouchedInstructions l i j = UntouchedInstruction l i × UntouchedInstruction l j
 
 -- no rewrite of another relocation than the one at an index has a byte of the instruction at an
 -- offset
@@ -304,7 +304,7 @@ abbrev pub IsWrittenByNoOther : Linked → ℕ → ℕ → Type 0
 IsWrittenByNoOther l i o =
     (j at : ℕ) → j < count l → j ≢ i → o ≤ at → at < o + 4
     → (row : RelocationKindInfo)
-    → IsField l.setting.architecture l.relocations_last l.last j row
+    → IsField l.context.architecture l.relocations_last l.last j row
     → (at < offset_at l.relocations_last j) ⊎ (field_end l.relocations_last l.last j row ≤ at)
 
 -- bytes with n of others, from a start on

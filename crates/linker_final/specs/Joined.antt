@@ -11,7 +11,7 @@ pub record IsRewrittenAndPacked (l : Linked) (p : Packed) : Type 0 where
   pub rewritten : AreRewritten l
   pub later : ArePhases l.later l.relocations_after l.rewritten l.relocations_last l.last
   pub packed : IsPacked p
-  pub architecture : l.setting.architecture ≡ architecture_of p.machine
+  pub architecture : l.context.architecture ≡ architecture_of p.machine
   pub bytes : p.section.bytes ≡ l.last
   pub relocations : p.relocations ≡ l.relocations_last
   -- what slices have

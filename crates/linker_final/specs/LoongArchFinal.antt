@@ -12,7 +12,7 @@ use Rattle.linker_elf.specs.declared.elf.choice.Choice.{Choice}
 use Rattle.linker_elf.specs.declared.elf.value.Operands.{Operands}
 use Rattle.linker_elf.specs.declared.loongarch64.relocations.LoongArch64Relocation.{LoongArch64Relocation}
 use Rattle.linker_elf.specs.declared.loongarch64.relocations.LoongArch64Relocation.TheVariants as names
-use Rattle.linker_final.specs.Final.{AreLeft, AreRewritten, InstructionIsLeft, Linked, IsLinked}
+use Rattle.linker_final.specs.Final.{UntouchedInstructions, AreRewritten, UntouchedInstruction, Linked, IsLinked}
 use Rattle.linker_final.specs.Final.{IsRewrittenByNoOther, IsWrittenByNoOther, count}
 use Rattle.linker_final.specs.Final.{instruction_at}
 use Rattle.linker_laws.specs.LoongArchMachine.{State, AreAlikeBut, action_of, but_written, read}
@@ -21,7 +21,7 @@ use Rattle.linker_laws.specs.LoongArchRewriteLaws.{AgreeBut, Changes, Descriptor
 use Rattle.linker_laws.specs.LoongArchRewriteLaws.{HasDescriptor, HaveGoneOn, HaveShortened}
 use Rattle.linker_laws.specs.LoongArchRewriteLaws.{IsRelocated}
 use Rattle.linker_laws.specs.LoongArchRewriteLaws.{LoadsEntry, RunAlike, StepSo, StoresTheSame}
-use Rattle.linker_laws.specs.LoongArchRewriteLaws.{behind_call, high_offset, near_page, pair}
+use Rattle.linker_laws.specs.LoongArchRewriteLaws.{after_call, high_offset, near_page, pair}
 use Rattle.linker_laws.specs.LoongArchRewriteLaws.{thread_offset, with_register}
 use Rattle.linker_laws.specs.LoongArchRewriteLaws.{without_register, word_of}
 use Rattle.linker_laws.specs.Machine.{loaded}
@@ -30,7 +30,7 @@ use Rattle.linker_loongarch64.specs.LoongArchRewrites.{rd_of, rj_of, signed_12, 
 use Rattle.linker_loongarch64.specs.declared.rewrites.RelaxationKind.{RelaxationKind}
 use Rattle.linker_loongarch64.specs.declared.rewrites.RelaxationKind.TheVariants as kinds
 use Rattle.linker_rewriting.specs.Decisions.{AreDecidedIn, decision_at}
-use Rattle.linker_rewriting.specs.Facts.{early}
+use Rattle.linker_rewriting.specs.Facts.{pre_layout}
 use Rattle.linker_rewriting.specs.Rewritten.{AreDone}
 use Rattle.linker_rewriting.specs.declared.decisions.Decision.TheVariants.{Rewritten}
 use Rattle.linker_section.specs.Relocations.{relocation_in}
@@ -145,7 +145,7 @@ CallDoesNothing before after =
     → read 1 s ≡ loaded 8 s.memory (entry_and_addend x) → AgreeBut d s t
     → IsSomeAnd (step (word_of before) s) (λ u.
     (v : State) → call u ≡ Some v
-    → IsSomeAnd (step (word_of after) t) (HaveGoneOn (behind_call c d) s t v))
+    → IsSomeAnd (step (word_of after) t) (HaveGoneOn (after_call c d) s t v))
 
 -- The object's instruction adds the low part of a local-exec offset to a register that has the
 -- thread pointer's number. The other adds it to the thread pointer, whatever is in the registers
@@ -234,10 +234,10 @@ AnywhereUnwritten Holds l i =
 abbrev pub GotLoads : Type 0
 GotLoads =
     (l : Linked) → IsLinked l
-    → l.setting ≡ early LoongArch64 l.setting.output l.setting.symbols
+    → l.context ≡ pre_layout LoongArch64 l.context.output l.context.symbols
     → (i : ℕ) (chosen : Choice Relaxation ℕ) → i < count l
     → IsNameOf loongarch_name (relocation_in l.relocations i).code names.R_LARCH_GOT_PC_HI20
-    → decision_at l.decisions i ≡ Rewritten chosen → AreLeft l i (i + 2)
+    → decision_at l.decisions i ≡ Rewritten chosen → UntouchedInstructions l i (i + 2)
     → IsRewrittenByNoOther l i (relocation_in l.relocations i).offset
     → IsSomeAnd (loongarch_row names.R_LARCH_GOT_PC_HI20) (LoadsTheSame l i)
 
@@ -245,10 +245,10 @@ GotLoads =
 abbrev pub EachRewritten : (Relaxation → Type 0) → LoongArch64Relocation → LoongArch64Relocation
     → (Linked → ℕ → RelocationKindInfo → Type 0) → Type 0
 EachRewritten P name of_row Holds =
-    (l : Linked) → IsLinked l → l.setting.architecture ≡ LoongArch64
+    (l : Linked) → IsLinked l → l.context.architecture ≡ LoongArch64
     → (i : ℕ) (chosen : Choice Relaxation ℕ) → i < count l
     → IsNameOf loongarch_name (relocation_in l.relocations i).code name
-    → decision_at l.decisions i ≡ Rewritten chosen → InstructionIsLeft l i → P chosen.kind
+    → decision_at l.decisions i ≡ Rewritten chosen → UntouchedInstruction l i → P chosen.kind
     → IsSomeAnd (loongarch_row of_row) (Holds l i)
 
 abbrev pub IsAny : Relaxation → Type 0
@@ -293,9 +293,9 @@ LowParts =
 -- The same once instructions are rewritten, whatever becomes of the section then.
 abbrev pub MovedLowParts : Type 0
 MovedLowParts =
-    (l : Linked) → AreDecidedIn l.setting l.kept l.relocations l.section l.decisions (count l)
+    (l : Linked) → AreDecidedIn l.context l.kept l.relocations l.section l.decisions (count l)
     → AreDone l.relocations l.decisions l.section l.rewritten (count l)
-    → l.setting.architecture ≡ LoongArch64
+    → l.context.architecture ≡ LoongArch64
     → (i : ℕ) (chosen : Choice Relaxation ℕ) → i < count l
     → IsNameOf loongarch_name (relocation_in l.relocations i).code names.R_LARCH_TLS_LE_LO12_R
     → decision_at l.decisions i ≡ Rewritten chosen
@@ -311,7 +311,7 @@ named_as name r = record r { code = code_of (loongarch_name name) }
 abbrev pub EachAnywhere : (Relaxation → Type 0) → LoongArch64Relocation → LoongArch64Relocation
     → (Linked → ℕ → Type 0) → Type 0
 EachAnywhere P name after Holds =
-    (l : Linked) → AreRewritten l → l.setting.architecture ≡ LoongArch64
+    (l : Linked) → AreRewritten l → l.context.architecture ≡ LoongArch64
     → (i : ℕ) (chosen : Choice Relaxation ℕ) → i < count l
     → IsNameOf loongarch_name (relocation_in l.relocations i).code name
     → decision_at l.decisions i ≡ Rewritten chosen → P chosen.kind

@@ -9,7 +9,7 @@ use Rattle.linker_elf.specs.declared.elf.choice.Choice.{Choice}
 use Rattle.linker_elf.specs.declared.elf.value.Operands.{Operands}
 use Rattle.linker_elf.specs.declared.loongarch64.relocations.LoongArch64Relocation.{LoongArch64Relocation}
 use Rattle.linker_elf.specs.declared.loongarch64.relocations.LoongArch64Relocation.TheVariants as names
-use Rattle.linker_final.specs.Final.{InstructionIsLeft, IsRewrittenByNoOther, Linked, count}
+use Rattle.linker_final.specs.Final.{UntouchedInstruction, IsRewrittenByNoOther, Linked, count}
 use Rattle.linker_final.specs.Final.{instruction_at}
 use Rattle.linker_final.specs.Joined.{IsRewrittenAndPacked, IsKeptInstruction, final_instruction}
 use Rattle.linker_final.specs.LoongArchFinal.{CallDoesNothing, HasOffsetEntry, HighDoesTheSame}
@@ -67,7 +67,7 @@ EachKept P name of_row Holds =
     → (i : ℕ) (chosen : Choice Relaxation ℕ) → i < count l
     → IsNameOf loongarch_name (relocation_in l.relocations i).code name
     → decision_at l.decisions i ≡ Rewritten chosen → P chosen.kind → IsKeptInstruction p i
-    → InstructionIsLeft l i → IsSomeAnd (loongarch_row of_row) (Holds l p i)
+    → UntouchedInstruction l i → IsSomeAnd (loongarch_row of_row) (Holds l p i)
 
 -- of each relocation of a name, whose instruction became a nop and stays, where later phases leave
 -- it alone and no relocation has a field in it
@@ -76,7 +76,7 @@ EachNop name Holds =
     (l : Linked) (p : Packed) → IsRewrittenAndPacked l p → p.machine ≡ loongarch64
     → (i : ℕ) (chosen : Choice Relaxation ℕ) → i < count l
     → IsNameOf loongarch_name (relocation_in l.relocations i).code name
-    → decision_at l.decisions i ≡ Rewritten chosen → InstructionIsLeft l i
+    → decision_at l.decisions i ≡ Rewritten chosen → UntouchedInstruction l i
     → let o = (relocation_in l.relocations i).offset in
     StayTogether p o 4 → IsUnwritten p (place_of p o) 4
     → Holds (instruction_at l.section o) (final_instruction p o)

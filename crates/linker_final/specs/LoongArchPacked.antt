@@ -12,11 +12,11 @@ use Rattle.linker_elf.specs.declared.loongarch64.relocations.LoongArch64Relocati
 use Rattle.linker_elf.specs.declared.loongarch64.relocations.LoongArch64Relocation.TheVariants as names
 use Rattle.linker_final.specs.Packed.{Packed, AreDeleted, IsPacked, IsSiteOf, address_at}
 use Rattle.linker_final.specs.Packed.{StayTogether, count, place_of}
-use Rattle.linker_final.specs.Packed.{site_behind, site_bytes, site_len}
+use Rattle.linker_final.specs.Packed.{site_after, site_bytes, site_len}
 use Rattle.linker_final.specs.Packed.{site_offset, site_place, site_target}
 use Rattle.linker_laws.specs.LoongArchMachine.{AreAlikeBut, EndSo, State, read, step}
 use Rattle.linker_laws.specs.LoongArchRewriteLaws.{Fits32, HasPut, HaveCalled, HaveMade}
-use Rattle.linker_laws.specs.LoongArchRewriteLaws.{IsRelocated, IsRewritten, LoadsEntry, behind}
+use Rattle.linker_laws.specs.LoongArchRewriteLaws.{IsRelocated, IsRewritten, LoadsEntry, following}
 use Rattle.linker_laws.specs.LoongArchRewriteLaws.{no_register, pair, word_of}
 use Rattle.linker_laws.specs.Machine.{Relocated, loaded}
 use Rattle.linker_laws.specs.Schemes.{AreAddresses, entry_and_addend, plt_address, symbol_address}
@@ -55,7 +55,7 @@ CallsTheSame =
     → (s t : State) → s.pc ≡ x.place → t.pc ≡ site_place p here → AreAlikeBut no_register s t
     → EndSo (pair original (drop 4 original)) s (site_words p here) t
     (HaveCalled (destination p.section.bytes o) (rd_of (word_at p.section.bytes o))
-    (sum_64 x.place 8) (site_behind p here) (plt_address x) (site_target p here))
+    (sum_64 x.place 8) (site_after p here) (plt_address x) (site_target p here))
 
 -- ---- addresses
 
@@ -63,7 +63,7 @@ CallsTheSame =
 abbrev pub HaveMadeAddress : Packed → site → Operands → State → State → Type 0
 HaveMadeAddress p here x =
     HaveMade (destination p.section.bytes (site_offset p here)) (symbol_address x)
-    (site_target p here) (sum_64 x.place 8) (site_behind p here)
+    (site_target p here) (sum_64 x.place 8) (site_after p here)
 
 -- From states that are alike, each before its own instructions, the object's `pcalau12i` and
 -- `addi.d` with the values of their relocations and the final `pcaddi`, or both, make it.
@@ -74,7 +74,7 @@ AddressesAreMade =
     IsPcalaAt p.section.bytes o
     → (x : Operands) → AreAddresses x → (pcala addi : List ℕ) → Fits32 names.R_LARCH_PCALA_HI20 x
     → IsRelocated names.R_LARCH_PCALA_HI20 x (take 4 (drop o p.section.bytes)) pcala
-    → IsRelocated names.R_LARCH_PCALA_LO12 (behind 4 x) (take 4 (drop (o + 4) p.section.bytes)) addi
+    → IsRelocated names.R_LARCH_PCALA_LO12 (following 4 x) (take 4 (drop (o + 4) p.section.bytes)) addi
     → (s t : State) → s.pc ≡ x.place → t.pc ≡ site_place p here → AreAlikeBut no_register s t
     → EndSo (pair pcala addi) s (site_words p here) t (HaveMadeAddress p here x)
 
@@ -158,7 +158,7 @@ LongAddressesStay =
     AreAddresses y → Fits32 names.R_LARCH_PCALA_HI20 y
     → (x : Operands) → AreAddresses x → (pcala addi : List ℕ) → Fits32 names.R_LARCH_PCALA_HI20 x
     → IsRelocated names.R_LARCH_PCALA_HI20 x (take 4 (drop o p.section.bytes)) pcala
-    → IsRelocated names.R_LARCH_PCALA_LO12 (behind 4 x) (take 4 (drop (o + 4) p.section.bytes)) addi
+    → IsRelocated names.R_LARCH_PCALA_LO12 (following 4 x) (take 4 (drop (o + 4) p.section.bytes)) addi
     → (s t : State) → s.pc ≡ x.place → t.pc ≡ y.place → AreAlikeBut no_register s t
     → PairMakes p o x y (pair pcala addi) s t)
 

@@ -197,8 +197,8 @@ site_bytes p here =
 abbrev pub site_place : Packed → site → ℕ
 site_place p here = address_of p.section here.offset
 
-abbrev pub site_behind : Packed → site → ℕ
-site_behind p here = sum_64 (site_place p here) (site_len p here)
+abbrev pub site_after : Packed → site → ℕ
+site_after p here = sum_64 (site_place p here) (site_len p here)
 
 abbrev pub site_target : Packed → site → ℕ
 site_target p here = address_of p.section here.target

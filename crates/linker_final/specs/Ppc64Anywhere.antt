@@ -10,7 +10,7 @@ use Rattle.linker_elf.specs.declared.ppc64.forms.Ppc64Instruction.TheVariants.{D
 use Rattle.linker_elf.specs.declared.ppc64.relocations.Ppc64Relocation.{Ppc64Relocation}
 use Rattle.linker_elf.specs.declared.ppc64.relocations.Ppc64Relocation.TheVariants as names
 use Rattle.linker_final.specs.Final.{AreBytes, AreRewritten, Linked, count, instruction_at, two_at}
-use Rattle.linker_final.specs.Ppc64Final.{By, CallToBlockIsAlike, CallToLowHalfIsAlike}
+use Rattle.linker_final.specs.Ppc64Final.{IfRewrittenBy, CallToBlockIsAlike, CallToLowHalfIsAlike}
 use Rattle.linker_final.specs.Ppc64Final.{CallToSumIsAlike, EntryIsAlike, HighArgumentIsAlike}
 use Rattle.linker_final.specs.Ppc64Final.{HighIsAlike, IsCallBy, LoadIsAlike, LoadedArgumentIsAlike}
 use Rattle.linker_final.specs.Ppc64Final.{LeavesEntry, NearOffsetIsAlike, NearToInitialExec}
@@ -46,12 +46,12 @@ use Rattle.linker_utils.specs.declared.elf.Architecture.TheVariants.{Ppc64}
 abbrev pub named_as : Ppc64Relocation → Rela → Rela
 named_as name r = record r { code = code_of (ppc64_name name) }
 
-abbrev pub named_behind : Ppc64Relocation → Rela → Rela
-named_behind name r = record (named_as name r) { offset = r.offset + 4 }
+abbrev pub named_after : Ppc64Relocation → Rela → Rela
+named_after name r = record (named_as name r) { offset = r.offset + 4 }
 
 -- The bytes after have the rewritten instruction at an offset.
-abbrev pub IsLeft : Linked → ℕ → Type 0
-IsLeft l at = instruction_at l.final at ≡ instruction_at l.rewritten at
+abbrev pub UntouchedAt : Linked → ℕ → Type 0
+UntouchedAt l at = instruction_at l.final at ≡ instruction_at l.rewritten at
 
 -- They have the rewritten instruction with a relocation applied: with some operands, wherever it is
 -- and wherever its GOT entry is.
@@ -74,7 +74,7 @@ abbrev pub GoesAt : ℕ → Linked → ℕ → Type 0 → Type 0
 GoesAt at l i Holds =
     (relocation_in l.relocations_after i
     ≡ named_as names.R_PPC64_NONE (relocation_in l.relocations i))
-    × (IsLeft l at → Holds)
+    × (UntouchedAt l at → Holds)
 
 -- It holds of operands where that is the relocation's.
 abbrev pub Goes : Linked → ℕ → (Operands → Type 0) → Type 0
@@ -83,7 +83,7 @@ Goes l i Holds = GoesAt (offset_of l i) l i ((o : Operands) → AreAddresses o �
 -- each relocation of a name whose instruction is rewritten
 abbrev pub EachAnywhere : Ppc64Relocation → (Linked → ℕ → Choice Relaxation ℕ → Type 0) → Type 0
 EachAnywhere name Holds =
-    (l : Linked) → AreRewritten l → l.setting.architecture ≡ Ppc64
+    (l : Linked) → AreRewritten l → l.context.architecture ≡ Ppc64
     → (i : ℕ) (chosen : Choice Relaxation ℕ) → i < count l
     → IsNameOf ppc64_name (relocation_in l.relocations i).code name
     → decision_at l.decisions i ≡ Rewritten chosen → Holds l i chosen
@@ -97,7 +97,7 @@ RestoresTocAnywhere l i =
     → (relocation_in l.relocations_after i
     ≡ named_as names.R_PPC64_REL24 (relocation_in l.relocations i))
     × (instruction_at l.rewritten (offset_of l i) ≡ object l i)
-    × (IsLeft l (offset_of l i + 4) → NopRestoresToc l i)
+    × (UntouchedAt l (offset_of l i + 4) → NopRestoresToc l i)
 
 abbrev pub CallsAnywhere : Type 0
 CallsAnywhere = EachAnywhere names.R_PPC64_REL24 (λ l i chosen. RestoresTocAnywhere l i)
@@ -135,15 +135,15 @@ ThreadHalvesAnywhere =
 -- an `add`, and loads and stores
 abbrev pub VariableAnywhere : Linked → ℕ → Choice Relaxation ℕ → Type 0
 VariableAnywhere l i chosen =
-    By kinds.AddToAddi chosen (Becomes names.R_PPC64_TPREL16_LO l i (λ entry.
+    IfRewrittenBy kinds.AddToAddi chosen (Becomes names.R_PPC64_TPREL16_LO l i (λ entry.
     OverOffsetIsAlike (adds is_add_of_thread) l i))
-    ⊎ By kinds.IndexedToD chosen (Becomes names.R_PPC64_TPREL16_LO l i (λ entry.
+    ⊎ IfRewrittenBy kinds.IndexedToD chosen (Becomes names.R_PPC64_TPREL16_LO l i (λ entry.
     OverOffsetIsAlike (accesses is_indexed (λ word. access_with (access_of word))) l i))
-    ⊎ By kinds.IndexedToDs chosen (Becomes names.R_PPC64_TPREL16_LO_DS l i (λ entry.
+    ⊎ IfRewrittenBy kinds.IndexedToDs chosen (Becomes names.R_PPC64_TPREL16_LO_DS l i (λ entry.
     OverOffsetIsAlike (accesses is_indexed_word (λ word. word_access_with (access_of word))) l i))
-    ⊎ By kinds.AddToMove chosen (GoesAt (marked_offset l i) l i ((o : Operands)
+    ⊎ IfRewrittenBy kinds.AddToMove chosen (GoesAt (marked_offset l i) l i ((o : Operands)
     → OverVariableIsAlike (adds is_add_of_thread) l i o))
-    ⊎ By kinds.IndexedToDirect chosen (GoesAt (marked_offset l i) l i ((o : Operands)
+    ⊎ IfRewrittenBy kinds.IndexedToDirect chosen (GoesAt (marked_offset l i) l i ((o : Operands)
     → OverVariableIsAlike (accesses is_indexed_any indexed_access) l i o))
 
 abbrev pub InitialExecAnywhere : Type 0
@@ -160,40 +160,40 @@ InitialExecAnywhere =
 -- for local-exec, and for initial-exec
 abbrev pub GeneralHighAnywhere : Linked → ℕ → Choice Relaxation ℕ → Type 0
 GeneralHighAnywhere l i chosen =
-    By kinds.AddisToNop chosen (Goes l i (NoEntryIsAlike l i))
-    ⊎ By kinds.KeepAddis chosen (Becomes names.R_PPC64_GOT_TPREL16_HA l i (EntryIsAlike l i))
+    IfRewrittenBy kinds.AddisToNop chosen (Goes l i (NoEntryIsAlike l i))
+    ⊎ IfRewrittenBy kinds.KeepAddis chosen (Becomes names.R_PPC64_GOT_TPREL16_HA l i (EntryIsAlike l i))
 
 abbrev pub GeneralArgumentAnywhere : Linked → ℕ → Choice Relaxation ℕ → Type 0
 GeneralArgumentAnywhere l i chosen =
-    By kinds.AddiToAddisThread chosen (Becomes names.R_PPC64_TPREL16_HA l i (λ entry.
+    IfRewrittenBy kinds.AddiToAddisThread chosen (Becomes names.R_PPC64_TPREL16_HA l i (λ entry.
     HighArgumentIsAlike l i))
-    ⊎ By kinds.AddiToLd chosen (Becomes names.R_PPC64_GOT_TPREL16_LO_DS l i
+    ⊎ IfRewrittenBy kinds.AddiToLd chosen (Becomes names.R_PPC64_GOT_TPREL16_LO_DS l i
     (LoadedArgumentIsAlike l i))
 
 -- The relocation of a call becomes one of the instruction after it, with a name.
 abbrev pub IsMarkAs : Ppc64Relocation → Linked → ℕ → Type 0
 IsMarkAs name l i =
-    relocation_in l.relocations_after i ≡ named_behind name (relocation_in l.relocations i)
+    relocation_in l.relocations_after i ≡ named_after name (relocation_in l.relocations i)
 
 -- The bytes after have both rewritten instructions.
-abbrev pub IsCallLeft : Linked → ℕ → Type 0
-IsCallLeft l i = IsLeft l (offset_of l i) × IsLeft l (offset_of l i + 4)
+abbrev pub UntouchedCall : Linked → ℕ → Type 0
+UntouchedCall l i = UntouchedAt l (offset_of l i) × UntouchedAt l (offset_of l i + 4)
 
 -- They have a `nop`, and after it an instruction with a low half.
 abbrev pub IsCallApplied : Operands → Linked → ℕ → Type 0
 IsCallApplied o l i =
-    IsLeft l (offset_of l i)
+    UntouchedAt l (offset_of l i)
     × ((entry : ℕ) × IsAppliedAt names.R_PPC64_TPREL16_LO entry o l (offset_of l i + 4))
 
 abbrev pub GeneralCallAnywhere : Linked → ℕ → Choice Relaxation ℕ → Type 0
 GeneralCallAnywhere l i chosen =
-    By kinds.BranchToNop chosen (GoesAt (offset_of l i) l i (BranchToNopIsAlike l i))
-    ⊎ By kinds.BranchToAdd chosen (GoesAt (offset_of l i) l i ((o : Operands)
+    IfRewrittenBy kinds.BranchToNop chosen (GoesAt (offset_of l i) l i (BranchToNopIsAlike l i))
+    ⊎ IfRewrittenBy kinds.BranchToAdd chosen (GoesAt (offset_of l i) l i ((o : Operands)
     → BranchToSumIsAlike l i o))
-    ⊎ By kinds.CallToAddi chosen (IsMarkAs names.R_PPC64_TPREL16_LO l i
+    ⊎ IfRewrittenBy kinds.CallToAddi chosen (IsMarkAs names.R_PPC64_TPREL16_LO l i
     × ((o : Operands) → IsCallApplied o l i → CallToLowHalfIsAlike l i o))
-    ⊎ By kinds.CallToAdd chosen (IsMarkAs names.R_PPC64_NONE l i
-    × (IsCallLeft l i → (o : Operands) → CallToSumIsAlike l i o))
+    ⊎ IfRewrittenBy kinds.CallToAdd chosen (IsMarkAs names.R_PPC64_NONE l i
+    × (UntouchedCall l i → (o : Operands) → CallToSumIsAlike l i o))
 
 abbrev pub GeneralDynamicAnywhere : Type 0
 GeneralDynamicAnywhere =
@@ -203,9 +203,9 @@ GeneralDynamicAnywhere =
 
 abbrev pub ModuleCallAnywhere : Linked → ℕ → Choice Relaxation ℕ → Type 0
 ModuleCallAnywhere l i chosen =
-    By kinds.BranchToNop chosen (GoesAt (offset_of l i) l i (BranchToNopIsAlike l i))
-    ⊎ By kinds.CallToAddi4096 chosen (IsMarkAs names.R_PPC64_NONE l i
-    × (IsCallLeft l i → CallToBlockIsAlike l i))
+    IfRewrittenBy kinds.BranchToNop chosen (GoesAt (offset_of l i) l i (BranchToNopIsAlike l i))
+    ⊎ IfRewrittenBy kinds.CallToAddi4096 chosen (IsMarkAs names.R_PPC64_NONE l i
+    × (UntouchedCall l i → CallToBlockIsAlike l i))
 
 abbrev pub LocalDynamicAnywhere : Type 0
 LocalDynamicAnywhere =
@@ -238,9 +238,9 @@ PrefixedGoes l i Holds =
 -- for local-exec, and for initial-exec
 abbrev pub PrefixedArgumentAnywhere : Linked → ℕ → Choice Relaxation ℕ → Type 0
 PrefixedArgumentAnywhere l i chosen =
-    By kinds.PaddiToPaddiThread chosen (BecomesPrefixed names.R_PPC64_TPREL34 l i (λ entry.
+    IfRewrittenBy kinds.PaddiToPaddiThread chosen (BecomesPrefixed names.R_PPC64_TPREL34 l i (λ entry.
     VariableArgumentIsAlike l i))
-    ⊎ By kinds.PaddiToPld chosen (BecomesPrefixed names.R_PPC64_GOT_TPREL_PCREL34 l i
+    ⊎ IfRewrittenBy kinds.PaddiToPld chosen (BecomesPrefixed names.R_PPC64_GOT_TPREL_PCREL34 l i
     (EntryArgumentIsAlike l i))
 
 -- of every prefixed instruction of general-dynamic, local-dynamic and initial-exec
@@ -261,11 +261,11 @@ LeavesItsEntry name l i = (o : Operands) → AreAddresses o → LeavesEntry name
 -- for local-exec, and for initial-exec, with a call of the same S + A
 abbrev pub NearAnywhere : Linked → ℕ → Choice Relaxation ℕ → Type 0
 NearAnywhere l i chosen =
-    By kinds.AddiToAddisThread chosen (Becomes names.R_PPC64_TPREL16_HA l i (λ entry o.
+    IfRewrittenBy kinds.AddiToAddisThread chosen (Becomes names.R_PPC64_TPREL16_HA l i (λ entry o.
     (j : ℕ) → IsCallBy l names.R_PPC64_TLSGD kinds.CallToAddi j → IsCallApplied o l j
     → NearToLocalExec l i j o))
-    ⊎ By kinds.AddiToLd chosen (Becomes names.R_PPC64_GOT_TPREL16_DS l i (λ entry o.
-    (j : ℕ) → IsCallBy l names.R_PPC64_TLSGD kinds.CallToAdd j → IsCallLeft l j
+    ⊎ IfRewrittenBy kinds.AddiToLd chosen (Becomes names.R_PPC64_GOT_TPREL16_DS l i (λ entry o.
+    (j : ℕ) → IsCallBy l names.R_PPC64_TLSGD kinds.CallToAdd j → UntouchedCall l j
     → NearToInitialExec l i j entry o))
 
 abbrev pub NearArgumentsAnywhere : Type 0
@@ -274,7 +274,7 @@ NearArgumentsAnywhere =
     LeavesItsEntry names.R_PPC64_GOT_TLSGD16 l i × NearAnywhere l i chosen)
     × EachAnywhere names.R_PPC64_GOT_TLSLD16 (λ l i chosen.
     LeavesItsEntry names.R_PPC64_GOT_TLSLD16 l i × Goes l i (λ o.
-    (j : ℕ) → IsCallBy l names.R_PPC64_TLSLD kinds.CallToAddi4096 j → IsCallLeft l j
+    (j : ℕ) → IsCallBy l names.R_PPC64_TLSLD kinds.CallToAddi4096 j → UntouchedCall l j
     → NearToModule l i j))
 
 -- ---- loads of addresses

@@ -14,7 +14,7 @@ use Rattle.linker_elf.specs.declared.ppc64.forms.Ppc64Instruction.TheVariants.{D
 use Rattle.linker_elf.specs.declared.ppc64.relocations.Ppc64Relocation.{Ppc64Relocation}
 use Rattle.linker_elf.specs.declared.ppc64.relocations.Ppc64Relocation.TheVariants as names
 use Rattle.linker_final.specs.Final.{Linked, IsLinked, count, instruction_at, two_at}
-use Rattle.linker_final.specs.Final.{IsLeftAlone, IsRewrittenByNoOther, IsWrittenByNoOther}
+use Rattle.linker_final.specs.Final.{UntouchedBytes, IsRewrittenByNoOther, IsWrittenByNoOther}
 use Rattle.linker_final.specs.Ppc64PrefixedFinal.{BlockArgumentIsAlike, BranchToNopIsAlike}
 use Rattle.linker_final.specs.Ppc64PrefixedFinal.{BranchToSumIsAlike, EntryArgumentIsAlike}
 use Rattle.linker_final.specs.Ppc64PrefixedFinal.{OverVariableIsAlike, PrefixedOffsetIsAlike}
@@ -67,17 +67,17 @@ ForOperands name l i Holds =
     AreAddresses o → Holds symbol o)
 
 -- It is rewritten so, and P holds.
-abbrev pub By : RelaxationKind → Choice Relaxation ℕ → Type 0 → Type 0
-By kind chosen P = (chosen.kind ≡ relaxations.Ppc64 kind) × P
+abbrev pub IfRewrittenBy : RelaxationKind → Choice Relaxation ℕ → Type 0 → Type 0
+IfRewrittenBy kind chosen P = (chosen.kind ≡ relaxations.Ppc64 kind) × P
 
 -- It holds where later phases leave the relocation and n bytes from an offset on alone.
-abbrev pub IfLeft : ℕ → Linked → ℕ → ℕ → Type 0 → Type 0
-IfLeft len l i o Holds = IsLeftAlone l i o len → Holds
+abbrev pub IfUntouched : ℕ → Linked → ℕ → ℕ → Type 0 → Type 0
+IfUntouched len l i o Holds = UntouchedBytes l i o len → Holds
 
 -- each relocation of a name whose instruction is rewritten
 abbrev pub EachChosen : Ppc64Relocation → (Linked → ℕ → Choice Relaxation ℕ → Type 0) → Type 0
 EachChosen name Holds =
-    (l : Linked) → IsLinked l → l.setting.architecture ≡ Ppc64
+    (l : Linked) → IsLinked l → l.context.architecture ≡ Ppc64
     → (i : ℕ) (chosen : Choice Relaxation ℕ) → i < count l
     → IsNameOf ppc64_name (relocation_in l.relocations i).code name
     → decision_at l.decisions i ≡ Rewritten chosen → Holds l i chosen
@@ -86,17 +86,17 @@ EachChosen name Holds =
 abbrev pub EachRewritten : ℕ → Ppc64Relocation → (Linked → ℕ → Choice Relaxation ℕ → Type 0)
     → Type 0
 EachRewritten len name Holds =
-    EachChosen name (λ l i chosen. IfLeft len l i (offset_of l i) (Holds l i chosen))
+    EachChosen name (λ l i chosen. IfUntouched len l i (offset_of l i) (Holds l i chosen))
 
 -- ---- calls
 
 -- In place of the `nop` to which a call returns register 2 gets the doubleword at r1 + 24.
 abbrev pub NopRestoresToc : Linked → ℕ → Type 0
 NopRestoresToc l i =
-    let behind = offset_of l i + 4 in
+    let following = offset_of l i + 4 in
     (f : Formats) (s : State)
-    → (step f (word_of (instruction_at l.section behind)) s ≡ Some (go_on s))
-    × (step f (word_of (instruction_at l.final behind)) s
+    → (step f (word_of (instruction_at l.section following)) s ≡ Some (go_on s))
+    × (step f (word_of (instruction_at l.final following)) s
     ≡ Some (go_on (write 2 (loaded 8 s.memory (sum_64 (s.registers 1) 24)) s)))
 
 -- The call is the object's with the value of its relocation.
@@ -234,20 +234,20 @@ HighIsAlike =
 abbrev pub MarkedIsAlike : Use → Linked → ℕ → Operands → Type 0
 MarkedIsAlike does l i o =
     let at = marked_offset l i in
-    IfLeft 4 l i at (IsWrittenByNoOther l i at → OverVariableIsAlike does l i o)
+    IfUntouched 4 l i at (IsWrittenByNoOther l i at → OverVariableIsAlike does l i o)
 
 -- an `add`, and loads and stores
 abbrev pub VariableIsAlike : Linked → ℕ → Choice Relaxation ℕ → Operands → Type 0
 VariableIsAlike l i chosen o =
-    By kinds.AddToAddi chosen
-    (IfLeft 4 l i (offset_of l i) (OverOffsetIsAlike (adds is_add_of_thread) l i o))
-    ⊎ By kinds.IndexedToD chosen (IfLeft 4 l i (offset_of l i)
+    IfRewrittenBy kinds.AddToAddi chosen
+    (IfUntouched 4 l i (offset_of l i) (OverOffsetIsAlike (adds is_add_of_thread) l i o))
+    ⊎ IfRewrittenBy kinds.IndexedToD chosen (IfUntouched 4 l i (offset_of l i)
     (OverOffsetIsAlike (accesses is_indexed (λ word. access_with (access_of word))) l i o))
-    ⊎ By kinds.IndexedToDs chosen (IfLeft 4 l i (offset_of l i)
+    ⊎ IfRewrittenBy kinds.IndexedToDs chosen (IfUntouched 4 l i (offset_of l i)
     (OverOffsetIsAlike (accesses is_indexed_word (λ word. word_access_with (access_of word)))
     l i o))
-    ⊎ By kinds.AddToMove chosen (MarkedIsAlike (adds is_add_of_thread) l i o)
-    ⊎ By kinds.IndexedToDirect chosen (MarkedIsAlike (accesses is_indexed_any indexed_access) l i o)
+    ⊎ IfRewrittenBy kinds.AddToMove chosen (MarkedIsAlike (adds is_add_of_thread) l i o)
+    ⊎ IfRewrittenBy kinds.IndexedToDirect chosen (MarkedIsAlike (accesses is_indexed_any indexed_access) l i o)
 
 -- of every instruction of initial-exec: S is an offset of the thread's, as in the relocations after
 abbrev pub InitialExec : Type 0
@@ -346,16 +346,16 @@ CallToBlockIsAlike l i =
     → CallIsAlike (sum_64 (s.registers 13) 0x1000) (λ n. n ≡ sum_64 (s.registers 13) 0) l i f s t
 
 -- It holds where no other relocation has a field in the instruction after the call.
-abbrev pub IfAloneBehind : Linked → ℕ → Type 0 → Type 0
-IfAloneBehind l i Holds = IsWrittenByNoOther l i (offset_of l i + 4) → Holds
+abbrev pub IfAloneAfter : Linked → ℕ → Type 0 → Type 0
+IfAloneAfter l i Holds = IsWrittenByNoOther l i (offset_of l i + 4) → Holds
 
 -- It holds where later phases leave the call of the relocation at an index alone.
-abbrev pub IfCallIsLeft : Linked → ℕ → Type 0 → Type 0
-IfCallIsLeft l j = IfLeft 8 l j (offset_of l j)
+abbrev pub IfUntouchedCall : Linked → ℕ → Type 0 → Type 0
+IfUntouchedCall l j = IfUntouched 8 l j (offset_of l j)
 
 -- the same of a call alone, in which no other relocation has a field
 abbrev pub IfBranchIsAlone : Linked → ℕ → Type 0 → Type 0
-IfBranchIsAlone l i Holds = IfLeft 4 l i (offset_of l i) (IfAlone l i Holds)
+IfBranchIsAlone l i Holds = IfUntouched 4 l i (offset_of l i) (IfAlone l i Holds)
 
 -- the high half of the entry
 abbrev pub NoEntryIsAlike : Linked → ℕ → Operands → Type 0
@@ -365,22 +365,22 @@ NoEntryIsAlike =
 -- for local-exec, and for initial-exec
 abbrev pub GeneralHighIsAlike : Linked → ℕ → Choice Relaxation ℕ → Symbol → Operands → Type 0
 GeneralHighIsAlike l i chosen symbol o =
-    By kinds.AddisToNop chosen (IfAlone l i (NoEntryIsAlike l i o))
-    ⊎ By kinds.KeepAddis chosen (EntryIsAlike l i symbol.thread_entry o)
+    IfRewrittenBy kinds.AddisToNop chosen (IfAlone l i (NoEntryIsAlike l i o))
+    ⊎ IfRewrittenBy kinds.KeepAddis chosen (EntryIsAlike l i symbol.thread_entry o)
 
 abbrev pub GeneralArgumentIsAlike : Linked → ℕ → Choice Relaxation ℕ → Symbol → Operands → Type 0
 GeneralArgumentIsAlike l i chosen symbol o =
-    By kinds.AddiToAddisThread chosen (HighArgumentIsAlike l i o)
-    ⊎ By kinds.AddiToLd chosen (LoadedArgumentIsAlike l i symbol.thread_entry o)
+    IfRewrittenBy kinds.AddiToAddisThread chosen (HighArgumentIsAlike l i o)
+    ⊎ IfRewrittenBy kinds.AddiToLd chosen (LoadedArgumentIsAlike l i symbol.thread_entry o)
 
 -- and for both of prefixed code
 abbrev pub GeneralCallIsAlike : Linked → ℕ → Choice Relaxation ℕ → Operands → Type 0
 GeneralCallIsAlike l i chosen o =
-    By kinds.BranchToNop chosen (IfBranchIsAlone l i (BranchToNopIsAlike l i))
-    ⊎ By kinds.BranchToAdd chosen (IfBranchIsAlone l i (BranchToSumIsAlike l i o))
-    ⊎ By kinds.CallToAddi chosen (IfCallIsLeft l i (IfAlone l i (CallToLowHalfIsAlike l i o)))
-    ⊎ By kinds.CallToAdd chosen
-    (IfCallIsLeft l i (IfAlone l i (IfAloneBehind l i (CallToSumIsAlike l i o))))
+    IfRewrittenBy kinds.BranchToNop chosen (IfBranchIsAlone l i (BranchToNopIsAlike l i))
+    ⊎ IfRewrittenBy kinds.BranchToAdd chosen (IfBranchIsAlone l i (BranchToSumIsAlike l i o))
+    ⊎ IfRewrittenBy kinds.CallToAddi chosen (IfUntouchedCall l i (IfAlone l i (CallToLowHalfIsAlike l i o)))
+    ⊎ IfRewrittenBy kinds.CallToAdd chosen
+    (IfUntouchedCall l i (IfAlone l i (IfAloneAfter l i (CallToSumIsAlike l i o))))
 
 -- of every instruction of general-dynamic whose argument has two halves
 abbrev pub GeneralDynamic : Type 0
@@ -399,9 +399,9 @@ NoModuleIsAlike =
 
 abbrev pub ModuleCallIsAlike : Linked → ℕ → Choice Relaxation ℕ → Type 0
 ModuleCallIsAlike l i chosen =
-    By kinds.BranchToNop chosen (IfBranchIsAlone l i (BranchToNopIsAlike l i))
-    ⊎ By kinds.CallToAddi4096 chosen
-    (IfCallIsLeft l i (IfAlone l i (IfAloneBehind l i (CallToBlockIsAlike l i))))
+    IfRewrittenBy kinds.BranchToNop chosen (IfBranchIsAlone l i (BranchToNopIsAlike l i))
+    ⊎ IfRewrittenBy kinds.CallToAddi4096 chosen
+    (IfUntouchedCall l i (IfAlone l i (IfAloneAfter l i (CallToBlockIsAlike l i))))
 
 -- of every such instruction of local-dynamic
 abbrev pub LocalDynamic : Type 0
@@ -418,8 +418,8 @@ LocalDynamic =
 -- for local-exec, and for initial-exec
 abbrev pub PrefixedArgumentIsAlike : Linked → ℕ → Choice Relaxation ℕ → Symbol → Operands → Type 0
 PrefixedArgumentIsAlike l i chosen symbol o =
-    By kinds.PaddiToPaddiThread chosen (VariableArgumentIsAlike l i o)
-    ⊎ By kinds.PaddiToPld chosen (EntryArgumentIsAlike l i symbol.thread_entry o)
+    IfRewrittenBy kinds.PaddiToPaddiThread chosen (VariableArgumentIsAlike l i o)
+    ⊎ IfRewrittenBy kinds.PaddiToPld chosen (EntryArgumentIsAlike l i symbol.thread_entry o)
 
 -- of every prefixed instruction of general-dynamic, local-dynamic and initial-exec
 abbrev pub PrefixedThreads : Type 0
@@ -428,7 +428,7 @@ PrefixedThreads =
     ForOperands names.R_PPC64_TPREL34 l i (PrefixedArgumentIsAlike l i chosen))
     × EachRewritten 8 names.R_PPC64_GOT_TLSLD_PCREL34 (λ l i chosen.
     ForOperands names.R_PPC64_GOT_TLSLD_PCREL34 l i (λ symbol o.
-    IfAlone l i (IfAloneBehind l i (BlockArgumentIsAlike l i o))))
+    IfAlone l i (IfAloneAfter l i (BlockArgumentIsAlike l i o))))
     × EachRewritten 8 names.R_PPC64_GOT_TPREL_PCREL34 (λ l i chosen.
     ForOperands names.R_PPC64_TPREL34 l i (λ symbol. PrefixedOffsetIsAlike l i))
 
@@ -486,12 +486,12 @@ NearToModule l i j =
 abbrev pub NearIsAlike : Linked → ℕ → Choice Relaxation ℕ → Symbol → Operands → Type 0
 NearIsAlike l i chosen symbol o =
     LeavesEntry names.R_PPC64_GOT_TLSGD16 l i o
-    × (By kinds.AddiToAddisThread chosen ((j : ℕ)
+    × (IfRewrittenBy kinds.AddiToAddisThread chosen ((j : ℕ)
     → IsCallBy l names.R_PPC64_TLSGD kinds.CallToAddi j → AreOfOne l i j
-    → IfCallIsLeft l j (IfAlone l j (NearToLocalExec l i j o)))
-    ⊎ By kinds.AddiToLd chosen ((j : ℕ) → IsCallBy l names.R_PPC64_TLSGD kinds.CallToAdd j
-    → IfCallIsLeft l j
-    (IfAlone l j (IfAloneBehind l j (NearToInitialExec l i j symbol.thread_entry o)))))
+    → IfUntouchedCall l j (IfAlone l j (NearToLocalExec l i j o)))
+    ⊎ IfRewrittenBy kinds.AddiToLd chosen ((j : ℕ) → IsCallBy l names.R_PPC64_TLSGD kinds.CallToAdd j
+    → IfUntouchedCall l j
+    (IfAlone l j (IfAloneAfter l j (NearToInitialExec l i j symbol.thread_entry o)))))
 
 -- of every argument of `__tls_get_addr` near the TOC pointer
 abbrev pub NearArguments : Type 0
@@ -502,7 +502,7 @@ NearArguments =
     ForOperands names.R_PPC64_GOT_TLSLD16 l i (λ symbol o.
     LeavesEntry names.R_PPC64_GOT_TLSLD16 l i o
     × ((j : ℕ) → IsCallBy l names.R_PPC64_TLSLD kinds.CallToAddi4096 j
-    → IfCallIsLeft l j (IfAlone l i (IfAlone l j (IfAloneBehind l j (NearToModule l i j)))))))
+    → IfUntouchedCall l j (IfAlone l i (IfAlone l j (IfAloneAfter l j (NearToModule l i j)))))))
 
 -- ---- loads of addresses
 

@@ -7,9 +7,9 @@ use Rattle.linker_elf.specs.declared.elf.value.Operands.{Operands}
 use Rattle.linker_elf.specs.declared.ppc64.forms.Ppc64Instruction.TheVariants.{D, Ds}
 use Rattle.linker_elf.specs.declared.ppc64.relocations.Ppc64Relocation.{Ppc64Relocation}
 use Rattle.linker_elf.specs.declared.ppc64.relocations.Ppc64Relocation.TheVariants as names
-use Rattle.linker_final.specs.Final.{IsLeftAlone, IsLinked, IsRewrittenByNoOther, Linked, count}
+use Rattle.linker_final.specs.Final.{UntouchedBytes, IsLinked, IsRewrittenByNoOther, Linked, count}
 use Rattle.linker_final.specs.Final.{IsWrittenByNoOther, instruction_at}
-use Rattle.linker_final.specs.Ppc64Anywhere.{EachAnywhere, IsAppliedAt, IsCallApplied, IsLeft}
+use Rattle.linker_final.specs.Ppc64Anywhere.{EachAnywhere, IsAppliedAt, IsCallApplied, UntouchedAt}
 use Rattle.linker_final.specs.Ppc64Final.{final, object, offset_of}
 use Rattle.linker_final.specs.Twice.{AreTwoCalls}
 use Rattle.linker_laws.specs.Machine.{loaded}
@@ -45,7 +45,7 @@ pub record IsRewrittenTwice (len : ℕ) (name : Ppc64Relocation) (l m : Linked) 
     pub below : i < count l
     pub chosen : Choice Relaxation ℕ
     pub decided : decision_at l.decisions i ≡ Rewritten chosen
-    pub left : IsLeftAlone l i (offset_of l i) len
+    pub left : UntouchedBytes l i (offset_of l i) len
     pub below_again : i < count m
     pub chosen_again : Choice Relaxation ℕ
     pub decided_again : decision_at m.decisions i ≡ Rewritten chosen_again
@@ -68,9 +68,9 @@ EachTwiceBy kind name between Holds =
     → IsAppliedAt between entry o l (offset_of l i) → Holds l m i o
 
 -- It holds where the bytes after have what the second call leaves.
-abbrev pub IfLeft : (Linked → Linked → ℕ → Operands → Type 0) → Linked → Linked → ℕ → Operands
+abbrev pub IfUntouched : (Linked → Linked → ℕ → Operands → Type 0) → Linked → Linked → ℕ → Operands
     → Type 0
-IfLeft Holds l m i o = IsLeft m (offset_of m i) → Holds l m i o
+IfUntouched Holds l m i o = UntouchedAt m (offset_of m i) → Holds l m i o
 
 -- ---- three runs
 
@@ -98,7 +98,7 @@ NopDoesTheSame l m i o =
 
 abbrev pub NopIsAlikeTwice : Linked → Linked → ℕ → Operands → Type 0
 NopIsAlikeTwice l m i o =
-    IsRewrittenByNoOther l i (offset_of l i) → IfLeft NopDoesTheSame l m i o
+    IsRewrittenByNoOther l i (offset_of l i) → IfUntouched NopDoesTheSame l m i o
 
 -- `ld rT` of the entry, which holds the address, became `addi rT` over its register, and then over
 -- register 2.
@@ -179,8 +179,8 @@ EachVariableTwice kind low whole does =
 -- store by it
 abbrev pub InitialExecTwice : Type 0
 InitialExecTwice =
-    EachTwice names.R_PPC64_GOT_TPREL16_LO_DS names.R_PPC64_TPREL16_HA (IfLeft OffsetDoesTheSame)
-    × EachTwice names.R_PPC64_GOT_TPREL16_DS names.R_PPC64_TPREL16_HA (IfLeft NearOffsetDoesTheSame)
+    EachTwice names.R_PPC64_GOT_TPREL16_LO_DS names.R_PPC64_TPREL16_HA (IfUntouched OffsetDoesTheSame)
+    × EachTwice names.R_PPC64_GOT_TPREL16_DS names.R_PPC64_TPREL16_HA (IfUntouched NearOffsetDoesTheSame)
     × EachVariableTwice kinds.AddToAddi names.R_PPC64_TPREL16_LO names.R_PPC64_TPREL16
     (adds is_add_of_thread)
     × EachVariableTwice kinds.IndexedToD names.R_PPC64_TPREL16_LO names.R_PPC64_TPREL16
@@ -224,7 +224,7 @@ CallDoesTheSame l m i o =
 -- No other rewrite of the second call has a byte of the `nop` that the first one left.
 abbrev pub CallIsAlikeTwice : Linked → Linked → ℕ → Operands → Type 0
 CallIsAlikeTwice l m i o =
-    IsRewrittenByNoOther m i (offset_of l i) → IsLeft m (offset_of l i) → (own : ℕ)
+    IsRewrittenByNoOther m i (offset_of l i) → UntouchedAt m (offset_of l i) → (own : ℕ)
     → IsAppliedAt names.R_PPC64_TPREL16 own o m (offset_of m i) → CallDoesTheSame l m i o
 
 -- each that the first call of rewriting makes local-exec, where its low half can be applied between
@@ -239,14 +239,14 @@ EachCallTwice =
 abbrev pub GeneralDynamicTwice : Type 0
 GeneralDynamicTwice =
     EachTwiceBy kinds.AddiToAddisThread names.R_PPC64_GOT_TLSGD16_LO names.R_PPC64_TPREL16_HA
-    (IfLeft ArgumentDoesTheSame)
+    (IfUntouched ArgumentDoesTheSame)
     × EachCallTwice
 
 -- of every argument near the TOC pointer that became local-exec
 abbrev pub NearArgumentsTwice : Type 0
 NearArgumentsTwice =
     EachTwiceBy kinds.AddiToAddisThread names.R_PPC64_GOT_TLSGD16 names.R_PPC64_TPREL16_HA
-    (IfLeft NearArgumentDoesTheSame)
+    (IfUntouched NearArgumentDoesTheSame)
 
 -- ---- in the final bytes
 
@@ -255,7 +255,7 @@ NearArgumentsTwice =
 abbrev pub ForFinalOperands : ℕ → ℕ → Ppc64Relocation → Linked → Linked → ℕ → (Operands → Type 0)
     → Type 0
 ForFinalOperands start len name l m i Holds =
-    IsLinked m → IsLeftAlone m i start len
+    IsLinked m → UntouchedBytes m i start len
     → IsSomeAnd (ppc64_row name) (λ row. (symbol : Symbol) (got : ℕ)
     → slice_get m.symbols (relocation_in l.relocations i).symbol ≡ Some symbol
     → let o = operands_with Ppc64 m.addresses row symbol (relocation_in l.relocations i) got in
@@ -335,7 +335,7 @@ FinalNearArgumentsTwice =
 
 -- Instructions with a relocation of a name are rewritten in one phase alone, or in none.
 abbrev pub IsOfPhase : Phase → Ppc64Relocation → Type 0
-IsOfPhase phase name = EachAnywhere name (λ l i chosen. l.setting.phase ≡ phase)
+IsOfPhase phase name = EachAnywhere name (λ l i chosen. l.context.phase ≡ phase)
 
 abbrev pub IsOfNoPhase : Ppc64Relocation → Type 0
 IsOfNoPhase name = EachAnywhere name (λ l i chosen. ⊥)
@@ -344,16 +344,16 @@ IsOfNoPhase name = EachAnywhere name (λ l i chosen. ⊥)
 -- entries general-dynamic leads before addresses are known, and no later phase rewrites them.
 abbrev pub RewrittenAgain : Type 0
 RewrittenAgain =
-    IsOfPhase phases.Early names.R_PPC64_GOT_TPREL16_HA
-    × IsOfPhase phases.Early names.R_PPC64_GOT_TPREL16_LO_DS
-    × IsOfPhase phases.Early names.R_PPC64_GOT_TPREL16_DS
-    × IsOfPhase phases.Early names.R_PPC64_GOT_TPREL_PCREL34
-    × IsOfPhase phases.Early names.R_PPC64_REL24
-    × IsOfPhase phases.ThreadOffsets names.R_PPC64_TPREL16_HA
-    × IsOfPhase phases.ThreadOffsets names.R_PPC64_TPREL16_LO
-    × IsOfPhase phases.ThreadOffsets names.R_PPC64_TPREL16_LO_DS
-    × IsOfPhase phases.Distances names.R_PPC64_TOC16_HA
-    × IsOfPhase phases.Distances names.R_PPC64_TOC16_LO
+    IsOfPhase phases.PreLayout names.R_PPC64_GOT_TPREL16_HA
+    × IsOfPhase phases.PreLayout names.R_PPC64_GOT_TPREL16_LO_DS
+    × IsOfPhase phases.PreLayout names.R_PPC64_GOT_TPREL16_DS
+    × IsOfPhase phases.PreLayout names.R_PPC64_GOT_TPREL_PCREL34
+    × IsOfPhase phases.PreLayout names.R_PPC64_REL24
+    × IsOfPhase phases.TlsLocalExec names.R_PPC64_TPREL16_HA
+    × IsOfPhase phases.TlsLocalExec names.R_PPC64_TPREL16_LO
+    × IsOfPhase phases.TlsLocalExec names.R_PPC64_TPREL16_LO_DS
+    × IsOfPhase phases.ShortPcRel names.R_PPC64_TOC16_HA
+    × IsOfPhase phases.ShortPcRel names.R_PPC64_TOC16_LO
     × IsOfNoPhase names.R_PPC64_NONE × IsOfNoPhase names.R_PPC64_PCREL34
     × IsOfNoPhase names.R_PPC64_TPREL34
     × IsOfNoPhase names.R_PPC64_TOC16 × IsOfNoPhase names.R_PPC64_TOC16_DS

@@ -43,8 +43,8 @@ pub record IsSkipped (power address padding most : ℕ) : Type 0 where
 
 -- N bytes of padding from an address on are what an alignment requires there. One with a
 -- limit has at most as many, or none.
-abbrev pub Holds : Alignment → ℕ → ℕ → Type 0
-Holds alignment address padding =
+abbrev pub AlignmentHolds : Alignment → ℕ → ℕ → Type 0
+AlignmentHolds alignment address padding =
     MatchOption alignment.max_skip (IsAligned alignment.alignment address padding)
     (λ most. (IsAligned alignment.alignment address padding × (padding ≤ most))
     ⊎ IsSkipped alignment.alignment address padding most)
@@ -78,7 +78,7 @@ pub record LeadsInto (p : Packed) (alignment : Alignment) : Type 0 where
 -- An alignment has the padding that it requires where that goes. The code after it goes next to
 -- that, and is in the final section at this address.
 pub record HoldsIn (p : Packed) (alignment : Alignment) : Type 0 where
-  pub holds : Holds alignment (padding_at p alignment) (padding_len p alignment)
+  pub holds : AlignmentHolds alignment (padding_at p alignment) (padding_len p alignment)
   pub next : code_at p alignment ≡ padding_at p alignment + padding_len p alignment
   pub inside : LeadsInto p alignment → code_index p alignment ≤ length p.final
   pub there : LeadsInto p alignment

@@ -13,7 +13,7 @@ use Rattle.linker_elf.specs.declared.riscv64.relocations.RiscVRelocation.{RiscVR
 use Rattle.linker_elf.specs.declared.riscv64.relocations.RiscVRelocation.TheVariants as names
 use Rattle.linker_final.specs.Final.{IsRewrittenByNoOther, IsWrittenByNoOther}
 use Rattle.linker_final.specs.Final.{instruction_at}
-use Rattle.linker_final.specs.Final.{AreLeft, AreRewritten, InstructionIsLeft, Linked, IsLinked}
+use Rattle.linker_final.specs.Final.{UntouchedInstructions, AreRewritten, UntouchedInstruction, Linked, IsLinked}
 use Rattle.linker_final.specs.Final.{count}
 use Rattle.linker_laws.specs.Machine.{Relocated, but, loaded}
 use Rattle.linker_laws.specs.RiscVMachine.{Action, Hart, register, rs1_of, rs2_of}
@@ -25,8 +25,8 @@ use Rattle.linker_laws.specs.RiscVRewriteLaws.{differs_after, even_in_thread, no
 use Rattle.linker_laws.specs.RiscVRewriteLaws.{of_entry, offset_row, scratch_of, word_of}
 use Rattle.linker_laws.specs.Schemes.{AreAddresses, entry_and_addend, symbol_address}
 use Rattle.linker_rewriting.specs.Decisions.{decision_at, deleted_of}
-use Rattle.linker_rewriting.specs.Labels.{IsHighIn}
-use Rattle.linker_rewriting.specs.declared.decisions.Decision.TheVariants.{Redirected, Rewritten}
+use Rattle.linker_rewriting.specs.RiscVPcrelGroups.{IsHighIn}
+use Rattle.linker_rewriting.specs.declared.decisions.Decision.TheVariants.{RewrittenWithSymbol, Rewritten}
 use Rattle.linker_rewriting.specs.declared.decisions.Subject.{Subject}
 use Rattle.linker_riscv64.specs.RiscVRewrites.{deleted_from, rd_of, tp}
 use Rattle.linker_riscv64.specs.declared.rewrites.RelaxationKind.{RelaxationKind}
@@ -107,14 +107,14 @@ LowPartDoesTheSame l i action row =
     × GoOn action (rd_of word) (even_in_thread (register k tp) operands) (sum_64 h.pc 4)
     (sum_64 k.pc 4) a b)
 
--- In the setting by which rewrites were chosen, the offset of a thread-local symbol is a number of
+-- In the context by which rewrites were chosen, the offset of a thread-local symbol is a number of
 -- 12 bits.
 abbrev pub OffsetIsLow : Linked → ℕ → RelocationKindInfo → Type 0
 OffsetIsLow l i row =
     let r = relocation_in l.relocations i in
-    (symbol : Symbol) → slice_get l.setting.values r.symbol ≡ Some symbol
+    (symbol : Symbol) → slice_get l.context.values r.symbol ≡ Some symbol
     → symbol.is_thread_local ≡ true
-    → IsLowOffset (operands_with RiscV l.setting.addresses row symbol r 0)
+    → IsLowOffset (operands_with RiscV l.context.addresses row symbol r 0)
 
 -- ---- what is deleted before them
 
@@ -159,12 +159,12 @@ pub record IsOfDescriptor (l : Linked) (high : ℕ) (name : RiscVRelocation) (di
     (kind : RelaxationKind) (n : ℕ) : Type 0 where
   pub below : n < count l
   pub name_is : IsNameOf riscv_name (relocation_in l.relocations n).code name
-  pub behind : (relocation_in l.relocations n).offset
+  pub following : (relocation_in l.relocations n).offset
       ≡ (relocation_in l.relocations high).offset + distance
-  pub labels : IsHighIn l.setting l.relocations (relocation_in l.relocations n) (Some high)
+  pub labels : IsHighIn l.context l.relocations (relocation_in l.relocations n) (Some high)
   pub chosen : Choice Relaxation ℕ
   pub subject : Subject
-  pub decided : decision_at l.decisions n ≡ Redirected chosen subject
+  pub decided : decision_at l.decisions n ≡ RewrittenWithSymbol chosen subject
   pub kind_is : chosen.kind ≡ relaxations.RiscV kind
 
 -- The object's sequence of a TLS descriptor, from the offset of its high part on, runs to the call
@@ -192,7 +192,7 @@ EndsAsReturned l o call c h auipc_of ld_of addi_of n new k =
 -- the high part, and ends as the function returns to the first. What is said of the operands holds.
 abbrev pub OffsetIsTheSame : ℕ → (ℕ → List ℕ) → (Operands → Type 0) → Linked → ℕ
     → RelocationKindInfo → Type 0
-OffsetIsTheSame n behind Said l high row =
+OffsetIsTheSame n following Said l high row =
     let r = relocation_in l.relocations high in
     (symbol : Symbol) → slice_get l.symbols r.symbol ≡ Some symbol
     → (call : Hart → Option Hart) (c : Changes) (entry : ℕ) (h k : Hart)
@@ -200,7 +200,7 @@ OffsetIsTheSame n behind Said l high row =
     → let operands = operands_with RiscV l.addresses row symbol r entry in
     Said operands → RunsToCall l r.offset call c operands h auipc_of ld_of addi_of
     → k.pc < 2 ^ 64 → AreAlike no_register h k
-    → EndsAsReturned l r.offset call c h auipc_of ld_of addi_of n (behind r.offset) k
+    → EndsAsReturned l r.offset call c h auipc_of ld_of addi_of n (following r.offset) k
 
 -- The final bytes of an instruction of a descriptor, which became a nop, change nothing but the pc.
 abbrev pub DoesNothing : Linked → ℕ → Type 0
@@ -288,8 +288,8 @@ ShortOffsetIsTheSameAnywhere l high =
 -- where no other rewrite has a byte of the `auipc`
 abbrev pub GotLoads : Type 0
 GotLoads =
-    (l : Linked) → IsLinked l → l.setting.architecture ≡ RiscV
-    → (i j : ℕ) → AreOfLoad l i j → AreLeft l i j
+    (l : Linked) → IsLinked l → l.context.architecture ≡ RiscV
+    → (i j : ℕ) → AreOfLoad l i j → UntouchedInstructions l i j
     → IsRewrittenByNoOther l i (relocation_in l.relocations i).offset
     → IsSomeAnd (riscv_row names.R_RISCV_GOT_HI20) (LoadsTheSame l i)
 
@@ -297,10 +297,10 @@ GotLoads =
 -- relocation is of: a store with that of stores. Later phases leave it alone.
 abbrev pub LowPartsOf : RiscVRelocation → Type 0
 LowPartsOf name =
-    (l : Linked) → IsLinked l → l.setting.architecture ≡ RiscV
+    (l : Linked) → IsLinked l → l.context.architecture ≡ RiscV
     → (i : ℕ) (chosen : Choice Relaxation ℕ) → i < count l
     → IsNameOf riscv_name (relocation_in l.relocations i).code name
-    → decision_at l.decisions i ≡ Rewritten chosen → InstructionIsLeft l i
+    → decision_at l.decisions i ≡ Rewritten chosen → UntouchedInstruction l i
     → IsSomeAnd (action_at l.section (relocation_in l.relocations i).offset) (λ action.
     offset_row action ≡ riscv_row name
     → IsSomeAnd (riscv_row name) (LowPartDoesTheSame l i action))
@@ -311,7 +311,7 @@ LowParts = LowPartsOf names.R_RISCV_TPREL_LO12_I × LowPartsOf names.R_RISCV_TPR
 -- of every `lui` of such an offset, and of every `add`
 abbrev pub HighParts : Type 0
 HighParts =
-    (l : Linked) → IsLinked l → l.setting.architecture ≡ RiscV
+    (l : Linked) → IsLinked l → l.context.architecture ≡ RiscV
     → (i : ℕ) (chosen : Choice Relaxation ℕ) → i < count l
     → IsNameOf riscv_name (relocation_in l.relocations i).code names.R_RISCV_TPREL_HI20
     → decision_at l.decisions i ≡ Rewritten chosen
@@ -319,7 +319,7 @@ HighParts =
 
 abbrev pub Sums : Type 0
 Sums =
-    (l : Linked) → IsLinked l → l.setting.architecture ≡ RiscV
+    (l : Linked) → IsLinked l → l.context.architecture ≡ RiscV
     → (i : ℕ) (chosen : Choice Relaxation ℕ) → i < count l
     → IsNameOf riscv_name (relocation_in l.relocations i).code names.R_RISCV_TPREL_ADD
     → decision_at l.decisions i ≡ Rewritten chosen → SumGoes l i
@@ -329,28 +329,28 @@ Sums =
 -- them alone.
 abbrev pub Descriptors : Type 0
 Descriptors =
-    (l : Linked) → IsLinked l → l.setting.architecture ≡ RiscV → (high add call : ℕ)
+    (l : Linked) → IsLinked l → l.context.architecture ≡ RiscV → (high add call : ℕ)
     → IsOfDescriptor l high names.R_RISCV_TLSDESC_ADD_LO12 8 kinds.AddiToLui add
-    → IsOfDescriptor l high names.R_RISCV_TLSDESC_CALL 12 kinds.CallToAddi call → AreLeft l add call
+    → IsOfDescriptor l high names.R_RISCV_TLSDESC_CALL 12 kinds.CallToAddi call → UntouchedInstructions l add call
     → IsSomeAnd (riscv_row names.R_RISCV_TPREL_LO12_I) (OffsetIsTheSame 2
     (λ o. instruction_at l.final (o + 8) ++ instruction_at l.final (o + 12)) (λ _. ⊤) l high)
 
 abbrev pub ShortDescriptors : Type 0
 ShortDescriptors =
-    (l : Linked) → IsLinked l → l.setting.architecture ≡ RiscV → (high call : ℕ)
+    (l : Linked) → IsLinked l → l.context.architecture ≡ RiscV → (high call : ℕ)
     → IsOfDescriptor l high names.R_RISCV_TLSDESC_CALL 12 kinds.CallToAddiZero call
-    → InstructionIsLeft l call → IsSomeAnd (riscv_row names.R_RISCV_TPREL_LO12_I) (OffsetIsTheSame 1
+    → UntouchedInstruction l call → IsSomeAnd (riscv_row names.R_RISCV_TPREL_LO12_I) (OffsetIsTheSame 1
     (λ o. instruction_at l.final (o + 12)) IsLowOffset l high)
 
 -- of every instruction of a descriptor that became a nop, which later phases leave alone, where no
 -- other relocation has a field in it
 abbrev pub NopsOf : RiscVRelocation → Type 0
 NopsOf name =
-    (l : Linked) → IsLinked l → l.setting.architecture ≡ RiscV
+    (l : Linked) → IsLinked l → l.context.architecture ≡ RiscV
     → (i : ℕ) (chosen : Choice Relaxation ℕ) (subject : Subject) → i < count l
     → IsNameOf riscv_name (relocation_in l.relocations i).code name
-    → decision_at l.decisions i ≡ Redirected chosen subject
-    → chosen.kind ≡ relaxations.RiscV kinds.ReplaceWithLongNop → InstructionIsLeft l i
+    → decision_at l.decisions i ≡ RewrittenWithSymbol chosen subject
+    → chosen.kind ≡ relaxations.RiscV kinds.ReplaceWithLongNop → UntouchedInstruction l i
     → IsWrittenByNoOther l i (relocation_in l.relocations i).offset
     → DoesNothing l i
 
@@ -364,7 +364,7 @@ Nops =
 -- of every instruction of such an offset: the choice tested it
 abbrev pub OffsetsAreLowOf : RiscVRelocation → Type 0
 OffsetsAreLowOf name =
-    (l : Linked) → AreRewritten l → l.setting.architecture ≡ RiscV
+    (l : Linked) → AreRewritten l → l.context.architecture ≡ RiscV
     → (i : ℕ) (chosen : Choice Relaxation ℕ) → i < count l
     → IsNameOf riscv_name (relocation_in l.relocations i).code name
     → decision_at l.decisions i ≡ Rewritten chosen
@@ -378,7 +378,7 @@ OffsetsAreLow =
 -- of every load from the GOT
 abbrev pub GotLoadsAnywhere : Type 0
 GotLoadsAnywhere =
-    (l : Linked) → AreRewritten l → l.setting.architecture ≡ RiscV
+    (l : Linked) → AreRewritten l → l.context.architecture ≡ RiscV
     → (i j : ℕ) → AreOfPair l i j
     → IsRewrittenByNoOther l i (relocation_in l.relocations i).offset
     → let r = relocation_in l.relocations i in
@@ -390,7 +390,7 @@ GotLoadsAnywhere =
 -- of every low part
 abbrev pub LowPartsAnywhereOf : RiscVRelocation → Type 0
 LowPartsAnywhereOf name =
-    (l : Linked) → AreRewritten l → l.setting.architecture ≡ RiscV
+    (l : Linked) → AreRewritten l → l.context.architecture ≡ RiscV
     → (i : ℕ) (chosen : Choice Relaxation ℕ) → i < count l
     → IsNameOf riscv_name (relocation_in l.relocations i).code name
     → decision_at l.decisions i ≡ Rewritten chosen
@@ -406,7 +406,7 @@ LowPartsAnywhere =
 -- local-exec
 abbrev pub DescriptorsAnywhere : Type 0
 DescriptorsAnywhere =
-    (l : Linked) → AreRewritten l → l.setting.architecture ≡ RiscV → (high add call : ℕ)
+    (l : Linked) → AreRewritten l → l.context.architecture ≡ RiscV → (high add call : ℕ)
     → IsOfDescriptor l high names.R_RISCV_TLSDESC_ADD_LO12 8 kinds.AddiToLui add
     → IsOfDescriptor l high names.R_RISCV_TLSDESC_CALL 12 kinds.CallToAddi call
     → let r = relocation_in l.relocations high in
@@ -418,7 +418,7 @@ DescriptorsAnywhere =
 
 abbrev pub ShortDescriptorsAnywhere : Type 0
 ShortDescriptorsAnywhere =
-    (l : Linked) → AreRewritten l → l.setting.architecture ≡ RiscV → (high call : ℕ)
+    (l : Linked) → AreRewritten l → l.context.architecture ≡ RiscV → (high call : ℕ)
     → IsOfDescriptor l high names.R_RISCV_TLSDESC_CALL 12 kinds.CallToAddiZero call
     → (relocation_in l.relocations_after call
     ≡ named_as names.R_RISCV_TPREL_LO12_I (relocation_in l.relocations call)

@@ -10,7 +10,7 @@ use Rattle.linker_elf.specs.declared.elf.choice.Choice.{Choice}
 use Rattle.linker_elf.specs.declared.elf.value.Operands.{Operands}
 use Rattle.linker_elf.specs.declared.riscv64.relocations.RiscVRelocation.{RiscVRelocation}
 use Rattle.linker_elf.specs.declared.riscv64.relocations.RiscVRelocation.TheVariants as names
-use Rattle.linker_final.specs.Final.{AreLeft, InstructionIsLeft, IsRewrittenByNoOther, Linked}
+use Rattle.linker_final.specs.Final.{UntouchedInstructions, UntouchedInstruction, IsRewrittenByNoOther, Linked}
 use Rattle.linker_final.specs.Final.{count, instruction_at}
 use Rattle.linker_final.specs.Joined.{IsRewrittenAndPacked, IsKeptInstruction, final_instruction}
 use Rattle.linker_final.specs.Packed.{Packed, IsUnwritten, StayTogether, place_of}
@@ -24,7 +24,7 @@ use Rattle.linker_laws.specs.RiscVRewriteLaws.{StoresTheSame, action_at, differs
 use Rattle.linker_laws.specs.RiscVRewriteLaws.{even_in_thread, offset_row, word_of}
 use Rattle.linker_laws.specs.Schemes.{AreAddresses, entry_and_addend, symbol_address}
 use Rattle.linker_rewriting.specs.Decisions.{decision_at}
-use Rattle.linker_rewriting.specs.declared.decisions.Decision.TheVariants.{Redirected, Rewritten}
+use Rattle.linker_rewriting.specs.declared.decisions.Decision.TheVariants.{RewrittenWithSymbol, Rewritten}
 use Rattle.linker_rewriting.specs.declared.decisions.Subject.{Subject}
 use Rattle.linker_riscv64.specs.RiscVRewrites.{rd_of, tp}
 use Rattle.linker_riscv64.specs.declared.rewrites.RelaxationKind.TheVariants as kinds
@@ -143,7 +143,7 @@ FinalBytesDoNothing p o =
 abbrev pub PackedGotLoads : Type 0
 PackedGotLoads =
     (l : Linked) (p : Packed) → IsRewrittenAndPacked l p → p.machine ≡ RiscV64
-    → (i j : ℕ) → AreOfFinalLoad l p i j → AreLeft l i j
+    → (i j : ℕ) → AreOfFinalLoad l p i j → UntouchedInstructions l i j
     → IsRewrittenByNoOther l i (relocation_in l.relocations i).offset
     → IsSomeAnd (riscv_row names.R_RISCV_PCREL_HI20) (FinalBytesLoadTheSame l p i)
 
@@ -154,7 +154,7 @@ PackedLowPartsOf name =
     (l : Linked) (p : Packed) → IsRewrittenAndPacked l p → p.machine ≡ RiscV64
     → (i : ℕ) (chosen : Choice Relaxation ℕ) → i < count l
     → IsNameOf riscv_name (relocation_in l.relocations i).code name
-    → decision_at l.decisions i ≡ Rewritten chosen → IsKeptInstruction p i → InstructionIsLeft l i
+    → decision_at l.decisions i ≡ Rewritten chosen → IsKeptInstruction p i → UntouchedInstruction l i
     → IsSomeAnd (action_at l.section (relocation_in l.relocations i).offset) (λ action.
     offset_row action ≡ riscv_row name
     → IsSomeAnd (riscv_row name) (FinalLowPartDoesTheSame l p i action))
@@ -171,7 +171,7 @@ PackedDescriptors =
     → (high add call : ℕ)
     → IsOfDescriptor l high names.R_RISCV_TLSDESC_ADD_LO12 8 kinds.AddiToLui add
     → IsOfDescriptor l high names.R_RISCV_TLSDESC_CALL 12 kinds.CallToAddi call
-    → IsKeptInstruction p add → IsKeptInstruction p call → AreLeft l add call
+    → IsKeptInstruction p add → IsKeptInstruction p call → UntouchedInstructions l add call
     → IsSomeAnd (riscv_row names.R_RISCV_TPREL_LO12_I) (FinalOffsetIsTheSame l p high call)
 
 abbrev pub PackedShortDescriptors : Type 0
@@ -179,7 +179,7 @@ PackedShortDescriptors =
     (l : Linked) (p : Packed) → IsRewrittenAndPacked l p → p.machine ≡ RiscV64
     → (high call : ℕ)
     → IsOfDescriptor l high names.R_RISCV_TLSDESC_CALL 12 kinds.CallToAddiZero call
-    → IsKeptInstruction p call → InstructionIsLeft l call
+    → IsKeptInstruction p call → UntouchedInstruction l call
     → IsSomeAnd (riscv_row names.R_RISCV_TPREL_LO12_I) (FinalShortOffsetIsTheSame l p high call)
 
 -- of every instruction of a descriptor that became a nop, which later phases leave alone, and which
@@ -189,8 +189,8 @@ PackedNopsOf name =
     (l : Linked) (p : Packed) → IsRewrittenAndPacked l p → p.machine ≡ RiscV64
     → (i : ℕ) (chosen : Choice Relaxation ℕ) (subject : Subject) → i < count l
     → IsNameOf riscv_name (relocation_in l.relocations i).code name
-    → decision_at l.decisions i ≡ Redirected chosen subject
-    → chosen.kind ≡ relaxations.RiscV kinds.ReplaceWithLongNop → InstructionIsLeft l i
+    → decision_at l.decisions i ≡ RewrittenWithSymbol chosen subject
+    → chosen.kind ≡ relaxations.RiscV kinds.ReplaceWithLongNop → UntouchedInstruction l i
     → let o = (relocation_in l.relocations i).offset in
     StayTogether p o 4 → IsUnwritten p (place_of p o) 4 → FinalBytesDoNothing p o
 

@@ -76,7 +76,7 @@ abbrev pub LowPartsFromBase : Type 0
 LowPartsFromBase =
     PartsFromBase low_row symbol_address × PartsFromBase labelled_row distance
 
--- The relocation that `from_global_pointer` leaves of such a low part has the distance of S + A
+-- The relocation that `finish_gp_relaxation` leaves of such a low part has the distance of S + A
 -- from its base as its own S + A.
 abbrev pub ValuesAreDistances : Type 0
 ValuesAreDistances =

@@ -14,7 +14,7 @@ use Rattle.linker_elf.specs.declared.riscv64.relocations.RiscVRelocation.{RiscVR
 use Rattle.linker_elf.specs.declared.riscv64.relocations.RiscVRelocation.TheVariants as names
 use Rattle.linker_final.specs.Packed.{Packed, AreDeleted, IsPacked, IsSiteOf, StayTogether}
 use Rattle.linker_final.specs.Packed.{address_at, count, place_of}
-use Rattle.linker_final.specs.Packed.{site_behind, site_bytes, site_len, site_offset, site_place}
+use Rattle.linker_final.specs.Packed.{site_after, site_bytes, site_len, site_offset, site_place}
 use Rattle.linker_final.specs.Packed.{site_target}
 use Rattle.linker_laws.specs.Machine.{Relocated}
 use Rattle.linker_laws.specs.RiscVMachine.{Hart, register, rs1_of}
@@ -54,13 +54,13 @@ pub record HaveCalled (base link target back new_target new_back : ℕ) (a b : H
 -- relocation by some operands, and n instructions among the final bytes. From harts that are alike,
 -- each before its own call, both run to the target of their layout.
 abbrev pub CallsTheSame : Packed → ℕ → ℕ → List ℕ → ℕ → ℕ → ℕ → Type 0
-CallsTheSame p o n final_call place target behind =
+CallsTheSame p o n final_call place target following =
     (name : RiscVRelocation) → IsOfCall name → (x : Operands) → AreAddresses x → (original : List ℕ)
     → Relocated (riscv_row name) x (drop o p.section.bytes) original
     → (h k : Hart) → h.pc ≡ x.place → k.pc ≡ place → AreAlike no_register h k
     → EndSo 2 original h n final_call k
     (HaveCalled (rd_of (word_at p.section.bytes o)) (rd_of (word_at p.section.bytes (o + 4)))
-    (even plt_address x) (sum_64 x.place 8) target behind)
+    (even plt_address x) (sum_64 x.place 8) target following)
 
 -- ---- calls of sites
 
@@ -78,7 +78,7 @@ abbrev pub SitesCallTheSame : Type 0
 SitesCallTheSame =
     (p : Packed) → IsPacked p → p.machine ≡ RiscV64 → (i : ℕ) (call : site) → IsSiteOf p i call
     → CallsTheSame p (site_offset p call) (instructions_in (site_len p call)) (site_bytes p call)
-    (site_place p call) (landing (site_len p call) (site_target p call)) (site_behind p call)
+    (site_place p call) (landing (site_len p call) (site_target p call)) (site_after p call)
 
 -- ---- calls that stay
 

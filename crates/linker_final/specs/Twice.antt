@@ -8,8 +8,8 @@ use Rattle.linker_utils.specs.declared.elf.Architecture.{Architecture}
 pub record AreTwoCalls (architecture : Architecture) (l m : Linked) : Type 0 where
   pub first : AreRewritten l
   pub second : AreRewritten m
-  pub first_architecture : l.setting.architecture ≡ architecture
-  pub second_architecture : m.setting.architecture ≡ architecture
+  pub first_architecture : l.context.architecture ≡ architecture
+  pub second_architecture : m.context.architecture ≡ architecture
   pub between : ArePhases l.later l.relocations_after l.rewritten m.relocations m.section
   -- what slices have
   pub as_many : length l.relocations_after ≡ length l.relocations

@@ -11,7 +11,7 @@ use Rattle.linker_elf.specs.declared.elf.choice.Choice.{Choice}
 use Rattle.linker_elf.specs.declared.elf.value.Operands.{Operands}
 use Rattle.linker_elf.specs.declared.x86_64.relocations.X86_64Relocation.{X86_64Relocation}
 use Rattle.linker_elf.specs.declared.x86_64.relocations.X86_64Relocation.TheVariants as names
-use Rattle.linker_final.specs.Final.{Linked, IsLinked, AreAlone, count, put_back}
+use Rattle.linker_final.specs.Final.{Linked, IsLinked, UntouchedByOthers, count, put_back}
 use Rattle.linker_laws.specs.Schemes.{AreAddresses}
 use Rattle.linker_laws.specs.X86Machine.{State, load, step}
 use Rattle.linker_laws.specs.X86RewriteLaws.{IsRelocated, address, thread_offset}
@@ -65,12 +65,12 @@ DoesTheSame l i name operand row =
 -- relocation has a byte of the instruction, and later phases leave it alone.
 abbrev pub RewrittenDoTheSame : X86_64Relocation → GotOperand → Type 0
 RewrittenDoTheSame name operand =
-    (l : Linked) → IsLinked l → l.setting.architecture ≡ X86_64
+    (l : Linked) → IsLinked l → l.context.architecture ≡ X86_64
     → (i : ℕ) (chosen : Choice Relaxation ℕ) → i < count l
     → decision_at l.decisions i ≡ Rewritten chosen
     → let r = relocation_in l.relocations i in
     IsNameOf x86_64_name r.code name
-    → AreAlone l i (r.offset - operand.back) (operand.back + 4)
+    → UntouchedByOthers l i (r.offset - operand.back) (operand.back + 4)
     → (row : RelocationKindInfo) → IsRow X86_64 chosen.relocation (Some row)
     → DoesTheSame l i name operand row
 

@@ -12,7 +12,7 @@ use Rattle.linker_elf.specs.declared.elf.choice.Choice.{Choice}
 use Rattle.linker_elf.specs.declared.elf.value.Operands.{Operands}
 use Rattle.linker_elf.specs.declared.x86_64.relocations.X86_64Relocation.{X86_64Relocation}
 use Rattle.linker_elf.specs.declared.x86_64.relocations.X86_64Relocation.TheVariants as names
-use Rattle.linker_final.specs.Final.{AreAlone, HasNoByte, IsLeftAlone, IsLinked, Linked, count}
+use Rattle.linker_final.specs.Final.{UntouchedByOthers, HasNoByte, UntouchedBytes, IsLinked, Linked, count}
 use Rattle.linker_final.specs.Final.{put_back}
 use Rattle.linker_laws.specs.Schemes.{AreAddresses}
 use Rattle.linker_laws.specs.X86Machine.{State, extended, load, step}
@@ -21,7 +21,7 @@ use Rattle.linker_laws.specs.X86ThreadLaws.{AgreeAfterCall, AgreeBut, Changes, E
 use Rattle.linker_laws.specs.X86ThreadLaws.{HasDescriptor}
 use Rattle.linker_laws.specs.X86ThreadLaws.{HasThreadPointer, IsDescriptorCall, ReachTheSame}
 use Rattle.linker_laws.specs.X86ThreadLaws.{WritesNothing}
-use Rattle.linker_laws.specs.X86ThreadLaws.{also_register, behind_call, reg_after_rex}
+use Rattle.linker_laws.specs.X86ThreadLaws.{also_register, after_call, reg_after_rex}
 use Rattle.linker_laws.specs.X86ThreadLaws.{reg_after_rex2}
 use Rattle.linker_rewriting.specs.Decisions.{decision_at}
 use Rattle.linker_rewriting.specs.declared.decisions.Decision.TheVariants.{Rewritten}
@@ -43,8 +43,8 @@ object_in l o back end = put_back (o - back) (back + end) l.section l.final
 pub record AreAloneWithNext (l : Linked) (i start len : ℕ) : Type 0 where
   pub others : (j at : ℕ) → j < count l → j ≢ i → j ≢ i + 1 → start ≤ at → at < start + len
       → HasNoByte l j at
-  pub left : IsLeftAlone l i start len
-  pub next_left : IsLeftAlone l (i + 1) start len
+  pub left : UntouchedBytes l i start len
+  pub next_left : UntouchedBytes l (i + 1) start len
 
 -- a rewrite leaves an instruction that reads the variable's offset from a GOT entry
 abbrev pub reads_entry : Relaxation → Bool
@@ -61,7 +61,7 @@ EntryHolds false symbol operands s = ⊤
 -- of each relocation of a name that is rewritten
 abbrev pub EachRewritten : X86_64Relocation → (Linked → ℕ → Choice Relaxation ℕ → Type 0) → Type 0
 EachRewritten name Holds =
-    (l : Linked) → IsLinked l → l.setting.architecture ≡ X86_64
+    (l : Linked) → IsLinked l → l.context.architecture ≡ X86_64
     → (i : ℕ) (chosen : Choice Relaxation ℕ) → i < count l
     → IsNameOf x86_64_name (relocation_in l.relocations i).code name
     → decision_at l.decisions i ≡ Rewritten chosen → Holds l i chosen
@@ -185,7 +185,7 @@ CallDoesTheSame l i =
     → IsSomeAnd (step (drop (relocation_in l.relocations i).offset l.final) t) (λ v.
     WritesNothing t v
     × ((u : State) → IsDescriptorCall 2 changed returned s u → u.fs ≡ s.fs
-    → AgreeBut (behind_call changed s c) u v))
+    → AgreeBut (after_call changed s c) u v))
 
 -- ---- the laws
 
@@ -214,7 +214,7 @@ LocalDynamic =
 abbrev pub EachOffset : ℕ → (ℕ → ℕ) → X86_64Relocation → Type 0
 EachOffset n read name =
     EachRewritten name (λ l i chosen.
-    IsLeftAlone l i (relocation_in l.relocations i).offset n
+    UntouchedBytes l i (relocation_in l.relocations i).offset n
     → IsSomeAnd (x86_64_row name) (LeadsToTheSame n read name l i))
 
 -- Of every offset in a module's block that became one from the thread pointer. One of 32 bits is
@@ -229,7 +229,7 @@ abbrev pub EachLea : ℕ → X86_64Relocation → (List ℕ → ℕ) → Type 0
 EachLea n name register_of =
     EachRewritten name (λ l i chosen.
     let o = (relocation_in l.relocations i).offset in
-    AreAlone l i (o - n) (n + 4)
+    UntouchedByOthers l i (o - n) (n + 4)
     → IsSomeAnd (x86_64_row names.R_X86_64_TPOFF32) (LeaDoesTheSame n name register_of l i chosen))
 
 -- Of every `lea` of a descriptor's address that a linker rewrites, with REX and with REX2. No other
@@ -244,4 +244,4 @@ abbrev pub DescriptorCalls : Type 0
 DescriptorCalls =
     EachRewritten names.R_X86_64_TLSDESC_CALL (λ l i chosen.
     let o = (relocation_in l.relocations i).offset in
-    AreAlone l i o 2 → CallDoesTheSame l i)
+    UntouchedByOthers l i o 2 → CallDoesTheSame l i)

@@ -27,7 +27,7 @@ pub fn others()
 /// All architectures: what phases leave alone is the same after them, a relocation and bytes. So
 /// where earlier phases do, what a law says of what its phase takes, it says of the object's.
 pub fn phases()
-    ensures { final_bytes.LeftAloneIsTheSame }
+    ensures { final_bytes.UntouchedBytesAreTheSame }
 {}
 
 /// x86-64: each instruction whose operand in the GOT became an address, a distance or an offset
@@ -106,7 +106,7 @@ pub fn riscv64()
 /// RISC-V: each low part that `rewrite_global_pointer` takes does over x3 or x0, with the distance
 /// from it as its value, what the object's does over what its high part leaves. That its `lui` or
 /// `auipc` leaves this is a law too; what x3 has is a premise. The relocations that
-/// `from_global_pointer` leaves have these distances as their values.
+/// `finish_gp_relaxation` leaves have these distances as their values.
 pub fn riscv64_global_pointer()
     ensures low_parts { riscv64_near.LowPartsFromBase }
     ensures values { riscv64_near.ValuesAreDistances }

@@ -3,12 +3,12 @@
 ghost use Rattle.std.specs.Prelude.{◌≤◌, ◌/◌, ℕ, List, [], ◌∷◌, length, IfErr, OnOk};
 ghost use Rattle.linker_final.specs.Final.{IsLinked, IsLinkCause, linked};
 ghost use Rattle.linker_final.specs.Final.{AreLinked, AreListed, IsPhaseCause, rewriting_phase};
-ghost use Rattle.linker_rewriting.specs.Facts.{early, setting};
+ghost use Rattle.linker_rewriting.specs.Facts.{pre_layout, context};
 
 use linker_rewriting::decisions::{Decision, RewritingError};
 use linker_rewriting::facts::{OutputFacts, SymbolFacts};
-use linker_rewriting::groups::KeptGroups;
-use linker_rewriting::kept::{KeptFacts, WritingError, relocate_rewritten_section};
+use linker_rewriting::groups::UnrelaxableGroups;
+use linker_rewriting::kept::{FactsSnapshot, WritingError, relocate_rewritten_section};
 use linker_rewriting::phases::Phase;
 use linker_rewriting::sections::{rewrite_placed_section, rewrite_section};
 use linker_section::facts::{Addresses, Symbol};
@@ -35,8 +35,8 @@ pub fn link_section(
     architecture: Architecture,
     output: &OutputFacts,
     facts: &[SymbolFacts],
-    groups: &[KeptGroups],
-    kept: &[KeptFacts],
+    groups: &[UnrelaxableGroups],
+    kept: &[FactsSnapshot],
     addresses: &Addresses,
     symbols: &[Symbol],
     relocations: &mut [u8],
@@ -45,7 +45,7 @@ pub fn link_section(
     memory: &mut [u64],
 ) -> Result<(), LinkError>
     requires memory { length relocations.old / 24 ≤ length memory.old }
-    ensures linked { OnOk result ((rewritten : List ℕ) × IsLinked (linked (early architecture
+    ensures linked { OnOk result ((rewritten : List ℕ) × IsLinked (linked (pre_layout architecture
         output.now facts.now) groups.now relocations.old section.old decisions.new
         relocations.new rewritten addresses.now symbols.now section.new)) }
     ensures cause { IfErr result (IsLinkCause architecture output.now facts.now groups.now kept.now
@@ -106,9 +106,9 @@ pub fn link_section_in_two_phases(
     phase: Phase,
     output: &OutputFacts,
     facts: &[SymbolFacts],
-    groups: &[KeptGroups],
-    placed_groups: &[KeptGroups],
-    kept: &[KeptFacts],
+    groups: &[UnrelaxableGroups],
+    placed_groups: &[UnrelaxableGroups],
+    kept: &[FactsSnapshot],
     addresses: &Addresses,
     symbols: &[Symbol],
     relocations: &mut [u8],
@@ -121,17 +121,17 @@ pub fn link_section_in_two_phases(
     requires memory { length relocations.old / 24 ≤ length memory.old }
     ensures linked { OnOk result ((relocations_between : List ℕ) × (between : List ℕ)
         × (rewritten : List ℕ) × AreLinked
-        (rewriting_phase (early architecture output.now facts.now) groups.now relocations.old
+        (rewriting_phase (pre_layout architecture output.now facts.now) groups.now relocations.old
         section.old decisions.new relocations_between between
-        ∷ rewriting_phase (setting architecture phase output.now facts.now addresses.now
+        ∷ rewriting_phase (context architecture phase output.now facts.now addresses.now
         symbols.now) placed_groups.now relocations_between between placed_decisions.new
         relocations.new rewritten ∷ []) relocations.old section.old relocations.new rewritten
         addresses.now symbols.now section.new
-        × AreListed (rewriting_phase (setting architecture phase output.now facts.now addresses.now
+        × AreListed (rewriting_phase (context architecture phase output.now facts.now addresses.now
         symbols.now) placed_groups.now relocations_between between placed_decisions.new
         relocations.new rewritten) deleted.old deleted.new) }
-    ensures cause { IfErr result (IsPhaseCause (early architecture output.now facts.now) groups.now
-        (setting architecture phase output.now facts.now addresses.now symbols.now)
+    ensures cause { IfErr result (IsPhaseCause (pre_layout architecture output.now facts.now) groups.now
+        (context architecture phase output.now facts.now addresses.now symbols.now)
         placed_groups.now kept.now addresses.now symbols.now relocations.old section.old
         decisions.new placed_decisions.new relocations.new section.new deleted.old deleted.new) }
 {

@@ -13,7 +13,7 @@ use Rattle.linker_elf.specs.declared.elf.value.Operands.{Operands}
 use Rattle.linker_laws.specs.AArch64RelocationLaws as relocation_laws
 use Rattle.linker_laws.specs.Schemes.{AreAddresses}
 use Rattle.linker_laws.specs.AArch64RewriteLaws.{word_of, four, Descriptor, DescriptorOf}
-use Rattle.linker_laws.specs.AArch64RewriteLaws.{scratch, thread_offset, RunAlikeBehindCall}
+use Rattle.linker_laws.specs.AArch64RewriteLaws.{scratch, thread_offset, RunAlikeAfterCall}
 use Rattle.linker_laws.specs.AArch64RewriteLaws.{with_entry, AgreeBut, Changes}
 use Rattle.linker_laws.specs.AArch64RewriteLaws as aarch64_laws
 use Rattle.linker_laws.specs.AArch64Machine.{State, step, run, next_pc, go_on, go_to}
@@ -115,14 +115,14 @@ twice_other : (b : Bool) (u v r : ℕ) → b ≡ false → cond b v (cond b u r)
 twice_other b u v r h = cond-false b v (cond b u r) h ∙ cond-false b u r h
 
 -- After the call the states are alike.
-pub behind_call : (call : State → Option State) (changes : Changes) (o : Operands) (s : State)
+pub after_call : (call : State → Option State) (changes : Changes) (o : Operands) (s : State)
     (adrp ldr add blr : List ℕ) (t : ℕ) (old : List ℕ) (a b nop nop2 : ℕ) (u v : ℕ)
     → Descriptor call changes o s adrp ldr add blr
     → Calls t old (load_64 s.memory o.got_entry) o.got_entry s
     → step a s ≡ Some (set 0 u s) → step b (set 0 u s) ≡ Some (set 0 v (set 0 u s))
     → v ≡ thread_offset o → nop ≡ 0xd503201f → nop2 ≡ 0xd503201f
-    → RunAlikeBehindCall call (scratch t changes) old (a ∷ b ∷ nop ∷ nop2 ∷ []) s
-behind_call call changes o s adrp ldr add blr t old a b nop nop2 u v d c first second value third
+    → RunAlikeAfterCall call (scratch t changes) old (a ∷ b ∷ nop ∷ nop2 ∷ []) s
+after_call call changes o s adrp ldr add blr t old a b nop nop2 u v d c first second value third
     fourth =
     let differing = scratch t changes in
     let new = a ∷ b ∷ nop ∷ nop2 ∷ [] in
@@ -157,7 +157,7 @@ to_local_exec entries moves call changes o s adrp ldr add blr d movz movk nop no
     let m = offset_moves moves o d.small 0 (omega arith) (λ e. omega arith) movz movk movz1 movk1
     (word_is 0xd2a00000 movz (omega arith) made_movz)
     (word_is 0xf2800000 movk (omega arith) made_movk) a b s in
-    behind_call call changes o s adrp ldr add blr (rd_of (word_of ldr)) (four adrp1 ldr1 add1 blr)
+    after_call call changes o s adrp ldr add blr (rd_of (word_of ldr)) (four adrp1 ldr1 add1 blr)
     (word_of movz1) (word_of movk1) (word_of nop) (word_of nop2) _ _ d
     (calls entries call changes o s adrp ldr add blr adrp1 ldr1 add1 d is) m.first m.second
     m.value_is (word_is 0xd503201f nop (omega arith) made_nop)
@@ -189,7 +189,7 @@ to_initial_exec entries call changes o s adrp ldr add blr d entry below holds ad
     (λ e. omega arith) (λ e. omega arith) d.at
     (entries.3 e (small_entry entry o below d.small) o.place adrp0 adrp2 a tt (sum_64 o.place 4)
     ldr0 ldr2 b tt) in
-    behind_call call changes o s adrp ldr add blr (rd_of (word_of ldr)) (four adrp1 ldr1 add1 blr)
+    after_call call changes o s adrp ldr add blr (rd_of (word_of ldr)) (four adrp1 ldr1 add1 blr)
     (word_of adrp2) (word_of ldr2) (word_of nop) (word_of nop2) _ _ d
     (calls entries call changes o s adrp ldr add blr adrp1 ldr1 add1 d is) l.first l.second
     (l.value_is ∙ holds) (word_is 0xd503201f nop (omega arith) made_nop)

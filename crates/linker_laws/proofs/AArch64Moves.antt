@@ -20,7 +20,7 @@ use Rattle.linker_laws.specs.AArch64RelocationLaws.{movk, movn_or_movz}
 use Rattle.linker_laws.specs.AArch64RelocationLaws as relocation_laws
 use Rattle.linker_laws.specs.Schemes.{IsAddress, AreAddresses, symbol_address}
 use Rattle.linker_laws.proofs.Sums.{lift, lifted_is, sum_below}
-use Rattle.linker_laws.specs.AArch64RewriteLaws.{word_of, behind, IsRelocated, thread_offset}
+use Rattle.linker_laws.specs.AArch64RewriteLaws.{word_of, following, IsRelocated, thread_offset}
 use Rattle.linker_laws.specs.AArch64Machine.{State, step, in_64_bits, moved, with_moved, read_x}
 use Rattle.linker_laws.proofs.AArch64Steps.{set, step_move, step_movk, address_is, read_back}
 use Rattle.linker_laws.proofs.AArch64Words.{movnz_after, movk_after}
@@ -97,7 +97,7 @@ pub offset_moves : relocation_laws.ThreadMoves → (o : Operands) → AreAddress
     → n ≢ 31 → (movz movk movz1 movk1 : List ℕ) → word_of movz ≡ 0xd2a00000 + n
     → word_of movk ≡ 0xf2800000 + n
     → IsRelocated names.R_AARCH64_TLSLE_MOVW_TPREL_G1 o movz movz1
-    → IsRelocated names.R_AARCH64_TLSLE_MOVW_TPREL_G0_NC (behind 4 o) movk movk1
+    → IsRelocated names.R_AARCH64_TLSLE_MOVW_TPREL_G0_NC (following 4 o) movk movk1
     → (s : State) → Moves n (word_of movz1) (word_of movk1) (thread_offset o) s
 offset_moves laws o small n below named movz movk_bytes movz1 movk1 is_movz is_kept a b s =
     let x = word_of movz1 in

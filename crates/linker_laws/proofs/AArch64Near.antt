@@ -32,7 +32,7 @@ close n z small is within =
 pages : (t p q : ℕ) → t < 2 ^ 64 → p < 2 ^ 64 → q < 2 ^ 64 → difference_64 q p < 5
     → (difference_64 t q < 2 ^ 20) ⊎ (2 ^ 64 - 2 ^ 20 ≤ difference_64 t q)
     → (difference_64 (page t) (page p) < 2 ^ 32) ⊎ (2 ^ 64 - 2 ^ 32 ≤ difference_64 (page t) (page p))
-pages t p q small small' small'' behind near =
+pages t p q small small' small'' following near =
     elim (cases_lt (difference_64 (page t) (page p)) (2 ^ 32)) [
       | inl below ↦ inl below
       | inr above ↦ inr (elim near [
@@ -63,10 +63,10 @@ pub near : (t p q : ℕ) → t < 2 ^ 64 → p < 2 ^ 64 → q < 2 ^ 64 → differ
     → Some (cast_signed w64 (difference_64 (page t) (page p))) ≡ Some v
     → Some (cast_signed w64 (difference_64 t q)) ≡ Some w
     → IsWithin (Some (bit_bounds 21 Signed)) w → IsWithin (Some (bit_bounds 33 Signed)) v
-near t p q small small' small'' behind v w is is' within =
+near t p q small small' small'' following v w is is' within =
     let same : cast_signed w64 (difference_64 (page t) (page p)) ≡ v = cc in
     let same' : cast_signed w64 (difference_64 t q) ≡ w = cc in
     subst (λ z. IsWithin (Some (bit_bounds 33 Signed)) z) same
     (wide (difference_64 (page t) (page p)) (difference_below (page t) (page p))
-    (pages t p q small small' small'' behind
+    (pages t p q small small' small'' following
     (close (difference_64 t q) w (difference_below t q) same' within)))

@@ -16,7 +16,7 @@ use Rattle.linker_laws.specs.AArch64Machine.{State, step, in_64_bits, load_64, a
 use Rattle.linker_laws.specs.AArch64Machine.{loaded, added, add, ldr, adr_address}
 use Rattle.linker_laws.proofs.AArch64Steps.{set, step_adrp, step_ldr, step_add, in_two_steps}
 use Rattle.linker_laws.proofs.AArch64Steps.{loaded_from, address_is, read_back}
-use Rattle.linker_laws.proofs.AArch64Words.{IsAdrOf, IsOf, decodes_adrp}
+use Rattle.linker_laws.proofs.AArch64Words.{IsAdrOf, IsInstructionOf, decodes_adrp}
 
 -- ---- words of bytes
 
@@ -96,7 +96,7 @@ pub record Loads (n d x y value : ℕ) (s : State) : Type 0 where
       ≡ Some (set d (loaded y (set n (adrp_address x s) s)) (set n (adrp_address x s) s))
   pub value_is : loaded y (set n (adrp_address x s) s) ≡ value
 
-pub loads : (o : Operands) (n d x y entry : ℕ) (s : State) → IsAdrOf 1 n x → IsOf ldr d n y
+pub loads : (o : Operands) (n d x y entry : ℕ) (s : State) → IsAdrOf 1 n x → IsInstructionOf ldr d n y
     → n ≢ 31 → d ≢ 31 → s.pc ≡ o.place → IsAddress (page_and_offset LdSt 8 o x y) entry
     → Loads n d x y (load_64 s.memory entry) s
 loads o n d x y entry s first second named named2 at leads =
@@ -135,7 +135,7 @@ pub record Adds (n x y value : ℕ) (s : State) : Type 0 where
       ≡ Some (set n (added y (set n (adrp_address x s) s)) (set n (adrp_address x s) s))
   pub value_is : added y (set n (adrp_address x s) s) ≡ value
 
-pub adds_pair : (o : Operands) (n x y target : ℕ) (s : State) → IsAdrOf 1 n x → IsOf add n n y
+pub adds_pair : (o : Operands) (n x y target : ℕ) (s : State) → IsAdrOf 1 n x → IsInstructionOf add n n y
     → n ≢ 31 → s.pc ≡ o.place → IsAddress (page_and_offset Add 1 o x y) target
     → Adds n x y target s
 adds_pair o n x y target s first second named at leads =

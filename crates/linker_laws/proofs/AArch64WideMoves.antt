@@ -27,7 +27,7 @@ use Rattle.linker_elf.specs.declared.elf.value.Operands.{Operands}
 use Rattle.linker_elf.proofs.Taken.{taken_is_field}
 use Rattle.linker_laws.specs.AArch64RelocationLaws.{movk, movz, movn_or_movz}
 use Rattle.linker_elf.specs.Applied.{IsApplied}
-use Rattle.linker_laws.specs.Schemes.{IsAddress, AreAddresses, Premise, Holds}
+use Rattle.linker_laws.specs.Schemes.{IsAddress, AreAddresses, Premise, PremiseHolds}
 use Rattle.linker_laws.specs.Schemes.{of_words, none, number_at}
 use Rattle.linker_laws.proofs.Applied.{value_is, reads, taken_bits}
 use Rattle.linker_laws.proofs.Instructions.{IsNumber, row_of, is_read, reads_bits, field_sum}
@@ -132,7 +132,7 @@ abbrev pub IsFirst : RelocationKindInfo → Premise → ℕ → (ℕ → ℤ) �
 IsFirst row premise s move number =
     (o : Operands) → AreAddresses o → (before after : List ℕ)
     (applied : IsApplied row o before after)
-    → Holds premise (number_at row.size before) applied.value
+    → PremiseHolds premise (number_at row.size before) applied.value
     → bits_from s (move (from_le_bytes w32 after)) ≡ bits_from s (cast_signed w64 (number o))
 
 -- what the moves come to
@@ -183,7 +183,7 @@ pub moves1 : {begin target number : Operands → ℕ} → IsNumber begin target 
     → IsFirst row premise 0 move number
     → (o : Operands) → AreAddresses o
     → (at : ℕ) (before after : List ℕ) (step : IsApplied row o before after)
-    → Holds premise (number_at row.size before) step.value
+    → PremiseHolds premise (number_at row.size before) step.value
     → IsAddress (pos (begin o) +ℤ move (from_le_bytes w32 after)) (target o)
 moves1 {begin} {target} {number} leads row premise move first =
     λ o small at before after step holds.
@@ -206,11 +206,11 @@ pub moves2 : {begin target number : Operands → ℕ} → IsNumber begin target 
     (operands2 o at) ≡ Some (cast_signed w64 (number o)))
     → (o : Operands) → AreAddresses o
     → (at : ℕ) (before after : List ℕ) (step : IsApplied row o before after)
-    → Holds premise (number_at row.size before) step.value
+    → PremiseHolds premise (number_at row.size before) step.value
     → (at2 : ℕ) (before2 after2 : List ℕ)
     (step2 : IsApplied (row_of kind2 0 16 (AArch64 Movkz) mask2 range2 a2 bias2
     thunkable2 implicit2)
-    (operands2 o at2) before2 after2) → Holds none (from_le_bytes w32 before2) step2.value
+    (operands2 o at2) before2 after2) → PremiseHolds none (from_le_bytes w32 before2) step2.value
     → IsAddress (pos (begin o)
     +ℤ movk 0 (move (from_le_bytes w32 after)) (from_le_bytes w32 after2))
     (target o)
@@ -247,15 +247,15 @@ pub moves3 : {begin target number : Operands → ℕ} → IsNumber begin target 
     (operands3 o at) ≡ Some (cast_signed w64 (number o)))
     → (o : Operands) → AreAddresses o
     → (at : ℕ) (before after : List ℕ) (step : IsApplied row o before after)
-    → Holds premise (number_at row.size before) step.value
+    → PremiseHolds premise (number_at row.size before) step.value
     → (at2 : ℕ) (before2 after2 : List ℕ)
     (step2 : IsApplied (row_of kind2 16 32 (AArch64 Movkz) mask2 range2 a2 bias2
     thunkable2 implicit2)
-    (operands2 o at2) before2 after2) → Holds none (from_le_bytes w32 before2) step2.value
+    (operands2 o at2) before2 after2) → PremiseHolds none (from_le_bytes w32 before2) step2.value
     → (at3 : ℕ) (before3 after3 : List ℕ)
     (step3 : IsApplied (row_of kind3 0 16 (AArch64 Movkz) mask3 range3 a3 bias3
     thunkable3 implicit3)
-    (operands3 o at3) before3 after3) → Holds none (from_le_bytes w32 before3) step3.value
+    (operands3 o at3) before3 after3) → PremiseHolds none (from_le_bytes w32 before3) step3.value
     → IsAddress (pos (begin o)
     +ℤ movk 0 (movk 16 (move (from_le_bytes w32 after)) (from_le_bytes w32 after2))
     (from_le_bytes w32 after3)) (target o)
@@ -289,7 +289,7 @@ abbrev pub IsHighest : RelocationKindInfo → Premise → (ℕ → ℤ) → (Ope
 IsHighest row premise move number =
     (o : Operands) → AreAddresses o → (before after : List ℕ)
     (applied : IsApplied row o before after)
-    → Holds premise (number_at row.size before) applied.value
+    → PremiseHolds premise (number_at row.size before) applied.value
     → IsSameModulo 16 (bits_from 48 (move (from_le_bytes w32 after)))
     (bits_from 48 (cast_signed w64 (number o)))
 
@@ -367,19 +367,19 @@ pub moves4 : {begin target number : Operands → ℕ} → IsNumber begin target 
     (operands4 o at) ≡ Some (cast_signed w64 (number o)))
     → (o : Operands) → AreAddresses o
     → (at : ℕ) (before after : List ℕ) (step : IsApplied row o before after)
-    → Holds premise (number_at row.size before) step.value
+    → PremiseHolds premise (number_at row.size before) step.value
     → (at2 : ℕ) (before2 after2 : List ℕ)
     (step2 : IsApplied (row_of kind2 32 48 (AArch64 Movkz) mask2 range2 a2 bias2
     thunkable2 implicit2)
-    (operands2 o at2) before2 after2) → Holds none (from_le_bytes w32 before2) step2.value
+    (operands2 o at2) before2 after2) → PremiseHolds none (from_le_bytes w32 before2) step2.value
     → (at3 : ℕ) (before3 after3 : List ℕ)
     (step3 : IsApplied (row_of kind3 16 32 (AArch64 Movkz) mask3 range3 a3 bias3
     thunkable3 implicit3)
-    (operands3 o at3) before3 after3) → Holds none (from_le_bytes w32 before3) step3.value
+    (operands3 o at3) before3 after3) → PremiseHolds none (from_le_bytes w32 before3) step3.value
     → (at4 : ℕ) (before4 after4 : List ℕ)
     (step4 : IsApplied (row_of kind4 0 16 (AArch64 Movkz) mask4 range4 a4 bias4
     thunkable4 implicit4)
-    (operands4 o at4) before4 after4) → Holds none (from_le_bytes w32 before4) step4.value
+    (operands4 o at4) before4 after4) → PremiseHolds none (from_le_bytes w32 before4) step4.value
     → IsAddress (pos (begin o)
     +ℤ movk 0 (movk 16 (movk 32 (move (from_le_bytes w32 after)) (from_le_bytes w32 after2))
     (from_le_bytes w32 after3)) (from_le_bytes w32 after4)) (target o)

@@ -163,7 +163,7 @@ decodes_ldr x op =
 -- ---- words after a relocation
 
 -- a word is such an instruction, with such a destination and first source
-pub record IsOf (kind : Instruction) (rd rn : ℕ) (word : ℕ) : Type 0 where
+pub record IsInstructionOf (kind : Instruction) (rd rn : ℕ) (word : ℕ) : Type 0 where
   pub decodes : decode word ≡ kind
   pub rd_is : rd_of word ≡ rd
   pub rn_is : rn_of word ≡ rn
@@ -206,7 +206,7 @@ adrp_after bits v before after w is =
 pub add_after : (bits : BitRange) (v : ℤ) (before after : List ℕ)
     → InstructionWritten (AArch64 Add) bits v before after
     → field (from_le_bytes w32 before) 22 32 ≡ 0x244
-    → IsOf add (rd_of (from_le_bytes w32 before)) (rn_of (from_le_bytes w32 before))
+    → IsInstructionOf add (rd_of (from_le_bytes w32 before)) (rn_of (from_le_bytes w32 before))
     (from_le_bytes w32 after)
 add_after bits v before after w op =
     let kept = field_kept (ored_cleared places_12) places_12 _ _ _ _ _ w.clears w.written in
@@ -219,7 +219,7 @@ add_after bits v before after w op =
 -- with the places of a load's 12 bits
 loaded_after : (u v before clear after : ℕ) → BitsWritten (ored_cleared places_12) u before clear
     → BitsWritten places_12 v clear after → IsLdr64 before
-    → IsOf ldr (rd_of before) (rn_of before) after
+    → IsInstructionOf ldr (rd_of before) (rn_of before) after
 loaded_after u v before clear after clears written is =
     let kept = field_kept (ored_cleared places_12) places_12 _ _ _ _ _ clears written in
     record {
@@ -232,14 +232,14 @@ loaded_after u v before clear after clears written is =
 
 pub ldr_after : (bits : BitRange) (v : ℤ) (before after : List ℕ)
     → InstructionWritten (AArch64 LdSt) bits v before after → IsLdr64 (from_le_bytes w32 before)
-    → IsOf ldr (rd_of (from_le_bytes w32 before)) (rn_of (from_le_bytes w32 before))
+    → IsInstructionOf ldr (rd_of (from_le_bytes w32 before)) (rn_of (from_le_bytes w32 before))
     (from_le_bytes w32 after)
 ldr_after bits v before after w is = loaded_after _ _ _ _ _ w.clears w.written is
 
 pub ldr_of_register_after : (bits : BitRange) (v : ℤ) (before after : List ℕ)
     → InstructionWritten (AArch64 LdrRegister) bits v before after
     → IsLdr64 (from_le_bytes w32 before)
-    → IsOf ldr (rd_of (from_le_bytes w32 before)) (rn_of (from_le_bytes w32 before))
+    → IsInstructionOf ldr (rd_of (from_le_bytes w32 before)) (rn_of (from_le_bytes w32 before))
     (from_le_bytes w32 after)
 ldr_of_register_after bits v before after w is = loaded_after _ _ _ _ _ w.clears w.written is
 
@@ -248,7 +248,7 @@ pub adr_of_register : {k rd n word : ℕ} → rd ≡ n → IsAdrOf k rd word →
 adr_of_register e is = record { opcode = is.opcode; top = is.top; rd_is = is.rd_is ∙ e }
 
 pub of_registers : {kind : Instruction} {rd rn d n word : ℕ} → rd ≡ d → rn ≡ n
-    → IsOf kind rd rn word → IsOf kind d n word
+    → IsInstructionOf kind rd rn word → IsInstructionOf kind d n word
 of_registers e e2 is = record { decodes = is.decodes; rd_is = is.rd_is ∙ e; rn_is = is.rn_is ∙ e2 }
 
 -- ---- moves

@@ -30,7 +30,7 @@ use Rattle.linker_elf.proofs.LoongArchAddresses.{high_of_five, five_from}
 use Rattle.linker_laws.specs.LoongArchRelocationLaws.{upper_and_or, four}
 use Rattle.linker_elf.specs.Applied.{IsApplied}
 use Rattle.linker_laws.specs.Schemes.{IsAddress, AreAddresses, place, Premise}
-use Rattle.linker_laws.specs.Schemes.{Holds, none, of_words}
+use Rattle.linker_laws.specs.Schemes.{PremiseHolds, none, of_words}
 use Rattle.linker_laws.proofs.Applied.{holds, reads, value_is, taken_bits}
 use Rattle.linker_elf.proofs.Relocated.{plain_written}
 use Rattle.linker_elf.specs.Agrees.{AgreesInReach}
@@ -126,7 +126,7 @@ page_distance target o = difference_64 (page (sum_64 (target o) 0x800)) (page o.
 -- where the premise of a low part holds, its instruction isn't a `jirl` that jumps by it
 abbrev IsPlainBy : RelocationKind → Premise → Type 0
 IsPlainBy kind premise =
-    (x : ℕ) (v : ℤ) → Holds premise x v → is_low_jump (LoongArch64 Shift10) kind x ≡ false
+    (x : ℕ) (v : ℤ) → PremiseHolds premise x v → is_low_jump (LoongArch64 Shift10) kind x ≡ false
 
 pub page_pairs : {target : Operands → ℕ} → IsSmall target
     → (operands : Operands → ℕ → Operands)
@@ -152,7 +152,7 @@ pub page_pairs : {target : Operands → ℕ} → IsSmall target
     (step2 : IsApplied (row_of kind2 0 12 (LoongArch64 Shift10) mask2 range2 a2 bias2
     thunkable2 implicit2)
     (operands o at2) before2 after2)
-    → Holds premise (window_of (loongarch_form Shift10) before2) step2.value
+    → PremiseHolds premise (window_of (loongarch_form Shift10) before2) step2.value
     → IsAddress (pcalau12i o.place (window_of (loongarch_form Shift5) after)
     +ℤ signed 12 (field (window_of (loongarch_form Shift10) after2) 10 22)) (target o)
 page_pairs {target} to operands e e2 premise plain =
@@ -199,7 +199,7 @@ pub page_jumps : {target : Operands → ℕ} → IsSmall target
     (step2 : IsApplied (row_of kind2 0 12 (LoongArch64 Shift10) mask2 range2 a2 bias2
     thunkable2 implicit2)
     (operands o at2) before2 after2)
-    → Holds (of_words is_jirl) (window_of (loongarch_form Shift10) before2) step2.value
+    → PremiseHolds (of_words is_jirl) (window_of (loongarch_form Shift10) before2) step2.value
     → IsAddress (pcalau12i o.place (window_of (loongarch_form Shift5) after)
     +ℤ ((loongarch_form Shift10).machine (window_of (loongarch_form Shift10) after2) *ℤ pos 4))
     (target o)
@@ -506,7 +506,7 @@ pub five_parts : {target : Operands → ℕ} → IsSmall target
     (step2 : IsApplied (row_of kind2 0 12 (LoongArch64 Shift10) mask2 range2 a2 bias2
     thunkable2 implicit2)
     (operands2 o at2) before2 after2)
-    → Holds premise (window_of (loongarch_form Shift10) before2) step2.value
+    → PremiseHolds premise (window_of (loongarch_form Shift10) before2) step2.value
     → (at3 : ℕ) (before3 after3 : List ℕ)
     (step3 : IsApplied (row_of kind3 32 52 (LoongArch64 Shift5) mask3 range3 a3 bias3
     thunkable3 implicit3)

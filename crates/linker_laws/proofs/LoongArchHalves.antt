@@ -34,7 +34,7 @@ use Rattle.linker_laws.proofs.Applied.{value_is, taken_bits}
 use Rattle.linker_laws.proofs.Instructions.{row_of, reads_bits, relative, unbiased}
 use Rattle.linker_laws.proofs.LoongArchAddresses.{page_distance}
 use Rattle.linker_laws.proofs.Sums.{sum_below, difference_below, page_halves_sum, taken_off, plus, cast_is, cast_low, euclid, lifted_is, signed_12}
-use Rattle.linker_laws.specs.LoongArchRewriteLaws.{word_of, thread_offset, high_offset, near_page, Has, AgreeBut, HaveGoneOn, Changes, StepSo, IsRelocated, behind_call}
+use Rattle.linker_laws.specs.LoongArchRewriteLaws.{word_of, thread_offset, high_offset, near_page, Has, AgreeBut, HaveGoneOn, Changes, StepSo, IsRelocated, after_call}
 use Rattle.linker_laws.specs.LoongArchRewriteLaws as laws
 use Rattle.linker_laws.specs.LoongArchMachine.{State, step, execute, read, write, with_register, go_on, go_to, next_pc, page_address, high_part, sum_of, ored}
 use Rattle.linker_laws.specs.Machine.{wrapped, loaded, also, but}
@@ -512,7 +512,7 @@ descriptor_load o s t c ld nop small is had alike made =
 pub descriptor_call : laws.CallOfDescriptorToNop
 descriptor_call call c o s t d jirl nop premises is had function alike made =
     let f = loaded 8 s.memory (entry_and_addend o) in
-    let after = behind_call c d in
+    let after = after_call c d in
     let word = word_made (λ _. 0x03400000) jirl nop (omega arith) made in
     let at = wrapped (pos (read 1 s) +ℤ pos 0) in
     let u = go_to at (write 1 (next_pc s) s) in

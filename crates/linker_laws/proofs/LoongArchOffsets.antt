@@ -23,7 +23,7 @@ use Rattle.linker_laws.specs.LoongArchRelocationLaws as relocation_laws
 use Rattle.linker_laws.specs.Schemes.{IsAddress, AreAddresses, symbol_address}
 use Rattle.linker_laws.proofs.Applied.{value_is, taken_bits}
 use Rattle.linker_laws.proofs.Sums.{sum_below, lift}
-use Rattle.linker_laws.specs.LoongArchRewriteLaws.{word_of, behind, thread_offset, is_either, StoresTheSame}
+use Rattle.linker_laws.specs.LoongArchRewriteLaws.{word_of, following, thread_offset, is_either, StoresTheSame}
 use Rattle.linker_laws.specs.LoongArchRewriteLaws as laws
 use Rattle.linker_laws.specs.LoongArchMachine.{State, AreAlikeBut, but_written, step, run, read, write, with_register, with_float, go_on, decode, execute, continue, next_pc, high_part, added, sum_of, add_d}
 use Rattle.linker_laws.specs.LoongArchMachine.{Action, action_of, used, adds, adds_word, loads, loads_signed, stores, loads_float, stores_float, preloads}
@@ -329,7 +329,7 @@ adds_both : relocation_laws.ThreadAddresses → (x y : Operands) (s t : State) (
     → RowIsWithin (loongarch_row names.R_LARCH_TLS_LE_LO12_R) signed_12 y
     → laws.IsRewritten kinds.BaseToTp low base → laws.Fits32 names.R_LARCH_TLS_LE_HI20_R x
     → laws.IsRelocated names.R_LARCH_TLS_LE_HI20_R x lu12i lu12i1
-    → laws.IsRelocated names.R_LARCH_TLS_LE_LO12_R (behind 8 x) low low1
+    → laws.IsRelocated names.R_LARCH_TLS_LE_LO12_R (following 8 x) low low1
     → laws.IsRelocated names.R_LARCH_TLS_LE_LO12_R y base base1
     → Adds (word_of low / 2 ^ 22) (rd_of (word_of lu12i)) (rd_of (word_of add)) (rd_of (word_of low)) (word_of lu12i1) (word_of add) (word_of low1) (word_of base1) s t
 adds_both thread x y s t lu12i add low base lu12i1 low1 base1 is small alike one fits made wide a1 a2 a3 =

@@ -72,19 +72,6 @@ alike_twice n u v u2 v2 s same =
       memory = refl;
     }
 
-once_counts : (b c : Bool) (u v v2 r : ℕ) → v ≡ v2 → cond c 0 (cond b v (cond b u r)) ≡ cond c 0 (cond b v2 r)
-once_counts b true u v v2 r e = refl
-once_counts true false u v v2 r e = e
-once_counts false false u v v2 r e = refl
-
-pub alike_once : (n u v v2 : ℕ) (s : State) → v ≡ v2 → AreAlikeBut (λ _. false) (set n v (set n u s)) (set n v2 (go_on s))
-alike_once n u v v2 s same =
-    record {
-      registers = λ m any. once_counts (eqb m n) (eqb m 0) u v v2 (s.registers m) same;
-      floats = refl;
-      memory = refl;
-    }
-
 -- of two states that are alike, where one writes twice and the other once
 others_count : (b c : Bool) (u v v2 r q : ℕ) → b ≡ false → cond c 0 r ≡ cond c 0 q → cond c 0 (cond b v (cond b u r)) ≡ cond c 0 (cond b v2 q)
 others_count true c u v v2 r q n e = cc

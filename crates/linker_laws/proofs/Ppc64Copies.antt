@@ -67,9 +67,9 @@ leaves_two f w1 w2 s x h r v Is first second holds =
       },
     )
 
-leaves_behind_nop : (f : Formats) (w1 w2 : ℕ) (s : State) (r v : ℕ) (Is : ℕ → Type 0) → w1 ≡ nop
+leaves_after_nop : (f : Formats) (w1 w2 : ℕ) (s : State) (r v : ℕ) (Is : ℕ → Type 0) → w1 ≡ nop
     → step f w2 (go_on s) ≡ Some (set r v (go_on s)) → Is v → Leaves f (only r) (w1 ∷ w2 ∷ []) s r Is
-leaves_behind_nop f w1 w2 s r v Is blank second holds =
+leaves_after_nop f w1 w2 s r v Is blank second holds =
     let s1 = go_on s in
     subst (λ q. IsSomeAnd q (λ t. Is (t.registers r) × AreAlikeBut (only r) (go_on (go_on s)) t))
     (sym (run_more f w1 w2 [] s s1 (set r v s1) (step_nop f w1 s blank) refl second)) (
@@ -204,7 +204,7 @@ argument_to_local thread f o s addi bl addis_13 made small is_addis_13 is_made t
     (step_addis f w1 r 13 s
     (same_parts parts.opcode_is parts.rt_is parts.ra_is (d_after _ _ addis_13 addis2 a2.written)))
     (λ t three.
-    leaves_behind_nop f (word_of made) w2 t 3 (moved (t.registers 3) b) (λ n. n ≡ sum_64 (thread_offset o) (s.registers 13)) first
+    leaves_after_nop f (word_of made) w2 t 3 (moved (t.registers 3) b) (λ n. n ≡ sum_64 (thread_offset o) (s.registers 13)) first
     (step_addi f w2 3 3 (go_on t)
     (same_parts (ap opcode_of last) (ap rt_of last) (ap ra_of last) (d_after _ _ (drop 4 made) addi2 d2.written)))
     (ap (λ n. moved n b) three
@@ -219,7 +219,7 @@ adds_thread : (f : Formats) (o : Operands) (bl made : List ℕ) (s : State) (num
 adds_thread f o bl made s number is_made is t three thread =
     let first = first_made made nop 0x7c636a14 (omega arith) (omega arith) is_made in
     let last = second_made made nop 0x7c636a14 (omega arith) (omega arith) is_made in
-    leaves_behind_nop f (word_of made) (word_of (drop 4 made)) t 3 (sum_64 (t.registers 3) (t.registers 13))
+    leaves_after_nop f (word_of made) (word_of (drop 4 made)) t 3 (sum_64 (t.registers 3) (t.registers 13))
     (λ n. n ≡ sum_64 (thread_offset o) (s.registers 13)) first
     (step_add f (word_of (drop 4 made)) 3 3 13 (go_on t)
     (record { opcode_is = ap opcode_of last; rt_is = ap rt_of last; ra_is = ap ra_of last })
@@ -311,7 +311,7 @@ argument_to_module f s addi bl addis_13 made is_addis_13 is_made =
     (λ n. laws.CallLeaves f (laws.two made (drop 4 made)) n (sum_64 (s.registers 13) 0x1000))
     (step_addis f w1 r 13 s (addis_13_parts r w1 (omega arith) word))
     (λ t three.
-    leaves_behind_nop f (word_of made) w2 t 3 (moved (t.registers 3) ((ppc64_form D).machine w2))
+    leaves_after_nop f (word_of made) w2 t 3 (moved (t.registers 3) ((ppc64_form D).machine w2))
     (λ n. n ≡ sum_64 (s.registers 13) 0x1000) first
     (step_addi f w2 3 3 (go_on t)
     (record { opcode_is = ap opcode_of last; rt_is = ap rt_of last; ra_is = ap ra_of last }))

@@ -65,22 +65,22 @@ same_toc x v h k r n e = by_register (eqb n 2) x v h k r e
 
 pub toc_at_entry : relocation_laws.RelativeAddresses → relocation_laws.AbsoluteAddresses
     → laws.TocAtEntry
-toc_at_entry relative absolute f o s addis addi lis behind small at is_addis is_addi made_lis made_addi
+toc_at_entry relative absolute f o s addis addi lis following small at is_addis is_addi made_lis made_addi
     there addis1 addi1 lis2 addi2 a1 d1 a2 d2 =
     let word : word_of lis ≡ 0x3c400000 = word_made (λ w. 0x3c400000) addis lis (omega arith) made_lis in
-    let second : word_of behind ≡ 0x38420000 = word_made (λ w. 0x38420000) addi behind (omega arith) made_addi in
+    let second : word_of following ≡ 0x38420000 = word_made (λ w. 0x38420000) addi following (omega arith) made_addi in
     let e1 = entry_parts (word_of addis) (eqb-true _ _ is_addis) in
     let e2 = addi_parts (word_of addi) (eqb-true _ _ is_addi) in
     let l1 = lis_parts (word_of lis) word in
-    let l2 = made_parts (word_of behind) second in
+    let l2 = made_parts (word_of following) second in
     let old = pair_leaves f 12 o.place (symbol_address o) (word_of addis1) (word_of addi1) s
     (same_parts e1.opcode_is e1.rt_is e1.ra_is (d_after _ _ addis addis1 a1.written))
     (same_parts e2.opcode_is e2.rt_is e2.ra_is (d_after _ _ addi addi1 d1.written)) at
     (relative.0 o small o.place addis addis1 a1 tt o.place addi addi1 d1 tt) in
     let new = pair_leaves f 0 0 (symbol_address o) (word_of lis2) (word_of addi2) s
     (same_parts l1.opcode_is l1.rt_is l1.ra_is (d_after _ _ lis lis2 a2.written))
-    (same_parts l2.opcode_is l2.rt_is l2.ra_is (d_after _ _ behind addi2 d2.written)) refl
-    (absolute.0 o small o.place lis lis2 a2 tt there behind addi2 d2 tt) in
+    (same_parts l2.opcode_is l2.rt_is l2.ra_is (d_after _ _ following addi2 d2.written)) refl
+    (absolute.0 o small o.place lis lis2 a2 tt there following addi2 d2 tt) in
     alike_runs f _ (two addis1 addi1) (two lis2 addi2) s _ _ old.runs new.runs
     (record {
       registers = λ n alike. same_toc _ _ old.high new.high (s.registers n) n refl;

@@ -19,7 +19,7 @@ use Rattle.linker_laws.specs.Schemes.{symbol_address, IsAddress, AreAddresses}
 use Rattle.linker_laws.proofs.Sums.{sum_below}
 use Rattle.linker_laws.specs.Machine.{moved, loaded}
 use Rattle.linker_laws.specs.Ppc64RewriteLaws.{word_of, three, four, thread_offset, Changes, AgreeBut}
-use Rattle.linker_laws.specs.Ppc64RewriteLaws.{IsTlsCall, and_register, RunAlikeBehindCall}
+use Rattle.linker_laws.specs.Ppc64RewriteLaws.{IsTlsCall, and_register, RunAlikeAfterCall}
 use Rattle.linker_laws.specs.Ppc64RewriteLaws.{with_entry}
 use Rattle.linker_laws.specs.Ppc64RewriteLaws as laws
 use Rattle.linker_laws.specs.Ppc64Machine.{State, Formats, base, step, run, go_on, go_to, execute}
@@ -90,15 +90,15 @@ calls f call c number o s addis addi bl w1 w2 p first second leads =
     }
 
 -- What takes the place of the call computes the number that it returns, and changes no more.
-pub behind_call : (f : Formats) (call : State → Option State) (c : Changes) (number : ℕ) (o : Operands) (s : State)
+pub after_call : (f : Formats) (call : State → Option State) (c : Changes) (number : ℕ) (o : Operands) (s : State)
     (addis addi bl : List ℕ) (old new : List ℕ) (w : State)
     → IsTlsCall call c number o s addis addi bl → Calls f (rt_of (word_of addis)) old o.got_entry s
     → run f new s ≡ Some w → w.registers 3 ≡ number
     → ((n : ℕ) → n ≢ 3 → eqb n (rt_of (word_of addis)) ≡ false → w.registers n ≡ s.registers n)
     → w.floats ≡ s.floats → w.memory ≡ s.memory
     → w.pc ≡ sum_64 (sum_64 (sum_64 (sum_64 s.pc 4) 4) 4) 4
-    → RunAlikeBehindCall f call (and_register (rt_of (word_of addis)) c) old (word_of (drop 4 bl)) new s
-behind_call f call c number o s addis addi bl old new w p k runs is kept floats memory pc =
+    → RunAlikeAfterCall f call (and_register (rt_of (word_of addis)) c) old (word_of (drop 4 bl)) new s
+after_call f call c number o s addis addi bl old new w p k runs is kept floats memory pc =
     let x = rt_of (word_of addis) in
     let changes = and_register x c in
     let parts = and_parts (opcode_of (word_of bl) == 18 && field (word_of bl) 0 2 == 1)
@@ -159,7 +159,7 @@ general_to_local entries thread f call c o s addis addi bl p blank addis_13 made
     let value : v ≡ sum_64 (thread_offset o) (s.registers 13) =
     sum_from o.tls_base (symbol_address o) (s.registers 13) a b p.pair.small.tls_base (sum_below o.symbol _)
     (thread.0 o p.pair.small o.place addis_13 addis2 a2 tt there (drop 4 made) addi2 d2 tt) in
-    behind_call f call c _ o s addis addi bl (three addis1 addi1 bl) (four blank addis2 made addi2) t4 p k
+    after_call f call c _ o s addis addi bl (three addis1 addi1 bl) (four blank addis2 made addi2) t4 p k
     (run_more f (word_of blank) w1 (word_of made ∷ w2 ∷ []) s t1 _
     (step_nop f (word_of blank) s (word_is nop blank (omega arith) is_blank)) refl
     (run_more f w1 (word_of made) (w2 ∷ []) t1 t2 _
@@ -233,7 +233,7 @@ general_to_initial entries f call c o s addis addi bl p entry below holds ld mad
     ap (λ n. sum_64 n (t3.registers 13)) (ap (loaded 8 s.memory) address ∙ holds)
     ∙ ap (λ n. sum_64 (thread_offset o) n)
     (cond-false (eqb 13 x) h (s.registers 13) (ne_eqb 13 x (λ z. p.not_13 (sym z)))) in
-    behind_call f call c _ o s addis addi bl (three addis1 addi1 bl) (four addis2 ld2 made (drop 4 made)) t4 p k
+    after_call f call c _ o s addis addi bl (three addis1 addi1 bl) (four addis2 ld2 made (drop 4 made)) t4 p k
     (run_more f w1 w2 (word_of made ∷ word_of (drop 4 made) ∷ []) s t1 _
     (step_addis f w1 x 2 s (same_parts first.opcode_is refl first.ra_is (d_after _ _ addis addis2 a2.written)))
     refl
@@ -287,7 +287,7 @@ local_dynamic entries f call c o s addis addi bl p blank addis_13 made is_blank 
     ∙ ap (λ w. moved (moved (s.registers 13) ((ppc64_form D).machine 0x3c6d0000 *ℤ pos (2 ^ 16)))
     ((ppc64_form D).machine w)) last
     ∙ module_base (s.registers 13) in
-    behind_call f call c _ o s addis addi bl (three addis1 addi1 bl) (four blank addis_13 made (drop 4 made)) t4 p k
+    after_call f call c _ o s addis addi bl (three addis1 addi1 bl) (four blank addis_13 made (drop 4 made)) t4 p k
     (run_more f (word_of blank) (word_of addis_13) (word_of made ∷ word_of (drop 4 made) ∷ []) s t1 _
     (step_nop f (word_of blank) s (word_is nop blank (omega arith) is_blank)) refl
     (run_more f (word_of addis_13) (word_of made) (word_of (drop 4 made) ∷ []) t1 t2 _

@@ -160,16 +160,16 @@ offset_is form x =
     (unbiased (symbol_address x) (sum_below x.symbol _))
 
 -- the value of a relocation is a number
-abbrev pub IsOf : RelocationKind → (Operands → ℕ) → Type 0
-IsOf kind number =
+abbrev pub IsFormulaOf : RelocationKind → (Operands → ℕ) → Type 0
+IsFormulaOf kind number =
     ((form : RiscVInstruction) (x : Operands)
     → value_of (pair_row kind 32 form) x ≡ Some (cast_signed w64 (number x)))
     × ((x : Operands) → number x < 2 ^ 64)
 
-pub of_address : IsOf Absolute symbol_address
+pub of_address : IsFormulaOf Absolute symbol_address
 of_address = (absolute_is, λ x. sum_below x.symbol _)
 
-pub of_offset : IsOf TpOff thread_offset
+pub of_offset : IsFormulaOf TpOff thread_offset
 of_offset = (offset_is, λ x. omega arith)
 
 module _ (kind : RelocationKind) (x : Operands) (n : ℕ) (before code : List ℕ)

@@ -51,7 +51,7 @@ use Rattle.linker_laws.specs.RiscVMachine.{stores_float, lui, auipc, jal, sums, 
 use Rattle.linker_laws.specs.RiscVMachine.{rs2_of, action_of, with_action, of_word, used, executed}
 use Rattle.linker_laws.specs.RiscVMachine.{load_number, bytes_of, boxed, i_type, s_type, is_add}
 use Rattle.linker_laws.specs.RiscVMachine.{add}
-use Rattle.linker_laws.proofs.RiscVHighParts.{low_12_number, IsOf, of_address, of_offset}
+use Rattle.linker_laws.proofs.RiscVHighParts.{low_12_number, IsFormulaOf, of_address, of_offset}
 use Rattle.linker_laws.proofs.RiscVMachine.{at_start, fetched_word, steps, wrapped_is}
 use Rattle.linker_laws.proofs.RiscVMachine.{other, written, same_written}
 use Rattle.linker_laws.proofs.Words.{kept_field, put_there, word_below, word_of_bytes}
@@ -441,7 +441,7 @@ LowLaw row number kind b a rd rs2 section o =
     × GoOn a rd (sum_64 (register k b) (number x) - sum_64 (register k b) (number x) % 2)
     (sum_64 h.pc 4) (sum_64 k.pc 4) e e')
 
-module _ (kind : RelocationKind) (number : Operands → ℕ) (of : IsOf kind number)
+module _ (kind : RelocationKind) (number : Operands → ℕ) (of : IsFormulaOf kind number)
     (rewrite : RelaxationKind) (b : ℕ) (base : b < 32) (based : IsBased rewrite b)
     (a : Action) (section : List ℕ) (o : ℕ) (inside : o + 4 ≤ length section)
     (is : action_of (opcode_of (word_at section o)) (funct3_of (word_at section o)) ≡ Some a)

@@ -23,7 +23,7 @@ use Rattle.linker_laws.specs.RiscVRewriteLaws.{IsLow12, after_rewrite, LuiBecome
 use Rattle.linker_laws.specs.RiscVRewriteLaws.{OffsetLuiIsDeleted, thread_offset, AreAlike, EndSo, HasZero}
 use Rattle.linker_laws.specs.RiscVRewriteLaws.{CluiBecomesCli}
 use Rattle.linker_laws.specs.Machine.{Relocated}
-use Rattle.linker_laws.proofs.RiscVHighParts.{IsOf, of_address, of_offset, absolute_is}
+use Rattle.linker_laws.proofs.RiscVHighParts.{IsFormulaOf, of_address, of_offset, absolute_is}
 use Rattle.linker_elf.specs.RiscVRelocations.{pair_row}
 use Rattle.linker_elf.specs.Value.{sum_64}
 use Rattle.linker_elf.specs.declared.elf.RelocationKind.{RelocationKind}
@@ -43,7 +43,7 @@ use Rattle.std.proofs.lemmas.Bool.{or_parts}
 use Rattle.std.proofs.lemmas.List.{length-append}
 
 -- of a number of 12 bits
-lui_deleted : (kind : RelocationKind) (number : Operands → ℕ) → IsOf kind number
+lui_deleted : (kind : RelocationKind) (number : Operands → ℕ) → IsFormulaOf kind number
     → (section : List ℕ) (o : ℕ) → HasWord section o IsLui → (x : Operands)
     → IsWithin (Some low_12_bounds) (cast_signed w64 (number x)) → (original new : List ℕ)
     → Relocated (Some (pair_row kind 32 UType)) x (drop o section) original

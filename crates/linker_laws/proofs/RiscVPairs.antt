@@ -124,9 +124,9 @@ pair_from_zero section o m m' base =
     (λ apart x y one is_low high low new high_code low_code new_code h k small small' alike.
     let first = lui_is_deleted section o m x is_low high [] high_code h k no_register small small' alike in
     let middle = first.end in
-    let behind : middle.pc ≡ sum_64 h.pc 4 = first.so.0.next in
+    let following : middle.pc ≡ sum_64 h.pc 4 = first.so.0.next in
     let small_middle : middle.pc < 2 ^ 64 =
-    subst (λ p. p < 2 ^ 64) (sym behind) (let b : sum_64 h.pc 4 < 2 ^ 64 = omega arith in b) in
+    subst (λ p. p < 2 ^ 64) (sym following) (let b : sum_64 h.pc 4 < 2 ^ 64 = omega arith in b) in
     let still : first.new_end ≡ k = first.new_runs in
     let alike_middle : AreAlike (λ r. r == rs1_of word) middle k =
     subst (λ z. AreAlike (λ r. r == rs1_of word) middle z) still
@@ -159,7 +159,7 @@ pair_from_zero section o m m' base =
           step_moved low both middle.pc h.pc middle second.end
               (ap (λ d. fetched (drop d low)) (at_start middle.pc small_middle)
               ∙ ap fetched (sym (drop_at (take 4 high) low 4 front))
-              ∙ ap (λ d. fetched (drop d both)) (sym (ap (λ p. difference_64 p h.pc) behind
+              ∙ ap (λ d. fetched (drop d both)) (sym (ap (λ p. difference_64 p h.pc) following
               ∙ at_second h.pc small)))
               (subst (Steps low middle.pc middle) (sym second.runs.2) second.runs.1),
           refl,
@@ -170,7 +170,7 @@ pair_from_zero section o m m' base =
           second.new_end
           × GoOn a (rd_of word) (even symbol_address x) at (sum_64 k.pc 4) second.end
           second.new_end)
-          (ap (λ p. sum_64 p 4) behind
+          (ap (λ p. sum_64 p 4) following
           ∙ (let e : sum_64 (sum_64 h.pc 4) 4 ≡ sum_64 h.pc 8 = omega arith in e))
           second.so;
     })
@@ -217,8 +217,8 @@ local_exec_is_shortened section o is =
     -- the `lui`
     let first = offset_lui_is_deleted section o is.first x is_low lui [] lui_code h k no_register small small' alike in
     let u = first.end in
-    let behind : u.pc ≡ sum_64 h.pc 4 = first.so.0.next in
-    let small_u : u.pc < 2 ^ 64 = subst (λ p. p < 2 ^ 64) (sym behind) (small_sum h.pc 4) in
+    let following : u.pc ≡ sum_64 h.pc 4 = first.so.0.next in
+    let small_u : u.pc < 2 ^ 64 = subst (λ p. p < 2 ^ 64) (sym following) (small_sum h.pc 4) in
     let still : first.new_end ≡ k = first.new_runs in
     let alike_u : AreAlike (λ r. r == a) u k =
     subst (λ z. AreAlike (λ r. r == a) u z) still first.so.0.alike in
@@ -228,14 +228,14 @@ local_exec_is_shortened section o is =
     let other : (tp == a) ≡ false = ne_eqb tp a (λ e. is.high_not_tp (sym e)) in
     let second = sum_is_deleted section (o + 4) is.second [] (λ r. r == a) u k small_u small' alike_u other wide zero in
     let v = second.end in
-    let behind' : v.pc ≡ sum_64 u.pc 4 = second.so.0.next in
-    let small_v : v.pc < 2 ^ 64 = subst (λ p. p < 2 ^ 64) (sym behind') (small_sum u.pc 4) in
+    let following' : v.pc ≡ sum_64 u.pc 4 = second.so.0.next in
+    let small_v : v.pc < 2 ^ 64 = subst (λ p. p < 2 ^ 64) (sym following') (small_sum u.pc 4) in
     let still' : second.new_end ≡ k = second.new_runs in
     let alike_v : AreAlike (is_either a b) v k =
     subst (λ z. AreAlike (is_either a b) v z) still' second.so.0.alike in
     let number : register v (rs1_of word) ≡ register k tp =
     ap (register v) is.base_of_low ∙ second.so.0.number_there is.sum_not_zero in
-    let from_start : v.pc ≡ sum_64 (sum_64 h.pc 4) 4 = behind' ∙ ap (λ p. sum_64 p 4) behind in
+    let from_start : v.pc ≡ sum_64 (sum_64 h.pc 4) 4 = following' ∙ ap (λ p. sum_64 p 4) following in
     -- the low part
     let there = deleted_there (after_rewrite kinds.BaseToTp section (o + 8)) o 8
     (rewritten_reaches (λ window. to_le_bytes w32 (with_rs1 tp (from_le_bytes w32 window))) section o (o + 8) (omega arith) is.third.0) in
@@ -271,7 +271,7 @@ local_exec_is_shortened section o is =
           step_moved add all u.pc h.pc u v
               (ap (λ d. fetched (drop d add)) (at_start u.pc small_u) ∙ fetched_front add low long_add
               ∙ ap fetched (sym at_second_word)
-              ∙ ap (λ d. fetched (drop d all)) (sym (ap (λ p. difference_64 p h.pc) behind ∙ at_second h.pc small)))
+              ∙ ap (λ d. fetched (drop d all)) (sym (ap (λ p. difference_64 p h.pc) following ∙ at_second h.pc small)))
               (subst (Steps add u.pc u) (sym second.runs.2) second.runs.1),
           (
             third.end,

@@ -18,7 +18,7 @@ use Rattle.linker_x86_64.specs.declared.rewrites.RelaxationKind.TheVariants as k
 use Rattle.linker_laws.specs.X86RewriteLaws.{IsBefore, thread_offset}
 use Rattle.linker_laws.specs.X86Machine.{State, Operand, load, extended, with_register, execute, execute_decoded, step, decode}
 use Rattle.linker_laws.specs.X86Machine.{lea, operate, MOV, register, relative, immediate, operand_value, reg_of, rex_prefix, rex2_prefix, is_relative}
-use Rattle.linker_laws.specs.X86ThreadLaws.{Changes, AgreeBut, HasDescriptor, also_register, behind_call, reg_after_rex, reg_after_rex2}
+use Rattle.linker_laws.specs.X86ThreadLaws.{Changes, AgreeBut, HasDescriptor, also_register, after_call, reg_after_rex, reg_after_rex2}
 use Rattle.linker_laws.specs.X86ThreadLaws.{LeaToOffset, LeaToEntry, CallOfDescriptor, IsDescriptorCall, WritesNothing}
 use Rattle.linker_laws.proofs.X86Bytes.{IsRex, IsRex2, rex_byte, rex2_byte, below, implied, same_byte, on_relative, modrm_byte}
 use Rattle.linker_laws.proofs.X86Codes.{pattern_there, rex_lea_codes, rex2_lea_codes, rex_immediate_codes, rex2_immediate_codes}
@@ -287,7 +287,7 @@ call o s t c changed returned calls at matches has alike returns =
     subst (λ code. IsSomeAnd (step code t) (λ v.
     WritesNothing t v
     × ((u : State) → IsDescriptorCall 2 changed returned s u → u.fs ≡ s.fs
-    → AgreeBut (behind_call changed s c) u v))) (sym (nop_code calls at matches)) (
+    → AgreeBut (after_call changed s c) u v))) (sym (nop_code calls at matches)) (
       λ a. refl,
       λ u called same. record {
         ip = called.ip ∙ ap (λ i. sum_64 i 2) alike.ip;

@@ -52,10 +52,10 @@ twenty_two : (ip : ℕ) → sum_64 (sum_64 ip 7) 15 ≡ sum_64 (sum_64 (sum_64 i
 twenty_two ip = omega arith
 
 -- after the field of 4 bytes
-behind : (section d : List ℕ) (o : ℕ) → 3 ≤ o → drop (o - 3) section ≡ plain_lea_bytes ++ d
+following : (section d : List ℕ) (o : ℕ) → 3 ≤ o → drop (o - 3) section ≡ plain_lea_bytes ++ d
     → drop 4 (drop (o + 9) (rewritten (x86_64_rewrite kinds.TlsGdToLocalExecLarge) section o))
     ≡ nop_bytes ++ drop 22 (drop (o - 3) section)
-behind section d o room is =
+following section d o room is =
     let long = inside section (plain_lea_bytes ++ d) o 3 (omega arith) room is (omega arith) in
     let after = rewritten (x86_64_rewrite kinds.TlsGdToLocalExecLarge) section o in
     drop-drop 4 (o + 9) after
@@ -75,7 +75,7 @@ local_exec section old new o operands s changed returned before matches thread r
     let held = low_bytes 4 (cast_unsigned w64 is.applied.value) in
     let rest' = held ++ nop_bytes ++ drop 22 (drop (o - 3) section) in
     let splits : is.rest ≡ rest' =
-    is.applied.written ∙ ap (λ xs. held ++ xs) (behind section d o room shape.1.1) in
+    is.applied.written ∙ ap (λ xs. held ++ xs) (following section d o room shape.1.1) in
     let f = number_of_bytes 4 was.rest in
     let f' = number_of_bytes 4 rest' in
     let p = difference_64 (sum_64 operands.place (o + 9)) o in

@@ -104,11 +104,11 @@ module _ (len size count : ℕ) (put : List ℕ) (offset : ℕ → ℕ) (section
       let room = shape.0 in
       let long = inside section (plain_lea_bytes ++ d) o 3 (omega arith) room shape.1.1
       (omega arith) in
-      let behind = drop (3 - 3 + len) (drop (o - 3) section) in
+      let following = drop (3 - 3 + len) (drop (o - 3) section) in
       let f = number_of_bytes 4 was.rest in
       by_codes size count (o - 3) old
       (rewritten (Some (puts 3 len put offset (λ a. a))) section o)
-      (plain_lea_bytes ++ was.rest) (put ++ behind) s changed returned
+      (plain_lea_bytes ++ was.rest) (put ++ following) s changed returned
       (ReachTheSame changed image pointed)
       (record {
         first =
@@ -121,7 +121,7 @@ module _ (len size count : ℕ) (put : List ℕ) (offset : ℕ → ℕ) (section
       })
       (subst (λ result. IsSomeAnd result (λ after. WritesNothing s after
       × ((t : State) → IsTlsCall size changed returned (execute (lea 64 7 f) (sum_64 s.ip 7) s) t
-      → ReachTheSame changed image pointed t after))) (sym (runs behind)) (
+      → ReachTheSame changed image pointed t after))) (sym (runs following)) (
         (λ a. refl),
         λ t called.
             let alike = agree s t (loaded next s) changed returned 7 size operands.got_entry f

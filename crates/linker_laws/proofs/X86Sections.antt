@@ -6,18 +6,18 @@ use Rattle.std.proofs.Math.Seq.{take-append-add, drop-append-add}
 use Rattle.linker_base.specs.Rewrite.{Rewrite, rewritten}
 
 -- what follows the first bytes, of which the rest is replaced from further bytes on
-code_behind : (front d rest : List ℕ) (n k : ℕ)
+code_following : (front d rest : List ℕ) (n k : ℕ)
     → drop (length front + n) (take (length front + k) (front ++ d) ++ rest)
     ≡ drop n (take k d ++ rest)
-code_behind front d rest n k =
+code_following front d rest n k =
     ap (λ xs. drop (length front + n) (xs ++ rest)) (take-append-add front d k)
     ∙ ap (drop (length front + n)) (append_assoc front (take k d) rest)
     ∙ drop-append-add front (take k d ++ rest) n
 
-rewritten_behind : (front d : List ℕ) (r : Rewrite) (o k : ℕ) → o - r.back ≡ length front + k
+rewritten_after : (front d : List ℕ) (r : Rewrite) (o k : ℕ) → o - r.back ≡ length front + k
     → rewritten (Some r) (front ++ d) o
     ≡ front ++ (take k d ++ r.bytes (take r.len (drop k d)) ++ drop (k + r.len) d)
-rewritten_behind front d r o k e =
+rewritten_after front d r o k e =
     ap (λ i. take i (front ++ d) ++ r.bytes (take r.len (drop i (front ++ d)))
     ++ drop (i + r.len) (front ++ d)) e
     ∙ ap (λ xs. xs ++ r.bytes (take r.len (drop (length front + k) (front ++ d)))
@@ -54,7 +54,7 @@ module _ (section rest : List ℕ) (o b n : ℕ) (room : b ≤ o) (inside : o �
       ∙ ap (λ i. drop (length (take (o - b) section) + (b - n))
       (take i (take (o - b) section ++ drop (o - b) section) ++ rest))
       (let e : o ≡ length (take (o - b) section) + b = omega arith in e)
-      ∙ code_behind (take (o - b) section) (drop (o - b) section) rest (b - n) b
+      ∙ code_following (take (o - b) section) (drop (o - b) section) rest (b - n) b
 
   -- the same after a rewrite, with the field at another offset
   pub rewritten_code : (r : Rewrite) (at k : ℕ) → r.back ≤ b → at ≡ o - b + k
@@ -69,13 +69,13 @@ module _ (section rest : List ℕ) (o b n : ℕ) (room : b ≤ o) (inside : o �
       let x = take (b - r.back) d ++ r.bytes (take r.len (drop (b - r.back) d))
       ++ drop (b - r.back + r.len) d in
       ap (λ xs. drop (o - n) (take at (rewritten (Some r) xs o) ++ rest)) parts
-      ∙ ap (λ xs. drop (o - n) (take at xs ++ rest)) (rewritten_behind f d r o (b - r.back)
+      ∙ ap (λ xs. drop (o - n) (take at xs ++ rest)) (rewritten_after f d r o (b - r.back)
       (omega arith))
       ∙ ap (λ i. drop i (take at (f ++ x) ++ rest))
       (let e : o - n ≡ length f + (b - n) = omega arith in e)
       ∙ ap (λ i. drop (length f + (b - n)) (take i (f ++ x) ++ rest))
       (let same : at ≡ length f + k = omega arith in same)
-      ∙ code_behind f x rest (b - n) k
+      ∙ code_following f x rest (b - n) k
 
   -- the same with no field replaced
   pub code_after : (r : Rewrite) → r.back ≤ b
@@ -90,6 +90,6 @@ module _ (section rest : List ℕ) (o b n : ℕ) (room : b ≤ o) (inside : o �
       let x = take (b - r.back) d ++ r.bytes (take r.len (drop (b - r.back) d))
       ++ drop (b - r.back + r.len) d in
       ap (λ xs. drop (o - n) (rewritten (Some r) xs o)) parts
-      ∙ ap (drop (o - n)) (rewritten_behind f d r o (b - r.back) (omega arith))
+      ∙ ap (drop (o - n)) (rewritten_after f d r o (b - r.back) (omega arith))
       ∙ ap (λ i. drop i (f ++ x)) (let e : o - n ≡ length f + (b - n) = omega arith in e)
       ∙ drop-append-add f x (b - n)

@@ -65,8 +65,8 @@ InSections =
     → BeginsRewrittenAt (aarch64_rewrite kind) section o
 
 -- the operands of an instruction n bytes after the first
-abbrev pub behind : ℕ → Operands → Operands
-behind n o = record o { place = sum_64 o.place n }
+abbrev pub following : ℕ → Operands → Operands
+following n o = record o { place = sum_64 o.place n }
 
 -- the operands with another GOT entry
 abbrev pub with_entry : ℕ → Operands → Operands
@@ -92,9 +92,9 @@ GotToAddress =
     → load_64 s.memory o.got_entry ≡ symbol_address o → IsRewritten LdrToAdd ldr add
     → (adrp_of_entry ldr_of_entry adrp_of_symbol add_of_symbol : List ℕ)
     → IsRelocated names.R_AARCH64_ADR_GOT_PAGE o adrp adrp_of_entry
-    → IsRelocated names.R_AARCH64_LD64_GOT_LO12_NC (behind 4 o) ldr ldr_of_entry
+    → IsRelocated names.R_AARCH64_LD64_GOT_LO12_NC (following 4 o) ldr ldr_of_entry
     → IsRelocated names.R_AARCH64_ADR_PREL_PG_HI21 o adrp adrp_of_symbol
-    → IsRelocated names.R_AARCH64_ADD_ABS_LO12_NC (behind 4 o) add add_of_symbol
+    → IsRelocated names.R_AARCH64_ADD_ABS_LO12_NC (following 4 o) add add_of_symbol
     → RunAlike (pair adrp_of_entry ldr_of_entry) (pair adrp_of_symbol add_of_symbol) s
 
 -- ---- the offset of a variable from the thread pointer, by its GOT entry or by moves
@@ -173,8 +173,8 @@ PairToAdr of_page =
     → IsRewritten AdrpAddToNopAdr both made
     → (adrp_of_symbol add_of_symbol adr_of_symbol : List ℕ)
     → IsRelocated of_page o both adrp_of_symbol
-    → IsRelocated names.R_AARCH64_ADD_ABS_LO12_NC (behind 4 o) (drop 4 both) add_of_symbol
-    → IsRelocated names.R_AARCH64_ADR_PREL_LO21 (behind 4 o) (drop 4 made) adr_of_symbol
+    → IsRelocated names.R_AARCH64_ADD_ABS_LO12_NC (following 4 o) (drop 4 both) add_of_symbol
+    → IsRelocated names.R_AARCH64_ADR_PREL_LO21 (following 4 o) (drop 4 made) adr_of_symbol
     → RunAlike (pair adrp_of_symbol add_of_symbol) (pair made adr_of_symbol) s
 
 -- The value of the second page isn't checked, but `adr` reaches the symbol.
@@ -191,7 +191,7 @@ PairToAdrAndNop of_page =
     → IsRewritten AdrpToAdr adrp made → IsRewritten ReplaceWithNop add nop
     → (adrp_of_symbol add_of_symbol adr_of_symbol : List ℕ)
     → IsRelocated of_page o adrp adrp_of_symbol
-    → IsRelocated names.R_AARCH64_ADD_ABS_LO12_NC (behind 4 o) add add_of_symbol
+    → IsRelocated names.R_AARCH64_ADD_ABS_LO12_NC (following 4 o) add add_of_symbol
     → IsRelocated names.R_AARCH64_ADR_PREL_LO21 o made adr_of_symbol
     → RunAlike (pair adrp_of_symbol add_of_symbol) (pair adr_of_symbol nop) s
 
@@ -218,8 +218,8 @@ SumToAdr of_page =
     → IsRewritten AddToAdr add made
     → (adrp_of_symbol add_of_symbol adr_of_symbol : List ℕ)
     → IsRelocated of_page o adrp adrp_of_symbol
-    → IsRelocated names.R_AARCH64_ADD_ABS_LO12_NC (behind 4 o) add add_of_symbol
-    → IsRelocated names.R_AARCH64_ADR_PREL_LO21 (behind 4 o) made adr_of_symbol
+    → IsRelocated names.R_AARCH64_ADD_ABS_LO12_NC (following 4 o) add add_of_symbol
+    → IsRelocated names.R_AARCH64_ADR_PREL_LO21 (following 4 o) made adr_of_symbol
     → RunAlike (pair adrp_of_symbol add_of_symbol) (pair adrp_of_symbol adr_of_symbol) s
 
 abbrev pub AddMadeAdr : Type 0
@@ -233,8 +233,8 @@ LdrMadeAdr =
     → load_64 s.memory o.got_entry ≡ symbol_address o → IsRewritten LdrToAdr ldr made
     → (adrp_of_entry ldr_of_entry adr_of_symbol : List ℕ)
     → IsRelocated names.R_AARCH64_ADR_GOT_PAGE o adrp adrp_of_entry
-    → IsRelocated names.R_AARCH64_LD64_GOT_LO12_NC (behind 4 o) ldr ldr_of_entry
-    → IsRelocated names.R_AARCH64_ADR_PREL_LO21 (behind 4 o) made adr_of_symbol
+    → IsRelocated names.R_AARCH64_LD64_GOT_LO12_NC (following 4 o) ldr ldr_of_entry
+    → IsRelocated names.R_AARCH64_ADR_PREL_LO21 (following 4 o) made adr_of_symbol
     → RunAlike (pair adrp_of_entry ldr_of_entry) (pair adrp_of_entry adr_of_symbol) s
 
 -- ---- the offset of a variable from the thread pointer, by a TLS descriptor
@@ -279,8 +279,8 @@ abbrev pub four : List ℕ → List ℕ → List ℕ → List ℕ → List ℕ
 four a b c d = word_of a ∷ word_of b ∷ word_of c ∷ word_of d ∷ []
 
 -- The old sequence ends in a call. The new one ends as the called function returns.
-abbrev pub RunAlikeBehindCall : (State → Option State) → Changes → List ℕ → List ℕ → State → Type 0
-RunAlikeBehindCall call c old new s =
+abbrev pub RunAlikeAfterCall : (State → Option State) → Changes → List ℕ → List ℕ → State → Type 0
+RunAlikeAfterCall call c old new s =
     IsSomeAnd (run old s) (λ u.
     (v : State) → call u ≡ Some v → IsSomeAnd (run new s) (λ w. AgreeBut c v w))
 
@@ -288,23 +288,23 @@ RunAlikeBehindCall call c old new s =
 pub record DescriptorOf (o : Operands)
     (adrp ldr add adrp_of_entry ldr_of_entry add_of_entry : List ℕ) : Type 0 where
   pub first : IsRelocated names.R_AARCH64_TLSDESC_ADR_PAGE21 o adrp adrp_of_entry
-  pub second : IsRelocated names.R_AARCH64_TLSDESC_LD64_LO12 (behind 4 o) ldr ldr_of_entry
-  pub third : IsRelocated names.R_AARCH64_TLSDESC_ADD_LO12 (behind 8 o) add add_of_entry
+  pub second : IsRelocated names.R_AARCH64_TLSDESC_LD64_LO12 (following 4 o) ldr ldr_of_entry
+  pub third : IsRelocated names.R_AARCH64_TLSDESC_ADD_LO12 (following 8 o) add add_of_entry
 
 abbrev pub DescriptorToLocalExec : Type 0
 DescriptorToLocalExec =
     (call : State → Option State) (c : Changes) (o : Operands) (s : State)
     (adrp ldr add blr : List ℕ) → Descriptor call c o s adrp ldr add blr
-    → (movz movk nop nop_behind : List ℕ)
+    → (movz movk nop nop_after : List ℕ)
     → IsRewritten MovzX0Lsl16 adrp movz → IsRewritten MovkX0 ldr movk
-    → IsRewritten ReplaceWithNop add nop → IsRewritten ReplaceWithNop blr nop_behind
+    → IsRewritten ReplaceWithNop add nop → IsRewritten ReplaceWithNop blr nop_after
     → (adrp_of_entry ldr_of_entry add_of_entry movz_of_offset movk_of_offset : List ℕ)
     → DescriptorOf o adrp ldr add adrp_of_entry ldr_of_entry add_of_entry
     → IsRelocated names.R_AARCH64_TLSLE_MOVW_TPREL_G1 o movz movz_of_offset
-    → IsRelocated names.R_AARCH64_TLSLE_MOVW_TPREL_G0_NC (behind 4 o) movk movk_of_offset
-    → RunAlikeBehindCall call (scratch (rd_of (word_of ldr)) c)
+    → IsRelocated names.R_AARCH64_TLSLE_MOVW_TPREL_G0_NC (following 4 o) movk movk_of_offset
+    → RunAlikeAfterCall call (scratch (rd_of (word_of ldr)) c)
     (four adrp_of_entry ldr_of_entry add_of_entry blr)
-    (four movz_of_offset movk_of_offset nop nop_behind) s
+    (four movz_of_offset movk_of_offset nop nop_after) s
 
 -- The GOT entry of initial-exec, at another address, holds the offset.
 abbrev pub DescriptorToInitialExec : Type 0
@@ -312,18 +312,18 @@ DescriptorToInitialExec =
     (call : State → Option State) (c : Changes) (o : Operands) (s : State)
     (adrp ldr add blr : List ℕ) → Descriptor call c o s adrp ldr add blr
     → (entry : ℕ) → entry < 2 ^ 64 → load_64 s.memory entry ≡ thread_offset o
-    → (adrp_x0 ldr_x0 nop nop_behind : List ℕ)
+    → (adrp_x0 ldr_x0 nop nop_after : List ℕ)
     → IsRewritten AdrpX0 adrp adrp_x0 → IsRewritten LdrX0 ldr ldr_x0
-    → IsRewritten ReplaceWithNop add nop → IsRewritten ReplaceWithNop blr nop_behind
+    → IsRewritten ReplaceWithNop add nop → IsRewritten ReplaceWithNop blr nop_after
     → (adrp_of_descriptor ldr_of_descriptor add_of_descriptor adrp_of_entry ldr_of_entry : List ℕ)
     → DescriptorOf o adrp ldr add adrp_of_descriptor ldr_of_descriptor add_of_descriptor
     → IsRelocated names.R_AARCH64_TLSIE_ADR_GOTTPREL_PAGE21 (with_entry entry o) adrp_x0
     adrp_of_entry
-    → IsRelocated names.R_AARCH64_TLSIE_LD64_GOTTPREL_LO12_NC (behind 4 (with_entry entry o)) ldr_x0
+    → IsRelocated names.R_AARCH64_TLSIE_LD64_GOTTPREL_LO12_NC (following 4 (with_entry entry o)) ldr_x0
     ldr_of_entry
-    → RunAlikeBehindCall call (scratch (rd_of (word_of ldr)) c)
+    → RunAlikeAfterCall call (scratch (rd_of (word_of ldr)) c)
     (four adrp_of_descriptor ldr_of_descriptor add_of_descriptor blr)
-    (four adrp_of_entry ldr_of_entry nop nop_behind) s
+    (four adrp_of_entry ldr_of_entry nop nop_after) s
 
 -- ---- branches to undefined weak symbols
 

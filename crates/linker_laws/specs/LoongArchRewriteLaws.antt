@@ -48,8 +48,8 @@ IsRewritten kind before after =
     IsSomeAnd (loongarch_rewrite kind) (λ r. BeginsRewritten r before after)
 
 -- the operands of an instruction n bytes after the first
-abbrev pub behind : ℕ → Operands → Operands
-behind n o = record o { place = sum_64 o.place n }
+abbrev pub following : ℕ → Operands → Operands
+following n o = record o { place = sum_64 o.place n }
 
 -- the value of a relocation, which nothing else checks, is a number of 32 bits in two's complement
 abbrev pub Fits32 : LoongArch64Relocation → Operands → Type 0
@@ -95,7 +95,7 @@ pub record LoadsEntry (high low : LoongArch64Relocation) (o : Operands)
     (pcala ld pcala_of_entry ld_of_entry : List ℕ) : Type 0 where
   pub fits : Fits32 high o
   pub first : IsRelocated high o pcala pcala_of_entry
-  pub second : IsRelocated low (behind 4 o) ld ld_of_entry
+  pub second : IsRelocated low (following 4 o) ld ld_of_entry
 
 -- `pcalau12i rd` and `ld.d rd, rd` of the GOT entry, which holds the address of the symbol
 abbrev pub GotToAddress : Type 0
@@ -107,7 +107,7 @@ GotToAddress =
     ld_of_entry
     → Fits32 names.R_LARCH_PCALA_HI20 o
     → IsRelocated names.R_LARCH_PCALA_HI20 o pcala pcala_of_symbol
-    → IsRelocated names.R_LARCH_PCALA_LO12 (behind 4 o) addi addi_of_symbol
+    → IsRelocated names.R_LARCH_PCALA_LO12 (following 4 o) addi addi_of_symbol
     → RunAlike (pair pcala_of_entry ld_of_entry) (pair pcala_of_symbol addi_of_symbol) s
 
 -- ---- the offset of a variable from the thread pointer, by its GOT entry or in the instructions
@@ -239,7 +239,7 @@ AddressToPcaddi =
     → (pcala_of_symbol addi_of_symbol pcaddi_of_symbol : List ℕ)
     → Fits32 names.R_LARCH_PCALA_HI20 x
     → IsRelocated names.R_LARCH_PCALA_HI20 x pcala pcala_of_symbol
-    → IsRelocated names.R_LARCH_PCALA_LO12 (behind 4 x) addi addi_of_symbol
+    → IsRelocated names.R_LARCH_PCALA_LO12 (following 4 x) addi addi_of_symbol
     → IsRelocated names.R_LARCH_PCREL20_S2 y pcaddi pcaddi_of_symbol
     → EndSo (pair pcala_of_symbol addi_of_symbol) s (word_of pcaddi_of_symbol ∷ []) t
     (HaveMade (rd_of (word_of pcala)) (symbol_address x) (symbol_address y) (sum_64 x.place 8)
@@ -343,10 +343,10 @@ pub record HaveShortened (differing : ℕ → Bool) (at new_at : ℕ) (s t : Sta
 
 -- The object's run has put a number in a register, and is after its instruction. The other state
 -- is that of the new run, in which the instruction is deleted.
-pub record HasPut (differing : ℕ → Bool) (n number behind : ℕ) (u t : State) : Type 0 where
+pub record HasPut (differing : ℕ → Bool) (n number following : ℕ) (u t : State) : Type 0 where
   pub alike : AreAlikeBut (also n differing) u t
   pub number_there : n ≢ 0 → read n u ≡ number
-  pub next : u.pc ≡ behind
+  pub next : u.pc ≡ following
 
 -- `lu12i.w rd`, which would put 0 in its register
 abbrev pub OffsetLu12iIsDeleted : Type 0
@@ -396,7 +396,7 @@ ShorterLocalExec =
     → IsRewritten kinds.BaseToTp low base → (lu12i_of low_of base_of : List ℕ)
     → Fits32 names.R_LARCH_TLS_LE_HI20_R x
     → IsRelocated names.R_LARCH_TLS_LE_HI20_R x lu12i lu12i_of
-    → IsRelocated names.R_LARCH_TLS_LE_LO12_R (behind 8 x) low low_of
+    → IsRelocated names.R_LARCH_TLS_LE_LO12_R (following 8 x) low low_of
     → IsRelocated names.R_LARCH_TLS_LE_LO12_R y base base_of
     → EndSo (word_of lu12i_of ∷ word_of add ∷ word_of low_of ∷ []) s (word_of base_of ∷ []) t
     (HaveShortened
@@ -484,8 +484,8 @@ abbrev pub is_scratch : Changes → Changes → ℕ → Bool
 is_scratch c d n =
     if n == 4 then false else (n == 1 || (c.registers n || d.registers n))
 
-abbrev pub behind_call : Changes → Changes → Changes
-behind_call c d =
+abbrev pub after_call : Changes → Changes → Changes
+after_call c d =
     record {
       registers = is_scratch c d;
       floats = λ n. c.floats n || d.floats n;
@@ -505,7 +505,7 @@ CallOfDescriptorToNop =
     → IsRewritten kinds.ReplaceWithNop jirl nop
     → IsSomeAnd (step (word_of jirl) s) (λ u.
     (v : State) → call u ≡ Some v
-    → IsSomeAnd (step (word_of nop) t) (HaveGoneOn (behind_call c d) s t v))
+    → IsSomeAnd (step (word_of nop) t) (HaveGoneOn (after_call c d) s t v))
 
 -- ---- the laws
 

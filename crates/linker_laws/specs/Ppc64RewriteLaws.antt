@@ -314,11 +314,11 @@ four a b c d = word_of a ∷ word_of b ∷ word_of c ∷ word_of d ∷ []
 
 -- The old sequence ends in a call, which returns to one more instruction. The new one ends after
 -- that.
-abbrev pub RunAlikeBehindCall : Formats → (State → Option State) → Changes → List ℕ → ℕ → List ℕ
+abbrev pub RunAlikeAfterCall : Formats → (State → Option State) → Changes → List ℕ → ℕ → List ℕ
     → State → Type 0
-RunAlikeBehindCall f call c old behind new s =
+RunAlikeAfterCall f call c old following new s =
     IsSomeAnd (run f old s) (λ u. (v : State) → call u ≡ Some v
-    → IsSomeAnd (step f behind v) (λ t. IsSomeAnd (run f new s) (λ w. AgreeBut c t w)))
+    → IsSomeAnd (step f following v) (λ t. IsSomeAnd (run f new s) (λ w. AgreeBut c t w)))
 
 -- The function returns the address of the variable in the thread: `nop`, `addis 3,13`, `nop` and
 -- `addi 3,3` compute it.
@@ -335,7 +335,7 @@ GeneralDynamicToLocalExec =
     → IsRelocated names.R_PPC64_GOT_TLSGD16_LO (at_place at o) addi addi_of_entry
     → IsRelocated names.R_PPC64_TPREL16_HA o addis_13 addis_of_symbol
     → IsRelocated names.R_PPC64_TPREL16_LO (at_place there o) (drop 4 made) addi_of_symbol
-    → RunAlikeBehindCall f call (and_register (rt_of (word_of addis)) c)
+    → RunAlikeAfterCall f call (and_register (rt_of (word_of addis)) c)
     (three addis_of_entry addi_of_entry bl) (word_of (drop 4 bl))
     (four blank addis_of_symbol made addi_of_symbol) s
 
@@ -358,7 +358,7 @@ GeneralDynamicToInitialExec =
     → IsRelocated names.R_PPC64_GOT_TLSGD16_LO (at_place at o) addi addi_of_call
     → IsRelocated names.R_PPC64_GOT_TPREL16_HA (with_entry entry o) addis addis_of_entry
     → IsRelocated names.R_PPC64_GOT_TPREL16_LO_DS (at_place at (with_entry entry o)) ld ld_of_entry
-    → RunAlikeBehindCall f call (and_register (rt_of (word_of addis)) c)
+    → RunAlikeAfterCall f call (and_register (rt_of (word_of addis)) c)
     (three addis_of_call addi_of_call bl) (word_of (drop 4 bl))
     (four addis_of_entry ld_of_entry made (drop 4 made)) s
 
@@ -375,7 +375,7 @@ LocalDynamicToLocalExec =
     → (at : ℕ) (addis_of_entry addi_of_entry : List ℕ)
     → IsRelocated names.R_PPC64_GOT_TLSLD16_HA o addis addis_of_entry
     → IsRelocated names.R_PPC64_GOT_TLSLD16_LO (at_place at o) addi addi_of_entry
-    → RunAlikeBehindCall f call (and_register (rt_of (word_of addis)) c)
+    → RunAlikeAfterCall f call (and_register (rt_of (word_of addis)) c)
     (three addis_of_entry addi_of_entry bl) (word_of (drop 4 bl))
     (four blank addis_13 made (drop 4 made)) s
 
@@ -1022,15 +1022,15 @@ four_on o = record o { place = sum_64 o.place 4; symbol = sum_64 o.symbol 4 }
 -- and `lis 2` and `addi 2,2` make the address: the same.
 abbrev pub TocAtEntry : Type 0
 TocAtEntry =
-    (f : Formats) (o : Operands) (s : State) (addis addi lis behind : List ℕ) → AreAddresses o
+    (f : Formats) (o : Operands) (s : State) (addis addi lis following : List ℕ) → AreAddresses o
     → s.registers 12 ≡ o.place
     → IsTrue (is_addis_of_entry (word_of addis)) → IsTrue (is_addi_of_toc (word_of addi))
-    → IsRewritten kinds.AddisToLis addis lis → IsRewritten kinds.AddiBehindLis addi behind
+    → IsRewritten kinds.AddisToLis addis lis → IsRewritten kinds.AddiAfterLis addi following
     → (at : ℕ) (addis_of_distance addi_of_distance lis_of_address addi_of_address : List ℕ)
     → IsRelocated names.R_PPC64_REL16_HA o addis addis_of_distance
     → IsRelocated names.R_PPC64_REL16_LO (four_on o) addi addi_of_distance
     → IsRelocated names.R_PPC64_ADDR16_HA o lis lis_of_address
-    → IsRelocated names.R_PPC64_ADDR16_LO (at_place at o) behind addi_of_address
+    → IsRelocated names.R_PPC64_ADDR16_LO (at_place at o) following addi_of_address
     → RunAlikeBut f (λ _. false) (two addis_of_distance addi_of_distance)
     (two lis_of_address addi_of_address) s
 

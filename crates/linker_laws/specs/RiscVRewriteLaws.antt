@@ -173,10 +173,10 @@ LuiBecomesClui =
     (HaveGoneOn (but (rd_of (word_at section o)) differs) (sum_64 h.pc 4) (sum_64 k.pc 2))
 
 -- A `lui` that is deleted would put 0 in its register, and change nothing else.
-pub record HasZero (differs : ℕ → Bool) (rd behind : ℕ) (a b : Hart) : Type 0 where
+pub record HasZero (differs : ℕ → Bool) (rd following : ℕ) (a b : Hart) : Type 0 where
   pub alike : AreAlike (λ r. differs r || r == rd) a b
   pub zero_there : register a rd ≡ 0
-  pub next : a.pc ≡ behind
+  pub next : a.pc ≡ following
 
 abbrev pub LuiIsDeleted : Type 0
 LuiIsDeleted =
@@ -312,10 +312,10 @@ OffsetLuiIsDeleted =
 
 -- An `add` that is deleted would put the thread pointer's number in its
 -- register, and change nothing else.
-pub record HasThreadPointer (differs : ℕ → Bool) (rd number behind : ℕ) (a b : Hart) : Type 0 where
+pub record HasThreadPointer (differs : ℕ → Bool) (rd number following : ℕ) (a b : Hart) : Type 0 where
   pub alike : AreAlike (λ r. differs r || r == rd) a b
   pub number_there : rd ≢ 0 → register a rd ≡ number
-  pub next : a.pc ≡ behind
+  pub next : a.pc ≡ following
 
 -- The thread pointer is added to what a deleted `lui` left, 0, in a register that may differ.
 abbrev pub SumIsDeleted : Type 0

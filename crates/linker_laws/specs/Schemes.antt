@@ -73,10 +73,10 @@ pub data Premise : Type 0 where
   of_values : ℤ × ℤ → Premise
   of_words : (ℕ → Bool) → Premise
 
-abbrev pub Holds : Premise → ℕ → ℤ → Type 0
-Holds none before v = ⊤
-Holds (of_values bounds) before v = IsWithin (Some bounds) v
-Holds (of_words test) before v = IsTrue (test before)
+abbrev pub PremiseHolds : Premise → ℕ → ℤ → Type 0
+PremiseHolds none before v = ⊤
+PremiseHolds (of_values bounds) before v = IsWithin (Some bounds) v
+PremiseHolds (of_words test) before v = IsTrue (test before)
 
 -- One relocation of a sequence of instructions.
 pub record Step : Type 0 where
@@ -130,7 +130,7 @@ Reaches [] o sum target = IsAddress sum target
 Reaches (step ∷ steps) o computed target =
     IsSomeAnd step.row (λ row.
     (at : ℕ) (before after : List ℕ) (applied : IsApplied row (step.operands o at) before after)
-    → Holds step.premise (number_at row.size before) applied.value
+    → PremiseHolds step.premise (number_at row.size before) applied.value
     → Reaches steps o (computed (number_at row.size after)) target)
 
 -- The same of all operands.

@@ -320,8 +320,8 @@ LeaOfDescriptor =
 -- What differs after the call in state s of a descriptor's function, where c differed
 -- before it: not rax, which has the offset, but memory below the stack pointer and
 -- what the function may change.
-abbrev pub behind_call : Changes → State → Changes → Changes
-behind_call changed s c =
+abbrev pub after_call : Changes → State → Changes → Changes
+after_call changed s c =
     record {
       registers = but 0 (λ r. changed.registers r || c.registers r);
       memory = λ a. c.memory a || (changed.memory a || not (nat_le (s.register 4) a));
@@ -338,7 +338,7 @@ CallOfDescriptor =
     → IsSomeAnd (step (drop at (rewritten (x86_64_rewrite kinds.SkipTlsDescCall) calls at)) t) (λ v.
     WritesNothing t v
     × ((u : State) → IsDescriptorCall 2 changed returned s u → u.fs ≡ s.fs
-    → AgreeBut (behind_call changed s c) u v))
+    → AgreeBut (after_call changed s c) u v))
 
 -- ---- the laws
 

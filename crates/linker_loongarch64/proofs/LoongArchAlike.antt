@@ -4,7 +4,7 @@ use Rattle.std.proofs.Common.{◌≡◌, ◌↔◌, Option, refl, ◌≤◌, inl
 use Rattle.linker_elf.specs.Choices.{facts_on, with_group, operands_before}
 use Rattle.linker_elf.specs.declared.elf.RelocationKindInfo.{RelocationKindInfo}
 use Rattle.linker_elf.specs.Choices.{AllHold, IsFirst, entry, choice, RowReaches, RowIsWithin}
-use Rattle.linker_loongarch64.specs.LoongArchRewrites.{LoongArchEntry, LoongArchChoice, LoongArchApplies, IsBehind, IsAmong, by_pcaddi, bound_by_pcaddi, entry_by_pcaddi, bound_by_pages, page_to_initial_exec, to_initial_exec, ReachesEntry, to_local_exec, to_short_local_exec, signed_32, GotPairIsChosenAlike, EntryPairsAreChosenAlike, IsLoongArchChoice, AddressPairIsChosenAlike, InitialExecIsChosenAlike, DescriptorIsChosenAlike, erased, ThreadOffsetIsChosenAlike, loongarch_entries}
+use Rattle.linker_loongarch64.specs.LoongArchRewrites.{LoongArchEntry, LoongArchChoice, LoongArchApplies, IsAfter, IsAmong, by_pcaddi, bound_by_pcaddi, entry_by_pcaddi, bound_by_pages, page_to_initial_exec, to_initial_exec, ReachesEntry, to_local_exec, to_short_local_exec, signed_32, GotPairIsChosenAlike, EntryPairsAreChosenAlike, IsLoongArchChoice, AddressPairIsChosenAlike, InitialExecIsChosenAlike, DescriptorIsChosenAlike, erased, ThreadOffsetIsChosenAlike, loongarch_entries}
 use Rattle.linker_loongarch64.specs.LoongArchRewrites.{IsPair, IsAddi, IsLd}
 use Rattle.linker_elf.specs.LoongArchRelocations.{loongarch_row}
 use Rattle.linker_elf.specs.declared.elf.choice.LinkFacts.{LinkFacts}
@@ -74,8 +74,8 @@ with_third A B d e e' e'' m n a b never never' f h (inr k) = with_last A B d e' 
 -- ---- the place of the first
 
 -- what is required at the first offset, and conditions of the first place
-behind : (n : ℕ) (P : List ℕ → ℕ → Type 0) (s : List ℕ) (o : ℕ) → P s o ↔ IsBehind n P s (o + n)
-behind n P s o =
+following : (n : ℕ) (P : List ℕ → ℕ → Type 0) (s : List ℕ) (o : ℕ) → P s o ↔ IsAfter n P s (o + n)
+following n P s o =
     let e : o + n - n ≡ o = omega arith in
     (λ h. (omega arith, subst (P s) (sym e) h), λ h. subst (P s) e h.1)
 
@@ -139,8 +139,8 @@ none_loaded s o facts is = inr ((λ h. other_pair s o is h.0), inr ((λ h. other
 
 pub got_pair : GotPairIsChosenAlike
 got_pair s o facts a b group small h k =
-    let there = behind 4 (IsPair IsLd) s o in
-    let sum = behind 4 (IsPair IsAddi) s o in
+    let there = following 4 (IsPair IsLd) s o in
+    let sum = following 4 (IsPair IsAddi) s o in
     two_of_three (LoongArchApplies r.R_LARCH_GOT_PC_HI20 s o facts) (LoongArchApplies r.R_LARCH_GOT_PC_LO12 s (o + 4) (facts_on 4 facts))
     (entry kinds.PcalaToPcaddi r.R_LARCH_PCREL20_S2 (bound_by_pcaddi 0)) (entry kinds.NoOp r.R_LARCH_PCALA_HI20 (bound_by_pages 0))
     (entry kinds.Delete r.R_LARCH_NONE (bound_by_pcaddi 4)) (entry kinds.LdToAddi r.R_LARCH_PCALA_LO12 (bound_by_pages 4))
@@ -157,7 +157,7 @@ entry_pair : (high near : LoongArch64Relocation) → loongarch_row near ≡ loon
     → IsAmong (a, b) ((choice kinds.PcalaToPcaddi near, choice kinds.DeleteAddi r.R_LARCH_NONE)
     ∷ (choice kinds.NoOp high, choice kinds.NoOp r.R_LARCH_GOT_PC_LO12) ∷ [])
 entry_pair high near same s o facts a b is h k =
-    let there = behind 4 (IsPair IsLd) s o in
+    let there = following 4 (IsPair IsLd) s o in
     with_third (λ e. IsPair IsAddi s o × AllHold loongarch_row facts.operands facts e.conditions)
     (LoongArchApplies r.R_LARCH_GOT_PC_LO12 s (o + 4) (facts_on 4 facts))
     (entry kinds.PcalaToPcaddi near (entry_by_pcaddi near 0))
@@ -165,7 +165,7 @@ entry_pair high near same s o facts a b is h k =
     (entry kinds.DeleteAddi r.R_LARCH_NONE (entry_by_pcaddi r.R_LARCH_TLS_GD_PCREL20_S2 4))
     _ _ a b
     (λ x. other_pair s o is (there.1 x.0)) (λ x. other_pair s o is (there.1 x.0))
-    (product (behind 4 (IsPair IsAddi) s o) (entry_near near same 4 facts (omega arith))) h k
+    (product (following 4 (IsPair IsAddi) s o) (entry_near near same 4 facts (omega arith))) h k
 
 pub entry_pairs : EntryPairsAreChosenAlike
 entry_pairs = (
@@ -177,7 +177,7 @@ pub address_pair : AddressPairIsChosenAlike
 address_pair s o facts a b small h k =
     one_alike (LoongArchApplies r.R_LARCH_PCALA_HI20 s o facts) (LoongArchApplies r.R_LARCH_PCALA_LO12 s (o + 4) (facts_on 4 facts))
     (entry kinds.PcalaToPcaddi r.R_LARCH_PCREL20_S2 (by_pcaddi 0)) (entry kinds.Delete r.R_LARCH_NONE (by_pcaddi 4))
-    _ _ a b (product (behind 4 (IsPair IsAddi) s o) (near 4 facts (omega arith))) h k
+    _ _ a b (product (following 4 (IsPair IsAddi) s o) (near 4 facts (omega arith))) h k
 
 -- ---- of instructions that stand apart
 

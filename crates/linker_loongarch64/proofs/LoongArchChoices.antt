@@ -7,21 +7,21 @@ use Rattle.linker_elf.specs.Originals.{HasWord}
 use Rattle.linker_elf.specs.declared.elf.choice.LinkFacts.{LinkFacts}
 use Rattle.linker_elf.specs.declared.loongarch64.relocations.LoongArch64Relocation.{LoongArch64Relocation}
 use Rattle.linker_elf.specs.declared.loongarch64.relocations.LoongArch64Relocation.TheVariants as r
-use Rattle.linker_loongarch64.specs.LoongArchRewrites.{LoongArchChoice, LoongArchEntry, LoongArchApplies, IsLoongArchChoice, loongarch_entries, IsAskedFor, IsBehind, IsSingle, IsLowOfDescriptor}
+use Rattle.linker_loongarch64.specs.LoongArchRewrites.{LoongArchChoice, LoongArchEntry, LoongArchApplies, IsLoongArchChoice, loongarch_entries, HasPattern, IsAfter, IsSingle, IsLowOfDescriptor}
 use Rattle.linker_loongarch64.specs.LoongArchRewrites.{loongarch_matches, IsPair, IsAddi, IsLd, IsIntoOwnSource, word_at}
 use Rattle.linker_loongarch64.specs.LoongArchRewrites.{loongarch_rewrite}
 use Rattle.linker_loongarch64.specs.declared.rewrites.RelaxationKind.{RelaxationKind}
 use Rattle.linker_loongarch64.specs.declared.rewrites.RelaxationKind.TheVariants as kinds
 
-pub first_behind : (P : List ℕ → ℕ → Type 0) (s : List ℕ) (o : ℕ) → IsBehind 0 P s o ↔ P s o
-first_behind P s o =
+pub first_after : (P : List ℕ → ℕ → Type 0) (s : List ℕ) (o : ℕ) → IsAfter 0 P s o ↔ P s o
+first_after P s o =
     let e : o - 0 ≡ o = omega arith in
     (λ h. subst (P s) e h.1, λ h. (omega arith, subst (P s) (sym e) h))
 
-pub first_asked : (name known : LoongArch64Relocation) (kind : RelaxationKind) → name ≡ known → (s : List ℕ) (o : ℕ)
-    → IsBehind 0 (IsAskedFor known kind) s o ↔ IsAskedFor name kind s o
-first_asked name known kind e s o =
-    subst (λ x. IsBehind 0 (IsAskedFor known kind) s o ↔ IsAskedFor x kind s o) (sym e) (first_behind (IsAskedFor known kind) s o)
+pub first_pattern : (name known : LoongArch64Relocation) (kind : RelaxationKind) → name ≡ known → (s : List ℕ) (o : ℕ)
+    → IsAfter 0 (HasPattern known kind) s o ↔ HasPattern name kind s o
+first_pattern name known kind e s o =
+    subst (λ x. IsAfter 0 (HasPattern known kind) s o ↔ HasPattern x kind s o) (sym e) (first_after (HasPattern known kind) s o)
 
 -- ---- what a relocation requires is what its rewrites are meant for
 
@@ -31,7 +31,7 @@ pair_of_either s o h = record { within = h.within; second = inr h.second; one_re
 address_of_either : (s : List ℕ) (o : ℕ) → IsPair IsAddi s o → IsPair (λ word. IsAddi word ⊎ IsLd word) s o
 address_of_either s o h = record { within = h.within; second = inl h.second; one_register = h.one_register }
 
-second_of_pair : (P : ℕ → Type 0) (s : List ℕ) (o : ℕ) → IsBehind 4 (IsPair P) s o → HasWord s o (λ word. P word × IsIntoOwnSource word)
+second_of_pair : (P : ℕ → Type 0) (s : List ℕ) (o : ℕ) → IsAfter 4 (IsPair P) s o → HasWord s o (λ word. P word × IsIntoOwnSource word)
 second_of_pair P s o h =
     let e : o - 4 + 4 ≡ o = omega (arith, h.0) in
     (omega (arith, h.0, h.1.within), subst (λ k. P (word_at s k) × IsIntoOwnSource (word_at s k)) e (h.1.second, h.1.one_register.into_own_source))
@@ -49,7 +49,7 @@ into_a0 s o h =
 -- each entry is for instructions that its rewrite is meant for
 abbrev AreMeant : LoongArch64Relocation → List ℕ → ℕ → List LoongArchEntry → Type 0
 AreMeant name s o [] = ⊤
-AreMeant name s o (e ∷ es) = (IsAskedFor name e.kind s o → loongarch_matches e.kind s o) × AreMeant name s o es
+AreMeant name s o (e ∷ es) = (HasPattern name e.kind s o → loongarch_matches e.kind s o) × AreMeant name s o es
 
 meant : (name : LoongArch64Relocation) (s : List ℕ) (o : ℕ) → AreMeant name s o (loongarch_entries name)
 meant r.R_LARCH_GOT_PC_HI20 s o = (λ a. pair_of_either s o a, (λ a. tt, tt))

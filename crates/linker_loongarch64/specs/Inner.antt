@@ -1,1 +1,1 @@
-pub mod AskedFor
+pub mod Pattern

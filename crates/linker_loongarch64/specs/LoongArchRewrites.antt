@@ -14,7 +14,7 @@ use Rattle.linker_base.specs.declared.rewrite.DeletedBytes.{DeletedBytes}
 use Rattle.linker_elf.specs.Originals.{HasWord}
 use Rattle.linker_elf.specs.Choices.{facts_on, Condition, bound, fixed_distance, executable, marked}
 use Rattle.linker_elf.specs.Choices.{addend, in_reach, within, within_if_known, Entry, entry}
-use Rattle.linker_elf.specs.Choices.{choice, Applies, IsFirst, Holds, group_fits, Fits}
+use Rattle.linker_elf.specs.Choices.{choice, Applies, IsFirst, ConditionHolds, group_fits, Fits}
 use Rattle.linker_elf.specs.LoongArchRelocations.{loongarch_row}
 use Rattle.linker_elf.specs.declared.elf.choice.Choice.{Choice}
 use Rattle.linker_elf.specs.declared.elf.choice.LinkFacts.{LinkFacts}
@@ -217,28 +217,28 @@ abbrev pub IsSingle : (ℕ → Type 0) → List ℕ → ℕ → Type 0
 IsSingle P section o = HasWord section o P
 
 -- What P says is at an offset n bytes before.
-abbrev pub IsBehind : ℕ → (List ℕ → ℕ → Type 0) → List ℕ → ℕ → Type 0
-IsBehind back P section o = (back ≤ o) × P section (o - back)
+abbrev pub IsAfter : ℕ → (List ℕ → ℕ → Type 0) → List ℕ → ℕ → Type 0
+IsAfter back P section o = (back ≤ o) × P section (o - back)
 
-abbrev pub IsAskedFor : LoongArch64Relocation → RelaxationKind → List ℕ → ℕ → Type 0
-IsAskedFor r.R_LARCH_GOT_PC_HI20 kind = IsPair IsLd
-IsAskedFor r.R_LARCH_GOT_PC_LO12 kinds.DeleteAddi = IsBehind 4 (IsPair IsAddi)
-IsAskedFor r.R_LARCH_GOT_PC_LO12 kind = IsBehind 4 (IsPair IsLd)
-IsAskedFor r.R_LARCH_TLS_GD_PC_HI20 kind = IsPair IsAddi
-IsAskedFor r.R_LARCH_TLS_LD_PC_HI20 kind = IsPair IsAddi
-IsAskedFor r.R_LARCH_PCALA_HI20 kind = IsPair IsAddi
-IsAskedFor r.R_LARCH_PCALA_LO12 kind = IsBehind 4 (IsPair IsAddi)
-IsAskedFor r.R_LARCH_TLS_IE_PC_HI20 kind = IsSingle IsPcalau12i
-IsAskedFor r.R_LARCH_TLS_IE_PC_LO12 kind = IsSingle IsLd
-IsAskedFor r.R_LARCH_TLS_DESC_PC_HI20 kind = IsSingle IsPageOfDescriptor
-IsAskedFor r.R_LARCH_TLS_DESC_PC_LO12 kind = IsSingle IsLowOfDescriptor
-IsAskedFor r.R_LARCH_TLS_DESC_LD kind = IsSingle IsLoadOfDescriptor
-IsAskedFor r.R_LARCH_TLS_DESC_CALL kind = IsSingle IsCallOfDescriptor
-IsAskedFor r.R_LARCH_TLS_LE_HI20_R kind = IsSingle IsLu12i
-IsAskedFor r.R_LARCH_TLS_LE_ADD_R kind = IsSingle IsAddTp
-IsAskedFor r.R_LARCH_TLS_LE_LO12_R kind = IsSingle IsLowOverOther
+abbrev pub HasPattern : LoongArch64Relocation → RelaxationKind → List ℕ → ℕ → Type 0
+HasPattern r.R_LARCH_GOT_PC_HI20 kind = IsPair IsLd
+HasPattern r.R_LARCH_GOT_PC_LO12 kinds.DeleteAddi = IsAfter 4 (IsPair IsAddi)
+HasPattern r.R_LARCH_GOT_PC_LO12 kind = IsAfter 4 (IsPair IsLd)
+HasPattern r.R_LARCH_TLS_GD_PC_HI20 kind = IsPair IsAddi
+HasPattern r.R_LARCH_TLS_LD_PC_HI20 kind = IsPair IsAddi
+HasPattern r.R_LARCH_PCALA_HI20 kind = IsPair IsAddi
+HasPattern r.R_LARCH_PCALA_LO12 kind = IsAfter 4 (IsPair IsAddi)
+HasPattern r.R_LARCH_TLS_IE_PC_HI20 kind = IsSingle IsPcalau12i
+HasPattern r.R_LARCH_TLS_IE_PC_LO12 kind = IsSingle IsLd
+HasPattern r.R_LARCH_TLS_DESC_PC_HI20 kind = IsSingle IsPageOfDescriptor
+HasPattern r.R_LARCH_TLS_DESC_PC_LO12 kind = IsSingle IsLowOfDescriptor
+HasPattern r.R_LARCH_TLS_DESC_LD kind = IsSingle IsLoadOfDescriptor
+HasPattern r.R_LARCH_TLS_DESC_CALL kind = IsSingle IsCallOfDescriptor
+HasPattern r.R_LARCH_TLS_LE_HI20_R kind = IsSingle IsLu12i
+HasPattern r.R_LARCH_TLS_LE_ADD_R kind = IsSingle IsAddTp
+HasPattern r.R_LARCH_TLS_LE_LO12_R kind = IsSingle IsLowOverOther
 -- what the rewrite is meant for
-IsAskedFor name kind = loongarch_matches kind
+HasPattern name kind = loongarch_matches kind
 
 -- ---- the table
 
@@ -360,7 +360,7 @@ loongarch_entries name = []
 -- offset or the addend.
 abbrev pub LoongArchApplies : LoongArch64Relocation → List ℕ → ℕ → LinkFacts → LoongArchEntry
     → Type 0
-LoongArchApplies name = Applies (IsAskedFor name) loongarch_row (λ kind o operands. operands)
+LoongArchApplies name = Applies (HasPattern name) loongarch_row (λ kind o operands. operands)
 
 -- that of the first entry that applies, and else to leave the instruction and the relocation
 abbrev pub IsLoongArchChoice : LoongArch64Relocation → List ℕ → ℕ → LinkFacts → LoongArchChoice
@@ -431,7 +431,7 @@ abbrev pub AreChosenAlikeApart : (LinkFacts → Type 0) → LoongArch64Relocatio
     → LoongArch64Relocation → List (LoongArchChoice × LoongArchChoice) → Type 0
 AreChosenAlikeApart P first second lines =
     (section other : List ℕ) (o p n : ℕ) (facts : LinkFacts) (a b : LoongArchChoice) → P facts
-    → IsAskedFor first kinds.NoOp section o → IsAskedFor second kinds.NoOp other p
+    → HasPattern first kinds.NoOp section o → HasPattern second kinds.NoOp other p
     → IsLoongArchChoice first section o facts a
     → IsLoongArchChoice second other p (facts_on n facts) b
     → IsAmong (a, b) (lines ++ (choice kinds.NoOp first, choice kinds.NoOp second) ∷ [])
@@ -451,7 +451,7 @@ InitialExecIsChosenAlike =
 -- the high half reaches the entry of initial-exec, unless no address is known
 abbrev pub ReachesEntry : LinkFacts → Type 0
 ReachesEntry facts =
-    Holds loongarch_row facts.operands facts
+    ConditionHolds loongarch_row facts.operands facts
     (within_if_known r.R_LARCH_TLS_IE_PC_HI20 signed_32 0)
 
 -- one of the other relocations of a TLS descriptor with the first one: its choices for local-exec
@@ -480,8 +480,8 @@ DescriptorsAreChosenAlike =
 abbrev pub OfThreadOffsetIsChosenAlike : LoongArch64Relocation → LoongArchChoice → Type 0
 OfThreadOffsetIsChosenAlike name chosen =
     (section : List ℕ) (o p n : ℕ) (facts : LinkFacts) (a b : LoongArchChoice)
-    → IsAskedFor r.R_LARCH_TLS_LE_HI20_R kinds.Delete section o
-    → IsAskedFor name chosen.kind section p
+    → HasPattern r.R_LARCH_TLS_LE_HI20_R kinds.Delete section o
+    → HasPattern name chosen.kind section p
     → IsLoongArchChoice r.R_LARCH_TLS_LE_HI20_R section o facts a
     → IsLoongArchChoice name section p (facts_on n facts) b
     → IsAmong (a, b) ((choice kinds.Delete r.R_LARCH_NONE, chosen)

@@ -5,7 +5,7 @@ ghost use Rattle.linker_base.specs.Rewrite.{CanRewrite};
 ghost use Rattle.linker_elf.specs.Choices.{Fits, choice};
 ghost use Rattle.linker_elf.proofs.SameNames.{equalities, exact_code};
 ghost use Rattle.linker_elf.specs.contracts.loongarch64.relocations.LoongArch64Relocation.{enum as names};
-ghost use Rattle.linker_loongarch64.specs.Inner.AskedFor.{is_asked_by, loongarch_tables};
+ghost use Rattle.linker_loongarch64.specs.Inner.Pattern.{matches_pattern, loongarch_tables};
 ghost use Rattle.linker_loongarch64.specs.LoongArchRewrites as rewrites;
 ghost use Rattle.linker_loongarch64.specs.declared.rewrites.RelaxationKind.TheVariants as kinds;
 
@@ -15,7 +15,7 @@ use super::rewrites::{
 };
 use linker_base::rewrite::has_window;
 use linker_elf::elf::choice_table::{
-    Chosen, ChosenByTable, ChosenKind, SIGNED_12, Table, by_table, choice_by, conditions,
+    ChoiceTable, Chosen, RewriteSet, SIGNED_12, Table, by_table, choice_by, conditions,
 };
 use linker_elf::elf::{Choice, LinkFacts, Operands};
 use linker_elf::loongarch64::{LoongArch64Relocation, LoongArch64Relocation as Names};
@@ -35,7 +35,7 @@ fn is_pair(section: &[u8], offset: u64, opcode: u32) -> bool
 }
 
 /// The instructions that an entry is for, of which the first is n bytes before the offset.
-pub enum AskedFor {
+pub enum Pattern {
     /// Those that its rewrite is meant for.
     OfRewrite,
     /// `pcalau12i rd` and `ld.d rd, rd`.
@@ -62,39 +62,39 @@ pub enum AskedFor {
     LowOverOther,
 }
 
-impl ChosenKind for RelaxationKind {
+impl RewriteSet for RelaxationKind {
     type Relocation = Names;
 
-    type Originals = AskedFor;
+    type Originals = Pattern;
 
-    ghost are_at = { is_asked_by };
+    ghost are_at = { matches_pattern };
 
     ghost tables = { loongarch_tables };
 
     ghost laws = { equalities kinds.NoOp names (λ x y. x.0 == y.0, tt) (exact_code, tt) };
 
     #[inline(always)]
-    fn stand_at(self, originals: &AskedFor, section: &[u8], offset: u64) -> bool {
+    fn matches_at(self, originals: &Pattern, section: &[u8], offset: u64) -> bool {
         match *originals {
-            AskedFor::OfRewrite => self.matches(section, offset),
-            AskedFor::Load(back) => back <= offset && is_pair(section, offset - back, 0x0a3),
-            AskedFor::Sum(back) => back <= offset && is_pair(section, offset - back, 0x00b),
+            Pattern::OfRewrite => self.matches(section, offset),
+            Pattern::Load(back) => back <= offset && is_pair(section, offset - back, 0x0a3),
+            Pattern::Sum(back) => back <= offset && is_pair(section, offset - back, 0x00b),
             _ if !has_window(section, offset, 0, 4) => false,
-            AskedFor::Pcalau12i => is_pcalau12i(word_at(section, offset)),
-            AskedFor::Ld => is_ld(word_at(section, offset)),
-            AskedFor::PageOfDescriptor => {
+            Pattern::Pcalau12i => is_pcalau12i(word_at(section, offset)),
+            Pattern::Ld => is_ld(word_at(section, offset)),
+            Pattern::PageOfDescriptor => {
                 let word = word_at(section, offset);
                 is_pcalau12i(word) && destination(word) == 4
             }
-            AskedFor::LowOfDescriptor => {
+            Pattern::LowOfDescriptor => {
                 let word = word_at(section, offset);
                 is_addi(word) && destination(word) == 4 && source(word) == 4
             }
-            AskedFor::LoadOfDescriptor => word_at(section, offset) == 0x28c0_0081,
-            AskedFor::CallOfDescriptor => word_at(section, offset) == 0x4c00_0021,
-            AskedFor::Lu12i => word_at(section, offset) >> 25 == 0x0a,
-            AskedFor::AddTp => word_at(section, offset) >> 10 == 0x422,
-            AskedFor::LowOverOther => is_low_over_other(word_at(section, offset)),
+            Pattern::LoadOfDescriptor => word_at(section, offset) == 0x28c0_0081,
+            Pattern::CallOfDescriptor => word_at(section, offset) == 0x4c00_0021,
+            Pattern::Lu12i => word_at(section, offset) >> 25 == 0x0a,
+            Pattern::AddTp => word_at(section, offset) >> 10 == 0x422,
+            Pattern::LowOverOther => is_low_over_other(word_at(section, offset)),
         }
     }
 
@@ -232,7 +232,7 @@ macro_rules! choices {
     };
 }
 
-impl ChosenByTable for RelaxationKind {
+impl ChoiceTable for RelaxationKind {
     ghost sampled = { λ name none section o. none };
 
     #[inline(always)]
@@ -257,7 +257,7 @@ impl ChosenByTable for RelaxationKind {
 /// // pcaddu18i ra, 0; jirl ra, ra, 0, which calls a function 0x1000 bytes on
 /// let call = [0x01, 0x00, 0x00, 0x1e, 0x21, 0x00, 0x00, 0x4c];
 /// let facts = LinkFacts {
-///     has_fixed_distance: true,
+///     is_pcrel_link_time_constant: true,
 ///     is_relaxable: true,
 ///     has_addresses: true,
 ///     operands: Operands { plt_entry: 0x2000, place: 0x1000, ..Operands::default() },
@@ -290,7 +290,8 @@ pub fn choose(
 ///
 /// // pcalau12i a0, 0 and ld.d a1, a0, 0, which leaves the address of the GOT entry in a0
 /// let section = [0x04, 0, 0, 0x1a, 0x85, 0, 0xc0, 0x28];
-/// let facts = LinkFacts { is_local: true, has_fixed_distance: true, ..LinkFacts::default() };
+/// let mut facts = LinkFacts { is_local: true, ..LinkFacts::default() };
+/// facts.is_pcrel_link_time_constant = true;
 /// assert!(!fits(LoongArch64Relocation::R_LARCH_GOT_PC_HI20, &section, 0, &facts));
 /// ```
 pub fn fits(name: LoongArch64Relocation, section: &[u8], offset: u64, facts: &LinkFacts) -> bool

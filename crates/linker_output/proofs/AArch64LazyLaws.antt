@@ -20,7 +20,7 @@ use Rattle.linker_laws.specs.Machine.{stored}
 use Rattle.linker_laws.specs.Schemes.{IsAddress, symbol_address}
 use Rattle.linker_laws.proofs.AArch64Pairs.{loads, adds_up}
 use Rattle.linker_laws.proofs.AArch64Steps.{set, step_add}
-use Rattle.linker_laws.proofs.AArch64Words.{IsAdrOf, IsOf, adrp_after, ldr_after, add_after, of_registers}
+use Rattle.linker_laws.proofs.AArch64Words.{IsAdrOf, IsInstructionOf, adrp_after, ldr_after, add_after, of_registers}
 use Rattle.linker_laws.proofs.RiscVMachine.{wrapped_is}
 use Rattle.linker_output.proofs.LazyRuns.{run_more, left_false, right_false, one_word, are_addresses_at}
 use Rattle.linker_output.proofs.StubWords.{applies, no_addend, at_place}
@@ -44,7 +44,7 @@ kept true c u v w m e = cc
 kept false true u v w m e = cc
 kept false false u v w m e = refl
 
-module _ (o : Operands) (s : State) (x y z target : ℕ) (first : IsAdrOf 1 16 x) (second : IsOf ldr 17 16 y) (third : IsOf add 16 16 z)
+module _ (o : Operands) (s : State) (x y z target : ℕ) (first : IsAdrOf 1 16 x) (second : IsInstructionOf ldr 17 16 y) (third : IsInstructionOf add 16 16 z)
     (at : s.pc ≡ o.place) (loads_from : IsAddress (page_and_offset LdSt 8 o x y) target)
     (adds_to : IsAddress (page_and_offset Add 1 o x z) target) where
   one : State
@@ -126,8 +126,8 @@ enters relative entry inside below code is s at =
     let z = word_of p3.0 in
     let addresses = are_addresses_at (record { field = field_of 0 (aarch64_name r.R_AARCH64_ADR_PREL_PG_HI21); target = Word; origin = 0; addend = pos 0 }) entry below in
     let first : IsAdrOf 1 16 x = adrp_after _ _ adrp_x16 is.0 a.applied.written refl in
-    let second : IsOf ldr 17 16 y = of_registers refl refl (ldr_after _ _ ldr_x17 p2.0 b.applied.written refl) in
-    let third : IsOf add 16 16 z = of_registers refl refl (add_after _ _ add_x16 p3.0 c.applied.written refl) in
+    let second : IsInstructionOf ldr 17 16 y = of_registers refl refl (ldr_after _ _ ldr_x17 p2.0 b.applied.written refl) in
+    let third : IsInstructionOf add 16 16 z = of_registers refl refl (add_after _ _ add_x16 p3.0 c.applied.written refl) in
     let here : s.pc ≡ o.place = at ∙ sym (at_place entry.address inside) in
     let to = symbol_address o in
     let l = relative.0.4 o addresses o.place adrp_x16 is.0 a.applied tt o.place ldr_x17 p2.0 b.applied tt in
@@ -271,8 +271,8 @@ resolves relative entry first inside below_word bounded within code is header is
     let z = word_of p4.0 in
     let addresses = are_addresses_at (record { field = field_of 0 (aarch64_name r.R_AARCH64_ADR_PREL_PG_HI21); target = Word; origin = 4; addend = pos 16 }) places bounded in
     let is_adrp : IsAdrOf 1 16 x = adrp_after _ _ adrp_x16 p2.0 a.applied.written refl in
-    let is_ldr : IsOf ldr 17 16 y = of_registers refl refl (ldr_after _ _ ldr_x17 p3.0 b.applied.written refl) in
-    let is_add : IsOf add 16 16 z = of_registers refl refl (add_after _ _ add_x16 p4.0 c.applied.written refl) in
+    let is_ldr : IsInstructionOf ldr 17 16 y = of_registers refl refl (ldr_after _ _ ldr_x17 p3.0 b.applied.written refl) in
+    let is_add : IsInstructionOf add 16 16 z = of_registers refl refl (add_after _ _ add_x16 p4.0 c.applied.written refl) in
     let third = sum_64 first 16 in
     let l : IsAddress (page_and_offset LdSt 8 o x y) third = relative.0.4 o addresses o.place adrp_x16 p2.0 a.applied tt o.place ldr_x17 p3.0 b.applied tt in
     let m : IsAddress (page_and_offset Add 1 o x z) third = relative.0.0 o addresses o.place adrp_x16 p2.0 a.applied tt o.place add_x16 p4.0 c.applied tt in

@@ -13,7 +13,7 @@ use Rattle.linker_laws.specs.AArch64RewriteLaws.{word_of}
 use Rattle.linker_laws.specs.Schemes.{symbol_address}
 use Rattle.linker_laws.proofs.AArch64Pairs.{loads, adds_pair}
 use Rattle.linker_laws.proofs.AArch64Steps.{set, run_pair}
-use Rattle.linker_laws.proofs.AArch64Words.{IsAdrOf, IsOf, adrp_after, ldr_after, add_after, of_registers}
+use Rattle.linker_laws.proofs.AArch64Words.{IsAdrOf, IsInstructionOf, adrp_after, ldr_after, add_after, of_registers}
 use Rattle.linker_elf.specs.AArch64Relocations.{aarch64_name, aarch64_row}
 use Rattle.linker_output.proofs.StubWords.{front_word, first_is, second_is, third_is, applies, no_addend, at_place, are_addresses}
 use Rattle.linker_output.specs.AArch64Output.{aarch64_output}
@@ -72,7 +72,7 @@ loads_go relative place target inside below code is s at =
     let front : word_of code ≡ x =
     first_is code pair stub.tail is.1 is.3 ∙ sym (front_word pair) ∙ ap word_of low.kept ∙ front_word half in
     let first : IsAdrOf 1 16 x = adrp_after _ _ template half high.applied.written refl in
-    let second : IsOf ldr 17 16 y =
+    let second : IsInstructionOf ldr 17 16 y =
     of_registers (ap rd_of old) (ap rn_of old)
     (ldr_after _ _ (drop 4 half) (drop 4 pair) low.applied.written (subst IsLdr64 (sym old) refl)) in
     let here : s.pc ≡ o.place = at ∙ sym (at_place place inside) in
@@ -108,7 +108,7 @@ jumps_go relative place target inside below code is s at =
     let front : word_of code ≡ x =
     first_is code pair stub.tail is.1 is.3 ∙ sym (front_word pair) ∙ ap word_of low.kept ∙ front_word half in
     let first : IsAdrOf 1 16 x = adrp_after _ _ template half high.applied.written refl in
-    let second : IsOf add 16 16 y =
+    let second : IsInstructionOf add 16 16 y =
     of_registers (ap rd_of old) (ap rn_of old)
     (add_after _ _ (drop 4 half) (drop 4 pair) low.applied.written (ap (λ w. field w 22 32) old)) in
     let here : s.pc ≡ o.place = at ∙ sym (at_place place inside) in

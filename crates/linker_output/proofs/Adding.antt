@@ -17,7 +17,7 @@ use Rattle.linker_output.specs.declared.placement.StubAt.{StubAt}
 use Rattle.linker_output.specs.declared.placement.Way.{Way}
 use Rattle.linker_output.specs.declared.placement.Way.TheVariants.{Direct, Far, Near}
 use Rattle.linker_output.specs.Placement.{at, group_at, branch_at, stub_at, stubs_in, AreOfTwo, HasNoFar, HasPart, HasSpare, AreTwo, IsCode, IsFar, IsFarFrom, IsFirst, part_of}
-use Rattle.linker_output.specs.Inner.Placement.{AreLists, HasNoneAt, HasOwner, IsState, IsLeft, IsNew, IsWay, IsNear, level, level_of, list_at, list_of, way_at, with_one, new_way}
+use Rattle.linker_output.specs.Inner.Placement.{AreLists, HasNoneAt, HasOwner, IsState, StaysUnshared, IsNew, IsWay, IsNear, level, level_of, list_at, list_of, way_at, with_one, new_way}
 use Rattle.linker_output.proofs.Bounds.{level_most}
 
 part_grows : (p part : Part) (g : Group) → part_of p g ≤ part_of p (with_one part g)
@@ -184,7 +184,7 @@ level_of_most Back = omega arith
 
 -- of a new stub that is its target's first one there were none
 left_first : (code : Code) (state new : State) (index : ℕ) (s : StubAt) → new.may_share ≡ state.may_share → s.target ≡ (branch_at code.branches.now index).target → new.stubs.items ≡ state.stubs.items ++ (s ∷ [])
-    → IsLeft code state (branch_at code.branches.now index) → new.may_share ≡ true → IsFirst new.stubs.items (length state.stubs.items) → HasNoFar code (branch_at code.branches.now index)
+    → StaysUnshared code state (branch_at code.branches.now index) → new.may_share ≡ true → IsFirst new.stubs.items (length state.stubs.items) → HasNoFar code (branch_at code.branches.now index)
 left_first code state new index s share t is left shares first = left (sym share ∙ shares)
     (λ j below e. first j below (ap (λ x. x.target) (old_stub state.stubs.items new.stubs.items s j is below) ∙ e ∙ sym (ap (λ x. x.target) (new_stub state.stubs.items new.stubs.items s is) ∙ t)))
 

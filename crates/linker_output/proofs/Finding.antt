@@ -9,7 +9,7 @@ use Rattle.linker_output.specs.declared.placement.Part.TheVariants.{Front, Middl
 use Rattle.linker_output.specs.declared.placement.State.{State}
 use Rattle.linker_output.specs.declared.placement.StubAt.{StubAt}
 use Rattle.linker_output.specs.Placement.{at, group_at, part_of, passed, stub_at, IsCode}
-use Rattle.linker_output.specs.Inner.Placement.{AreLists, IsAt, IsNear, IsNearIn, IsNew, IsNewNear, IsOutAhead, IsOutBehind, IsOutThere, IsState, level_of, list_at, list_of, new_stub}
+use Rattle.linker_output.specs.Inner.Placement.{AreLists, IsAt, IsNear, IsNearIn, IsNew, IsNewNear, IsOutAhead, IsOutAfter, IsOutThere, IsState, level_of, list_at, list_of, new_stub}
 use Rattle.linker_output.proofs.Near.{nearer}
 use Rattle.linker_output.proofs.Passed.{true_le, false_lt}
 use Rattle.std.specs.Prelude.{nat_le}
@@ -68,7 +68,7 @@ out_there code state branch boundary part s is_code is inside here far =
 
 -- A branch that is near none in the parts next to it is near none.
 module _ (code : Code) (state : State) (branch : Branch)
-    (front : IsOutAhead code state branch) (back : IsOutBehind code state branch) where
+    (front : IsOutAhead code state branch) (back : IsOutAfter code state branch) where
   none_in : (part : Part) (s : ℕ) → s < length state.stubs.items → (stub_at state.stubs.items s).boundary < length code.boundaries.now → (stub_at state.stubs.items s).part ≡ part
       → (stub_at state.stubs.items s).target ≡ branch.target → ¬ IsNearIn part code branch (stub_at state.stubs.items s)
   none_in Front s within inside e target near =

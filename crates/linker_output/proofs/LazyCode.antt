@@ -21,12 +21,12 @@ placed out middle new piece others at n m less len later made =
     ap (take at) later
     ∙ take-append-le at (take (at + n) out) rest (omega (arith, front_len))
     ∙ fewer out at n (omega (arith, less)) in
-    let behind : drop (at + length piece) middle ≡ rest =
+    let following : drop (at + length piece) middle ≡ rest =
     ap (λ k. drop (at + k) middle) len ∙ ap (drop (at + n)) later
     ∙ drop_at (take (at + n) out) rest (at + n) front_len in
     let same : at + n + m ≡ at + (n + m) = omega arith in
     made ∙ ap (λ b. (b ++ piece) ++ drop (at + length piece) middle) before
-    ∙ ap (λ b. (take at out ++ piece) ++ b) behind
+    ∙ ap (λ b. (take at out ++ piece) ++ b) following
     ∙ append_assoc (take at out) piece rest
     ∙ ap (λ b. take at out ++ b) (sym (append_assoc piece others (drop (at + n + m) out)))
     ∙ ap (λ k. take at out ++ ((piece ++ others) ++ drop k out)) same

@@ -57,8 +57,8 @@ offset_is header index address inside small is =
 -- ---- code that begins with a piece
 
 module _ (piece others code : List ℕ) (len : length piece ≡ 8) where
-  pub behind : (n : ℕ) → n ≤ 8 → code ≡ take n piece ++ others → drop n code ≡ others
-  behind n most is =
+  pub following : (n : ℕ) → n ≤ 8 → code ≡ take n piece ++ others → drop n code ≡ others
+  following n most is =
       ap (drop n) is ∙ drop_at (take n piece) others n (length-take n piece ∙ omega (arith, most, len))
 
   first_four : code ≡ take 4 piece ++ others → take 4 code ≡ take 4 piece
@@ -74,7 +74,7 @@ module _ (piece others code : List ℕ) (len : length piece ≡ 8) where
       → words n others ≡ ws → words (suc n) code ≡ w ∷ ws
   one_word n w ws is first rest =
       ap (λ v. v ∷ words n (drop 4 code)) (word_of_piece is ∙ first)
-      ∙ ap (λ l. w ∷ words n l) (behind 4 (omega arith) is) ∙ ap (λ l. w ∷ l) rest
+      ∙ ap (λ l. w ∷ words n l) (following 4 (omega arith) is) ∙ ap (λ l. w ∷ l) rest
 
 -- ---- operands
 

@@ -22,7 +22,7 @@ use Rattle.linker_laws.specs.Ppc64RelocationLaws.{Branches, Fields}
 use Rattle.linker_laws.specs.Ppc64RewriteLaws.{word_of}
 use Rattle.linker_laws.proofs.AArch64Words.{field_kept}
 use Rattle.linker_laws.proofs.RiscVMachine.{address_is, times_one, wrapped_is}
-use Rattle.linker_output.proofs.LazyRuns.{run_more, one_word, behind, are_addresses_at}
+use Rattle.linker_output.proofs.LazyRuns.{run_more, one_word, following, are_addresses_at}
 use Rattle.linker_output.proofs.StubWords.{applies, no_addend, at_place}
 use Rattle.linker_output.specs.LazyPlt.{operands_at, header_places}
 use Rattle.linker_output.specs.LazyPlts.{padded}
@@ -60,8 +60,8 @@ branches f word c is =
 -- ---- the header's instructions
 
 -- r12 and r0, and what is loaded
-abbrev behind_4 : Counted → Counted
-behind_4 c =
+abbrev after_4 : Counted → Counted
+after_4 c =
     let a = with_state (moved_from_link 0 c.state) c in
     let b = with_state (linked a.state) a in
     let d = with_state (moved_from_link 11 b.state) b in
@@ -72,7 +72,7 @@ writes n v c = with_state (go_on (write n v c.state)) c
 
 module _ (f : Formats) (c : Counted) where
   c4 : Counted
-  c4 = behind_4 c
+  c4 = after_4 c
 
   c5 : Counted
   c5 = writes 12 (difference_64 (c4.state.registers 12) (c4.state.registers 11)) c4
@@ -254,13 +254,13 @@ resolves single fields entry first inside bounded within aligned small placed co
     ap (number_of_bytes 8)
     (sym (drop-drop 4 48 header) ∙ ap (drop 4) (sym (drop-drop 8 40 header) ∙ ap (drop 8) (sym (drop-drop 8 32 header)
     ∙ ap (drop 8) (sym (drop-drop 8 24 header) ∙ ap (drop 8) (sym (drop-drop 8 16 header) ∙ ap (drop 8) (sym (drop-drop 8 8 header)
-    ∙ ap (drop 8) (behind is_header.0 is_header.1 header is_header.2.0 8 (omega arith) is_header.4)
-    ∙ behind p2.0 p2.1 is_header.1 p2.2.0 8 (omega arith) p2.4)
-    ∙ behind p3.0 p3.1 p2.1 p3.2.0 8 (omega arith) p3.4)
-    ∙ behind p4.0 p4.1 p3.1 p4.2.0 8 (omega arith) p4.4)
-    ∙ behind p5.0 p5.1 p4.1 p5.2.0 8 (omega arith) p5.4)
-    ∙ behind p6.0 p6.1 p5.1 p6.2.0 8 (omega arith) p6.4)
-    ∙ behind p7.0 p7.1 p6.1 p7.2.0 4 (omega arith) p7.4 ∙ p8.4)
+    ∙ ap (drop 8) (following is_header.0 is_header.1 header is_header.2.0 8 (omega arith) is_header.4)
+    ∙ following p2.0 p2.1 is_header.1 p2.2.0 8 (omega arith) p2.4)
+    ∙ following p3.0 p3.1 p2.1 p3.2.0 8 (omega arith) p3.4)
+    ∙ following p4.0 p4.1 p3.1 p4.2.0 8 (omega arith) p4.4)
+    ∙ following p5.0 p5.1 p4.1 p5.2.0 8 (omega arith) p5.4)
+    ∙ following p6.0 p6.1 p5.1 p6.2.0 8 (omega arith) p6.4)
+    ∙ following p7.0 p7.1 p6.1 p7.2.0 4 (omega arith) p7.4 ∙ p8.4)
     ∙ eight_bytes p8.0 p8.1 p8.2.0 in
     let far : (sum_64 entry.header 8 + n) % 2 ^ 64 ≡ sum_64 first (cast_unsigned w64 (pos 0)) % 2 ^ 64 =
     fields.3 o2 (are_addresses_at quad places bounded) zeros p8.0 two.applied in

@@ -69,11 +69,11 @@ module _ (f : Formats) (r : Run) (count : r.count ≡ 18) (alone : r.second ≡ 
   words_are zero less = ap (words_from r 18) (let e : 0 + length r.tail ≡ length r.tail = omega arith in e) ∙ last
   words_are (suc k) less =
       let index : 18 - suc k ≡ 17 - k = omega arith in
-      let behind : 17 - k + 1 ≡ 18 - k = omega (arith, less) in
+      let following : 17 - k + 1 ≡ 18 - k = omega (arith, less) in
       ap (λ j. words_from r (18 - suc k) j) (let e : suc k + length r.tail ≡ suc (k + length r.tail) = omega arith in e)
       ∙ ap (λ i. words_from r i (suc (k + length r.tail))) index
       ∙ ap (λ w. word_or_0 w ∷ words_from r (17 - k + 1) (k + length r.tail)) (found (17 - k) (omega arith))
-      ∙ ap (λ i. word_at r (17 - k) ∷ words_from r i (k + length r.tail)) behind
+      ∙ ap (λ i. word_at r (17 - k) ∷ words_from r i (k + length r.tail)) following
       ∙ ap (λ l. word_at r (17 - k) ∷ l) (words_are k (omega (arith, less)))
 
   pub runs : (n : ℕ) → 14 ≤ n → n < 32 → (c : Counted) (end : Option Counted) → run f (y ∷ ys) (after one (32 - n) c) ≡ end

@@ -65,43 +65,43 @@ of_machine f x k c s is a b d stepping =
     ∙ other_opcode (k == 31) (k == 16) (k == 19) f x c a b d ∙ ap (lifted c) stepping
 
 -- the states after the instructions, of which the pair puts v and then w in r12
-abbrev behind_1 : Counted → Counted
-behind_1 c = with_state (moved_from_link 0 c.state) c
+abbrev after_1 : Counted → Counted
+after_1 c = with_state (moved_from_link 0 c.state) c
 
-abbrev behind_2 : Counted → Counted
-behind_2 c = with_state (linked (behind_1 c).state) (behind_1 c)
+abbrev after_2 : Counted → Counted
+after_2 c = with_state (linked (after_1 c).state) (after_1 c)
 
-abbrev behind_3 : Counted → Counted
-behind_3 c = with_state (moved_from_link 12 (behind_2 c).state) (behind_2 c)
+abbrev after_3 : Counted → Counted
+after_3 c = with_state (moved_from_link 12 (after_2 c).state) (after_2 c)
 
-abbrev behind_4 : Counted → Counted
-behind_4 c = with_state (moved_to_link 0 (behind_3 c).state) (behind_3 c)
+abbrev after_4 : Counted → Counted
+after_4 c = with_state (moved_to_link 0 (after_3 c).state) (after_3 c)
 
-abbrev behind_5 : ℕ → Counted → Counted
-behind_5 v c = with_state (set 12 v (behind_4 c).state) (behind_4 c)
+abbrev after_5 : ℕ → Counted → Counted
+after_5 v c = with_state (set 12 v (after_4 c).state) (after_4 c)
 
-abbrev behind_6 : ℕ → ℕ → Counted → Counted
-behind_6 v w c = with_state (set 12 w (behind_5 v c).state) (behind_5 v c)
+abbrev after_6 : ℕ → ℕ → Counted → Counted
+after_6 v w c = with_state (set 12 w (after_5 v c).state) (after_5 v c)
 
-abbrev behind_7 : ℕ → ℕ → Counted → Counted
-behind_7 v w c = record { state = go_on (behind_6 v w c).state; count = w }
+abbrev after_7 : ℕ → ℕ → Counted → Counted
+after_7 v w c = record { state = go_on (after_6 v w c).state; count = w }
 
 pub runs : (f : Formats) (c : Counted) (x y v w : ℕ)
-    → step_counted f x (behind_4 c) ≡ Some (behind_5 v c)
-    → step_counted f y (behind_5 v c) ≡ Some (behind_6 v w c)
+    → step_counted f x (after_4 c) ≡ Some (after_5 v c)
+    → step_counted f y (after_5 v c) ≡ Some (after_6 v w c)
     → run f
     (0x7c0802a6 ∷ 0x429f0005 ∷ 0x7d8802a6 ∷ 0x7c0803a6 ∷ x ∷ y ∷ 0x7d8903a6 ∷ 0x4e800420 ∷ []) c
-    ≡ Some (at_count (behind_7 v w c))
+    ≡ Some (at_count (after_7 v w c))
 runs f c x y v w first second =
     let six : List ℕ = 0x7d8903a6 ∷ 0x4e800420 ∷ [] in
     let four : List ℕ = x ∷ y ∷ six in
-    run_more f 0x7c0802a6 0x429f0005 (0x7d8802a6 ∷ 0x7c0803a6 ∷ four) c (behind_1 c) _ refl refl
-    (run_more f 0x429f0005 0x7d8802a6 (0x7c0803a6 ∷ four) (behind_1 c) (behind_2 c) _ refl refl
-    (run_more f 0x7d8802a6 0x7c0803a6 four (behind_2 c) (behind_3 c) _ refl refl
-    (run_more f 0x7c0803a6 x (y ∷ six) (behind_3 c) (behind_4 c) _ refl refl
-    (run_more f x y six (behind_4 c) (behind_5 v c) _ first refl
-    (run_more f y 0x7d8903a6 (0x4e800420 ∷ []) (behind_5 v c) (behind_6 v w c) _ second refl
-    (run_more f 0x7d8903a6 0x4e800420 [] (behind_6 v w c) (behind_7 v w c) _ refl refl refl))))))
+    run_more f 0x7c0802a6 0x429f0005 (0x7d8802a6 ∷ 0x7c0803a6 ∷ four) c (after_1 c) _ refl refl
+    (run_more f 0x429f0005 0x7d8802a6 (0x7c0803a6 ∷ four) (after_1 c) (after_2 c) _ refl refl
+    (run_more f 0x7d8802a6 0x7c0803a6 four (after_2 c) (after_3 c) _ refl refl
+    (run_more f 0x7c0803a6 x (y ∷ six) (after_3 c) (after_4 c) _ refl refl
+    (run_more f x y six (after_4 c) (after_5 v c) _ first refl
+    (run_more f y 0x7d8903a6 (0x4e800420 ∷ []) (after_5 v c) (after_6 v w c) _ second refl
+    (run_more f 0x7d8903a6 0x4e800420 [] (after_6 v w c) (after_7 v w c) _ refl refl refl))))))
 
 kept : (a b : Bool) (w v l k r : ℕ) → (a || b) ≡ false
     → cond b w (cond b v (cond b l (cond a k r))) ≡ r
@@ -111,7 +111,7 @@ kept false false w v l k r e = refl
 
 -- what is left at the target
 left : (c : Counted) (v w target : ℕ) → w ≡ target → target % 4 ≡ 0
-    → GoesTo target c (at_count (behind_7 v w c))
+    → GoesTo target c (at_count (after_7 v w c))
 left c v w target is even =
     record {
       pc = ap (λ n. n - n % 4) is ∙ omega (arith, even);
@@ -199,10 +199,10 @@ loads_go toc place word target inside below small even code is f c entry holds =
     subst (λ end. IsSomeAnd end (GoesTo target c))
     (sym (ap (λ ws. run f ws c) (entered_is code pair x y is.1 is.3 front refl)
     ∙ runs f c x y v w
-    (of_machine f x 15 (behind_4 c) (behind_5 v c).state first.opcode_is refl refl refl
-    (step_addis f x 12 12 (behind_4 c).state first))
-    (of_machine f y 58 (behind_5 v c) (behind_6 v w c).state second.opcode_is refl refl refl
-    (step_ld f y 12 12 (behind_5 v c).state second zero))))
+    (of_machine f x 15 (after_4 c) (after_5 v c).state first.opcode_is refl refl refl
+    (step_addis f x 12 12 (after_4 c).state first))
+    (of_machine f y 58 (after_5 v c) (after_6 v w c).state second.opcode_is refl refl refl
+    (step_ld f y 12 12 (after_5 v c).state second zero))))
     (left c v w target value even)
 
 -- the code of a stub
@@ -244,10 +244,10 @@ jumps_go toc place target inside below even code is f c entry =
     subst (λ end. IsSomeAnd end (GoesTo target c))
     (sym (ap (λ ws. run f ws c) (entered_is code pair x y is.1 is.3 front refl)
     ∙ runs f c x y v w
-    (of_machine f x 15 (behind_4 c) (behind_5 v c).state first.opcode_is refl refl refl
-    (step_addis f x 12 12 (behind_4 c).state first))
-    (of_machine f y 14 (behind_5 v c) (behind_6 v w c).state second.opcode_is refl refl refl
-    (step_addi f y 12 12 (behind_5 v c).state second))))
+    (of_machine f x 15 (after_4 c) (after_5 v c).state first.opcode_is refl refl refl
+    (step_addis f x 12 12 (after_4 c).state first))
+    (of_machine f y 14 (after_5 v c) (after_6 v w c).state second.opcode_is refl refl refl
+    (step_addi f y 12 12 (after_5 v c).state second))))
     (left c v w target value even)
 
 pub first_stores : stubs.FirstStoresToc

@@ -84,9 +84,9 @@ module _ (entry : LazyEntry) (h : Hart) (u i : ℤ) (target : ℕ) (small : targ
       ap (λ n. moved n (pos 0) - moved n (pos 0) % 2) target_is
       ∙ ap (λ n. n - n % 2) (no_move target small) ∙ omega (arith, even)
 
-  behind_is : register three 6 ≡ sum_64 entry.address 12
+  after_is : register three 6 ≡ sum_64 entry.address 12
   unfolding one two three
-  behind_is = twelve h.pc ∙ ap (λ p. sum_64 p 12) at
+  after_is = twelve h.pc ∙ ap (λ p. sum_64 p 12) at
 
   still : register three 28 ≡ register two 28
   unfolding three
@@ -106,7 +106,7 @@ module _ (entry : LazyEntry) (h : Hart) (u i : ℤ) (target : ℕ) (small : targ
   goes =
       record {
         pc = pc_is;
-        t1 = behind_is;
+        t1 = after_is;
         t3 = still ∙ target_is;
         integers = others;
         floats = refl;

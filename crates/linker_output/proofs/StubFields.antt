@@ -35,8 +35,8 @@ rejected range row found v bytes error is allowed cause =
 from_there : (m : ℕ) (pair : List ℕ) → length pair ≡ 8 → take (8 - m) (drop m pair) ≡ drop m pair
 from_there m pair len = take_all (8 - m) (drop m pair) (let e = length-drop m pair in omega arith)
 
-none_behind : (m : ℕ) (pair : List ℕ) → length pair ≡ 8 → drop (8 - m) (drop m pair) ≡ []
-none_behind m pair len = drop_all (8 - m) (drop m pair) (let e = length-drop m pair in omega arith)
+none_after : (m : ℕ) (pair : List ℕ) → length pair ≡ 8 → drop (8 - m) (drop m pair) ≡ []
+none_after m pair len = drop_all (8 - m) (drop m pair) (let e = length-drop m pair in omega arith)
 
 applied_at : (field : StubField) (o : Operands) (pair after : List ℕ) (row : RelocationKindInfo)
     (v : ℤ) (m : ℕ) → m ≡ offset_in field → WritesRow row v (drop m pair) (drop m after)
@@ -69,7 +69,7 @@ module _ (architecture : Architecture) (field : StubField) (o : Operands) (pair 
   unfolding after
   there =
       drop_at (take m pair) (bytes ++ drop (8 - m) (drop m pair)) m front_len
-      ∙ ap (λ b. bytes ++ b) (none_behind m pair len) ∙ append-nil bytes
+      ∙ ap (λ b. bytes ++ b) (none_after m pair len) ∙ append-nil bytes
 
   pub field_written : (result : Result Unit RelocateError)
       → OnOk result (WritesRow row v (take (8 - m) (drop m pair)) bytes)
@@ -105,12 +105,12 @@ next : (front piece rest old new : List ℕ) (k : ℕ) → k ≡ length front �
     → new ≡ (front ++ piece) ++ drop (length piece) rest
 next front piece rest old new k at is made =
     let kept : take k old ≡ front = ap (take k) is ∙ take_at front rest k (sym at) in
-    let behind : drop (k + length piece) old ≡ drop (length piece) rest =
+    let following : drop (k + length piece) old ≡ drop (length piece) rest =
     sym (drop-drop (length piece) k old)
     ∙ ap (λ b. drop (length piece) (drop k b)) is
     ∙ ap (drop (length piece)) (drop_at front rest k (sym at)) in
     made ∙ ap (λ b. (b ++ piece) ++ drop (k + length piece) old) kept
-    ∙ ap (λ b. (front ++ piece) ++ b) behind
+    ∙ ap (λ b. (front ++ piece) ++ b) following
 
 pub pieces : (out head pair tail first second third : List ℕ) → length pair ≡ 8
     → first ≡ (take 0 out ++ head) ++ drop (0 + length head) out

@@ -11,7 +11,7 @@ use Rattle.linker_elf.specs.declared.elf.value.Operands.{Operands}
 use Rattle.linker_laws.specs.Schemes.{AreAddresses}
 use Rattle.linker_output.specs.Stubs.{AppliesAt, StubCode, operands_of}
 use Rattle.linker_output.specs.declared.stubs.StubField.{StubField}
-use Rattle.linker_utils.specs.Architectures.{IsOf}
+use Rattle.linker_utils.specs.Architectures.{IsNamedValue}
 
 abbrev pub word : List ℕ → ℕ
 word bytes = from_le_bytes w32 bytes
@@ -62,7 +62,7 @@ module _ (code pair tail : List ℕ) (len : length pair ≡ 8) (is : code ≡ pa
 pub applies : {N : Type 0} (elf : N → ElfName) (row_of : N → Option RelocationKindInfo) (name : N)
     (field : StubField) (o : Operands) (before after : List ℕ) → IsNamed (elf name)
     → code_of (elf name) ≡ field.relocation
-    → (row : RelocationKindInfo) → IsOf elf row_of field.relocation (Some row)
+    → (row : RelocationKindInfo) → IsNamedValue elf row_of field.relocation (Some row)
     → AppliesAt field o before after row
     → IsSomeAnd (row_of name) (λ row. AppliesAt field o before after row)
 applies elf row_of name field o before after named same row is applied =

@@ -22,8 +22,8 @@ use Rattle.linker_output.proofs.Passed.{true_le, false_lt}
 out_ahead : (back fwd from to : ℕ) → from ≤ to → ¬ Reaches back fwd from to → from + fwd ≤ to
 out_ahead back fwd from to h out = ⊎_elim (λ (near : to < from + fwd). absurd (out (record { forward = near; backward = omega arith }))) (λ (far : from + fwd ≤ to). far) (cases_lt to (from + fwd))
 
-out_behind : (back fwd from to : ℕ) → to < from → ¬ Reaches back fwd from to → to + back < from
-out_behind back fwd from to h out = ⊎_elim (λ (far : to + back < from). far) (λ (near : from ≤ to + back). absurd (out (record { forward = omega arith; backward = near }))) (cases_lt (to + back) from)
+out_after : (back fwd from to : ℕ) → to < from → ¬ Reaches back fwd from to → to + back < from
+out_after back fwd from to h out = ⊎_elim (λ (far : to + back < from). far) (λ (near : from ≤ to + back). absurd (out (record { forward = omega arith; backward = near }))) (cases_lt (to + back) from)
 
 module _ (code : Code) (groups : List Group) (before : List ℕ) (branch : Branch) (is_code : IsCode code) (laid : IsLaidOut code.shape groups before) (len : length groups ≡ length code.boundaries.now) where
   p : ℕ
@@ -75,13 +75,13 @@ module _ (code : Code) (groups : List Group) (before : List ℕ) (branch : Branc
       → ¬ Reaches branch.max_backward branch.max_forward
       (branch.offset + code.shape.len * ((group_at groups b).back + 1))
       (at code.boundaries.now b)) where
-    pub edge_behind : (b : ℕ) → b + 1 ≡ passed code.boundaries.now branch.offset → end_of code.boundaries.now before b + branch.max_backward
+    pub edge_after : (b : ℕ) → b + 1 ≡ passed code.boundaries.now branch.offset → end_of code.boundaries.now before b + branch.max_backward
         < moved code.boundaries.now before branch.offset + code.shape.len * ((group_at groups b).back + 1)
-    edge_behind b e =
+    edge_after b e =
         let low = below b (omega arith) in
         let l = is_code.len in
         let one = mul-le-mul_left code.shape.len (one_least (group_at groups b).back) in
-        let far = out_behind _ _ _ _ (omega arith) (out b e) in
+        let far = out_after _ _ _ _ (omega arith) (out b e) in
         let same = ap (at before) e in
         omega arith
       where
@@ -90,16 +90,16 @@ module _ (code : Code) (groups : List Group) (before : List ℕ) (branch : Branc
 
     -- and so is all before it
     pub out_to : (b to : ℕ) → b + 1 ≡ passed code.boundaries.now branch.offset → to + code.shape.len * ((group_at groups b).back + 1) ≤ end_of code.boundaries.now before b → ¬ ReachesAt code before branch to
-    out_to b to e far reached = let h = edge_behind b e in let r = reached.backward in absurd (omega arith)
+    out_to b to e far reached = let h = edge_after b e in let r = reached.backward in absurd (omega arith)
 
-    pub behind : (k : ℕ) → k < passed code.boundaries.now branch.offset
+    pub following : (k : ℕ) → k < passed code.boundaries.now branch.offset
         → ¬ Reaches branch.max_backward branch.max_forward (moved code.boundaries.now before branch.offset + code.shape.len * ((group_at groups k).back + 1)) (end_of code.boundaries.now before k)
-    behind k h reached = ⊎_elim
+    following k h reached = ⊎_elim
         (λ (less : k + 1 < passed code.boundaries.now branch.offset).
         let w = passed_within in
         let b : ℕ = passed code.boundaries.now branch.offset - 1 in
         let e : b + 1 ≡ passed code.boundaries.now branch.offset = omega arith in
-        let edge = edge_behind b e in
+        let edge = edge_after b e in
         let r = reached.backward in
         let a = ends_before code groups before is_code laid len k b (omega arith) (omega arith) in
         let f = fits_at code groups before is_code laid len b (omega arith) in
@@ -109,7 +109,7 @@ module _ (code : Code) (groups : List Group) (before : List ℕ) (branch : Branc
         absurd (omega arith))
         (λ (same : passed code.boundaries.now branch.offset ≤ k + 1).
         let e : k + 1 ≡ passed code.boundaries.now branch.offset = omega arith in
-        let edge = edge_behind k e in
+        let edge = edge_after k e in
         let r = reached.backward in
         absurd (omega arith))
         (cases_lt (k + 1) (passed code.boundaries.now branch.offset))
@@ -217,5 +217,5 @@ stuck code state layout i is_code is are stubs groups out =
       target = out.lost.target;
       stubs = λ j h e. subst (λ x. ¬ ReachesAt code layout.before.items branch x) (sym (are.places j h)) (stub_out code layout.groups.items layout.before.items branch is_code are.laid_out are.boundaries unreached (stub_at layout.stubs.items j) (are.stubs j h) (none j h e));
       ahead = ahead code layout.groups.items layout.before.items branch is_code are.laid_out are.boundaries unreached.0;
-      behind = behind code layout.groups.items layout.before.items branch is_code are.laid_out are.boundaries unreached.1;
+      following = following code layout.groups.items layout.before.items branch is_code are.laid_out are.boundaries unreached.1;
     }

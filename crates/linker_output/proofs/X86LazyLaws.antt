@@ -12,7 +12,7 @@ use Rattle.linker_elf.specs.declared.elf.value.Operands.{Operands}
 use Rattle.linker_elf.specs.declared.x86_64.relocations.X86_64Relocation.TheVariants as r
 use Rattle.linker_laws.specs.X86Machine.{State, load, store_8, extended, with_register}
 use Rattle.linker_laws.proofs.X86Fields.{place_field, signed_field}
-use Rattle.linker_output.proofs.LazyRuns.{behind, are_addresses_at}
+use Rattle.linker_output.proofs.LazyRuns.{following, are_addresses_at}
 use Rattle.linker_output.proofs.StubWords.{applies}
 use Rattle.linker_output.specs.LazyPlt.{IsCode, operands_at, header_places}
 use Rattle.linker_output.specs.LazyPlts.{x86_64_entry, padded}
@@ -279,9 +279,9 @@ to_header entry inside below within small code is s at holds =
     let none : difference_64 s.ip start ≡ 0 = ap (λ p. difference_64 p start) at ∙ omega (arith, inside) in
     let six : difference_64 s1.ip start ≡ 6 = ap (λ p. difference_64 p start) holds ∙ omega (arith, inside) in
     let eleven : difference_64 s2.ip start ≡ 11 = ap (λ p. difference_64 p start) at2 ∙ omega (arith, inside) in
-    let code_6 : drop 6 code ≡ is.1 = behind is.0 is.1 code is.2.0 6 (omega arith) is.4 in
+    let code_6 : drop 6 code ≡ is.1 = following is.0 is.1 code is.2.0 6 (omega arith) is.4 in
     let code_11 : drop 11 code ≡ p2.1 =
-    sym (drop-drop 5 6 code) ∙ ap (drop 5) code_6 ∙ behind p2.0 p2.1 is.1 p2.2.0 5 (omega arith) p2.4 in
+    sym (drop-drop 5 6 code) ∙ ap (drop 5) code_6 ∙ following p2.0 p2.1 is.1 p2.2.0 5 (omega arith) p2.4 in
     let first : step (drop 0 code) s ≡ Some s1 = enters entry inside below code is s at in
     let second : step (drop 6 code) s1 ≡ Some s2 =
     ap (λ c. step c s1) (code_6 ∙ p2.4) ∙ pushes p2.0 p2.1 s1 p2.2.0 a.kept in
@@ -339,7 +339,7 @@ resolves entry first inside below bounded within small code is header is_header 
     let one : step (drop 0 header) t ≡ Some u =
     ap (λ c. step c t) is_header.4 ∙ pushes_word is_header.0 is_header.1 t is_header.2.0 a.kept in
     let two : step (drop 6 header) u ≡ Some v =
-    ap (λ c. step c u) (behind is_header.0 is_header.1 header is_header.2.0 6 (omega arith) is_header.4 ∙ p2.4)
+    ap (λ c. step c u) (following is_header.0 is_header.1 header is_header.2.0 6 (omega arith) is_header.4 ∙ p2.4)
     ∙ by_word p2.0 p2.1 u p2.2.0 b.kept in
     let ran : run 2 header start t ≡ Some v =
     run_step 1 header start 0 t (Some u) none one ∙ run_step 0 header start 6 u (Some v) six two in

@@ -290,7 +290,7 @@ pub record IsStuck (code : Code) (layout : Layout) (branch : Branch) : Type 0 wh
       → ¬ ReachesAt code layout.before.items branch
       (start_of code.boundaries.now layout.before.items k
       + code.shape.len * (group_at layout.groups.items k).front)
-  pub behind : (k : ℕ) → k < passed code.boundaries.now branch.offset
+  pub following : (k : ℕ) → k < passed code.boundaries.now branch.offset
       → ¬ Reaches branch.max_backward branch.max_forward
       (moved code.boundaries.now layout.before.items branch.offset
       + code.shape.len * ((group_at layout.groups.items k).back + 1))

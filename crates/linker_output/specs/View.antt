@@ -12,7 +12,7 @@ use Rattle.linker_output.specs.declared.got.GotLayout.{GotLayout}
 use Rattle.linker_output.specs.declared.got.ThreadPointer.{ThreadPointer}
 use Rattle.linker_output.specs.declared.layout.CodeUnit.{CodeUnit}
 use Rattle.linker_output.specs.declared.layout.Interpreter.{Interpreter}
-use Rattle.linker_output.specs.declared.layout.ProvidedRun.{ProvidedRun}
+use Rattle.linker_output.specs.declared.layout.SaveRestoreRoutines.{SaveRestoreRoutines}
 use Rattle.linker_output.specs.declared.layout.ProvidedSymbol.{ProvidedSymbol}
 use Rattle.linker_output.specs.declared.layout.SymbolPlace.{SymbolPlace}
 use Rattle.linker_output.specs.declared.stubs.Stub.{Stub}
@@ -85,7 +85,7 @@ view_symbols [] = []
 view_symbols (s ∷ ss) =
     record { name = s.name.now; place = s.place; offset = s.offset } ∷ view_symbols ss
 
-abbrev pub view_run : ProvidedRun → Run
+abbrev pub view_run : SaveRestoreRoutines → Run
 view_run r =
     record {
       prefix = r.prefix.now;
@@ -97,7 +97,7 @@ view_run r =
       tail = r.tail.now;
     }
 
-abbrev pub view_runs : List ProvidedRun → List Run
+abbrev pub view_runs : List SaveRestoreRoutines → List Run
 view_runs [] = []
 view_runs (r ∷ rs) = view_run r ∷ view_runs rs
 

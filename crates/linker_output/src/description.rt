@@ -8,7 +8,7 @@ use crate::addresses::AddressSection;
 use crate::dynamic::DynamicTypes;
 use crate::flags::FlagRules;
 use crate::got::{GotLayout, ThreadPointer};
-use crate::layout::{CodeUnit, Interpreter, ProvidedRun, ProvidedSymbol};
+use crate::layout::{CodeUnit, Interpreter, ProvidedSymbol, SaveRestoreRoutines};
 use crate::stubs::Stub;
 use linker_utils::architecture::by_architecture;
 use linker_utils::elf::Architecture;
@@ -46,7 +46,7 @@ pub struct Target {
     /// The symbols that a linker defines if an object refers to them.
     pub symbols: &'static [ProvidedSymbol],
     /// The functions that a linker defines if an object calls them.
-    pub runs: &'static [ProvidedRun],
+    pub runs: &'static [SaveRestoreRoutines],
     /// The bits of `e_flags` that the path of the dynamic linker depends on.
     pub interpreter_flags: u32,
     /// The paths of the dynamic linker.

@@ -31,8 +31,8 @@ pub(crate) const WORDS: CodeUnit = CodeUnit {
 pub enum SymbolPlace {
     /// At the TLS image in a shared library; in an executable at the address that the thread
     /// pointer stands for. The symbol is thread-local. An executable's object that refers to it may
-    /// have no local-dynamic TLS that stays (`KeptGroups` of `linker_rewriting`): its offsets would
-    /// still count from the image.
+    /// have no local-dynamic TLS that stays (`UnrelaxableGroups` of `linker_rewriting`): its offsets
+    /// would still count from the image.
     ThreadLocal,
     /// At the GOT.
     Got,
@@ -65,7 +65,7 @@ pub struct RunWord {
 /// start. They take registers that stubs change, so that branches have to reach them directly: a
 /// linker may place a run more than once.
 #[derive(Clone, Copy)]
-pub struct ProvidedRun {
+pub struct SaveRestoreRoutines {
     /// The functions' names without the number, which stands after it in decimal.
     pub prefix: &'static str,
     /// The least number.
@@ -90,7 +90,7 @@ fn stepped(word: u32, step: u32, function: u64) -> u32
     word.wrapping_add(step.wrapping_mul(function as u32))
 }
 
-impl ProvidedRun {
+impl SaveRestoreRoutines {
     /// How many instructions of 4 bytes there are from the beginning of a function to that of the
     /// next.
     pub fn spacing(&self) -> u64

@@ -6,7 +6,9 @@ use crate::description::Target;
 use crate::dynamic::{DynamicType, DynamicTypes, named};
 use crate::flags::FlagRules;
 use crate::got::{GotHeader, GotLayout, ThreadPointer};
-use crate::layout::{Interpreter, ProvidedRun, ProvidedSymbol, RunWord, SymbolPlace, WORDS};
+use crate::layout::{
+    Interpreter, ProvidedSymbol, RunWord, SaveRestoreRoutines, SymbolPlace, WORDS,
+};
 use crate::stubs::{Stub, StubField, field};
 use linker_utils::elf::{AllowedRange, Architecture};
 
@@ -25,7 +27,7 @@ const BLR: u32 = 0x4e80_0020;
 /// The functions of registers 14 to 31, by the first instruction and those after the last one.
 macro_rules! of_registers {
     ($prefix:literal, $word:literal, $tail:expr) => {
-        ProvidedRun {
+        SaveRestoreRoutines {
             prefix: $prefix,
             first: 14,
             count: 18,
@@ -41,7 +43,7 @@ macro_rules! of_registers {
 /// `addi 12, 0, -192`.
 macro_rules! of_vectors {
     ($prefix:literal, $word:literal) => {
-        ProvidedRun {
+        SaveRestoreRoutines {
             prefix: $prefix,
             first: 20,
             count: 12,

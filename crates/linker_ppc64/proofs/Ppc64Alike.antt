@@ -59,11 +59,11 @@ trim_two B e f f' n b p q (inl k) = inl k
 trim_two B e f f' n b p q (inr (passed, inl g)) = absurd (passed (p (g.0)))
 trim_two B e f f' n b p q (inr (passed, inr g)) = trim_one B e f' n b q (inr (passed, g.1))
 
-trim_behind : (B : Ppc64Entry → Type 0) (e e' f f' : Ppc64Entry) (n b : Ppc64Choice)
+trim_after : (B : Ppc64Entry → Type 0) (e e' f f' : Ppc64Entry) (n b : Ppc64Choice)
     → (B f → B e') → (B f' → B e') → IsFirst B (e ∷ e' ∷ f ∷ f' ∷ []) n b
     → IsFirst B (e ∷ e' ∷ []) n b
-trim_behind B e e' f f' n b p q (inl k) = inl k
-trim_behind B e e' f f' n b p q (inr k) = inr (k.0, trim_two B e' f f' n b p q (k.1))
+trim_after B e e' f f' n b p q (inl k) = inl k
+trim_after B e e' f f' n b p q (inr k) = inr (k.0, trim_two B e' f f' n b p q (k.1))
 
 isnt : {A : Type 0} (x : Bool) → x ≡ false → x ≡ true → A
 isnt x off on = absurd (let e : false ≡ true = sym off ∙ on in cc)
@@ -103,8 +103,8 @@ initial_exec_pair = λ section o p place facts a b meant f g.
     (λ h. (meant.1, h.1), λ h. (meant.0, h.1))
 
 -- those after one, and the choice of none
-abbrev behind : ℕ → Ppc64Relocation → List Ppc64Entry
-behind i name = drop (i + 1) (ppc64_entries name)
+abbrev following : ℕ → Ppc64Relocation → List Ppc64Entry
+following i name = drop (i + 1) (ppc64_entries name)
 
 abbrev left : Ppc64Relocation → Ppc64Choice
 left name = choice kinds.NoOp name
@@ -157,17 +157,17 @@ prefixed_initial_exec = (
       let e = at 3 r.R_PPC64_TLS in
       one_alike (applies section o facts) B (at 0 r.R_PPC64_GOT_TPREL_PCREL34) e _ _ a b f
       (trim_one B e (at 4 r.R_PPC64_TLS) (left r.R_PPC64_TLS) b (λ h. (meant.1, h.1))
-      (skip B (at 2 r.R_PPC64_TLS) (behind 2 r.R_PPC64_TLS) (left r.R_PPC64_TLS) b (λ h. unaligned p (meant.1.0) (h.0.0))
-      (skip B (at 1 r.R_PPC64_TLS) (behind 1 r.R_PPC64_TLS) (left r.R_PPC64_TLS) b (λ h. unaligned p (meant.1.0) (h.0.0))
-      (skip B (at 0 r.R_PPC64_TLS) (behind 0 r.R_PPC64_TLS) (left r.R_PPC64_TLS) b (λ h. unaligned p (meant.1.0) (h.0.0)) g))))
+      (skip B (at 2 r.R_PPC64_TLS) (following 2 r.R_PPC64_TLS) (left r.R_PPC64_TLS) b (λ h. unaligned p (meant.1.0) (h.0.0))
+      (skip B (at 1 r.R_PPC64_TLS) (following 1 r.R_PPC64_TLS) (left r.R_PPC64_TLS) b (λ h. unaligned p (meant.1.0) (h.0.0))
+      (skip B (at 0 r.R_PPC64_TLS) (following 0 r.R_PPC64_TLS) (left r.R_PPC64_TLS) b (λ h. unaligned p (meant.1.0) (h.0.0)) g))))
       (λ h. (meant.1, h.1), λ h. (meant.0, h.1)),
   λ section o p place facts a b meant f g.
       let B = applies section p (facts_at place facts) in
       one_alike (applies section o facts) B (at 0 r.R_PPC64_GOT_TPREL_PCREL34) (at 4 r.R_PPC64_TLS) _ _ a b f
-      (skip B (at 3 r.R_PPC64_TLS) (behind 3 r.R_PPC64_TLS) (left r.R_PPC64_TLS) b (λ h. no_access section p (h.0) (meant.1))
-      (skip B (at 2 r.R_PPC64_TLS) (behind 2 r.R_PPC64_TLS) (left r.R_PPC64_TLS) b (λ h. unaligned p (meant.1.0) (h.0.0))
-      (skip B (at 1 r.R_PPC64_TLS) (behind 1 r.R_PPC64_TLS) (left r.R_PPC64_TLS) b (λ h. unaligned p (meant.1.0) (h.0.0))
-      (skip B (at 0 r.R_PPC64_TLS) (behind 0 r.R_PPC64_TLS) (left r.R_PPC64_TLS) b (λ h. unaligned p (meant.1.0) (h.0.0)) g))))
+      (skip B (at 3 r.R_PPC64_TLS) (following 3 r.R_PPC64_TLS) (left r.R_PPC64_TLS) b (λ h. no_access section p (h.0) (meant.1))
+      (skip B (at 2 r.R_PPC64_TLS) (following 2 r.R_PPC64_TLS) (left r.R_PPC64_TLS) b (λ h. unaligned p (meant.1.0) (h.0.0))
+      (skip B (at 1 r.R_PPC64_TLS) (following 1 r.R_PPC64_TLS) (left r.R_PPC64_TLS) b (λ h. unaligned p (meant.1.0) (h.0.0))
+      (skip B (at 0 r.R_PPC64_TLS) (following 0 r.R_PPC64_TLS) (left r.R_PPC64_TLS) b (λ h. unaligned p (meant.1.0) (h.0.0)) g))))
       (λ h. (meant.1, h.1), λ h. (meant.0, h.1)),
 )
 
@@ -180,14 +180,14 @@ general_dynamic = (
   λ section o p place facts a b unmarked meant f g.
       let B = applies section p (facts_at place facts) in
       two_alike (applies section o facts) B (at 0 r.R_PPC64_GOT_TLSGD16_HA) (at 1 r.R_PPC64_GOT_TLSGD16_HA) (at 2 r.R_PPC64_TLSGD) (at 3 r.R_PPC64_TLSGD) _ _ a b f
-      (skip B (at 1 r.R_PPC64_TLSGD) (behind 1 r.R_PPC64_TLSGD) (left r.R_PPC64_TLSGD) b (λ h. isnt facts.is_relaxable unmarked (h.1.1.0))
-      (skip B (at 0 r.R_PPC64_TLSGD) (behind 0 r.R_PPC64_TLSGD) (left r.R_PPC64_TLSGD) b (λ h. isnt facts.is_relaxable unmarked (h.1.1.1.0)) g))
+      (skip B (at 1 r.R_PPC64_TLSGD) (following 1 r.R_PPC64_TLSGD) (left r.R_PPC64_TLSGD) b (λ h. isnt facts.is_relaxable unmarked (h.1.1.0))
+      (skip B (at 0 r.R_PPC64_TLSGD) (following 0 r.R_PPC64_TLSGD) (left r.R_PPC64_TLSGD) b (λ h. isnt facts.is_relaxable unmarked (h.1.1.1.0)) g))
       (λ h. (meant.1, h.1), λ h. (meant.0, h.1))
       (λ h. (meant.2.1, h.1), λ h. (meant.2.0, h.1)),
   λ section o p place facts a b marked meant f g.
       let B = applies section p (facts_at place facts) in
       two_alike (applies section o facts) B (at 0 r.R_PPC64_GOT_TLSGD_PCREL34) (at 1 r.R_PPC64_GOT_TLSGD_PCREL34) (at 0 r.R_PPC64_TLSGD) (at 1 r.R_PPC64_TLSGD) _ _ a b f
-      (trim_behind B (at 0 r.R_PPC64_TLSGD) (at 1 r.R_PPC64_TLSGD) (at 2 r.R_PPC64_TLSGD) (at 3 r.R_PPC64_TLSGD) (left r.R_PPC64_TLSGD) b
+      (trim_after B (at 0 r.R_PPC64_TLSGD) (at 1 r.R_PPC64_TLSGD) (at 2 r.R_PPC64_TLSGD) (at 3 r.R_PPC64_TLSGD) (left r.R_PPC64_TLSGD) b
       (λ h. (meant.2.1, (h.1.1.0, (marked, (h.1.1.1.0, tt)))))
       (λ h. (meant.2.1, (h.1.0, (marked, (h.1.1.0, tt))))) g) (
         λ h. (meant.1, (h.1.0, (h.1.1.0, (marked, h.1.1.1)))),
@@ -206,12 +206,12 @@ local_dynamic = (
   λ section o p place facts a b unmarked meant f g.
       let B = applies section p (facts_at place facts) in
       one_alike (applies section o facts) B (at 0 r.R_PPC64_GOT_TLSLD16_HA) (at 1 r.R_PPC64_TLSLD) _ _ a b f
-      (skip B (at 0 r.R_PPC64_TLSLD) (behind 0 r.R_PPC64_TLSLD) (left r.R_PPC64_TLSLD) b (λ h. isnt facts.is_relaxable unmarked (h.1.1.0)) g)
+      (skip B (at 0 r.R_PPC64_TLSLD) (following 0 r.R_PPC64_TLSLD) (left r.R_PPC64_TLSLD) b (λ h. isnt facts.is_relaxable unmarked (h.1.1.0)) g)
       (λ h. (meant.1, h.1), λ h. (meant.0, h.1)),
   λ section o p place facts a b unmarked meant f g.
       let B = applies section p (facts_at place facts) in
       one_alike (applies section o facts) B (at 0 r.R_PPC64_GOT_TLSLD16) (at 1 r.R_PPC64_TLSLD) _ _ a b f
-      (skip B (at 0 r.R_PPC64_TLSLD) (behind 0 r.R_PPC64_TLSLD) (left r.R_PPC64_TLSLD) b (λ h. isnt facts.is_relaxable unmarked (h.1.1.0)) g)
+      (skip B (at 0 r.R_PPC64_TLSLD) (following 0 r.R_PPC64_TLSLD) (left r.R_PPC64_TLSLD) b (λ h. isnt facts.is_relaxable unmarked (h.1.1.0)) g)
       (λ h. (meant.1, h.1), λ h. (meant.0, h.1)),
   λ section o p place facts a b marked meant f g.
       let B = applies section p (facts_at place facts) in

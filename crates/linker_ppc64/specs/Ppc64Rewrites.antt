@@ -166,7 +166,7 @@ ppc64_rewrite kinds.CallToAddi4096 = Some (rewrites_call 0x38631000)
 ppc64_rewrite kinds.NopToRestoreToc = Some (replaces 0 8 restores_toc)
 ppc64_rewrite kinds.KeepAddis = None
 ppc64_rewrite kinds.AddisToLis = Some (rewrites_word (λ _. 0x3c400000))
-ppc64_rewrite kinds.AddiBehindLis = Some addi_of_toc
+ppc64_rewrite kinds.AddiAfterLis = Some addi_of_toc
 ppc64_rewrite kinds.AddisThreadToNop = Some (rewrites_word (λ _. nop))
 ppc64_rewrite kinds.BaseToThread = Some (rewrites_word (over_base 13))
 ppc64_rewrite kinds.PldToPaddiThread = Some (replaces 0 8 (paddi_of_thread 0))
@@ -194,7 +194,7 @@ ppc64_rewrites =
     kinds.LdToAddisThread ∷ kinds.AddToAddi ∷ kinds.IndexedToD ∷ kinds.IndexedToDs ∷
     kinds.AddiToAddisThread ∷ kinds.AddiToLd ∷ kinds.CallToAddi ∷ kinds.CallToAdd ∷
     kinds.CallToAddi4096 ∷ kinds.NopToRestoreToc ∷ kinds.KeepAddis ∷ kinds.AddisToLis ∷
-    kinds.AddiBehindLis ∷ kinds.AddisThreadToNop ∷ kinds.BaseToThread ∷ kinds.PldToPaddiThread ∷
+    kinds.AddiAfterLis ∷ kinds.AddisThreadToNop ∷ kinds.BaseToThread ∷ kinds.PldToPaddiThread ∷
     kinds.AddToMove ∷ kinds.IndexedToDirect ∷ kinds.PaddiToPaddiThread ∷ kinds.PaddiToPld ∷
     kinds.PaddiToPaddi4096 ∷ kinds.BranchToNop ∷ kinds.BranchToAdd ∷ []
 
@@ -345,7 +345,7 @@ ppc64_matches kinds.CallToAddi4096 = HasTwo is_call
 ppc64_matches kinds.NopToRestoreToc = HasTwo is_call
 ppc64_matches kinds.KeepAddis = HasTest is_addis_of_toc
 ppc64_matches kinds.AddisToLis = HasTest is_addis_of_entry
-ppc64_matches kinds.AddiBehindLis = HasTest is_addi_of_toc
+ppc64_matches kinds.AddiAfterLis = HasTest is_addi_of_toc
 ppc64_matches kinds.AddisThreadToNop = HasTest (is_addis_over 13)
 ppc64_matches kinds.BaseToThread = HasTest is_over_base
 ppc64_matches kinds.PldToPaddiThread = HasTwo is_pld
@@ -493,7 +493,7 @@ ppc64_entries r.R_PPC64_REL24 =
 ppc64_entries r.R_PPC64_REL16_HA =
     entry kinds.AddisToLis r.R_PPC64_ADDR16_HA (to_address (pos 0)) ∷ []
 ppc64_entries r.R_PPC64_REL16_LO =
-    entry kinds.AddiBehindLis r.R_PPC64_ADDR16_LO (to_address (pos 4)) ∷ []
+    entry kinds.AddiAfterLis r.R_PPC64_ADDR16_LO (to_address (pos 4)) ∷ []
 ppc64_entries r.R_PPC64_TPREL16_HA =
     entry kinds.AddisThreadToNop r.R_PPC64_NONE without_high_offset ∷ []
 ppc64_entries r.R_PPC64_TPREL16_LO =

@@ -5,36 +5,36 @@ ghost use Rattle.linker_base.specs.Rewrite.{CanRewrite};
 ghost use Rattle.linker_elf.specs.Choices.{Fits, choice};
 ghost use Rattle.linker_elf.proofs.SameNames.{equalities, exact_code};
 ghost use Rattle.linker_elf.specs.contracts.ppc64.relocations.Ppc64Relocation.{enum as names};
-ghost use Rattle.linker_ppc64.specs.Inner.Choices.{AreThere, ppc64_tables};
+ghost use Rattle.linker_ppc64.specs.Inner.Choices.{MatchesPattern, ppc64_tables};
 ghost use Rattle.linker_ppc64.specs.Ppc64Rewrites as rewrites;
 ghost use Rattle.linker_ppc64.specs.declared.rewrites.RelaxationKind.TheVariants as kinds;
 
 use super::rewrites::RelaxationKind;
 use linker_elf::elf::choice_table::{
-    Chosen, ChosenByTable, ChosenKind, Table, by_table, choice_by, conditions,
+    ChoiceTable, Chosen, RewriteSet, Table, by_table, choice_by, conditions,
 };
 use linker_elf::elf::{Choice, LinkFacts, Operands};
 use linker_elf::ppc64::{Ppc64Relocation, Ppc64Relocation as Names};
 
 /// The instructions that an entry is for.
-pub enum AskedFor {
+pub enum Pattern {
     /// Those that its rewrite is meant for.
     OfRewrite,
 }
 
-impl ChosenKind for RelaxationKind {
+impl RewriteSet for RelaxationKind {
     type Relocation = Names;
 
-    type Originals = AskedFor;
+    type Originals = Pattern;
 
-    ghost are_at = { AreThere };
+    ghost are_at = { MatchesPattern };
 
     ghost tables = { ppc64_tables };
 
     ghost laws = { equalities kinds.NoOp names (λ x y. x.0 == y.0, tt) (exact_code, tt) };
 
     #[inline(always)]
-    fn stand_at(self, originals: &AskedFor, section: &[u8], offset: u64) -> bool {
+    fn matches_at(self, originals: &Pattern, section: &[u8], offset: u64) -> bool {
         self.matches(section, offset)
     }
 
@@ -174,7 +174,7 @@ macro_rules! choices {
             ]
             R_PPC64_REL24: [NopToRestoreToc => R_PPC64_REL24, after_call]
             R_PPC64_REL16_HA: [AddisToLis => R_PPC64_ADDR16_HA, to_address(0)]
-            R_PPC64_REL16_LO: [AddiBehindLis => R_PPC64_ADDR16_LO, to_address(4)]
+            R_PPC64_REL16_LO: [AddiAfterLis => R_PPC64_ADDR16_LO, to_address(4)]
             R_PPC64_TPREL16_HA: [AddisThreadToNop => R_PPC64_NONE, without_high_offset]
             R_PPC64_TPREL16_LO: [BaseToThread => R_PPC64_TPREL16, without_high_offset]
             R_PPC64_TPREL16_LO_DS: [BaseToThread => R_PPC64_TPREL16_DS, without_high_offset]
@@ -182,7 +182,7 @@ macro_rules! choices {
     };
 }
 
-impl ChosenByTable for RelaxationKind {
+impl ChoiceTable for RelaxationKind {
     ghost sampled = { λ name none section o. none };
 
     #[inline(always)]

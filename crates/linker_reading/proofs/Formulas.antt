@@ -16,7 +16,7 @@ use Rattle.linker_elf.specs.declared.elf.RelocationSize.{RelocationSize}
 use Rattle.linker_elf.specs.declared.elf.RelocationSize.TheVariants.{ByteSize, BitMasking}
 use Rattle.linker_elf.specs.declared.elf.value.Operands.{Operands}
 use Rattle.linker_reading.proofs.Shifts.{page_bits}
-use Rattle.linker_reading.specs.Fields.{IsOf}
+use Rattle.linker_reading.specs.Fields.{FieldHolds}
 use Rattle.linker_reading.specs.Solving.{terms_of_kind, terms_of, address, is_paged, base}
 use Rattle.linker_reading.specs.Solving.{HaveSameBase, Solves}
 use Rattle.linker_reading.specs.declared.fields.FieldValue.{FieldValue}
@@ -204,7 +204,7 @@ rounding_after t row r o =
 pub solves : (row : RelocationKindInfo) (f : FieldValue) (operands : Operands) (t : Terms)
     (s : FieldValue) → terms_of row.kind row.size ≡ Some t
     → (is_paged t.reference row.mask ≡ true → 12 ≤ f.known.start)
-    → ((n : ℕ) → IsOf s n
+    → ((n : ℕ) → FieldHolds s n
     ↔ (field (sum_64 n (rounding_after t row f.rounding operands)) f.known.start f.known.end ≡ f.bits))
     → Solves t row f operands s
 solves row f operands t s h above is = λ o v same e.

@@ -1,12 +1,12 @@
 -- What was found of the choices of a table.
-use Rattle.std.proofs.Common.{◌≡◌, ◌≢◌, ◌↔◌, ◌<◌, ◌≤◌, ◌+◌, ℕ, zero, suc, List, [], ◌∷◌, length, get_or, set, replicate, slice_get, Option, Some, None, refl, sym, ap, ◌∙◌, inl, inr, ⊎_elim, arith}
+use Rattle.std.proofs.Common.{◌≡◌, ◌≢◌, ◌↔◌, ◌<◌, ◌≤◌, ◌+◌, ℕ, zero, suc, List, [], ◌∷◌, length, get_or, set, slice_get, Option, Some, None, refl, sym, ap, ◌∙◌, inl, inr, ⊎_elim, arith}
 use Rattle.std.proofs.lemmas.Bool.{cases_lt, cases_eq}
 use Rattle.std.proofs.lemmas.List.{get_or-set_same, get_or-set_other, length-set}
 use Rattle.linker_elf.specs.Choices.{choice}
 use Rattle.linker_elf.specs.declared.elf.choice.Choice.{Choice}
-use Rattle.linker_reading.proofs.Tables.{behind}
+use Rattle.linker_reading.proofs.Tables.{following}
 use Rattle.linker_reading.specs.Inner.Found.{IsMeant, AreFoundOfFirst, IsRepeated}
-use Rattle.linker_reading.specs.Recognised.{Recogniser, choices_at, IsChosen, IsMade, IsFound, IsOneOf, AreThose, ArePlaced, IsFirstPlace, AreDistinct}
+use Rattle.linker_reading.specs.Recognised.{Recogniser, choices_at, IsChosen, IsMade, IsFound, IsOneOf, AreExactly, ArePlaced, IsFirstPlace, AreDistinct}
 use Rattle.linker_elf.specs.declared.elf.choice.LinkFacts.{LinkFacts}
 use Rattle.linker_reading.proofs.Chosen.{first_is_listed}
 use Rattle.linker_reading.specs.Inner.Laws.{ChosenMatches}
@@ -42,24 +42,9 @@ one_of a [] i e = absurd (not_none None a refl e)
 one_of a (x ∷ xs) zero e = inl (some_same x a e)
 one_of a (x ∷ xs) (suc i) e = inr (one_of a xs i e)
 
-no_some : {A : Type 0} (n i : ℕ) (a : A) → get_or (replicate n None) i None ≡ Some a → ⊥
-no_some zero i a e = not_none None a refl e
-no_some (suc n) zero a e = not_none None a refl e
-no_some (suc n) (suc i) a e = no_some n i a e
-
 -- ---- one choice more
 
 module _ {A B : Type 0} (of : B → A) (IsSo : B → Type 0) (choices : List A) where
-  pub none_yet : AreFoundOfFirst of IsSo choices (replicate 6 None) 0
-  none_yet =
-      record {
-        lengths = refl;
-        first = λ i b e. absurd (no_some 6 i b e);
-        placed = λ i b e. absurd (no_some 6 i b e);
-        so = λ i b e. absurd (no_some 6 i b e);
-        all = λ i b h e is. absurd (omega (arith, h));
-      }
-
   -- the same choice has a place before
   pub same_again : (found : List (Option B)) (n : ℕ) → AreFoundOfFirst of IsSo choices found n → IsRepeated choices n
       → AreFoundOfFirst of IsSo choices found (n + 1)
@@ -108,13 +93,13 @@ module _ {A B : Type 0} (of : B → A) (IsSo : B → Type 0) (choices : List A) 
 
   -- ---- all of them
 
-  pub those_found : (found : List (Option B)) (n : ℕ) → AreFoundOfFirst of IsSo choices found n → length choices ≤ n → AreThose (λ b. IsOneOf (of b) choices × IsSo b) found
+  pub those_found : (found : List (Option B)) (n : ℕ) → AreFoundOfFirst of IsSo choices found n → length choices ≤ n → AreExactly (λ b. IsOneOf (of b) choices × IsSo b) found
   those_found found n were end =
       record {
         only = λ b h. let at = place_of b found h in (one_of (of b) choices at.0 (were.placed at.0 b at.1).here, were.so at.0 b at.1);
         all = λ b is.
             let at = place_in (of b) choices is.0 in
-            let had = were.all at.0 b (let h = behind (of b) choices at.0 at.1 in omega (arith, h, end)) at.1 is.1 in
+            let had = were.all at.0 b (let h = following (of b) choices at.0 at.1 in omega (arith, h, end)) at.1 is.1 in
             at_place b found had.0 had.1;
       }
 
@@ -133,7 +118,7 @@ are_distinct choices found placed i j m n e f same =
 
 pub found_in_table : {K R : Type 0} (it : Recogniser K R) (name : R) (original : List ℕ) (o : ℕ) (others : List FieldBits) (linked : List ℕ) (found : List (Option (Recognised K R))) (n : ℕ)
     → AreFoundOfFirst (λ (m : Recognised K R). m.choice) (IsMeant it original o others linked) (choices_at it name original o) found n
-    → length (choices_at it name original o) ≤ n → AreThose (IsFound it name original o others linked) found
+    → length (choices_at it name original o) ≤ n → AreExactly (IsFound it name original o others linked) found
 found_in_table {K} {R} it name original o others linked found n were end =
     let those = those_found (λ (m : Recognised K R). m.choice) (IsMeant it original o others linked) (choices_at it name original o) found n were end in
     record {
@@ -144,7 +129,7 @@ found_in_table {K} {R} it name original o others linked found n were end =
 -- what is chosen is one of those that were found
 pub chosen_found : {K R : Type 0} (it : Recogniser K R) (name : R) (original : List ℕ) (o : ℕ) (others : List FieldBits) (linked : List ℕ) (found : List (Option (Recognised K R)))
     → ChosenMatches it
-    → AreThose (IsFound it name original o others linked) found
+    → AreExactly (IsFound it name original o others linked) found
     → (facts : LinkFacts) (m : Recognised K R) → IsChosen it name original o facts m.choice → IsMade it original o others linked m → IsOneOf (Some m) found
 chosen_found it name original o others linked found chosen_matches those facts m is made =
     those.all m (record {

@@ -3,7 +3,7 @@ use Rattle.std.proofs.Common.{◌≡◌, ℕ, ◌+◌, ◌-◌, ◌<◌, ◌≤�
 use Rattle.std.proofs.lemmas.Bool.{cases_lt}
 use Rattle.std.proofs.lemmas.List.{take_all, drop_all, length-drop}
 use Rattle.linker_reading.specs.Recognised.{Recogniser}
-use Rattle.linker_reading.specs.Windows.{IsThere, HasEach, IsLeastWindow}
+use Rattle.linker_reading.specs.Windows.{IsRecognisable, HasEach, IsLeastWindow}
 
 none_taken : (n : ℕ) (l : List ℕ) → l ≡ [] → take n l ≡ []
 none_taken n l e = take_all n l (let none : length l ≡ 0 = ap length e in omega (arith, none)) ∙ e
@@ -17,10 +17,10 @@ part_is b e s = ⊎_elim
     ap (λ k. take (max (min e (length s)) k - k) (drop k s)) here
     ∙ ⊎_elim
     (λ before. ap (λ n. take n (drop b s)) (let same : max (min e (length s)) b - b ≡ e - b = omega (arith, before) in same))
-    (λ behind.
+    (λ following.
     let rest : length (drop b s) ≡ length s - b = length-drop b s in
-    take_all (max (min e (length s)) b - b) (drop b s) (omega (arith, rest, behind))
-    ∙ sym (take_all (e - b) (drop b s) (omega (arith, rest, behind))))
+    take_all (max (min e (length s)) b - b) (drop b s) (omega (arith, rest, following))
+    ∙ sym (take_all (e - b) (drop b s) (omega (arith, rest, following))))
     (cases_lt e (length s)))
     (λ outside.
     let here : min b (length s) ≡ length s = omega (arith, outside) in
@@ -39,14 +39,14 @@ module _ {K R : Type 0} (it : Recogniser K R) (name : R) (s : List ℕ) (o : ℕ
   -- all bytes have each
   pub whole : HasEach it name s o 0 (length s)
   whole c is =
-      subst (λ l. IsThere it name l (o - 0) c) (sym (take_all (length s - 0) s (omega arith)))
-      (subst (λ k. IsThere it name s k c) (let same : o ≡ o - 0 = omega arith in same) is)
+      subst (λ l. IsRecognisable it name l (o - 0) c) (sym (take_all (length s - 0) s (omega arith)))
+      (subst (λ k. IsRecognisable it name s k c) (let same : o ≡ o - 0 = omega arith in same) is)
 
   -- there are no bytes further on
   pub further : (b e : ℕ) → HasEach it name s o b (length s) → length s ≤ e → HasEach it name s o b e
   further b e each end c is =
       let rest : length (drop b s) ≡ length s - b = length-drop b s in
-      subst (λ l. IsThere it name l (o - b) c)
+      subst (λ l. IsRecognisable it name l (o - b) c)
       (take_all (length s - b) (drop b s) (omega (arith, rest)) ∙ sym (take_all (e - b) (drop b s) (omega (arith, rest, end)))) (each c is)
 
   pub least : (b e : ℕ) → b ≤ o → o ≤ e → HasEach it name s o b e

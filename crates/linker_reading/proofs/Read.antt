@@ -7,5 +7,5 @@ pub read_from : (at start : ℕ) (bytes : List ℕ) → start ≡ min at (length
 read_from at start bytes e =
     take_rest bytes start ∙ ⊎_elim
     (λ inside. ap (λ n. drop n bytes) (let same : start ≡ at = omega (arith, e) in same))
-    (λ behind. drop_all start bytes (omega (arith, e)) ∙ sym (drop_all at bytes behind))
+    (λ following. drop_all start bytes (omega (arith, e)) ∙ sym (drop_all at bytes following))
     (cases_lt at (length bytes))

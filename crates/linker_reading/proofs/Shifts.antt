@@ -6,7 +6,7 @@ use Rattle.linker_base.specs.Bits.{field}
 use Rattle.linker_base.proofs.Fields.{mod_mod, bit_at_shr, same_fields}
 use Rattle.std.specs.Int.{bit_at}
 use Rattle.linker_elf.specs.Value.{sum_64}
-use Rattle.linker_reading.specs.Fields.{IsProper, IsOf}
+use Rattle.linker_reading.specs.Fields.{IsProper, FieldHolds}
 use Rattle.linker_reading.specs.declared.fields.FieldValue.{FieldValue}
 
 whole : (k : ℕ) → k ≤ 64 → 2 ^ 64 ≡ 2 ^ (64 - k) * 2 ^ k
@@ -126,8 +126,8 @@ module _ (high low : FieldValue) (a : IsProper high) (b : IsProper low)
   pub joined_halves : high.rounding ≤ 2 ^ 64 → low.rounding ≡ 0 → (n : ℕ)
       → (field (sum_64 n high.rounding) 0 high.known.end
       ≡ high.bits * 2 ^ low.known.end + (low.bits + high.rounding) % 2 ^ 64 % 2 ^ low.known.end
-      → IsOf high n × IsOf low n)
-      × (IsOf high n × IsOf low n → field (sum_64 n high.rounding) 0 high.known.end
+      → FieldHolds high n × FieldHolds low n)
+      × (FieldHolds high n × FieldHolds low n → field (sum_64 n high.rounding) 0 high.known.end
       ≡ high.bits * 2 ^ low.known.end + (low.bits + high.rounding) % 2 ^ 64 % 2 ^ low.known.end)
   joined_halves small zero n =
       let order = a.some in

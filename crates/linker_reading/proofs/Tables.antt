@@ -22,10 +22,10 @@ same_choices are_at Asked (e ∷ es) (d ∷ ds) otherwise table =
     ap (λ x. choice x.kind x.relocation ∷ choices_in es otherwise) table.0
     ∙ ap (λ l. choice d.kind d.relocation ∷ l) (same_choices are_at Asked es ds otherwise table.1.1)
 
-pub behind : {A : Type 0} (a : A) (xs : List A) (i : ℕ) → slice_get xs i ≡ Some a → i < length xs
-behind a [] i e = absurd (none-some a e)
-behind a (x ∷ xs) zero e = omega arith
-behind a (x ∷ xs) (suc i) e = let h = behind a xs i e in omega arith
+pub following : {A : Type 0} (a : A) (xs : List A) (i : ℕ) → slice_get xs i ≡ Some a → i < length xs
+following a [] i e = absurd (none-some a e)
+following a (x ∷ xs) zero e = omega arith
+following a (x ∷ xs) (suc i) e = let h = following a xs i e in omega arith
 
 -- the choice of the next entry
 pub filled_more : {O K R : Type 0} → (es : List (ChoiceEntry O K R)) (otherwise : Choice K R) (i n : ℕ) (d e : ChoiceEntry O K R) → i < length es

@@ -114,23 +114,23 @@ module _ (field : FieldBits) (others : List FieldBits) (start count : ℕ) (a b 
   kept_before : (i : ℕ) → i < start → 0 + i ≡ kept_index start count i
   kept_before i h = (let e : 0 + i ≡ i = omega arith in e) ∙ kept_is i h
 
-  kept_behind : (i : ℕ) → start ≤ i → start + count + (i - start) ≡ kept_index start count i
-  kept_behind i h = sym (ap (λ t. if t then i else i + count) (le-ltb i start h) ∙ omega (arith, h))
+  kept_after : (i : ℕ) → start ≤ i → start + count + (i - start) ≡ kept_index start count i
+  kept_after i h = sym (ap (λ t. if t then i else i + count) (le-ltb i start h) ∙ omega (arith, h))
 
   in_front : (i : ℕ) → i < start → slice_index (take start a) i ≡ slice_index a (kept_index start count i)
   in_front i h = get_or-take start a i 0 h ∙ ap (slice_index a) (kept_is i h)
 
   in_rest : (i : ℕ) → start ≤ i → slice_index (rest (start + count) a) (i - start) ≡ slice_index a (kept_index start count i)
-  in_rest i h = rest_at (start + count) a (i - start) ∙ ap (slice_index a) (kept_behind i h)
+  in_rest i h = rest_at (start + count) a (i - start) ∙ ap (slice_index a) (kept_after i h)
 
   in_rest_of_b : (i : ℕ) → start ≤ i → slice_index (rest start b) (i - start) ≡ slice_index b i
   in_rest_of_b i h = rest_at start b (i - start) ∙ ap (slice_index b) (let e : start + (i - start) ≡ i = omega (arith, h) in e)
 
   pub of_parts : IsFrontSame → IsRestSame → AreSameBut (is_in field) others start count a b
-  of_parts front behind i h =
+  of_parts front following i h =
       ⊎_elim
       (λ low. same_at _ _ _ _ _ _ (kept_before i low) (in_front i low) (get_or-take start b i 0 low) (front i (omega (arith, low, front_len))))
-      (λ high. same_at _ _ _ _ _ _ (kept_behind i high) (in_rest i high) (in_rest_of_b i high) (behind (i - start) (omega (arith, h, high, rest_len))))
+      (λ high. same_at _ _ _ _ _ _ (kept_after i high) (in_rest i high) (in_rest_of_b i high) (following (i - start) (omega (arith, h, high, rest_len))))
       (cases_lt i start)
 
   pub to_front : AreSameBut (is_in field) others start count a b → IsFrontSame
@@ -143,4 +143,4 @@ module _ (field : FieldBits) (others : List FieldBits) (start count : ℕ) (a b 
       let high : start ≤ start + i = omega arith in
       let at : start + i - start ≡ i = omega arith in
       subst (λ n. IsSameBut (ignored field others (start + count + n)) (slice_index (rest (start + count) a) n) (slice_index (rest start b) n)) at
-      (same_at _ _ _ _ _ _ (sym (kept_behind (start + i) high)) (sym (in_rest (start + i) high)) (sym (in_rest_of_b (start + i) high)) (same (start + i) (omega (arith, h, rest_len))))
+      (same_at _ _ _ _ _ _ (sym (kept_after (start + i) high)) (sym (in_rest (start + i) high)) (sym (in_rest_of_b (start + i) high)) (same (start + i) (omega (arith, h, rest_len))))

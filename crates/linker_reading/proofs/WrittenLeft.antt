@@ -8,7 +8,7 @@ use Rattle.linker_base.specs.Rewrite.{rewritten, offset_after}
 use Rattle.linker_elf.specs.declared.elf.RelocationKindInfo.{RelocationKindInfo}
 use Rattle.linker_utils.specs.Architectures.{relaxation_rewrite, relaxation_deleted}
 use Rattle.linker_reading.specs.FieldsOfBytes.{is_in_field, is_in_one, kept_index, AreSameBut}
-use Rattle.linker_reading.specs.Recognised.{Recogniser, AreLeft, deleted_start, deleted_count}
+use Rattle.linker_reading.specs.Recognised.{Recogniser, DifferOnlyInFields, deleted_start, deleted_count}
 use Rattle.linker_reading.specs.WrittenRows.{WrittenIsLeft, without_deleted}
 use Rattle.linker_reading.specs.declared.recognise.fields.FieldBits.{FieldBits}
 use Rattle.linker_reading.proofs.X86WrittenChoices.{written_is_left, no_gap}
@@ -51,8 +51,8 @@ same_without Q others start count a b inside same i h j k ignored =
     ∙ ap (λ x. bit_at x j) (sym (kept_byte start count b i inside))
 
 left_without : (row : Option RelocationKindInfo) (deleted : Option DeletedBytes) (section whole : List ℕ) (at o : ℕ) (others : List FieldBits)
-    → deleted_start deleted o + deleted_count deleted ≤ length section → AreLeft section at row None o others whole
-    → AreLeft section at row deleted o others (without_deleted deleted o whole)
+    → deleted_start deleted o + deleted_count deleted ≤ length section → DifferOnlyInFields section at row None o others whole
+    → DifferOnlyInFields section at row deleted o others (without_deleted deleted o whole)
 left_without row deleted section whole at o others inside left =
     let all : length whole ≡ length section = omega (arith, left.lengths) in
     let size = without_length (deleted_start deleted o) (deleted_count deleted) whole (omega arith) in
@@ -71,6 +71,6 @@ written_choice_is_left it c row original o v written others e can inside room by
     let left = written_is_left row section written at o others inside (row_changes_field row v (drop at section) written bytes writes) in
     record {
       rewritable = can;
-      left = subst (λ (found : Option RelocationKindInfo). AreLeft section at found deleted o others (without_deleted deleted o (take at section ++ written))) (sym e)
+      left = subst (λ (found : Option RelocationKindInfo). DifferOnlyInFields section at found deleted o others (without_deleted deleted o (take at section ++ written))) (sym e)
           (left_without (Some row) deleted section (take at section ++ written) at o others room left);
     }

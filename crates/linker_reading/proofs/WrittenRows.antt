@@ -87,8 +87,8 @@ in_window insn bits v before after i j bytes few h k ignored written =
     ∙ ap (bit_at (window_of (relocation_form insn) after)) first
     ∙ window_bit (relocation_form insn).window after i j bytes.bytes_after h k
 
-behind : (n : ℕ) (before after : List ℕ) (i : ℕ) → n ≤ i → drop n after ≡ drop n before → slice_index before i ≡ slice_index after i
-behind n before after i h rest =
+following : (n : ℕ) (before after : List ℕ) (i : ℕ) → n ≤ i → drop n after ≡ drop n before → slice_index before i ≡ slice_index after i
+following n before after i h rest =
     let at : i ≡ n + (i - n) = omega arith in
     ap (λ l. get_or before l 0) at ∙ sym (get_or-drop n before (i - n) 0) ∙ ap (λ l. get_or l (i - n) 0) (sym rest)
     ∙ get_or-drop n after (i - n) 0 ∙ ap (λ l. get_or after l 0) (sym at)
@@ -99,7 +99,7 @@ instruction_same : (insn : RelocationInstruction) (bits : BitRange) (v : ℤ) (b
     (slice_index before i) (slice_index after i)
 instruction_same insn bits v before after bytes few written i j k ignored =
     ⊎_elim (λ h. in_window insn bits v before after i j bytes few h k ignored written)
-    (λ h. ap (λ b. bit_at b j) (behind (byte_len (relocation_form insn).window) before after i h written.rest))
+    (λ h. ap (λ b. bit_at b j) (following (byte_len (relocation_form insn).window) before after i h written.rest))
     (cases_lt i (byte_len (relocation_form insn).window))
 
 -- ---- six bits of a byte
@@ -192,7 +192,7 @@ six_same kind n v before after is few room bytes number rest i j k ignored =
     sym (number_bit n before i j few room bytes.bytes_before h k)
     ∙ sym (ap (λ m. bit_at m (8 * i + j)) sum.1.0 ∙ above_six (number_of_bytes n before) sum.0 n (8 * i + j) sum.1.1 (omega arith) (omega arith))
     ∙ number_bit n after i j few (omega (arith, room, bytes.lengths)) bytes.bytes_after h k)
-    (λ h. ap (λ b. bit_at b j) (behind n before after i h rest))
+    (λ h. ap (λ b. bit_at b j) (following n before after i h rest))
     (cases_lt i n)
 
 -- ---- rows

@@ -13,7 +13,7 @@ use Rattle.linker_elf.specs.declared.elf.RelocationSize.TheVariants.{ByteSize, B
 use Rattle.linker_elf.specs.declared.x86_64.relocations.X86_64Relocation.{X86_64Relocation}
 use Rattle.linker_elf.specs.declared.x86_64.relocations.X86_64Relocation.TheVariants as r
 use Rattle.linker_reading.specs.FieldsOfBytes.{is_field_bit, is_size_bit, is_value_bit, is_in_row, is_in_one, kept_index, IsSameBut, AreSameBut, AreSameButFor}
-use Rattle.linker_reading.specs.Recognised.{AreLeft}
+use Rattle.linker_reading.specs.Recognised.{DifferOnlyInFields}
 use Rattle.linker_reading.specs.X86WrittenFields.{WritesField, X86WrittenIsLeft}
 use Rattle.linker_base.specs.Rewrite.{rewritten, offset_after}
 use Rattle.linker_x86_64.specs.X86Rewrites.{x86_64_rewrite}
@@ -99,7 +99,7 @@ moved row at bytes i j from ignored =
     ∙ ignored
 
 pub written_is_left : (row : RelocationKindInfo) (section written : List ℕ) (at o : ℕ) (others : List FieldBits) → at ≤ length section
-    → AreSameButFor row (drop at section) written → AreLeft section at (Some row) None o others (take at section ++ written)
+    → AreSameButFor row (drop at section) written → DifferOnlyInFields section at (Some row) None o others (take at section ++ written)
 written_is_left row section written at o others inside same =
     let front : length (take at section) ≡ at = length-take-le at section inside in
     let all : length (take at section ++ written) ≡ length section =
@@ -164,6 +164,6 @@ x86_written_is_left c row original o v written others e can inside writes =
     (field v (drop (offset_after (x86_64_rewrite c.kind) o) (rewritten (x86_64_rewrite c.kind) original o)) written writes) in
     record {
       rewritable = can;
-      left = subst (λ (found : Option RelocationKindInfo). AreLeft (rewritten (x86_64_rewrite c.kind) original o) (offset_after (x86_64_rewrite c.kind) o) found None o others
+      left = subst (λ (found : Option RelocationKindInfo). DifferOnlyInFields (rewritten (x86_64_rewrite c.kind) original o) (offset_after (x86_64_rewrite c.kind) o) found None o others
           (take (offset_after (x86_64_rewrite c.kind) o) (rewritten (x86_64_rewrite c.kind) original o) ++ written)) (sym e) left;
     }

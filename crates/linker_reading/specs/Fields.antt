@@ -7,12 +7,12 @@ use Rattle.linker_elf.specs.Value.{sum_64, difference_64}
 use Rattle.linker_reading.specs.declared.fields.FieldValue.{FieldValue}
 
 -- The number has the known bits.
-abbrev pub IsOf : FieldValue → ℕ → Type 0
-IsOf f n = field (sum_64 n f.rounding) f.known.start f.known.end ≡ f.bits
+abbrev pub FieldHolds : FieldValue → ℕ → Type 0
+FieldHolds f n = field (sum_64 n f.rounding) f.known.start f.known.end ≡ f.bits
 
 -- The value, of which addresses are modulo 2 ^ 64, has the known bits.
 abbrev pub IsOfValue : FieldValue → ℤ → Type 0
-IsOfValue f v = IsOf f (cast_unsigned w64 v)
+IsOfValue f v = FieldHolds f (cast_unsigned w64 v)
 
 -- Some bits of 64 are known, and no others are set.
 pub record IsProper (f : FieldValue) : Type 0 where

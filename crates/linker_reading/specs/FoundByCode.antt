@@ -4,7 +4,7 @@ use Rattle.linker_elf.specs.Choices.{choice}
 use Rattle.linker_elf.specs.ElfNames.{IsNameOf, code_of}
 use Rattle.linker_elf.specs.declared.elf.choice.LinkFacts.{LinkFacts}
 use Rattle.linker_reading.specs.Recognised.{Recogniser, IsChosen, IsMade, IsFound}
-use Rattle.linker_reading.specs.Recognised.{AreThose, ArePlaced, choices_at}
+use Rattle.linker_reading.specs.Recognised.{AreExactly, ArePlaced, choices_at}
 use Rattle.linker_reading.specs.AArch64Recogniser.{aarch64}
 use Rattle.linker_reading.specs.RiscVRecogniser.{riscv}
 use Rattle.linker_reading.specs.LoongArchRecogniser.{loongarch}
@@ -34,7 +34,7 @@ pub record AreFoundBy {K R : Type 0} (it : Recogniser K R) (code : ℕ) (origina
   pub name : R
   pub named : List (Option (Recognised K R))
   pub is_name : IsNameOf it.elf_name code name
-  pub those : AreThose (IsFound it name original o others linked) named
+  pub those : AreExactly (IsFound it name original o others linked) named
   pub placed : ArePlaced (choices_at it name original o) named
   pub found_are : found ≡ map (of_some (by_code it)) named
 

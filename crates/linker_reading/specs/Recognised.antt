@@ -36,7 +36,7 @@ HasField (Some row) at bytes = at + window_len row ≤ length bytes
 
 -- From bytes, without those that are deleted, the linked bytes differ only in the field of a row at
 -- an offset and in others.
-pub record AreLeft (after : List ℕ) (at : ℕ) (row : Option RelocationKindInfo)
+pub record DifferOnlyInFields (after : List ℕ) (at : ℕ) (row : Option RelocationKindInfo)
     (deleted : Option DeletedBytes) (o : ℕ) (others : List FieldBits) (linked : List ℕ)
     : Type 0 where
   pub has_field : HasField row at after
@@ -47,11 +47,11 @@ pub record AreLeft (after : List ℕ) (at : ℕ) (row : Option RelocationKindInf
       after linked
 
 -- They do so from what a rewrite makes of the original. The row is that of the relocation after it.
-pub record IsLeft (kind : Relaxation) (row : Option RelocationKindInfo) (original : List ℕ)
+pub record DiffersOnlyInFields (kind : Relaxation) (row : Option RelocationKindInfo) (original : List ℕ)
     (o : ℕ) (others : List FieldBits) (linked : List ℕ) : Type 0 where
   pub rewritable : CanRewrite (relaxation_rewrite kind) original o
   pub left :
-      AreLeft (rewritten (relaxation_rewrite kind) original o)
+      DifferOnlyInFields (rewritten (relaxation_rewrite kind) original o)
       (offset_after (relaxation_rewrite kind) o) row (relaxation_deleted kind) o others linked
 
 -- ---- what stands in the field
@@ -120,7 +120,7 @@ IsChosen it name original o facts c =
 pub record IsMade {K R : Type 0} (it : Recogniser K R) (original : List ℕ) (o : ℕ)
     (others : List FieldBits) (linked : List ℕ) (m : Recognised K R) : Type 0 where
   pub leaves :
-      IsLeft (it.relaxation m.choice.kind) (it.row m.choice.relocation) original o others linked
+      DiffersOnlyInFields (it.relaxation m.choice.kind) (it.row m.choice.relocation) original o others linked
   pub reads :
       IsRead (it.relaxation m.choice.kind) (it.row m.choice.relocation) o linked m.offset m.value
 
@@ -133,7 +133,7 @@ pub record IsFound {K R : Type 0} (it : Recogniser K R) (name : R) (original : L
   pub made : IsMade it original o others linked m
 
 -- Those that were found are those that are so.
-pub record AreThose {A : Type 0} (IsSo : A → Type 0) (found : List (Option A)) : Type 0 where
+pub record AreExactly {A : Type 0} (IsSo : A → Type 0) (found : List (Option A)) : Type 0 where
   pub only : (a : A) → IsOneOf (Some a) found → IsSo a
   pub all : (a : A) → IsSo a → IsOneOf (Some a) found
 

@@ -2,7 +2,7 @@
 use Rattle.linker_elf.specs.RiscVRelocations.{riscv_name}
 use Rattle.linker_elf.specs.declared.riscv64.relocations.RiscVRelocation.{RiscVRelocation}
 use Rattle.linker_reading.specs.Recognised.{Recogniser}
-use Rattle.linker_riscv64.specs.RiscVRewrites.{AppliesToRiscV, IsAskedFor}
+use Rattle.linker_riscv64.specs.RiscVRewrites.{AppliesToRiscV, HasPattern}
 use Rattle.linker_riscv64.specs.RiscVRewrites.{riscv_entries, riscv_row_of}
 use Rattle.linker_riscv64.specs.declared.rewrites.RelaxationKind.TheVariants as of_riscv
 use Rattle.linker_riscv64.specs.declared.rewrites.RelaxationKind.{RelaxationKind as RiscVKind}
@@ -12,7 +12,7 @@ abbrev pub riscv : Recogniser RiscVKind RiscVRelocation
 riscv =
     record {
       entries = λ name original o. riscv_entries name;
-      applies = λ name. AppliesToRiscV (IsAskedFor name);
+      applies = λ name. AppliesToRiscV (HasPattern name);
       no_op = of_riscv.NoOp;
       row = riscv_row_of;
       elf_name = riscv_name;

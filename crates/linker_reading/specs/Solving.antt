@@ -12,7 +12,7 @@ use Rattle.linker_elf.specs.declared.elf.RelocationKindInfo.{RelocationKindInfo}
 use Rattle.linker_elf.specs.declared.elf.RelocationSize.{RelocationSize}
 use Rattle.linker_elf.specs.declared.elf.RelocationSize.TheVariants.{ByteSize, BitMasking}
 use Rattle.linker_elf.specs.declared.elf.value.Operands.{Operands}
-use Rattle.linker_reading.specs.Fields.{IsOf, IsOfValue}
+use Rattle.linker_reading.specs.Fields.{FieldHolds, IsOfValue}
 use Rattle.linker_reading.specs.declared.fields.FieldValue.{FieldValue}
 use Rattle.linker_reading.specs.declared.solving.Origin.{Origin}
 use Rattle.linker_reading.specs.declared.solving.Origin.TheVariants.{Zero, Place, Got, Tls}
@@ -102,7 +102,7 @@ pub record HaveSameBase (a b : Operands) : Type 0 where
 abbrev pub Solves : Terms → RelocationKindInfo → FieldValue → Operands → FieldValue → Type 0
 Solves t row f operands s =
     (o : Operands) (v : ℤ) → HaveSameBase operands o → value_of row o ≡ Some v
-    → IsOf s (address t.reference row.size o) ↔ IsOfValue f v
+    → FieldHolds s (address t.reference row.size o) ↔ IsOfValue f v
 
 -- what is taken off is there
 abbrev pub has_base : Origin → Operands → Bool
@@ -153,7 +153,7 @@ pub record IsWholeOf (high low whole : FieldValue) : Type 0 where
   pub start : whole.known.start ≡ 0
   pub end : whole.known.end ≡ high.known.end
   pub rounding : whole.rounding ≡ 0
-  pub both : (n : ℕ) → IsOf whole n ↔ (IsOf high n × IsOf low n)
+  pub both : (n : ℕ) → FieldHolds whole n ↔ (FieldHolds high n × FieldHolds low n)
 
 abbrev pub IsJoined : FieldValue → FieldValue → Option FieldValue → Type 0
 IsJoined high low None = are_halves high low ≡ false

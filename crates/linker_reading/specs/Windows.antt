@@ -37,7 +37,7 @@ use Rattle.linker_utils.specs.declared.elf.Architecture.{Architecture}
 
 -- A choice is listed for an offset of bytes, its rewrite is meant for what is there, and all is
 -- there that recognising it compares. So it is recognised where it was made (`IsFound`, `IsMade`).
-pub record IsThere {K R : Type 0} (it : Recogniser K R) (name : R) (bytes : List ℕ) (o : ℕ)
+pub record IsRecognisable {K R : Type 0} (it : Recogniser K R) (name : R) (bytes : List ℕ) (o : ℕ)
     (c : Choice K R) : Type 0 where
   pub listed : IsOneOf c (choices_at it name bytes o)
   pub matches : relaxation_matches (it.relaxation c.kind) bytes o
@@ -52,8 +52,8 @@ pub record IsThere {K R : Type 0} (it : Recogniser K R) (name : R) (bytes : List
 -- Each choice that is there in all bytes is so in those from b on, below e.
 abbrev pub HasEach : {K R : Type 0} → Recogniser K R → R → List ℕ → ℕ → ℕ → ℕ → Type 0
 HasEach {K} {R} it name original o b e =
-    (c : Choice K R) → IsThere it name original o c
-    → IsThere it name (take (e - b) (drop b original)) (o - b) c
+    (c : Choice K R) → IsRecognisable it name original o c
+    → IsRecognisable it name (take (e - b) (drop b original)) (o - b) c
 
 -- The window that begins at the last byte from which on it has each, and ends at the first one
 -- below which it does. It has the offset, or ends there.

@@ -5,7 +5,7 @@ use Rattle.linker_base.specs.Rewrite.{CanRewrite, rewritten, offset_after}
 use Rattle.linker_elf.specs.Relocate.{WritesRow}
 use Rattle.linker_elf.specs.declared.elf.RelocationKindInfo.{RelocationKindInfo}
 use Rattle.linker_reading.specs.FieldsOfBytes.{AreSameButFor}
-use Rattle.linker_reading.specs.Recognised.{Recogniser, IsLeft, deleted_start, deleted_count}
+use Rattle.linker_reading.specs.Recognised.{Recogniser, DiffersOnlyInFields, deleted_start, deleted_count}
 use Rattle.linker_reading.specs.declared.recognise.fields.FieldBits.{FieldBits}
 use Rattle.linker_elf.specs.declared.elf.choice.Choice.{Choice}
 use Rattle.linker_utils.specs.Architectures.{relaxation_rewrite, relaxation_deleted}
@@ -46,5 +46,5 @@ WrittenIsLeft {K} {R} it =
     → deleted_start deleted o + deleted_count deleted ≤ length section
     → AreBytes (drop at section) written
     → WritesRow row v (drop at section) written
-    → IsLeft (it.relaxation c.kind) (it.row c.relocation) original o others
+    → DiffersOnlyInFields (it.relaxation c.kind) (it.row c.relocation) original o others
     (without_deleted deleted o (take at section ++ written))

@@ -7,7 +7,7 @@ use Rattle.linker_elf.specs.declared.elf.RelocationKindInfo.{RelocationKindInfo}
 use Rattle.linker_elf.specs.declared.elf.choice.Choice.{Choice}
 use Rattle.linker_elf.specs.declared.x86_64.relocations.X86_64Relocation.{X86_64Relocation}
 use Rattle.linker_reading.specs.FieldsOfBytes.{AreSameButFor}
-use Rattle.linker_reading.specs.Recognised.{IsLeft}
+use Rattle.linker_reading.specs.Recognised.{DiffersOnlyInFields}
 use Rattle.linker_reading.specs.declared.recognise.fields.FieldBits.{FieldBits}
 use Rattle.linker_utils.specs.declared.architecture.Relaxation.TheVariants.{X86_64}
 use Rattle.linker_x86_64.specs.X86Rewrites.{x86_64_rewrite}
@@ -30,6 +30,6 @@ X86WrittenIsLeft =
     → WritesRow row v
     (drop (offset_after (x86_64_rewrite c.kind) o) (rewritten (x86_64_rewrite c.kind) original o))
     written
-    → IsLeft (X86_64 c.kind) (x86_64_row c.relocation) original o others
+    → DiffersOnlyInFields (X86_64 c.kind) (x86_64_row c.relocation) original o others
     (take (offset_after (x86_64_rewrite c.kind) o) (rewritten (x86_64_rewrite c.kind) original o)
     ++ written)

@@ -2,7 +2,7 @@
 
 ghost use Rattle.std.specs.Prelude.{◌≡◌, ◌<◌, ◌^◌, ◌↔◌, ℕ, IfSome, IsTrue};
 ghost use Rattle.linker_base.specs.Bits.{field};
-ghost use Rattle.linker_reading.specs.Fields.{IsOf, IsProper, whole_number};
+ghost use Rattle.linker_reading.specs.Fields.{FieldHolds, IsProper, whole_number};
 
 use linker_base::bit_misc::BitRange;
 
@@ -60,7 +60,7 @@ impl FieldValue {
 
     /// Whether a number has the known bits. Of a value, its 64 bits in two's complement are meant.
     pub fn is_of(&self, number: u64) -> bool
-        ensures { IsTrue result ↔ IsOf self.now number }
+        ensures { IsTrue result ↔ FieldHolds self.now number }
     {
         let sum = number.wrapping_add(self.rounding);
         bits_of(sum, self.known.start, self.known.end) == self.bits
@@ -69,7 +69,7 @@ impl FieldValue {
     /// The number, if all of its bits are known. `None` where some are not, or none is.
     pub fn number(&self) -> Option<u64>
         ensures value { result ≡ whole_number self.now }
-        ensures known { (n : ℕ) → n < 2 ^ 64 → IsOf self.now n → IfSome result (λ m. m ≡ n) }
+        ensures known { (n : ℕ) → n < 2 ^ 64 → FieldHolds self.now n → IfSome result (λ m. m ≡ n) }
     {
         if self.known.start == 0 && self.known.end == 64 {
             Some(self.bits.wrapping_sub(self.rounding))

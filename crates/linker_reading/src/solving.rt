@@ -2,7 +2,7 @@
 
 ghost use Rattle.std.specs.Prelude.{◌≡◌, ◌↔◌, ◌==◌, if◌then◌else◌, ℕ, IfSome};
 ghost use Rattle.linker_elf.specs.Value.{bias_number, page_if};
-ghost use Rattle.linker_reading.specs.Fields.{IsProper, IsOf};
+ghost use Rattle.linker_reading.specs.Fields.{IsProper, FieldHolds};
 ghost use Rattle.linker_reading.specs.Solving.{terms, terms_of_kind, terms_of, is_paged};
 ghost use Rattle.linker_reading.specs.Solving.{base, has_base, IsSolved, IsJoined};
 
@@ -170,7 +170,7 @@ fn bias_or_zero(bias: Option<Bias>) -> u64
 /// Known bits from bit 0 up, without rounding; others as they are.
 fn without_rounding(field: FieldValue) -> FieldValue
     requires { IsProper field }
-    ensures same { (n : ℕ) → IsOf result n ↔ IsOf field n }
+    ensures same { (n : ℕ) → FieldHolds result n ↔ FieldHolds field n }
     ensures known { result.known ≡ field.known }
     ensures rounding { result.rounding ≡ (if field.known.start == 0 then 0 else field.rounding) }
     ensures proper { IsProper result }

@@ -4,8 +4,8 @@ ghost use Rattle.std.specs.Prelude.{◌≡◌, ◌≤◌, ◌<◌, ◌↔◌, Is
 ghost use Rattle.std.specs.Prelude.{slice_get, take};
 ghost use Rattle.linker_base.specs.Rewrite.{CanRewrite, offset_after, addend_after};
 ghost use Rattle.linker_reading.specs.Recognised.{HasField, IsOneOf, choices_at};
-ghost use Rattle.linker_reading.specs.Inner.Found.{AreThere};
-ghost use Rattle.linker_reading.specs.Windows.{IsThere, HasEach, IsLeastWindow, IsDestination};
+ghost use Rattle.linker_reading.specs.Inner.Found.{AreAllRecognisable};
+ghost use Rattle.linker_reading.specs.Windows.{IsRecognisable, HasEach, IsLeastWindow, IsDestination};
 ghost use Rattle.linker_reading.specs.Windows.{is_of_symbol, is_local_entry, local_entry_of};
 ghost use Rattle.linker_reading.specs.Windows.{entry_distance, symbol_of};
 ghost use Rattle.linker_elf.specs.declared.elf.RelocationKindInfo.{RelocationKindInfo};
@@ -67,7 +67,7 @@ fn has_field(row: &Option<Row>, at: u64, bytes: &[u8]) -> bool
 fn is_there<N: RecognisedName>(choice: Choice<N::Kind, N>, bytes: &[u8], offset: u64) -> bool
     requires { length bytes.now ≤ 64 }
     ensures { (name : N) → IsOneOf choice (choices_at N.how name bytes.now offset)
-        → IsTrue result ↔ IsThere N.how name bytes.now offset choice }
+        → IsTrue result ↔ IsRecognisable N.how name bytes.now offset choice }
 {
     let kind = N::relaxation(choice.kind);
     if !kind.matches(bytes, offset) {
@@ -100,7 +100,7 @@ pub(crate) fn those_there<N: RecognisedName>(
 ) -> Choices<N::Kind, N>
     requires { length bytes.now ≤ 64 }
     ensures count { result.1 ≤ 6 }
-    ensures those { AreThere N.how name bytes.now offset (take result.1 result.0) }
+    ensures those { AreAllRecognisable N.how name bytes.now offset (take result.1 result.0) }
 {
     let (mut choices, count) = name.listed(bytes, offset);
     let mut kept = 0;
@@ -124,7 +124,7 @@ fn has_each<N: RecognisedName>(
     end: u64,
 ) -> bool
     requires count { there.now.1 ≤ 6 }
-    requires those { AreThere N.how name original.now offset (take there.now.1 there.now.0) }
+    requires those { AreAllRecognisable N.how name original.now offset (take there.now.1 there.now.0) }
     requires few { length original.now ≤ 64 }
     requires begins { begin ≤ offset }
     ensures { IsTrue result ↔ HasEach N.how name original.now offset begin end }
@@ -156,7 +156,7 @@ pub(crate) fn least_window<N: RecognisedName>(
     offset: u64,
 ) -> RewriteWindow
     requires count { there.now.1 ≤ 6 }
-    requires those { AreThere N.how name original.now offset (take there.now.1 there.now.0) }
+    requires those { AreAllRecognisable N.how name original.now offset (take there.now.1 there.now.0) }
     requires few { length original.now ≤ 64 }
     ensures { IsLeastWindow N.how name original.now offset result }
 {

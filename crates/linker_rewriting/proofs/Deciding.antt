@@ -8,13 +8,13 @@ use Rattle.linker_base.specs.RewriteWindow.{window_of_rewrite}
 use Rattle.linker_base.specs.declared.rewrite.DeletedBytes.{DeletedBytes}
 use Rattle.linker_utils.specs.Architectures.{relaxation_rewrite, relaxation_deleted}
 use Rattle.linker_rewriting.specs.Candidates.{deletes_within}
-use Rattle.linker_rewriting.specs.Decisions.{deleted_end, CanBeMade, AllCanBeMade, AreApart, decision_at, is_taken, takes_next, start_by, end_by, IsDecidedAfter, IsDecidedAlone, IsDecisionAfter, IsNotSurveyed, IsOverlapping, AreDecidedIn, IsEndBehind}
-use Rattle.linker_rewriting.specs.Facts.{Setting}
-use Rattle.linker_rewriting.specs.Labels.{IsLabelNote}
+use Rattle.linker_rewriting.specs.Decisions.{deleted_end, CanBeMade, AllCanBeMade, AreApart, decision_at, is_taken, takes_next, start_by, end_by, IsDecidedAfter, IsDecidedAlone, IsDecisionAfter, IsNotSurveyed, IsOverlapping, AreDecidedIn, IsEndAfter}
+use Rattle.linker_rewriting.specs.Facts.{RelaxContext}
+use Rattle.linker_rewriting.specs.RiscVPcrelGroups.{IsLabelNote}
 use Rattle.linker_rewriting.specs.Notes.{is_note, AreLabelsNoted}
 use Rattle.linker_rewriting.specs.declared.decisions.Decision.{Decision}
-use Rattle.linker_rewriting.specs.declared.decisions.Decision.TheVariants.{Kept, TakenAlong, Rewritten, Redirected}
-use Rattle.linker_rewriting.specs.declared.groups.KeptGroups.{KeptGroups}
+use Rattle.linker_rewriting.specs.declared.decisions.Decision.TheVariants.{Kept, Consumed, Rewritten, RewrittenWithSymbol}
+use Rattle.linker_rewriting.specs.declared.groups.UnrelaxableGroups.{UnrelaxableGroups}
 use Rattle.linker_section.specs.Relocations.{relocation_in}
 use Rattle.linker_section.specs.declared.relocations.Rela.{Rela}
 use borrow.Author.Count.{below_more}
@@ -50,11 +50,7 @@ pub record EndsAt (S E : Bound) (bytes : List ℕ) (decisions : List Decision) (
       → bound_at E bytes n (decision_at decisions n) ≤ end
   pub reached : IsReached S E bytes decisions end k
 
-pub none_ends : (S E : Bound) (bytes : List ℕ) (decisions : List Decision) → EndsAt S E bytes decisions 0 0
-none_ends S E bytes decisions =
-    record { below = λ n less. absurd (omega (arith, less)); reached = inl refl }
-
-pub record AreDecidedTo (s : Setting) (kept : List KeptGroups) (bytes section : List ℕ)
+pub record AreDecidedTo (s : RelaxContext) (kept : List UnrelaxableGroups) (bytes section : List ℕ)
     (decisions : List Decision) (end : ℕ) (taken : Bool) (k : ℕ) : Type 0 where
   pub decided : AreDecidedIn s kept bytes section decisions k
   pub made : AllCanBeMade bytes section decisions k
@@ -78,10 +74,10 @@ taken_next decisions k =
     let e : suc k ≡ k + 1 = omega arith in
     subst (λ n. is_taken decisions n ≡ takes_next (decision_at decisions k)) e refl
 
--- the end of one more window, as `end_behind` gives it
+-- the end of one more window, as `end_after` gives it
 abbrev pub IsGrown : Bound → Bound → List ℕ → ℕ → Decision → ℕ → ℕ → Type 0
 IsGrown S E bytes k d end new =
-    IsEndBehind (bound_at S bytes k d) (bound_at E bytes k d) end (Some new)
+    IsEndAfter (bound_at S bytes k d) (bound_at E bytes k d) end (Some new)
 
 grown_le : (S E : Bound) (bytes : List ℕ) (k : ℕ) (d : Decision) (end new : ℕ)
     → IsGrown S E bytes k d end new → end ≤ new
@@ -151,7 +147,7 @@ apart_more S E bytes old new k end grown d same here ends apart grow i j ij less
     (λ some_n some_k. let a = ends.below n nk some_n in let b = grown_start S E bytes k d end grown grow some_k in omega arith)))
     j less i ij
 
-pub more_decided : (s : Setting) (kept : List KeptGroups) (bytes section : List ℕ)
+pub more_decided : (s : RelaxContext) (kept : List UnrelaxableGroups) (bytes section : List ℕ)
     (old : List Decision) (end grown : ℕ) (taken : Bool) (k : ℕ) (d : Decision)
     → AreDecidedTo s kept bytes section old end taken k
     → k < length old
@@ -200,14 +196,14 @@ span_within (Some r) (Some d) section o limit low long can deletes =
 pub ends_within : (d : Decision) (section : List ℕ) (o limit : ℕ) → o ≤ limit
     → length section ≤ limit → CanBeMade d section o → end_by d o ≤ limit
 ends_within Kept section o limit low long can = omega (arith, low)
-ends_within TakenAlong section o limit low long can = omega (arith, low)
+ends_within Consumed section o limit low long can = omega (arith, low)
 ends_within (Rewritten chosen) section o limit low long can =
     span_within (relaxation_rewrite chosen.kind) (relaxation_deleted chosen.kind) section o limit low long (can.0) (can.1)
-ends_within (Redirected chosen subject) section o limit low long can =
+ends_within (RewrittenWithSymbol chosen subject) section o limit low long can =
     span_within (relaxation_rewrite chosen.kind) (relaxation_deleted chosen.kind) section o limit low long (can.0) (can.1)
 
 -- one more relocation that no other takes along and that stays
-pub more_kept : (s : Setting) (kept : List KeptGroups) (bytes section : List ℕ)
+pub more_kept : (s : RelaxContext) (kept : List UnrelaxableGroups) (bytes section : List ℕ)
     (old : List Decision) (end : ℕ) (taken : Bool) (k : ℕ)
     → AreDecidedTo s kept bytes section old end taken k → k < length old → taken ≡ false
     → IsDecidedAlone s kept bytes section k (relocation_in bytes k) Kept
@@ -220,56 +216,56 @@ more_kept s kept bytes section old end taken k before within isnt decided =
 
 -- ---- one more decision, and errors
 
-pub not_surveyed : (s : Setting) (kept : List KeptGroups) (bytes section : List ℕ) (k : ℕ)
+pub not_surveyed : (s : RelaxContext) (kept : List UnrelaxableGroups) (bytes section : List ℕ) (k : ℕ)
     (r : Rela) (taken : Bool)
     → IsDecisionAfter s kept bytes section k r taken None
     → r ≡ relocation_in bytes k
     → IsNotSurveyed s kept bytes section k (relocation_in bytes k)
 not_surveyed s kept bytes section k r true is same =
-    absurd (let e : None ≡ Some TakenAlong = is in cc)
+    absurd (let e : None ≡ Some Consumed = is in cc)
 not_surveyed s kept bytes section k r false is same =
     subst (IsNotSurveyed s kept bytes section k) same is
 
-pub decided_after : (s : Setting) (kept : List KeptGroups) (bytes section : List ℕ) (k : ℕ)
+pub decided_after : (s : RelaxContext) (kept : List UnrelaxableGroups) (bytes section : List ℕ) (k : ℕ)
     (r : Rela) (taken : Bool) (d : Decision)
     → IsDecisionAfter s kept bytes section k r taken (Some d)
     → r ≡ relocation_in bytes k
     → IsDecidedAfter s kept bytes section k taken d
 decided_after s kept bytes section k r true d is same =
-    let e : Some d ≡ Some TakenAlong = is in cc
+    let e : Some d ≡ Some Consumed = is in cc
 decided_after s kept bytes section k r false d is same =
     subst (λ x. IsDecidedAlone s kept bytes section k x d) same is
 
 -- one of the windows so far ends above the start
-overlapping_one : (s : Setting) (kept : List KeptGroups) (bytes section : List ℕ)
+overlapping_one : (s : RelaxContext) (kept : List UnrelaxableGroups) (bytes section : List ℕ)
     (decisions : List Decision) (end k : ℕ) (d : Decision)
     → IsDecidedAlone s kept bytes section k (relocation_in bytes k) d
-    → IsEndBehind (bound_at start_by bytes k d) (bound_at end_by bytes k d) end None
+    → IsEndAfter (bound_at start_by bytes k d) (bound_at end_by bytes k d) end None
     → IsReached start_by end_by bytes decisions end k
     → IsOverlapping s kept bytes section decisions k
-overlapping_one s kept bytes section decisions end k d decided behind (inl none) =
-    absurd (let e = behind.1 in omega arith)
-overlapping_one s kept bytes section decisions end k d decided behind (inr one) =
+overlapping_one s kept bytes section decisions end k d decided following (inl none) =
+    absurd (let e = following.1 in omega arith)
+overlapping_one s kept bytes section decisions end k d decided following (inr one) =
     record {
       decision = d;
       decided = decided;
-      writes = behind.0;
+      writes = following.0;
       before = one.0;
       is_before = one.1;
       is_written = one.2;
-      overlap = let e = behind.1 in let reach = one.3 in omega arith;
+      overlap = let e = following.1 in let reach = one.3 in omega arith;
     }
 
-pub overlapping : (s : Setting) (kept : List KeptGroups) (bytes section : List ℕ)
+pub overlapping : (s : RelaxContext) (kept : List UnrelaxableGroups) (bytes section : List ℕ)
     (decisions : List Decision) (end k : ℕ) (r : Rela) (taken : Bool) (d : Decision)
     → IsDecisionAfter s kept bytes section k r taken (Some d)
-    → r ≡ relocation_in bytes k → IsEndBehind (start_by d r.offset) (end_by d r.offset) end None
+    → r ≡ relocation_in bytes k → IsEndAfter (start_by d r.offset) (end_by d r.offset) end None
     → EndsAt start_by end_by bytes decisions end k
     → IsOverlapping s kept bytes section decisions k
-overlapping s kept bytes section decisions end k r true d is same behind ends =
-    absurd (let none : d ≡ TakenAlong = (let e : Some d ≡ Some TakenAlong = is in cc) in
-    let some = subst (λ x. start_by x r.offset < end_by x r.offset) none (behind.0) in omega arith)
-overlapping s kept bytes section decisions end k r false d is same behind ends =
+overlapping s kept bytes section decisions end k r true d is same following ends =
+    absurd (let none : d ≡ Consumed = (let e : Some d ≡ Some Consumed = is in cc) in
+    let some = subst (λ x. start_by x r.offset < end_by x r.offset) none (following.0) in omega arith)
+overlapping s kept bytes section decisions end k r false d is same following ends =
     overlapping_one s kept bytes section decisions end k d
     (subst (λ x. IsDecidedAlone s kept bytes section k x d) same is)
-    (subst (λ x. IsEndBehind (start_by d x.offset) (end_by d x.offset) end None) same behind) ends.reached
+    (subst (λ x. IsEndAfter (start_by d x.offset) (end_by d x.offset) end None) same following) ends.reached

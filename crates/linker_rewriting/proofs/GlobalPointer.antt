@@ -4,18 +4,18 @@ use Rattle.std.proofs.Common.{◌≡◌, ◌≢◌, ℕ, suc, nat_le, not, is_so
 use Rattle.std.proofs.lemmas.List.{get_or-set_same, get_or-set_other}
 use Rattle.linker_rewriting.proofs.LabelGroups.{one_high_from}
 use Rattle.linker_rewriting.proofs.WordsNoted.{AreWordsKeptToo, stays_on, stays_now}
-use Rattle.linker_rewriting.proofs.Deciding.{AreSame, EndsAt, IsGrown, IsReached, bound_at, none_ends, apart_more, ends_more}
+use Rattle.linker_rewriting.proofs.Deciding.{AreSame, EndsAt, IsGrown, IsReached, bound_at, apart_more, ends_more}
 use Rattle.std.proofs.lemmas.Bool.{leb-true}
-use Rattle.linker_rewriting.specs.Decisions.{AreApart, CanBeMade, IsEndBehind, decision_at, start_by, end_by, start_at, end_at}
-use Rattle.linker_rewriting.specs.Facts.{Setting}
+use Rattle.linker_rewriting.specs.Decisions.{AreApart, CanBeMade, IsEndAfter, decision_at, start_by, end_by, start_at, end_at}
+use Rattle.linker_rewriting.specs.Facts.{RelaxContext}
 use Rattle.linker_rewriting.specs.GlobalPointer.{relative_high, IsLabelled, IsSubject, IsMemberBy, IsMember, part_of, is_reached, is_expected, fits, kept_by, IsKeepingSymbol, IsSymbolNoted, AreSymbolsSurveyed, part_decision, decided_by, IsPartDecided, ArePartsDecided, ArePartsApart, IsPartOverlapping, part_end, part_end_at, ArePartsRejected, MeansSymbolsUnsurveyed, ArePartsWhole, ArePartsWholeAcross, low_code, base_of, is_placed_by, is_placed, based_section, section_based}
-use Rattle.linker_rewriting.specs.Inner.Words.{IsThatWord}
+use Rattle.linker_rewriting.specs.Inner.TocIndirection.{IsThatWord}
 use Rattle.linker_rewriting.specs.Agreement.{Agree}
 use Rattle.linker_rewriting.specs.Decisions.{IsRejectedFirst}
-use Rattle.linker_rewriting.specs.Labels.{offset_of_label, is_beyond}
+use Rattle.linker_rewriting.specs.RiscVPcrelGroups.{offset_of_label, is_beyond}
 use Rattle.linker_rewriting.specs.Rewritten.{IsRewritten}
 use Rattle.linker_rewriting.specs.Sequences.{is_marked_at}
-use Rattle.linker_rewriting.specs.Words.{StaysBy, word_stays}
+use Rattle.linker_rewriting.specs.TocIndirection.{WordUnchangedBy, word_stays}
 use Rattle.linker_rewriting.specs.declared.decisions.Decision.{Decision}
 use Rattle.linker_rewriting.specs.declared.decisions.Decision.TheVariants.{Kept}
 use Rattle.linker_rewriting.specs.declared.decisions.RewritingError.{RewritingError}
@@ -31,14 +31,14 @@ use borrow.Author.Count.{below_more}
 
 -- ---- noted
 
-that_symbol : (s : Setting) (gp : ℕ) (bytes section : List ℕ) (n : ℕ) (symbol : Option ℕ) (w : ℕ)
+that_symbol : (s : RelaxContext) (gp : ℕ) (bytes section : List ℕ) (n : ℕ) (symbol : Option ℕ) (w : ℕ)
     → IsKeepingSymbol s gp bytes section n (relocation_in bytes n) symbol → IsThatWord symbol w
     → IsKeepingSymbol s gp bytes section n (relocation_in bytes n) (Some w)
 that_symbol s gp bytes section n None w keeping is = absurd is
 that_symbol s gp bytes section n (Some symbol) w keeping is =
     subst (λ x. IsKeepingSymbol s gp bytes section n (relocation_in bytes n) (Some x)) (sym is) keeping
 
-pub more_symbols : (s : Setting) (gp : ℕ) (bytes section : List ℕ) (before mid after : List Bool)
+pub more_symbols : (s : RelaxContext) (gp : ℕ) (bytes section : List ℕ) (before mid after : List Bool)
     (k : ℕ) (symbol : Option ℕ) → AreSymbolsSurveyed s gp bytes section before mid k
     → IsKeepingSymbol s gp bytes section k (relocation_in bytes k) symbol
     → AreWordsKeptToo mid after symbol
@@ -110,7 +110,7 @@ one_member_by addresses values bytes r (Some part) (Some x) (Some y) up a b =
     same_member x y (a.0 ∙ sym (b.0))
     (some_subject (x.1) (y.1) (one_subject addresses values bytes r part (Some (x.1)) (Some (y.1)) up (a.1) (b.1)))
 
-one_member : (s : Setting) (bytes : List ℕ) (r : Rela) (x y : Option (Part × Rela))
+one_member : (s : RelaxContext) (bytes : List ℕ) (r : Rela) (x y : Option (Part × Rela))
     → IsAscending bytes → IsMember s bytes r x → IsMember s bytes r y → x ≡ y
 one_member s bytes r x y up a b =
     one_member_by s.addresses s.values bytes r (part_of s.architecture r.code) x y up a b
@@ -125,7 +125,7 @@ and_second : (a b : Bool) → (a && b) ≡ true → b ≡ true
 and_second true b is = is
 and_second false b is = absurd (true≢false (sym is))
 
-expected : (s : Setting) (gp : ℕ) (a : Bool) (bytes section : List ℕ) (n : ℕ) (r : Rela)
+expected : (s : RelaxContext) (gp : ℕ) (a : Bool) (bytes section : List ℕ) (n : ℕ) (r : Rela)
     (part : Part) (subject : Rela) → fits s gp a bytes section n r (part, subject) ≡ true
     → is_expected section r part subject ≡ true
 expected s gp a bytes section n r part subject is =
@@ -135,7 +135,7 @@ expected s gp a bytes section n r part subject is =
     (and_second (not (is_beyond bytes r.offset n)) _ (and_second a _ is)))))
 
 -- what fits can be made
-part_made : (s : Setting) (gp : ℕ) (a : Bool) (bytes section : List ℕ) (n : ℕ) (r : Rela)
+part_made : (s : RelaxContext) (gp : ℕ) (a : Bool) (bytes section : List ℕ) (n : ℕ) (r : Rela)
     (part : Part) (subject : Rela) → fits s gp a bytes section n r (part, subject) ≡ true
     → CanBeMade (part_decision part subject) section r.offset
 part_made s gp a bytes section n r (High opcode) subject is =
@@ -144,7 +144,7 @@ part_made s gp a bytes section n r (Low code) subject is = (tt, refl)
 part_made s gp a bytes section n r (Labelled code) subject is = (tt, refl)
 
 -- and its instruction is in the section
-part_inside : (s : Setting) (gp : ℕ) (a : Bool) (bytes section : List ℕ) (n : ℕ) (r : Rela)
+part_inside : (s : RelaxContext) (gp : ℕ) (a : Bool) (bytes section : List ℕ) (n : ℕ) (r : Rela)
     (part : Part) (subject : Rela) → fits s gp a bytes section n r (part, subject) ≡ true
     → part_end (part_decision part subject) r.offset ≤ length section
 part_inside s gp a bytes section n r (High opcode) subject is =
@@ -154,13 +154,13 @@ part_inside s gp a bytes section n r (Low code) subject is =
 part_inside s gp a bytes section n r (Labelled code) subject is =
     leb-true (r.offset + 4) (length section) (and_first _ _ (expected s gp a bytes section n r (Labelled code) subject is))
 
-pub member_made : (s : Setting) (gp : ℕ) (a : Bool) (bytes section : List ℕ) (n : ℕ) (r : Rela)
+pub member_made : (s : RelaxContext) (gp : ℕ) (a : Bool) (bytes section : List ℕ) (n : ℕ) (r : Rela)
     (member : Part × Rela) → fits s gp a bytes section n r member ≡ true
     → CanBeMade (part_decision (member.0) (member.1)) section r.offset
 member_made s gp a bytes section n r (part, subject) is =
     part_made s gp a bytes section n r part subject is
 
-pub member_ends : (s : Setting) (gp : ℕ) (a : Bool) (bytes section : List ℕ) (n : ℕ) (r : Rela)
+pub member_ends : (s : RelaxContext) (gp : ℕ) (a : Bool) (bytes section : List ℕ) (n : ℕ) (r : Rela)
     (member : Part × Rela) → fits s gp a bytes section n r member ≡ true
     → (limit : ℕ) → r.offset ≤ limit → length section ≤ limit
     → part_end (part_decision (member.0) (member.1)) r.offset ≤ limit
@@ -176,13 +176,6 @@ part_start d o = o
 pub record ArePartsApartTo (bytes : List ℕ) (decisions : List Decision) (end k : ℕ) : Type 0 where
   pub apart : ArePartsApart bytes decisions k
   pub ends : EndsAt part_start part_end bytes decisions end k
-
-pub none_apart : (bytes : List ℕ) (decisions : List Decision) → ArePartsApartTo bytes decisions 0 0
-none_apart bytes decisions =
-    record {
-      apart = λ i j ij less. absurd (omega (arith, less));
-      ends = none_ends part_start part_end bytes decisions;
-    }
 
 pub more_apart : (bytes : List ℕ) (old : List Decision) (end grown k : ℕ) (d : Decision)
     → ArePartsApartTo bytes old end k → k < length old
@@ -225,7 +218,7 @@ decided_bytes true fit made d o is of =
 decided_bytes false true made d o is of = subst (IsOfPart o) (sym (some_decision d made is)) of
 decided_bytes false false made d o is of = absurd (let e : Some d ≡ None = is in cc)
 
-member_bytes : (s : Setting) (gp : ℕ) (a : Bool) (kept : List Bool) (bytes section : List ℕ) (n : ℕ)
+member_bytes : (s : RelaxContext) (gp : ℕ) (a : Bool) (kept : List Bool) (bytes section : List ℕ) (n : ℕ)
     (r : Rela) (member : Option (Part × Rela)) (d : Decision)
     → Some d ≡ decided_by s gp a kept bytes section n r member → IsOfPart r.offset d
 member_bytes s gp a kept bytes section n r None d is =
@@ -234,7 +227,7 @@ member_bytes s gp a kept bytes section n r (Some member) d is =
     decided_bytes (word_stays kept (member.1).symbol) (fits s gp a bytes section n r member)
     (part_decision (member.0) (member.1)) d r.offset is (part_bytes (member.0) (member.1) r.offset)
 
-pub bytes_apart : (s : Setting) (gp : ℕ) (kept : List Bool) (bytes section : List ℕ)
+pub bytes_apart : (s : RelaxContext) (gp : ℕ) (kept : List Bool) (bytes section : List ℕ)
     (decisions : List Decision) (limit : ℕ)
     → ArePartsDecided s gp kept bytes section decisions limit → ArePartsApart bytes decisions limit
     → AreApart bytes decisions limit
@@ -246,33 +239,33 @@ bytes_apart s gp kept bytes section decisions limit decided apart i j ij less so
     before_start (end_at bytes decisions i) (part_end_at bytes decisions i) (relocation_in bytes j).offset (start_at bytes decisions j)
     (a.1) (apart i j ij less (a.0) (b.0)) (b.2)
 
-overlapping_one : (s : Setting) (gp : ℕ) (kept : List Bool) (bytes section : List ℕ)
+overlapping_one : (s : RelaxContext) (gp : ℕ) (kept : List Bool) (bytes section : List ℕ)
     (decisions : List Decision) (end k : ℕ) (d : Decision)
     → IsPartDecided s gp kept bytes section k (relocation_in bytes k) (Some d)
-    → IsEndBehind (bound_at part_start bytes k d) (bound_at part_end bytes k d) end None
+    → IsEndAfter (bound_at part_start bytes k d) (bound_at part_end bytes k d) end None
     → IsReached part_start part_end bytes decisions end k
     → IsPartOverlapping s gp kept bytes section decisions k
-overlapping_one s gp kept bytes section decisions end k d decided behind (inl none) =
-    absurd (let e = behind.1 in omega (arith, e, none))
-overlapping_one s gp kept bytes section decisions end k d decided behind (inr one) =
+overlapping_one s gp kept bytes section decisions end k d decided following (inl none) =
+    absurd (let e = following.1 in omega (arith, e, none))
+overlapping_one s gp kept bytes section decisions end k d decided following (inr one) =
     record {
       decision = d;
       decided = decided;
-      is_rewritten = behind.0;
+      is_rewritten = following.0;
       before = one.0;
       is_before = one.1;
       is_rewritten_too = one.2;
-      overlap = let e = behind.1 in let reach = one.3 in omega (arith, e, reach);
+      overlap = let e = following.1 in let reach = one.3 in omega (arith, e, reach);
     }
 
-pub parts_overlap : (s : Setting) (gp : ℕ) (kept : List Bool) (bytes section : List ℕ)
+pub parts_overlap : (s : RelaxContext) (gp : ℕ) (kept : List Bool) (bytes section : List ℕ)
     (decisions : List Decision) (end k : ℕ) (d : Decision)
     → IsPartDecided s gp kept bytes section k (relocation_in bytes k) (Some d)
-    → IsEndBehind (bound_at part_start bytes k d) (bound_at part_end bytes k d) end None
+    → IsEndAfter (bound_at part_start bytes k d) (bound_at part_end bytes k d) end None
     → ArePartsApartTo bytes decisions end k
     → IsPartOverlapping s gp kept bytes section decisions k
-parts_overlap s gp kept bytes section decisions end k d decided behind are =
-    overlapping_one s gp kept bytes section decisions end k d decided behind are.ends.reached
+parts_overlap s gp kept bytes section decisions end k d decided following are =
+    overlapping_one s gp kept bytes section decisions end k d decided following are.ends.reached
 
 -- ---- decided
 
@@ -329,7 +322,7 @@ part_rewritten (High opcode) subject = tt
 part_rewritten (Low code) subject = tt
 part_rewritten (Labelled code) subject = tt
 
-decided_as : (s : Setting) (gp : ℕ) (kept : List Bool) (bytes section : List ℕ) (n : ℕ) (r : Rela)
+decided_as : (s : RelaxContext) (gp : ℕ) (kept : List Bool) (bytes section : List ℕ) (n : ℕ) (r : Rela)
     (decision : Option Decision) (member : Option (Part × Rela)) → IsAscending bytes
     → (is : IsPartDecided s gp kept bytes section n r decision) → IsMember s bytes r member
     → decision ≡ decided_by s gp is.ascends kept bytes section n r member
@@ -352,7 +345,7 @@ whole_across s other gp kept bytes section others_bytes others_section decisions
     (decided_as other gp kept others_bytes others_section j rj (Some (decision_at others j)) (Some (other_part, other_subject)) others_up two other_is)
     (subst (λ n. word_stays kept n ≡ false) same unkept) (part_rewritten other_part other_subject)
 
-pub whole : (s : Setting) (gp : ℕ) (kept : List Bool) (bytes section : List ℕ)
+pub whole : (s : RelaxContext) (gp : ℕ) (kept : List Bool) (bytes section : List ℕ)
     (decisions : List Decision) (limit : ℕ)
     → ArePartsDecided s gp kept bytes section decisions limit → ArePartsWhole s bytes decisions limit
 whole s gp kept bytes section decisions limit decided =
@@ -367,10 +360,10 @@ undecided true fit made is = absurd (let e : None ≡ Some Kept = is in cc)
 undecided false true made is = absurd (let e : None ≡ Some made = is in cc)
 undecided false false made is = (refl, refl)
 
-not_noted : (s : Setting) (gp : ℕ) (kept : List Bool) (bytes section : List ℕ) (n : ℕ) (r : Rela)
+not_noted : (s : RelaxContext) (gp : ℕ) (kept : List Bool) (bytes section : List ℕ) (n : ℕ) (r : Rela)
     (a : Bool) (member : Option (Part × Rela)) (symbol : Option ℕ)
     → None ≡ decided_by s gp a kept bytes section n r member
-    → symbol ≡ kept_by s gp a bytes section n r member → StaysBy kept symbol → ⊥
+    → symbol ≡ kept_by s gp a bytes section n r member → WordUnchangedBy kept symbol → ⊥
 not_noted s gp kept bytes section n r a None symbol undecided_is keeps stays =
     absurd (let e : None ≡ Some Kept = undecided_is in cc)
 not_noted s gp kept bytes section n r a (Some member) symbol undecided_is keeps stays =
@@ -378,10 +371,10 @@ not_noted s gp kept bytes section n r a (Some member) symbol undecided_is keeps 
     let is = undecided (word_stays kept (member.1).symbol) fit (part_decision (member.0) (member.1)) undecided_is in
     let that : symbol ≡ Some (member.1).symbol =
     subst (λ f. symbol ≡ (if f then None else Some (member.1).symbol)) (is.1) keeps in
-    let noted : word_stays kept (member.1).symbol ≡ true = subst (StaysBy kept) that stays in
+    let noted : word_stays kept (member.1).symbol ≡ true = subst (WordUnchangedBy kept) that stays in
     true≢false (sym noted ∙ is.0)
 
-pub means_unsurveyed : (s : Setting) (gp : ℕ) (kept : List Bool) (bytes section : List ℕ)
+pub means_unsurveyed : (s : RelaxContext) (gp : ℕ) (kept : List Bool) (bytes section : List ℕ)
     (decisions : List Decision) (room : ℕ) (error : RewritingError)
     → ArePartsRejected s gp kept bytes section decisions room error
     → MeansSymbolsUnsurveyed s gp bytes section kept error
@@ -400,7 +393,7 @@ means_unsurveyed s gp kept bytes section decisions room (Overlaps n) is = tt
 means_unsurveyed s gp kept bytes section decisions room (Contradiction symbol) is = tt
 
 -- where the tables agree another error is the first
-pub rejected_first : (s : Setting) (gp : ℕ) (kept : List Bool) (bytes section : List ℕ)
+pub rejected_first : (s : RelaxContext) (gp : ℕ) (kept : List Bool) (bytes section : List ℕ)
     (decisions : List Decision) (room : ℕ) (error : RewritingError)
     → Agree s.symbols s.values bytes → ArePartsRejected s gp kept bytes section decisions room error
     → IsRejectedFirst s.symbols s.values bytes

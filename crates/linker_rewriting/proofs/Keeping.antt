@@ -4,7 +4,7 @@ use Rattle.linker_rewriting.specs.Groups.{keeps, with_kept, kept_by}
 use Rattle.linker_rewriting.specs.Surveys.{AreKeptToo, IsGroup}
 use Rattle.linker_rewriting.specs.declared.groups.Group.{Group}
 use Rattle.linker_rewriting.specs.declared.groups.Group.TheVariants.{InitialExec, GeneralDynamic, LocalDynamic, Descriptor, GotLoad}
-use Rattle.linker_rewriting.specs.declared.groups.KeptGroups.{KeptGroups}
+use Rattle.linker_rewriting.specs.declared.groups.UnrelaxableGroups.{UnrelaxableGroups}
 
 get_set_same : {X : Type 0} (xs : List X) (i : ℕ) (a : X) → i < length xs
     → slice_get (slice_set xs i a) i ≡ Some a
@@ -32,7 +32,7 @@ get_there (y ∷ ys) zero x d less is = ap Some (sym is)
 get_there (y ∷ ys) (suc i) x d less is = get_there ys i x d (omega arith) is
 
 -- one more kind stays
-kept_with : (group g : Group) (k : KeptGroups)
+kept_with : (group g : Group) (k : UnrelaxableGroups)
     → IsTrue (keeps g (with_kept group k)) ↔ (IsTrue (keeps g k) ⊎ (g ≡ group))
 kept_with InitialExec InitialExec k = (λ _. inr refl, λ _. refl)
 kept_with InitialExec GeneralDynamic k = (λ h. inl h, λ either. elim either [ inl h ↦ h | inr e ↦ absurd (cc) ])
@@ -60,7 +60,7 @@ kept_with GotLoad LocalDynamic k = (λ h. inl h, λ either. elim either [ inl h 
 kept_with GotLoad Descriptor k = (λ h. inl h, λ either. elim either [ inl h ↦ h | inr e ↦ absurd (cc) ])
 kept_with GotLoad GotLoad k = (λ _. inr refl, λ _. refl)
 
-pub past_kept : (table : List KeptGroups) (group : Group) (symbol : ℕ) → length table ≤ symbol
+pub past_kept : (table : List UnrelaxableGroups) (group : Group) (symbol : ℕ) → length table ≤ symbol
     → AreKeptToo table table (IsGroup group symbol)
 past_kept table group symbol le g s = (
   λ h. inl h,
@@ -73,7 +73,7 @@ past_kept table group symbol le g s = (
 same_or : (s symbol : ℕ) → (s ≡ symbol) ⊎ (s ≢ symbol)
 same_or s symbol = search rules
 
-pub one_kept : (table : List KeptGroups) (group : Group) (symbol : ℕ) (old : KeptGroups)
+pub one_kept : (table : List UnrelaxableGroups) (group : Group) (symbol : ℕ) (old : UnrelaxableGroups)
     → symbol < length table → slice_get table symbol ≡ Some old
     → AreKeptToo table (slice_set table symbol (with_kept group old)) (IsGroup group symbol)
 one_kept table group symbol old less is g s =
@@ -109,7 +109,7 @@ get_is : {X : Type 0} (xs : List X) (i : ℕ) (d : X) → i < length xs
     → slice_get xs i ≡ Some (get_or xs i d)
 get_is xs i d less = get_there xs i (get_or xs i d) d less refl
 
-pub set_kept : (table : List KeptGroups) (group : Group) (symbol : ℕ) (new d : KeptGroups)
+pub set_kept : (table : List UnrelaxableGroups) (group : Group) (symbol : ℕ) (new d : UnrelaxableGroups)
     → symbol < length table → new ≡ with_kept group (get_or table symbol d)
     → AreKeptToo table (slice_set table symbol new) (IsGroup group symbol)
 set_kept table group symbol new d less is =

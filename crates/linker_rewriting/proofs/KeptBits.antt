@@ -4,9 +4,9 @@ use Rattle.linker_rewriting.specs.Facts.{facts_of, placed_facts}
 use Rattle.linker_rewriting.specs.Kept.{bit_if, kept_bits, KeptFactsTell}
 use Rattle.linker_rewriting.specs.declared.facts.OutputFacts.{OutputFacts}
 use Rattle.linker_rewriting.specs.declared.facts.SymbolFacts.{SymbolFacts}
-use Rattle.linker_rewriting.specs.declared.kept.KeptFacts.{KeptFacts}
+use Rattle.linker_rewriting.specs.declared.kept.FactsSnapshot.{FactsSnapshot}
 use Rattle.linker_rewriting.specs.declared.phases.Phase.{Phase}
-use Rattle.linker_rewriting.specs.declared.phases.Phase.TheVariants.{Early, ThreadOffsets, GotLoads, Distances}
+use Rattle.linker_rewriting.specs.declared.phases.Phase.TheVariants.{PreLayout, TlsLocalExec, GotToPcRel, ShortPcRel}
 use Rattle.linker_section.specs.declared.facts.Addresses.{Addresses}
 use Rattle.linker_section.specs.declared.facts.Symbol.{Symbol}
 
@@ -112,18 +112,18 @@ placed : (phase : Phase) (addresses : Addresses) (value : Symbol) (offset : ℕ)
     → AreSame output other symbol another
     → placed_facts phase output addresses symbol value offset addend marked
     ≡ placed_facts phase other addresses another value offset addend marked
-placed Early addresses value offset addend marked output other symbol another is =
+placed PreLayout addresses value offset addend marked output other symbol another is =
     let e0 = is.is_fixed in let e1 = is.is_executable in let e2 = is.toc in let e3 = is.is_tls_get_addr in let e4 = is.is_undefined_weak in let e5 = is.is_absolute in let e6 = is.is_ifunc in let e7 = is.is_local in let e8 = is.has_near_symbols in cc
-placed ThreadOffsets addresses value offset addend marked output other symbol another is =
+placed TlsLocalExec addresses value offset addend marked output other symbol another is =
     let e0 = is.is_fixed in let e1 = is.is_executable in let e2 = is.toc in let e3 = is.is_tls_get_addr in let e4 = is.is_undefined_weak in let e5 = is.is_absolute in let e6 = is.is_ifunc in let e7 = is.is_local in let e8 = is.has_near_symbols in cc
-placed GotLoads addresses value offset addend marked output other symbol another is =
+placed GotToPcRel addresses value offset addend marked output other symbol another is =
     let e0 = is.is_fixed in let e1 = is.is_executable in let e2 = is.toc in let e3 = is.is_tls_get_addr in let e4 = is.is_undefined_weak in let e5 = is.is_absolute in let e6 = is.is_ifunc in let e7 = is.is_local in let e8 = is.has_near_symbols in cc
-placed Distances addresses value offset addend marked output other symbol another is =
+placed ShortPcRel addresses value offset addend marked output other symbol another is =
     let e0 = is.is_fixed in let e1 = is.is_executable in let e2 = is.toc in let e3 = is.is_tls_get_addr in let e4 = is.is_undefined_weak in let e5 = is.is_absolute in let e6 = is.is_ifunc in let e7 = is.is_local in let e8 = is.has_near_symbols in cc
 
 pub tell : KeptFactsTell
 tell output other symbol another small small_too same =
-    let is = same_facts output other symbol another small small_too (ap (λ (k : KeptFacts). k.bits) same) in
+    let is = same_facts output other symbol another small small_too (ap (λ (k : FactsSnapshot). k.bits) same) in
     record {
       early = early output other symbol another is;
       placed = λ phase addresses value offset addend marked. placed phase addresses value offset addend marked output other symbol another is;

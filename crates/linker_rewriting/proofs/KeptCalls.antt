@@ -18,18 +18,18 @@ use Rattle.linker_ppc64.specs.Ppc64Rewrites.{IsPpc64Choice}
 use Rattle.linker_ppc64.specs.declared.rewrites.RelaxationKind.TheVariants as ppc64_kinds
 use Rattle.linker_rewriting.specs.Candidates.{IsCandidateWith}
 use Rattle.linker_rewriting.specs.Decisions.{IsDecidedAlone}
-use Rattle.linker_rewriting.specs.Facts.{Setting, setting, facts_of, facts_by}
+use Rattle.linker_rewriting.specs.Facts.{RelaxContext, context, facts_of, facts_by}
 use Rattle.linker_rewriting.specs.Groups.{IsScopeIn}
 use Rattle.linker_rewriting.specs.Inner.Calls.{is_weak_zero, changes_toc, aarch64_keeps, ppc64_keeps, IsLeft}
 use Rattle.linker_rewriting.specs.Sequences.{is_marked_in}
 use Rattle.linker_rewriting.specs.declared.decisions.Decision.TheVariants.{Kept}
 use Rattle.linker_rewriting.specs.declared.facts.OutputFacts.{OutputFacts}
 use Rattle.linker_rewriting.specs.declared.facts.SymbolFacts.{SymbolFacts}
-use Rattle.linker_rewriting.specs.declared.groups.KeptGroups.{KeptGroups}
+use Rattle.linker_rewriting.specs.declared.groups.UnrelaxableGroups.{UnrelaxableGroups}
 use Rattle.linker_rewriting.specs.declared.groups.Scope.{Scope}
-use Rattle.linker_rewriting.specs.declared.groups.Scope.TheVariants.{Unlisted, Alone}
+use Rattle.linker_rewriting.specs.declared.groups.Scope.TheVariants.{NotRelaxable, Independent}
 use Rattle.linker_rewriting.specs.declared.phases.Phase.{Phase}
-use Rattle.linker_rewriting.specs.declared.phases.Phase.TheVariants.{Early, ThreadOffsets, GotLoads, Distances}
+use Rattle.linker_rewriting.specs.declared.phases.Phase.TheVariants.{PreLayout, TlsLocalExec, GotToPcRel, ShortPcRel}
 use Rattle.linker_section.specs.declared.facts.Addresses.{Addresses}
 use Rattle.linker_section.specs.declared.facts.Symbol.{Symbol}
 use Rattle.linker_section.specs.declared.relocations.Rela.{Rela}
@@ -57,8 +57,8 @@ aarch64_none : (output : OutputFacts) (symbols : List SymbolFacts) (addresses : 
     → ((facts : LinkFacts) → facts.is_undefined_weak ≡ false
     → IsAArch64Choice name section r.offset facts (choice aarch64_kinds.NoOp name))
     → (marked : Bool) (symbol : Option SymbolFacts) → is_weak_zero symbol ≡ false
-    → IsCandidateWith (setting AArch64 Early output symbols addresses values) bytes section n r
-    (facts_by Early output addresses values r r marked symbol) None
+    → IsCandidateWith (context AArch64 PreLayout output symbols addresses values) bytes section n r
+    (facts_by PreLayout output addresses values r r marked symbol) None
 aarch64_none output symbols addresses values bytes section n r name is_name unchanged marked None isnt = refl
 aarch64_none output symbols addresses values bytes section n r name is_name unchanged marked (Some symbol) isnt = (
   aarch64_left r.code,
@@ -82,13 +82,13 @@ jump_stays : (section : List ℕ) (o : ℕ) (facts : LinkFacts) → facts.is_und
 jump_stays section o facts isnt = inr ((λ applies. not_both facts.is_undefined_weak (applies.1.0) isnt), refl)
 
 aarch64_decided : (output : OutputFacts) (symbols : List SymbolFacts) (addresses : Addresses)
-    (values : List Symbol) (kept : List KeptGroups) (bytes section : List ℕ) (n : ℕ) (r : Rela)
-    (scope : Scope) → IsScopeIn AArch64 Early r.code scope
+    (values : List Symbol) (kept : List UnrelaxableGroups) (bytes section : List ℕ) (n : ℕ) (r : Rela)
+    (scope : Scope) → IsScopeIn AArch64 PreLayout r.code scope
     → aarch64_keeps (slice_get symbols r.symbol) r.code ≡ true
-    → IsDecidedAlone (setting AArch64 Early output symbols addresses values) kept bytes section n r Kept
+    → IsDecidedAlone (context AArch64 PreLayout output symbols addresses values) kept bytes section n r Kept
 aarch64_decided output symbols addresses values kept bytes section n r scope of keeps =
     let symbol = slice_get symbols r.symbol in
-    let marked = is_marked_in Early AArch64 bytes n r in
+    let marked = is_marked_in PreLayout AArch64 bytes n r in
     let is_call = eqb r.code (code_of (aarch64_name aarch64.R_AARCH64_CALL26)) in
     let is_jump = eqb r.code (code_of (aarch64_name aarch64.R_AARCH64_JUMP26)) in
     let parts = and_parts (is_call || is_jump) (not (is_weak_zero symbol)) keeps in
@@ -97,7 +97,7 @@ aarch64_decided output symbols addresses values kept bytes section n r scope of 
       | inl call ↦
           let same : of.name ≡ aarch64.R_AARCH64_CALL26 = of.is_name.named aarch64.R_AARCH64_CALL26 tt (sym (eqb-true r.code _ call)) in
           let named : IsNameOf aarch64_name r.code aarch64.R_AARCH64_CALL26 = subst (IsNameOf aarch64_name r.code) same of.is_name in (
-            Alone,
+            Independent,
             record { name = aarch64.R_AARCH64_CALL26; is_name = named; value_is = refl },
             (None, aarch64_none output symbols addresses values bytes section n r aarch64.R_AARCH64_CALL26 named (call_stays section r.offset) marked symbol isnt, refl),
           )
@@ -105,7 +105,7 @@ aarch64_decided output symbols addresses values kept bytes section n r scope of 
           let jump : is_jump ≡ true = subst (λ b. (b || is_jump) ≡ true) other (parts.0) in
           let same : of.name ≡ aarch64.R_AARCH64_JUMP26 = of.is_name.named aarch64.R_AARCH64_JUMP26 tt (sym (eqb-true r.code _ jump)) in
           let named : IsNameOf aarch64_name r.code aarch64.R_AARCH64_JUMP26 = subst (IsNameOf aarch64_name r.code) same of.is_name in (
-            Alone,
+            Independent,
             record { name = aarch64.R_AARCH64_JUMP26; is_name = named; value_is = refl },
             (None, aarch64_none output symbols addresses values bytes section n r aarch64.R_AARCH64_JUMP26 named (jump_stays section r.offset) marked symbol isnt, refl),
           )
@@ -123,8 +123,8 @@ ppc64_none : (output : OutputFacts) (symbols : List SymbolFacts) (addresses : Ad
     → ((facts : LinkFacts) → facts.may_change_toc ≡ false
     → IsPpc64Choice name section r.offset facts (choice ppc64_kinds.NoOp name))
     → (marked : Bool) (symbol : Option SymbolFacts) → changes_toc symbol ≡ false
-    → IsCandidateWith (setting Ppc64 Early output symbols addresses values) bytes section n r
-    (facts_by Early output addresses values r r marked symbol) None
+    → IsCandidateWith (context Ppc64 PreLayout output symbols addresses values) bytes section n r
+    (facts_by PreLayout output addresses values r r marked symbol) None
 ppc64_none output symbols addresses values bytes section n r name is_name unchanged marked None isnt = refl
 ppc64_none output symbols addresses values bytes section n r name is_name unchanged marked (Some symbol) isnt = (
   ppc64_left r.code,
@@ -144,61 +144,61 @@ branch_stays : (section : List ℕ) (o : ℕ) (facts : LinkFacts) → facts.may_
 branch_stays section o facts isnt = inr ((λ applies. not_both facts.may_change_toc (applies.1.0) isnt), refl)
 
 ppc64_decided : (output : OutputFacts) (symbols : List SymbolFacts) (addresses : Addresses)
-    (values : List Symbol) (kept : List KeptGroups) (bytes section : List ℕ) (n : ℕ) (r : Rela)
-    (scope : Scope) → IsScopeIn Ppc64 Early r.code scope
+    (values : List Symbol) (kept : List UnrelaxableGroups) (bytes section : List ℕ) (n : ℕ) (r : Rela)
+    (scope : Scope) → IsScopeIn Ppc64 PreLayout r.code scope
     → ppc64_keeps (slice_get symbols r.symbol) r.code ≡ true
-    → IsDecidedAlone (setting Ppc64 Early output symbols addresses values) kept bytes section n r Kept
+    → IsDecidedAlone (context Ppc64 PreLayout output symbols addresses values) kept bytes section n r Kept
 ppc64_decided output symbols addresses values kept bytes section n r scope of keeps =
     let symbol = slice_get symbols r.symbol in
-    let marked = is_marked_in Early Ppc64 bytes n r in
+    let marked = is_marked_in PreLayout Ppc64 bytes n r in
     let is_call = eqb r.code (code_of (ppc64_name ppc64.R_PPC64_REL24)) in
     let parts = and_parts is_call (not (changes_toc symbol)) keeps in
     let isnt = not_held (changes_toc symbol) (parts.1) in
     let same : of.name ≡ ppc64.R_PPC64_REL24 = of.is_name.named ppc64.R_PPC64_REL24 tt (sym (eqb-true r.code _ (parts.0))) in
     let named : IsNameOf ppc64_name r.code ppc64.R_PPC64_REL24 = subst (IsNameOf ppc64_name r.code) same of.is_name in (
-      Alone,
+      Independent,
       record { name = ppc64.R_PPC64_REL24; is_name = named; value_is = refl },
       (None, ppc64_none output symbols addresses values bytes section n r ppc64.R_PPC64_REL24 named (branch_stays section r.offset) marked symbol isnt, refl),
     )
 
 -- ---- of any architecture
 
-by_code : (s : Setting) (kept : List KeptGroups) (bytes section : List ℕ) (n : ℕ) (r : Rela)
+by_code : (s : RelaxContext) (kept : List UnrelaxableGroups) (bytes section : List ℕ) (n : ℕ) (r : Rela)
     (scope : Scope) → IsScopeIn s.architecture s.phase r.code scope
-    → ((scope ≡ Unlisted) ⊎ (false ≡ true)) → IsDecidedAlone s kept bytes section n r Kept
+    → ((scope ≡ NotRelaxable) ⊎ (false ≡ true)) → IsDecidedAlone s kept bytes section n r Kept
 by_code s kept bytes section n r scope of (inl is) =
-    (Unlisted, subst (IsScopeIn s.architecture s.phase r.code) is of, refl)
+    (NotRelaxable, subst (IsScopeIn s.architecture s.phase r.code) is of, refl)
 by_code s kept bytes section n r scope of (inr is) = absurd (true≢false (sym is))
 
-by_call : (s : Setting) (kept : List KeptGroups) (bytes section : List ℕ) (n : ℕ) (r : Rela)
+by_call : (s : RelaxContext) (kept : List UnrelaxableGroups) (bytes section : List ℕ) (n : ℕ) (r : Rela)
     (scope : Scope) (keeps : Bool) → IsScopeIn s.architecture s.phase r.code scope
     → (keeps ≡ true → IsDecidedAlone s kept bytes section n r Kept)
-    → ((scope ≡ Unlisted) ⊎ (keeps ≡ true)) → IsDecidedAlone s kept bytes section n r Kept
+    → ((scope ≡ NotRelaxable) ⊎ (keeps ≡ true)) → IsDecidedAlone s kept bytes section n r Kept
 by_call s kept bytes section n r scope keeps of call (inl is) = by_code s kept bytes section n r scope of (inl is)
 by_call s kept bytes section n r scope keeps of call (inr is) = call is
 
 pub left_decided : (architecture : Architecture) (phase : Phase) (output : OutputFacts)
     (symbols : List SymbolFacts) (addresses : Addresses) (values : List Symbol)
-    (kept : List KeptGroups) (bytes section : List ℕ) (n : ℕ) (r : Rela)
+    (kept : List UnrelaxableGroups) (bytes section : List ℕ) (n : ℕ) (r : Rela)
     → IsLeft architecture phase symbols r
-    → IsDecidedAlone (setting architecture phase output symbols addresses values) kept bytes section n r Kept
-left_decided AArch64 Early output symbols addresses values kept bytes section n r left =
-    by_call (setting AArch64 Early output symbols addresses values) kept bytes section n r (left.0)
+    → IsDecidedAlone (context architecture phase output symbols addresses values) kept bytes section n r Kept
+left_decided AArch64 PreLayout output symbols addresses values kept bytes section n r left =
+    by_call (context AArch64 PreLayout output symbols addresses values) kept bytes section n r (left.0)
     (aarch64_keeps (slice_get symbols r.symbol) r.code) (left.1)
     (aarch64_decided output symbols addresses values kept bytes section n r (left.0) (left.1)) (left.2)
-left_decided Ppc64 Early output symbols addresses values kept bytes section n r left =
-    by_call (setting Ppc64 Early output symbols addresses values) kept bytes section n r (left.0)
+left_decided Ppc64 PreLayout output symbols addresses values kept bytes section n r left =
+    by_call (context Ppc64 PreLayout output symbols addresses values) kept bytes section n r (left.0)
     (ppc64_keeps (slice_get symbols r.symbol) r.code) (left.1)
     (ppc64_decided output symbols addresses values kept bytes section n r (left.0) (left.1)) (left.2)
-left_decided RiscV Early output symbols addresses values kept bytes section n r left =
-    by_code (setting RiscV Early output symbols addresses values) kept bytes section n r (left.0) (left.1) (left.2)
-left_decided LoongArch64 Early output symbols addresses values kept bytes section n r left =
-    by_code (setting LoongArch64 Early output symbols addresses values) kept bytes section n r (left.0) (left.1) (left.2)
-left_decided X86_64 Early output symbols addresses values kept bytes section n r left =
-    by_code (setting X86_64 Early output symbols addresses values) kept bytes section n r (left.0) (left.1) (left.2)
-left_decided architecture ThreadOffsets output symbols addresses values kept bytes section n r left =
-    by_code (setting architecture ThreadOffsets output symbols addresses values) kept bytes section n r (left.0) (left.1) (left.2)
-left_decided architecture GotLoads output symbols addresses values kept bytes section n r left =
-    by_code (setting architecture GotLoads output symbols addresses values) kept bytes section n r (left.0) (left.1) (left.2)
-left_decided architecture Distances output symbols addresses values kept bytes section n r left =
-    by_code (setting architecture Distances output symbols addresses values) kept bytes section n r (left.0) (left.1) (left.2)
+left_decided RiscV PreLayout output symbols addresses values kept bytes section n r left =
+    by_code (context RiscV PreLayout output symbols addresses values) kept bytes section n r (left.0) (left.1) (left.2)
+left_decided LoongArch64 PreLayout output symbols addresses values kept bytes section n r left =
+    by_code (context LoongArch64 PreLayout output symbols addresses values) kept bytes section n r (left.0) (left.1) (left.2)
+left_decided X86_64 PreLayout output symbols addresses values kept bytes section n r left =
+    by_code (context X86_64 PreLayout output symbols addresses values) kept bytes section n r (left.0) (left.1) (left.2)
+left_decided architecture TlsLocalExec output symbols addresses values kept bytes section n r left =
+    by_code (context architecture TlsLocalExec output symbols addresses values) kept bytes section n r (left.0) (left.1) (left.2)
+left_decided architecture GotToPcRel output symbols addresses values kept bytes section n r left =
+    by_code (context architecture GotToPcRel output symbols addresses values) kept bytes section n r (left.0) (left.1) (left.2)
+left_decided architecture ShortPcRel output symbols addresses values kept bytes section n r left =
+    by_code (context architecture ShortPcRel output symbols addresses values) kept bytes section n r (left.0) (left.1) (left.2)

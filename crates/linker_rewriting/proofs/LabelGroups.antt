@@ -15,16 +15,16 @@ use Rattle.linker_elf.specs.declared.x86_64.relocations.X86_64Relocation.TheVari
 use Rattle.linker_elf.specs.declared.elf.choice.Choice.{Choice}
 use Rattle.linker_rewriting.proofs.Unique.{one_scope, one_candidate_with}
 use Rattle.linker_rewriting.specs.Decisions.{decision_at, label_decision, IsLabelDecision, CanBeMade}
-use Rattle.linker_rewriting.specs.Facts.{Setting}
+use Rattle.linker_rewriting.specs.Facts.{RelaxContext}
 use Rattle.linker_rewriting.specs.Groups.{aarch64_scope_in, loongarch_scope_in, ppc64_scope_in, x86_64_scope_in}
-use Rattle.linker_rewriting.specs.Labels.{high_code, is_high, searched, is_beyond, is_high_in, IsHighAt, offset_of_label, label_offset, IsHighFrom, IsHighIn, is_labelled, has_labels, IsInLabel, label_facts, IsLabelCandidate, Lacks, IsLacking, HasLacking, LabelFits, LabelStays, IsLabelNote}
+use Rattle.linker_rewriting.specs.RiscVPcrelGroups.{high_code, is_high, searched, is_beyond, is_high_in, IsHighAt, offset_of_label, label_offset, IsHighFrom, IsHighIn, is_labelled, has_labels, IsInLabel, label_facts, IsLabelCandidate, Lacks, IsLacking, HasLacking, LabelFits, LabelStays, IsLabelNote}
 use Rattle.linker_rewriting.specs.Notes.{is_note, AreHighsNoted, IsNoteAt, IsNoteOf, AreLabelsNoted}
 use Rattle.linker_rewriting.specs.declared.decisions.Decision.{Decision}
-use Rattle.linker_rewriting.specs.declared.decisions.Decision.TheVariants.{Kept, Rewritten, TakenAlong}
+use Rattle.linker_rewriting.specs.declared.decisions.Decision.TheVariants.{Kept, Rewritten, Consumed}
 use Rattle.linker_rewriting.specs.declared.groups.Scope.{Scope}
-use Rattle.linker_rewriting.specs.declared.groups.Scope.TheVariants.{Unlisted, Alone, Grouped, Ahead, Matched, Labelled}
+use Rattle.linker_rewriting.specs.declared.groups.Scope.TheVariants.{NotRelaxable, Independent, Grouped, FirstOfPair, IfGroupMatches, Labelled}
 use Rattle.linker_rewriting.specs.declared.phases.Phase.{Phase}
-use Rattle.linker_rewriting.specs.declared.phases.Phase.TheVariants.{Early, ThreadOffsets, GotLoads, Distances}
+use Rattle.linker_rewriting.specs.declared.phases.Phase.TheVariants.{PreLayout, TlsLocalExec, GotToPcRel, ShortPcRel}
 use Rattle.linker_section.specs.Relocations.{relocation_in}
 use Rattle.linker_section.specs.Values.{IsAscending, offset_at}
 use Rattle.linker_section.specs.declared.relocations.Rela.{Rela}
@@ -56,7 +56,7 @@ pub one_high_from : (bytes : List ℕ) (code : ℕ) (at x y : Option ℕ) → Is
 one_high_from bytes code None x y a b = a ∙ sym b
 one_high_from bytes code (Some at) x y a b = one_high_at bytes code at x y a b
 
-pub one_high : (s : Setting) (bytes : List ℕ) (r : Rela) (x y : Option ℕ) → IsHighIn s bytes r x
+pub one_high : (s : RelaxContext) (bytes : List ℕ) (r : Rela) (x y : Option ℕ) → IsHighIn s bytes r x
     → IsHighIn s bytes r y → x ≡ y
 one_high s bytes r x y =
     one_high_from bytes (high_code s.phase) (label_offset s.phase s.addresses s.values r) x y
@@ -64,11 +64,11 @@ one_high s bytes r x y =
 some_one : (g h : ℕ) → Some g ≡ Some h → g ≡ h
 some_one g h is = cc
 
-pub one_index : (s : Setting) (bytes : List ℕ) (r : Rela) (g h : ℕ) → IsHighIn s bytes r (Some g)
+pub one_index : (s : RelaxContext) (bytes : List ℕ) (r : Rela) (g h : ℕ) → IsHighIn s bytes r (Some g)
     → IsHighIn s bytes r (Some h) → g ≡ h
 one_index s bytes r g h a b = some_one g h (one_high s bytes r (Some g) (Some h) a b)
 
-pub not_none : (s : Setting) (bytes : List ℕ) (r : Rela) (h : ℕ) → IsHighIn s bytes r (Some h)
+pub not_none : (s : RelaxContext) (bytes : List ℕ) (r : Rela) (h : ℕ) → IsHighIn s bytes r (Some h)
     → IsHighIn s bytes r None → ⊥
 not_none s bytes r h a b =
     let e : Some h ≡ None = one_high s bytes r (Some h) None a b in cc
@@ -86,7 +86,7 @@ own_from bytes code h (Some at) is =
           (sym (eqb-true (relocation_in bytes h).offset at (parts.0))) is,
     )
 
-own_high : (s : Setting) (bytes : List ℕ) (r : Rela) (h : ℕ) → IsHighIn s bytes r (Some h)
+own_high : (s : RelaxContext) (bytes : List ℕ) (r : Rela) (h : ℕ) → IsHighIn s bytes r (Some h)
     → IsHighIn s bytes (relocation_in bytes h) (Some h)
 own_high s bytes r h is =
     let own = own_from bytes (high_code s.phase) h (label_offset s.phase s.addresses s.values r) is in
@@ -100,7 +100,7 @@ high_within_from : (bytes : List ℕ) (code h : ℕ) (at : Option ℕ) → IsHig
 high_within_from bytes code h None is = absurd (let e : Some h ≡ None = is in cc)
 high_within_from bytes code h (Some at) is = is.0
 
-pub high_within : (s : Setting) (bytes : List ℕ) (r : Rela) (h : ℕ) → IsHighIn s bytes r (Some h)
+pub high_within : (s : RelaxContext) (bytes : List ℕ) (r : Rela) (h : ℕ) → IsHighIn s bytes r (Some h)
     → h < length bytes / 24
 high_within s bytes r h =
     high_within_from bytes (high_code s.phase) h (label_offset s.phase s.addresses s.values r)
@@ -155,8 +155,8 @@ near_first bytes at first index before near =
     elim (cases_Bool (is_beyond bytes at index)) [
       | inl beyond ↦
           let parts = and_parts (nat_le searched index) ((relocation_in bytes (index - searched)).offset == at) beyond in
-          let behind : searched ≤ index = leb-true searched index (parts.0) in
-          let less : index - searched < first = omega (arith, behind, near) in
+          let following : searched ≤ index = leb-true searched index (parts.0) in
+          let less : index - searched < first = omega (arith, following, near) in
           let below = before (index - searched) less in
           let is : offset_at bytes (index - searched) ≡ at = eqb-true (relocation_in bytes (index - searched)).offset at (parts.1) in
           absurd (omega (arith, below, is))
@@ -180,11 +180,11 @@ beyond : (bytes : List ℕ) (at first n : ℕ) → IsAscending bytes
     → ((n : ℕ) → first ≤ n → n < length bytes / 24 → at ≤ offset_at bytes n)
     → first + searched ≤ n → n < length bytes / 24 → offset_at bytes n ≡ at
     → is_beyond bytes at n ≡ true
-beyond bytes at first n ascending behind far within there =
+beyond bytes at first n ascending following far within there =
     let deep : searched ≤ n = omega (arith, far) in
     let from : first ≤ n - searched = omega (arith, far) in
     let less : n - searched < length bytes / 24 = omega (arith, within) in
-    let low = behind (n - searched) from less in
+    let low = following (n - searched) from less in
     let up = ascending (n - searched) n (omega arith) within in
     both (nat_le searched n) ((relocation_in bytes (n - searched)).offset == at)
     (le-leb searched n deep) (eq-eqb (relocation_in bytes (n - searched)).offset at (omega (arith, low, up, there)))
@@ -196,7 +196,7 @@ pub none_searched : (bytes : List ℕ) (code at first limit : ℕ) → IsAscendi
     → NoneIn bytes code at first limit
     → (length bytes / 24 ≤ limit) ⊎ (first + searched ≤ limit)
     → IsHighAt bytes code at None
-none_searched bytes code at first limit ascending before behind none far n less =
+none_searched bytes code at first limit ascending before following none far n less =
     elim (cases_lt n limit) [
       | inl below ↦ isnt_searched bytes code at n (none_below bytes code at first limit before none n below)
       | inr on ↦ elim far [
@@ -207,7 +207,7 @@ none_searched bytes code at first limit ascending before behind none far n less 
               let there = and_parts ((relocation_in bytes n).offset == at) ((relocation_in bytes n).code == code) is in
               let at_is : offset_at bytes n ≡ at = eqb-true (relocation_in bytes n).offset at (there.0) in
               ap (λ b. is_high code at (relocation_in bytes n) && not b)
-              (beyond bytes at first n ascending behind (omega (arith, end, on)) less at_is)
+              (beyond bytes at first n ascending following (omega (arith, end, on)) less at_is)
               ∙ and-false (is_high code at (relocation_in bytes n))
         ]
       ]
@@ -219,11 +219,11 @@ pub none_at : (bytes : List ℕ) (code at first index : ℕ) → IsAscending byt
     → NoneIn bytes code at first index → first ≤ index → index < length bytes / 24
     → ((relocation_in bytes index).offset ≡ at → ⊥)
     → IsHighAt bytes code at None
-none_at bytes code at first index ascending before behind none from within other n less =
+none_at bytes code at first index ascending before following none from within other n less =
     isnt_searched bytes code at n (elim (cases_lt n index) [
       | inl below ↦ none_below bytes code at first index before none n below
       | inr on ↦ isnt_there code at (relocation_in bytes n)
-          (λ e. let b = behind index from within in
+          (λ e. let b = following index from within in
           let up = ascending index n on less in
           other (omega (arith, b, up, e)))
     ])
@@ -237,19 +237,19 @@ one_in_label architecture phase code x y a b =
 
 pub labelled : (scope : Scope) → true ≡ is_labelled scope → scope ≡ Labelled
 labelled Labelled is = refl
-labelled Unlisted is = isnt is
-labelled Alone is = isnt is
+labelled NotRelaxable is = isnt is
+labelled Independent is = isnt is
 labelled (Grouped group) is = isnt is
-labelled (Matched group) is = isnt is
-labelled Ahead is = isnt is
+labelled (IfGroupMatches group) is = isnt is
+labelled FirstOfPair is = isnt is
 
-pub one_label_candidate : (s : Setting) (bytes section : List ℕ) (n : ℕ) (r : Rela) (high : ℕ)
+pub one_label_candidate : (s : RelaxContext) (bytes section : List ℕ) (n : ℕ) (r : Rela) (high : ℕ)
     (x y : Option (Choice Relaxation ℕ)) → IsLabelCandidate s bytes section n r high x
     → IsLabelCandidate s bytes section n r high y → x ≡ y
 one_label_candidate s bytes section n r high x y =
     one_candidate_with s bytes section n r (label_facts s bytes n r high) x y
 
-pub some_or_none : (s : Setting) (bytes section : List ℕ) (n : ℕ) (r : Rela) (high : ℕ)
+pub some_or_none : (s : RelaxContext) (bytes section : List ℕ) (n : ℕ) (r : Rela) (high : ℕ)
     (x : Choice Relaxation ℕ) → IsLabelCandidate s bytes section n r high (Some x)
     → IsLabelCandidate s bytes section n r high None → ⊥
 some_or_none s bytes section n r high x a b =
@@ -257,12 +257,12 @@ some_or_none s bytes section n r high x a b =
 
 -- ---- what one relocation lacks
 
-pub unlabelled_lacks : (s : Setting) (bytes section : List ℕ) (n : ℕ) (r : Rela)
+pub unlabelled_lacks : (s : RelaxContext) (bytes section : List ℕ) (n : ℕ) (r : Rela)
     → IsInLabel s.architecture s.phase r.code false → IsLacking s bytes section n r None
 unlabelled_lacks s bytes section n r isnt_in high lacks =
     isnt (one_in_label s.architecture s.phase r.code true false (lacks.0) isnt_in)
 
-pub rewritten_lacks : (s : Setting) (bytes section : List ℕ) (n : ℕ) (r : Rela) (high : ℕ)
+pub rewritten_lacks : (s : RelaxContext) (bytes section : List ℕ) (n : ℕ) (r : Rela) (high : ℕ)
     (x : Choice Relaxation ℕ) → IsHighIn s bytes r (Some high)
     → IsLabelCandidate s bytes section n r high (Some x) → IsLacking s bytes section n r None
 rewritten_lacks s bytes section n r high x is some other lacks =
@@ -272,7 +272,7 @@ rewritten_lacks s bytes section n r high x is some other lacks =
 
 -- ---- notes at high parts
 
-pub same_noted : (s : Setting) (bytes section : List ℕ) (decisions : List Decision) (k : ℕ)
+pub same_noted : (s : RelaxContext) (bytes section : List ℕ) (decisions : List Decision) (k : ℕ)
     → AreHighsNoted s bytes section decisions k
     → IsLacking s bytes section k (relocation_in bytes k) None
     → AreHighsNoted s bytes section decisions (k + 1)
@@ -288,15 +288,15 @@ same_noted s bytes section decisions k noted lacks =
       ];
     }
 
-pub more_noted : (s : Setting) (bytes section : List ℕ) (old : List Decision) (k high : ℕ)
+pub more_noted : (s : RelaxContext) (bytes section : List ℕ) (old : List Decision) (k high : ℕ)
     → AreHighsNoted s bytes section old k
     → Lacks s bytes section k (relocation_in bytes k) high → high < length old
-    → AreHighsNoted s bytes section (slice_set old high TakenAlong) (k + 1)
+    → AreHighsNoted s bytes section (slice_set old high Consumed) (k + 1)
 more_noted s bytes section old k high noted lacks within =
-    let new : List Decision = slice_set old high TakenAlong in
-    let here : is_note (decision_at new high) ≡ true = ap is_note (get_or-set_same old high TakenAlong Kept within) in
+    let new : List Decision = slice_set old high Consumed in
+    let here : is_note (decision_at new high) ≡ true = ap is_note (get_or-set_same old high Consumed Kept within) in
     let other : (h : ℕ) → (h ≡ high → ⊥) → decision_at new h ≡ decision_at old h =
-    λ h ne. get_or-set_other old high h TakenAlong Kept ne in
+    λ h ne. get_or-set_other old high h Consumed Kept ne in
     record {
       sound = λ h less is. elim (cases_eq h high) [
         | inl same ↦ (
@@ -321,7 +321,7 @@ more_noted s bytes section old k high noted lacks within =
 
 -- ---- notes at all of a label
 
-pub record AreCopied (s : Setting) (bytes section : List ℕ) (first now : List Decision) (k : ℕ)
+pub record AreCopied (s : RelaxContext) (bytes section : List ℕ) (first now : List Decision) (k : ℕ)
     : Type 0 where
   pub same_len : length now ≡ length first
   pub done : (n : ℕ) → n < k → IsInLabel s.architecture s.phase (relocation_in bytes n).code true
@@ -329,7 +329,7 @@ pub record AreCopied (s : Setting) (bytes section : List ℕ) (first now : List 
   pub highs : (n high : ℕ) → IsHighIn s bytes (relocation_in bytes n) (Some high)
       → decision_at now high ≡ decision_at first high
 
-pub same_copied : (s : Setting) (bytes section : List ℕ) (first now : List Decision) (k : ℕ)
+pub same_copied : (s : RelaxContext) (bytes section : List ℕ) (first now : List Decision) (k : ℕ)
     → AreCopied s bytes section first now k
     → IsInLabel s.architecture s.phase (relocation_in bytes k).code false
     → AreCopied s bytes section first now (k + 1)
@@ -346,7 +346,7 @@ same_copied s bytes section first now k copied outside =
       highs = copied.highs;
     }
 
-note_by : (s : Setting) (bytes section : List ℕ) (first : List Decision) (r : Rela) (high : ℕ)
+note_by : (s : RelaxContext) (bytes section : List ℕ) (first : List Decision) (r : Rela) (high : ℕ)
     (note : Bool) → IsAscending bytes → AreHighsNoted s bytes section first (length bytes / 24)
     → IsHighIn s bytes r (Some high) → is_note (decision_at first high) ≡ note
     → IsLabelNote s bytes section r note
@@ -358,7 +358,7 @@ note_by s bytes section first r high false ascending noted is reads = (
   (ascending, λ has. isnt (sym (noted.complete high has) ∙ reads)),
 )
 
-note_right : (s : Setting) (bytes section : List ℕ) (first now : List Decision) (r : Rela)
+note_right : (s : RelaxContext) (bytes section : List ℕ) (first now : List Decision) (r : Rela)
     (note : Decision) (high : Option ℕ) → IsAscending bytes
     → AreHighsNoted s bytes section first (length bytes / 24)
     → ((h : ℕ) → IsHighIn s bytes r (Some h) → decision_at now h ≡ decision_at first h)
@@ -370,7 +370,7 @@ note_right s bytes section first now r note (Some h) ascending noted same high i
     note_by s bytes section first r h (is_note note) ascending noted high
     (ap is_note (sym (is ∙ same h high)))
 
-pub more_copied : (s : Setting) (bytes section : List ℕ) (first now : List Decision) (k : ℕ)
+pub more_copied : (s : RelaxContext) (bytes section : List ℕ) (first now : List Decision) (k : ℕ)
     (note : Decision) → AreCopied s bytes section first now k → k < length now → IsAscending bytes
     → AreHighsNoted s bytes section first (length bytes / 24)
     → IsNoteOf s.phase s.addresses s.values bytes now (relocation_in bytes k) note
@@ -414,44 +414,44 @@ more_copied s bytes section first now k note copied within ascending noted is =
 -- ---- architectures without labels
 
 aarch64_none : (phase : Phase) (name : AArch64Relocation) → is_labelled (aarch64_scope_in phase name) ≡ false
-aarch64_none Early aarch64.R_AARCH64_CALL26 = refl
-aarch64_none Early name = refl
-aarch64_none ThreadOffsets name = refl
-aarch64_none GotLoads aarch64.R_AARCH64_ADR_GOT_PAGE = refl
-aarch64_none GotLoads name = refl
-aarch64_none Distances aarch64.R_AARCH64_ADR_PREL_PG_HI21 = refl
-aarch64_none Distances name = refl
+aarch64_none PreLayout aarch64.R_AARCH64_CALL26 = refl
+aarch64_none PreLayout name = refl
+aarch64_none TlsLocalExec name = refl
+aarch64_none GotToPcRel aarch64.R_AARCH64_ADR_GOT_PAGE = refl
+aarch64_none GotToPcRel name = refl
+aarch64_none ShortPcRel aarch64.R_AARCH64_ADR_PREL_PG_HI21 = refl
+aarch64_none ShortPcRel name = refl
 
 loongarch_none : (phase : Phase) (name : LoongArch64Relocation) → is_labelled (loongarch_scope_in phase name) ≡ false
-loongarch_none Early loongarch64.R_LARCH_GOT_PC_HI20 = refl
-loongarch_none Early name = refl
-loongarch_none ThreadOffsets loongarch64.R_LARCH_TLS_LE_HI20_R = refl
-loongarch_none ThreadOffsets name = refl
-loongarch_none GotLoads name = refl
-loongarch_none Distances name = refl
+loongarch_none PreLayout loongarch64.R_LARCH_GOT_PC_HI20 = refl
+loongarch_none PreLayout name = refl
+loongarch_none TlsLocalExec loongarch64.R_LARCH_TLS_LE_HI20_R = refl
+loongarch_none TlsLocalExec name = refl
+loongarch_none GotToPcRel name = refl
+loongarch_none ShortPcRel name = refl
 
 ppc64_none : (phase : Phase) (name : Ppc64Relocation) → is_labelled (ppc64_scope_in phase name) ≡ false
-ppc64_none Early ppc64.R_PPC64_REL24 = refl
-ppc64_none Early name = refl
-ppc64_none ThreadOffsets ppc64.R_PPC64_TPREL16_HA = refl
-ppc64_none ThreadOffsets name = refl
-ppc64_none GotLoads name = refl
-ppc64_none Distances ppc64.R_PPC64_TOC16_HA = refl
-ppc64_none Distances name = refl
+ppc64_none PreLayout ppc64.R_PPC64_REL24 = refl
+ppc64_none PreLayout name = refl
+ppc64_none TlsLocalExec ppc64.R_PPC64_TPREL16_HA = refl
+ppc64_none TlsLocalExec name = refl
+ppc64_none GotToPcRel name = refl
+ppc64_none ShortPcRel ppc64.R_PPC64_TOC16_HA = refl
+ppc64_none ShortPcRel name = refl
 
 x86_64_none : (phase : Phase) (name : X86_64Relocation) → is_labelled (x86_64_scope_in phase name) ≡ false
-x86_64_none Early x86_64.R_X86_64_GOTPCREL = refl
-x86_64_none Early name = refl
-x86_64_none ThreadOffsets name = refl
-x86_64_none GotLoads name = refl
-x86_64_none Distances name = refl
+x86_64_none PreLayout x86_64.R_X86_64_GOTPCREL = refl
+x86_64_none PreLayout name = refl
+x86_64_none TlsLocalExec name = refl
+x86_64_none GotToPcRel name = refl
+x86_64_none ShortPcRel name = refl
 
 no_label : (architecture : Architecture) (phase : Phase) (code : ℕ)
     → has_labels architecture phase ≡ false → IsInLabel architecture phase code true → ⊥
-no_label RiscV ThreadOffsets code is in_label = isnt is
-no_label RiscV GotLoads code is in_label = isnt is
-no_label RiscV Early code is in_label = isnt (in_label.2 ∙ ap is_labelled (in_label.1).value_is)
-no_label RiscV Distances code is in_label = isnt (in_label.2 ∙ ap is_labelled (in_label.1).value_is)
+no_label RiscV TlsLocalExec code is in_label = isnt is
+no_label RiscV GotToPcRel code is in_label = isnt is
+no_label RiscV PreLayout code is in_label = isnt (in_label.2 ∙ ap is_labelled (in_label.1).value_is)
+no_label RiscV ShortPcRel code is in_label = isnt (in_label.2 ∙ ap is_labelled (in_label.1).value_is)
 no_label AArch64 phase code is in_label =
     isnt (in_label.2 ∙ (ap is_labelled (in_label.1).value_is ∙ aarch64_none phase (in_label.1).name))
 no_label LoongArch64 phase code is in_label =
@@ -461,14 +461,14 @@ no_label Ppc64 phase code is in_label =
 no_label X86_64 phase code is in_label =
     isnt (in_label.2 ∙ (ap is_labelled (in_label.1).value_is ∙ x86_64_none phase (in_label.1).name))
 
-pub no_labels : (s : Setting) (bytes section : List ℕ) (decisions : List Decision)
+pub no_labels : (s : RelaxContext) (bytes section : List ℕ) (decisions : List Decision)
     → has_labels s.architecture s.phase ≡ false → AreLabelsNoted s bytes section decisions 0
 no_labels s bytes section decisions is n from less in_label =
     absurd (no_label s.architecture s.phase (relocation_in bytes n).code is in_label)
 
 -- ---- decisions
 
-pub stays_or_fits : (s : Setting) (bytes section : List ℕ) (r : Rela) (high : ℕ)
+pub stays_or_fits : (s : RelaxContext) (bytes section : List ℕ) (r : Rela) (high : ℕ)
     → LabelStays s bytes section r → IsHighIn s bytes r (Some high)
     → LabelFits s bytes section high → ⊥
 stays_or_fits s bytes section r high stays is fits =
@@ -481,7 +481,7 @@ stays_or_fits s bytes section r high stays is fits =
       ]
     ]
 
-pub one_label_decision : (s : Setting) (bytes section : List ℕ) (n : ℕ) (r : Rela) (x y : Decision)
+pub one_label_decision : (s : RelaxContext) (bytes section : List ℕ) (n : ℕ) (r : Rela) (x y : Decision)
     → IsLabelDecision s bytes section n r x → IsLabelDecision s bytes section n r y → x ≡ y
 one_label_decision s bytes section n r x y a b =
     elim a [
@@ -503,7 +503,7 @@ one_label_decision s bytes section n r x y a b =
     ]
 
 -- all of a label can be rewritten: this one too
-pub fits_here : (s : Setting) (bytes section : List ℕ) (n : ℕ) (r : Rela) (high : ℕ)
+pub fits_here : (s : RelaxContext) (bytes section : List ℕ) (n : ℕ) (r : Rela) (high : ℕ)
     → r ≡ relocation_in bytes n → n < length bytes / 24
     → IsInLabel s.architecture s.phase r.code true → IsHighIn s bytes r (Some high)
     → LabelFits s bytes section high → IsLabelCandidate s bytes section n r high None → ⊥
@@ -511,7 +511,7 @@ fits_here s bytes section n r high same within in_label is fits none =
     fits.1 (n, within, subst (λ x. Lacks s bytes section n x high) same (in_label, is, none))
 
 -- as noted, and as the search finds
-pub rewritten_label : (s : Setting) (bytes section : List ℕ) (n : ℕ) (r : Rela) (high : ℕ)
+pub rewritten_label : (s : RelaxContext) (bytes section : List ℕ) (n : ℕ) (r : Rela) (high : ℕ)
     (chosen : Choice Relaxation ℕ) (part : Rela) (d : Decision)
     → IsLabelNote s bytes section r false
     → (IsAscending bytes → IsHighIn s bytes r (Some high))
@@ -528,7 +528,7 @@ rewritten_label s bytes section n r high chosen part d noted is candidate same d
       decided ∙ ap (label_decision s.phase chosen) same,
     )
 
-pub never_kept : (s : Setting) (bytes section : List ℕ) (n : ℕ) (r : Rela) (high : ℕ)
+pub never_kept : (s : RelaxContext) (bytes section : List ℕ) (n : ℕ) (r : Rela) (high : ℕ)
     → IsLabelNote s bytes section r false
     → (IsAscending bytes → IsHighIn s bytes r (Some high))
     → IsLabelCandidate s bytes section n r high None → r ≡ relocation_in bytes n
@@ -541,13 +541,13 @@ never_kept s bytes section n r high noted is none same within in_label =
 pub can_make_label : (phase : Phase) (chosen : Choice Relaxation ℕ) (high : Rela) (section : List ℕ)
     (offset : ℕ) → CanBeMade (Rewritten chosen) section offset
     → CanBeMade (label_decision phase chosen high) section offset
-can_make_label Early chosen high section offset can = can
-can_make_label ThreadOffsets chosen high section offset can = can
-can_make_label GotLoads chosen high section offset can = can
-can_make_label Distances chosen high section offset can = can
+can_make_label PreLayout chosen high section offset can = can
+can_make_label TlsLocalExec chosen high section offset can = can
+can_make_label GotToPcRel chosen high section offset can = can
+can_make_label ShortPcRel chosen high section offset can = can
 
 -- a group that doesn't stay has a high part
-pub noted_high : (s : Setting) (bytes section : List ℕ) (r : Rela) → IsLabelNote s bytes section r false
+pub noted_high : (s : RelaxContext) (bytes section : List ℕ) (r : Rela) → IsLabelNote s bytes section r false
     → (IsAscending bytes → IsHighIn s bytes r None) → ⊥
 noted_high s bytes section r note none =
     let fits = note.2 in not_none s bytes r (note.0) (note.1) (none (fits.0))

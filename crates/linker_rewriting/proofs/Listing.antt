@@ -6,7 +6,7 @@ use Rattle.linker_base.specs.declared.rewrite.DeletedBytes.{DeletedBytes}
 use Rattle.linker_rewriting.specs.Candidates.{deletes_within}
 use Rattle.linker_rewriting.specs.Decisions.{CanBeMade, AllCanBeMade, decision_at, deleted_of, deleted_end, deletion_by, deletions_by}
 use Rattle.linker_rewriting.specs.declared.decisions.Decision.{Decision}
-use Rattle.linker_rewriting.specs.declared.decisions.Decision.TheVariants.{Kept, Rewritten, Redirected, TakenAlong}
+use Rattle.linker_rewriting.specs.declared.decisions.Decision.TheVariants.{Kept, Rewritten, RewrittenWithSymbol, Consumed}
 use Rattle.linker_section.specs.Relocations.{relocation_in}
 use Rattle.linker_utils.specs.Architectures.{relaxation_deleted}
 
@@ -121,10 +121,10 @@ end_fits section o max (Some deleted) within le =
 one_fits : (d : Decision) (section : List ℕ) (o max : ℕ) → CanBeMade d section o
     → length section ≤ max → deleted_end o (deleted_of d) ≤ max
 one_fits Kept section o max can le = omega arith
-one_fits TakenAlong section o max can le = omega arith
+one_fits Consumed section o max can le = omega arith
 one_fits (Rewritten chosen) section o max can le =
     end_fits section o max (relaxation_deleted chosen.kind) (can.1) le
-one_fits (Redirected chosen subject) section o max can le =
+one_fits (RewrittenWithSymbol chosen subject) section o max can le =
     end_fits section o max (relaxation_deleted chosen.kind) (can.1) le
 
 pub all_fit : (bytes section : List ℕ) (decisions : List Decision) (limit max : ℕ)

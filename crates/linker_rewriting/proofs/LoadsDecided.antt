@@ -2,23 +2,23 @@
 use Rattle.std.proofs.Common.{◌≡◌, ℕ, ◌+◌, ◌<◌, inl, inr, List, length, sym, subst, arith, Bool, None, slice_set}
 use Rattle.std.proofs.lemmas.List.{get_or-set_same, get_or-set_other}
 use Rattle.linker_rewriting.proofs.Deciding.{AreSame, EndsAt, IsGrown, IsReached, bound_at, apart_more, ends_more}
-use Rattle.linker_rewriting.specs.Decisions.{CanBeMade, AllCanBeMade, AreApart, IsEndBehind, decision_at, start_by, end_by}
-use Rattle.linker_rewriting.specs.Facts.{Setting}
-use Rattle.linker_rewriting.specs.Words.{AreLoadsDecided, IsLoadDecision, IsLoadOverlapping}
+use Rattle.linker_rewriting.specs.Decisions.{CanBeMade, AllCanBeMade, AreApart, IsEndAfter, decision_at, start_by, end_by}
+use Rattle.linker_rewriting.specs.Facts.{RelaxContext}
+use Rattle.linker_rewriting.specs.TocIndirection.{AreLoadsDecided, IsLoadDecision, IsLoadOverlapping}
 use Rattle.linker_rewriting.specs.declared.decisions.Decision.{Decision}
 use Rattle.linker_rewriting.specs.declared.decisions.Decision.TheVariants.{Kept}
 use Rattle.linker_section.specs.Relocations.{relocation_in}
 use Rattle.linker_section.specs.declared.relocations.Rela.{Rela}
 use borrow.Author.Count.{below_more}
 
-pub record AreLoadsDecidedTo (s : Setting) (start : ℕ) (words : List ℕ) (kept : List Bool)
+pub record AreLoadsDecidedTo (s : RelaxContext) (start : ℕ) (words : List ℕ) (kept : List Bool)
     (bytes section : List ℕ) (decisions : List Decision) (end k : ℕ) : Type 0 where
   pub decided : AreLoadsDecided s start words kept bytes section decisions k
   pub made : AllCanBeMade bytes section decisions k
   pub apart : AreApart bytes decisions k
   pub ends : EndsAt start_by end_by bytes decisions end k
 
-pub more_loads : (s : Setting) (start : ℕ) (words : List ℕ) (kept : List Bool)
+pub more_loads : (s : RelaxContext) (start : ℕ) (words : List ℕ) (kept : List Bool)
     (bytes section : List ℕ) (old : List Decision) (end grown k : ℕ) (d : Decision)
     → AreLoadsDecidedTo s start words kept bytes section old end k
     → k < length old
@@ -42,33 +42,33 @@ more_loads s start words kept bytes section old end grown k d before within is c
       ends = ends_more start_by end_by bytes old new k end grown d same here before.ends grow;
     }
 
-overlapping_one : (s : Setting) (start : ℕ) (words : List ℕ) (kept : List Bool)
+overlapping_one : (s : RelaxContext) (start : ℕ) (words : List ℕ) (kept : List Bool)
     (bytes section : List ℕ) (decisions : List Decision) (end k : ℕ) (d : Decision)
     → IsLoadDecision s start words kept bytes section k (relocation_in bytes k) d
-    → IsEndBehind (bound_at start_by bytes k d) (bound_at end_by bytes k d) end None
+    → IsEndAfter (bound_at start_by bytes k d) (bound_at end_by bytes k d) end None
     → IsReached start_by end_by bytes decisions end k
     → IsLoadOverlapping s start words kept bytes section decisions k
-overlapping_one s start words kept bytes section decisions end k d decided behind (inl none) =
-    absurd (let e = behind.1 in omega (arith, e, none))
-overlapping_one s start words kept bytes section decisions end k d decided behind (inr one) =
+overlapping_one s start words kept bytes section decisions end k d decided following (inl none) =
+    absurd (let e = following.1 in omega (arith, e, none))
+overlapping_one s start words kept bytes section decisions end k d decided following (inr one) =
     record {
       decision = d;
       decided = decided;
-      writes = behind.0;
+      writes = following.0;
       before = one.0;
       is_before = one.1;
       is_written = one.2;
-      overlap = let e = behind.1 in let reach = one.3 in omega (arith, e, reach);
+      overlap = let e = following.1 in let reach = one.3 in omega (arith, e, reach);
     }
 
-pub loads_overlap : (s : Setting) (start : ℕ) (words : List ℕ) (kept : List Bool)
+pub loads_overlap : (s : RelaxContext) (start : ℕ) (words : List ℕ) (kept : List Bool)
     (bytes section : List ℕ) (decisions : List Decision) (end k : ℕ) (r : Rela) (d : Decision)
     → IsLoadDecision s start words kept bytes section k r d
-    → r ≡ relocation_in bytes k → IsEndBehind (start_by d r.offset) (end_by d r.offset) end None
+    → r ≡ relocation_in bytes k → IsEndAfter (start_by d r.offset) (end_by d r.offset) end None
     → EndsAt start_by end_by bytes decisions end k
     → IsLoadOverlapping s start words kept bytes section decisions k
-loads_overlap s start words kept bytes section decisions end k r d decided same behind ends =
+loads_overlap s start words kept bytes section decisions end k r d decided same following ends =
     overlapping_one s start words kept bytes section decisions end k d
     (subst (λ x. IsLoadDecision s start words kept bytes section k x d) same decided)
-    (subst (λ x. IsEndBehind (start_by d x.offset) (end_by d x.offset) end None) same behind)
+    (subst (λ x. IsEndAfter (start_by d x.offset) (end_by d x.offset) end None) same following)
     ends.reached

@@ -17,16 +17,16 @@ use Rattle.linker_loongarch64.specs.declared.rewrites.RelaxationKind.TheVariants
 use Rattle.linker_rewriting.proofs.Unique.{one_whole, true_or_false}
 use Rattle.linker_rewriting.specs.Candidates.{IsCandidate, IsCandidateWith, IsCandidateBy, IsTaken, deletes_within}
 use Rattle.linker_rewriting.specs.Decisions.{IsDecidedAfter, IsDecidedAlone, IsScopeDecision, decision_at, decision_of}
-use Rattle.linker_rewriting.specs.Facts.{Setting, early, facts_of, facts_by, no_addresses}
+use Rattle.linker_rewriting.specs.Facts.{RelaxContext, pre_layout, facts_of, facts_by, no_addresses}
 use Rattle.linker_rewriting.specs.Groups.{loongarch_scope_in}
 use Rattle.linker_rewriting.specs.Rewritten.{IsLoadAt, IsRewritten, LoadsAreWhole}
 use Rattle.linker_rewriting.specs.Sequences.{IsWhole, is_marked_load, is_load_at, is_loongarch_part, is_part, is_mark_of, mark_code}
 use Rattle.linker_rewriting.specs.declared.decisions.Decision.{Decision}
 use Rattle.linker_rewriting.specs.declared.facts.OutputFacts.{OutputFacts}
 use Rattle.linker_rewriting.specs.declared.facts.SymbolFacts.{SymbolFacts}
-use Rattle.linker_rewriting.specs.declared.groups.KeptGroups.{KeptGroups}
-use Rattle.linker_rewriting.specs.declared.groups.Scope.TheVariants.{Alone}
-use Rattle.linker_rewriting.specs.declared.phases.Phase.TheVariants.{Early}
+use Rattle.linker_rewriting.specs.declared.groups.UnrelaxableGroups.{UnrelaxableGroups}
+use Rattle.linker_rewriting.specs.declared.groups.Scope.TheVariants.{Independent}
+use Rattle.linker_rewriting.specs.declared.phases.Phase.TheVariants.{PreLayout}
 use Rattle.linker_section.specs.Relocations.{relocation_in, relocation_at}
 use Rattle.linker_section.specs.declared.relocations.Rela.{Rela}
 use Rattle.linker_utils.specs.Architectures.{IsArchitectureChoice, IsUnchanged, relaxation_skipped, relaxation_deleted, relaxation_no_op}
@@ -41,21 +41,21 @@ abbrev AreChanged : LoongArchChoice → LoongArchChoice → Type 0
 AreChanged a b =
     (a ≡ choice kinds.NoOp r.R_LARCH_PCALA_HI20) × (b ≡ choice kinds.LdToAddi r.R_LARCH_PCALA_LO12)
 
-abbrev AreLeft : LoongArchChoice → LoongArchChoice → Type 0
-AreLeft a b =
+abbrev AreUnchanged : LoongArchChoice → LoongArchChoice → Type 0
+AreUnchanged a b =
     (a ≡ choice kinds.NoOp r.R_LARCH_GOT_PC_HI20) × (b ≡ choice kinds.NoOp r.R_LARCH_GOT_PC_LO12)
 
 isnt : {A : Type 0} → false ≡ true → A
 isnt is = absurd (let e : false ≡ true = is in cc)
 
-low_asked : (section : List ℕ) (o : ℕ) → IsPair IsLd section o
+low_pattern : (section : List ℕ) (o : ℕ) → IsPair IsLd section o
     → (4 ≤ o + 4) × IsPair IsLd section (o + 4 - 4)
-low_asked section o pair =
+low_pattern section o pair =
     let e : o ≡ o + 4 - 4 = omega arith in (omega arith, subst (IsPair IsLd section) e pair)
 
-high_asked : (section : List ℕ) (o : ℕ) → (4 ≤ o + 4) × IsPair IsLd section (o + 4 - 4)
+high_pattern : (section : List ℕ) (o : ℕ) → (4 ≤ o + 4) × IsPair IsLd section (o + 4 - 4)
     → IsPair IsLd section o
-high_asked section o low =
+high_pattern section o low =
     let e : o + 4 - 4 ≡ o = omega arith in subst (IsPair IsLd section) e (low.1)
 
 -- without marks and addresses both are chosen by the same facts
@@ -63,7 +63,7 @@ alike : (section : List ℕ) (o : ℕ) (output : OutputFacts) (symbol : SymbolFa
     (a b : LoongArchChoice)
     → IsLoongArchChoice r.R_LARCH_GOT_PC_HI20 section o (facts_of output symbol addend false) a
     → IsLoongArchChoice r.R_LARCH_GOT_PC_LO12 section (o + 4) (facts_of output symbol addend false) b
-    → AreChanged a b ⊎ AreLeft a b
+    → AreChanged a b ⊎ AreUnchanged a b
 alike section o output symbol addend a b high low =
     elim high [
       | inl by_pcaddi ↦ isnt (by_pcaddi.0.1.1.1.0)
@@ -74,12 +74,12 @@ alike section o output symbol addend a b high low =
             | inl low_is ↦ inl (high_is.1, low_is.1)
             | inr low_isnt ↦
                 let h = high_is.0.1 in
-                absurd (low_isnt.0 (low_asked section o (high_is.0.0), (h.0, (h.1.0, (h.1.1.0, (λ has. isnt has, tt))))))
+                absurd (low_isnt.0 (low_pattern section o (high_is.0.0), (h.0, (h.1.0, (h.1.1.0, (λ has. isnt has, tt))))))
           ]
           | inr high_isnt ↦ elim (low_on.1) [
             | inl low_is ↦
                 let h = low_is.0.1 in
-                absurd (high_isnt.0 (high_asked section o (low_is.0.0), (h.0, (h.1.0, (h.1.1.0, (λ has. isnt has, tt))))))
+                absurd (high_isnt.0 (high_pattern section o (low_is.0.0), (h.0, (h.1.0, (h.1.1.0, (λ has. isnt has, tt))))))
             | inr low_isnt ↦ elim (low_isnt.1) [
               | inl of_entry ↦ isnt (of_entry.0.1.0)
               | inr nothing ↦ inr (high_isnt.1, nothing.1)
@@ -314,10 +314,10 @@ by_facts symbols bytes section n high low output symbol addend None (Some y) are
 by_symbol : (output : OutputFacts) (symbols : List SymbolFacts) (bytes section : List ℕ) (n : ℕ)
     (high low : Rela) (entry : Option SymbolFacts)
     (x y : Option (Choice Relaxation ℕ)) → AreHalves bytes n high low → low.addend ≡ high.addend
-    → IsCandidateWith (early LoongArch64 output symbols) bytes section n high
-    (facts_by Early output no_addresses [] high high false entry) x
-    → IsCandidateWith (early LoongArch64 output symbols) bytes section (n + 2) low
-    (facts_by Early output no_addresses [] low low false entry) y
+    → IsCandidateWith (pre_layout LoongArch64 output symbols) bytes section n high
+    (facts_by PreLayout output no_addresses [] high high false entry) x
+    → IsCandidateWith (pre_layout LoongArch64 output symbols) bytes section (n + 2) low
+    (facts_by PreLayout output no_addresses [] low low false entry) y
     → AreAlike x y
 by_symbol output symbols bytes section n high low None x y are addend a b =
     let is : x ≡ None = a in
@@ -329,23 +329,23 @@ by_symbol output symbols bytes section n high low (Some symbol) x y are addend a
 
 -- ---- decisions
 
-record IsAlone (s : Setting) (bytes section : List ℕ) (n : ℕ) (one : Rela)
+record IsAlone (s : RelaxContext) (bytes section : List ℕ) (n : ℕ) (one : Rela)
     (name : LoongArch64Relocation) (decision : Decision) : Type 0 where
   pub is_name : IsNameOf loongarch_name one.code name
   pub candidate : Option (Choice Relaxation ℕ)
   pub is_candidate : IsCandidate s bytes section n one candidate
   pub decided : decision ≡ decision_of candidate
 
-alone : (output : OutputFacts) (symbols : List SymbolFacts) (kept : List KeptGroups)
+alone : (output : OutputFacts) (symbols : List SymbolFacts) (kept : List UnrelaxableGroups)
     (bytes section : List ℕ) (n : ℕ) (one : Rela) (name : LoongArch64Relocation) (decision : Decision)
     → IsNamed (loongarch_name name) → code_of (loongarch_name name) ≡ one.code
-    → loongarch_scope_in Early name ≡ Alone
-    → IsDecidedAlone (early LoongArch64 output symbols) kept bytes section n one decision
-    → IsAlone (early LoongArch64 output symbols) bytes section n one name decision
+    → loongarch_scope_in PreLayout name ≡ Independent
+    → IsDecidedAlone (pre_layout LoongArch64 output symbols) kept bytes section n one decision
+    → IsAlone (pre_layout LoongArch64 output symbols) bytes section n one name decision
 alone output symbols kept bytes section n one name decision has_text code_is scope_is decided =
     let same : (decided.1).name ≡ name = (decided.1).is_name.named name has_text code_is in
-    let is : decided.0 ≡ Alone = (decided.1).value_is ∙ (ap (loongarch_scope_in Early) same ∙ scope_is) in
-    let by = subst (λ z. IsScopeDecision (early LoongArch64 output symbols) kept bytes section n one z decision) is (decided.2) in
+    let is : decided.0 ≡ Independent = (decided.1).value_is ∙ (ap (loongarch_scope_in PreLayout) same ∙ scope_is) in
+    let by = subst (λ z. IsScopeDecision (pre_layout LoongArch64 output symbols) kept bytes section n one z decision) is (decided.2) in
     record {
       is_name = subst (IsNameOf loongarch_name one.code) same (decided.1).is_name;
       candidate = by.0;
@@ -355,7 +355,7 @@ alone output symbols kept bytes section n one name decision has_text code_is sco
 
 pub loads_are_whole : LoadsAreWhole
 loads_are_whole output symbols kept bytes section decisions limit n decided within all is taken taken_too =
-    let s : Setting = early LoongArch64 output symbols in
+    let s : RelaxContext = pre_layout LoongArch64 output symbols in
     let high = relocation_in bytes n in
     let low = relocation_in bytes (n + 2) in
     let load = load_is bytes n (omega (arith, within, all)) is in
@@ -382,7 +382,7 @@ loads_are_whole output symbols kept bytes section decisions limit n decided with
     } in
     let both = by_symbol output symbols bytes section n high low (slice_get symbols high.symbol) a.candidate b.candidate are
     load.low.addend_is a.is_candidate
-    (subst (λ z. IsCandidateWith s bytes section (n + 2) low (facts_by Early output no_addresses [] low low false (slice_get symbols z)) b.candidate)
+    (subst (λ z. IsCandidateWith s bytes section (n + 2) low (facts_by PreLayout output no_addresses [] low low false (slice_get symbols z)) b.candidate)
     load.low.symbol_is b.is_candidate) in
     subst (λ d. IsRewritten d ↔ IsRewritten (decision_at decisions (n + 2))) (sym a.decided)
     (subst (λ d. IsRewritten (decision_of a.candidate) ↔ IsRewritten d) (sym b.decided) both)

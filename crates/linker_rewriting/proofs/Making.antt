@@ -7,7 +7,7 @@ use Rattle.linker_rewriting.specs.Candidates.{deletes_within}
 use Rattle.linker_rewriting.specs.Decisions.{window_of, CanBeMade, AllCanBeMade, AreApart, decision_at, start_at, written_end_at, end_at}
 use Rattle.linker_rewriting.specs.Rewritten.{section_after, relocation_after, IsMade, IsDone, AreDone, AreRelocationsAfter, OthersStay}
 use Rattle.linker_rewriting.specs.declared.decisions.Decision.{Decision}
-use Rattle.linker_rewriting.specs.declared.decisions.Decision.TheVariants.{Kept, Rewritten, Redirected, TakenAlong}
+use Rattle.linker_rewriting.specs.declared.decisions.Decision.TheVariants.{Kept, Rewritten, RewrittenWithSymbol, Consumed}
 use Rattle.linker_rewriting.proofs.Windows.{IsReplaced, in_window, IsStep, step_of, step_below, step_above, step_outside, zero_or_more}
 use Rattle.linker_section.specs.Relocations.{relocation_in}
 use Rattle.linker_section.specs.declared.relocations.Rela.{Rela}
@@ -91,10 +91,10 @@ pub can_make : (d : Decision) (o : ℕ) (first before : List ℕ) → CanBeMade 
     → (0 < (window_of d).len → drop (start_in d o) before ≡ drop (start_in d o) first)
     → CanBeMade d before o
 can_make Kept o first before can len ahead = tt
-can_make TakenAlong o first before can len ahead = tt
+can_make Consumed o first before can len ahead = tt
 can_make (Rewritten chosen) o first before can len ahead =
     (can_by (relaxation_rewrite chosen.kind) o first before (can.0) len ahead, same_deletes (relaxation_deleted chosen.kind) o first before len (can.1))
-can_make (Redirected chosen subject) o first before can len ahead =
+can_make (RewrittenWithSymbol chosen subject) o first before can len ahead =
     (can_by (relaxation_rewrite chosen.kind) o first before (can.0) len ahead, same_deletes (relaxation_deleted chosen.kind) o first before len (can.1))
 
 step_made : (d : Decision) (o : ℕ) (first before after : List ℕ) → CanBeMade d first o
@@ -102,10 +102,10 @@ step_made : (d : Decision) (o : ℕ) (first before after : List ℕ) → CanBeMa
     → after ≡ section_after d o before
     → IsStep (start_in d o) (window_of d).len before after
 step_made Kept o first before after can len same made = inl made
-step_made TakenAlong o first before after can len same made = inl made
+step_made Consumed o first before after can len same made = inl made
 step_made (Rewritten chosen) o first before after can len same made =
     step_by (relaxation_rewrite chosen.kind) o first before after (can.0) len same made
-step_made (Redirected chosen subject) o first before after can len same made =
+step_made (RewrittenWithSymbol chosen subject) o first before after can len same made =
     step_by (relaxation_rewrite chosen.kind) o first before after (can.0) len same made
 
 done_made : (d : Decision) (o : ℕ) (first before after : List ℕ) → CanBeMade d first o
@@ -114,10 +114,10 @@ done_made : (d : Decision) (o : ℕ) (first before after : List ℕ) → CanBeMa
     → (0 < (window_of d).len → drop (start_in d o) before ≡ drop (start_in d o) first)
     → IsDone d o first after
 done_made Kept o first before after can len same made ahead = tt
-done_made TakenAlong o first before after can len same made ahead = tt
+done_made Consumed o first before after can len same made ahead = tt
 done_made (Rewritten chosen) o first before after can len same made ahead =
     made_by (relaxation_rewrite chosen.kind) o first before after (can.0) len same made ahead
-done_made (Redirected chosen subject) o first before after can len same made ahead =
+done_made (RewrittenWithSymbol chosen subject) o first before after can len same made ahead =
     made_by (relaxation_rewrite chosen.kind) o first before after (can.0) len same made ahead
 
 done_stays : (d : Decision) (o : ℕ) (first before after : List ℕ) → IsDone d o first before
@@ -125,10 +125,10 @@ done_stays : (d : Decision) (o : ℕ) (first before after : List ℕ) → IsDone
     ≡ take (window_of d).len (drop (start_in d o) before)
     → IsDone d o first after
 done_stays Kept o first before after done same = tt
-done_stays TakenAlong o first before after done same = tt
+done_stays Consumed o first before after done same = tt
 done_stays (Rewritten chosen) o first before after done same =
     stays_by (relaxation_rewrite chosen.kind) o first before after done same
-done_stays (Redirected chosen subject) o first before after done same =
+done_stays (RewrittenWithSymbol chosen subject) o first before after done same =
     stays_by (relaxation_rewrite chosen.kind) o first before after done same
 
 -- ---- windows

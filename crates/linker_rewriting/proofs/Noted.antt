@@ -4,16 +4,16 @@ use Rattle.linker_rewriting.proofs.Surveying.{all_stay_on, stays_on}
 use Rattle.linker_rewriting.proofs.Unique.{one_scope, no_other}
 use Rattle.linker_rewriting.specs.Candidates.{IsCandidate}
 use Rattle.linker_rewriting.specs.Decisions.{IsNotSurveyed, IsRejectedIn}
-use Rattle.linker_rewriting.specs.Facts.{Setting}
+use Rattle.linker_rewriting.specs.Facts.{RelaxContext}
 use Rattle.linker_rewriting.specs.Groups.{IsScopeIn, stays_at, symbol_of_group, group_stays}
 use Rattle.linker_rewriting.specs.Surveys.{IsKeeping, HasRewrite, StaysBy, IsNoted, NotesStay, MeansUnsurveyed}
 use Rattle.linker_rewriting.specs.declared.decisions.Decision.{Decision}
 use Rattle.linker_rewriting.specs.declared.decisions.RewritingError.{RewritingError}
 use Rattle.linker_rewriting.specs.declared.decisions.RewritingError.TheVariants.{TooShort, NotSurveyed, Overlaps, Contradiction}
 use Rattle.linker_rewriting.specs.declared.groups.Group.{Group}
-use Rattle.linker_rewriting.specs.declared.groups.KeptGroups.{KeptGroups}
+use Rattle.linker_rewriting.specs.declared.groups.UnrelaxableGroups.{UnrelaxableGroups}
 use Rattle.linker_rewriting.specs.declared.groups.Scope.{Scope}
-use Rattle.linker_rewriting.specs.declared.groups.Scope.TheVariants.{Grouped, Matched}
+use Rattle.linker_rewriting.specs.declared.groups.Scope.TheVariants.{Grouped, IfGroupMatches}
 use Rattle.linker_section.specs.Relocations.{relocation_in}
 use Rattle.linker_section.specs.declared.relocations.Rela.{Rela}
 
@@ -33,7 +33,7 @@ group_in : Group → Scope → Group
 group_in other (Grouped group) = group
 group_in other scope = other
 
-pub one_group : (s : Setting) (code : ℕ) (x y : Group)
+pub one_group : (s : RelaxContext) (code : ℕ) (x y : Group)
     → IsScopeIn s.architecture s.phase code (Grouped x)
     → IsScopeIn s.architecture s.phase code (Grouped y) → x ≡ y
 unfolding group_in
@@ -45,15 +45,15 @@ either_stays false true is stays = let e : true ≡ false = stays in cc
 either_stays true true is stays = let e : true ≡ false = stays in cc
 either_stays a false is stays = let e : false ≡ true = is in cc
 
-is_noted : (s : Setting) (kept : List KeptGroups) (bytes section : List ℕ) (n : ℕ) (r : Rela)
+is_noted : (s : RelaxContext) (kept : List UnrelaxableGroups) (bytes section : List ℕ) (n : ℕ) (r : Rela)
     (group : Group) (noted : Option Group)
     → IsScopeIn s.architecture s.phase r.code (Grouped group)
     → group_stays kept group r.symbol ≡ false
     → IsCandidate s bytes section n r None
     → IsKeeping s bytes section n r noted → StaysBy kept r.symbol noted → ⊥
 is_noted s kept bytes section n r group (Some other) scope stays none (inr keeping) noted =
-    let e : Matched other ≡ Grouped group =
-    one_scope s.architecture s.phase r.code (Matched other) (Grouped group) (keeping.0) scope in cc
+    let e : IfGroupMatches other ≡ Grouped group =
+    one_scope s.architecture s.phase r.code (IfGroupMatches other) (Grouped group) (keeping.0) scope in cc
 is_noted s kept bytes section n r group (Some other) scope stays none (inl keeping) noted =
     let same : other ≡ group = one_group s r.code other group (keeping.0) scope in
     either_stays (stays_at kept group 0) (stays_at kept group (symbol_of_group group r.symbol))
@@ -63,14 +63,14 @@ is_noted s kept bytes section n r group None scope stays none keeping noted =
     (one_scope s.architecture s.phase r.code (keeping.0) (Grouped group) (keeping.1) scope) (keeping.2) in
     no_other s bytes section n r (has.0) (has.1) none
 
-pub always_surveyed : (s : Setting) (kept : List KeptGroups) (bytes section : List ℕ) (n : ℕ)
+pub always_surveyed : (s : RelaxContext) (kept : List UnrelaxableGroups) (bytes section : List ℕ) (n : ℕ)
     → IsNotSurveyed s kept bytes section n (relocation_in bytes n)
     → IsNoted s bytes section kept n → ⊥
 always_surveyed s kept bytes section n isnt noted =
     is_noted s kept bytes section n (relocation_in bytes n) (isnt.0) noted.group (isnt.1) (isnt.2)
     (isnt.3) noted.is_keeping noted.stays
 
-pub means_unsurveyed : (s : Setting) (kept : List KeptGroups) (bytes section : List ℕ)
+pub means_unsurveyed : (s : RelaxContext) (kept : List UnrelaxableGroups) (bytes section : List ℕ)
     (decisions : List Decision) (error : RewritingError)
     → IsRejectedIn s kept bytes section decisions error → MeansUnsurveyed s bytes section kept error
 means_unsurveyed s kept bytes section decisions TooShort is = tt

@@ -4,32 +4,32 @@ use Rattle.linker_rewriting.proofs.LabelGroups.{one_label_decision}
 use Rattle.linker_rewriting.proofs.Noted.{one_group}
 use Rattle.linker_rewriting.proofs.Unique.{one_scope, no_other, one_candidate, one_matched, one_unmarked}
 use Rattle.linker_rewriting.specs.Decisions.{decision_of, decision_ahead, decision_at, is_taken, takes_next, IsGroupDecision, IsMatchedDecision, IsScopeDecision, IsDecidedAfter, IsRewrittenAlone, IsRewrittenAt, DecisionsFollow}
-use Rattle.linker_rewriting.specs.Facts.{Setting}
+use Rattle.linker_rewriting.specs.Facts.{RelaxContext}
 use Rattle.linker_rewriting.specs.Groups.{IsScopeIn, stays_at, symbol_of_group, group_stays}
 use Rattle.linker_rewriting.specs.Surveys.{IsKeeping, HasRewrite, StaysBy, AllStayIf, IsCause, IsSurveyedIn, SurveysCommute}
 use Rattle.linker_rewriting.specs.declared.decisions.Decision.{Decision}
 use Rattle.linker_rewriting.specs.declared.groups.Group.{Group}
-use Rattle.linker_rewriting.specs.declared.groups.KeptGroups.{KeptGroups}
+use Rattle.linker_rewriting.specs.declared.groups.UnrelaxableGroups.{UnrelaxableGroups}
 use Rattle.linker_rewriting.specs.declared.groups.Scope.{Scope}
-use Rattle.linker_rewriting.specs.declared.groups.Scope.TheVariants.{Unlisted, Alone, Grouped, Ahead, Matched, Labelled}
+use Rattle.linker_rewriting.specs.declared.groups.Scope.TheVariants.{NotRelaxable, Independent, Grouped, FirstOfPair, IfGroupMatches, Labelled}
 use Rattle.linker_section.specs.Relocations.{relocation_in, relocation_at}
 use Rattle.linker_section.specs.declared.relocations.Rela.{Rela}
 
 -- ---- surveys
 
 group_matched : Group → Scope → Group
-group_matched other (Matched group) = group
+group_matched other (IfGroupMatches group) = group
 group_matched other scope = other
 
-one_match : (s : Setting) (code : ℕ) (x y : Group)
-    → IsScopeIn s.architecture s.phase code (Matched x)
-    → IsScopeIn s.architecture s.phase code (Matched y) → x ≡ y
+one_match : (s : RelaxContext) (code : ℕ) (x y : Group)
+    → IsScopeIn s.architecture s.phase code (IfGroupMatches x)
+    → IsScopeIn s.architecture s.phase code (IfGroupMatches y) → x ≡ y
 unfolding group_matched
 one_match s code x y a b =
-    ap (group_matched x) (one_scope s.architecture s.phase code (Matched x) (Matched y) a b)
+    ap (group_matched x) (one_scope s.architecture s.phase code (IfGroupMatches x) (IfGroupMatches y) a b)
 
 -- a relocation keeps one kind of groups, or none
-one_keeping : (s : Setting) (bytes section : List ℕ) (n : ℕ) (r : Rela) (group : Group)
+one_keeping : (s : RelaxContext) (bytes section : List ℕ) (n : ℕ) (r : Rela) (group : Group)
     (other : Option Group) → IsKeeping s bytes section n r (Some group)
     → IsKeeping s bytes section n r other → Some group ≡ other
 one_keeping s bytes section n r group (Some other) (inl a) (inl b) =
@@ -37,21 +37,21 @@ one_keeping s bytes section n r group (Some other) (inl a) (inl b) =
 one_keeping s bytes section n r group (Some other) (inr a) (inr b) =
     ap Some (one_match s r.code group other (a.0) (b.0))
 one_keeping s bytes section n r group (Some other) (inl a) (inr b) =
-    let e : Grouped group ≡ Matched other =
-    one_scope s.architecture s.phase r.code (Grouped group) (Matched other) (a.0) (b.0) in cc
+    let e : Grouped group ≡ IfGroupMatches other =
+    one_scope s.architecture s.phase r.code (Grouped group) (IfGroupMatches other) (a.0) (b.0) in cc
 one_keeping s bytes section n r group (Some other) (inr a) (inl b) =
-    let e : Matched group ≡ Grouped other =
-    one_scope s.architecture s.phase r.code (Matched group) (Grouped other) (a.0) (b.0) in cc
+    let e : IfGroupMatches group ≡ Grouped other =
+    one_scope s.architecture s.phase r.code (IfGroupMatches group) (Grouped other) (a.0) (b.0) in cc
 one_keeping s bytes section n r group None (inl a) b =
     let has = subst (HasRewrite s bytes section n r)
     (one_scope s.architecture s.phase r.code (b.0) (Grouped group) (b.1) (a.0)) (b.2) in
     absurd (no_other s bytes section n r (has.0) (has.1) (a.1))
 one_keeping s bytes section n r group None (inr a) b =
     let has = subst (HasRewrite s bytes section n r)
-    (one_scope s.architecture s.phase r.code (b.0) (Matched group) (b.1) (a.0)) (b.2) in
+    (one_scope s.architecture s.phase r.code (b.0) (IfGroupMatches group) (b.1) (a.0)) (b.2) in
     let e : true ≡ false = one_matched s bytes section n r true false has (a.1) in cc
 
-cause_stays : (s : Setting) (bytes section : List ℕ) (before after : List KeptGroups)
+cause_stays : (s : RelaxContext) (bytes section : List ℕ) (before after : List UnrelaxableGroups)
     (limit n : ℕ) (group : Group) (symbol : ℕ) → IsSurveyedIn s bytes section before after limit
     → n < limit → IsCause s bytes section n group symbol → IsTrue (stays_at after group symbol)
 cause_stays s bytes section before after limit n group symbol surveyed less (inl cause) =
@@ -67,8 +67,8 @@ cause_stays s bytes section before after limit n group symbol surveyed less (inr
     subst (λ y. IsTrue (stays_at after group y)) (sym (cause.2))
     (subst (λ b. AllStayIf b after) same noted.all_stay group (cause.1))
 
-stays_too : (s other : Setting) (bytes section others_bytes others_section : List ℕ)
-    (before mid after mid_too after_too : List KeptGroups) (limit others_limit : ℕ)
+stays_too : (s other : RelaxContext) (bytes section others_bytes others_section : List ℕ)
+    (before mid after mid_too after_too : List UnrelaxableGroups) (limit others_limit : ℕ)
     → IsSurveyedIn s bytes section before mid limit
     → IsSurveyedIn other others_bytes others_section mid after others_limit
     → IsSurveyedIn other others_bytes others_section before mid_too others_limit
@@ -99,12 +99,12 @@ same_bool false false is = refl
 same_bool true false is = sym (is.0 refl)
 same_bool false true is = is.1 refl
 
-abbrev AreTheSame : List KeptGroups → List KeptGroups → Type 0
+abbrev AreTheSame : List UnrelaxableGroups → List UnrelaxableGroups → Type 0
 AreTheSame kept kept_too =
     (group : Group) (symbol : ℕ)
     → (IsTrue (stays_at kept group symbol) ↔ IsTrue (stays_at kept_too group symbol))
 
-same_stays : (kept kept_too : List KeptGroups) (group : Group) (symbol : ℕ)
+same_stays : (kept kept_too : List UnrelaxableGroups) (group : Group) (symbol : ℕ)
     → AreTheSame kept kept_too → group_stays kept_too group symbol ≡ group_stays kept group symbol
 same_stays kept kept_too group symbol same =
     sym (ap (λ b. b || stays_at kept group (symbol_of_group group symbol))
@@ -112,32 +112,32 @@ same_stays kept kept_too group symbol same =
     ∙ ap (λ b. stays_at kept_too group 0 || b)
     (same_bool (stays_at kept group (symbol_of_group group symbol)) (stays_at kept_too group (symbol_of_group group symbol)) (same group (symbol_of_group group symbol))))
 
-one_of_group : (s : Setting) (bytes section : List ℕ) (n : ℕ) (r : Rela) (stays : Bool)
+one_of_group : (s : RelaxContext) (bytes section : List ℕ) (n : ℕ) (r : Rela) (stays : Bool)
     (x y : Decision) → IsGroupDecision s bytes section n r stays x
     → IsGroupDecision s bytes section n r stays y → x ≡ y
 one_of_group s bytes section n r true x y a b = a ∙ sym b
 one_of_group s bytes section n r false x y a b =
     a.2 ∙ (ap decision_of (one_candidate s bytes section n r (Some (a.0)) (Some (b.0)) (a.1) (b.1)) ∙ sym (b.2))
 
-one_of_matched : (s : Setting) (bytes section : List ℕ) (n : ℕ) (r : Rela) (stays : Bool)
+one_of_matched : (s : RelaxContext) (bytes section : List ℕ) (n : ℕ) (r : Rela) (stays : Bool)
     (x y : Decision) → IsMatchedDecision s bytes section n r stays x
     → IsMatchedDecision s bytes section n r stays y → x ≡ y
 one_of_matched s bytes section n r true x y a b = a ∙ sym b
 one_of_matched s bytes section n r false x y a b =
     a.2 ∙ (ap decision_of (one_candidate s bytes section n r (a.0) (b.0) (a.1) (b.1)) ∙ sym (b.2))
 
-one_alone : (s : Setting) (bytes section : List ℕ) (n : ℕ) (r : Rela) (scope : Scope) (x y : Bool)
+one_alone : (s : RelaxContext) (bytes section : List ℕ) (n : ℕ) (r : Rela) (scope : Scope) (x y : Bool)
     → IsRewrittenAlone s bytes section n r scope x → IsRewrittenAlone s bytes section n r scope y
     → x ≡ y
-one_alone s bytes section n r Alone x y a b =
+one_alone s bytes section n r Independent x y a b =
     a.2 ∙ (ap is_some (one_candidate s bytes section n r (a.0) (b.0) (a.1) (b.1)) ∙ sym (b.2))
-one_alone s bytes section n r Unlisted x y a b = a ∙ sym b
+one_alone s bytes section n r NotRelaxable x y a b = a ∙ sym b
 one_alone s bytes section n r (Grouped group) x y a b = a ∙ sym b
-one_alone s bytes section n r (Matched group) x y a b = a ∙ sym b
+one_alone s bytes section n r (IfGroupMatches group) x y a b = a ∙ sym b
 one_alone s bytes section n r Labelled x y a b = a ∙ sym b
-one_alone s bytes section n r Ahead x y a b = a ∙ sym b
+one_alone s bytes section n r FirstOfPair x y a b = a ∙ sym b
 
-one_rewritten : (s : Setting) (bytes section : List ℕ) (n : ℕ) (r : Option Rela) (x y : Bool)
+one_rewritten : (s : RelaxContext) (bytes section : List ℕ) (n : ℕ) (r : Option Rela) (x y : Bool)
     → IsRewrittenAt s bytes section n r x → IsRewrittenAt s bytes section n r y → x ≡ y
 one_rewritten s bytes section n None x y a b = a ∙ sym b
 one_rewritten s bytes section n (Some r) x y a b =
@@ -146,25 +146,25 @@ one_rewritten s bytes section n (Some r) x y a b =
     (one_scope s.architecture s.phase r.code (a.0) (b.0) (a.1) (b.1)) (a.2))
     (b.2)
 
-one_of_scope : (s : Setting) (kept kept_too : List KeptGroups) (bytes section : List ℕ) (n : ℕ)
+one_of_scope : (s : RelaxContext) (kept kept_too : List UnrelaxableGroups) (bytes section : List ℕ) (n : ℕ)
     (r : Rela) (scope : Scope) (x y : Decision) → AreTheSame kept kept_too
     → IsScopeDecision s kept bytes section n r scope x
     → IsScopeDecision s kept_too bytes section n r scope y → x ≡ y
-one_of_scope s kept kept_too bytes section n r Unlisted x y same a b = a ∙ sym b
-one_of_scope s kept kept_too bytes section n r Alone x y same a b =
+one_of_scope s kept kept_too bytes section n r NotRelaxable x y same a b = a ∙ sym b
+one_of_scope s kept kept_too bytes section n r Independent x y same a b =
     a.2 ∙ (ap decision_of (one_candidate s bytes section n r (a.0) (b.0) (a.1) (b.1)) ∙ sym (b.2))
 one_of_scope s kept kept_too bytes section n r (Grouped group) x y same a b =
     one_of_group s bytes section n r (group_stays kept group r.symbol) x y a
     (subst (λ stays. IsGroupDecision s bytes section n r stays y) (same_stays kept kept_too group r.symbol same) b)
-one_of_scope s kept kept_too bytes section n r (Matched group) x y same a b =
+one_of_scope s kept kept_too bytes section n r (IfGroupMatches group) x y same a b =
     one_of_matched s bytes section n r (group_stays kept group r.symbol) x y a
     (subst (λ stays. IsMatchedDecision s bytes section n r stays y) (same_stays kept kept_too group r.symbol same) b)
 one_of_scope s kept kept_too bytes section n r Labelled x y same a b =
     one_label_decision s bytes section n r x y a b
-one_of_scope s kept kept_too bytes section n r Ahead x y same a b =
+one_of_scope s kept kept_too bytes section n r FirstOfPair x y same a b =
     a.2 ∙ (ap decision_ahead (one_rewritten s bytes section (n + 1) (relocation_at bytes (n + 1)) (a.0) (b.0) (a.1) (b.1)) ∙ sym (b.2))
 
-one_decision : (s : Setting) (kept kept_too : List KeptGroups) (bytes section : List ℕ) (n : ℕ)
+one_decision : (s : RelaxContext) (kept kept_too : List UnrelaxableGroups) (bytes section : List ℕ) (n : ℕ)
     (taken : Bool) (x y : Decision) → AreTheSame kept kept_too
     → IsDecidedAfter s kept bytes section n taken x
     → IsDecidedAfter s kept_too bytes section n taken y → x ≡ y

@@ -7,7 +7,7 @@ use Rattle.linker_rewriting.specs.Decisions.{AllCanBeMade, AreApart, IsCovered, 
 use Rattle.linker_rewriting.specs.Inner.Places.{IsWindow, AreBounded, AreBelow, AreAbove, IsPlaceBeside}
 use Rattle.linker_rewriting.specs.declared.covered.Place.{Place}
 use Rattle.linker_rewriting.specs.declared.decisions.Decision.{Decision}
-use Rattle.linker_rewriting.specs.declared.decisions.Decision.TheVariants.{Kept, TakenAlong}
+use Rattle.linker_rewriting.specs.declared.decisions.Decision.TheVariants.{Kept, Consumed}
 use Rattle.linker_section.specs.Fields.{IsField, field_end}
 use Rattle.linker_section.specs.Values.{offset_at}
 use Rattle.linker_utils.specs.declared.elf.Architecture.{Architecture}
@@ -91,7 +91,7 @@ clear_at architecture bytes section decisions limit n at above passed over ends 
 pub covered_at : (architecture : Architecture) (bytes section : List ℕ) (decisions : List Decision)
     (limit n : ℕ) (place : Place) (row : RelocationKindInfo)
     → IsPlaceBeside bytes decisions limit n (offset_at bytes n) place → place.at < limit
-    → decision_at decisions n ≢ TakenAlong → IsField architecture bytes section n row
+    → decision_at decisions n ≢ Consumed → IsField architecture bytes section n row
     → place.above < field_end bytes section n row
     → IsCovered architecture bytes section decisions limit n
 covered_at architecture bytes section decisions limit n place row beside less untaken is_field reaches =

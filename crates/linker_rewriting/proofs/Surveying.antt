@@ -1,18 +1,18 @@
 -- The groups that stay, noted relocation by relocation.
 use Rattle.std.proofs.Common.{◌≡◌, ℕ, ◌+◌, inl, inr, ◌∙◌, List, ap, sym, subst, arith, refl, IsTrue, Option, None, Some, Bool, true, false}
 use Rattle.std.specs.Prelude.{slice_get}
-use Rattle.linker_rewriting.specs.Facts.{Setting, setting}
+use Rattle.linker_rewriting.specs.Facts.{RelaxContext, context}
 use Rattle.linker_rewriting.specs.Groups.{stays_at, symbol_of_group}
 use Rattle.linker_rewriting.specs.Inner.Codes.{needs_mark, is_of_group, KeepsNone}
 use Rattle.linker_rewriting.specs.Surveys.{AreKeptToo, IsGroupOf, IsOfThreads, IsKeeping, IsUnmarked, IsUnmarkedIn, IsUnmarkedBy, HasRewrite, StaysBy, AllStayIf, IsNoted, IsCause, IsSurveyedIn}
 use Rattle.linker_rewriting.specs.declared.facts.OutputFacts.{OutputFacts}
 use Rattle.linker_rewriting.specs.declared.facts.SymbolFacts.{SymbolFacts}
 use Rattle.linker_rewriting.specs.declared.groups.Group.{Group}
-use Rattle.linker_rewriting.specs.declared.groups.KeptGroups.{KeptGroups}
+use Rattle.linker_rewriting.specs.declared.groups.UnrelaxableGroups.{UnrelaxableGroups}
 use Rattle.linker_rewriting.specs.declared.groups.Scope.{Scope}
-use Rattle.linker_rewriting.specs.declared.groups.Scope.TheVariants.{Grouped, Matched}
+use Rattle.linker_rewriting.specs.declared.groups.Scope.TheVariants.{Grouped, IfGroupMatches}
 use Rattle.linker_rewriting.specs.declared.phases.Phase.{Phase}
-use Rattle.linker_rewriting.specs.declared.phases.Phase.TheVariants.{Early, ThreadOffsets, GotLoads, Distances}
+use Rattle.linker_rewriting.specs.declared.phases.Phase.TheVariants.{PreLayout, TlsLocalExec, GotToPcRel, ShortPcRel}
 use Rattle.linker_section.specs.Relocations.{relocation_in}
 use Rattle.linker_section.specs.declared.facts.Addresses.{Addresses}
 use Rattle.linker_section.specs.declared.facts.Symbol.{Symbol}
@@ -21,35 +21,35 @@ use Rattle.linker_utils.specs.declared.elf.Architecture.{Architecture}
 use Rattle.linker_utils.specs.declared.elf.Architecture.TheVariants.{AArch64, RiscV, LoongArch64, Ppc64, X86_64}
 use borrow.Author.Count.{below_more}
 
-abbrev pub AreKept : List KeptGroups → List KeptGroups → Type 0
+abbrev pub AreKept : List UnrelaxableGroups → List UnrelaxableGroups → Type 0
 AreKept before after =
     (group : Group) (symbol : ℕ) → IsTrue (stays_at before group symbol)
     → IsTrue (stays_at after group symbol)
 
-pub stays_on : (before after : List KeptGroups) (symbol : ℕ) (group : Option Group)
+pub stays_on : (before after : List UnrelaxableGroups) (symbol : ℕ) (group : Option Group)
     → AreKept before after → StaysBy before symbol group → StaysBy after symbol group
 stays_on before after symbol None kept stays = tt
 stays_on before after symbol (Some group) kept stays =
     kept group (symbol_of_group group symbol) stays
 
-pub all_stay_on : (before after : List KeptGroups) (unmarked : Bool) → AreKept before after
+pub all_stay_on : (before after : List UnrelaxableGroups) (unmarked : Bool) → AreKept before after
     → AllStayIf unmarked before → AllStayIf unmarked after
 all_stay_on before after false kept stay = tt
 all_stay_on before after true kept stay = λ group threads. kept group 0 (stay group threads)
 
-stays_now : (before after : List KeptGroups) (symbol : ℕ) (group : Option Group)
+stays_now : (before after : List UnrelaxableGroups) (symbol : ℕ) (group : Option Group)
     → AreKeptToo before after (IsGroupOf group symbol) → StaysBy after symbol group
 stays_now before after symbol None same = tt
 stays_now before after symbol (Some group) same =
     (same group (symbol_of_group group symbol)).1 (inr (refl, refl))
 
-all_stay_now : (before after : List KeptGroups) (unmarked : Bool)
+all_stay_now : (before after : List UnrelaxableGroups) (unmarked : Bool)
     → AreKeptToo before after (IsOfThreads unmarked) → AllStayIf unmarked after
 all_stay_now before after false same = tt
 all_stay_now before after true same =
     λ group threads. (same group 0).1 (inr (refl, threads, refl))
 
-group_cause : (s : Setting) (bytes section : List ℕ) (n : ℕ) (group : Option Group)
+group_cause : (s : RelaxContext) (bytes section : List ℕ) (n : ℕ) (group : Option Group)
     → IsKeeping s bytes section n (relocation_in bytes n) group
     → (g : Group) (y : ℕ) → IsGroupOf group (relocation_in bytes n).symbol g y
     → IsCause s bytes section n g y
@@ -60,7 +60,7 @@ group_cause s bytes section n (Some group) keeping g y is =
       is.1 ∙ ap (λ x. symbol_of_group x (relocation_in bytes n).symbol) (sym (is.0)),
     )
 
-pub none_surveyed : (s : Setting) (bytes section : List ℕ) (before : List KeptGroups)
+pub none_surveyed : (s : RelaxContext) (bytes section : List ℕ) (before : List UnrelaxableGroups)
     → IsSurveyedIn s bytes section before before 0
 none_surveyed s bytes section before =
     record {
@@ -69,7 +69,7 @@ none_surveyed s bytes section before =
       caused = λ group symbol stays. inl stays;
     }
 
-pub more_surveyed : (s : Setting) (bytes section : List ℕ) (before mid once after : List KeptGroups)
+pub more_surveyed : (s : RelaxContext) (bytes section : List ℕ) (before mid once after : List UnrelaxableGroups)
     (k : ℕ) (group : Option Group) (unmarked : Bool)
     → IsSurveyedIn s bytes section before mid k
     → IsKeeping s bytes section k (relocation_in bytes k) group
@@ -118,22 +118,22 @@ not_marked : (architecture : Architecture) (phase : Phase) (symbols : List Symbo
     (bytes : List ℕ) (n : ℕ) (r : Rela)
     → needs_mark phase architecture (slice_get symbols r.symbol) ≡ false
     → IsUnmarkedIn phase architecture symbols bytes n r false
-not_marked Ppc64 Early symbols bytes n r is = subst (λ b. IsUnmarkedBy b bytes n r false) (sym is) refl
-not_marked AArch64 Early symbols bytes n r is = refl
-not_marked RiscV Early symbols bytes n r is = refl
-not_marked LoongArch64 Early symbols bytes n r is = refl
-not_marked X86_64 Early symbols bytes n r is = refl
-not_marked architecture ThreadOffsets symbols bytes n r is = refl
-not_marked architecture GotLoads symbols bytes n r is = refl
-not_marked architecture Distances symbols bytes n r is = refl
+not_marked Ppc64 PreLayout symbols bytes n r is = subst (λ b. IsUnmarkedBy b bytes n r false) (sym is) refl
+not_marked AArch64 PreLayout symbols bytes n r is = refl
+not_marked RiscV PreLayout symbols bytes n r is = refl
+not_marked LoongArch64 PreLayout symbols bytes n r is = refl
+not_marked X86_64 PreLayout symbols bytes n r is = refl
+not_marked architecture TlsLocalExec symbols bytes n r is = refl
+not_marked architecture GotToPcRel symbols bytes n r is = refl
+not_marked architecture ShortPcRel symbols bytes n r is = refl
 
-of_no_group : (s : Setting) (bytes section : List ℕ) (n : ℕ) (r : Rela) (scope : Scope)
+of_no_group : (s : RelaxContext) (bytes section : List ℕ) (n : ℕ) (r : Rela) (scope : Scope)
     → is_of_group scope ≡ false → HasRewrite s bytes section n r scope
 of_no_group s bytes section n r (Grouped group) isnt = absurd (let e : true ≡ false = isnt in cc)
-of_no_group s bytes section n r (Matched group) isnt = absurd (let e : true ≡ false = isnt in cc)
+of_no_group s bytes section n r (IfGroupMatches group) isnt = absurd (let e : true ≡ false = isnt in cc)
 of_no_group s bytes section n r scope isnt = tt
 
-none_too : (kept : List KeptGroups) (IsAdded : Group → ℕ → Type 0)
+none_too : (kept : List UnrelaxableGroups) (IsAdded : Group → ℕ → Type 0)
     → ((group : Group) (symbol : ℕ) → IsAdded group symbol → ⊥) → AreKeptToo kept kept IsAdded
 none_too kept IsAdded none group symbol = (
   (λ stays. inl stays),
@@ -145,12 +145,12 @@ none_too kept IsAdded none group symbol = (
 
 pub one_left : (architecture : Architecture) (phase : Phase) (output : OutputFacts)
     (symbols : List SymbolFacts) (addresses : Addresses) (values : List Symbol)
-    (bytes section : List ℕ) (before mid : List KeptGroups) (k : ℕ)
-    → IsSurveyedIn (setting architecture phase output symbols addresses values) bytes section before mid k
+    (bytes section : List ℕ) (before mid : List UnrelaxableGroups) (k : ℕ)
+    → IsSurveyedIn (context architecture phase output symbols addresses values) bytes section before mid k
     → KeepsNone architecture phase symbols (relocation_in bytes k)
-    → IsSurveyedIn (setting architecture phase output symbols addresses values) bytes section before mid (k + 1)
+    → IsSurveyedIn (context architecture phase output symbols addresses values) bytes section before mid (k + 1)
 one_left architecture phase output symbols addresses values bytes section before mid k surveyed none =
-    let s = setting architecture phase output symbols addresses values in
+    let s = context architecture phase output symbols addresses values in
     let r = relocation_in bytes k in
     more_surveyed s bytes section before mid mid mid k None false surveyed
     ((none.0).0, (none.0).1, of_no_group s bytes section k r ((none.0).0) ((none.0).2))

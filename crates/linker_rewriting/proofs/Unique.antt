@@ -38,7 +38,7 @@ use Rattle.linker_utils.specs.Architectures.{IsArchitectureChoice, IsChosenBy, I
 use Rattle.linker_utils.specs.declared.architecture.Relaxation.{Relaxation}
 use Rattle.linker_utils.specs.declared.architecture.Relaxation.TheVariants as relaxations
 use Rattle.linker_rewriting.specs.Candidates.{IsCallIn, IsTaken, IsCandidate, IsCandidateBy, IsCandidateWith, IsMatched, at_base, calls_tls_get_addr, deletes_within}
-use Rattle.linker_rewriting.specs.Facts.{Setting, link_facts}
+use Rattle.linker_rewriting.specs.Facts.{RelaxContext, link_facts}
 use Rattle.linker_rewriting.specs.Sequences.{IsWhole, place_in, place_in_load, is_whole_at, is_load_at, is_marked_in}
 use Rattle.linker_rewriting.specs.declared.facts.SymbolFacts.{SymbolFacts}
 use Rattle.linker_section.specs.Relocations.{relocation_at, relocation_in}
@@ -46,10 +46,10 @@ use Rattle.linker_section.specs.declared.relocations.Rela.{Rela}
 use Rattle.linker_rewriting.specs.Surveys.{IsMarked, IsUnmarkedBy, IsUnmarkedIn}
 use Rattle.linker_rewriting.specs.Groups.{is_mark, aarch64_scope_in, riscv_scope_in, loongarch_scope_in, ppc64_scope_in, x86_64_scope_in, IsScopeIn}
 use Rattle.linker_rewriting.specs.declared.groups.Scope.{Scope}
-use Rattle.linker_rewriting.specs.declared.groups.Scope.TheVariants.{Unlisted}
+use Rattle.linker_rewriting.specs.declared.groups.Scope.TheVariants.{NotRelaxable}
 use Rattle.linker_rewriting.specs.declared.phases.Phase.{Phase}
 use Rattle.linker_rewriting.specs.declared.phases.Phase.TheVariants as phases
-use Rattle.linker_utils.specs.Architectures.{IsOf}
+use Rattle.linker_utils.specs.Architectures.{IsNamedValue}
 use Rattle.linker_utils.specs.declared.elf.Architecture.{Architecture}
 use Rattle.linker_utils.specs.declared.elf.Architecture.TheVariants.{AArch64, RiscV, LoongArch64, Ppc64, X86_64}
 
@@ -76,7 +76,7 @@ one_name elf code a b is_a is_b =
 
 of_one : {Name A : Type 0} (elf : Name → ElfName) (value_of : Name → A) (none : A) (code : ℕ)
     (x y : A) → ((name : Name) → (IsNamed (elf name) → ⊥) → value_of name ≡ none)
-    → IsOf elf value_of code x → IsOf elf value_of code y → x ≡ y
+    → IsNamedValue elf value_of code x → IsNamedValue elf value_of code y → x ≡ y
 of_one elf value_of none code x y nothing a b =
     elim (one_name elf code a.name b.name a.is_name b.is_name) [
       | inl same ↦ a.value_is ∙ (sym (ap value_of same) ∙ sym b.value_is)
@@ -85,48 +85,48 @@ of_one elf value_of none code x y nothing a b =
 
 -- ---- names without a text have no scope
 
-aarch64_unlisted : (phase : Phase) (name : AArch64Relocation) → (IsNamed (aarch64_name name) → ⊥) → aarch64_scope_in phase name ≡ Unlisted
-aarch64_unlisted phases.Early (aarch64_names.Other code) isnt = refl
-aarch64_unlisted phases.ThreadOffsets (aarch64_names.Other code) isnt = refl
-aarch64_unlisted phases.GotLoads (aarch64_names.Other code) isnt = refl
-aarch64_unlisted phases.Distances (aarch64_names.Other code) isnt = refl
+aarch64_unlisted : (phase : Phase) (name : AArch64Relocation) → (IsNamed (aarch64_name name) → ⊥) → aarch64_scope_in phase name ≡ NotRelaxable
+aarch64_unlisted phases.PreLayout (aarch64_names.Other code) isnt = refl
+aarch64_unlisted phases.TlsLocalExec (aarch64_names.Other code) isnt = refl
+aarch64_unlisted phases.GotToPcRel (aarch64_names.Other code) isnt = refl
+aarch64_unlisted phases.ShortPcRel (aarch64_names.Other code) isnt = refl
 aarch64_unlisted phase _ isnt = absurd (isnt tt)
 
-riscv64_unlisted : (phase : Phase) (name : RiscVRelocation) → (IsNamed (riscv_name name) → ⊥) → riscv_scope_in phase name ≡ Unlisted
-riscv64_unlisted phases.Early (riscv64_names.Other code) isnt = refl
-riscv64_unlisted phases.ThreadOffsets (riscv64_names.Other code) isnt = refl
-riscv64_unlisted phases.GotLoads (riscv64_names.Other code) isnt = refl
-riscv64_unlisted phases.Distances (riscv64_names.Other code) isnt = refl
+riscv64_unlisted : (phase : Phase) (name : RiscVRelocation) → (IsNamed (riscv_name name) → ⊥) → riscv_scope_in phase name ≡ NotRelaxable
+riscv64_unlisted phases.PreLayout (riscv64_names.Other code) isnt = refl
+riscv64_unlisted phases.TlsLocalExec (riscv64_names.Other code) isnt = refl
+riscv64_unlisted phases.GotToPcRel (riscv64_names.Other code) isnt = refl
+riscv64_unlisted phases.ShortPcRel (riscv64_names.Other code) isnt = refl
 riscv64_unlisted phase _ isnt = absurd (isnt tt)
 
-loongarch64_unlisted : (phase : Phase) (name : LoongArch64Relocation) → (IsNamed (loongarch_name name) → ⊥) → loongarch_scope_in phase name ≡ Unlisted
-loongarch64_unlisted phases.Early (loongarch64_names.Other code) isnt = refl
-loongarch64_unlisted phases.ThreadOffsets (loongarch64_names.Other code) isnt = refl
-loongarch64_unlisted phases.GotLoads (loongarch64_names.Other code) isnt = refl
-loongarch64_unlisted phases.Distances (loongarch64_names.Other code) isnt = refl
+loongarch64_unlisted : (phase : Phase) (name : LoongArch64Relocation) → (IsNamed (loongarch_name name) → ⊥) → loongarch_scope_in phase name ≡ NotRelaxable
+loongarch64_unlisted phases.PreLayout (loongarch64_names.Other code) isnt = refl
+loongarch64_unlisted phases.TlsLocalExec (loongarch64_names.Other code) isnt = refl
+loongarch64_unlisted phases.GotToPcRel (loongarch64_names.Other code) isnt = refl
+loongarch64_unlisted phases.ShortPcRel (loongarch64_names.Other code) isnt = refl
 loongarch64_unlisted phase _ isnt = absurd (isnt tt)
 
-ppc64_unlisted : (phase : Phase) (name : Ppc64Relocation) → (IsNamed (ppc64_name name) → ⊥) → ppc64_scope_in phase name ≡ Unlisted
-ppc64_unlisted phases.Early (ppc64_names.Other code) isnt = refl
-ppc64_unlisted phases.ThreadOffsets (ppc64_names.Other code) isnt = refl
-ppc64_unlisted phases.GotLoads (ppc64_names.Other code) isnt = refl
-ppc64_unlisted phases.Distances (ppc64_names.Other code) isnt = refl
+ppc64_unlisted : (phase : Phase) (name : Ppc64Relocation) → (IsNamed (ppc64_name name) → ⊥) → ppc64_scope_in phase name ≡ NotRelaxable
+ppc64_unlisted phases.PreLayout (ppc64_names.Other code) isnt = refl
+ppc64_unlisted phases.TlsLocalExec (ppc64_names.Other code) isnt = refl
+ppc64_unlisted phases.GotToPcRel (ppc64_names.Other code) isnt = refl
+ppc64_unlisted phases.ShortPcRel (ppc64_names.Other code) isnt = refl
 ppc64_unlisted phase _ isnt = absurd (isnt tt)
 
-x86_64_unlisted : (phase : Phase) (name : X86_64Relocation) → (IsNamed (x86_64_name name) → ⊥) → x86_64_scope_in phase name ≡ Unlisted
-x86_64_unlisted phases.Early (x86_64_names.Other code) isnt = refl
-x86_64_unlisted phases.ThreadOffsets (x86_64_names.Other code) isnt = refl
-x86_64_unlisted phases.GotLoads (x86_64_names.Other code) isnt = refl
-x86_64_unlisted phases.Distances (x86_64_names.Other code) isnt = refl
+x86_64_unlisted : (phase : Phase) (name : X86_64Relocation) → (IsNamed (x86_64_name name) → ⊥) → x86_64_scope_in phase name ≡ NotRelaxable
+x86_64_unlisted phases.PreLayout (x86_64_names.Other code) isnt = refl
+x86_64_unlisted phases.TlsLocalExec (x86_64_names.Other code) isnt = refl
+x86_64_unlisted phases.GotToPcRel (x86_64_names.Other code) isnt = refl
+x86_64_unlisted phases.ShortPcRel (x86_64_names.Other code) isnt = refl
 x86_64_unlisted phase _ isnt = absurd (isnt tt)
 
 pub one_scope : (architecture : Architecture) (phase : Phase) (code : ℕ) (x y : Scope)
     → IsScopeIn architecture phase code x → IsScopeIn architecture phase code y → x ≡ y
-one_scope AArch64 phase code x y = of_one aarch64_name (aarch64_scope_in phase) Unlisted code x y (aarch64_unlisted phase)
-one_scope RiscV phase code x y = of_one riscv_name (riscv_scope_in phase) Unlisted code x y (riscv64_unlisted phase)
-one_scope LoongArch64 phase code x y = of_one loongarch_name (loongarch_scope_in phase) Unlisted code x y (loongarch64_unlisted phase)
-one_scope Ppc64 phase code x y = of_one ppc64_name (ppc64_scope_in phase) Unlisted code x y (ppc64_unlisted phase)
-one_scope X86_64 phase code x y = of_one x86_64_name (x86_64_scope_in phase) Unlisted code x y (x86_64_unlisted phase)
+one_scope AArch64 phase code x y = of_one aarch64_name (aarch64_scope_in phase) NotRelaxable code x y (aarch64_unlisted phase)
+one_scope RiscV phase code x y = of_one riscv_name (riscv_scope_in phase) NotRelaxable code x y (riscv64_unlisted phase)
+one_scope LoongArch64 phase code x y = of_one loongarch_name (loongarch_scope_in phase) NotRelaxable code x y (loongarch64_unlisted phase)
+one_scope Ppc64 phase code x y = of_one ppc64_name (ppc64_scope_in phase) NotRelaxable code x y (ppc64_unlisted phase)
+one_scope X86_64 phase code x y = of_one x86_64_name (x86_64_scope_in phase) NotRelaxable code x y (x86_64_unlisted phase)
 
 -- ---- one choice
 
@@ -298,7 +298,7 @@ not_both architecture symbols bytes section n r facts x a b =
       ]
     ]
 
-not_both_with : (s : Setting) (bytes section : List ℕ) (n : ℕ) (r : Rela)
+not_both_with : (s : RelaxContext) (bytes section : List ℕ) (n : ℕ) (r : Rela)
     (facts : Option LinkFacts) (x : Choice Relaxation ℕ)
     → IsCandidateWith s bytes section n r facts (Some x)
     → IsCandidateWith s bytes section n r facts None → ⊥
@@ -306,7 +306,7 @@ not_both_with s bytes section n r None x a b = let e : Some x ≡ None = a in cc
 not_both_with s bytes section n r (Some facts) x a b =
     not_both s.architecture s.symbols bytes section n r facts x a b
 
-pub no_other : (s : Setting) (bytes section : List ℕ) (n : ℕ) (r : Rela)
+pub no_other : (s : RelaxContext) (bytes section : List ℕ) (n : ℕ) (r : Rela)
     (x : Choice Relaxation ℕ) → IsCandidate s bytes section n r (Some x)
     → IsCandidate s bytes section n r None → ⊥
 no_other s bytes section n r x a b =
@@ -314,7 +314,7 @@ no_other s bytes section n r x a b =
     (link_facts s.phase s.output s.symbols s.addresses s.values r r (is_marked_in s.phase s.architecture bytes n r))
     x a b
 
-pub one_candidate_with : (s : Setting) (bytes section : List ℕ) (n : ℕ) (r : Rela)
+pub one_candidate_with : (s : RelaxContext) (bytes section : List ℕ) (n : ℕ) (r : Rela)
     (facts : Option LinkFacts) (x y : Option (Choice Relaxation ℕ))
     → IsCandidateWith s bytes section n r facts x
     → IsCandidateWith s bytes section n r facts y → x ≡ y
@@ -327,7 +327,7 @@ one_candidate_with s bytes section n r (Some facts) None (Some y) a b =
 one_candidate_with s bytes section n r (Some facts) (Some x) (Some y) a b =
     ap Some (one_choice s.architecture r.code section r.offset facts x y (a.0) (b.0))
 
-pub one_candidate : (s : Setting) (bytes section : List ℕ) (n : ℕ) (r : Rela)
+pub one_candidate : (s : RelaxContext) (bytes section : List ℕ) (n : ℕ) (r : Rela)
     (x y : Option (Choice Relaxation ℕ)) → IsCandidate s bytes section n r x
     → IsCandidate s bytes section n r y → x ≡ y
 one_candidate s bytes section n r x y a b =
@@ -335,7 +335,7 @@ one_candidate s bytes section n r x y a b =
     (link_facts s.phase s.output s.symbols s.addresses s.values r r (is_marked_in s.phase s.architecture bytes n r))
     x y a b
 
-pub one_matched : (s : Setting) (bytes section : List ℕ) (n : ℕ) (r : Rela) (x y : Bool)
+pub one_matched : (s : RelaxContext) (bytes section : List ℕ) (n : ℕ) (r : Rela) (x y : Bool)
     → IsMatched s bytes section n r x → IsMatched s bytes section n r y → x ≡ y
 one_matched s bytes section n r x y a b =
     a.2
@@ -367,12 +367,12 @@ pub one_unmarked : (phase : Phase) (architecture : Architecture) (symbols : List
     (bytes : List ℕ) (n : ℕ) (r : Rela) (x y : Bool)
     → IsUnmarkedIn phase architecture symbols bytes n r x
     → IsUnmarkedIn phase architecture symbols bytes n r y → x ≡ y
-one_unmarked phases.Early Ppc64 symbols bytes n r x y a b =
+one_unmarked phases.PreLayout Ppc64 symbols bytes n r x y a b =
     one_unmarked_by (calls_tls_get_addr (slice_get symbols r.symbol)) bytes n r x y a b
-one_unmarked phases.Early AArch64 symbols bytes n r x y a b = a ∙ sym b
-one_unmarked phases.Early RiscV symbols bytes n r x y a b = a ∙ sym b
-one_unmarked phases.Early LoongArch64 symbols bytes n r x y a b = a ∙ sym b
-one_unmarked phases.Early X86_64 symbols bytes n r x y a b = a ∙ sym b
-one_unmarked phases.ThreadOffsets architecture symbols bytes n r x y a b = a ∙ sym b
-one_unmarked phases.GotLoads architecture symbols bytes n r x y a b = a ∙ sym b
-one_unmarked phases.Distances architecture symbols bytes n r x y a b = a ∙ sym b
+one_unmarked phases.PreLayout AArch64 symbols bytes n r x y a b = a ∙ sym b
+one_unmarked phases.PreLayout RiscV symbols bytes n r x y a b = a ∙ sym b
+one_unmarked phases.PreLayout LoongArch64 symbols bytes n r x y a b = a ∙ sym b
+one_unmarked phases.PreLayout X86_64 symbols bytes n r x y a b = a ∙ sym b
+one_unmarked phases.TlsLocalExec architecture symbols bytes n r x y a b = a ∙ sym b
+one_unmarked phases.GotToPcRel architecture symbols bytes n r x y a b = a ∙ sym b
+one_unmarked phases.ShortPcRel architecture symbols bytes n r x y a b = a ∙ sym b

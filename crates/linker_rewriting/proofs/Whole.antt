@@ -3,23 +3,23 @@ use Rattle.std.proofs.Common.{◌≡◌, ℕ, ◌∙◌, ◌||◌, inl, inr, Som
 use Rattle.linker_rewriting.proofs.LabelGroups.{labelled, one_index, stays_or_fits}
 use Rattle.linker_rewriting.proofs.Unique.{one_scope}
 use Rattle.linker_rewriting.specs.Decisions.{AreDecidedIn, IsDecidedAfter, IsDecidedAlone, IsScopeDecision, IsGroupDecision, IsLabelDecision, label_decision, decision_at}
-use Rattle.linker_rewriting.specs.Facts.{Setting}
+use Rattle.linker_rewriting.specs.Facts.{RelaxContext}
 use Rattle.linker_rewriting.specs.Groups.{IsInGroupIn, group_stays, stays_at}
-use Rattle.linker_rewriting.specs.Labels.{IsInLabel, IsHighIn, LabelFits}
+use Rattle.linker_rewriting.specs.RiscVPcrelGroups.{IsInLabel, IsHighIn, LabelFits}
 use Rattle.linker_rewriting.specs.Rewritten.{GroupsAreWholeIn, GroupsAreWholeAcross, LabelsAreWhole, IsRewritten}
 use Rattle.linker_rewriting.specs.declared.decisions.Decision.{Decision}
 use Rattle.linker_rewriting.specs.declared.groups.Group.{Group}
-use Rattle.linker_rewriting.specs.declared.groups.KeptGroups.{KeptGroups}
+use Rattle.linker_rewriting.specs.declared.groups.UnrelaxableGroups.{UnrelaxableGroups}
 use Rattle.linker_rewriting.specs.declared.groups.Scope.TheVariants.{Grouped}
 use Rattle.linker_rewriting.specs.declared.phases.Phase.{Phase}
-use Rattle.linker_rewriting.specs.declared.phases.Phase.TheVariants.{Early, ThreadOffsets, GotLoads, Distances}
+use Rattle.linker_rewriting.specs.declared.phases.Phase.TheVariants.{PreLayout, TlsLocalExec, GotToPcRel, ShortPcRel}
 use Rattle.linker_section.specs.Relocations.{relocation_in}
 use Rattle.linker_section.specs.declared.relocations.Rela.{Rela}
 use Rattle.linker_elf.specs.declared.elf.choice.Choice.{Choice}
 use Rattle.linker_utils.specs.declared.architecture.Relaxation.{Relaxation}
 
 -- what a relocation of a group becomes
-of_group : (s : Setting) (kept : List KeptGroups) (bytes section : List ℕ) (n : ℕ) (r : Rela)
+of_group : (s : RelaxContext) (kept : List UnrelaxableGroups) (bytes section : List ℕ) (n : ℕ) (r : Rela)
     (decision : Decision) (group : Group)
     → IsDecidedAlone s kept bytes section n r decision
     → IsInGroupIn s.architecture s.phase r.code group
@@ -29,14 +29,14 @@ of_group s kept bytes section n r decision group decided member =
     (one_scope s.architecture s.phase r.code (decided.0) (Grouped group) (decided.1) member)
     (decided.2)
 
-not_kept : (s : Setting) (bytes section : List ℕ) (n : ℕ) (r : Rela) (stays : Bool)
+not_kept : (s : RelaxContext) (bytes section : List ℕ) (n : ℕ) (r : Rela) (stays : Bool)
     (decision : Decision)
     → IsGroupDecision s bytes section n r stays decision → IsRewritten decision → stays ≡ false
 not_kept s bytes section n r false decision is rewritten = refl
 not_kept s bytes section n r true decision is rewritten =
     absurd (subst IsRewritten is rewritten)
 
-rewritten_too : (s : Setting) (bytes section : List ℕ) (n : ℕ) (r : Rela) (stays : Bool)
+rewritten_too : (s : RelaxContext) (bytes section : List ℕ) (n : ℕ) (r : Rela) (stays : Bool)
     (decision : Decision)
     → IsGroupDecision s bytes section n r stays decision → stays ≡ false → IsRewritten decision
 rewritten_too s bytes section n r false decision is unkept =
@@ -57,7 +57,7 @@ whole_across s other kept bytes section others_bytes others_section decisions ot
     ap (λ y. stays_at kept group 0 || stays_at kept group y) (sym same) in
     rewritten_too other others_bytes others_section j rj (group_stays kept group rj.symbol) (decision_at others j) is_j (both ∙ no_i)
 
-pub whole : (s : Setting) (kept : List KeptGroups) (bytes section : List ℕ)
+pub whole : (s : RelaxContext) (kept : List UnrelaxableGroups) (bytes section : List ℕ)
     (decisions : List Decision) (limit : ℕ)
     → AreDecidedIn s kept bytes section decisions limit
     → GroupsAreWholeIn s.architecture s.phase bytes decisions limit
@@ -66,7 +66,7 @@ whole s kept bytes section decisions limit decided =
 
 -- ---- labels
 
-of_label : (s : Setting) (kept : List KeptGroups) (bytes section : List ℕ) (n : ℕ) (r : Rela)
+of_label : (s : RelaxContext) (kept : List UnrelaxableGroups) (bytes section : List ℕ) (n : ℕ) (r : Rela)
     (decision : Decision) → IsDecidedAlone s kept bytes section n r decision
     → IsInLabel s.architecture s.phase r.code true
     → IsLabelDecision s bytes section n r decision
@@ -78,12 +78,12 @@ of_label s kept bytes section n r decision decided in_label =
 
 is_rewritten : (phase : Phase) (chosen : Choice Relaxation ℕ) (high : Rela)
     → IsRewritten (label_decision phase chosen high)
-is_rewritten Early chosen high = tt
-is_rewritten ThreadOffsets chosen high = tt
-is_rewritten GotLoads chosen high = tt
-is_rewritten Distances chosen high = tt
+is_rewritten PreLayout chosen high = tt
+is_rewritten TlsLocalExec chosen high = tt
+is_rewritten GotToPcRel chosen high = tt
+is_rewritten ShortPcRel chosen high = tt
 
-both_rewritten : (s : Setting) (bytes section : List ℕ) (i j : ℕ) (r other : Rela) (high : ℕ)
+both_rewritten : (s : RelaxContext) (bytes section : List ℕ) (i j : ℕ) (r other : Rela) (high : ℕ)
     (x y : Decision) → IsLabelDecision s bytes section i r x → IsLabelDecision s bytes section j other y
     → IsHighIn s bytes r (Some high) → IsHighIn s bytes other (Some high) → IsRewritten x
     → IsRewritten y
@@ -97,7 +97,7 @@ both_rewritten s bytes section i j r other high x y a b is too rewritten =
       ]
     ]
 
-pub labels_whole : (s : Setting) (kept : List KeptGroups) (bytes section : List ℕ)
+pub labels_whole : (s : RelaxContext) (kept : List UnrelaxableGroups) (bytes section : List ℕ)
     (decisions : List Decision) (limit : ℕ)
     → AreDecidedIn s kept bytes section decisions limit → LabelsAreWhole s bytes decisions limit
 labels_whole s kept bytes section decisions limit decided i j high li lj mi mj hi hj ti tj =

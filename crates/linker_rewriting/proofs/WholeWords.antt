@@ -2,9 +2,9 @@
 use Rattle.std.proofs.Common.{◌≡◌, ℕ, ◌∙◌, inl, inr, None, Some, Option, List, ap, sym, subst, refl, Bool, true, false, true≢false}
 use Rattle.linker_rewriting.proofs.LabelGroups.{one_high_from}
 use Rattle.linker_rewriting.proofs.Unique.{one_candidate_with}
-use Rattle.linker_rewriting.specs.Facts.{Setting, link_facts}
+use Rattle.linker_rewriting.specs.Facts.{RelaxContext, link_facts}
 use Rattle.linker_rewriting.specs.Rewritten.{IsRewritten}
-use Rattle.linker_rewriting.specs.Words.{IsLoad, IsLoadCandidate, IsLoadDecision, IsDecisionBy, IsWordDecision, IsKeepingWord, HasLoadRewrite, StaysBy, AreLoadsDecided, AreLoadsRejected, MeansWordsUnsurveyed, WordsAreWhole, WordsAreWholeAcross, word_code, word_offset, word_stays}
+use Rattle.linker_rewriting.specs.TocIndirection.{IsLoad, IsLoadCandidate, IsLoadDecision, IsDecisionBy, IsWordDecision, IsKeepingWord, HasLoadRewrite, WordUnchangedBy, AreLoadsDecided, AreLoadsRejected, MeansWordsUnsurveyed, WordsAreWhole, WordsAreWholeAcross, word_code, word_offset, word_stays}
 use Rattle.linker_rewriting.specs.declared.decisions.Decision.{Decision}
 use Rattle.linker_rewriting.specs.declared.decisions.RewritingError.{RewritingError}
 use Rattle.linker_rewriting.specs.declared.decisions.RewritingError.TheVariants.{TooShort, NotSurveyed, Overlaps, Contradiction}
@@ -26,7 +26,7 @@ second_same x y is = ap (λ p. p.1) (some_pair x y is)
 same_pair : (x y : ℕ × ℕ) → x.0 ≡ y.0 → x.1 ≡ y.1 → Some x ≡ Some y
 same_pair (a, b) (c, d) first second = ap (λ p. Some (p, b)) first ∙ ap (λ p. Some (c, p)) second
 
-one_word : (s : Setting) (start : ℕ) (words : List ℕ) (r : Rela) (x y : Option (ℕ × ℕ))
+one_word : (s : RelaxContext) (start : ℕ) (words : List ℕ) (r : Rela) (x y : Option (ℕ × ℕ))
     → IsAscending words → IsLoad s start words r x → IsLoad s start words r y → x ≡ y
 one_word s start words r None None up a b = refl
 one_word s start words r None (Some load) up (inl none) b =
@@ -46,7 +46,7 @@ one_word s start words r (Some load) (Some other) up a b =
 -- ---- whole words
 
 -- what a load becomes
-by_load : (s : Setting) (start : ℕ) (words : List ℕ) (kept : List Bool) (bytes section : List ℕ)
+by_load : (s : RelaxContext) (start : ℕ) (words : List ℕ) (kept : List Bool) (bytes section : List ℕ)
     (n : ℕ) (r : Rela) (decision : Decision) (load : ℕ × ℕ) → IsAscending words
     → IsLoadDecision s start words kept bytes section n r decision
     → IsLoad s start words r (Some load)
@@ -55,7 +55,7 @@ by_load s start words kept bytes section n r decision load up decided is =
     subst (λ x. IsDecisionBy s words kept bytes section n r x decision)
     (one_word s start words r (decided.0) (Some load) up (decided.1) is) (decided.2)
 
-not_stayed : (s : Setting) (words bytes section : List ℕ) (n : ℕ) (r : Rela) (load : ℕ × ℕ)
+not_stayed : (s : RelaxContext) (words bytes section : List ℕ) (n : ℕ) (r : Rela) (load : ℕ × ℕ)
     (stays : Bool) (decision : Decision)
     → IsWordDecision s words bytes section n r load stays decision → IsRewritten decision
     → stays ≡ false
@@ -63,7 +63,7 @@ not_stayed s words bytes section n r load false decision is rewritten = refl
 not_stayed s words bytes section n r load true decision is rewritten =
     absurd (subst IsRewritten is rewritten)
 
-rewritten_too : (s : Setting) (words bytes section : List ℕ) (n : ℕ) (r : Rela) (load : ℕ × ℕ)
+rewritten_too : (s : RelaxContext) (words bytes section : List ℕ) (n : ℕ) (r : Rela) (load : ℕ × ℕ)
     (stays : Bool) (decision : Decision)
     → IsWordDecision s words bytes section n r load stays decision → stays ≡ false
     → IsRewritten decision
@@ -82,7 +82,7 @@ whole_across s other start words kept bytes section others_bytes others_section 
     (by_load other start words kept others_bytes others_section j rj _ (other_entry, word) up (others_decided j lj) other_is)
     stays
 
-pub whole : (s : Setting) (start : ℕ) (words : List ℕ) (kept : List Bool) (bytes section : List ℕ)
+pub whole : (s : RelaxContext) (start : ℕ) (words : List ℕ) (kept : List Bool) (bytes section : List ℕ)
     (decisions : List Decision) (limit : ℕ)
     → AreLoadsDecided s start words kept bytes section decisions limit
     → WordsAreWhole s start words bytes decisions limit
@@ -91,11 +91,11 @@ whole s start words kept bytes section decisions limit decided =
 
 -- ---- surveyed sections
 
-noted_stays : (s : Setting) (start : ℕ) (words : List ℕ) (kept : List Bool) (bytes section : List ℕ)
+noted_stays : (s : RelaxContext) (start : ℕ) (words : List ℕ) (kept : List Bool) (bytes section : List ℕ)
     (n : ℕ) (r : Rela) (load : ℕ × ℕ) (word : Option ℕ) → IsAscending words
     → IsLoad s start words r (Some load) → word_stays kept (load.1) ≡ false
     → IsLoadCandidate s words bytes section n r load None
-    → IsKeepingWord s start words bytes section n r word → StaysBy kept word → ⊥
+    → IsKeepingWord s start words bytes section n r word → WordUnchangedBy kept word → ⊥
 noted_stays s start words kept bytes section n r load (Some word) up is stays none keeping noted =
     let same : Some (keeping.0, word) ≡ Some load =
     one_word s start words r (Some (keeping.0, word)) (Some load) up (keeping.1) is in
@@ -108,7 +108,7 @@ noted_stays s start words kept bytes section n r load None up is stays none keep
     (link_facts s.phase s.output s.symbols s.addresses s.values r (relocation_in words (load.1)) false)
     (Some (has.0)) None (has.1) none in cc
 
-pub means_unsurveyed : (s : Setting) (start : ℕ) (words : List ℕ) (kept : List Bool)
+pub means_unsurveyed : (s : RelaxContext) (start : ℕ) (words : List ℕ) (kept : List Bool)
     (bytes section : List ℕ) (decisions : List Decision) (error : RewritingError)
     → AreLoadsRejected s start words kept bytes section decisions error
     → MeansWordsUnsurveyed s start words bytes section kept error

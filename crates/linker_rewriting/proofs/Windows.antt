@@ -29,17 +29,17 @@ bytes_len {start} {len} {bytes} {before} {after} r =
     let s = r.same_len in
     omega arith
 
-pub behind_start : {start len : ℕ} {bytes before after : List ℕ}
+pub after_start : {start len : ℕ} {bytes before after : List ℕ}
     → IsReplaced start len bytes before after
     → drop start after ≡ bytes ++ drop (start + len) before
-behind_start {start} {len} {bytes} {before} r =
+after_start {start} {len} {bytes} {before} r =
     ap (drop start) (split r)
     ∙ drop_at (take start before) (bytes ++ drop (start + len) before) start (front r)
 
 pub in_window : {start len : ℕ} {bytes before after : List ℕ}
     → IsReplaced start len bytes before after → take len (drop start after) ≡ bytes
 in_window {start} {len} {bytes} {before} r =
-    ap (take len) (behind_start r) ∙ take_at bytes (drop (start + len) before) len (bytes_len r)
+    ap (take len) (after_start r) ∙ take_at bytes (drop (start + len) before) len (bytes_len r)
 
 pub below_window : {start len : ℕ} {bytes before after : List ℕ}
     → IsReplaced start len bytes before after → (t m : ℕ) → t + m ≤ start
@@ -65,7 +65,7 @@ above_window {start} {len} {bytes} {before} {after} r t le =
     let whole : (start + len) + (t - (start + len)) ≡ t = omega arith in
     let end : drop (start + len) after ≡ drop (start + len) before =
     sym (drop-drop len start after)
-    ∙ (ap (drop len) (behind_start r) ∙ drop_at bytes (drop (start + len) before) len b) in
+    ∙ (ap (drop len) (after_start r) ∙ drop_at bytes (drop (start + len) before) len b) in
     ap (λ n. drop n after) (sym whole)
     ∙ (sym (drop-drop (t - (start + len)) (start + len) after)
     ∙ (ap (drop (t - (start + len))) end

@@ -1,8 +1,8 @@
 -- The words that stay, noted relocation by relocation.
 use Rattle.std.proofs.Common.{◌≡◌, ℕ, ◌+◌, ◌⊎◌, ◌↔◌, inl, inr, List, Bool, Option, None, Some, true, sym, subst, arith, refl}
-use Rattle.linker_rewriting.specs.Facts.{Setting}
-use Rattle.linker_rewriting.specs.Inner.Words.{IsThatWord}
-use Rattle.linker_rewriting.specs.Words.{AreLoadsSurveyed, IsKeepingWord, IsWordNoted, StaysBy, word_stays}
+use Rattle.linker_rewriting.specs.Facts.{RelaxContext}
+use Rattle.linker_rewriting.specs.Inner.TocIndirection.{IsThatWord}
+use Rattle.linker_rewriting.specs.TocIndirection.{AreLoadsSurveyed, IsKeepingWord, IsWordNoted, WordUnchangedBy, word_stays}
 use Rattle.linker_section.specs.Relocations.{relocation_in}
 use borrow.Author.Count.{below_more}
 
@@ -13,23 +13,23 @@ AreWordsKeptToo before after word =
 
 pub stays_on : (before after : List Bool) (word : Option ℕ)
     → ((w : ℕ) → word_stays before w ≡ true → word_stays after w ≡ true)
-    → StaysBy before word → StaysBy after word
+    → WordUnchangedBy before word → WordUnchangedBy after word
 stays_on before after None on stays = tt
 stays_on before after (Some word) on stays = on word stays
 
 pub stays_now : (before after : List Bool) (word : Option ℕ) → AreWordsKeptToo before after word
-    → StaysBy after word
+    → WordUnchangedBy after word
 stays_now before after None same = tt
 stays_now before after (Some word) same = (same word).1 (inr refl)
 
-that_word : (s : Setting) (start : ℕ) (words bytes section : List ℕ) (n : ℕ) (word : Option ℕ) (w : ℕ)
+that_word : (s : RelaxContext) (start : ℕ) (words bytes section : List ℕ) (n : ℕ) (word : Option ℕ) (w : ℕ)
     → IsKeepingWord s start words bytes section n (relocation_in bytes n) word → IsThatWord word w
     → IsKeepingWord s start words bytes section n (relocation_in bytes n) (Some w)
 that_word s start words bytes section n None w keeping is = absurd is
 that_word s start words bytes section n (Some word) w keeping is =
     subst (λ x. IsKeepingWord s start words bytes section n (relocation_in bytes n) (Some x)) (sym is) keeping
 
-pub more_words : (s : Setting) (start : ℕ) (words bytes section : List ℕ) (before mid after : List Bool)
+pub more_words : (s : RelaxContext) (start : ℕ) (words bytes section : List ℕ) (before mid after : List Bool)
     (k : ℕ) (word : Option ℕ) → AreLoadsSurveyed s start words bytes section before mid k
     → IsKeepingWord s start words bytes section k (relocation_in bytes k) word
     → AreWordsKeptToo mid after word

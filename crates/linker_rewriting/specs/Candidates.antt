@@ -4,7 +4,7 @@ use Rattle.std.specs.Prelude.{Option, Some, None, slice_get, is_some, pos}
 use Rattle.linker_base.specs.declared.rewrite.DeletedBytes.{DeletedBytes}
 use Rattle.linker_elf.specs.declared.elf.choice.Choice.{Choice}
 use Rattle.linker_elf.specs.declared.elf.choice.LinkFacts.{LinkFacts}
-use Rattle.linker_rewriting.specs.Facts.{Setting, link_facts}
+use Rattle.linker_rewriting.specs.Facts.{RelaxContext, link_facts}
 use Rattle.linker_rewriting.specs.Sequences.{IsWhole, is_marked_in}
 use Rattle.linker_rewriting.specs.declared.facts.SymbolFacts.{SymbolFacts}
 use Rattle.linker_section.specs.Relocations.{relocation_at}
@@ -59,14 +59,14 @@ IsCandidateBy architecture symbols bytes section n r facts None =
     ⊎ (deletes_within section r.offset (relaxation_deleted chosen.kind) ≡ false))))
 
 -- none where a table has no entry for the symbol
-abbrev pub IsCandidateWith : Setting → List ℕ → List ℕ → ℕ → Rela → Option LinkFacts
+abbrev pub IsCandidateWith : RelaxContext → List ℕ → List ℕ → ℕ → Rela → Option LinkFacts
     → Option (Choice Relaxation ℕ) → Type 0
 IsCandidateWith s bytes section n r None candidate = candidate ≡ None
 IsCandidateWith s bytes section n r (Some facts) candidate =
     IsCandidateBy s.architecture s.symbols bytes section n r facts candidate
 
 -- of the relocation with an index among those in bytes
-abbrev pub IsCandidate : Setting → List ℕ → List ℕ → ℕ → Rela
+abbrev pub IsCandidate : RelaxContext → List ℕ → List ℕ → ℕ → Rela
     → Option (Choice Relaxation ℕ) → Type 0
 IsCandidate s bytes section n r candidate =
     IsCandidateWith s bytes section n r
@@ -82,7 +82,7 @@ at_base (Some facts) =
     })
 
 -- its instruction is one that the rewrite is meant for, whatever the distance
-abbrev pub IsMatched : Setting → List ℕ → List ℕ → ℕ → Rela → Bool → Type 0
+abbrev pub IsMatched : RelaxContext → List ℕ → List ℕ → ℕ → Rela → Bool → Type 0
 IsMatched s bytes section n r matched =
     (candidate : Option (Choice Relaxation ℕ))
     × IsCandidateWith s bytes section n r

@@ -11,13 +11,13 @@ use Rattle.linker_elf.specs.declared.elf.RelocationKindInfo.{RelocationKindInfo}
 use Rattle.linker_elf.specs.declared.elf.choice.Choice.{Choice}
 use Rattle.linker_rewriting.specs.Agreement.{Agree, IsContradiction}
 use Rattle.linker_rewriting.specs.Candidates.{IsCandidate, deletes_within}
-use Rattle.linker_rewriting.specs.Facts.{Setting, early}
+use Rattle.linker_rewriting.specs.Facts.{RelaxContext, pre_layout}
 use Rattle.linker_rewriting.specs.Groups.{IsScopeIn, group_stays, stays_at}
-use Rattle.linker_rewriting.specs.Labels.{IsHighIn, IsLabelCandidate, LabelStays, LabelFits}
+use Rattle.linker_rewriting.specs.RiscVPcrelGroups.{IsHighIn, IsLabelCandidate, LabelStays, LabelFits}
 use Rattle.linker_rewriting.specs.declared.decisions.Decision.{Decision}
 use Rattle.linker_rewriting.specs.declared.decisions.Decision.TheVariants.{Kept, Rewritten}
-use Rattle.linker_rewriting.specs.declared.decisions.Decision.TheVariants.{TakenAlong}
-use Rattle.linker_rewriting.specs.declared.decisions.Decision.TheVariants.{Redirected}
+use Rattle.linker_rewriting.specs.declared.decisions.Decision.TheVariants.{Consumed}
+use Rattle.linker_rewriting.specs.declared.decisions.Decision.TheVariants.{RewrittenWithSymbol}
 use Rattle.linker_rewriting.specs.declared.decisions.RewritingError.{RewritingError}
 use Rattle.linker_rewriting.specs.declared.decisions.RewritingError.TheVariants.{TooShort}
 use Rattle.linker_rewriting.specs.declared.decisions.RewritingError.TheVariants.{NotSurveyed}
@@ -26,12 +26,12 @@ use Rattle.linker_rewriting.specs.declared.decisions.RewritingError.TheVariants.
 use Rattle.linker_rewriting.specs.declared.facts.OutputFacts.{OutputFacts}
 use Rattle.linker_rewriting.specs.declared.facts.SymbolFacts.{SymbolFacts}
 use Rattle.linker_rewriting.specs.declared.groups.Group.{Group}
-use Rattle.linker_rewriting.specs.declared.groups.KeptGroups.{KeptGroups}
+use Rattle.linker_rewriting.specs.declared.groups.UnrelaxableGroups.{UnrelaxableGroups}
 use Rattle.linker_rewriting.specs.declared.groups.Scope.{Scope}
-use Rattle.linker_rewriting.specs.declared.groups.Scope.TheVariants.{Unlisted, Alone, Grouped}
-use Rattle.linker_rewriting.specs.declared.groups.Scope.TheVariants.{Ahead, Matched, Labelled}
+use Rattle.linker_rewriting.specs.declared.groups.Scope.TheVariants.{NotRelaxable, Independent, Grouped}
+use Rattle.linker_rewriting.specs.declared.groups.Scope.TheVariants.{FirstOfPair, IfGroupMatches, Labelled}
 use Rattle.linker_rewriting.specs.declared.phases.Phase.{Phase}
-use Rattle.linker_rewriting.specs.declared.phases.Phase.TheVariants.{ThreadOffsets}
+use Rattle.linker_rewriting.specs.declared.phases.Phase.TheVariants.{TlsLocalExec}
 use Rattle.linker_section.specs.Fields.{IsField, field_end}
 use Rattle.linker_section.specs.Relocations.{relocation_in, relocation_at}
 use Rattle.linker_section.specs.Values.{offset_at}
@@ -47,19 +47,19 @@ use Rattle.linker_utils.specs.declared.elf.Architecture.{Architecture}
 -- the next relocation goes
 abbrev pub takes_next : Decision → Bool
 takes_next (Rewritten chosen) = is_some (relaxation_skipped chosen.kind)
-takes_next (Redirected chosen subject) = is_some (relaxation_skipped chosen.kind)
+takes_next (RewrittenWithSymbol chosen subject) = is_some (relaxation_skipped chosen.kind)
 takes_next decision = false
 
 -- the bytes that are rewritten, beside the relocation's offset
 abbrev pub window_of : Decision → RewriteWindow
 window_of (Rewritten chosen) = window_of_rewrite (relaxation_rewrite chosen.kind)
-window_of (Redirected chosen subject) = window_of_rewrite (relaxation_rewrite chosen.kind)
+window_of (RewrittenWithSymbol chosen subject) = window_of_rewrite (relaxation_rewrite chosen.kind)
 window_of decision = record { back = 0; len = 0 }
 
 -- those that are deleted after it
 abbrev pub deleted_of : Decision → Option DeletedBytes
 deleted_of (Rewritten chosen) = relaxation_deleted chosen.kind
-deleted_of (Redirected chosen subject) = relaxation_deleted chosen.kind
+deleted_of (RewrittenWithSymbol chosen subject) = relaxation_deleted chosen.kind
 deleted_of decision = None
 
 -- they are in the section, and the window is one that the rewrite takes
@@ -67,7 +67,7 @@ abbrev pub CanBeMade : Decision → List ℕ → ℕ → Type 0
 CanBeMade (Rewritten chosen) section offset =
     CanRewrite (relaxation_rewrite chosen.kind) section offset
     × (deletes_within section offset (relaxation_deleted chosen.kind) ≡ true)
-CanBeMade (Redirected chosen subject) section offset =
+CanBeMade (RewrittenWithSymbol chosen subject) section offset =
     CanRewrite (relaxation_rewrite chosen.kind) section offset
     × (deletes_within section offset (relaxation_deleted chosen.kind) ≡ true)
 CanBeMade decision section offset = Unit {0}
@@ -77,7 +77,7 @@ decision_of None = Kept
 decision_of (Some chosen) = Rewritten chosen
 
 -- a relocation of a group that stays, and of one that doesn't: it has a rewrite
-abbrev pub IsGroupDecision : Setting → List ℕ → List ℕ → ℕ
+abbrev pub IsGroupDecision : RelaxContext → List ℕ → List ℕ → ℕ
     → Rela → Bool → Decision → Type 0
 IsGroupDecision s bytes section n r true decision = decision ≡ Kept
 IsGroupDecision s bytes section n r false decision =
@@ -86,21 +86,21 @@ IsGroupDecision s bytes section n r false decision =
     × (decision ≡ Rewritten chosen)
 
 -- a relocation of a group that stays, and of one that doesn't: it is rewritten if it can be
-abbrev pub IsMatchedDecision : Setting → List ℕ → List ℕ → ℕ → Rela → Bool → Decision → Type 0
+abbrev pub IsMatchedDecision : RelaxContext → List ℕ → List ℕ → ℕ → Rela → Bool → Decision → Type 0
 IsMatchedDecision s bytes section n r true decision = decision ≡ Kept
 IsMatchedDecision s bytes section n r false decision =
     (candidate : Option (Choice Relaxation ℕ)) × IsCandidate s bytes section n r candidate
     × (decision ≡ decision_of candidate)
 
 -- whether one alone is rewritten
-abbrev pub IsRewrittenAlone : Setting → List ℕ → List ℕ → ℕ → Rela → Scope → Bool → Type 0
-IsRewrittenAlone s bytes section n r Alone is_rewritten =
+abbrev pub IsRewrittenAlone : RelaxContext → List ℕ → List ℕ → ℕ → Rela → Scope → Bool → Type 0
+IsRewrittenAlone s bytes section n r Independent is_rewritten =
     (candidate : Option (Choice Relaxation ℕ))
     × IsCandidate s bytes section n r candidate × (is_rewritten ≡ is_some candidate)
 IsRewrittenAlone s bytes section n r scope is_rewritten = is_rewritten ≡ false
 
 -- and there is one with an index
-abbrev pub IsRewrittenAt : Setting → List ℕ → List ℕ → ℕ → Option Rela → Bool → Type 0
+abbrev pub IsRewrittenAt : RelaxContext → List ℕ → List ℕ → ℕ → Option Rela → Bool → Type 0
 IsRewrittenAt s bytes section n None is_rewritten = is_rewritten ≡ false
 IsRewrittenAt s bytes section n (Some r) is_rewritten =
     (scope : Scope) × IsScopeIn s.architecture s.phase r.code scope
@@ -108,17 +108,17 @@ IsRewrittenAt s bytes section n (Some r) is_rewritten =
 
 -- it goes with the next one
 abbrev pub decision_ahead : Bool → Decision
-decision_ahead true = TakenAlong
+decision_ahead true = Consumed
 decision_ahead false = Kept
 
 -- all of a TLS descriptor become of the symbol and the addend of the high part
 abbrev pub label_decision : Phase → Choice Relaxation ℕ → Rela → Decision
-label_decision ThreadOffsets chosen high =
-    Redirected chosen (record { symbol = high.symbol; addend = high.addend })
+label_decision TlsLocalExec chosen high =
+    RewrittenWithSymbol chosen (record { symbol = high.symbol; addend = high.addend })
 label_decision phase chosen high = Rewritten chosen
 
 -- a relocation of a label
-abbrev pub IsLabelDecision : Setting → List ℕ → List ℕ → ℕ → Rela → Decision → Type 0
+abbrev pub IsLabelDecision : RelaxContext → List ℕ → List ℕ → ℕ → Rela → Decision → Type 0
 IsLabelDecision s bytes section n r decision =
     (LabelStays s bytes section r × (decision ≡ Kept))
     ⊎ ((high : ℕ) × IsHighIn s bytes r (Some high) × LabelFits s bytes section high
@@ -127,42 +127,42 @@ IsLabelDecision s bytes section n r decision =
     × (decision ≡ label_decision s.phase chosen (relocation_in bytes high)))
 
 -- by its scope
-abbrev pub IsScopeDecision : Setting → List KeptGroups → List ℕ → List ℕ → ℕ → Rela → Scope
+abbrev pub IsScopeDecision : RelaxContext → List UnrelaxableGroups → List ℕ → List ℕ → ℕ → Rela → Scope
     → Decision → Type 0
-IsScopeDecision s kept bytes section n r Unlisted decision =
+IsScopeDecision s kept bytes section n r NotRelaxable decision =
     decision ≡ Kept
-IsScopeDecision s kept bytes section n r Alone decision =
+IsScopeDecision s kept bytes section n r Independent decision =
     (candidate : Option (Choice Relaxation ℕ))
     × IsCandidate s bytes section n r candidate
     × (decision ≡ decision_of candidate)
 IsScopeDecision s kept bytes section n r (Grouped group) decision =
     IsGroupDecision s bytes section n r (group_stays kept group r.symbol)
     decision
-IsScopeDecision s kept bytes section n r (Matched group) decision =
+IsScopeDecision s kept bytes section n r (IfGroupMatches group) decision =
     IsMatchedDecision s bytes section n r (group_stays kept group r.symbol) decision
 IsScopeDecision s kept bytes section n r Labelled decision =
     IsLabelDecision s bytes section n r decision
-IsScopeDecision s kept bytes section n r Ahead decision =
+IsScopeDecision s kept bytes section n r FirstOfPair decision =
     (is_rewritten : Bool)
     × IsRewrittenAt s bytes section (n + 1) (relocation_at bytes (n + 1)) is_rewritten
     × (decision ≡ decision_ahead is_rewritten)
 
 -- of a relocation that no other takes along
-abbrev pub IsDecidedAlone : Setting → List KeptGroups
+abbrev pub IsDecidedAlone : RelaxContext → List UnrelaxableGroups
     → List ℕ → List ℕ → ℕ → Rela → Decision → Type 0
 IsDecidedAlone s kept bytes section n r decision =
     (scope : Scope) × IsScopeIn s.architecture s.phase r.code scope
     × IsScopeDecision s kept bytes section n r scope decision
 
 -- its group doesn't stay, but it has no rewrite
-abbrev pub IsNotSurveyed : Setting → List KeptGroups
+abbrev pub IsNotSurveyed : RelaxContext → List UnrelaxableGroups
     → List ℕ → List ℕ → ℕ → Rela → Type 0
 IsNotSurveyed s kept bytes section n r =
     (group : Group) × IsScopeIn s.architecture s.phase r.code (Grouped group)
     × (group_stays kept group r.symbol ≡ false)
     × IsCandidate s bytes section n r None
 
-abbrev pub IsDecision : Setting → List KeptGroups → List ℕ
+abbrev pub IsDecision : RelaxContext → List UnrelaxableGroups → List ℕ
     → List ℕ → ℕ → Rela → Option Decision → Type 0
 IsDecision s kept bytes section n r (Some decision) =
     IsDecidedAlone s kept bytes section n r decision
@@ -179,22 +179,22 @@ abbrev pub is_taken : List Decision → ℕ → Bool
 is_taken decisions zero = false
 is_taken decisions (suc n) = takes_next (decision_at decisions n)
 
-abbrev pub IsDecidedAfter : Setting → List KeptGroups
+abbrev pub IsDecidedAfter : RelaxContext → List UnrelaxableGroups
     → List ℕ → List ℕ → ℕ → Bool → Decision → Type 0
 IsDecidedAfter s kept bytes section n true decision =
-    decision ≡ TakenAlong
+    decision ≡ Consumed
 IsDecidedAfter s kept bytes section n false decision =
     IsDecidedAlone s kept bytes section n (relocation_in bytes n) decision
 
-abbrev pub IsDecisionAfter : Setting → List KeptGroups
+abbrev pub IsDecisionAfter : RelaxContext → List UnrelaxableGroups
     → List ℕ → List ℕ → ℕ → Rela → Bool → Option Decision → Type 0
 IsDecisionAfter s kept bytes section n r true decision =
-    decision ≡ Some TakenAlong
+    decision ≡ Some Consumed
 IsDecisionAfter s kept bytes section n r false decision =
     IsDecision s kept bytes section n r decision
 
 -- those of the relocations with an index below a limit
-abbrev pub AreDecidedIn : Setting → List KeptGroups → List ℕ
+abbrev pub AreDecidedIn : RelaxContext → List UnrelaxableGroups → List ℕ
     → List ℕ → List Decision → ℕ → Type 0
 AreDecidedIn s kept bytes section decisions limit =
     (n : ℕ) → n < limit
@@ -206,9 +206,9 @@ AllCanBeMade bytes section decisions limit =
     (n : ℕ) → n < limit → CanBeMade (decision_at decisions n) section (relocation_in bytes n).offset
 
 -- before addresses are known
-abbrev pub AreDecided : Architecture → OutputFacts → List SymbolFacts → List KeptGroups → List ℕ
+abbrev pub AreDecided : Architecture → OutputFacts → List SymbolFacts → List UnrelaxableGroups → List ℕ
     → List ℕ → List Decision → ℕ → Type 0
-AreDecided architecture output symbols = AreDecidedIn (early architecture output symbols)
+AreDecided architecture output symbols = AreDecidedIn (pre_layout architecture output symbols)
 
 -- ---- where bytes are rewritten and deleted
 
@@ -246,10 +246,10 @@ AreApart bytes decisions limit =
     → end_at bytes decisions i ≤ start_at bytes decisions j
 
 -- where they end, with some more from a start to an end; none if they aren't after them
-abbrev pub IsEndBehind : ℕ → ℕ → ℕ → Option ℕ → Type 0
-IsEndBehind start own end (Some new) =
+abbrev pub IsEndAfter : ℕ → ℕ → ℕ → Option ℕ → Type 0
+IsEndAfter start own end (Some new) =
     ((own ≤ start) × (new ≡ end)) ⊎ ((start < own) × (end ≤ start) × (new ≡ own))
-IsEndBehind start own end None = (start < own) × (start < end)
+IsEndAfter start own end None = (start < own) × (start < end)
 
 -- the bytes that one decision deletes, by their offset and how many they are
 abbrev pub deletion_by : ℕ → Option DeletedBytes → List (ℕ × ℕ)
@@ -271,7 +271,7 @@ pub record IsCovered (architecture : Architecture) (bytes section : List ℕ)
     (decisions : List Decision) (limit n : ℕ) : Type 0 where
   pub row : RelocationKindInfo
   pub is_field : IsField architecture bytes section n row
-  pub untaken : decision_at decisions n ≢ TakenAlong
+  pub untaken : decision_at decisions n ≢ Consumed
   pub by : ℕ
   pub within : by < limit
   pub other : by ≢ n
@@ -297,7 +297,7 @@ IsFirstCovered architecture bytes section decisions limit (Some n) =
 
 -- the rewrite of the relocation with an index would write or delete bytes at or below those of one
 -- before it
-pub record IsOverlapping (s : Setting) (kept : List KeptGroups) (bytes section : List ℕ)
+pub record IsOverlapping (s : RelaxContext) (kept : List UnrelaxableGroups) (bytes section : List ℕ)
     (decisions : List Decision) (n : ℕ) : Type 0 where
   pub decision : Decision
   pub decided : IsDecidedAlone s kept bytes section n (relocation_in bytes n) decision
@@ -310,7 +310,7 @@ pub record IsOverlapping (s : Setting) (kept : List KeptGroups) (bytes section :
       < end_at bytes decisions before
 
 -- Those below the index are decided. That at the index isn't, though there is room for all.
-abbrev pub IsRejectedIn : Setting → List KeptGroups → List ℕ → List ℕ → List Decision
+abbrev pub IsRejectedIn : RelaxContext → List UnrelaxableGroups → List ℕ → List ℕ → List Decision
     → RewritingError → Type 0
 IsRejectedIn s kept bytes section decisions TooShort = length decisions < length bytes / 24
 IsRejectedIn s kept bytes section decisions (NotSurveyed n) =
@@ -327,12 +327,12 @@ IsRejectedIn s kept bytes section decisions (Overlaps n) =
 IsRejectedIn s kept bytes section decisions (Contradiction symbol) = ⊥
 
 -- before addresses are known
-abbrev pub IsRejected : Architecture → OutputFacts → List SymbolFacts → List KeptGroups → List ℕ
+abbrev pub IsRejected : Architecture → OutputFacts → List SymbolFacts → List UnrelaxableGroups → List ℕ
     → List ℕ → List Decision → RewritingError → Type 0
-IsRejected architecture output symbols = IsRejectedIn (early architecture output symbols)
+IsRejected architecture output symbols = IsRejectedIn (pre_layout architecture output symbols)
 
 -- and where there may also be less room for deletions than there are
-abbrev pub IsRejectedWith : Setting → List KeptGroups → List ℕ → List ℕ → List Decision → ℕ
+abbrev pub IsRejectedWith : RelaxContext → List UnrelaxableGroups → List ℕ → List ℕ → List Decision → ℕ
     → RewritingError → Type 0
 IsRejectedWith s kept bytes section decisions room TooShort =
     (length decisions < length bytes / 24)
@@ -349,7 +349,7 @@ IsRejectedFirst facts symbols bytes IsError (Contradiction symbol) =
 IsRejectedFirst facts symbols bytes IsError error = Agree facts symbols bytes × IsError error
 
 -- once addresses are known
-abbrev pub IsRejectedPlaced : Setting → List KeptGroups → List ℕ → List ℕ → List Decision → ℕ
+abbrev pub IsRejectedPlaced : RelaxContext → List UnrelaxableGroups → List ℕ → List ℕ → List Decision → ℕ
     → RewritingError → Type 0
 IsRejectedPlaced s kept bytes section decisions room =
     IsRejectedFirst s.symbols s.values bytes (IsRejectedWith s kept bytes section decisions room)
@@ -359,7 +359,7 @@ IsRejectedPlaced s kept bytes section decisions room =
 -- All that is decided follows from which groups stay.
 abbrev pub DecisionsFollow : Type 0
 DecisionsFollow =
-    (s : Setting) (kept kept_too : List KeptGroups) (bytes section : List ℕ)
+    (s : RelaxContext) (kept kept_too : List UnrelaxableGroups) (bytes section : List ℕ)
     (decisions others : List Decision) (limit : ℕ)
     → ((group : Group) (symbol : ℕ)
     → (IsTrue (stays_at kept group symbol) ↔ IsTrue (stays_at kept_too group symbol)))

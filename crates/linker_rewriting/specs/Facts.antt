@@ -7,7 +7,7 @@ use Rattle.linker_elf.specs.declared.elf.choice.LinkFacts.{LinkFacts}
 use Rattle.linker_rewriting.specs.declared.facts.OutputFacts.{OutputFacts}
 use Rattle.linker_rewriting.specs.declared.facts.SymbolFacts.{SymbolFacts}
 use Rattle.linker_rewriting.specs.declared.phases.Phase.{Phase}
-use Rattle.linker_rewriting.specs.declared.phases.Phase.TheVariants.{Early, ThreadOffsets}
+use Rattle.linker_rewriting.specs.declared.phases.Phase.TheVariants.{PreLayout, TlsLocalExec}
 use Rattle.linker_section.specs.declared.facts.Addresses.{Addresses}
 use Rattle.linker_section.specs.declared.facts.Symbol.{Symbol}
 use Rattle.linker_section.specs.declared.relocations.Rela.{Rela}
@@ -37,7 +37,7 @@ facts_of output symbol addend marked =
       is_ifunc = symbol.is_ifunc;
       is_undefined_weak = symbol.is_undefined_weak;
       has_fixed_address = output.is_fixed || has_own_address symbol;
-      has_fixed_distance = output.has_near_symbols && not (has_own_address symbol);
+      is_pcrel_link_time_constant = output.has_near_symbols && not (has_own_address symbol);
       is_executable = output.is_executable;
       has_local_exec_base = true;
       may_compress = false;
@@ -74,7 +74,7 @@ address_in addresses value =
 -- An executable whose definition of the symbol is used: what a rewrite to local-exec requires. In
 -- the phase of offsets from the thread pointer no other one is made.
 abbrev pub is_executable_in : Phase → OutputFacts → SymbolFacts → Bool
-is_executable_in ThreadOffsets output symbol =
+is_executable_in TlsLocalExec output symbol =
     output.is_executable && (symbol.is_local && not symbol.is_ifunc)
 is_executable_in phase output symbol = output.is_executable
 
@@ -88,7 +88,7 @@ placed_facts phase output addresses symbol value offset addend marked =
       is_ifunc = symbol.is_ifunc;
       is_undefined_weak = symbol.is_undefined_weak;
       has_fixed_address = output.is_fixed || has_own_address symbol;
-      has_fixed_distance = (output.is_fixed || not (has_own_address symbol))
+      is_pcrel_link_time_constant = (output.is_fixed || not (has_own_address symbol))
           && not symbol.is_undefined_weak;
       is_executable = is_executable_in phase output symbol;
       has_local_exec_base = true;
@@ -119,7 +119,7 @@ placed_facts phase output addresses symbol value offset addend marked =
 
 -- What rewrites are chosen by: the architecture, the phase, the output, and an object's symbols,
 -- with addresses once they are known.
-pub record Setting : Type 0 where
+pub record RelaxContext : Type 0 where
   pub architecture : Architecture
   pub phase : Phase
   pub output : OutputFacts
@@ -127,9 +127,9 @@ pub record Setting : Type 0 where
   pub addresses : Addresses
   pub values : List Symbol
 
-abbrev pub setting : Architecture → Phase → OutputFacts → List SymbolFacts → Addresses
-    → List Symbol → Setting
-setting architecture phase output symbols addresses values =
+abbrev pub context : Architecture → Phase → OutputFacts → List SymbolFacts → Addresses
+    → List Symbol → RelaxContext
+context architecture phase output symbols addresses values =
     record {
       architecture = architecture;
       phase = phase;
@@ -150,8 +150,8 @@ no_addresses =
       has_tls = false;
     }
 
-abbrev pub early : Architecture → OutputFacts → List SymbolFacts → Setting
-early architecture output symbols = setting architecture Early output symbols no_addresses []
+abbrev pub pre_layout : Architecture → OutputFacts → List SymbolFacts → RelaxContext
+pre_layout architecture output symbols = context architecture PreLayout output symbols no_addresses []
 
 -- The facts of a relocation whose subject is another one or itself: that whose symbol and addend
 -- count. None where a table has no entry for the symbol.
@@ -163,7 +163,7 @@ facts_with phase output addresses r subject marked symbol (Some value) =
 
 abbrev pub facts_at : Phase → OutputFacts → Addresses → List Symbol → Rela → Rela → Bool
     → SymbolFacts → Option LinkFacts
-facts_at Early output addresses values r subject marked symbol =
+facts_at PreLayout output addresses values r subject marked symbol =
     Some (facts_of output symbol subject.addend marked)
 facts_at phase output addresses values r subject marked symbol =
     facts_with phase output addresses r subject marked symbol (slice_get values subject.symbol)

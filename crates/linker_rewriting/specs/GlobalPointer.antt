@@ -17,14 +17,14 @@ use Rattle.linker_riscv64.specs.RiscVRewrites.{rewrites_word, rs1_of, stores_bas
 use Rattle.linker_riscv64.specs.declared.rewrites.RelaxationKind.TheVariants as kinds
 use Rattle.linker_rewriting.specs.Decisions.{IsFirstCovered}
 use Rattle.linker_rewriting.specs.Decisions.{decision_at, deletions_by}
-use Rattle.linker_rewriting.specs.Facts.{Setting, address_in}
-use Rattle.linker_rewriting.specs.Labels.{IsHighFrom, offset_of_label, is_beyond}
+use Rattle.linker_rewriting.specs.Facts.{RelaxContext, address_in}
+use Rattle.linker_rewriting.specs.RiscVPcrelGroups.{IsHighFrom, offset_of_label, is_beyond}
 use Rattle.linker_rewriting.specs.Rewritten.{IsRewritten}
 use Rattle.linker_rewriting.specs.Sequences.{is_marked_at}
-use Rattle.linker_rewriting.specs.Words.{StaysBy, subject_of, word_stays}
+use Rattle.linker_rewriting.specs.TocIndirection.{WordUnchangedBy, subject_of, word_stays}
 use Rattle.linker_rewriting.specs.declared.decisions.Decision.{Decision}
-use Rattle.linker_rewriting.specs.declared.decisions.Decision.TheVariants.{Kept, Redirected}
-use Rattle.linker_rewriting.specs.declared.decisions.Decision.TheVariants.{Rewritten, TakenAlong}
+use Rattle.linker_rewriting.specs.declared.decisions.Decision.TheVariants.{Kept, RewrittenWithSymbol}
+use Rattle.linker_rewriting.specs.declared.decisions.Decision.TheVariants.{Rewritten, Consumed}
 use Rattle.linker_rewriting.specs.declared.decisions.RewritingError.{RewritingError}
 use Rattle.linker_rewriting.specs.declared.decisions.RewritingError.TheVariants.{TooShort}
 use Rattle.linker_rewriting.specs.declared.decisions.RewritingError.TheVariants.{NotSurveyed}
@@ -96,7 +96,7 @@ IsMemberBy addresses values bytes r (Some part) None = IsSubject addresses value
 IsMemberBy addresses values bytes r (Some part) (Some member) =
     (member.0 ≡ part) × IsSubject addresses values bytes r part (Some (member.1))
 
-abbrev pub IsMember : Setting → List ℕ → Rela → Option (Part × Rela) → Type 0
+abbrev pub IsMember : RelaxContext → List ℕ → Rela → Option (Part × Rela) → Type 0
 IsMember s bytes r =
     IsMemberBy s.addresses s.values bytes r (part_of s.architecture r.code)
 
@@ -125,7 +125,7 @@ is_reached_by addresses gp r (Some symbol) (Some value) =
     && (is_near gp (address_of addresses r value) || is_near 0 (address_of addresses r value))
 
 -- x3 or x0 reaches S + A
-abbrev pub is_reached : Setting → ℕ → Rela → Bool
+abbrev pub is_reached : RelaxContext → ℕ → Rela → Bool
 is_reached s gp r =
     is_reached_by s.addresses gp r (slice_get s.symbols r.symbol) (slice_get s.values r.symbol)
 
@@ -167,7 +167,7 @@ is_expected section r (Labelled code) subject =
 -- It can be rewritten, if all of its symbol can: in an executable with fixed addresses it is
 -- marked, in reach, and of an expected instruction, in a section whose relocations ascend, and is
 -- searched for labels.
-abbrev pub fits : Setting → ℕ → Bool → List ℕ → List ℕ → ℕ → Rela → Part × Rela → Bool
+abbrev pub fits : RelaxContext → ℕ → Bool → List ℕ → List ℕ → ℕ → Rela → Part × Rela → Bool
 fits s gp ascends bytes section n r member =
     ascends && (not (is_beyond bytes r.offset n) && (s.output.is_executable && (s.output.is_fixed
     && (is_marked_at s.architecture bytes n r && (is_reached s gp (member.1)
@@ -176,13 +176,13 @@ fits s gp ascends bytes section n r member =
 -- ---- symbols that stay
 
 -- the symbol that a part keeps, since it doesn't fit
-abbrev pub kept_by : Setting → ℕ → Bool → List ℕ → List ℕ → ℕ → Rela → Option (Part × Rela)
+abbrev pub kept_by : RelaxContext → ℕ → Bool → List ℕ → List ℕ → ℕ → Rela → Option (Part × Rela)
     → Option ℕ
 kept_by s gp ascends bytes section n r None = None
 kept_by s gp ascends bytes section n r (Some member) =
     if fits s gp ascends bytes section n r member then None else Some (member.1).symbol
 
-pub record IsKeepingSymbol (s : Setting) (gp : ℕ) (bytes section : List ℕ) (n : ℕ) (r : Rela)
+pub record IsKeepingSymbol (s : RelaxContext) (gp : ℕ) (bytes section : List ℕ) (n : ℕ) (r : Rela)
     (symbol : Option ℕ) : Type 0 where
   pub ascends : Bool
   pub is_ascending : IsTrue ascends ↔ IsAscending bytes
@@ -190,19 +190,19 @@ pub record IsKeepingSymbol (s : Setting) (gp : ℕ) (bytes section : List ℕ) (
   pub is_member : IsMember s bytes r member
   pub keeps : symbol ≡ kept_by s gp ascends bytes section n r member
 
-pub record IsSymbolNoted (s : Setting) (gp : ℕ) (bytes section : List ℕ) (after : List Bool)
+pub record IsSymbolNoted (s : RelaxContext) (gp : ℕ) (bytes section : List ℕ) (after : List Bool)
     (n : ℕ) : Type 0 where
   pub symbol : Option ℕ
   pub is_keeping : IsKeepingSymbol s gp bytes section n (relocation_in bytes n) symbol
-  pub stays : StaysBy after symbol
+  pub stays : WordUnchangedBy after symbol
 
 -- of the relocations with an index below a limit each that keeps its symbol is noted
-abbrev pub AreSymbolsNoted : Setting → ℕ → List ℕ → List ℕ → List Bool → ℕ → Type 0
+abbrev pub AreSymbolsNoted : RelaxContext → ℕ → List ℕ → List ℕ → List Bool → ℕ → Type 0
 AreSymbolsNoted s gp bytes section after limit =
     (n : ℕ) → n < limit → IsSymbolNoted s gp bytes section after n
 
 -- They are noted. What stayed before stays, and what else stays has a cause.
-pub record AreSymbolsSurveyed (s : Setting) (gp : ℕ) (bytes section : List ℕ)
+pub record AreSymbolsSurveyed (s : RelaxContext) (gp : ℕ) (bytes section : List ℕ)
     (before after : List Bool) (limit : ℕ) : Type 0 where
   pub noted : AreSymbolsNoted s gp bytes section after limit
   pub stayed : (symbol : ℕ) → word_stays before symbol ≡ true → word_stays after symbol ≡ true
@@ -217,12 +217,12 @@ pub record AreSymbolsSurveyed (s : Setting) (gp : ℕ) (bytes section : List ℕ
 abbrev pub part_decision : Part → Rela → Decision
 part_decision (High opcode) subject = Rewritten (choice (relaxations.RiscV kinds.Delete) 0)
 part_decision (Low code) subject =
-    Redirected (choice (relaxations.RiscV kinds.NoOp) code) (subject_of subject)
+    RewrittenWithSymbol (choice (relaxations.RiscV kinds.NoOp) code) (subject_of subject)
 part_decision (Labelled code) subject =
-    Redirected (choice (relaxations.RiscV kinds.NoOp) code) (subject_of subject)
+    RewrittenWithSymbol (choice (relaxations.RiscV kinds.NoOp) code) (subject_of subject)
 
 -- none if its symbol doesn't stay, but it doesn't fit
-abbrev pub decided_by : Setting → ℕ → Bool → List Bool → List ℕ → List ℕ → ℕ → Rela
+abbrev pub decided_by : RelaxContext → ℕ → Bool → List Bool → List ℕ → List ℕ → ℕ → Rela
     → Option (Part × Rela) → Option Decision
 decided_by s gp ascends kept bytes section n r None = Some Kept
 decided_by s gp ascends kept bytes section n r (Some member) =
@@ -230,7 +230,7 @@ decided_by s gp ascends kept bytes section n r (Some member) =
     else (if fits s gp ascends bytes section n r member
     then Some (part_decision (member.0) (member.1)) else None)
 
-pub record IsPartDecided (s : Setting) (gp : ℕ) (kept : List Bool) (bytes section : List ℕ) (n : ℕ)
+pub record IsPartDecided (s : RelaxContext) (gp : ℕ) (kept : List Bool) (bytes section : List ℕ) (n : ℕ)
     (r : Rela) (decision : Option Decision) : Type 0 where
   pub ascends : Bool
   pub is_ascending : IsTrue ascends ↔ IsAscending bytes
@@ -239,7 +239,7 @@ pub record IsPartDecided (s : Setting) (gp : ℕ) (kept : List Bool) (bytes sect
   pub decided : decision ≡ decided_by s gp ascends kept bytes section n r member
 
 -- those of the relocations with an index below a limit
-abbrev pub ArePartsDecided : Setting → ℕ → List Bool → List ℕ → List ℕ → List Decision → ℕ → Type 0
+abbrev pub ArePartsDecided : RelaxContext → ℕ → List Bool → List ℕ → List ℕ → List Decision → ℕ → Type 0
 ArePartsDecided s gp kept bytes section decisions limit =
     (n : ℕ) → n < limit
     → IsPartDecided s gp kept bytes section n (relocation_in bytes n)
@@ -250,7 +250,7 @@ ArePartsDecided s gp kept bytes section decisions limit =
 -- Where the instruction of a part ends, by its offset. That of a part that stays has no bytes here.
 abbrev pub part_end : Decision → ℕ → ℕ
 part_end (Rewritten chosen) offset = offset + 4
-part_end (Redirected chosen subject) offset = offset + 4
+part_end (RewrittenWithSymbol chosen subject) offset = offset + 4
 part_end decision offset = offset
 
 abbrev pub part_end_at : List ℕ → List Decision → ℕ → ℕ
@@ -267,9 +267,9 @@ ArePartsApart bytes decisions limit =
 -- a relocation after what became of it, where no bytes are rewritten
 abbrev pub relocation_by : Decision → Rela → Rela
 relocation_by Kept r = r
-relocation_by TakenAlong r = record r { code = 0 }
+relocation_by Consumed r = record r { code = 0 }
 relocation_by (Rewritten chosen) r = record r { code = chosen.relocation }
-relocation_by (Redirected chosen subject) r =
+relocation_by (RewrittenWithSymbol chosen subject) r =
     record {
       offset = r.offset;
       code = chosen.relocation;
@@ -287,7 +287,7 @@ AreRelocationsBy decisions before after limit =
 
 -- of two sections that are decided by one table, each at its address, all parts of a symbol are
 -- rewritten, or none is
-abbrev pub ArePartsWholeIn : Setting → Setting → List ℕ → List ℕ → List Decision → List Decision
+abbrev pub ArePartsWholeIn : RelaxContext → RelaxContext → List ℕ → List ℕ → List Decision → List Decision
     → ℕ → ℕ → Type 0
 ArePartsWholeIn s other bytes others_bytes decisions others limit others_limit =
     IsAscending bytes → IsAscending others_bytes
@@ -299,14 +299,14 @@ ArePartsWholeIn s other bytes others_bytes decisions others limit others_limit =
     → IsRewritten (decision_at decisions i) → IsRewritten (decision_at others j)
 
 -- of one section, all parts of a symbol are rewritten, or none is
-abbrev pub ArePartsWhole : Setting → List ℕ → List Decision → ℕ → Type 0
+abbrev pub ArePartsWhole : RelaxContext → List ℕ → List Decision → ℕ → Type 0
 ArePartsWhole s bytes decisions limit =
     ArePartsWholeIn s s bytes bytes decisions decisions limit limit
 
 -- of any two sections that are decided by one table
 abbrev pub ArePartsWholeAcross : Type 0
 ArePartsWholeAcross =
-    (s other : Setting) (gp : ℕ) (kept : List Bool)
+    (s other : RelaxContext) (gp : ℕ) (kept : List Bool)
     (bytes section others_bytes others_section : List ℕ) (decisions others : List Decision)
     (limit others_limit : ℕ)
     → ArePartsDecided s gp kept bytes section decisions limit
@@ -316,7 +316,7 @@ ArePartsWholeAcross =
 -- ---- errors
 
 -- The instruction of the part with an index overlaps that of one before it, or lies below it.
-pub record IsPartOverlapping (s : Setting) (gp : ℕ) (kept : List Bool) (bytes section : List ℕ)
+pub record IsPartOverlapping (s : RelaxContext) (gp : ℕ) (kept : List Bool) (bytes section : List ℕ)
     (decisions : List Decision) (n : ℕ) : Type 0 where
   pub decision : Decision
   pub decided : IsPartDecided s gp kept bytes section n (relocation_in bytes n) (Some decision)
@@ -329,7 +329,7 @@ pub record IsPartOverlapping (s : Setting) (gp : ℕ) (kept : List Bool) (bytes 
 
 -- Those below the index are decided. That at the index isn't, though there is room for all. There
 -- may also be less room for deletions than there are.
-abbrev pub ArePartsRejected : Setting → ℕ → List Bool → List ℕ → List ℕ → List Decision → ℕ
+abbrev pub ArePartsRejected : RelaxContext → ℕ → List Bool → List ℕ → List ℕ → List Decision → ℕ
     → RewritingError → Type 0
 ArePartsRejected s gp kept bytes section decisions room TooShort =
     (length decisions < length bytes / 24)
@@ -349,7 +349,7 @@ ArePartsRejected s gp kept bytes section decisions room (Overlaps n) =
 ArePartsRejected s gp kept bytes section decisions room (Contradiction symbol) = ⊥
 
 -- an error that a section wasn't surveyed comes only where what it keeps isn't all noted
-abbrev pub MeansSymbolsUnsurveyed : Setting → ℕ → List ℕ → List ℕ → List Bool → RewritingError
+abbrev pub MeansSymbolsUnsurveyed : RelaxContext → ℕ → List ℕ → List ℕ → List Bool → RewritingError
     → Type 0
 MeansSymbolsUnsurveyed s gp bytes section kept (NotSurveyed n) =
     IsAscending bytes → ¬ AreSymbolsNoted s gp bytes section kept (length bytes / 24)

@@ -21,14 +21,14 @@ use Rattle.linker_rewriting.specs.declared.groups.Group.{Group}
 use Rattle.linker_rewriting.specs.declared.groups.Group.TheVariants.{InitialExec, GeneralDynamic}
 use Rattle.linker_rewriting.specs.declared.groups.Group.TheVariants.{LocalDynamic, Descriptor}
 use Rattle.linker_rewriting.specs.declared.groups.Group.TheVariants.{GotLoad}
-use Rattle.linker_rewriting.specs.declared.groups.KeptGroups.{KeptGroups}
+use Rattle.linker_rewriting.specs.declared.groups.UnrelaxableGroups.{UnrelaxableGroups}
 use Rattle.linker_rewriting.specs.declared.groups.Scope.{Scope}
-use Rattle.linker_rewriting.specs.declared.groups.Scope.TheVariants.{Unlisted, Alone, Grouped}
-use Rattle.linker_rewriting.specs.declared.groups.Scope.TheVariants.{Ahead, Matched, Labelled}
+use Rattle.linker_rewriting.specs.declared.groups.Scope.TheVariants.{NotRelaxable, Independent, Grouped}
+use Rattle.linker_rewriting.specs.declared.groups.Scope.TheVariants.{FirstOfPair, IfGroupMatches, Labelled}
 use Rattle.linker_rewriting.specs.declared.phases.Phase.{Phase}
-use Rattle.linker_rewriting.specs.declared.phases.Phase.TheVariants.{Early, ThreadOffsets}
-use Rattle.linker_rewriting.specs.declared.phases.Phase.TheVariants.{GotLoads, Distances}
-use Rattle.linker_utils.specs.Architectures.{IsOf}
+use Rattle.linker_rewriting.specs.declared.phases.Phase.TheVariants.{PreLayout, TlsLocalExec}
+use Rattle.linker_rewriting.specs.declared.phases.Phase.TheVariants.{GotToPcRel, ShortPcRel}
+use Rattle.linker_utils.specs.Architectures.{IsNamedValue}
 use Rattle.linker_utils.specs.declared.elf.Architecture.{Architecture}
 use Rattle.linker_utils.specs.declared.elf.Architecture.TheVariants.{AArch64, RiscV, LoongArch64}
 use Rattle.linker_utils.specs.declared.elf.Architecture.TheVariants.{Ppc64, X86_64}
@@ -36,20 +36,20 @@ use Rattle.linker_utils.specs.declared.elf.Architecture.TheVariants.{Ppc64, X86_
 -- ---- scopes before addresses are known
 
 abbrev pub aarch64_scope : AArch64Relocation → Scope
-aarch64_scope aarch64.R_AARCH64_CALL26 = Alone
-aarch64_scope aarch64.R_AARCH64_JUMP26 = Alone
+aarch64_scope aarch64.R_AARCH64_CALL26 = Independent
+aarch64_scope aarch64.R_AARCH64_JUMP26 = Independent
 aarch64_scope aarch64.R_AARCH64_TLSIE_ADR_GOTTPREL_PAGE21 = Grouped InitialExec
 aarch64_scope aarch64.R_AARCH64_TLSIE_LD64_GOTTPREL_LO12_NC = Grouped InitialExec
 aarch64_scope aarch64.R_AARCH64_TLSDESC_ADR_PAGE21 = Grouped Descriptor
 aarch64_scope aarch64.R_AARCH64_TLSDESC_LD64_LO12 = Grouped Descriptor
 aarch64_scope aarch64.R_AARCH64_TLSDESC_ADD_LO12 = Grouped Descriptor
 aarch64_scope aarch64.R_AARCH64_TLSDESC_CALL = Grouped Descriptor
-aarch64_scope name = Unlisted
+aarch64_scope name = NotRelaxable
 
 abbrev pub loongarch_scope : LoongArch64Relocation → Scope
 -- each where all of its pair is next to it (`IsWhole`), so that the pair is the group
-loongarch_scope loongarch64.R_LARCH_GOT_PC_HI20 = Alone
-loongarch_scope loongarch64.R_LARCH_GOT_PC_LO12 = Alone
+loongarch_scope loongarch64.R_LARCH_GOT_PC_HI20 = Independent
+loongarch_scope loongarch64.R_LARCH_GOT_PC_LO12 = Independent
 loongarch_scope loongarch64.R_LARCH_TLS_IE_PC_HI20 = Grouped InitialExec
 loongarch_scope loongarch64.R_LARCH_TLS_IE_PC_LO12 = Grouped InitialExec
 loongarch_scope loongarch64.R_LARCH_TLS_IE64_PC_LO20 = Grouped InitialExec
@@ -60,11 +60,11 @@ loongarch_scope loongarch64.R_LARCH_TLS_DESC64_PC_LO20 = Grouped Descriptor
 loongarch_scope loongarch64.R_LARCH_TLS_DESC64_PC_HI12 = Grouped Descriptor
 loongarch_scope loongarch64.R_LARCH_TLS_DESC_LD = Grouped Descriptor
 loongarch_scope loongarch64.R_LARCH_TLS_DESC_CALL = Grouped Descriptor
-loongarch_scope name = Unlisted
+loongarch_scope name = NotRelaxable
 
 abbrev pub ppc64_scope : Ppc64Relocation → Scope
-ppc64_scope ppc64.R_PPC64_REL24 = Alone
-ppc64_scope ppc64.R_PPC64_GOT_PCREL34 = Alone
+ppc64_scope ppc64.R_PPC64_REL24 = Independent
+ppc64_scope ppc64.R_PPC64_GOT_PCREL34 = Independent
 ppc64_scope ppc64.R_PPC64_GOT16 = Grouped GotLoad
 ppc64_scope ppc64.R_PPC64_GOT16_DS = Grouped GotLoad
 ppc64_scope ppc64.R_PPC64_GOT16_LO = Grouped GotLoad
@@ -89,18 +89,18 @@ ppc64_scope ppc64.R_PPC64_GOT_TLSLD16_HI = Grouped LocalDynamic
 ppc64_scope ppc64.R_PPC64_GOT_TLSLD16_HA = Grouped LocalDynamic
 ppc64_scope ppc64.R_PPC64_GOT_TLSLD_PCREL34 = Grouped LocalDynamic
 ppc64_scope ppc64.R_PPC64_TLSLD = Grouped LocalDynamic
-ppc64_scope name = Unlisted
+ppc64_scope name = NotRelaxable
 
 abbrev pub x86_64_scope : X86_64Relocation → Scope
-x86_64_scope x86_64.R_X86_64_GOTPCREL = Alone
-x86_64_scope x86_64.R_X86_64_GOTPCRELX = Alone
-x86_64_scope x86_64.R_X86_64_REX_GOTPCRELX = Alone
-x86_64_scope x86_64.R_X86_64_CODE_4_GOTPCRELX = Alone
-x86_64_scope x86_64.R_X86_64_CODE_6_GOTPCRELX = Alone
-x86_64_scope x86_64.R_X86_64_GOTTPOFF = Alone
-x86_64_scope x86_64.R_X86_64_CODE_4_GOTTPOFF = Alone
-x86_64_scope x86_64.R_X86_64_CODE_6_GOTTPOFF = Alone
-x86_64_scope x86_64.R_X86_64_TLSGD = Alone
+x86_64_scope x86_64.R_X86_64_GOTPCREL = Independent
+x86_64_scope x86_64.R_X86_64_GOTPCRELX = Independent
+x86_64_scope x86_64.R_X86_64_REX_GOTPCRELX = Independent
+x86_64_scope x86_64.R_X86_64_CODE_4_GOTPCRELX = Independent
+x86_64_scope x86_64.R_X86_64_CODE_6_GOTPCRELX = Independent
+x86_64_scope x86_64.R_X86_64_GOTTPOFF = Independent
+x86_64_scope x86_64.R_X86_64_CODE_4_GOTTPOFF = Independent
+x86_64_scope x86_64.R_X86_64_CODE_6_GOTTPOFF = Independent
+x86_64_scope x86_64.R_X86_64_TLSGD = Independent
 x86_64_scope x86_64.R_X86_64_TLSLD = Grouped LocalDynamic
 x86_64_scope x86_64.R_X86_64_DTPOFF32 = Grouped LocalDynamic
 x86_64_scope x86_64.R_X86_64_DTPOFF64 = Grouped LocalDynamic
@@ -111,85 +111,85 @@ x86_64_scope x86_64.R_X86_64_CODE_4_GOTPC32_TLSDESC = Grouped Descriptor
 x86_64_scope x86_64.R_X86_64_CODE_5_GOTPC32_TLSDESC = Grouped Descriptor
 x86_64_scope x86_64.R_X86_64_CODE_6_GOTPC32_TLSDESC = Grouped Descriptor
 x86_64_scope x86_64.R_X86_64_TLSDESC_CALL = Grouped Descriptor
-x86_64_scope name = Unlisted
+x86_64_scope name = NotRelaxable
 
 -- ---- scopes in any phase
 
 abbrev pub aarch64_scope_in : Phase → AArch64Relocation → Scope
-aarch64_scope_in Early name = aarch64_scope name
-aarch64_scope_in GotLoads aarch64.R_AARCH64_ADR_GOT_PAGE = Grouped GotLoad
-aarch64_scope_in GotLoads aarch64.R_AARCH64_LD64_GOT_LO12_NC = Grouped GotLoad
-aarch64_scope_in Distances aarch64.R_AARCH64_ADR_PREL_PG_HI21 = Ahead
-aarch64_scope_in Distances aarch64.R_AARCH64_ADD_ABS_LO12_NC = Alone
-aarch64_scope_in phase name = Unlisted
+aarch64_scope_in PreLayout name = aarch64_scope name
+aarch64_scope_in GotToPcRel aarch64.R_AARCH64_ADR_GOT_PAGE = Grouped GotLoad
+aarch64_scope_in GotToPcRel aarch64.R_AARCH64_LD64_GOT_LO12_NC = Grouped GotLoad
+aarch64_scope_in ShortPcRel aarch64.R_AARCH64_ADR_PREL_PG_HI21 = FirstOfPair
+aarch64_scope_in ShortPcRel aarch64.R_AARCH64_ADD_ABS_LO12_NC = Independent
+aarch64_scope_in phase name = NotRelaxable
 
 -- All of RISC-V's wait for addresses.
 abbrev pub riscv_scope_in : Phase → RiscVRelocation → Scope
-riscv_scope_in ThreadOffsets riscv64.R_RISCV_TPREL_HI20 = Grouped InitialExec
-riscv_scope_in ThreadOffsets riscv64.R_RISCV_TPREL_ADD = Grouped InitialExec
-riscv_scope_in ThreadOffsets riscv64.R_RISCV_TPREL_LO12_I = Grouped InitialExec
-riscv_scope_in ThreadOffsets riscv64.R_RISCV_TPREL_LO12_S = Grouped InitialExec
-riscv_scope_in ThreadOffsets riscv64.R_RISCV_TLSDESC_HI20 = Labelled
-riscv_scope_in ThreadOffsets riscv64.R_RISCV_TLSDESC_LOAD_LO12 = Labelled
-riscv_scope_in ThreadOffsets riscv64.R_RISCV_TLSDESC_ADD_LO12 = Labelled
-riscv_scope_in ThreadOffsets riscv64.R_RISCV_TLSDESC_CALL = Labelled
-riscv_scope_in GotLoads riscv64.R_RISCV_GOT_HI20 = Labelled
-riscv_scope_in GotLoads riscv64.R_RISCV_PCREL_LO12_I = Labelled
-riscv_scope_in GotLoads riscv64.R_RISCV_PCREL_LO12_S = Labelled
-riscv_scope_in phase name = Unlisted
+riscv_scope_in TlsLocalExec riscv64.R_RISCV_TPREL_HI20 = Grouped InitialExec
+riscv_scope_in TlsLocalExec riscv64.R_RISCV_TPREL_ADD = Grouped InitialExec
+riscv_scope_in TlsLocalExec riscv64.R_RISCV_TPREL_LO12_I = Grouped InitialExec
+riscv_scope_in TlsLocalExec riscv64.R_RISCV_TPREL_LO12_S = Grouped InitialExec
+riscv_scope_in TlsLocalExec riscv64.R_RISCV_TLSDESC_HI20 = Labelled
+riscv_scope_in TlsLocalExec riscv64.R_RISCV_TLSDESC_LOAD_LO12 = Labelled
+riscv_scope_in TlsLocalExec riscv64.R_RISCV_TLSDESC_ADD_LO12 = Labelled
+riscv_scope_in TlsLocalExec riscv64.R_RISCV_TLSDESC_CALL = Labelled
+riscv_scope_in GotToPcRel riscv64.R_RISCV_GOT_HI20 = Labelled
+riscv_scope_in GotToPcRel riscv64.R_RISCV_PCREL_LO12_I = Labelled
+riscv_scope_in GotToPcRel riscv64.R_RISCV_PCREL_LO12_S = Labelled
+riscv_scope_in phase name = NotRelaxable
 
 abbrev pub loongarch_scope_in : Phase → LoongArch64Relocation → Scope
-loongarch_scope_in Early name = loongarch_scope name
-loongarch_scope_in ThreadOffsets loongarch64.R_LARCH_TLS_LE_HI20_R = Grouped InitialExec
-loongarch_scope_in ThreadOffsets loongarch64.R_LARCH_TLS_LE_ADD_R = Grouped InitialExec
-loongarch_scope_in ThreadOffsets loongarch64.R_LARCH_TLS_LE_LO12_R = Grouped InitialExec
-loongarch_scope_in phase name = Unlisted
+loongarch_scope_in PreLayout name = loongarch_scope name
+loongarch_scope_in TlsLocalExec loongarch64.R_LARCH_TLS_LE_HI20_R = Grouped InitialExec
+loongarch_scope_in TlsLocalExec loongarch64.R_LARCH_TLS_LE_ADD_R = Grouped InitialExec
+loongarch_scope_in TlsLocalExec loongarch64.R_LARCH_TLS_LE_LO12_R = Grouped InitialExec
+loongarch_scope_in phase name = NotRelaxable
 
 abbrev pub ppc64_scope_in : Phase → Ppc64Relocation → Scope
-ppc64_scope_in Early name = ppc64_scope name
-ppc64_scope_in ThreadOffsets ppc64.R_PPC64_TPREL16_HA = Grouped InitialExec
-ppc64_scope_in ThreadOffsets ppc64.R_PPC64_TPREL16_LO = Grouped InitialExec
-ppc64_scope_in ThreadOffsets ppc64.R_PPC64_TPREL16_LO_DS = Grouped InitialExec
-ppc64_scope_in Distances ppc64.R_PPC64_TOC16_HA = Matched GotLoad
-ppc64_scope_in Distances ppc64.R_PPC64_TOC16_LO = Matched GotLoad
-ppc64_scope_in Distances ppc64.R_PPC64_TOC16_LO_DS = Matched GotLoad
-ppc64_scope_in phase name = Unlisted
+ppc64_scope_in PreLayout name = ppc64_scope name
+ppc64_scope_in TlsLocalExec ppc64.R_PPC64_TPREL16_HA = Grouped InitialExec
+ppc64_scope_in TlsLocalExec ppc64.R_PPC64_TPREL16_LO = Grouped InitialExec
+ppc64_scope_in TlsLocalExec ppc64.R_PPC64_TPREL16_LO_DS = Grouped InitialExec
+ppc64_scope_in ShortPcRel ppc64.R_PPC64_TOC16_HA = IfGroupMatches GotLoad
+ppc64_scope_in ShortPcRel ppc64.R_PPC64_TOC16_LO = IfGroupMatches GotLoad
+ppc64_scope_in ShortPcRel ppc64.R_PPC64_TOC16_LO_DS = IfGroupMatches GotLoad
+ppc64_scope_in phase name = NotRelaxable
 
 abbrev pub x86_64_scope_in : Phase → X86_64Relocation → Scope
-x86_64_scope_in Early name = x86_64_scope name
-x86_64_scope_in phase name = Unlisted
+x86_64_scope_in PreLayout name = x86_64_scope name
+x86_64_scope_in phase name = NotRelaxable
 
 -- that of a code
 abbrev pub IsScopeIn : Architecture → Phase → ℕ → Scope → Type 0
-IsScopeIn AArch64 phase = IsOf aarch64_name (aarch64_scope_in phase)
-IsScopeIn RiscV phase = IsOf riscv_name (riscv_scope_in phase)
-IsScopeIn LoongArch64 phase = IsOf loongarch_name (loongarch_scope_in phase)
-IsScopeIn Ppc64 phase = IsOf ppc64_name (ppc64_scope_in phase)
-IsScopeIn X86_64 phase = IsOf x86_64_name (x86_64_scope_in phase)
+IsScopeIn AArch64 phase = IsNamedValue aarch64_name (aarch64_scope_in phase)
+IsScopeIn RiscV phase = IsNamedValue riscv_name (riscv_scope_in phase)
+IsScopeIn LoongArch64 phase = IsNamedValue loongarch_name (loongarch_scope_in phase)
+IsScopeIn Ppc64 phase = IsNamedValue ppc64_name (ppc64_scope_in phase)
+IsScopeIn X86_64 phase = IsNamedValue x86_64_name (x86_64_scope_in phase)
 
 -- a phase has rewrites
 abbrev pub has_rewrites : Architecture → Phase → Bool
-has_rewrites AArch64 ThreadOffsets = false
+has_rewrites AArch64 TlsLocalExec = false
 has_rewrites AArch64 phase = true
-has_rewrites RiscV ThreadOffsets = true
-has_rewrites RiscV GotLoads = true
+has_rewrites RiscV TlsLocalExec = true
+has_rewrites RiscV GotToPcRel = true
 has_rewrites RiscV phase = false
-has_rewrites LoongArch64 Early = true
-has_rewrites LoongArch64 ThreadOffsets = true
+has_rewrites LoongArch64 PreLayout = true
+has_rewrites LoongArch64 TlsLocalExec = true
 has_rewrites LoongArch64 phase = false
-has_rewrites Ppc64 GotLoads = false
+has_rewrites Ppc64 GotToPcRel = false
 has_rewrites Ppc64 phase = true
-has_rewrites X86_64 Early = true
+has_rewrites X86_64 PreLayout = true
 has_rewrites X86_64 phase = false
 
 -- in one without them no relocation has a scope
-abbrev pub IsUnlistedUnless : Architecture → Phase → Bool → Type 0
-IsUnlistedUnless architecture phase true = Unit {0}
-IsUnlistedUnless architecture phase false =
-    (code : ℕ) (scope : Scope) → IsScopeIn architecture phase code scope → scope ≡ Unlisted
+abbrev pub IsNotRelaxableUnless : Architecture → Phase → Bool → Type 0
+IsNotRelaxableUnless architecture phase true = Unit {0}
+IsNotRelaxableUnless architecture phase false =
+    (code : ℕ) (scope : Scope) → IsScopeIn architecture phase code scope → scope ≡ NotRelaxable
 
 abbrev pub IsScope : Architecture → ℕ → Scope → Type 0
-IsScope architecture = IsScopeIn architecture Early
+IsScope architecture = IsScopeIn architecture PreLayout
 
 -- a code is of a group's kind
 abbrev pub IsInGroupIn : Architecture → Phase → ℕ → Group → Type 0
@@ -207,33 +207,33 @@ is_mark ppc64.R_PPC64_TLSLD = true
 is_mark name = false
 
 abbrev pub IsMark : ℕ → Bool → Type 0
-IsMark = IsOf ppc64_name is_mark
+IsMark = IsNamedValue ppc64_name is_mark
 
 -- ---- groups that stay
 
-abbrev pub keeps : Group → KeptGroups → Bool
+abbrev pub keeps : Group → UnrelaxableGroups → Bool
 keeps InitialExec kept = kept.initial_exec
 keeps GeneralDynamic kept = kept.general_dynamic
 keeps LocalDynamic kept = kept.local_dynamic
 keeps Descriptor kept = kept.descriptor
 keeps GotLoad kept = kept.got_load
 
-abbrev pub with_kept : Group → KeptGroups → KeptGroups
+abbrev pub with_kept : Group → UnrelaxableGroups → UnrelaxableGroups
 with_kept InitialExec kept = record kept { initial_exec = true }
 with_kept GeneralDynamic kept = record kept { general_dynamic = true }
 with_kept LocalDynamic kept = record kept { local_dynamic = true }
 with_kept Descriptor kept = record kept { descriptor = true }
 with_kept GotLoad kept = record kept { got_load = true }
 
-abbrev pub kept_by : Group → Option KeptGroups → Bool
+abbrev pub kept_by : Group → Option UnrelaxableGroups → Bool
 kept_by group None = true
 kept_by group (Some kept) = keeps group kept
 
 -- by a table; all stay where it has no entry
-abbrev pub stays_at : List KeptGroups → Group → ℕ → Bool
+abbrev pub stays_at : List UnrelaxableGroups → Group → ℕ → Bool
 stays_at table group symbol = kept_by group (slice_get table symbol)
 
 -- of a symbol, or all of its kind in the object
-abbrev pub group_stays : List KeptGroups → Group → ℕ → Bool
+abbrev pub group_stays : List UnrelaxableGroups → Group → ℕ → Bool
 group_stays table group symbol =
     stays_at table group 0 || stays_at table group (symbol_of_group group symbol)

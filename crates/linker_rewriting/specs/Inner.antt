@@ -2,5 +2,5 @@ pub mod Calls
 pub mod Codes
 pub mod Left
 pub mod Places
-pub mod Settings
-pub mod Words
+pub mod Contexts
+pub mod TocIndirection

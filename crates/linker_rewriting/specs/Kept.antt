@@ -8,7 +8,7 @@ use Rattle.linker_rewriting.specs.Agreement.{Agree, IsContradiction}
 use Rattle.linker_rewriting.specs.Facts.{facts_of, placed_facts, is_imported}
 use Rattle.linker_rewriting.specs.declared.facts.OutputFacts.{OutputFacts}
 use Rattle.linker_rewriting.specs.declared.facts.SymbolFacts.{SymbolFacts}
-use Rattle.linker_rewriting.specs.declared.kept.KeptFacts.{KeptFacts}
+use Rattle.linker_rewriting.specs.declared.kept.FactsSnapshot.{FactsSnapshot}
 use Rattle.linker_rewriting.specs.declared.kept.WritingError.{WritingError}
 use Rattle.linker_rewriting.specs.declared.kept.WritingError.TheVariants.{Contradiction, Changed}
 use Rattle.linker_rewriting.specs.declared.kept.WritingError.TheVariants.{NeedsStub, Section}
@@ -37,33 +37,33 @@ kept_bits output symbol =
     + symbol.other / 32 * 32 + bit_if 16 symbol.is_tls_get_addr + bit_if 8 symbol.is_undefined_weak
     + bit_if 4 symbol.is_absolute + bit_if 2 symbol.is_ifunc + bit_if 1 symbol.is_local
 
-abbrev pub kept_facts : OutputFacts → SymbolFacts → KeptFacts
-kept_facts output symbol = record { bits = kept_bits output symbol }
+abbrev pub facts_snapshot : OutputFacts → SymbolFacts → FactsSnapshot
+facts_snapshot output symbol = record { bits = kept_bits output symbol }
 
 -- ---- the facts of an object
 
-abbrev pub facts_now : OutputFacts → Option SymbolFacts → Option KeptFacts
+abbrev pub facts_now : OutputFacts → Option SymbolFacts → Option FactsSnapshot
 facts_now output None = None
-facts_now output (Some symbol) = Some (kept_facts output symbol)
+facts_now output (Some symbol) = Some (facts_snapshot output symbol)
 
-abbrev pub AreKept : OutputFacts → List SymbolFacts → List KeptFacts → Type 0
+abbrev pub AreKept : OutputFacts → List SymbolFacts → List FactsSnapshot → Type 0
 AreKept output symbols kept =
     (n : ℕ) → slice_get kept n ≡ facts_now output (slice_get symbols n)
 
 -- What is kept of a relocation's symbol is what holds now. Of a symbol that isn't in the tables no
 -- choice read a fact.
-abbrev pub IsAsKept : OutputFacts → List SymbolFacts → List KeptFacts → Rela → Type 0
+abbrev pub IsAsKept : OutputFacts → List SymbolFacts → List FactsSnapshot → Rela → Type 0
 IsAsKept output symbols kept r =
     slice_get kept r.symbol ≡ facts_now output (slice_get symbols r.symbol)
 
 -- of the relocations with an index below a limit
-abbrev pub AreAsKept : OutputFacts → List SymbolFacts → List KeptFacts → List ℕ → ℕ → Type 0
+abbrev pub AreAsKept : OutputFacts → List SymbolFacts → List FactsSnapshot → List ℕ → ℕ → Type 0
 AreAsKept output symbols kept bytes limit =
     (n : ℕ) → n < limit → IsAsKept output symbols kept (relocation_in bytes n)
 
 -- the first of which something else is kept
 pub record IsFirstChanged (output : OutputFacts) (symbols : List SymbolFacts)
-    (kept : List KeptFacts) (bytes : List ℕ) (n : ℕ) : Type 0 where
+    (kept : List FactsSnapshot) (bytes : List ℕ) (n : ℕ) : Type 0 where
   pub within : n < length bytes / 24
   pub same_before : AreAsKept output symbols kept bytes n
   pub changed : ¬ IsAsKept output symbols kept (relocation_in bytes n)
@@ -105,7 +105,7 @@ pub record IsFirstWithoutStub (architecture : Architecture) (facts : List Symbol
 -- ---- errors
 
 -- why values aren't written
-abbrev pub IsWritingCause : Architecture → OutputFacts → List SymbolFacts → List KeptFacts
+abbrev pub IsWritingCause : Architecture → OutputFacts → List SymbolFacts → List FactsSnapshot
     → Addresses → List ℕ → List Symbol → List ℕ → WritingError → Type 0
 IsWritingCause architecture output facts kept addresses bytes symbols section
     (Contradiction symbol) =
@@ -143,5 +143,5 @@ abbrev pub KeptFactsTell : Type 0
 KeptFactsTell =
     (output other : OutputFacts) (symbol another : SymbolFacts)
     → symbol.other < 2 ^ 8 → another.other < 2 ^ 8
-    → kept_facts output symbol ≡ kept_facts other another
+    → facts_snapshot output symbol ≡ facts_snapshot other another
     → AreReadAlike output other symbol another

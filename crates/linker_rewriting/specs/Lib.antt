@@ -6,9 +6,9 @@ pub mod GlobalPointer
 pub mod Groups
 pub mod Inner
 pub mod Kept
-pub mod Labels
+pub mod RiscVPcrelGroups
 pub mod Notes
 pub mod Rewritten
 pub mod Sequences
 pub mod Surveys
-pub mod Words
+pub mod TocIndirection

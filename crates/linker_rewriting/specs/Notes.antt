@@ -2,10 +2,10 @@
 use Rattle.std.specs.Prelude.{◌≡◌, ℕ, ◌<◌, ◌≤◌, ◌/◌, Bool, true, false, List, length, Option}
 use Rattle.std.specs.Prelude.{Some, None}
 use Rattle.linker_rewriting.specs.Decisions.{decision_at}
-use Rattle.linker_rewriting.specs.Facts.{Setting}
-use Rattle.linker_rewriting.specs.Labels.{IsHighOf, IsInLabel, IsLabelNote, HasLacking}
+use Rattle.linker_rewriting.specs.Facts.{RelaxContext}
+use Rattle.linker_rewriting.specs.RiscVPcrelGroups.{IsHighOf, IsInLabel, IsLabelNote, HasLacking}
 use Rattle.linker_rewriting.specs.declared.decisions.Decision.{Decision}
-use Rattle.linker_rewriting.specs.declared.decisions.Decision.TheVariants.{TakenAlong}
+use Rattle.linker_rewriting.specs.declared.decisions.Decision.TheVariants.{Consumed}
 use Rattle.linker_rewriting.specs.declared.phases.Phase.{Phase}
 use Rattle.linker_section.specs.Relocations.{relocation_in}
 use Rattle.linker_section.specs.declared.facts.Addresses.{Addresses}
@@ -14,11 +14,11 @@ use Rattle.linker_section.specs.declared.relocations.Rela.{Rela}
 
 -- a group stays
 abbrev pub is_note : Decision → Bool
-is_note TakenAlong = true
+is_note Consumed = true
 is_note decision = false
 
 -- It is noted at exactly the high parts whose group a relocation below a limit keeps.
-pub record AreHighsNoted (s : Setting) (bytes section : List ℕ) (decisions : List Decision)
+pub record AreHighsNoted (s : RelaxContext) (bytes section : List ℕ) (decisions : List Decision)
     (limit : ℕ) : Type 0 where
   pub sound : (high : ℕ) → high < length bytes / 24
       → is_note (decision_at decisions high) ≡ true → HasLacking s bytes section limit high
@@ -27,7 +27,7 @@ pub record AreHighsNoted (s : Setting) (bytes section : List ℕ) (decisions : L
 
 -- what is noted at a high part; a group without one stays
 abbrev pub IsNoteAt : List Decision → Option ℕ → Decision → Type 0
-IsNoteAt decisions None note = note ≡ TakenAlong
+IsNoteAt decisions None note = note ≡ Consumed
 IsNoteAt decisions (Some high) note = note ≡ decision_at decisions high
 
 -- of the label of a relocation
@@ -38,7 +38,7 @@ IsNoteOf phase addresses values bytes decisions r note =
     × IsNoteAt decisions high note
 
 -- it is noted at each relocation of a label from an index on
-abbrev pub AreLabelsNoted : Setting → List ℕ → List ℕ → List Decision → ℕ → Type 0
+abbrev pub AreLabelsNoted : RelaxContext → List ℕ → List ℕ → List Decision → ℕ → Type 0
 AreLabelsNoted s bytes section decisions from =
     (n : ℕ) → from ≤ n → n < length bytes / 24
     → IsInLabel s.architecture s.phase (relocation_in bytes n).code true

@@ -5,20 +5,20 @@ use Rattle.linker_base.specs.Rewrite.{Rewrite, rewrite_window, rewritten}
 use Rattle.linker_base.specs.Rewrite.{offset_after, addend_after}
 use Rattle.linker_rewriting.specs.Decisions.{decision_at, is_taken, start_at, written_end_at}
 use Rattle.linker_rewriting.specs.Decisions.{AreDecided, AreDecidedIn}
-use Rattle.linker_rewriting.specs.Facts.{Setting}
+use Rattle.linker_rewriting.specs.Facts.{RelaxContext}
 use Rattle.linker_rewriting.specs.Groups.{IsInGroupIn, symbol_of_group}
-use Rattle.linker_rewriting.specs.Labels.{IsInLabel, IsHighIn}
+use Rattle.linker_rewriting.specs.RiscVPcrelGroups.{IsInLabel, IsHighIn}
 use Rattle.linker_rewriting.specs.Sequences.{is_marked_load}
 use Rattle.linker_rewriting.specs.declared.decisions.Decision.{Decision}
 use Rattle.linker_rewriting.specs.declared.decisions.Decision.TheVariants.{Kept, Rewritten}
-use Rattle.linker_rewriting.specs.declared.decisions.Decision.TheVariants.{TakenAlong}
-use Rattle.linker_rewriting.specs.declared.decisions.Decision.TheVariants.{Redirected}
+use Rattle.linker_rewriting.specs.declared.decisions.Decision.TheVariants.{Consumed}
+use Rattle.linker_rewriting.specs.declared.decisions.Decision.TheVariants.{RewrittenWithSymbol}
 use Rattle.linker_rewriting.specs.declared.facts.OutputFacts.{OutputFacts}
 use Rattle.linker_rewriting.specs.declared.facts.SymbolFacts.{SymbolFacts}
 use Rattle.linker_rewriting.specs.declared.groups.Group.{Group}
-use Rattle.linker_rewriting.specs.declared.groups.KeptGroups.{KeptGroups}
+use Rattle.linker_rewriting.specs.declared.groups.UnrelaxableGroups.{UnrelaxableGroups}
 use Rattle.linker_rewriting.specs.declared.phases.Phase.{Phase}
-use Rattle.linker_rewriting.specs.declared.phases.Phase.TheVariants.{Early}
+use Rattle.linker_rewriting.specs.declared.phases.Phase.TheVariants.{PreLayout}
 use Rattle.linker_section.specs.Relocations.{relocation_in}
 use Rattle.linker_section.specs.declared.relocations.Rela.{Rela}
 use Rattle.linker_utils.specs.Architectures.{relaxation_rewrite}
@@ -30,7 +30,7 @@ use Rattle.linker_utils.specs.declared.elf.Architecture.TheVariants.{LoongArch64
 -- one that goes gets the type 0, so that indexes stay
 abbrev pub relocation_after : Decision → Rela → Rela
 relocation_after Kept r = r
-relocation_after TakenAlong r = record r { code = 0 }
+relocation_after Consumed r = record r { code = 0 }
 relocation_after (Rewritten chosen) r =
     record {
       offset = offset_after (relaxation_rewrite chosen.kind) r.offset;
@@ -38,7 +38,7 @@ relocation_after (Rewritten chosen) r =
       symbol = r.symbol;
       addend = addend_after (relaxation_rewrite chosen.kind) r.addend;
     }
-relocation_after (Redirected chosen subject) r =
+relocation_after (RewrittenWithSymbol chosen subject) r =
     record {
       offset = offset_after (relaxation_rewrite chosen.kind) r.offset;
       code = chosen.relocation;
@@ -58,7 +58,7 @@ AreRelocationsAfter decisions before after limit =
 abbrev pub section_after : Decision → ℕ → List ℕ → List ℕ
 section_after (Rewritten chosen) offset section =
     rewritten (relaxation_rewrite chosen.kind) section offset
-section_after (Redirected chosen subject) offset section =
+section_after (RewrittenWithSymbol chosen subject) offset section =
     rewritten (relaxation_rewrite chosen.kind) section offset
 section_after decision offset section = section
 
@@ -71,7 +71,7 @@ IsMade (Some r) offset before after =
 abbrev pub IsDone : Decision → ℕ → List ℕ → List ℕ → Type 0
 IsDone (Rewritten chosen) offset before after =
     IsMade (relaxation_rewrite chosen.kind) offset before after
-IsDone (Redirected chosen subject) offset before after =
+IsDone (RewrittenWithSymbol chosen subject) offset before after =
     IsMade (relaxation_rewrite chosen.kind) offset before after
 IsDone decision offset before after = Unit {0}
 
@@ -93,7 +93,7 @@ OthersStay bytes decisions before after limit =
 
 abbrev pub IsRewritten : Decision → Type 0
 IsRewritten (Rewritten chosen) = Unit {0}
-IsRewritten (Redirected chosen subject) = Unit {0}
+IsRewritten (RewrittenWithSymbol chosen subject) = Unit {0}
 IsRewritten decision = ⊥
 
 -- of a group the relocations that no other takes along are all rewritten, or none is
@@ -109,13 +109,13 @@ GroupsAreWholeIn architecture phase bytes decisions limit =
 
 -- before addresses are known
 abbrev pub GroupsAreWhole : Architecture → List ℕ → List Decision → ℕ → Type 0
-GroupsAreWhole architecture = GroupsAreWholeIn architecture Early
+GroupsAreWhole architecture = GroupsAreWholeIn architecture PreLayout
 
 -- In two sections of an object that are decided by one table, each at its address, all of a group
 -- are rewritten too, or none is.
 abbrev pub GroupsAreWholeAcross : Type 0
 GroupsAreWholeAcross =
-    (s other : Setting) (kept : List KeptGroups)
+    (s other : RelaxContext) (kept : List UnrelaxableGroups)
     (bytes section others_bytes others_section : List ℕ)
     (decisions others : List Decision) (limit others_limit : ℕ)
     → AreDecidedIn s kept bytes section decisions limit
@@ -131,7 +131,7 @@ GroupsAreWholeAcross =
 -- ---- labels
 
 -- of one label the relocations that no other takes along are all rewritten, or none is
-abbrev pub LabelsAreWhole : Setting → List ℕ → List Decision → ℕ → Type 0
+abbrev pub LabelsAreWhole : RelaxContext → List ℕ → List Decision → ℕ → Type 0
 LabelsAreWhole s bytes decisions limit =
     (i j high : ℕ) → i < limit → j < limit
     → IsInLabel s.architecture s.phase (relocation_in bytes i).code true
@@ -152,7 +152,7 @@ IsLoadAt bytes n =
 -- next but one, after the first one's mark.
 abbrev pub LoadsAreWhole : Type 0
 LoadsAreWhole =
-    (output : OutputFacts) (symbols : List SymbolFacts) (kept : List KeptGroups)
+    (output : OutputFacts) (symbols : List SymbolFacts) (kept : List UnrelaxableGroups)
     (bytes section : List ℕ) (decisions : List Decision) (limit n : ℕ)
     → AreDecided LoongArch64 output symbols kept bytes section decisions limit
     → n + 2 < limit → limit ≤ length bytes / 24 → IsLoadAt bytes n

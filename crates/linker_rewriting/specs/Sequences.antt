@@ -18,13 +18,13 @@ use Rattle.linker_elf.specs.declared.loongarch64.relocations.LoongArch64Relocati
 use Rattle.linker_elf.specs.declared.ppc64.relocations.Ppc64Relocation.TheVariants as ppc64
 use Rattle.linker_elf.specs.declared.riscv64.relocations.RiscVRelocation.TheVariants as riscv64
 use Rattle.linker_rewriting.specs.declared.phases.Phase.{Phase}
-use Rattle.linker_rewriting.specs.declared.phases.Phase.TheVariants.{Early}
+use Rattle.linker_rewriting.specs.declared.phases.Phase.TheVariants.{PreLayout}
 use Rattle.linker_rewriting.specs.declared.sequences.Sequence.{Sequence}
 use Rattle.linker_rewriting.specs.declared.sequences.Sequence.TheVariants.{Descriptor, EntryLoad}
 use Rattle.linker_rewriting.specs.declared.sequences.Sequence.TheVariants.{PageAndOffset}
 use Rattle.linker_section.specs.Relocations.{relocation_at}
 use Rattle.linker_section.specs.declared.relocations.Rela.{Rela}
-use Rattle.linker_utils.specs.Architectures.{IsOf}
+use Rattle.linker_utils.specs.Architectures.{IsNamedValue}
 use Rattle.linker_utils.specs.declared.elf.Architecture.{Architecture}
 use Rattle.linker_utils.specs.declared.elf.Architecture.TheVariants.{AArch64, RiscV, LoongArch64}
 use Rattle.linker_utils.specs.declared.elf.Architecture.TheVariants.{Ppc64}
@@ -52,8 +52,8 @@ is_marked_at architecture bytes n r =
 -- What is marked in a phase. Before addresses are known it is a call of PowerPC64's prefixed code:
 -- after the mark of a call, and at the same offset, its own relocation is R_PPC64_REL24_NOTOC.
 abbrev pub mark_code_in : Phase → Architecture → Option ℕ
-mark_code_in Early Ppc64 = Some (code_of (ppc64_name ppc64.R_PPC64_REL24_NOTOC))
-mark_code_in Early architecture = None
+mark_code_in PreLayout Ppc64 = Some (code_of (ppc64_name ppc64.R_PPC64_REL24_NOTOC))
+mark_code_in PreLayout architecture = None
 mark_code_in phase architecture = mark_code architecture
 
 abbrev pub is_marked_in : Phase → Architecture → List ℕ → ℕ → Rela → Bool
@@ -147,9 +147,9 @@ is_load_at bytes n r (Some place) =
 -- it is of no such sequence, or all of the sequence are next to it
 abbrev pub IsWhole : Architecture → List ℕ → ℕ → Rela → Bool → Type 0
 IsWhole AArch64 bytes n r whole =
-    (place : Option (Sequence × ℕ)) × IsOf aarch64_name place_in r.code place
+    (place : Option (Sequence × ℕ)) × IsNamedValue aarch64_name place_in r.code place
     × (whole ≡ is_whole_at bytes n r place)
 IsWhole LoongArch64 bytes n r whole =
-    (place : Option ℕ) × IsOf loongarch_name place_in_load r.code place
+    (place : Option ℕ) × IsNamedValue loongarch_name place_in_load r.code place
     × (whole ≡ is_load_at bytes n r place)
 IsWhole architecture bytes n r whole = whole ≡ true

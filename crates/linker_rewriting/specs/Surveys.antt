@@ -3,7 +3,7 @@ use Rattle.std.specs.Prelude.{◌≡◌, ℕ, zero, suc, ◌<◌, ◌/◌, ◌�
 use Rattle.std.specs.Prelude.{false, IsTrue, List, length, Option, Some, None, slice_get}
 use Rattle.linker_elf.specs.declared.elf.choice.Choice.{Choice}
 use Rattle.linker_rewriting.specs.Candidates.{IsCandidate, IsMatched, calls_tls_get_addr}
-use Rattle.linker_rewriting.specs.Facts.{Setting, early}
+use Rattle.linker_rewriting.specs.Facts.{RelaxContext, pre_layout}
 use Rattle.linker_rewriting.specs.Groups.{IsScopeIn, IsMark, stays_at, symbol_of_group}
 use Rattle.linker_rewriting.specs.declared.decisions.RewritingError.{RewritingError}
 use Rattle.linker_rewriting.specs.declared.decisions.RewritingError.TheVariants.{NotSurveyed}
@@ -12,11 +12,11 @@ use Rattle.linker_rewriting.specs.declared.facts.SymbolFacts.{SymbolFacts}
 use Rattle.linker_rewriting.specs.declared.groups.Group.{Group}
 use Rattle.linker_rewriting.specs.declared.groups.Group.TheVariants.{InitialExec, GeneralDynamic}
 use Rattle.linker_rewriting.specs.declared.groups.Group.TheVariants.{LocalDynamic}
-use Rattle.linker_rewriting.specs.declared.groups.KeptGroups.{KeptGroups}
+use Rattle.linker_rewriting.specs.declared.groups.UnrelaxableGroups.{UnrelaxableGroups}
 use Rattle.linker_rewriting.specs.declared.groups.Scope.{Scope}
-use Rattle.linker_rewriting.specs.declared.groups.Scope.TheVariants.{Grouped, Matched}
+use Rattle.linker_rewriting.specs.declared.groups.Scope.TheVariants.{Grouped, IfGroupMatches}
 use Rattle.linker_rewriting.specs.declared.phases.Phase.{Phase}
-use Rattle.linker_rewriting.specs.declared.phases.Phase.TheVariants.{Early}
+use Rattle.linker_rewriting.specs.declared.phases.Phase.TheVariants.{PreLayout}
 use Rattle.linker_section.specs.Relocations.{relocation_in}
 use Rattle.linker_section.specs.declared.relocations.Rela.{Rela}
 use Rattle.linker_utils.specs.declared.architecture.Relaxation.{Relaxation}
@@ -41,11 +41,11 @@ IsUnmarkedBy true bytes n r unmarked =
 -- called for (64-Bit ELF V2 ABI, "TLS Linkage Optimizations")
 abbrev pub IsUnmarkedIn : Phase → Architecture → List SymbolFacts → List ℕ → ℕ → Rela → Bool
     → Type 0
-IsUnmarkedIn Early Ppc64 symbols bytes n r unmarked =
+IsUnmarkedIn PreLayout Ppc64 symbols bytes n r unmarked =
     IsUnmarkedBy (calls_tls_get_addr (slice_get symbols r.symbol)) bytes n r unmarked
 IsUnmarkedIn phase architecture symbols bytes n r unmarked = unmarked ≡ false
 
-abbrev pub IsUnmarked : Setting → List ℕ → ℕ → Rela → Bool → Type 0
+abbrev pub IsUnmarked : RelaxContext → List ℕ → ℕ → Rela → Bool → Type 0
 IsUnmarked s = IsUnmarkedIn s.phase s.architecture s.symbols
 
 -- it keeps these
@@ -55,18 +55,18 @@ IsThreadLocal GeneralDynamic = Unit {0}
 IsThreadLocal LocalDynamic = Unit {0}
 IsThreadLocal group = ⊥
 
-abbrev pub HasRewrite : Setting → List ℕ → List ℕ → ℕ → Rela → Scope → Type 0
+abbrev pub HasRewrite : RelaxContext → List ℕ → List ℕ → ℕ → Rela → Scope → Type 0
 HasRewrite s bytes section n r (Grouped group) =
     (chosen : Choice Relaxation ℕ) × IsCandidate s bytes section n r (Some chosen)
-HasRewrite s bytes section n r (Matched group) = IsMatched s bytes section n r true
+HasRewrite s bytes section n r (IfGroupMatches group) = IsMatched s bytes section n r true
 HasRewrite s bytes section n r scope = Unit {0}
 
 -- the kind of groups that a relocation keeps, since it has no rewrite, though it is of one
-abbrev pub IsKeeping : Setting → List ℕ → List ℕ → ℕ → Rela → Option Group → Type 0
+abbrev pub IsKeeping : RelaxContext → List ℕ → List ℕ → ℕ → Rela → Option Group → Type 0
 IsKeeping s bytes section n r (Some group) =
     (IsScopeIn s.architecture s.phase r.code (Grouped group)
     × IsCandidate s bytes section n r None)
-    ⊎ (IsScopeIn s.architecture s.phase r.code (Matched group)
+    ⊎ (IsScopeIn s.architecture s.phase r.code (IfGroupMatches group)
     × IsMatched s bytes section n r false)
 IsKeeping s bytes section n r None =
     (scope : Scope) × IsScopeIn s.architecture s.phase r.code scope
@@ -75,7 +75,7 @@ IsKeeping s bytes section n r None =
 -- ---- tables before and after
 
 -- what stays is what stayed and these groups
-abbrev pub AreKeptToo : List KeptGroups → List KeptGroups → (Group → ℕ → Type 0) → Type 0
+abbrev pub AreKeptToo : List UnrelaxableGroups → List UnrelaxableGroups → (Group → ℕ → Type 0) → Type 0
 AreKeptToo before after IsAdded =
     (group : Group) (symbol : ℕ)
     → (IsTrue (stays_at after group symbol)
@@ -94,15 +94,15 @@ abbrev pub IsOfThreads : Bool → Group → ℕ → Type 0
 IsOfThreads keeps g s = (keeps ≡ true) × IsThreadLocal g × (s ≡ 0)
 
 -- what a relocation keeps stays
-abbrev pub StaysBy : List KeptGroups → ℕ → Option Group → Type 0
+abbrev pub StaysBy : List UnrelaxableGroups → ℕ → Option Group → Type 0
 StaysBy after symbol None = Unit {0}
 StaysBy after symbol (Some group) = IsTrue (stays_at after group (symbol_of_group group symbol))
 
-abbrev pub AllStayIf : Bool → List KeptGroups → Type 0
+abbrev pub AllStayIf : Bool → List UnrelaxableGroups → Type 0
 AllStayIf false after = Unit {0}
 AllStayIf true after = (group : Group) → IsThreadLocal group → IsTrue (stays_at after group 0)
 
-pub record IsNoted (s : Setting) (bytes section : List ℕ) (after : List KeptGroups) (n : ℕ)
+pub record IsNoted (s : RelaxContext) (bytes section : List ℕ) (after : List UnrelaxableGroups) (n : ℕ)
     : Type 0 where
   pub group : Option Group
   pub is_keeping : IsKeeping s bytes section n (relocation_in bytes n) group
@@ -112,18 +112,18 @@ pub record IsNoted (s : Setting) (bytes section : List ℕ) (after : List KeptGr
   pub all_stay : AllStayIf unmarked after
 
 -- of the relocations with an index below a limit each that keeps a group is noted
-abbrev pub AreNoted : Setting → List ℕ → List ℕ → List KeptGroups → ℕ → Type 0
+abbrev pub AreNoted : RelaxContext → List ℕ → List ℕ → List UnrelaxableGroups → ℕ → Type 0
 AreNoted s bytes section after limit = (n : ℕ) → n < limit → IsNoted s bytes section after n
 
 -- a relocation is why a group stays
-abbrev pub IsCause : Setting → List ℕ → List ℕ → ℕ → Group → ℕ → Type 0
+abbrev pub IsCause : RelaxContext → List ℕ → List ℕ → ℕ → Group → ℕ → Type 0
 IsCause s bytes section n group symbol =
     (IsKeeping s bytes section n (relocation_in bytes n) (Some group)
     × (symbol ≡ symbol_of_group group (relocation_in bytes n).symbol))
     ⊎ (IsUnmarked s bytes n (relocation_in bytes n) true × IsThreadLocal group × (symbol ≡ 0))
 
 -- They are noted. What stayed before stays, and what else stays has a cause.
-pub record IsSurveyedIn (s : Setting) (bytes section : List ℕ) (before after : List KeptGroups)
+pub record IsSurveyedIn (s : RelaxContext) (bytes section : List ℕ) (before after : List UnrelaxableGroups)
     (limit : ℕ) : Type 0 where
   pub noted : AreNoted s bytes section after limit
   pub stayed : (group : Group) (symbol : ℕ) → IsTrue (stays_at before group symbol)
@@ -134,13 +134,13 @@ pub record IsSurveyedIn (s : Setting) (bytes section : List ℕ) (before after :
 
 -- before addresses are known
 abbrev pub IsSurveyed : Architecture → OutputFacts → List SymbolFacts → List ℕ → List ℕ
-    → List KeptGroups → List KeptGroups → ℕ → Type 0
-IsSurveyed architecture output symbols = IsSurveyedIn (early architecture output symbols)
+    → List UnrelaxableGroups → List UnrelaxableGroups → ℕ → Type 0
+IsSurveyed architecture output symbols = IsSurveyedIn (pre_layout architecture output symbols)
 
 -- ---- surveyed sections
 
 -- an error that a section wasn't surveyed comes only where what it keeps isn't all noted
-abbrev pub MeansUnsurveyed : Setting → List ℕ → List ℕ → List KeptGroups → RewritingError → Type 0
+abbrev pub MeansUnsurveyed : RelaxContext → List ℕ → List ℕ → List UnrelaxableGroups → RewritingError → Type 0
 MeansUnsurveyed s bytes section kept (NotSurveyed n) =
     ¬ AreNoted s bytes section kept (length bytes / 24)
 MeansUnsurveyed s bytes section kept error = Unit {0}
@@ -148,8 +148,8 @@ MeansUnsurveyed s bytes section kept error = Unit {0}
 -- what is noted of one section is still noted when another one has been surveyed
 abbrev pub NotesStay : Type 0
 NotesStay =
-    (s other : Setting) (bytes section others_bytes others_section : List ℕ)
-    (mid after : List KeptGroups) (limit others_limit : ℕ)
+    (s other : RelaxContext) (bytes section others_bytes others_section : List ℕ)
+    (mid after : List UnrelaxableGroups) (limit others_limit : ℕ)
     → AreNoted s bytes section mid limit
     → IsSurveyedIn other others_bytes others_section mid after others_limit
     → AreNoted s bytes section after limit
@@ -157,8 +157,8 @@ NotesStay =
 -- two sections can be surveyed in either order: the same groups stay
 abbrev pub SurveysCommute : Type 0
 SurveysCommute =
-    (s other : Setting) (bytes section others_bytes others_section : List ℕ)
-    (before mid after mid_too after_too : List KeptGroups) (limit others_limit : ℕ)
+    (s other : RelaxContext) (bytes section others_bytes others_section : List ℕ)
+    (before mid after mid_too after_too : List UnrelaxableGroups) (limit others_limit : ℕ)
     → IsSurveyedIn s bytes section before mid limit
     → IsSurveyedIn other others_bytes others_section mid after others_limit
     → IsSurveyedIn other others_bytes others_section before mid_too others_limit

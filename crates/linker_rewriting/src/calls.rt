@@ -68,8 +68,8 @@ pub(crate) fn keeps_call(
         (slice_get symbols.now relocation.now.symbol) relocation.now.code }
 {
     match (phase, architecture) {
-        (Phase::Early, Architecture::AArch64) => aarch64_keeps(symbols, relocation),
-        (Phase::Early, Architecture::Ppc64) => ppc64_keeps(symbols, relocation),
+        (Phase::PreLayout, Architecture::AArch64) => aarch64_keeps(symbols, relocation),
+        (Phase::PreLayout, Architecture::Ppc64) => ppc64_keeps(symbols, relocation),
         _ => false,
     }
 }

@@ -8,9 +8,9 @@ ghost use Rattle.linker_section.specs.Relocations.{relocation_at};
 ghost use Rattle.linker_rewriting.specs.Candidates.{IsCallIn, IsTaken, IsCandidate, IsCandidateBy};
 ghost use Rattle.linker_rewriting.specs.Candidates.{calls_tls_get_addr, deletes_within};
 ghost use Rattle.linker_rewriting.specs.Candidates.{at_base, IsMatched};
-ghost use Rattle.linker_rewriting.specs.Inner.Settings.{setting_of};
+ghost use Rattle.linker_rewriting.specs.Inner.Contexts.{context_of};
 
-use crate::facts::{OutputFacts, Setting, SymbolFacts, link_facts};
+use crate::facts::{OutputFacts, RelaxContext, SymbolFacts, link_facts};
 use crate::phases::Phase;
 use crate::sequences::{is_marked_in, is_whole};
 use linker_base::rewrite::DeletedBytes;
@@ -137,14 +137,14 @@ pub(crate) fn candidate_by(
 /// bytes after the section, or it is of a sequence whose relocations aren't all next to it.
 #[inline(always)]
 pub(crate) fn candidate(
-    setting: &Setting<'_>,
+    context: &RelaxContext<'_>,
     relocations: &[u8],
     section: &[u8],
     index: usize,
     relocation: &Rela,
 ) -> Option<Choice<Relaxation, u32>>
     requires { index + 3 ≤ usize.MAX }
-    ensures candidate { IsCandidate (setting_of setting.now) relocations.now section.now index
+    ensures candidate { IsCandidate (context_of context.now) relocations.now section.now index
         relocation.now result }
     ensures rewritable { IfSome result (λ chosen. CanRewrite (relaxation_rewrite chosen.kind)
         section.now relocation.now.offset) }
@@ -152,17 +152,17 @@ pub(crate) fn candidate(
         (relaxation_deleted chosen.kind) ≡ true) }
 {
     let marked = is_marked_in(
-        setting.phase,
-        setting.architecture,
+        context.phase,
+        context.architecture,
         relocations,
         index,
         relocation,
     );
-    let facts = link_facts(setting, relocation, relocation, marked);
+    let facts = link_facts(context, relocation, relocation, marked);
     match &facts {
         Some(facts) => candidate_by(
-            setting.architecture,
-            setting.symbols,
+            context.architecture,
+            context.symbols,
             relocations,
             section,
             index,
@@ -195,30 +195,30 @@ fn at_base(facts: Option<LinkFacts>) -> Option<LinkFacts>
 /// whatever the distance.
 #[inline(always)]
 pub(crate) fn is_matched(
-    setting: &Setting<'_>,
+    context: &RelaxContext<'_>,
     relocations: &[u8],
     section: &[u8],
     index: usize,
     relocation: &Rela,
 ) -> bool
     requires { index + 3 ≤ usize.MAX }
-    ensures { IsMatched (setting_of setting.now) relocations.now section.now index relocation.now
+    ensures { IsMatched (context_of context.now) relocations.now section.now index relocation.now
         result }
 {
     let marked = is_marked_in(
-        setting.phase,
-        setting.architecture,
+        context.phase,
+        context.architecture,
         relocations,
         index,
         relocation,
     );
-    let facts = link_facts(setting, relocation, relocation, marked);
+    let facts = link_facts(context, relocation, relocation, marked);
     let Some(facts) = at_base(facts) else {
         return false;
     };
     candidate_by(
-        setting.architecture,
-        setting.symbols,
+        context.architecture,
+        context.symbols,
         relocations,
         section,
         index,

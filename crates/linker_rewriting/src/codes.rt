@@ -3,7 +3,7 @@
 //! few comparisons of it then.
 
 ghost use Rattle.std.specs.Prelude.{◌≡◌, ◌/◌, length, false};
-ghost use Rattle.linker_rewriting.specs.Inner.Codes.{IsListed, IsAsked};
+ghost use Rattle.linker_rewriting.specs.Inner.Codes.{IsListed, IsUngroupedUnless};
 ghost use Rattle.linker_rewriting.specs.Inner.Left.{AreUnlisted};
 
 use crate::groups::{Scope, scope_in};
@@ -19,10 +19,10 @@ macro_rules! of_each {
     };
     ($of:ident $module:ident $names:ident ($phase:expr, $call:ident $given:tt)) => {
         match $phase {
-            Phase::Early => of_each!(in $of, Early, $call $given),
-            Phase::ThreadOffsets => of_each!(in $of, ThreadOffsets, $call $given),
-            Phase::GotLoads => of_each!(in $of, GotLoads, $call $given),
-            Phase::Distances => of_each!(in $of, Distances, $call $given),
+            Phase::PreLayout => of_each!(in $of, PreLayout, $call $given),
+            Phase::TlsLocalExec => of_each!(in $of, TlsLocalExec, $call $given),
+            Phase::GotToPcRel => of_each!(in $of, GotToPcRel, $call $given),
+            Phase::ShortPcRel => of_each!(in $of, ShortPcRel, $call $given),
         }
     };
     (in $of:ident, $in:ident, $call:ident($($given:expr),*)) => {
@@ -37,18 +37,18 @@ pub(crate) use of_each;
 pub(crate) fn is_listed(architecture: Architecture, phase: Phase, code: u32) -> bool
     ensures { IsListed architecture phase code result }
 {
-    !matches!(scope_in(architecture, phase, code), Scope::Unlisted)
+    !matches!(scope_in(architecture, phase, code), Scope::NotRelaxable)
 }
 
 /// Whether a survey of a phase looks for the rewrite of a relocation with a code, since it is of a
 /// group.
 #[inline(always)]
 pub(crate) fn is_surveyed(architecture: Architecture, phase: Phase, code: u32) -> bool
-    ensures { IsAsked architecture phase code result }
+    ensures { IsUngroupedUnless architecture phase code result }
 {
     matches!(
         scope_in(architecture, phase, code),
-        Scope::Grouped(_) | Scope::Matched(_)
+        Scope::Grouped(_) | Scope::IfGroupMatches(_)
     )
 }
 

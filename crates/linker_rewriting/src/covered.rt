@@ -189,11 +189,11 @@ fn reaches(
 fn is_taken<D: AsDecision>(decisions: &[D], index: usize) -> bool
     requires { index < length decisions.now }
     ensures yes { result ≡ true
-        → decision_at (map D.decision decisions.now) index ≡ Decision.TakenAlong }
+        → decision_at (map D.decision decisions.now) index ≡ Decision.Consumed }
     ensures no { result ≡ false
-        → decision_at (map D.decision decisions.now) index ≢ Decision.TakenAlong }
+        → decision_at (map D.decision decisions.now) index ≢ Decision.Consumed }
 {
-    matches!(decisions[index].as_decision(), Decision::TakenAlong)
+    matches!(decisions[index].as_decision(), Decision::Consumed)
 }
 
 /// The first relocation that no rewrite takes along and whose field has a byte that the decision of

@@ -7,22 +7,22 @@ ghost use Rattle.linker_section.specs.Relocations.{relocation_in, relocation_at}
 ghost use Rattle.linker_rewriting.specs.Decisions.{takes_next, window_of, IsDecision, CanBeMade};
 ghost use Rattle.linker_rewriting.specs.Decisions.{deleted_of, deleted_end, start_by, end_by};
 ghost use Rattle.linker_rewriting.specs.Decisions.{AreDecidedIn, AreApart, AreClear, AllCanBeMade};
-ghost use Rattle.linker_rewriting.specs.Decisions.{IsDecisionAfter, IsEndBehind, IsRejectedIn};
+ghost use Rattle.linker_rewriting.specs.Decisions.{IsDecisionAfter, IsEndAfter, IsRejectedIn};
 ghost use Rattle.linker_rewriting.specs.Decisions.{IsRewrittenAt, label_decision, IsLabelDecision};
-ghost use Rattle.linker_rewriting.specs.Inner.Settings.{setting_of};
+ghost use Rattle.linker_rewriting.specs.Inner.Contexts.{context_of};
 ghost use Rattle.linker_rewriting.specs.Inner.Calls.{IsLeft};
 ghost use Rattle.linker_rewriting.specs.Inner.Left.{AreKept};
-ghost use Rattle.linker_rewriting.specs.Labels.{IsInLabel, IsLabelNote};
+ghost use Rattle.linker_rewriting.specs.RiscVPcrelGroups.{IsInLabel, IsLabelNote};
 
 use crate::calls::keeps_call;
 use crate::candidates::candidate;
 use crate::codes::{is_listed, lists_any, of_each};
 use crate::covered::first_covered;
-use crate::facts::{OutputFacts, Setting, SymbolFacts};
-use crate::groups::{KeptGroups, Scope, group_stays, scope_in};
-use crate::labels::{high_of, is_note, label_candidate, note_labels, set_all};
+use crate::facts::{OutputFacts, RelaxContext, SymbolFacts};
+use crate::groups::{Scope, UnrelaxableGroups, group_stays, scope_in};
 use crate::phases::Phase;
 use crate::relocations::relocation_in;
+use crate::riscv_pcrel_groups::{high_of, is_note, label_candidate, note_labels, set_all};
 use linker_base::rewrite::DeletedBytes;
 use linker_section::facts::{Addresses, Symbol};
 use linker_section::relocations::{Rela, relocation_at, relocations_len};
@@ -49,9 +49,9 @@ pub enum Decision {
     /// The same, but the relocation after it is of another symbol and addend: those of the high
     /// part of a TLS descriptor of RISC-V, whose label was its symbol, or those of the word that
     /// was loaded.
-    Redirected(Choice<Relaxation, u32>, Subject),
+    RewrittenWithSymbol(Choice<Relaxation, u32>, Subject),
     /// The relocation goes, since the rewrite at the one before or at the next one takes it along.
-    TakenAlong,
+    Consumed,
 }
 
 /// What becomes of a relocation: a `Decision`, or an element of the caller's own array that says as
@@ -132,7 +132,7 @@ impl Decision {
     {
         match self {
             Decision::Rewritten(choice) => choice.kind.skipped_offset().is_some(),
-            Decision::Redirected(choice, _) => choice.kind.skipped_offset().is_some(),
+            Decision::RewrittenWithSymbol(choice, _) => choice.kind.skipped_offset().is_some(),
             _ => false,
         }
     }
@@ -145,7 +145,7 @@ impl Decision {
     {
         match self {
             Decision::Rewritten(choice) => choice.kind.window(),
-            Decision::Redirected(choice, _) => choice.kind.window(),
+            Decision::RewrittenWithSymbol(choice, _) => choice.kind.window(),
             _ => RewriteWindow { back: 0, len: 0 },
         }
     }
@@ -157,23 +157,34 @@ impl Decision {
     {
         match self {
             Decision::Rewritten(choice) => choice.kind.deleted(),
-            Decision::Redirected(choice, _) => choice.kind.deleted(),
+            Decision::RewrittenWithSymbol(choice, _) => choice.kind.deleted(),
             _ => None,
         }
     }
 }
 
 /// Whether the relocation with an index, if there is one, is alone and is rewritten.
-fn is_rewritten_at(setting: &Setting<'_>, relocations: &[u8], section: &[u8], index: usize) -> bool
+fn is_rewritten_at(
+    context: &RelaxContext<'_>,
+    relocations: &[u8],
+    section: &[u8],
+    index: usize,
+) -> bool
     requires { index + 3 ≤ usize.MAX }
-    ensures { IsRewrittenAt (setting_of setting.now) relocations.now section.now index
+    ensures { IsRewrittenAt (context_of context.now) relocations.now section.now index
         (relocation_at relocations.now index) result }
 {
     let Some(relocation) = relocation_at(relocations, index) else {
         return false;
     };
-    match scope_in(setting.architecture, setting.phase, relocation.code) {
-        Scope::Alone => candidate(setting, relocations, section, index, &relocation).is_some(),
+    match scope_in(context.architecture, context.phase, relocation.code) {
+        Scope::Independent => candidate(
+            context,
+            relocations,
+            section,
+            index,
+            &relocation,
+        ).is_some(),
         _ => false,
     }
 }
@@ -184,7 +195,7 @@ fn label_decision(phase: Phase, chosen: Choice<Relaxation, u32>, high: &Rela) ->
     ensures { result ≡ label_decision phase chosen high.now }
 {
     match phase {
-        Phase::ThreadOffsets => Decision::Redirected(
+        Phase::TlsLocalExec => Decision::RewrittenWithSymbol(
             chosen,
             Subject {
                 symbol: high.symbol,
@@ -198,7 +209,7 @@ fn label_decision(phase: Phase, chosen: Choice<Relaxation, u32>, high: &Rela) ->
 /// What becomes of a relocation of a label whose group stays or doesn't.
 fn decide_label(
     stays: bool,
-    setting: &Setting<'_>,
+    context: &RelaxContext<'_>,
     relocations: &[u8],
     section: &[u8],
     index: usize,
@@ -207,11 +218,11 @@ fn decide_label(
     requires index { index + 3 ≤ usize.MAX }
     requires within { index < length relocations.now / 24 }
     requires there { relocation.now ≡ relocation_in relocations.now index }
-    requires in_label { IsInLabel setting.now.architecture setting.now.phase relocation.now.code
+    requires in_label { IsInLabel context.now.architecture context.now.phase relocation.now.code
         true }
-    requires noted { IsLabelNote (setting_of setting.now) relocations.now section.now relocation.now
+    requires noted { IsLabelNote (context_of context.now) relocations.now section.now relocation.now
         stays }
-    ensures decision { IsLabelDecision (setting_of setting.now) relocations.now section.now index
+    ensures decision { IsLabelDecision (context_of context.now) relocations.now section.now index
         relocation.now result }
     ensures made { CanBeMade result section.now relocation.now.offset }
 {
@@ -219,16 +230,16 @@ fn decide_label(
         return Decision::Kept;
     }
     let Some(high) = high_of(
-        setting.phase,
-        setting.addresses,
-        setting.values,
+        context.phase,
+        context.addresses,
+        context.values,
         relocations,
         relocation,
     ) else {
         return Decision::Kept;
     };
-    match label_candidate(setting, relocations, section, index, relocation, high) {
-        Some(chosen) => label_decision(setting.phase, chosen, &relocation_in(relocations, high)),
+    match label_candidate(context, relocations, section, index, relocation, high) {
+        Some(chosen) => label_decision(context.phase, chosen, &relocation_in(relocations, high)),
         None => Decision::Kept,
     }
 }
@@ -238,8 +249,8 @@ fn decide_label(
 #[inline(always)]
 fn decide(
     stays: bool,
-    setting: &Setting<'_>,
-    kept: &[KeptGroups],
+    context: &RelaxContext<'_>,
+    kept: &[UnrelaxableGroups],
     relocations: &[u8],
     section: &[u8],
     index: usize,
@@ -248,20 +259,20 @@ fn decide(
     requires index { index + 4 ≤ usize.MAX }
     requires within { index < length relocations.now / 24 }
     requires there { relocation.now ≡ relocation_in relocations.now index }
-    requires noted { IsInLabel setting.now.architecture setting.now.phase relocation.now.code true →
-        IsLabelNote (setting_of setting.now) relocations.now section.now relocation.now stays }
-    ensures decision { IsDecision (setting_of setting.now) kept.now relocations.now section.now
+    requires noted { IsInLabel context.now.architecture context.now.phase relocation.now.code true →
+        IsLabelNote (context_of context.now) relocations.now section.now relocation.now stays }
+    ensures decision { IsDecision (context_of context.now) kept.now relocations.now section.now
         index relocation.now result }
     ensures made { IfSome result (λ d. CanBeMade d section.now relocation.now.offset) }
 {
-    let is_grouped = match scope_in(setting.architecture, setting.phase, relocation.code) {
-        Scope::Unlisted => return Some(Decision::Kept),
+    let is_grouped = match scope_in(context.architecture, context.phase, relocation.code) {
+        Scope::NotRelaxable => return Some(Decision::Kept),
         Scope::Labelled => {
-            return Some(decide_label(stays, setting, relocations, section, index, relocation));
+            return Some(decide_label(stays, context, relocations, section, index, relocation));
         }
-        Scope::Ahead => {
-            if is_rewritten_at(setting, relocations, section, index + 1) {
-                return Some(Decision::TakenAlong);
+        Scope::FirstOfPair => {
+            if is_rewritten_at(context, relocations, section, index + 1) {
+                return Some(Decision::Consumed);
             }
             return Some(Decision::Kept);
         }
@@ -271,15 +282,15 @@ fn decide(
             }
             true
         }
-        Scope::Matched(group) => {
+        Scope::IfGroupMatches(group) => {
             if group_stays(kept, group, relocation.symbol) {
                 return Some(Decision::Kept);
             }
             false
         }
-        Scope::Alone => false,
+        Scope::Independent => false,
     };
-    match candidate(setting, relocations, section, index, relocation) {
+    match candidate(context, relocations, section, index, relocation) {
         Some(choice) => Some(Decision::Rewritten(choice)),
         None if is_grouped => None,
         None => Some(Decision::Kept),
@@ -312,8 +323,8 @@ fn is_left(
 fn decide_after(
     is_taken: bool,
     stays: bool,
-    setting: &Setting<'_>,
-    kept: &[KeptGroups],
+    context: &RelaxContext<'_>,
+    kept: &[UnrelaxableGroups],
     relocations: &[u8],
     section: &[u8],
     index: usize,
@@ -322,18 +333,18 @@ fn decide_after(
     requires index { index + 4 ≤ usize.MAX }
     requires within { index < length relocations.now / 24 }
     requires there { relocation.now ≡ relocation_in relocations.now index }
-    requires noted { IsInLabel setting.now.architecture setting.now.phase relocation.now.code true →
-        IsLabelNote (setting_of setting.now) relocations.now section.now relocation.now stays }
-    ensures decision { IsDecisionAfter (setting_of setting.now) kept.now relocations.now section.now
+    requires noted { IsInLabel context.now.architecture context.now.phase relocation.now.code true →
+        IsLabelNote (context_of context.now) relocations.now section.now relocation.now stays }
+    ensures decision { IsDecisionAfter (context_of context.now) kept.now relocations.now section.now
         index relocation.now is_taken result }
     ensures made { IfSome result (λ d. CanBeMade d section.now relocation.now.offset) }
 {
     if is_taken {
-        return Some(Decision::TakenAlong);
+        return Some(Decision::Consumed);
     }
     decide(
         stays,
-        setting,
+        context,
         kept,
         relocations,
         section,
@@ -370,8 +381,8 @@ pub(crate) fn span_of(decision: &Decision, offset: u64) -> (u64, u64)
 /// Where the bytes end that are rewritten or deleted up to some from a start to an end, by where
 /// those before them do. None if they aren't after those.
 #[inline(always)]
-pub(crate) fn end_behind(start: u64, own: u64, end: u64) -> Option<u64>
-    ensures { IsEndBehind start own end result }
+pub(crate) fn end_after(start: u64, own: u64, end: u64) -> Option<u64>
+    ensures { IsEndAfter start own end result }
 {
     if own <= start {
         return Some(end);
@@ -387,16 +398,16 @@ pub(crate) fn end_behind(start: u64, own: u64, end: u64) -> Option<u64>
 fn decide_all<D: AsDecision>(
     architecture: Architecture,
     phase: Phase,
-    setting: &Setting<'_>,
-    kept: &[KeptGroups],
+    context: &RelaxContext<'_>,
+    kept: &[UnrelaxableGroups],
     relocations: &[u8],
     section: &[u8],
     decisions: &mut [D],
 ) -> Result<bool, RewritingError>
-    requires architecture { architecture ≡ setting.now.architecture }
-    requires phase { phase ≡ setting.now.phase }
+    requires architecture { architecture ≡ context.now.architecture }
+    requires phase { phase ≡ context.now.phase }
     ensures enough { OnOk result (length relocations.now / 24 ≤ length decisions.old) }
-    ensures decided { OnOk result (AreDecidedIn (setting_of setting.now) kept.now relocations.now
+    ensures decided { OnOk result (AreDecidedIn (context_of context.now) kept.now relocations.now
         section.now (map D.decision decisions.new) (length relocations.now / 24)) }
     ensures left { IfOk result (λ changes. changes ≡ false
         → AreKept (map D.decision decisions.new) (length relocations.now / 24)) }
@@ -408,7 +419,7 @@ fn decide_all<D: AsDecision>(
         (All D.is_written (take (length relocations.now / 24) decisions.new)) }
     ensures others_stay { drop (length relocations.now / 24) decisions.new
         ≡ drop (length relocations.now / 24) decisions.old }
-    ensures rejected { IfErr result (IsRejectedIn (setting_of setting.now) kept.now relocations.now
+    ensures rejected { IfErr result (IsRejectedIn (context_of context.now) kept.now relocations.now
         section.now (map D.decision decisions.new)) }
 {
     let len = relocations_len(relocations);
@@ -419,7 +430,7 @@ fn decide_all<D: AsDecision>(
         set_all(relocations, Decision::Kept, decisions);
         return Ok(false);
     }
-    note_labels(setting, relocations, section, decisions);
+    note_labels(context, relocations, section, decisions);
     let mut end = 0;
     let mut is_taken = false;
     for index in 0..len {
@@ -427,7 +438,7 @@ fn decide_all<D: AsDecision>(
             is_taken,
             architecture,
             phase,
-            setting.symbols,
+            context.symbols,
             relocations,
             index,
         ) {
@@ -439,7 +450,7 @@ fn decide_all<D: AsDecision>(
         let Some(decision) = decide_after(
             is_taken,
             stays,
-            setting,
+            context,
             kept,
             relocations,
             section,
@@ -449,7 +460,7 @@ fn decide_all<D: AsDecision>(
             return Err(RewritingError::NotSurveyed(index));
         };
         let (start, own) = span_of(&decision, relocation.offset);
-        let Some(new_end) = end_behind(start, own, end) else {
+        let Some(new_end) = end_after(start, own, end) else {
             return Err(RewritingError::Overlaps(index));
         };
         end = new_end;
@@ -461,14 +472,14 @@ fn decide_all<D: AsDecision>(
 
 /// The same, compiled for each architecture and phase.
 fn decide_each<D: AsDecision>(
-    setting: &Setting<'_>,
-    kept: &[KeptGroups],
+    context: &RelaxContext<'_>,
+    kept: &[UnrelaxableGroups],
     relocations: &[u8],
     section: &[u8],
     decisions: &mut [D],
 ) -> Result<bool, RewritingError>
     ensures enough { OnOk result (length relocations.now / 24 ≤ length decisions.old) }
-    ensures decided { OnOk result (AreDecidedIn (setting_of setting.now) kept.now relocations.now
+    ensures decided { OnOk result (AreDecidedIn (context_of context.now) kept.now relocations.now
         section.now (map D.decision decisions.new) (length relocations.now / 24)) }
     ensures left { IfOk result (λ changes. changes ≡ false
         → AreKept (map D.decision decisions.new) (length relocations.now / 24)) }
@@ -480,27 +491,27 @@ fn decide_each<D: AsDecision>(
         (All D.is_written (take (length relocations.now / 24) decisions.new)) }
     ensures others_stay { drop (length relocations.now / 24) decisions.new
         ≡ drop (length relocations.now / 24) decisions.old }
-    ensures rejected { IfErr result (IsRejectedIn (setting_of setting.now) kept.now relocations.now
+    ensures rejected { IfErr result (IsRejectedIn (context_of context.now) kept.now relocations.now
         section.now (map D.decision decisions.new)) }
 {
     of_each!(
-        setting.architecture,
-        setting.phase,
-        decide_all(setting, kept, relocations, section, decisions)
+        context.architecture,
+        context.phase,
+        decide_all(context, kept, relocations, section, decisions)
     )
 }
 
 /// Decides what becomes of each relocation of a section and of its instruction, in the caller's
 /// memory. Nothing is rewritten. False if all stay as they are by their codes.
 pub(crate) fn decide_section<D: AsDecision>(
-    setting: &Setting<'_>,
-    kept: &[KeptGroups],
+    context: &RelaxContext<'_>,
+    kept: &[UnrelaxableGroups],
     relocations: &[u8],
     section: &[u8],
     decisions: &mut [D],
 ) -> Result<bool, RewritingError>
     ensures enough { OnOk result (length relocations.now / 24 ≤ length decisions.old) }
-    ensures decided { OnOk result (AreDecidedIn (setting_of setting.now) kept.now relocations.now
+    ensures decided { OnOk result (AreDecidedIn (context_of context.now) kept.now relocations.now
         section.now (map D.decision decisions.new) (length relocations.now / 24)) }
     ensures left { IfOk result (λ changes. changes ≡ false
         → AreKept (map D.decision decisions.new) (length relocations.now / 24)) }
@@ -508,20 +519,20 @@ pub(crate) fn decide_section<D: AsDecision>(
         (map D.decision decisions.new) (length relocations.now / 24)) }
     ensures apart { OnOk result (AreApart relocations.now (map D.decision decisions.new)
         (length relocations.now / 24)) }
-    ensures clear { OnOk result (AreClear setting.now.architecture relocations.now section.now
+    ensures clear { OnOk result (AreClear context.now.architecture relocations.now section.now
         (map D.decision decisions.new) (length relocations.now / 24)) }
     ensures form { OnOk result
         (All D.is_written (take (length relocations.now / 24) decisions.new)) }
     ensures others_stay { drop (length relocations.now / 24) decisions.new
         ≡ drop (length relocations.now / 24) decisions.old }
-    ensures rejected { IfErr result (IsRejectedIn (setting_of setting.now) kept.now relocations.now
+    ensures rejected { IfErr result (IsRejectedIn (context_of context.now) kept.now relocations.now
         section.now (map D.decision decisions.new)) }
 {
-    let changes = decide_each(setting, kept, relocations, section, decisions)?;
+    let changes = decide_each(context, kept, relocations, section, decisions)?;
     if !changes {
         return Ok(false);
     }
-    match first_covered(setting.architecture, relocations, section, decisions) {
+    match first_covered(context.architecture, relocations, section, decisions) {
         Some(index) => Err(RewritingError::Overlaps(index)),
         None => Ok(true),
     }

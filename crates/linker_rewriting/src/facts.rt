@@ -89,7 +89,7 @@ pub(crate) fn facts_of(
         is_ifunc: symbol.is_ifunc,
         is_undefined_weak: symbol.is_undefined_weak,
         has_fixed_address: output.is_fixed || has_own_address,
-        has_fixed_distance: output.has_near_symbols && !has_own_address,
+        is_pcrel_link_time_constant: output.has_near_symbols && !has_own_address,
         is_executable: output.is_executable,
         has_local_exec_base: true,
         may_compress: false,
@@ -119,7 +119,7 @@ pub(crate) fn facts_of(
 /// What rewrites are chosen by in a phase. Before addresses are known those are 0, and there are no
 /// values.
 #[derive(Clone, Copy)]
-pub(crate) struct Setting<'a> {
+pub(crate) struct RelaxContext<'a> {
     /// The architecture.
     pub(crate) architecture: Architecture,
     /// The phase.
@@ -155,7 +155,7 @@ fn is_executable_in(phase: Phase, output: &OutputFacts, symbol: &SymbolFacts) ->
     ensures { result ≡ is_executable_in phase output.now symbol.now }
 {
     match phase {
-        Phase::ThreadOffsets => output.is_executable && symbol.is_local && !symbol.is_ifunc,
+        Phase::TlsLocalExec => output.is_executable && symbol.is_local && !symbol.is_ifunc,
         _ => output.is_executable,
     }
 }
@@ -183,7 +183,7 @@ fn placed_facts(
         is_ifunc: symbol.is_ifunc,
         is_undefined_weak: symbol.is_undefined_weak,
         has_fixed_address: output.is_fixed || has_own_address,
-        has_fixed_distance: is_near && !symbol.is_undefined_weak,
+        is_pcrel_link_time_constant: is_near && !symbol.is_undefined_weak,
         is_executable: is_executable_in(phase, output, symbol),
         has_local_exec_base: true,
         may_compress: false,
@@ -226,7 +226,7 @@ fn facts_at(
         marked symbol.now }
 {
     match phase {
-        Phase::Early => Some(facts_of(output, symbol, subject.addend, marked)),
+        Phase::PreLayout => Some(facts_of(output, symbol, subject.addend, marked)),
         _ => match values.get(subject.symbol as usize) {
             Some(value) => Some(placed_facts(
                 phase,
@@ -247,20 +247,20 @@ fn facts_at(
 /// that whose symbol and addend count. None where a table has no entry for the symbol.
 #[inline(always)]
 pub(crate) fn link_facts(
-    setting: &Setting<'_>,
+    context: &RelaxContext<'_>,
     relocation: &Rela,
     subject: &Rela,
     marked: bool,
 ) -> Option<LinkFacts>
-    ensures { result ≡ link_facts setting.now.phase setting.now.output.now setting.now.symbols.now
-        setting.now.addresses.now setting.now.values.now relocation.now subject.now marked }
+    ensures { result ≡ link_facts context.now.phase context.now.output.now context.now.symbols.now
+        context.now.addresses.now context.now.values.now relocation.now subject.now marked }
 {
-    match setting.symbols.get(subject.symbol as usize) {
+    match context.symbols.get(subject.symbol as usize) {
         Some(symbol) => facts_at(
-            setting.phase,
-            setting.output,
-            setting.addresses,
-            setting.values,
+            context.phase,
+            context.output,
+            context.addresses,
+            context.values,
             relocation,
             subject,
             marked,

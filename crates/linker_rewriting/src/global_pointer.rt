@@ -9,11 +9,11 @@ ghost use Rattle.linker_rewriting.specs.Agreement.{Agree, IsContradiction};
 ghost use Rattle.linker_rewriting.specs.Decisions.{AreClear};
 ghost use Rattle.linker_rewriting.specs.Decisions.{CanBeMade, AllCanBeMade, deletions_by};
 ghost use Rattle.linker_rewriting.specs.Decisions.{IsRejectedFirst};
-ghost use Rattle.linker_rewriting.specs.Facts.{setting};
-ghost use Rattle.linker_rewriting.specs.Inner.Settings.{setting_of};
+ghost use Rattle.linker_rewriting.specs.Facts.{context};
+ghost use Rattle.linker_rewriting.specs.Inner.Contexts.{context_of};
 ghost use Rattle.linker_rewriting.specs.GlobalPointer.{part_of, IsLabelled, IsSubject, IsMember};
 ghost use Rattle.linker_rewriting.specs.GlobalPointer.{relative_high};
-ghost use Rattle.linker_rewriting.specs.Labels.{offset_of_label};
+ghost use Rattle.linker_rewriting.specs.RiscVPcrelGroups.{offset_of_label};
 ghost use Rattle.linker_rewriting.specs.GlobalPointer.{is_near, is_bound, address_of, has_word};
 ghost use Rattle.linker_rewriting.specs.GlobalPointer.{is_reached_by, is_high_word};
 ghost use Rattle.linker_rewriting.specs.GlobalPointer.{writes_none, is_low_word, is_expected};
@@ -35,14 +35,14 @@ ghost use Rattle.linker_section.specs.Values.{IsAscending};
 
 use crate::agreement::contradiction;
 use crate::covered::first_covered;
-use crate::decisions::{AsDecision, Decision, FromDeletion, RewritingError, end_behind};
-use crate::facts::{OutputFacts, Setting, SymbolFacts, address_in};
-use crate::labels::{high_at, is_beyond};
+use crate::decisions::{AsDecision, Decision, FromDeletion, RewritingError, end_after};
+use crate::facts::{OutputFacts, RelaxContext, SymbolFacts, address_in};
 use crate::phases::Phase;
 use crate::relocations::{relocation_in, set_relocation};
+use crate::riscv_pcrel_groups::{high_at, is_beyond};
 use crate::sections::list_deletions;
 use crate::sequences::is_marked_at;
-use crate::words::{keep_word, subject_of, word_stays};
+use crate::toc_indirection::{keep_word, subject_of, word_stays};
 use linker_base::rewrite::overwrite;
 use linker_section::facts::{Addresses, Symbol};
 use linker_section::relocations::{Rela, is_ascending, relocations_len};
@@ -152,15 +152,19 @@ fn part_subject(
 }
 
 /// What a relocation is of an address, and the relocation whose symbol and addend are its own.
-fn member_of(setting: &Setting<'_>, relocations: &[u8], relocation: &Rela) -> Option<(Part, Rela)>
-    ensures { IsMember (setting_of setting.now) relocations.now relocation.now result }
+fn member_of(
+    context: &RelaxContext<'_>,
+    relocations: &[u8],
+    relocation: &Rela,
+) -> Option<(Part, Rela)>
+    ensures { IsMember (context_of context.now) relocations.now relocation.now result }
 {
-    let Some(part) = part_of(setting.architecture, relocation.code) else {
+    let Some(part) = part_of(context.architecture, relocation.code) else {
         return None;
     };
     match part_subject(
-        setting.addresses,
-        setting.values,
+        context.addresses,
+        context.values,
         relocations,
         relocation,
         part,
@@ -305,7 +309,7 @@ fn is_expected(section: &[u8], relocation: &Rela, part: Part, subject: &Rela) ->
 /// Whether a part can be rewritten, if all of its symbol can.
 fn fits(
     ascends: bool,
-    setting: &Setting<'_>,
+    context: &RelaxContext<'_>,
     gp: u64,
     relocations: &[u8],
     section: &[u8],
@@ -314,18 +318,18 @@ fn fits(
     member: &(Part, Rela),
 ) -> bool
     requires { index < length relocations.now / 24 }
-    ensures { result ≡ fits (setting_of setting.now) gp ascends relocations.now section.now index
+    ensures { result ≡ fits (context_of context.now) gp ascends relocations.now section.now index
         relocation.now member.now }
 {
     ascends
         && !is_beyond(relocations, relocation.offset, index)
-        && setting.output.is_executable
-        && setting.output.is_fixed
-        && is_marked_at(setting.architecture, relocations, index, relocation)
+        && context.output.is_executable
+        && context.output.is_fixed
+        && is_marked_at(context.architecture, relocations, index, relocation)
         && is_reached(
-            setting.symbols,
-            setting.addresses,
-            setting.values,
+            context.symbols,
+            context.addresses,
+            context.values,
             gp,
             &member.1,
         )
@@ -336,7 +340,7 @@ fn fits(
 #[inline(always)]
 fn kept_by(
     ascends: bool,
-    setting: &Setting<'_>,
+    context: &RelaxContext<'_>,
     gp: u64,
     relocations: &[u8],
     section: &[u8],
@@ -345,7 +349,7 @@ fn kept_by(
     member: Option<(Part, Rela)>,
 ) -> Option<usize>
     requires { index < length relocations.now / 24 }
-    ensures { result ≡ kept_by (setting_of setting.now) gp ascends relocations.now section.now index
+    ensures { result ≡ kept_by (context_of context.now) gp ascends relocations.now section.now index
         relocation.now member }
 {
     let Some(member) = member else {
@@ -353,7 +357,7 @@ fn kept_by(
     };
     if fits(
         ascends,
-        setting,
+        context,
         gp,
         relocations,
         section,
@@ -370,7 +374,7 @@ fn kept_by(
 /// The symbol that a relocation keeps, since it is of an address and doesn't fit.
 fn keeping_symbol(
     ascends: bool,
-    setting: &Setting<'_>,
+    context: &RelaxContext<'_>,
     gp: u64,
     relocations: &[u8],
     section: &[u8],
@@ -379,13 +383,13 @@ fn keeping_symbol(
 ) -> Option<usize>
     requires index { index < length relocations.now / 24 }
     requires ascending { IsTrue ascends ↔ IsAscending relocations.now }
-    ensures { IsKeepingSymbol (setting_of setting.now) gp relocations.now section.now index
+    ensures { IsKeepingSymbol (context_of context.now) gp relocations.now section.now index
         relocation.now result }
 {
-    let member = member_of(setting, relocations, relocation);
+    let member = member_of(context, relocations, relocation);
     kept_by(
         ascends,
-        setting,
+        context,
         gp,
         relocations,
         section,
@@ -451,7 +455,7 @@ pub fn survey_global_pointer(
     section: &[u8],
     kept: &mut [bool],
 ) -> Result<(), usize>
-    ensures surveyed { OnOk result (AreSymbolsSurveyed (setting architecture Phase.Distances
+    ensures surveyed { OnOk result (AreSymbolsSurveyed (context architecture Phase.ShortPcRel
         output.now symbols.now addresses.now values.now) gp relocations.now section.now kept.old
         kept.new (length relocations.now / 24)) }
     ensures agree { OnOk result (Agree symbols.now values.now relocations.now) }
@@ -462,9 +466,9 @@ pub fn survey_global_pointer(
     if let Some(symbol) = contradiction(symbols, values, relocations) {
         return Err(symbol);
     }
-    let setting = Setting {
+    let context = RelaxContext {
         architecture,
-        phase: Phase::Distances,
+        phase: Phase::ShortPcRel,
         output,
         symbols,
         addresses,
@@ -475,7 +479,7 @@ pub fn survey_global_pointer(
         let relocation = relocation_in(relocations, index);
         let symbol = keeping_symbol(
             ascends,
-            &setting,
+            &context,
             gp,
             relocations,
             section,
@@ -497,7 +501,7 @@ fn part_decision(part: Part, subject: &Rela) -> Decision
             kind: Relaxation::RiscV(RelaxationKind::Delete),
             relocation: 0,
         }),
-        Part::Low(relocation) | Part::Labelled(relocation) => Decision::Redirected(
+        Part::Low(relocation) | Part::Labelled(relocation) => Decision::RewrittenWithSymbol(
             Choice {
                 kind: Relaxation::RiscV(RelaxationKind::NoOp),
                 relocation,
@@ -511,7 +515,7 @@ fn part_decision(part: Part, subject: &Rela) -> Decision
 #[inline(always)]
 fn decided_by(
     ascends: bool,
-    setting: &Setting<'_>,
+    context: &RelaxContext<'_>,
     gp: u64,
     kept: &[bool],
     relocations: &[u8],
@@ -521,7 +525,7 @@ fn decided_by(
     member: Option<(Part, Rela)>,
 ) -> Option<Decision>
     requires { index < length relocations.now / 24 }
-    ensures decision { result ≡ decided_by (setting_of setting.now) gp ascends kept.now
+    ensures decision { result ≡ decided_by (context_of context.now) gp ascends kept.now
         relocations.now section.now index relocation.now member }
     ensures made { IfSome result (λ d. CanBeMade d section.now relocation.now.offset) }
     ensures ends { IfSome result (λ d. (limit : ℕ) → relocation.now.offset ≤ limit
@@ -535,7 +539,7 @@ fn decided_by(
     }
     if fits(
         ascends,
-        setting,
+        context,
         gp,
         relocations,
         section,
@@ -552,7 +556,7 @@ fn decided_by(
 /// What becomes of a relocation. None if its symbol doesn't stay, but it can't be rewritten.
 fn decide_part(
     ascends: bool,
-    setting: &Setting<'_>,
+    context: &RelaxContext<'_>,
     gp: u64,
     kept: &[bool],
     relocations: &[u8],
@@ -562,16 +566,16 @@ fn decide_part(
 ) -> Option<Decision>
     requires index { index < length relocations.now / 24 }
     requires ascending { IsTrue ascends ↔ IsAscending relocations.now }
-    ensures decision { IsPartDecided (setting_of setting.now) gp kept.now relocations.now
+    ensures decision { IsPartDecided (context_of context.now) gp kept.now relocations.now
         section.now index relocation.now result }
     ensures made { IfSome result (λ d. CanBeMade d section.now relocation.now.offset) }
     ensures ends { IfSome result (λ d. (limit : ℕ) → relocation.now.offset ≤ limit
         → length section.now ≤ limit → part_end d relocation.now.offset ≤ limit) }
 {
-    let member = member_of(setting, relocations, relocation);
+    let member = member_of(context, relocations, relocation);
     decided_by(
         ascends,
-        setting,
+        context,
         gp,
         kept,
         relocations,
@@ -590,14 +594,14 @@ fn part_end(decision: &Decision, offset: u64) -> u64
     ensures { result ≡ part_end decision.now offset }
 {
     match decision {
-        Decision::Rewritten(_) | Decision::Redirected(_, _) => offset + 4,
-        Decision::Kept | Decision::TakenAlong => offset,
+        Decision::Rewritten(_) | Decision::RewrittenWithSymbol(_, _) => offset + 4,
+        Decision::Kept | Decision::Consumed => offset,
     }
 }
 
 /// The same as `decide_parts`, but relocations may be in the bytes of others.
 fn decide_each_part<D: AsDecision>(
-    setting: &Setting<'_>,
+    context: &RelaxContext<'_>,
     gp: u64,
     kept: &[bool],
     relocations: &[u8],
@@ -605,7 +609,7 @@ fn decide_each_part<D: AsDecision>(
     decisions: &mut [D],
 ) -> Result<(), RewritingError>
     ensures enough { OnOk result (length relocations.now / 24 ≤ length decisions.old) }
-    ensures decided { OnOk result (ArePartsDecided (setting_of setting.now) gp kept.now
+    ensures decided { OnOk result (ArePartsDecided (context_of context.now) gp kept.now
         relocations.now section.now (map D.decision decisions.new) (length relocations.now / 24)) }
     ensures made { OnOk result (AllCanBeMade relocations.now section.now
         (map D.decision decisions.new) (length relocations.now / 24)) }
@@ -615,7 +619,7 @@ fn decide_each_part<D: AsDecision>(
         (All D.is_written (take (length relocations.now / 24) decisions.new)) }
     ensures others_stay { drop (length relocations.now / 24) decisions.new
         ≡ drop (length relocations.now / 24) decisions.old }
-    ensures rejected { IfErr result (λ e. (room : ℕ) → ArePartsRejected (setting_of setting.now) gp
+    ensures rejected { IfErr result (λ e. (room : ℕ) → ArePartsRejected (context_of context.now) gp
         kept.now relocations.now section.now (map D.decision decisions.new) room e) }
 {
     let len = relocations_len(relocations);
@@ -628,7 +632,7 @@ fn decide_each_part<D: AsDecision>(
         let relocation = relocation_in(relocations, index);
         let Some(decision) = decide_part(
             ascends,
-            setting,
+            context,
             gp,
             kept,
             relocations,
@@ -639,7 +643,7 @@ fn decide_each_part<D: AsDecision>(
             return Err(RewritingError::NotSurveyed(index));
         };
         let own = part_end(&decision, relocation.offset);
-        let Some(new_end) = end_behind(relocation.offset, own, end) else {
+        let Some(new_end) = end_after(relocation.offset, own, end) else {
             return Err(RewritingError::Overlaps(index));
         };
         end = new_end;
@@ -650,7 +654,7 @@ fn decide_each_part<D: AsDecision>(
 
 /// Decides what becomes of each relocation of a section, in the caller's memory.
 fn decide_parts<D: AsDecision>(
-    setting: &Setting<'_>,
+    context: &RelaxContext<'_>,
     gp: u64,
     kept: &[bool],
     relocations: &[u8],
@@ -658,23 +662,23 @@ fn decide_parts<D: AsDecision>(
     decisions: &mut [D],
 ) -> Result<(), RewritingError>
     ensures enough { OnOk result (length relocations.now / 24 ≤ length decisions.old) }
-    ensures decided { OnOk result (ArePartsDecided (setting_of setting.now) gp kept.now
+    ensures decided { OnOk result (ArePartsDecided (context_of context.now) gp kept.now
         relocations.now section.now (map D.decision decisions.new) (length relocations.now / 24)) }
     ensures made { OnOk result (AllCanBeMade relocations.now section.now
         (map D.decision decisions.new) (length relocations.now / 24)) }
     ensures apart { OnOk result (ArePartsApart relocations.now (map D.decision decisions.new)
         (length relocations.now / 24)) }
-    ensures clear { OnOk result (AreClear setting.now.architecture relocations.now section.now
+    ensures clear { OnOk result (AreClear context.now.architecture relocations.now section.now
         (map D.decision decisions.new) (length relocations.now / 24)) }
     ensures form { OnOk result
         (All D.is_written (take (length relocations.now / 24) decisions.new)) }
     ensures others_stay { drop (length relocations.now / 24) decisions.new
         ≡ drop (length relocations.now / 24) decisions.old }
-    ensures rejected { IfErr result (λ e. (room : ℕ) → ArePartsRejected (setting_of setting.now) gp
+    ensures rejected { IfErr result (λ e. (room : ℕ) → ArePartsRejected (context_of context.now) gp
         kept.now relocations.now section.now (map D.decision decisions.new) room e) }
 {
-    decide_each_part(setting, gp, kept, relocations, section, decisions)?;
-    match first_covered(setting.architecture, relocations, section, decisions) {
+    decide_each_part(context, gp, kept, relocations, section, decisions)?;
+    match first_covered(context.architecture, relocations, section, decisions) {
         Some(index) => Err(RewritingError::Overlaps(index)),
         None => Ok(()),
     }
@@ -687,7 +691,7 @@ fn relocation_by(decision: &Decision, relocation: &Rela) -> Rela
 {
     match decision {
         Decision::Kept => *relocation,
-        Decision::TakenAlong => Rela {
+        Decision::Consumed => Rela {
             code: 0,
             ..*relocation
         },
@@ -695,7 +699,7 @@ fn relocation_by(decision: &Decision, relocation: &Rela) -> Rela
             code: choice.relocation,
             ..*relocation
         },
-        Decision::Redirected(choice, subject) => Rela {
+        Decision::RewrittenWithSymbol(choice, subject) => Rela {
             offset: relocation.offset,
             code: choice.relocation,
             symbol: subject.symbol,
@@ -726,7 +730,7 @@ fn turn_all<D: AsDecision>(decisions: &[D], relocations: &mut [u8])
 ///
 /// The relocation of such an instruction gets the type 0. Those of the low parts of these symbols
 /// get the symbol and the addend of the address and the type `GPREL_I` or `GPREL_S`, which no other
-/// call knows: `from_global_pointer` writes the base of their instruction once all addresses are
+/// call knows: `finish_gp_relaxation` writes the base of their instruction once all addresses are
 /// final, and gives them the type whose value is then written. What became of each relocation is in
 /// `decisions`, which needs room for each of them.
 ///
@@ -788,10 +792,10 @@ pub fn rewrite_global_pointer<D: AsDecision, L: FromDeletion>(
     deleted: &mut [L],
 ) -> Result<usize, RewritingError>
     ensures agree { OnOk result (Agree symbols.now values.now relocations.old) }
-    ensures decided { OnOk result (ArePartsDecided (setting architecture Phase.Distances output.now
+    ensures decided { OnOk result (ArePartsDecided (context architecture Phase.ShortPcRel output.now
         symbols.now addresses.now values.now) gp kept.now relocations.old section.now
         (map D.decision decisions.new) (length relocations.old / 24)) }
-    ensures symbols { OnOk result (ArePartsWhole (setting architecture Phase.Distances output.now
+    ensures symbols { OnOk result (ArePartsWhole (context architecture Phase.ShortPcRel output.now
         symbols.now addresses.now values.now) relocations.old (map D.decision decisions.new)
         (length relocations.old / 24)) }
     ensures within { OnOk result (AllCanBeMade relocations.old section.now
@@ -811,25 +815,25 @@ pub fn rewrite_global_pointer<D: AsDecision, L: FromDeletion>(
         ≡ drop (length relocations.old / 24) decisions.old }
     ensures deletions_stay { IfOk result (λ len. drop len deleted.new ≡ drop len deleted.old) }
     ensures rejected { IfErr result (IsRejectedFirst symbols.now values.now relocations.old
-        (ArePartsRejected (setting architecture Phase.Distances output.now symbols.now addresses.now
+        (ArePartsRejected (context architecture Phase.ShortPcRel output.now symbols.now addresses.now
         values.now) gp kept.now relocations.old section.now (map D.decision decisions.new)
         (length deleted.old))) }
-    ensures surveyed { IfErr result (MeansSymbolsUnsurveyed (setting architecture Phase.Distances
+    ensures surveyed { IfErr result (MeansSymbolsUnsurveyed (context architecture Phase.ShortPcRel
         output.now symbols.now addresses.now values.now) gp relocations.old section.now kept.now) }
     ensures entries { OnErr result (relocations.new ≡ relocations.old) }
 {
     if let Some(symbol) = contradiction(symbols, values, relocations) {
         return Err(RewritingError::Contradiction(symbol));
     }
-    let setting = Setting {
+    let context = RelaxContext {
         architecture,
-        phase: Phase::Distances,
+        phase: Phase::ShortPcRel,
         output,
         symbols,
         addresses,
         values,
     };
-    match decide_parts(&setting, gp, kept, relocations, section, decisions) {
+    match decide_parts(&context, gp, kept, relocations, section, decisions) {
         Ok(()) => match list_deletions(relocations, decisions, deleted) {
             Some(len) => {
                 turn_all(decisions, relocations);
@@ -1004,7 +1008,7 @@ fn set_bases(
 /// isn't in the table; or whose instruction isn't in the section.
 ///
 /// ```
-/// use linker_rewriting::global_pointer::{GPREL_I, from_global_pointer};
+/// use linker_rewriting::global_pointer::{GPREL_I, finish_gp_relaxation};
 /// use linker_section::facts::{Addresses, Symbol};
 ///
 /// // lw a0, %lo(x)(a0), whose lui was deleted, becomes lw a0, 5(gp), where x is 5 above gp
@@ -1013,12 +1017,12 @@ fn set_bases(
 /// relocations[8] = u8::try_from(GPREL_I).unwrap();
 /// let values = [Symbol { address: 0x2_0805, ..Symbol::default() }];
 /// let addresses = Addresses::default();
-/// from_global_pointer(&addresses, &values, 0x2_0800, &mut relocations, &mut section).unwrap();
+/// finish_gp_relaxation(&addresses, &values, 0x2_0800, &mut relocations, &mut section).unwrap();
 /// assert_eq!(section, [0x03, 0xa5, 0x01, 0]);
 /// // R_RISCV_LO12_I, whose value is x - 0x20800
 /// assert_eq!((relocations[8], &relocations[16..]), (27, &(-0x2_0800i64).to_le_bytes()[..]));
 /// ```
-pub fn from_global_pointer(
+pub fn finish_gp_relaxation(
     addresses: &Addresses,
     values: &[Symbol],
     gp: u64,

@@ -7,7 +7,7 @@ ghost use Rattle.linker_rewriting.specs.Groups.{ppc64_scope, x86_64_scope, keeps
 ghost use Rattle.linker_rewriting.specs.Groups.{aarch64_scope_in, loongarch_scope_in};
 ghost use Rattle.linker_rewriting.specs.Groups.{ppc64_scope_in, riscv_scope_in, x86_64_scope_in};
 ghost use Rattle.linker_rewriting.specs.Groups.{is_mark, IsMark, symbol_of_group, stays_at};
-ghost use Rattle.linker_rewriting.specs.Groups.{group_stays, has_rewrites, IsUnlistedUnless};
+ghost use Rattle.linker_rewriting.specs.Groups.{group_stays, has_rewrites, IsNotRelaxableUnless};
 
 use crate::phases::Phase;
 use linker_utils::aarch64::AArch64Relocation;
@@ -39,18 +39,18 @@ pub enum Group {
 #[derive(Clone, Copy)]
 pub enum Scope {
     /// It isn't rewritten.
-    Unlisted,
+    NotRelaxable,
     /// It alone, and what its rewrite takes along. Of two that are a load from LoongArch's GOT both
     /// are rewritten, or neither is.
-    Alone,
+    Independent,
     /// All of its group.
     Grouped(Group),
     /// It goes where the next relocation is alone and is rewritten: that rewrite is of both
     /// instructions.
-    Ahead,
+    FirstOfPair,
     /// It alone, by its own value, where each instruction of its group is one that the rewrite is
     /// meant for.
-    Matched(Group),
+    IfGroupMatches(Group),
     /// All of one label of RISC-V: a high part, and the low parts whose symbol is the label at it.
     Labelled,
 }
@@ -61,7 +61,7 @@ pub enum Scope {
 /// whichever symbol it is of. By default none stays.
 #[repr(C)]
 #[derive(Default, Clone, Copy)]
-pub struct KeptGroups {
+pub struct UnrelaxableGroups {
     /// Those of `Group::InitialExec`.
     pub initial_exec: bool,
     /// Those of `Group::GeneralDynamic`.
@@ -74,7 +74,7 @@ pub struct KeptGroups {
     pub got_load: bool,
 }
 
-impl KeptGroups {
+impl UnrelaxableGroups {
     /// Whether the group of a kind stays.
     #[inline(always)]
     pub fn keeps(&self, group: Group) -> bool
@@ -91,27 +91,27 @@ impl KeptGroups {
 
     /// The same, where the group of a kind stays too.
     #[inline(always)]
-    pub(crate) fn with_kept(self, group: Group) -> KeptGroups
+    pub(crate) fn with_kept(self, group: Group) -> UnrelaxableGroups
         ensures { result ≡ with_kept group self }
     {
         match group {
-            Group::InitialExec => KeptGroups {
+            Group::InitialExec => UnrelaxableGroups {
                 initial_exec: true,
                 ..self
             },
-            Group::GeneralDynamic => KeptGroups {
+            Group::GeneralDynamic => UnrelaxableGroups {
                 general_dynamic: true,
                 ..self
             },
-            Group::LocalDynamic => KeptGroups {
+            Group::LocalDynamic => UnrelaxableGroups {
                 local_dynamic: true,
                 ..self
             },
-            Group::Descriptor => KeptGroups {
+            Group::Descriptor => UnrelaxableGroups {
                 descriptor: true,
                 ..self
             },
-            Group::GotLoad => KeptGroups {
+            Group::GotLoad => UnrelaxableGroups {
                 got_load: true,
                 ..self
             },
@@ -125,7 +125,8 @@ fn aarch64_scope(name: AArch64Relocation) -> Scope
     ensures { result ≡ aarch64_scope name }
 {
     match name {
-        AArch64Relocation::R_AARCH64_CALL26 | AArch64Relocation::R_AARCH64_JUMP26 => Scope::Alone,
+        AArch64Relocation::R_AARCH64_CALL26 | AArch64Relocation::R_AARCH64_JUMP26 =>
+            Scope::Independent,
         AArch64Relocation::R_AARCH64_TLSIE_ADR_GOTTPREL_PAGE21
         | AArch64Relocation::R_AARCH64_TLSIE_LD64_GOTTPREL_LO12_NC => {
             Scope::Grouped(Group::InitialExec)
@@ -134,7 +135,7 @@ fn aarch64_scope(name: AArch64Relocation) -> Scope
         | AArch64Relocation::R_AARCH64_TLSDESC_LD64_LO12
         | AArch64Relocation::R_AARCH64_TLSDESC_ADD_LO12
         | AArch64Relocation::R_AARCH64_TLSDESC_CALL => Scope::Grouped(Group::Descriptor),
-        _ => Scope::Unlisted,
+        _ => Scope::NotRelaxable,
     }
 }
 
@@ -145,7 +146,7 @@ fn loongarch_scope(name: LoongArch64Relocation) -> Scope
 {
     match name {
         LoongArch64Relocation::R_LARCH_GOT_PC_HI20 | LoongArch64Relocation::R_LARCH_GOT_PC_LO12 =>
-            Scope::Alone,
+            Scope::Independent,
         LoongArch64Relocation::R_LARCH_TLS_IE_PC_HI20
         | LoongArch64Relocation::R_LARCH_TLS_IE_PC_LO12
         | LoongArch64Relocation::R_LARCH_TLS_IE64_PC_LO20
@@ -156,7 +157,7 @@ fn loongarch_scope(name: LoongArch64Relocation) -> Scope
         | LoongArch64Relocation::R_LARCH_TLS_DESC64_PC_HI12
         | LoongArch64Relocation::R_LARCH_TLS_DESC_LD
         | LoongArch64Relocation::R_LARCH_TLS_DESC_CALL => Scope::Grouped(Group::Descriptor),
-        _ => Scope::Unlisted,
+        _ => Scope::NotRelaxable,
     }
 }
 
@@ -166,7 +167,7 @@ fn ppc64_scope(name: Ppc64Relocation) -> Scope
     ensures { result ≡ ppc64_scope name }
 {
     match name {
-        Ppc64Relocation::R_PPC64_REL24 | Ppc64Relocation::R_PPC64_GOT_PCREL34 => Scope::Alone,
+        Ppc64Relocation::R_PPC64_REL24 | Ppc64Relocation::R_PPC64_GOT_PCREL34 => Scope::Independent,
         Ppc64Relocation::R_PPC64_GOT16
         | Ppc64Relocation::R_PPC64_GOT16_DS
         | Ppc64Relocation::R_PPC64_GOT16_LO
@@ -191,7 +192,7 @@ fn ppc64_scope(name: Ppc64Relocation) -> Scope
         | Ppc64Relocation::R_PPC64_GOT_TLSLD16_HA
         | Ppc64Relocation::R_PPC64_GOT_TLSLD_PCREL34
         | Ppc64Relocation::R_PPC64_TLSLD => Scope::Grouped(Group::LocalDynamic),
-        _ => Scope::Unlisted,
+        _ => Scope::NotRelaxable,
     }
 }
 
@@ -209,7 +210,7 @@ fn x86_64_scope(name: X86_64Relocation) -> Scope
         | X86_64Relocation::R_X86_64_GOTTPOFF
         | X86_64Relocation::R_X86_64_CODE_4_GOTTPOFF
         | X86_64Relocation::R_X86_64_CODE_6_GOTTPOFF
-        | X86_64Relocation::R_X86_64_TLSGD => Scope::Alone,
+        | X86_64Relocation::R_X86_64_TLSGD => Scope::Independent,
         X86_64Relocation::R_X86_64_TLSLD
         | X86_64Relocation::R_X86_64_DTPOFF32
         | X86_64Relocation::R_X86_64_DTPOFF64 => Scope::Grouped(Group::LocalDynamic),
@@ -218,7 +219,7 @@ fn x86_64_scope(name: X86_64Relocation) -> Scope
         | X86_64Relocation::R_X86_64_CODE_5_GOTPC32_TLSDESC
         | X86_64Relocation::R_X86_64_CODE_6_GOTPC32_TLSDESC
         | X86_64Relocation::R_X86_64_TLSDESC_CALL => Scope::Grouped(Group::Descriptor),
-        _ => Scope::Unlisted,
+        _ => Scope::NotRelaxable,
     }
 }
 
@@ -228,18 +229,18 @@ fn aarch64_scope_in(phase: Phase, name: AArch64Relocation) -> Scope
     ensures { result ≡ aarch64_scope_in phase name }
 {
     match phase {
-        Phase::Early => aarch64_scope(name),
-        Phase::GotLoads => match name {
+        Phase::PreLayout => aarch64_scope(name),
+        Phase::GotToPcRel => match name {
             AArch64Relocation::R_AARCH64_ADR_GOT_PAGE
             | AArch64Relocation::R_AARCH64_LD64_GOT_LO12_NC => Scope::Grouped(Group::GotLoad),
-            _ => Scope::Unlisted,
+            _ => Scope::NotRelaxable,
         },
-        Phase::Distances => match name {
-            AArch64Relocation::R_AARCH64_ADR_PREL_PG_HI21 => Scope::Ahead,
-            AArch64Relocation::R_AARCH64_ADD_ABS_LO12_NC => Scope::Alone,
-            _ => Scope::Unlisted,
+        Phase::ShortPcRel => match name {
+            AArch64Relocation::R_AARCH64_ADR_PREL_PG_HI21 => Scope::FirstOfPair,
+            AArch64Relocation::R_AARCH64_ADD_ABS_LO12_NC => Scope::Independent,
+            _ => Scope::NotRelaxable,
         },
-        Phase::ThreadOffsets => Scope::Unlisted,
+        Phase::TlsLocalExec => Scope::NotRelaxable,
     }
 }
 
@@ -249,7 +250,7 @@ fn riscv_scope_in(phase: Phase, name: RiscVRelocation) -> Scope
     ensures { result ≡ riscv_scope_in phase name }
 {
     match phase {
-        Phase::ThreadOffsets => match name {
+        Phase::TlsLocalExec => match name {
             RiscVRelocation::R_RISCV_TPREL_HI20
             | RiscVRelocation::R_RISCV_TPREL_ADD
             | RiscVRelocation::R_RISCV_TPREL_LO12_I
@@ -258,15 +259,15 @@ fn riscv_scope_in(phase: Phase, name: RiscVRelocation) -> Scope
             | RiscVRelocation::R_RISCV_TLSDESC_LOAD_LO12
             | RiscVRelocation::R_RISCV_TLSDESC_ADD_LO12
             | RiscVRelocation::R_RISCV_TLSDESC_CALL => Scope::Labelled,
-            _ => Scope::Unlisted,
+            _ => Scope::NotRelaxable,
         },
-        Phase::GotLoads => match name {
+        Phase::GotToPcRel => match name {
             RiscVRelocation::R_RISCV_GOT_HI20
             | RiscVRelocation::R_RISCV_PCREL_LO12_I
             | RiscVRelocation::R_RISCV_PCREL_LO12_S => Scope::Labelled,
-            _ => Scope::Unlisted,
+            _ => Scope::NotRelaxable,
         },
-        Phase::Early | Phase::Distances => Scope::Unlisted,
+        Phase::PreLayout | Phase::ShortPcRel => Scope::NotRelaxable,
     }
 }
 
@@ -276,14 +277,14 @@ fn loongarch_scope_in(phase: Phase, name: LoongArch64Relocation) -> Scope
     ensures { result ≡ loongarch_scope_in phase name }
 {
     match phase {
-        Phase::Early => loongarch_scope(name),
-        Phase::ThreadOffsets => match name {
+        Phase::PreLayout => loongarch_scope(name),
+        Phase::TlsLocalExec => match name {
             LoongArch64Relocation::R_LARCH_TLS_LE_HI20_R
             | LoongArch64Relocation::R_LARCH_TLS_LE_ADD_R
             | LoongArch64Relocation::R_LARCH_TLS_LE_LO12_R => Scope::Grouped(Group::InitialExec),
-            _ => Scope::Unlisted,
+            _ => Scope::NotRelaxable,
         },
-        Phase::GotLoads | Phase::Distances => Scope::Unlisted,
+        Phase::GotToPcRel | Phase::ShortPcRel => Scope::NotRelaxable,
     }
 }
 
@@ -293,20 +294,20 @@ fn ppc64_scope_in(phase: Phase, name: Ppc64Relocation) -> Scope
     ensures { result ≡ ppc64_scope_in phase name }
 {
     match phase {
-        Phase::Early => ppc64_scope(name),
-        Phase::ThreadOffsets => match name {
+        Phase::PreLayout => ppc64_scope(name),
+        Phase::TlsLocalExec => match name {
             Ppc64Relocation::R_PPC64_TPREL16_HA
             | Ppc64Relocation::R_PPC64_TPREL16_LO
             | Ppc64Relocation::R_PPC64_TPREL16_LO_DS => Scope::Grouped(Group::InitialExec),
-            _ => Scope::Unlisted,
+            _ => Scope::NotRelaxable,
         },
-        Phase::Distances => match name {
+        Phase::ShortPcRel => match name {
             Ppc64Relocation::R_PPC64_TOC16_HA
             | Ppc64Relocation::R_PPC64_TOC16_LO
-            | Ppc64Relocation::R_PPC64_TOC16_LO_DS => Scope::Matched(Group::GotLoad),
-            _ => Scope::Unlisted,
+            | Ppc64Relocation::R_PPC64_TOC16_LO_DS => Scope::IfGroupMatches(Group::GotLoad),
+            _ => Scope::NotRelaxable,
         },
-        Phase::GotLoads => Scope::Unlisted,
+        Phase::GotToPcRel => Scope::NotRelaxable,
     }
 }
 
@@ -316,8 +317,8 @@ fn x86_64_scope_in(phase: Phase, name: X86_64Relocation) -> Scope
     ensures { result ≡ x86_64_scope_in phase name }
 {
     match phase {
-        Phase::Early => x86_64_scope(name),
-        Phase::ThreadOffsets | Phase::GotLoads | Phase::Distances => Scope::Unlisted,
+        Phase::PreLayout => x86_64_scope(name),
+        Phase::TlsLocalExec | Phase::GotToPcRel | Phase::ShortPcRel => Scope::NotRelaxable,
     }
 }
 
@@ -330,8 +331,8 @@ fn x86_64_scope_in(phase: Phase, name: X86_64Relocation) -> Scope
 ///
 /// // R_AARCH64_ADR_GOT_PAGE
 /// let group = Scope::Grouped(Group::GotLoad);
-/// assert_eq!(scope_in(Architecture::AArch64, Phase::GotLoads, 311), group);
-/// assert_eq!(scope_in(Architecture::AArch64, Phase::Early, 311), Scope::Unlisted);
+/// assert_eq!(scope_in(Architecture::AArch64, Phase::GotToPcRel, 311), group);
+/// assert_eq!(scope_in(Architecture::AArch64, Phase::PreLayout, 311), Scope::NotRelaxable);
 /// ```
 #[inline(always)]
 pub fn scope_in(architecture: Architecture, phase: Phase, code: u32) -> Scope
@@ -354,28 +355,28 @@ fn is_listed(architecture: Architecture, phase: Phase) -> bool
     ensures { result ≡ has_rewrites architecture phase }
 {
     match architecture {
-        Architecture::AArch64 => !matches!(phase, Phase::ThreadOffsets),
-        Architecture::RiscV => matches!(phase, Phase::ThreadOffsets | Phase::GotLoads),
-        Architecture::LoongArch64 => matches!(phase, Phase::Early | Phase::ThreadOffsets),
-        Architecture::Ppc64 => !matches!(phase, Phase::GotLoads),
-        Architecture::X86_64 => matches!(phase, Phase::Early),
+        Architecture::AArch64 => !matches!(phase, Phase::TlsLocalExec),
+        Architecture::RiscV => matches!(phase, Phase::TlsLocalExec | Phase::GotToPcRel),
+        Architecture::LoongArch64 => matches!(phase, Phase::PreLayout | Phase::TlsLocalExec),
+        Architecture::Ppc64 => !matches!(phase, Phase::GotToPcRel),
+        Architecture::X86_64 => matches!(phase, Phase::PreLayout),
     }
 }
 
 /// Whether an architecture has rewrites in a phase. In one without them a linker surveys and
-/// rewrites nothing: each relocation is `Scope::Unlisted`.
+/// rewrites nothing: each relocation is `Scope::NotRelaxable`.
 ///
 /// ```
 /// use linker_rewriting::groups::has_rewrites;
 /// use linker_rewriting::phases::Phase;
 /// use linker_utils::elf::Architecture;
 ///
-/// assert!(has_rewrites(Architecture::RiscV, Phase::ThreadOffsets));
-/// assert!(!has_rewrites(Architecture::X86_64, Phase::ThreadOffsets));
+/// assert!(has_rewrites(Architecture::RiscV, Phase::TlsLocalExec));
+/// assert!(!has_rewrites(Architecture::X86_64, Phase::TlsLocalExec));
 /// ```
 pub fn has_rewrites(architecture: Architecture, phase: Phase) -> bool
     ensures table { result ≡ has_rewrites architecture phase }
-    ensures unlisted { IsUnlistedUnless architecture phase result }
+    ensures unlisted { IsNotRelaxableUnless architecture phase result }
 {
     is_listed(architecture, phase)
 }
@@ -388,15 +389,15 @@ pub fn has_rewrites(architecture: Architecture, phase: Phase) -> bool
 /// use linker_utils::elf::Architecture;
 ///
 /// // R_X86_64_GOTPCRELX, R_X86_64_TLSLD and R_X86_64_PC32
-/// assert_eq!(scope_of(Architecture::X86_64, 41), Scope::Alone);
+/// assert_eq!(scope_of(Architecture::X86_64, 41), Scope::Independent);
 /// assert_eq!(scope_of(Architecture::X86_64, 20), Scope::Grouped(Group::LocalDynamic));
-/// assert_eq!(scope_of(Architecture::X86_64, 2), Scope::Unlisted);
+/// assert_eq!(scope_of(Architecture::X86_64, 2), Scope::NotRelaxable);
 /// ```
 #[inline(always)]
 pub fn scope_of(architecture: Architecture, code: u32) -> Scope
     ensures { IsScope architecture code result }
 {
-    scope_in(architecture, Phase::Early, code)
+    scope_in(architecture, Phase::PreLayout, code)
 }
 
 /// Whether a name of PowerPC64 marks a call of `__tls_get_addr`.
@@ -431,7 +432,7 @@ pub(crate) fn symbol_of_group(group: Group, symbol: u32) -> u32
 
 /// Whether the group of a kind stays at an index of a table. All do where the table has none.
 #[inline(always)]
-pub(crate) fn stays_at(kept: &[KeptGroups], group: Group, symbol: u32) -> bool
+pub(crate) fn stays_at(kept: &[UnrelaxableGroups], group: Group, symbol: u32) -> bool
     ensures { result ≡ stays_at kept.now group symbol }
 {
     match kept.get(symbol as usize) {
@@ -442,7 +443,7 @@ pub(crate) fn stays_at(kept: &[KeptGroups], group: Group, symbol: u32) -> bool
 
 /// Whether the group of a kind and of a symbol stays.
 #[inline(always)]
-pub(crate) fn group_stays(kept: &[KeptGroups], group: Group, symbol: u32) -> bool
+pub(crate) fn group_stays(kept: &[UnrelaxableGroups], group: Group, symbol: u32) -> bool
     ensures { result ≡ group_stays kept.now group symbol }
 {
     stays_at(kept, group, 0) || stays_at(kept, group, symbol_of_group(group, symbol))

@@ -6,7 +6,7 @@ ghost use Rattle.std.specs.Prelude.{IfSome, IfNone, OnOk, MatchOption};
 ghost use Rattle.linker_rewriting.specs.Agreement.{Agree};
 ghost use Rattle.linker_rewriting.specs.Kept.{AreAsKept, AreKept, IsAsKept, IsFirstChanged};
 ghost use Rattle.linker_rewriting.specs.Kept.{IsWritingCause, IsRejectedOrChanged, bit_if};
-ghost use Rattle.linker_rewriting.specs.Kept.{kept_facts, needs_stub, lacks_stub, HaveStubs};
+ghost use Rattle.linker_rewriting.specs.Kept.{facts_snapshot, needs_stub, lacks_stub, HaveStubs};
 ghost use Rattle.linker_rewriting.specs.Kept.{IsFirstWithoutStub};
 ghost use Rattle.linker_section.specs.Sections.{AreAllRelocated};
 ghost use Rattle.linker_section.specs.Relocations.{relocation_in};
@@ -25,7 +25,7 @@ use linker_utils::ppc64::Ppc64Relocation;
 /// table of these has those of an object at the indexes that its relocations name (`r_sym`).
 #[repr(C)]
 #[derive(Default, Clone, Copy)]
-pub struct KeptFacts {
+pub struct FactsSnapshot {
     /// The bits, as `kept_bits` says.
     pub bits: u16,
 }
@@ -65,8 +65,8 @@ fn toc_bits(other: u8) -> u16
 
 /// What choices read of a symbol and of the output.
 #[inline(always)]
-fn kept_facts(output: &OutputFacts, symbol: &SymbolFacts) -> KeptFacts
-    ensures { result ≡ kept_facts output.now symbol.now }
+fn facts_snapshot(output: &OutputFacts, symbol: &SymbolFacts) -> FactsSnapshot
+    ensures { result ≡ facts_snapshot output.now symbol.now }
 {
     let of_output = bit_if(1 << 10, output.has_near_symbols)
         + bit_if(1 << 9, output.is_fixed)
@@ -77,7 +77,7 @@ fn kept_facts(output: &OutputFacts, symbol: &SymbolFacts) -> KeptFacts
         + bit_if(4, symbol.is_absolute)
         + bit_if(2, symbol.is_ifunc)
         + bit_if(1, symbol.is_local);
-    KeptFacts {
+    FactsSnapshot {
         bits: (1 << 15) + of_output + toc + of_symbol,
     }
 }
@@ -85,12 +85,12 @@ fn kept_facts(output: &OutputFacts, symbol: &SymbolFacts) -> KeptFacts
 /// Keeps what choices read of an object's symbols and of the output. A linker calls this when it
 /// chooses rewrites, with the facts that it passes to `survey` and `rewrite_section`, and passes
 /// what is kept to `relocate_rewritten_section`.
-pub fn keep_facts(output: &OutputFacts, symbols: &[SymbolFacts], kept: &mut [KeptFacts])
+pub fn snapshot_facts(output: &OutputFacts, symbols: &[SymbolFacts], kept: &mut [FactsSnapshot])
     requires room { length symbols.now ≡ length kept.old }
     ensures { AreKept output.now symbols.now kept.new }
 {
     for index in 0..symbols.len() {
-        kept[index] = kept_facts(output, &symbols[index]);
+        kept[index] = facts_snapshot(output, &symbols[index]);
     }
 }
 
@@ -99,14 +99,14 @@ pub fn keep_facts(output: &OutputFacts, symbols: &[SymbolFacts], kept: &mut [Kep
 fn is_as_kept(
     output: &OutputFacts,
     symbols: &[SymbolFacts],
-    kept: &[KeptFacts],
+    kept: &[FactsSnapshot],
     relocation: &Rela,
 ) -> bool
     ensures { IsTrue result ↔ IsAsKept output.now symbols.now kept.now relocation.now }
 {
     let index = relocation.symbol as usize;
     match (kept.get(index), symbols.get(index)) {
-        (Some(before), Some(symbol)) => before.bits == kept_facts(output, symbol).bits,
+        (Some(before), Some(symbol)) => before.bits == facts_snapshot(output, symbol).bits,
         (None, None) => true,
         _ => false,
     }
@@ -118,7 +118,7 @@ fn is_as_kept(
 pub fn first_changed(
     output: &OutputFacts,
     symbols: &[SymbolFacts],
-    kept: &[KeptFacts],
+    kept: &[FactsSnapshot],
     relocations: &[u8],
 ) -> Option<usize>
     ensures some { IfSome result (IsFirstChanged output.now symbols.now kept.now relocations.now) }
@@ -186,7 +186,7 @@ fn first_without_stub(
 
 /// Writes the values of a section whose instructions were rewritten, as `relocate_section` does,
 /// where choices would still read the same facts: `facts` and `output` are those that hold now, and
-/// `kept` those of `keep_facts` when rewrites were chosen. So a symbol that was bound then and
+/// `kept` those of `snapshot_facts` when rewrites were chosen. So a symbol that was bound then and
 /// isn't any more doesn't get code that bypasses its GOT entry. A relocation that needs an entry
 /// which the linker hasn't made is an error of `relocate_section` (`NoEntry`).
 ///
@@ -200,7 +200,7 @@ fn first_without_stub(
 ///
 /// ```
 /// use linker_rewriting::facts::{OutputFacts, SymbolFacts};
-/// use linker_rewriting::kept::{KeptFacts, WritingError, keep_facts, relocate_rewritten_section};
+/// use linker_rewriting::kept::{FactsSnapshot, WritingError, snapshot_facts, relocate_rewritten_section};
 /// use linker_section::facts::{Addresses, Symbol};
 /// use linker_utils::elf::Architecture;
 ///
@@ -214,8 +214,8 @@ fn first_without_stub(
 ///     SymbolFacts::default(),
 ///     SymbolFacts { is_local: true, ..SymbolFacts::default() },
 /// ];
-/// let mut kept = [KeptFacts::default(); 2];
-/// keep_facts(&output, &facts, &mut kept);
+/// let mut kept = [FactsSnapshot::default(); 2];
+/// snapshot_facts(&output, &facts, &mut kept);
 /// // another definition replaces f
 /// facts[1].is_local = false;
 /// let addresses = Addresses { section: 0x1000, ..Addresses::default() };
@@ -238,7 +238,7 @@ pub fn relocate_rewritten_section(
     architecture: Architecture,
     output: &OutputFacts,
     facts: &[SymbolFacts],
-    kept: &[KeptFacts],
+    kept: &[FactsSnapshot],
     addresses: &Addresses,
     relocations: &[u8],
     symbols: &[Symbol],

@@ -5,7 +5,7 @@ ghost use Rattle.linker_rewriting.specs.GlobalPointer.{ArePartsWholeAcross};
 ghost use Rattle.linker_rewriting.specs.Kept.{KeptFactsTell};
 ghost use Rattle.linker_rewriting.specs.Rewritten.{GroupsAreWholeAcross, LoadsAreWhole};
 ghost use Rattle.linker_rewriting.specs.Surveys.{NotesStay, SurveysCommute};
-ghost use Rattle.linker_rewriting.specs.Words.{WordsAreWholeAcross};
+ghost use Rattle.linker_rewriting.specs.TocIndirection.{WordsAreWholeAcross};
 
 /// What is noted of one section of an object is still noted when the others have been surveyed, so
 /// that the clause `surveyed` of `rewrite_section` holds of each.
@@ -37,7 +37,7 @@ pub fn loads_are_whole()
 {}
 
 /// Where the same bits are kept of two symbols, choices read the same of them in every phase.
-pub fn kept_facts_tell()
+pub fn facts_snapshot_tell()
     ensures { KeptFactsTell }
 {}
 

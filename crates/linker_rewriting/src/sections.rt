@@ -9,7 +9,7 @@ ghost use Rattle.linker_rewriting.specs.Decisions.{CanBeMade, AllCanBeMade, AreD
 ghost use Rattle.linker_rewriting.specs.Decisions.{AreDecidedIn, IsRejected, IsRejectedPlaced};
 ghost use Rattle.linker_rewriting.specs.Decisions.{decision_at, deleted_of, deleted_end};
 ghost use Rattle.linker_rewriting.specs.Decisions.{deletions_by};
-ghost use Rattle.linker_rewriting.specs.Facts.{early, setting};
+ghost use Rattle.linker_rewriting.specs.Facts.{pre_layout, context};
 ghost use Rattle.linker_rewriting.specs.Inner.Left.{AreKept};
 ghost use Rattle.linker_rewriting.specs.Rewritten.{section_after, relocation_after, AreDone};
 ghost use Rattle.linker_rewriting.specs.Rewritten.{AreRelocationsAfter, OthersStay, GroupsAreWhole};
@@ -18,8 +18,8 @@ ghost use Rattle.linker_rewriting.specs.Surveys.{MeansUnsurveyed};
 
 use crate::agreement::contradiction;
 use crate::decisions::{AsDecision, Decision, FromDeletion, RewritingError, decide_section};
-use crate::facts::{NO_ADDRESSES, OutputFacts, Setting, SymbolFacts};
-use crate::groups::KeptGroups;
+use crate::facts::{NO_ADDRESSES, OutputFacts, RelaxContext, SymbolFacts};
+use crate::groups::UnrelaxableGroups;
 use crate::phases::Phase;
 use crate::relocations::{relocation_in, set_relocation};
 use linker_section::facts::{Addresses, Symbol};
@@ -35,14 +35,14 @@ fn make(decision: Decision, relocation: &mut Rela, section: &mut [u8])
 {
     match decision {
         Decision::Kept => {}
-        Decision::TakenAlong => relocation.code = 0,
+        Decision::Consumed => relocation.code = 0,
         Decision::Rewritten(choice) => {
             choice
                 .kind
                 .apply(section, &mut relocation.offset, &mut relocation.addend);
             relocation.code = choice.relocation;
         }
-        Decision::Redirected(choice, subject) => {
+        Decision::RewrittenWithSymbol(choice, subject) => {
             relocation.symbol = subject.symbol;
             relocation.addend = subject.addend;
             let kind = choice.kind;
@@ -107,7 +107,7 @@ fn make_changes<D: AsDecision>(
 /// turns its relocations into those after it. It decides by all of the section's bytes before it
 /// rewrites one.
 ///
-/// An instruction whose relocation is `Scope::Alone` is rewritten where it can be. Those of a group
+/// An instruction whose relocation is `Scope::Independent` is rewritten where it can be. Those of a group
 /// are all rewritten, or none is where the group stays by `kept`, which `survey` made of all
 /// sections of code of the object with the same facts. A relocation that a rewrite takes along gets
 /// the type 0, so that indexes stay. A relocation of a symbol that isn't in the table isn't
@@ -138,7 +138,7 @@ fn make_changes<D: AsDecision>(
 /// ```
 /// use linker_rewriting::decisions::Decision;
 /// use linker_rewriting::facts::{OutputFacts, SymbolFacts};
-/// use linker_rewriting::groups::KeptGroups;
+/// use linker_rewriting::groups::UnrelaxableGroups;
 /// use linker_rewriting::sections::rewrite_section;
 /// use linker_utils::elf::Architecture;
 ///
@@ -157,7 +157,7 @@ fn make_changes<D: AsDecision>(
 ///     Architecture::X86_64,
 ///     &output,
 ///     &symbols,
-///     &[KeptGroups::default(); 2],
+///     &[UnrelaxableGroups::default(); 2],
 ///     &mut relocations,
 ///     &mut section,
 ///     &mut decisions,
@@ -171,7 +171,7 @@ pub fn rewrite_section<D: AsDecision>(
     architecture: Architecture,
     output: &OutputFacts,
     symbols: &[SymbolFacts],
-    kept: &[KeptGroups],
+    kept: &[UnrelaxableGroups],
     relocations: &mut [u8],
     section: &mut [u8],
     decisions: &mut [D],
@@ -196,20 +196,20 @@ pub fn rewrite_section<D: AsDecision>(
         ≡ drop (length relocations.old / 24) decisions.old }
     ensures rejected { IfErr result (IsRejected architecture output.now symbols.now kept.now
         relocations.old section.old (map D.decision decisions.new)) }
-    ensures surveyed { IfErr result (MeansUnsurveyed (early architecture output.now symbols.now)
+    ensures surveyed { IfErr result (MeansUnsurveyed (pre_layout architecture output.now symbols.now)
         relocations.old section.old kept.now) }
     ensures section { OnErr result (section.new ≡ section.old) }
     ensures entries { OnErr result (relocations.new ≡ relocations.old) }
 {
-    let setting = Setting {
+    let context = RelaxContext {
         architecture,
-        phase: Phase::Early,
+        phase: Phase::PreLayout,
         output,
         symbols,
         addresses: &NO_ADDRESSES,
         values: &[],
     };
-    match decide_section(&setting, kept, relocations, section, decisions) {
+    match decide_section(&context, kept, relocations, section, decisions) {
         Ok(changes) => {
             make_changes(changes, decisions, relocations, section);
             Ok(())
@@ -294,19 +294,20 @@ fn list_changes<D: AsDecision, L: FromDeletion>(
 /// Bytes that are to be deleted are listed in `deleted` by their offset in the section and how many
 /// they are, ascending, as `SectionRelaxDeltas::new` of `linker_base::relaxation` takes them. They
 /// are in the section, apart from each other and from all that is rewritten, and still there.
-/// `Phase::ThreadOffsets` alone has any. Returns how many there are. A relocation that goes, with
+/// `Phase::TlsLocalExec` alone has any. Returns how many there are. A relocation that goes, with
 /// its instruction or without, gets the type 0.
 ///
-/// - `ThreadOffsets`: where an offset from the thread pointer has 12 bits, RISC-V's and LoongArch's
+/// - `TlsLocalExec`: where an offset from the thread pointer has 12 bits, RISC-V's and LoongArch's
 ///   `lui` and `add` of it are deleted, and loads and stores are over the thread pointer; where it
 ///   has 16 bits, PowerPC64's `addis` becomes a `nop`. An instruction of RISC-V and LoongArch has
 ///   to be marked for that. RISC-V's TLS descriptors become such offsets too, all of a label or
 ///   none: what is left out is deleted where the high part is marked, and a `nop` elsewhere. Their
-///   relocations are then of the symbol and the addend of the high part (`Decision::Redirected`).
-/// - `GotLoads`: AArch64's loads of an address from the GOT become `adrp` and `add`, where both
+///   relocations are then of the symbol and the addend of the high part
+///   (`Decision::RewrittenWithSymbol`).
+/// - `GotToPcRel`: AArch64's loads of an address from the GOT become `adrp` and `add`, where both
 ///   relocations are next to each other and have no addend. RISC-V's become `auipc` and `addi`,
 ///   where all of a label are marked.
-/// - `Distances`: AArch64's `adrp` and `add` next to each other become `nop` and `adr`. Where a
+/// - `ShortPcRel`: AArch64's `adrp` and `add` next to each other become `nop` and `adr`. Where a
 ///   distance from the TOC pointer has 16 bits, PowerPC64's `addis` becomes a `nop`, and what reads
 ///   it is over the TOC pointer.
 ///
@@ -320,7 +321,7 @@ fn list_changes<D: AsDecision, L: FromDeletion>(
 /// ```
 /// use linker_rewriting::decisions::Decision;
 /// use linker_rewriting::facts::{OutputFacts, SymbolFacts};
-/// use linker_rewriting::groups::KeptGroups;
+/// use linker_rewriting::groups::UnrelaxableGroups;
 /// use linker_rewriting::phases::Phase;
 /// use linker_rewriting::sections::rewrite_placed_section;
 /// use linker_section::facts::{Addresses, Symbol};
@@ -337,12 +338,12 @@ fn list_changes<D: AsDecision, L: FromDeletion>(
 /// let values = [Symbol::default(), Symbol { address: 0x2004, ..Symbol::default() }];
 /// let rewritten = rewrite_placed_section(
 ///     Architecture::AArch64,
-///     Phase::Distances,
+///     Phase::ShortPcRel,
 ///     &OutputFacts { is_executable: true, is_fixed: true, has_near_symbols: true },
 ///     &[SymbolFacts { is_local: true, ..SymbolFacts::default() }; 2],
 ///     &Addresses { section: 0x1000, ..Addresses::default() },
 ///     &values,
-///     &[KeptGroups::default(); 2],
+///     &[UnrelaxableGroups::default(); 2],
 ///     &mut relocations,
 ///     &mut section,
 ///     &mut [Decision::Kept; 2],
@@ -361,14 +362,14 @@ pub fn rewrite_placed_section<D: AsDecision, L: FromDeletion>(
     symbols: &[SymbolFacts],
     addresses: &Addresses,
     values: &[Symbol],
-    kept: &[KeptGroups],
+    kept: &[UnrelaxableGroups],
     relocations: &mut [u8],
     section: &mut [u8],
     decisions: &mut [D],
     deleted: &mut [L],
 ) -> Result<usize, RewritingError>
     ensures agree { OnOk result (Agree symbols.now values.now relocations.old) }
-    ensures decided { OnOk result (AreDecidedIn (setting architecture phase output.now symbols.now
+    ensures decided { OnOk result (AreDecidedIn (context architecture phase output.now symbols.now
         addresses.now values.now) kept.now relocations.old section.old
         (map D.decision decisions.new) (length relocations.old / 24)) }
     ensures groups { OnOk result (GroupsAreWholeIn architecture phase relocations.old
@@ -388,7 +389,7 @@ pub fn rewrite_placed_section<D: AsDecision, L: FromDeletion>(
     ensures listed { IfOk result (λ len. take len (map L.deletion deleted.new)
         ≡ deletions_by relocations.old (map D.decision decisions.new)
         (length relocations.old / 24)) }
-    ensures labels { OnOk result (LabelsAreWhole (setting architecture phase output.now symbols.now
+    ensures labels { OnOk result (LabelsAreWhole (context architecture phase output.now symbols.now
         addresses.now values.now) relocations.old (map D.decision decisions.new)
         (length relocations.old / 24)) }
     ensures form { OnOk result
@@ -396,10 +397,10 @@ pub fn rewrite_placed_section<D: AsDecision, L: FromDeletion>(
     ensures others_stay { drop (length relocations.old / 24) decisions.new
         ≡ drop (length relocations.old / 24) decisions.old }
     ensures deletions_stay { IfOk result (λ len. drop len deleted.new ≡ drop len deleted.old) }
-    ensures rejected { IfErr result (IsRejectedPlaced (setting architecture phase output.now
+    ensures rejected { IfErr result (IsRejectedPlaced (context architecture phase output.now
         symbols.now addresses.now values.now) kept.now relocations.old section.old
         (map D.decision decisions.new) (length deleted.old)) }
-    ensures surveyed { IfErr result (MeansUnsurveyed (setting architecture phase output.now
+    ensures surveyed { IfErr result (MeansUnsurveyed (context architecture phase output.now
         symbols.now addresses.now values.now) relocations.old section.old kept.now) }
     ensures section { OnErr result (section.new ≡ section.old) }
     ensures entries { OnErr result (relocations.new ≡ relocations.old) }
@@ -407,7 +408,7 @@ pub fn rewrite_placed_section<D: AsDecision, L: FromDeletion>(
     if let Some(symbol) = contradiction(symbols, values, relocations) {
         return Err(RewritingError::Contradiction(symbol));
     }
-    let setting = Setting {
+    let context = RelaxContext {
         architecture,
         phase,
         output,
@@ -415,7 +416,7 @@ pub fn rewrite_placed_section<D: AsDecision, L: FromDeletion>(
         addresses,
         values,
     };
-    match decide_section(&setting, kept, relocations, section, decisions) {
+    match decide_section(&context, kept, relocations, section, decisions) {
         Ok(changes) => match list_changes(changes, relocations, decisions, deleted) {
             Some(len) => {
                 make_changes(changes, decisions, relocations, section);

@@ -75,10 +75,10 @@ fn mark_code_in(phase: Phase, architecture: Architecture) -> Option<u32>
     ensures { result ≡ mark_code_in phase architecture }
 {
     match (phase, architecture) {
-        (Phase::Early, Architecture::Ppc64) => {
+        (Phase::PreLayout, Architecture::Ppc64) => {
             Some(Ppc64Relocation::R_PPC64_REL24_NOTOC.elf_code())
         }
-        (Phase::Early, _) => None,
+        (Phase::PreLayout, _) => None,
         _ => mark_code(architecture),
     }
 }

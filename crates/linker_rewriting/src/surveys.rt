@@ -5,8 +5,8 @@ ghost use Rattle.std.specs.Prelude.{OnOk, IfErr, OnErr};
 ghost use Rattle.linker_section.specs.Relocations.{relocation_in};
 ghost use Rattle.linker_rewriting.specs.Agreement.{Agree, IsContradiction};
 ghost use Rattle.linker_rewriting.specs.Candidates.{calls_tls_get_addr};
-ghost use Rattle.linker_rewriting.specs.Facts.{setting};
-ghost use Rattle.linker_rewriting.specs.Inner.Settings.{setting_of};
+ghost use Rattle.linker_rewriting.specs.Facts.{context};
+ghost use Rattle.linker_rewriting.specs.Inner.Contexts.{context_of};
 ghost use Rattle.linker_rewriting.specs.Inner.Codes.{needs_mark};
 ghost use Rattle.linker_rewriting.specs.Inner.Codes.{KeepsNone};
 ghost use Rattle.linker_rewriting.specs.Surveys.{IsKeeping, IsMarked, IsUnmarkedIn, IsUnmarkedBy};
@@ -16,8 +16,8 @@ ghost use Rattle.linker_rewriting.specs.Surveys.{IsSurveyed, IsSurveyedIn};
 use crate::agreement::contradiction;
 use crate::candidates::{candidate, is_matched, is_tls_get_addr};
 use crate::codes::{is_surveyed, of_each};
-use crate::facts::{NO_ADDRESSES, OutputFacts, Setting, SymbolFacts};
-use crate::groups::{Group, KeptGroups, Scope, marks_call, scope_in, symbol_of_group};
+use crate::facts::{NO_ADDRESSES, OutputFacts, RelaxContext, SymbolFacts};
+use crate::groups::{Group, Scope, UnrelaxableGroups, marks_call, scope_in, symbol_of_group};
 use crate::phases::Phase;
 use crate::relocations::relocation_in;
 use linker_section::facts::{Addresses, Symbol};
@@ -26,7 +26,7 @@ use linker_utils::elf::Architecture;
 
 /// Notes that the group of a kind and of a symbol stays.
 #[inline(always)]
-fn keep(kept: &mut [KeptGroups], group: Group, symbol: u32)
+fn keep(kept: &mut [UnrelaxableGroups], group: Group, symbol: u32)
     ensures { AreKeptToo kept.old kept.new (IsGroup group symbol) }
 {
     let index = symbol as usize;
@@ -37,7 +37,7 @@ fn keep(kept: &mut [KeptGroups], group: Group, symbol: u32)
 
 /// Notes that the group of a kind, if any, among a symbol's stays.
 #[inline(always)]
-fn keep_group(kept: &mut [KeptGroups], group: Option<Group>, symbol: u32)
+fn keep_group(kept: &mut [UnrelaxableGroups], group: Option<Group>, symbol: u32)
     ensures { AreKeptToo kept.old kept.new (IsGroupOf group symbol) }
 {
     if let Some(group) = group {
@@ -47,7 +47,7 @@ fn keep_group(kept: &mut [KeptGroups], group: Option<Group>, symbol: u32)
 
 /// Notes that all groups of thread-local storage in the object stay, if they do.
 #[inline(always)]
-fn keep_threads(kept: &mut [KeptGroups], stay: bool)
+fn keep_threads(kept: &mut [UnrelaxableGroups], stay: bool)
     ensures { AreKeptToo kept.old kept.new (IsOfThreads stay) }
 {
     if stay {
@@ -60,25 +60,25 @@ fn keep_threads(kept: &mut [KeptGroups], stay: bool)
 /// The kind of the groups that a relocation keeps, since it has no rewrite, though it is of one.
 #[inline(always)]
 fn keeping(
-    setting: &Setting<'_>,
+    context: &RelaxContext<'_>,
     relocations: &[u8],
     section: &[u8],
     index: usize,
     relocation: &Rela,
 ) -> Option<Group>
     requires { index + 3 ≤ usize.MAX }
-    ensures { IsKeeping (setting_of setting.now) relocations.now section.now index relocation.now
+    ensures { IsKeeping (context_of context.now) relocations.now section.now index relocation.now
         result }
 {
-    match scope_in(setting.architecture, setting.phase, relocation.code) {
+    match scope_in(context.architecture, context.phase, relocation.code) {
         Scope::Grouped(group) => {
-            match candidate(setting, relocations, section, index, relocation) {
+            match candidate(context, relocations, section, index, relocation) {
                 Some(_) => None,
                 None => Some(group),
             }
         }
-        Scope::Matched(group) => {
-            if is_matched(setting, relocations, section, index, relocation) {
+        Scope::IfGroupMatches(group) => {
+            if is_matched(context, relocations, section, index, relocation) {
                 None
             } else {
                 Some(group)
@@ -135,7 +135,7 @@ fn is_unmarked(
         result }
 {
     match (phase, architecture) {
-        (Phase::Early, Architecture::Ppc64) => {
+        (Phase::PreLayout, Architecture::Ppc64) => {
             ppc64_is_unmarked(symbols, relocations, index, relocation)
         }
         _ => false,
@@ -154,7 +154,7 @@ fn needs_mark(
         (slice_get symbols.now relocation.now.symbol) }
 {
     match (phase, architecture) {
-        (Phase::Early, Architecture::Ppc64) => is_tls_get_addr(symbols, relocation.symbol),
+        (Phase::PreLayout, Architecture::Ppc64) => is_tls_get_addr(symbols, relocation.symbol),
         _ => false,
     }
 }
@@ -183,22 +183,22 @@ fn keeps_none(
 fn next_in(
     architecture: Architecture,
     phase: Phase,
-    setting: &Setting<'_>,
+    context: &RelaxContext<'_>,
     relocations: &[u8],
     from: usize,
 ) -> usize
-    requires architecture { architecture ≡ setting.now.architecture }
-    requires phase { phase ≡ setting.now.phase }
+    requires architecture { architecture ≡ context.now.architecture }
+    requires phase { phase ≡ context.now.phase }
     requires from { from ≤ length relocations.now / 24 }
     ensures from { from ≤ result }
     ensures within { result ≤ length relocations.now / 24 }
     ensures between { (n : ℕ) → from ≤ n → n < result
-        → KeepsNone setting.now.architecture setting.now.phase setting.now.symbols.now
+        → KeepsNone context.now.architecture context.now.phase context.now.symbols.now
         (relocation_in relocations.now n) }
 {
     let len = relocations_len(relocations);
     for index in from..len {
-        if !keeps_none(architecture, phase, setting.symbols, relocations, index) {
+        if !keeps_none(architecture, phase, context.symbols, relocations, index) {
             return index;
         }
     }
@@ -206,43 +206,48 @@ fn next_in(
 }
 
 /// The same, compiled for each architecture and phase.
-fn next_keeping(setting: &Setting<'_>, relocations: &[u8], from: usize) -> usize
+fn next_keeping(context: &RelaxContext<'_>, relocations: &[u8], from: usize) -> usize
     requires from { from ≤ length relocations.now / 24 }
     ensures from { from ≤ result }
     ensures within { result ≤ length relocations.now / 24 }
     ensures between { (n : ℕ) → from ≤ n → n < result
-        → KeepsNone setting.now.architecture setting.now.phase setting.now.symbols.now
+        → KeepsNone context.now.architecture context.now.phase context.now.symbols.now
         (relocation_in relocations.now n) }
 {
     of_each!(
-        setting.architecture,
-        setting.phase,
-        next_in(setting, relocations, from)
+        context.architecture,
+        context.phase,
+        next_in(context, relocations, from)
     )
 }
 
 /// Notes which groups stay in a phase, by a section, as `survey` and `survey_placed_section` say.
 #[inline(always)]
-fn survey_in(setting: &Setting<'_>, relocations: &[u8], section: &[u8], kept: &mut [KeptGroups])
-    ensures { IsSurveyedIn (setting_of setting.now) relocations.now section.now kept.old kept.new
+fn survey_in(
+    context: &RelaxContext<'_>,
+    relocations: &[u8],
+    section: &[u8],
+    kept: &mut [UnrelaxableGroups],
+)
+    ensures { IsSurveyedIn (context_of context.now) relocations.now section.now kept.old kept.new
         (length relocations.now / 24) }
 {
     let len = relocations_len(relocations);
-    let mut index = next_keeping(setting, relocations, 0);
+    let mut index = next_keeping(context, relocations, 0);
     while index < len {
         let relocation = relocation_in(relocations, index);
-        let group = keeping(setting, relocations, section, index, &relocation);
+        let group = keeping(context, relocations, section, index, &relocation);
         keep_group(kept, group, relocation.symbol);
         let unmarked = is_unmarked(
-            setting.architecture,
-            setting.phase,
-            setting.symbols,
+            context.architecture,
+            context.phase,
+            context.symbols,
             relocations,
             index,
             &relocation,
         );
         keep_threads(kept, unmarked);
-        index = next_keeping(setting, relocations, index + 1);
+        index = next_keeping(context, relocations, index + 1);
     }
 }
 
@@ -250,8 +255,9 @@ fn survey_in(setting: &Setting<'_>, relocations: &[u8], section: &[u8], kept: &m
 /// and has no rewrite: its instruction is none that a rewrite is meant for, its symbol may be of
 /// another file, or what the rewrite takes along isn't there. `rewrite_section` rewrites all of a
 /// group or none by these notes, so survey each section of code of an object before one of them is
-/// rewritten, with one table for the object, whose entries are `KeptGroups::default()` at first.
-/// What stays there already stays. A group stays too where the table has no entry for its symbol.
+/// rewritten, with one table for the object, whose entries are `UnrelaxableGroups::default()` at
+/// first. What is noted there already is kept. A group is unrelaxable too where the table has no
+/// entry for its symbol.
 ///
 /// An offset in the module's TLS block that stands in data counts from the block, also where code no
 /// longer does. Where data of the object has one that is loaded, as `R_X86_64_DTPOFF64`, note
@@ -259,7 +265,7 @@ fn survey_in(setting: &Setting<'_>, relocations: &[u8], section: &[u8], kept: &m
 ///
 /// ```
 /// use linker_rewriting::facts::{OutputFacts, SymbolFacts};
-/// use linker_rewriting::groups::KeptGroups;
+/// use linker_rewriting::groups::UnrelaxableGroups;
 /// use linker_rewriting::surveys::survey;
 /// use linker_utils::elf::Architecture;
 ///
@@ -268,12 +274,10 @@ fn survey_in(setting: &Setting<'_>, relocations: &[u8], section: &[u8], kept: &m
 /// (relocations[8], relocations[12]) = (35, 1);
 /// let output = OutputFacts { is_executable: true, is_fixed: true, has_near_symbols: true };
 /// let symbols = [SymbolFacts::default(); 2];
-/// let mut kept = [KeptGroups::default(); 2];
+/// let mut kept = [UnrelaxableGroups::default(); 2];
 /// survey(Architecture::X86_64, &output, &symbols, &relocations, &[0x90], &mut kept);
-/// assert_eq!(
-///     kept,
-///     [KeptGroups::default(), KeptGroups { descriptor: true, ..KeptGroups::default() }],
-/// );
+/// let none = UnrelaxableGroups::default();
+/// assert_eq!(kept, [none, UnrelaxableGroups { descriptor: true, ..none }]);
 /// ```
 pub fn survey(
     architecture: Architecture,
@@ -281,20 +285,20 @@ pub fn survey(
     symbols: &[SymbolFacts],
     relocations: &[u8],
     section: &[u8],
-    kept: &mut [KeptGroups],
+    kept: &mut [UnrelaxableGroups],
 )
     ensures { IsSurveyed architecture output.now symbols.now relocations.now section.now kept.old
         kept.new (length relocations.now / 24) }
 {
-    let setting = Setting {
+    let context = RelaxContext {
         architecture,
-        phase: Phase::Early,
+        phase: Phase::PreLayout,
         output,
         symbols,
         addresses: &NO_ADDRESSES,
         values: &[],
     };
-    survey_in(&setting, relocations, section, kept);
+    survey_in(&context, relocations, section, kept);
 }
 
 /// Notes which groups of an object stay in a phase once addresses are known, by a section, as
@@ -312,7 +316,7 @@ pub fn survey(
 ///
 /// ```
 /// use linker_rewriting::facts::{OutputFacts, SymbolFacts};
-/// use linker_rewriting::groups::KeptGroups;
+/// use linker_rewriting::groups::UnrelaxableGroups;
 /// use linker_rewriting::phases::Phase;
 /// use linker_rewriting::surveys::survey_placed_section;
 /// use linker_section::facts::{Addresses, Symbol};
@@ -321,10 +325,10 @@ pub fn survey(
 /// // lui a0, 0, with R_RISCV_TPREL_HI20 of symbol 1, which no mark follows
 /// let mut relocations = [0; 24];
 /// (relocations[8], relocations[12]) = (29, 1);
-/// let mut kept = [KeptGroups::default(); 2];
+/// let mut kept = [UnrelaxableGroups::default(); 2];
 /// survey_placed_section(
 ///     Architecture::RiscV,
-///     Phase::ThreadOffsets,
+///     Phase::TlsLocalExec,
 ///     &OutputFacts { is_executable: true, is_fixed: true, has_near_symbols: true },
 ///     &[SymbolFacts { is_local: true, ..SymbolFacts::default() }; 2],
 ///     &Addresses::default(),
@@ -345,9 +349,9 @@ pub fn survey_placed_section(
     values: &[Symbol],
     relocations: &[u8],
     section: &[u8],
-    kept: &mut [KeptGroups],
+    kept: &mut [UnrelaxableGroups],
 ) -> Result<(), usize>
-    ensures surveyed { OnOk result (IsSurveyedIn (setting architecture phase output.now symbols.now
+    ensures surveyed { OnOk result (IsSurveyedIn (context architecture phase output.now symbols.now
         addresses.now values.now) relocations.now section.now kept.old kept.new
         (length relocations.now / 24)) }
     ensures agree { OnOk result (Agree symbols.now values.now relocations.now) }
@@ -358,7 +362,7 @@ pub fn survey_placed_section(
     if let Some(symbol) = contradiction(symbols, values, relocations) {
         return Err(symbol);
     }
-    let setting = Setting {
+    let context = RelaxContext {
         architecture,
         phase,
         output,
@@ -366,6 +370,6 @@ pub fn survey_placed_section(
         addresses,
         values,
     };
-    survey_in(&setting, relocations, section, kept);
+    survey_in(&context, relocations, section, kept);
     Ok(())
 }

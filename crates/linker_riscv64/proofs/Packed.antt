@@ -39,9 +39,9 @@ pub jump_put : (s p0 bytes p1 p2 : List ℕ) (link : LinkRegister) (site at : �
 jump_put s p0 bytes p1 p2 link site at d four taken room put jumps =
     let front : length (take at p0) ≡ at = length-take at p0 ∙ omega arith in
     let parted : p1 ≡ take at p0 ++ (bytes ++ drop (at + length bytes) p0) = put ∙ append_assoc (take at p0) bytes (drop (at + length bytes) p0) in
-    let behind : drop at p1 ≡ bytes ++ drop (at + length bytes) p0 = ap (drop at) parted ∙ drop_at (take at p0) (bytes ++ drop (at + length bytes) p0) at front in
+    let following : drop at p1 ≡ bytes ++ drop (at + length bytes) p0 = ap (drop at) parted ∙ drop_at (take at p0) (bytes ++ drop (at + length bytes) p0) at front in
     let word : word_at p1 at ≡ word_at s (site + call_len link - 4) =
-    ap (from_le_bytes w32) behind
+    ap (from_le_bytes w32) following
     ∙ sym (word_of_front (bytes ++ drop (at + length bytes) p0))
     ∙ ap (from_le_bytes w32) (take_at bytes (drop (at + length bytes) p0) 4 four ∙ taken)
     ∙ word_of_front (drop (site + call_len link - 4) s) in
@@ -54,7 +54,7 @@ jump_put s p0 bytes p1 p2 link site at d four taken room put jumps =
       front = jumps.front ∙ ap (take at) parted ∙ take_at (take at p0) (bytes ++ drop (at + length bytes) p0) at front;
       rest = jumps.rest
           ∙ sym (drop-drop 4 at p1)
-          ∙ ap (drop 4) behind
+          ∙ ap (drop 4) following
           ∙ drop_at bytes (drop (at + length bytes) p0) 4 four
           ∙ ap (λ k. drop (at + k) p0) four;
     }

@@ -1,7 +1,7 @@
 -- The relocations of a sequence are chosen alike: each by the same conditions.
 use Rattle.std.proofs.Common.{◌≡◌, ◌↔◌, inl, inr, ℕ, List, [], ◌∷◌, ap, ◌∙◌, slice_index_or}
 use Rattle.linker_elf.specs.Choices.{AllHold, IsFirst, entry, choice, facts_on}
-use Rattle.linker_riscv64.specs.RiscVRewrites.{RiscVEntry, RiscVChoice, AppliesToRiscV, IsAskedFor, riscv_row_of, riscv_entries, start_of_descriptor, to_local_exec, to_short_local_exec, IsAmong, AreChosenAlike, deleted, nop, from_zero, from_high, from_got, DescriptorIsChosenAlike, GotPairIsChosenAlike, AbsoluteIsChosenAlike, ThreadOffsetIsChosenAlike}
+use Rattle.linker_riscv64.specs.RiscVRewrites.{RiscVEntry, RiscVChoice, AppliesToRiscV, HasPattern, riscv_row_of, riscv_entries, start_of_descriptor, to_local_exec, to_short_local_exec, IsAmong, AreChosenAlike, deleted, nop, from_zero, from_high, from_got, DescriptorIsChosenAlike, GotPairIsChosenAlike, AbsoluteIsChosenAlike, ThreadOffsetIsChosenAlike}
 use Rattle.linker_elf.specs.declared.riscv64.relocations.RiscVRelocation.TheVariants as r
 use Rattle.linker_riscv64.specs.declared.rewrites.RelaxationKind.TheVariants as kinds
 use Rattle.linker_elf.specs.declared.elf.choice.LinkFacts.{LinkFacts}
@@ -21,10 +21,10 @@ holds facts e = AllHold riscv_row_of facts.operands facts e.conditions
 by_conditions : (Asked : RelaxationKind → List ℕ → ℕ → Type 0) (s : List ℕ) (o : ℕ) (facts : LinkFacts) (es : List RiscVEntry) (m a : RiscVChoice)
     → ((kind : RelaxationKind) → Asked kind s o)
     → IsFirst (AppliesToRiscV Asked s o facts) es m a → IsFirst (holds facts) es m a
-by_conditions Asked s o facts [] m a asked e = e
-by_conditions Asked s o facts (e ∷ es) m a asked (inl h) = inl (h.0.1, h.1)
-by_conditions Asked s o facts (e ∷ es) m a asked (inr h) =
-    inr (λ c. h.0 (asked e.kind, c), by_conditions Asked s o facts es m a asked h.1)
+by_conditions Asked s o facts [] m a pattern e = e
+by_conditions Asked s o facts (e ∷ es) m a pattern (inl h) = inl (h.0.1, h.1)
+by_conditions Asked s o facts (e ∷ es) m a pattern (inr h) =
+    inr (λ c. h.0 (pattern e.kind, c), by_conditions Asked s o facts es m a pattern h.1)
 
 -- an offset that one instruction holds is one that two hold
 short_is_local : (facts : LinkFacts) → AllHold riscv_row_of facts.operands facts (to_short_local_exec []) → AllHold riscv_row_of facts.operands facts (to_local_exec [])
@@ -34,8 +34,8 @@ short_is_local facts h = (h.0, (h.1.0, (h.1.1.0, (h.1.1.1.0, tt))))
 
 high_and_load : (facts : LinkFacts) → AreChosenAlike r.R_RISCV_TLSDESC_HI20 r.R_RISCV_TLSDESC_LOAD_LO12 ((deleted, deleted) ∷ (nop, nop) ∷ (deleted, deleted) ∷ (nop, nop) ∷ []) facts
 high_and_load facts section o p a b there f g =
-    cases (by_conditions (IsAskedFor r.R_RISCV_TLSDESC_HI20) section o facts start_of_descriptor (choice kinds.NoOp r.R_RISCV_TLSDESC_HI20) a (λ kind. there.0) f)
-    (by_conditions (IsAskedFor r.R_RISCV_TLSDESC_LOAD_LO12) section p facts start_of_descriptor (choice kinds.NoOp r.R_RISCV_TLSDESC_LOAD_LO12) b (λ kind. there.1) g)
+    cases (by_conditions (HasPattern r.R_RISCV_TLSDESC_HI20) section o facts start_of_descriptor (choice kinds.NoOp r.R_RISCV_TLSDESC_HI20) a (λ kind. there.0) f)
+    (by_conditions (HasPattern r.R_RISCV_TLSDESC_LOAD_LO12) section p facts start_of_descriptor (choice kinds.NoOp r.R_RISCV_TLSDESC_LOAD_LO12) b (λ kind. there.1) g)
   where
     cases : IsFirst (holds facts) start_of_descriptor (choice kinds.NoOp r.R_RISCV_TLSDESC_HI20) a
         → IsFirst (holds facts) start_of_descriptor (choice kinds.NoOp r.R_RISCV_TLSDESC_LOAD_LO12) b
@@ -63,8 +63,8 @@ call_entries = riscv_entries r.R_RISCV_TLSDESC_CALL
 high_and_call : (facts : LinkFacts) → AreChosenAlike r.R_RISCV_TLSDESC_HI20 r.R_RISCV_TLSDESC_CALL
     ((deleted, from_zero) ∷ (nop, from_zero) ∷ (deleted, from_high) ∷ (nop, from_high) ∷ (deleted, from_got) ∷ (nop, from_got) ∷ []) facts
 high_and_call facts section o p a b there f g =
-    cases (by_conditions (IsAskedFor r.R_RISCV_TLSDESC_HI20) section o facts start_of_descriptor (choice kinds.NoOp r.R_RISCV_TLSDESC_HI20) a (λ kind. there.0) f)
-    (by_conditions (IsAskedFor r.R_RISCV_TLSDESC_CALL) section p facts call_entries (choice kinds.NoOp r.R_RISCV_TLSDESC_CALL) b (λ kind. there.1) g)
+    cases (by_conditions (HasPattern r.R_RISCV_TLSDESC_HI20) section o facts start_of_descriptor (choice kinds.NoOp r.R_RISCV_TLSDESC_HI20) a (λ kind. there.0) f)
+    (by_conditions (HasPattern r.R_RISCV_TLSDESC_CALL) section p facts call_entries (choice kinds.NoOp r.R_RISCV_TLSDESC_CALL) b (λ kind. there.1) g)
   where
     cases : IsFirst (holds facts) start_of_descriptor (choice kinds.NoOp r.R_RISCV_TLSDESC_HI20) a
         → IsFirst (holds facts) call_entries (choice kinds.NoOp r.R_RISCV_TLSDESC_CALL) b
@@ -87,8 +87,8 @@ high_and_call facts section o p a b there f g =
 sum_and_call : (facts : LinkFacts) → AreChosenAlike r.R_RISCV_TLSDESC_ADD_LO12 r.R_RISCV_TLSDESC_CALL
     ((deleted, from_zero) ∷ (nop, from_zero) ∷ (choice kinds.AddiToLui r.R_RISCV_TPREL_HI20, from_high) ∷ (choice kinds.AddiToAuipc r.R_RISCV_TLS_GOT_HI20, from_got) ∷ []) facts
 sum_and_call facts section o p a b there f g =
-    cases (by_conditions (IsAskedFor r.R_RISCV_TLSDESC_ADD_LO12) section o facts sum_entries (choice kinds.NoOp r.R_RISCV_TLSDESC_ADD_LO12) a (λ kind. there.0) f)
-    (by_conditions (IsAskedFor r.R_RISCV_TLSDESC_CALL) section p facts call_entries (choice kinds.NoOp r.R_RISCV_TLSDESC_CALL) b (λ kind. there.1) g)
+    cases (by_conditions (HasPattern r.R_RISCV_TLSDESC_ADD_LO12) section o facts sum_entries (choice kinds.NoOp r.R_RISCV_TLSDESC_ADD_LO12) a (λ kind. there.0) f)
+    (by_conditions (HasPattern r.R_RISCV_TLSDESC_CALL) section p facts call_entries (choice kinds.NoOp r.R_RISCV_TLSDESC_CALL) b (λ kind. there.1) g)
   where
     cases : IsFirst (holds facts) sum_entries (choice kinds.NoOp r.R_RISCV_TLSDESC_ADD_LO12) a
         → IsFirst (holds facts) call_entries (choice kinds.NoOp r.R_RISCV_TLSDESC_CALL) b
@@ -115,8 +115,8 @@ pub got_pair : GotPairIsChosenAlike
 got_pair facts low section o p a b there f g =
     cases f g
   where
-    cases : IsFirst (AppliesToRiscV (IsAskedFor r.R_RISCV_GOT_HI20) section o facts) (riscv_entries r.R_RISCV_GOT_HI20) (choice kinds.NoOp r.R_RISCV_GOT_HI20) a
-        → IsFirst (AppliesToRiscV (IsAskedFor r.R_RISCV_PCREL_LO12_I) section p facts) (riscv_entries r.R_RISCV_PCREL_LO12_I) (choice kinds.NoOp r.R_RISCV_PCREL_LO12_I) b
+    cases : IsFirst (AppliesToRiscV (HasPattern r.R_RISCV_GOT_HI20) section o facts) (riscv_entries r.R_RISCV_GOT_HI20) (choice kinds.NoOp r.R_RISCV_GOT_HI20) a
+        → IsFirst (AppliesToRiscV (HasPattern r.R_RISCV_PCREL_LO12_I) section p facts) (riscv_entries r.R_RISCV_PCREL_LO12_I) (choice kinds.NoOp r.R_RISCV_PCREL_LO12_I) b
         → IsAmong (a, b) ((choice kinds.NoOp r.R_RISCV_PCREL_HI20, choice kinds.LdToAddi r.R_RISCV_PCREL_LO12_I) ∷ (choice kinds.NoOp r.R_RISCV_GOT_HI20, choice kinds.NoOp r.R_RISCV_PCREL_LO12_I) ∷ [])
     cases (inl h) (inl k) = inl (both h.1 k.1)
     cases (inl h) (inr k) = absurd (k.0 (there.1, (h.0.1.0, (h.0.1.1.0, (h.0.1.1.1.0, (low, h.0.1.1.1.1))))))
@@ -145,7 +145,7 @@ first_alike A B d d' e m n a b (inr (_, inl h)) (inr k) f = inr (inl (both h.1 k
 first_alike A B d d' e m n a b (inr (_, inr h)) (inr k) f = inr (inr (inl (both h.1 k.1)))
 
 abbrev at : RiscVRelocation → List ℕ → ℕ → LinkFacts → RiscVEntry → Type 0
-at name = AppliesToRiscV (IsAskedFor name)
+at name = AppliesToRiscV (HasPattern name)
 
 -- an entry of a relocation
 abbrev nth : ℕ → RiscVRelocation → RiscVEntry

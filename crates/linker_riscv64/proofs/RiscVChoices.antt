@@ -8,7 +8,7 @@ use Rattle.linker_elf.specs.Value.{sum_64}
 use Rattle.linker_elf.specs.declared.elf.choice.LinkFacts.{LinkFacts}
 use Rattle.linker_elf.specs.declared.riscv64.relocations.RiscVRelocation.{RiscVRelocation}
 use Rattle.linker_elf.specs.declared.riscv64.relocations.RiscVRelocation.TheVariants as r
-use Rattle.linker_riscv64.specs.RiscVRewrites.{RiscVEntry, RiscVChoice, AppliesToRiscV, IsAskedFor, IsRiscVChoice, riscv_entries}
+use Rattle.linker_riscv64.specs.RiscVRewrites.{RiscVEntry, RiscVChoice, AppliesToRiscV, HasPattern, IsRiscVChoice, riscv_entries}
 use Rattle.linker_riscv64.specs.RiscVRewrites.{riscv_matches}
 use Rattle.linker_riscv64.specs.RiscVRewrites.{riscv_rewrite, FitsClui}
 use Rattle.linker_riscv64.specs.declared.rewrites.RelaxationKind.{RelaxationKind}
@@ -38,7 +38,7 @@ of_rewrite [] section o facts = tt
 of_rewrite (e ∷ es) section o facts = (λ a. a.0, of_rewrite es section o facts)
 
 each_matches : (name : RiscVRelocation) (section : List ℕ) (o : ℕ) (facts : LinkFacts)
-    → OfEach (AppliesToRiscV (IsAskedFor name) section o facts) (λ c. riscv_matches c.kind section o) (riscv_entries name)
+    → OfEach (AppliesToRiscV (HasPattern name) section o facts) (λ c. riscv_matches c.kind section o) (riscv_entries name)
 each_matches r.R_RISCV_TPREL_HI20 section o facts = (λ a. (a.0.0, tt), tt)
 each_matches r.R_RISCV_TPREL_ADD section o facts = (λ a. (a.0.0, tt), tt)
 each_matches r.R_RISCV_TPREL_LO12_S section o facts = (λ a. (a.0.0, a.0.1.0), tt)
@@ -55,7 +55,7 @@ each_matches name section o facts = of_rewrite (riscv_entries name) section o fa
 pub chosen_matches : (name : RiscVRelocation) (section : List ℕ) (o : ℕ) (facts : LinkFacts) (c : RiscVChoice)
     → IsRiscVChoice name section o facts c → riscv_matches c.kind section o
 chosen_matches name section o facts c =
-    of_chosen (AppliesToRiscV (IsAskedFor name) section o facts) (λ x. riscv_matches x.kind section o) (riscv_entries name) (choice kinds.NoOp name) c
+    of_chosen (AppliesToRiscV (HasPattern name) section o facts) (λ x. riscv_matches x.kind section o) (riscv_entries name) (choice kinds.NoOp name) c
     (each_matches name section o facts) tt
 
 can_rewrite : (kind : RelaxationKind) (section : List ℕ) (o : ℕ) → riscv_matches kind section o
@@ -74,12 +74,12 @@ IsFit facts c =
     c.kind ≡ kinds.Hi20ToCLui → FitsClui (sum_64 facts.operands.symbol (cast_unsigned w64 facts.operands.addend))
 
 each_fits : (name : RiscVRelocation) (section : List ℕ) (o : ℕ) (facts : LinkFacts)
-    → OfEach (AppliesToRiscV (IsAskedFor name) section o facts) (IsFit facts) (riscv_entries name)
+    → OfEach (AppliesToRiscV (HasPattern name) section o facts) (IsFit facts) (riscv_entries name)
 each_fits r.R_RISCV_HI20 section o facts = search rules
 each_fits name section o facts = search rules
 
 pub chosen_compressed : (name : RiscVRelocation) (section : List ℕ) (o : ℕ) (facts : LinkFacts) (c : RiscVChoice)
     → IsRiscVChoice name section o facts c → IsFit facts c
 chosen_compressed name section o facts c =
-    of_chosen (AppliesToRiscV (IsAskedFor name) section o facts) (IsFit facts) (riscv_entries name) (choice kinds.NoOp name) c
+    of_chosen (AppliesToRiscV (HasPattern name) section o facts) (IsFit facts) (riscv_entries name) (choice kinds.NoOp name) c
     (each_fits name section o facts) (search rules)

@@ -63,9 +63,9 @@ part_contained ds calls part whole same inside =
 
 chosen_disjoint : (ds calls : List (ℕ × ℕ)) (chosen : List Bool) → AreDisjoint (ds ++ map shrinking calls) → AreDisjoint (with_chosen ds calls chosen)
 chosen_disjoint ds calls chosen disjoint =
-    let behind = disjoint_back ds (map shrinking calls) disjoint in
+    let following = disjoint_back ds (map shrinking calls) disjoint in
     disjoint_joined ds (chosen_deletions calls chosen) (disjoint_left ds (map shrinking calls) disjoint)
-    (record { apart = chosen_pairs DoNotOverlap calls chosen behind.apart; ends = chosen_all EndFits calls chosen behind.ends })
+    (record { apart = chosen_pairs DoNotOverlap calls chosen following.apart; ends = chosen_all EndFits calls chosen following.ends })
     (chosen_all (λ pair. All (λ d. DoNotOverlap d pair) ds) calls chosen (disjoint_across ds (map shrinking calls) disjoint))
 
 -- ---- ranks after the chosen calls have given up their bytes
@@ -144,7 +144,7 @@ split_somewhere [] offset apart = (0, record { below = λ i call low within. abs
 split_somewhere (c ∷ cs) offset apart = elim (cases_lt (c.0 + 4) offset) [
   | inl low ↦
       let rest = split_somewhere cs offset (all_pairs_tail (λ a b. a.0 + 8 ≤ b.0) c cs apart) in
-      (suc rest.0, record { below = λ i call. more rest.0 low rest.1 i call; others = λ i call. behind rest.0 rest.1 i call })
+      (suc rest.0, record { below = λ i call. more rest.0 low rest.1 i call; others = λ i call. following rest.0 rest.1 i call })
   | inr high ↦ (0, record { below = λ i call lt within. absurd (omega arith); others = λ i call. all high i call })
 ]
   where
@@ -152,9 +152,9 @@ split_somewhere (c ∷ cs) offset apart = elim (cases_lt (c.0 + 4) offset) [
     more n low rest zero call lt within = low
     more n low rest (suc i) call lt within = rest.below i call (omega arith) (omega arith)
 
-    behind : (n : ℕ) → IsSplit cs offset n → (i : ℕ) (call : ℕ × ℕ) → suc n ≤ i → i < length (c ∷ cs) → offset ≤ (get_or (c ∷ cs) i call).0 + 4
-    behind n rest zero call le within = absurd (omega arith)
-    behind n rest (suc i) call le within = rest.others i call (omega arith) (omega arith)
+    following : (n : ℕ) → IsSplit cs offset n → (i : ℕ) (call : ℕ × ℕ) → suc n ≤ i → i < length (c ∷ cs) → offset ≤ (get_or (c ∷ cs) i call).0 + 4
+    following n rest zero call le within = absurd (omega arith)
+    following n rest (suc i) call le within = rest.others i call (omega arith) (omega arith)
 
     all : offset ≤ c.0 + 4 → (i : ℕ) (call : ℕ × ℕ) → 0 ≤ i → i < length (c ∷ cs) → offset ≤ (get_or (c ∷ cs) i call).0 + 4
     all high zero call le within = high
@@ -396,8 +396,8 @@ run_summed runs bs run count base counted few before =
     rw next (omega (arith, before, counted.counted run 0 few, count_between-split bs (run * runs.len) (run * runs.len + runs.len) (omega arith)))
 
 -- one call less, after the first n and among them
-count_behind : (bs : List Bool) (k n : ℕ) → n ≤ k → chosen_count (take n (set bs k false)) ≡ chosen_count (take n bs)
-count_behind bs k n le = ap chosen_count (take-set-le n bs k false le)
+count_after : (bs : List Bool) (k n : ℕ) → n ≤ k → chosen_count (take n (set bs k false)) ≡ chosen_count (take n bs)
+count_after bs k n le = ap chosen_count (take-set-le n bs k false le)
 
 count_among : (bs : List Bool) (k n : ℕ) → k < length bs → get_or bs k false ≡ true → k < n → chosen_count (take n (set bs k false)) + 1 ≡ chosen_count (take n bs)
 count_among bs k n within is low =
@@ -427,7 +427,7 @@ runs_dropped runs bs k counted within is = record {
                 old,
                 count_between-split bs (r * runs.len) (r * runs.len + runs.len) (omega arith),
                 count_between-split (set bs k false) (r * runs.len) (r * runs.len + runs.len) (omega arith),
-                count_behind bs k (r * runs.len) (rw (← at) at begins),
+                count_after bs k (r * runs.len) (rw (← at) at begins),
                 count_among bs k (r * runs.len + runs.len) within is (rw (← at) at ends),
               ))
           | inr (inl below) ↦
@@ -439,8 +439,8 @@ runs_dropped runs bs k counted within is = record {
                 counted.counted r d low,
                 count_between-split bs (r * runs.len) (r * runs.len + runs.len) (omega arith),
                 count_between-split (set bs k false) (r * runs.len) (r * runs.len + runs.len) (omega arith),
-                count_behind bs k (r * runs.len) (omega arith),
-                count_behind bs k (r * runs.len + runs.len) (omega arith),
+                count_after bs k (r * runs.len) (omega arith),
+                count_after bs k (r * runs.len + runs.len) (omega arith),
               )
           | inr (inr above) ↦
               let ne : r ≢ k / runs.len = omega arith in
@@ -546,14 +546,14 @@ module _ (ds calls : List (ℕ × ℕ)) (k site target : ℕ) (within : k < leng
 
   pub sites_more : HaveShrinkableSites ds (take k calls) → IsApartAt calls k → AreKept ds site 8 → AreDisjoint (ds ++ (site + 4, 4) ∷ []) → HaveShrinkableSites ds (take (k + 1) calls)
   sites_more before apart kept beside =
-      let behind = disjoint_back ds (map shrinking (take k calls)) before.mergeable in
+      let following = disjoint_back ds (map shrinking (take k calls)) before.mergeable in
       let alone = disjoint_back ds ((site + 4, 4) ∷ []) beside in
       let all_apart = apart_more before.apart apart in
       record {
         apart = all_apart;
         kept = more (λ call. AreKept ds call.0 8) before.kept kept;
         mergeable = disjoint_joined ds (map shrinking (take (k + 1) calls)) (disjoint_left ds ((site + 4, 4) ∷ []) beside)
-            (record { apart = eight_disjoint (take (k + 1) calls) all_apart; ends = more_shrinking EndFits behind.ends (alone.ends 0 (0, 0) (omega arith)) })
+            (record { apart = eight_disjoint (take (k + 1) calls) all_apart; ends = more_shrinking EndFits following.ends (alone.ends 0 (0, 0) (omega arith)) })
             (more_shrinking (λ pair. All (λ d. DoNotOverlap d pair) ds) (disjoint_across ds (map shrinking (take k calls)) before.mergeable)
             (disjoint_across ds ((site + 4, 4) ∷ []) beside 0 (0, 0) (omega arith)));
       }

@@ -408,16 +408,16 @@ riscv_entries name = []
 -- ---- which entry is chosen
 
 -- the instruction that a relocation requires: of most what the rewrite is meant for
-abbrev pub IsAskedFor : RiscVRelocation → RelaxationKind → List ℕ → ℕ → Type 0
-IsAskedFor r.R_RISCV_TPREL_HI20 = λ kind section o. HasWord section o IsLui
-IsAskedFor r.R_RISCV_TPREL_ADD = λ kind section o. HasWord section o IsAddTp
-IsAskedFor r.R_RISCV_TPREL_LO12_S = λ kind section o. HasWord section o IsLowOverOther
-IsAskedFor r.R_RISCV_TLSDESC_HI20 = λ kind section o. HasWord section o IsAuipc
-IsAskedFor r.R_RISCV_TLSDESC_LOAD_LO12 = λ kind section o. HasWord section o IsLd
-IsAskedFor r.R_RISCV_TLSDESC_ADD_LO12 = λ kind section o. HasWord section o IsAddiToA0
-IsAskedFor r.R_RISCV_TLSDESC_CALL = λ kind section o. HasWord section o IsCallOfDescriptor
-IsAskedFor r.R_RISCV_GOT_HI20 = λ kind section o. HasWord section o IsAuipc
-IsAskedFor name = riscv_matches
+abbrev pub HasPattern : RiscVRelocation → RelaxationKind → List ℕ → ℕ → Type 0
+HasPattern r.R_RISCV_TPREL_HI20 = λ kind section o. HasWord section o IsLui
+HasPattern r.R_RISCV_TPREL_ADD = λ kind section o. HasWord section o IsAddTp
+HasPattern r.R_RISCV_TPREL_LO12_S = λ kind section o. HasWord section o IsLowOverOther
+HasPattern r.R_RISCV_TLSDESC_HI20 = λ kind section o. HasWord section o IsAuipc
+HasPattern r.R_RISCV_TLSDESC_LOAD_LO12 = λ kind section o. HasWord section o IsLd
+HasPattern r.R_RISCV_TLSDESC_ADD_LO12 = λ kind section o. HasWord section o IsAddiToA0
+HasPattern r.R_RISCV_TLSDESC_CALL = λ kind section o. HasWord section o IsCallOfDescriptor
+HasPattern r.R_RISCV_GOT_HI20 = λ kind section o. HasWord section o IsAuipc
+HasPattern name = riscv_matches
 
 -- What is required is at the offset, and the conditions hold. No rewrite of RISC-V moves the
 -- offset or the addend.
@@ -428,7 +428,7 @@ AppliesToRiscV Asked = Applies Asked riscv_row_of (λ kind o operands. operands)
 -- `NoOp` and the same relocation where no entry applies
 abbrev pub IsRiscVChoice : RiscVRelocation → List ℕ → ℕ → LinkFacts → RiscVChoice → Type 0
 IsRiscVChoice name section o facts chosen =
-    IsFirst (AppliesToRiscV (IsAskedFor name) section o facts) (riscv_entries name)
+    IsFirst (AppliesToRiscV (HasPattern name) section o facts) (riscv_entries name)
     (choice kinds.NoOp name) chosen
 
 -- ---- the relocations of a pair or of a sequence
@@ -438,19 +438,19 @@ IsAmong x [] = ⊥
 IsAmong x (y ∷ ys) = (x ≡ y) ⊎ IsAmong x ys
 
 -- At both offsets are instructions that the relocations require with the rewrites of each line.
-abbrev pub AreAskedFor : RiscVRelocation → RiscVRelocation → List (RiscVChoice × RiscVChoice)
+abbrev pub HavePatterns : RiscVRelocation → RiscVRelocation → List (RiscVChoice × RiscVChoice)
     → List ℕ → ℕ → ℕ → Type 0
-AreAskedFor first second [] section o p = ⊤
-AreAskedFor first second (x ∷ xs) section o p =
-    IsAskedFor first x.0.kind section o × IsAskedFor second x.1.kind section p
-    × AreAskedFor first second xs section o p
+HavePatterns first second [] section o p = ⊤
+HavePatterns first second (x ∷ xs) section o p =
+    HasPattern first x.0.kind section o × HasPattern second x.1.kind section p
+    × HavePatterns first second xs section o p
 
 -- Two relocations of one sequence, wherever its instructions are, with the same facts: both choices
 -- are those of one line, or both relocations are left.
 abbrev pub AreChosenAlike : RiscVRelocation → RiscVRelocation → List (RiscVChoice × RiscVChoice)
     → LinkFacts → Type 0
 AreChosenAlike first second lines facts =
-    (section : List ℕ) (o p : ℕ) (a b : RiscVChoice) → AreAskedFor first second lines section o p
+    (section : List ℕ) (o p : ℕ) (a b : RiscVChoice) → HavePatterns first second lines section o p
     → IsRiscVChoice first section o facts a → IsRiscVChoice second section p facts b
     → IsAmong (a, b) (lines ++ (choice kinds.NoOp first, choice kinds.NoOp second) ∷ [])
 
@@ -501,7 +501,7 @@ abbrev pub OfLuiAreChosenAlike : RiscVRelocation → RiscVRelocation → RiscVCh
     → List (RiscVChoice × RiscVChoice) → Type 0
 OfLuiAreChosenAlike first second line lines =
     (section : List ℕ) (o p n : ℕ) (facts : LinkFacts) (a b : RiscVChoice)
-    → AreAskedFor first second (line ∷ []) section o p → IsRiscVChoice first section o facts a
+    → HavePatterns first second (line ∷ []) section o p → IsRiscVChoice first section o facts a
     → IsRiscVChoice second section p (facts_on n facts) b
     → IsAmong (a, b) (line ∷ lines ++ (choice kinds.NoOp first, choice kinds.NoOp second) ∷ [])
 

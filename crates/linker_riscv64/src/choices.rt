@@ -16,12 +16,12 @@ use super::rewrites::{is_add_tp, is_addi_to_a0, is_auipc, is_ld, is_low_over_oth
 use super::{RelaxationKind, RiscVRelocation, RiscVRelocation as Names};
 use linker_base::rewrite::has_window;
 use linker_elf::elf::choice_table::{
-    Chosen, ChosenByTable, ChosenKind, SIGNED_12, Table, by_table, choice_by, conditions,
+    ChoiceTable, Chosen, RewriteSet, SIGNED_12, Table, by_table, choice_by, conditions,
 };
 use linker_elf::elf::{Choice, LinkFacts, Operands};
 
 /// The instructions that an entry is for: what its rewrite is meant for, or another one.
-pub enum AskedFor {
+pub enum Pattern {
     OfRewrite,
     Lui,
     AddTp,
@@ -31,10 +31,10 @@ pub enum AskedFor {
     LowOverOther,
 }
 
-impl ChosenKind for RelaxationKind {
+impl RewriteSet for RelaxationKind {
     type Relocation = Names;
 
-    type Originals = AskedFor;
+    type Originals = Pattern;
 
     ghost are_at = { IsThere };
 
@@ -43,16 +43,16 @@ impl ChosenKind for RelaxationKind {
     ghost laws = { equalities kinds.NoOp names (λ x y. x.0 == y.0, tt) (exact_code, tt) };
 
     #[inline(always)]
-    fn stand_at(self, originals: &AskedFor, section: &[u8], offset: u64) -> bool {
+    fn matches_at(self, originals: &Pattern, section: &[u8], offset: u64) -> bool {
         match originals {
-            AskedFor::OfRewrite => self.matches(section, offset),
+            Pattern::OfRewrite => self.matches(section, offset),
             _ if !has_window(section, offset, 0, 4) => false,
-            AskedFor::Lui => is_lui(word_at(section, offset)),
-            AskedFor::AddTp => is_add_tp(word_at(section, offset)),
-            AskedFor::Auipc => is_auipc(word_at(section, offset)),
-            AskedFor::Ld => is_ld(word_at(section, offset)),
-            AskedFor::AddiToA0 => is_addi_to_a0(word_at(section, offset)),
-            AskedFor::LowOverOther => is_low_over_other(word_at(section, offset)),
+            Pattern::Lui => is_lui(word_at(section, offset)),
+            Pattern::AddTp => is_add_tp(word_at(section, offset)),
+            Pattern::Auipc => is_auipc(word_at(section, offset)),
+            Pattern::Ld => is_ld(word_at(section, offset)),
+            Pattern::AddiToA0 => is_addi_to_a0(word_at(section, offset)),
+            Pattern::LowOverOther => is_low_over_other(word_at(section, offset)),
         }
     }
 
@@ -167,7 +167,7 @@ macro_rules! choices {
     };
 }
 
-impl ChosenByTable for RelaxationKind {
+impl ChoiceTable for RelaxationKind {
     ghost sampled = { λ name none section o. none };
 
     #[inline(always)]
@@ -191,7 +191,7 @@ impl ChosenByTable for RelaxationKind {
 /// // auipc ra, 0; jalr ra, 0(ra), which calls a function 0x1000 bytes on
 /// let call = [0x97, 0x00, 0x00, 0x00, 0xe7, 0x80, 0x00, 0x00];
 /// let facts = LinkFacts {
-///     has_fixed_distance: true,
+///     is_pcrel_link_time_constant: true,
 ///     is_relaxable: true,
 ///     has_addresses: true,
 ///     operands: Operands {

@@ -56,10 +56,10 @@ keeps_need nops need None none holds = padding_all need nops holds
 keeps_need nops need (Some most) none holds = cc
 
 -- an address after an anchor
-behind_anchor : (w start o : ℕ) (item : Item) (k freed : ℕ) → IsSound item → freed ≤ offset_of item → end_of item ≤ o → HoldsAt start item freed → IsAnchor w o item
+after_anchor : (w start o : ℕ) (item : Item) (k freed : ℕ) → IsSound item → freed ≤ offset_of item → end_of item ≤ o → HoldsAt start item freed → IsAnchor w o item
     → Multiple w (start + o - (freed + (len_of item - kept_by start item k freed)))
-behind_anchor w start o (Site site) k freed sound below past holds anchor = absurd anchor
-behind_anchor w start o (Aligned alignment) k freed sound below past holds anchor =
+after_anchor w start o (Site site) k freed sound below past holds anchor = absurd anchor
+after_anchor w start o (Aligned alignment) k freed sound below past holds anchor =
     let at = start + alignment.offset - freed in
     let need = needed alignment.alignment at in
     let kept : kept_by start (Aligned alignment) k freed ≡ need = keeps_need alignment.nops need alignment.max_skip anchor.0 holds in
@@ -74,13 +74,13 @@ behind_anchor w start o (Aligned alignment) k freed sound below past holds ancho
     need_fits nops need (Some most) none holds = cc
 
 -- an address after an item that frees multiples
-behind_multiple : (w start o : ℕ) (item : Item) (k freed : ℕ) → IsSound item → freed ≤ offset_of item → end_of item ≤ o → FreesMultiples w o item → Multiple w (start + o - freed)
+after_multiple : (w start o : ℕ) (item : Item) (k freed : ℕ) → IsSound item → freed ≤ offset_of item → end_of item ≤ o → FreesMultiples w o item → Multiple w (start + o - freed)
     → Multiple w (start + o - (freed + (len_of item - kept_by start item k freed)))
-behind_multiple w start o (Site site) k freed sound below past frees before =
+after_multiple w start o (Site site) k freed sound below past frees before =
     let gone = site.len - shape_len site.shapes k in
     same_multiple w (start + o - freed - gone) (start + o - (freed + gone)) (omega arith)
     (less_multiple w (start + o - freed) gone before (multiple_of w gone (frees k)))
-behind_multiple w start o (Aligned alignment) k freed sound below past frees before =
+after_multiple w start o (Aligned alignment) k freed sound below past frees before =
     let at = start + alignment.offset - freed in
     let need = needed alignment.alignment at in
     let limit = limit_of alignment.nops alignment.max_skip in
@@ -125,9 +125,9 @@ address_multiple start items choice are w o some (suc i) within past holds alway
     let gone = len_of item - kept_by start item (choice i) freed in
     same_multiple w (start + o - (freed + gone)) (start + o - freed_before start items choice (suc i)) (omega arith)
     (⊎_elim
-    (λ (anchor : IsAnchor w o item). behind_anchor w start o item (choice i) freed sound below (past i (omega arith)) (holds i (omega arith)) anchor)
+    (λ (anchor : IsAnchor w o item). after_anchor w start o item (choice i) freed sound below (past i (omega arith)) (holds i (omega arith)) anchor)
     (λ (other : FreesMultiples w o item × IsAlwaysMultiple w start o items i).
-    behind_multiple w start o item (choice i) freed sound below (past i (omega arith)) other.0
+    after_multiple w start o item (choice i) freed sound below (past i (omega arith)) other.0
     (address_multiple start items choice are w o some i (omega arith) (λ j before. past j (omega arith)) (λ j before. holds j (omega arith)) other.1))
     always)
 

@@ -11,8 +11,8 @@ use Rattle.linker_runs.specs.declared.packing.Machine.TheVariants.{RiscV64, Loon
 -- the next alignment after one relocation is that after the relocation after it, or this one
 pub next_on : (relocations : List Relocation) (i j : ℕ) → IsNextAlignment relocations i j → (j ≤ i + 1) ⊎ IsNextAlignment relocations (i + 1) j
 next_on relocations i j next = ⊎_elim
-    (λ (behind : i + 1 < j). inr (record {
-      behind = behind;
+    (λ (following : i + 1 < j). inr (record {
+      following = following;
       within = next.within;
       aligns = next.aligns;
       first = λ k after before. next.first k (omega arith) before;

@@ -74,8 +74,8 @@ module _ (start : ℕ) (items : List Item) (kept : List ℕ) (order : AreInOrder
       omega arith
 
   -- and one after it begins at its end or above
-  behind : (j : ℕ) → i < j → j < length items → end_of (item_at items i) ≤ offset_of (item_at items j)
-  behind j up there =
+  following : (j : ℕ) → i < j → j < length items → end_of (item_at items i) ≤ offset_of (item_at items j)
+  following j up there =
       let h = ends_ascend start items order i (j - 1) (omega arith) (omega arith) in
       let z : j - 1 + 1 ≡ j = omega arith in
       let a = ap (λ n. offset_of (item_at items n)) z in
@@ -92,7 +92,7 @@ module _ (start : ℕ) (items : List Item) (kept : List ℕ) (order : AreInOrder
       ⊎_elim
       (λ (first : j < i). let up = before j first in omega (arith, low, up, from.1))
       (λ (later : i ≤ j). ⊎_elim
-      (λ (after : i < j). let up = behind j after found.1 in omega (arith, high, most, up, from.0))
+      (λ (after : i < j). let up = following j after found.1 in omega (arith, high, most, up, from.0))
       (λ (same : j ≤ i).
       let e : j ≡ i = omega (arith, later, same) in
       let a = ap (λ n. offset_of (item_at items n)) e in

@@ -23,7 +23,7 @@ record Needs (u : ℕ) (power nops input freed need : ℕ) : Type 0 where
   pub below : need < power
   pub fits : freed ≤ input
   pub gone : Multiple u freed
-  pub behind : Multiple u (input + nops)
+  pub following : Multiple u (input + nops)
   pub filled : Multiple u (need + (input - freed))
 
 -- where the nops are as many as the power less the granularity, there are enough
@@ -31,11 +31,11 @@ enough_nops : (u power nops input freed need : ℕ) → Needs u power nops input
 enough_nops u power nops input freed need n many = ⊎_elim
     (λ (short : nops < need).
     let a = n.gone.1 in
-    let b = n.behind.1 in
+    let b = n.following.1 in
     let c = n.filled.1 in
     let below = n.below in
     let fits = n.fits in
-    let next = next_multiple n.behind.0 (n.filled.0 + n.gone.0) u (omega arith) in
+    let next = next_multiple n.following.0 (n.filled.0 + n.gone.0) u (omega arith) in
     absurd (omega arith))
     (λ (done : need ≤ nops). done)
     (cases_lt nops need)
@@ -44,12 +44,12 @@ enough_nops u power nops input freed need n many = ⊎_elim
 rest_multiple : (u power nops input freed need : ℕ) → Needs u power nops input freed need → need ≤ nops → Multiple u (nops - need)
 rest_multiple u power nops input freed need n enough =
     let a = n.gone.1 in
-    let b = n.behind.1 in
+    let b = n.following.1 in
     let c = n.filled.1 in
     let fits = n.fits in
-    let m = multiple_between u u (n.behind.0 * u) ((n.filled.0 + n.gone.0) * u) (1, omega arith) (n.behind.0, refl) (n.filled.0 + n.gone.0, refl) in
+    let m = multiple_between u u (n.following.0 * u) ((n.filled.0 + n.gone.0) * u) (1, omega arith) (n.following.0, refl) (n.filled.0 + n.gone.0, refl) in
     let e = m.1 in
-    (m.0, (let same : nops - need ≡ n.behind.0 * u - (n.filled.0 + n.gone.0) * u = omega arith in same ∙ e))
+    (m.0, (let same : nops - need ≡ n.following.0 * u - (n.filled.0 + n.gone.0) * u = omega arith in same ∙ e))
 
 -- without a limit there are as many nops as are needed
 abbrev pub Enough : ℕ → ℕ → ℕ → ℕ → Option ℕ → Type 0
@@ -96,7 +96,7 @@ needs u start alignment freed fit some within gone =
       below = needed_below alignment.alignment at some;
       fits = omega arith;
       gone = gone;
-      behind = multiple_of u (start + alignment.offset + alignment.nops) fit.behind;
+      following = multiple_of u (start + alignment.offset + alignment.nops) fit.following;
       filled = (whole.0 * power.0, whole.1 ∙ ap (λ x. whole.0 * x) power.1 ∙ sym (mul_assoc whole.0 power.0 u));
     }
 

@@ -18,7 +18,6 @@ pub mod LoongArchCalls36
 pub mod LoongArchMadeSites
 pub mod LoongArchReaches
 pub mod LoongArchWritable
-pub mod LoongArchItems
 pub mod Made
 pub mod MadeSites
 pub mod Moved
@@ -37,7 +36,6 @@ pub mod RiscVLongCalls
 pub mod RiscVMadeSites
 pub mod RiscVReaches
 pub mod RiscVWritable
-pub mod RiscVItems
 pub mod RewrittenSites
 pub mod Rounds
 pub mod Same

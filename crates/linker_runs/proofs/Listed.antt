@@ -8,7 +8,7 @@ use Rattle.linker_runs.specs.declared.relaxation.Item.{Item}
 use Rattle.linker_runs.specs.declared.relaxation.Item.TheVariants.{Site, Aligned}
 use Rattle.linker_runs.specs.Relaxing.{offset_of, end_of}
 use Rattle.linker_runs.specs.SectionItems.{Makes}
-use Rattle.linker_runs.specs.RewrittenItems.{AreListed, IsDeleted, ArePlaced, deleted_at, deleted_end}
+use Rattle.linker_runs.specs.RewrittenItems.{AreListed, IsDeleted, deleted_at}
 use Rattle.linker_runs.specs.RewrittenItems.AreListed.{none, left_out, made, deleted}
 use Rattle.linker_runs.specs.Inner.Listed.{Rewritten, AreListedIn}
 
@@ -16,9 +16,6 @@ use Rattle.linker_runs.specs.Inner.Listed.{Rewritten, AreListedIn}
 pub deleted_offset : (base : ℕ) (d : ℕ × ℕ) (item : Item) → IsDeleted base d item → offset_of item ≡ base + d.0
 deleted_offset base d (Site site) is = is.0
 deleted_offset base d (Aligned alignment) is = absurd is
-
-pub placed_apart : (len : ℕ) (deletions : List (ℕ × ℕ)) (n k : ℕ) → ArePlaced len deletions n → k + 1 < n → deleted_end deletions k ≤ (deleted_at deletions (k + 1)).0
-placed_apart len deletions n k placed below = rw add-one (placed (suc k) (omega arith)).0
 
 -- what is the same from an index on is so from a higher one on
 pub drop_same_from : {X : Type 0} (xs ys : List X) (n m : ℕ) → n ≤ m → drop n xs ≡ drop n ys → drop m xs ≡ drop m ys
@@ -51,9 +48,9 @@ module _ {A : Type 0} (f : A → Item) (IsWritten : A → Type 0) (s : Rewritten
   pub put_made : (i g count end after : ℕ) (out : List A) (makers : List ℕ) (x : A) → AreListedIn f IsWritten s i g count end out makers → count < length out → count < length makers
       → Makes s.machine s.section s.base s.relocations i (f x) → IsWritten x → end ≤ offset_of (f x) → after ≡ end_of (f x) → (g < length s.deletions → after ≤ s.base + (deleted_at s.deletions g).0)
       → AreListedIn f IsWritten s (i + 1) g (count + 1) after (set out count x) (set makers count i)
-  put_made i g count end after out makers x before within also is written behind e next =
+  put_made i g count end after out makers x before within also is written following e next =
       let M = Makes s.machine s.section s.base s.relocations in
-      let more = made (f x) before.listed is behind in
+      let more = made (f x) before.listed is following in
       record {
         few = omega (arith, before.few);
         listed = rw add-one (listed_as M s.base (length s.relocations) s.deletions (suc i) g (end_of (f x)) after _ _ _ _ more e (ap (map f) (take_more_set out count x within) ∙ map_push f (take count out) x) (take_more_set makers count i also));
@@ -67,8 +64,8 @@ module _ {A : Type 0} (f : A → Item) (IsWritten : A → Type 0) (s : Rewritten
       → AreListedIn f IsWritten s i (g + 1) (count + 1) after (set out count x) (set makers count (length s.relocations + g))
   put_deleted i g count end after out makers x before within also is written some e next =
       let M = Makes s.machine s.section s.base s.relocations in
-      let behind : end ≤ offset_of (f x) = omega (arith, before.next some, deleted_offset s.base (deleted_at s.deletions g) (f x) is) in
-      let more = deleted (f x) before.listed is behind in
+      let following : end ≤ offset_of (f x) = omega (arith, before.next some, deleted_offset s.base (deleted_at s.deletions g) (f x) is) in
+      let more = deleted (f x) before.listed is following in
       record {
         few = omega (arith, before.few);
         listed = rw add-one (listed_as M s.base (length s.relocations) s.deletions i (suc g) (end_of (f x)) after _ _ _ _ more e (ap (map f) (take_more_set out count x within) ∙ map_push f (take count out) x) (take_more_set makers count (length s.relocations + g) also));

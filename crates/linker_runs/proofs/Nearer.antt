@@ -79,7 +79,7 @@ pub below_is : (shape : Shape) (from to : ℕ) → to < from → is_reached shap
 below_is shape from to down reached = (grind (arith, nat_tests), grind (arith, nat_tests))
 
 pub is_below : (shape : Shape) (from to : ℕ) → to < from → from - to ≤ shape.max_backward → (from - to) % shape.granularity ≡ 0 → is_reached shape from to ≡ true
-is_below shape from to down behind none = grind (arith, nat_tests)
+is_below shape from to down following none = grind (arith, nat_tests)
 
 -- a nearer target above is reached too, and one below
 reached_above : (shape : Shape) (from to from' to' : ℕ) → from ≤ to → from' ≤ to' → to' - from' ≤ to - from → Multiple shape.granularity ((to - from) - (to' - from')) → is_reached shape from to ≡ true → is_reached shape from' to' ≡ true
@@ -95,8 +95,8 @@ reached_below shape from to from' to' down down' near some m reached =
     (λ (strict : to' < from').
     let old = below_is shape from to (omega arith) reached in
     let rest = multiple_less shape.granularity (from - to) (from' - to') ((from - to) - (from' - to')) (omega arith) m old.1 in
-    let behind : from' - to' ≤ shape.max_backward = omega (arith, old.0) in
-    is_below shape from' to' strict behind rest)
+    let following : from' - to' ≤ shape.max_backward = omega (arith, old.0) in
+    is_below shape from' to' strict following rest)
     (λ (level : from' ≤ to'). is_level from' to' (omega arith))
     (cases_lt to' from')
   where

@@ -79,8 +79,8 @@ gap_before s items zero some = absurd (omega arith)
 gap_before s items (suc i) some = ap (λ n. end_of (item_at items n)) (let same : i ≡ suc i - 1 = omega arith in same)
 
 -- an item that begins there or above is apart from the one before
-pub apart_from : (s : Section) (items : List Item) (i behind : ℕ) → behind ≡ gap_start s items i → (0 < i → behind ≤ offset_of (item_at items i)) ↔ IsApart items i
-apart_from s items i behind is = (
+pub apart_from : (s : Section) (items : List Item) (i following : ℕ) → following ≡ gap_start s items i → (0 < i → following ≤ offset_of (item_at items i)) ↔ IsApart items i
+apart_from s items i following is = (
   λ begins some. omega (arith, gap_before s items i some, is, begins some),
   λ apart some. omega (arith, gap_before s items i some, is, apart some),
 )

@@ -20,9 +20,9 @@ each_listed : (M : ℕ → Item → Type 0) (base n : ℕ) (ds : List (ℕ × �
     → ((k : ℕ) (item : Item) → k < i → M k item → P item) → ((d : ℕ × ℕ) (item : Item) → IsDeleted base d item → P item) → (j : ℕ) → j < length items → P (item_at items j)
 each_listed M base n ds P i g end items makers none each gone j below = absurd (omega arith)
 each_listed M base n ds P (suc i) g end items makers (left_out before not) each gone j below = each_listed M base n ds P i g end items makers before (λ k item h. each k item (omega arith)) gone j below
-each_listed M base n ds P (suc i) g end all all_makers (made {end = last} {items = items} {makers = makers} item before is behind) each gone j below =
+each_listed M base n ds P (suc i) g end all all_makers (made {end = last} {items = items} {makers = makers} item before is following) each gone j below =
     pushed P items item (each_listed M base n ds P i g last items makers before (λ k item h. each k item (omega arith)) gone) (each i item (omega arith) is) j below
-each_listed M base n ds P i (suc g) end all all_makers (deleted {end = last} {items = items} {makers = makers} item before is behind) each gone j below =
+each_listed M base n ds P i (suc g) end all all_makers (deleted {end = last} {items = items} {makers = makers} item before is following) each gone j below =
     pushed P items item (each_listed M base n ds P i g last items makers before each gone) (gone (deleted_at ds g) item is) j below
 
 deleted_is_fixed : (base : ℕ) (d : ℕ × ℕ) (item : Item) → IsDeleted base d item → is_fixed item ≡ true

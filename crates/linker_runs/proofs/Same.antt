@@ -16,11 +16,11 @@ shape_decides a b = (
       let p = and_parts (eqb a.max_backward b.max_backward) (eqb a.max_forward b.max_forward && (eqb a.kept b.kept && eqb a.granularity b.granularity)) h in
       let q = and_parts (eqb a.max_forward b.max_forward) (eqb a.kept b.kept && eqb a.granularity b.granularity) p.1 in
       let r = and_parts (eqb a.kept b.kept) (eqb a.granularity b.granularity) q.1 in
-      let behind = eqb-true a.max_backward b.max_backward p.0 in
+      let following = eqb-true a.max_backward b.max_backward p.0 in
       let ahead = eqb-true a.max_forward b.max_forward q.0 in
       let kept = eqb-true a.kept b.kept r.0 in
       let granularity = eqb-true a.granularity b.granularity r.1 in
-      λ i. record { max_backward = behind i; max_forward = ahead i; kept = kept i; granularity = granularity i },
+      λ i. record { max_backward = following i; max_forward = ahead i; kept = kept i; granularity = granularity i },
   λ e. subst (λ c. shape_eq a c ≡ true) e (same a),
 )
   where

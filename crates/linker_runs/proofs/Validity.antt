@@ -102,9 +102,9 @@ limited u power nops (Some most) many even = (even, many)
 alignment_fits : (u start : ℕ) (alignment : Alignment) → ((fault : Fault) → AlignmentMeets u start alignment fault) → AlignmentFits u start alignment ⊎ IsStill u start alignment
 alignment_fits u start alignment met = ⊎_elim
     (λ (power : alignment.alignment % u ≡ 0). ⊎_elim
-    (λ (behind : (start + alignment.offset + alignment.nops) % u ≡ 0). inl (record {
+    (λ (following : (start + alignment.offset + alignment.nops) % u ≡ 0). inl (record {
       power = power;
-      behind = behind;
+      following = following;
       limited = limited u alignment.alignment alignment.nops alignment.max_skip (met TooFewNops) (met UnevenNops);
     }))
     (λ (still : IsStill u start alignment). inr still)

@@ -61,7 +61,7 @@ ShapesFit u len shapes = (k : ℕ) → (len - shape_len shapes k) % u ≡ 0
 -- multiple of u.
 pub record AlignmentFits (u start : ℕ) (alignment : Alignment) : Type 0 where
   pub power : alignment.alignment % u ≡ 0
-  pub behind : (start + alignment.offset + alignment.nops) % u ≡ 0
+  pub following : (start + alignment.offset + alignment.nops) % u ≡ 0
   pub limited : MatchOption alignment.max_skip ⊤ (λ most. (alignment.nops % u ≡ 0)
       × ((alignment.alignment ≤ alignment.nops + u) ⊎ (most ≤ alignment.nops)))
 

@@ -54,7 +54,7 @@ Aligns relocation = HasRiscVName r.R_RISCV_ALIGN relocation × (relocation.adden
 
 -- The next alignment after the relocation at an index, or the end of the relocations.
 pub record IsNextAlignment (relocations : List Relocation) (i j : ℕ) : Type 0 where
-  pub behind : i < j
+  pub following : i < j
   pub within : j ≤ length relocations
   pub aligns : j < length relocations → Aligns (relocation_at relocations j)
   pub first : (k : ℕ) → i < k → k < j → ¬ Aligns (relocation_at relocations k)

@@ -21,7 +21,7 @@ use Rattle.linker_utils.specs.declared.elf.Architecture.{Architecture}
 -- ---- bytes outside of a field
 
 place : (o w p : ℕ) → o + w ≤ p → p ≡ o + w + (p - (o + w))
-place o w p behind = omega (arith, behind)
+place o w p following = omega (arith, following)
 
 local_byte : (o w p : ℕ) (now after : List ℕ) → IsLocal o w now after
     → (p < o) ⊎ (o + w ≤ p) → slice_index after p ≡ slice_index now p
@@ -29,11 +29,11 @@ local_byte o w p now after local outside =
     elim outside [
       | inl below ↦
           sym (get_or-take o after p 0 below) ∙ (ap (λ x. get_or x p 0) local.kept ∙ get_or-take o now p 0 below)
-      | inr behind ↦
-          ap (λ n. get_or after n 0) (place o w p behind)
+      | inr following ↦
+          ap (λ n. get_or after n 0) (place o w p following)
           ∙ (sym (get_or-drop (o + w) after (p - (o + w)) 0)
-          ∙ (ap (λ x. get_or x (p - (o + w)) 0) local.behind
-          ∙ (get_or-drop (o + w) now (p - (o + w)) 0 ∙ ap (λ n. get_or now n 0) (sym (place o w p behind)))))
+          ∙ (ap (λ x. get_or x (p - (o + w)) 0) local.following
+          ∙ (get_or-drop (o + w) now (p - (o + w)) 0 ∙ ap (λ n. get_or now n 0) (sym (place o w p following)))))
     ]
 
 -- ---- a ULEB128 number of the same bytes
@@ -92,7 +92,7 @@ one_untouched architecture addresses bytes before middle now symbols n row v so_
             local_byte o (window_len row) p middle now local
             (elim (outside n row (omega arith) (record { is_row = has.is_row; some = omega (arith, wide, len) })) [
               | inl below ↦ inl below
-              | inr behind ↦ inr (omega (arith, behind, len))
+              | inr following ↦ inr (omega (arith, following, len))
             ])
             ∙ so_far.1 p (fewer architecture bytes before n (n + 1) p (omega arith) outside)
       ]),
@@ -112,7 +112,7 @@ first_byte architecture bytes before n row p first from to i other below is_othe
     elim (cases_lt p (offset_at bytes i)) [
       | inl under ↦ inl under
       | inr at ↦ elim (cases_lt p (field_end bytes before i other)) [
-        | inr behind ↦ inr behind
+        | inr following ↦ inr following
         | inl inside ↦ absurd (first i other below is_other ((omega (arith, at, to)), (omega (arith, from, inside))))
       ]
     ]

@@ -432,12 +432,12 @@ ordered_overlapped architecture bytes section i j row other first second below u
       ];
     }
 
-pub behind_overlapped : (architecture : Architecture) (bytes section : List ℕ) (i j : ℕ)
+pub after_overlapped : (architecture : Architecture) (bytes section : List ℕ) (i j : ℕ)
     (row other : RelocationKindInfo) (first second : Field) → i < j
     → HasField architecture bytes section i row first
     → HasField architecture bytes section j other second → second.offset < first.offset
     → is_clear_of first second ≡ false → IsOverlapped architecture bytes section j
-behind_overlapped architecture bytes section i j row other first second below h g order clear =
+after_overlapped architecture bytes section i j row other first second below h g order clear =
     let not = not_clear first second (omega (arith, order)) clear in
     let near = not.0 in
     let some = h.is_field.some in let o = h.offset_is in let p = g.offset_is in let e = g.end_is in

@@ -11,7 +11,7 @@ use Rattle.linker_elf.specs.declared.elf.RelocationSize.TheVariants.{ByteSize, B
 use Rattle.linker_section.proofs.All.{AreUntouched, IsFirstAt, pair_place, pair_first, untouched}
 use Rattle.linker_section.proofs.Composing.{begun_has_value, begun_ends_none, first_is_none, second_is_none}
 use Rattle.linker_section.proofs.Fronts.{HaveSameWindow, same_window, accepted_same, some_window, window_back}
-use Rattle.linker_section.proofs.Held.{IsMet, is_ahead, is_behind, is_same, is_later, is_earlier, meet, field_untouched, IsJoined, is_kept, is_own, is_joined, step, pair_kept}
+use Rattle.linker_section.proofs.Held.{IsMet, is_ahead, is_after, is_same, is_later, is_earlier, meet, field_untouched, IsJoined, is_kept, is_own, is_joined, step, pair_kept}
 use Rattle.linker_section.proofs.Lengths.{offset_same, IsSameFront, length_same}
 use Rattle.linker_section.proofs.Local.{small_bytes, takes}
 use Rattle.linker_section.proofs.Numbers.{is_word6, holds_first, holds_next, number_small}
@@ -138,7 +138,7 @@ pair_far i row n first met alone begins as_one =
     let paired = or_left (begins_pair first.size first.kind) (ends_pair first.size first.kind) begins in
     elim met [
       | is_ahead x ↦ inl x
-      | is_behind x ↦ inr x
+      | is_after x ↦ inr x
       | is_same is ↦ absurd (true≢false (sym paired ∙ (ap is_of_pair (sym (as_one is)) ∙ alone)))
       | is_later less composes ↦ elim composes [
         | of_number offset window on ↦ absurd (true≢false (sym paired ∙ second_is_none row.kind first.kind first.size on))
@@ -544,7 +544,7 @@ module _ (architecture : Architecture) (addresses : Addresses) (bytes : List ℕ
               pair_kept bytes before i row n first middle after place.local
               (elim (meet architecture bytes before total i row n first apart (omega (arith, below, most)) (omega (arith, most)) is_field place.is_field) [
                 | is_ahead x ↦ inl x
-                | is_behind x ↦ inr x
+                | is_after x ↦ inr x
                 | is_same at ↦ absurd (isnt at)
                 | is_later less composes ↦ elim composes [
                   | of_number offset window on ↦ absurd (true≢false (sym paired ∙ first_is_none row.kind first.kind row.size on))

@@ -10,7 +10,7 @@ use Rattle.linker_section.proofs.Fronts.{writes_front}
 use Rattle.linker_section.proofs.Local.{IsLocal, one_local}
 use Rattle.linker_section.proofs.Numbers.{is_word6}
 use Rattle.linker_section.proofs.Sized.{is_composing, first_composes, second_composes, alike}
-use Rattle.linker_section.proofs.Stepping.{len_alone, written_alone, drop_behind}
+use Rattle.linker_section.proofs.Stepping.{len_alone, written_alone, drop_after}
 use Rattle.linker_section.proofs.Valued.{some_value}
 use Rattle.linker_section.specs.Fields.{IsField, field_end, field_len, begins_pair, ends_pair, is_of_pair, Composes, of_number, of_pair, AreApart}
 use Rattle.linker_section.specs.Relocations.{relocation_in}
@@ -27,7 +27,7 @@ use Rattle.linker_utils.specs.declared.elf.Architecture.{Architecture}
 pub data IsMet (bytes before : List ℕ) (i : ℕ) (row : RelocationKindInfo) (j : ℕ)
     (other : RelocationKindInfo) : Type 0 where
   is_ahead : field_end bytes before i row ≤ offset_at bytes j → IsMet bytes before i row j other
-  is_behind : field_end bytes before j other ≤ offset_at bytes i → IsMet bytes before i row j other
+  is_after : field_end bytes before j other ≤ offset_at bytes i → IsMet bytes before i row j other
   is_same : i ≡ j → IsMet bytes before i row j other
   is_later : i < j → Composes bytes i row j other → IsMet bytes before i row j other
   is_earlier : j < i → Composes bytes j other i row → IsMet bytes before i row j other
@@ -41,7 +41,7 @@ meet architecture bytes before total i row j other apart i_below j_below is_fiel
     elim (cases_lt (offset_at bytes j) (field_end bytes before i row)) [
       | inr past ↦ is_ahead past
       | inl x ↦ elim (cases_lt (offset_at bytes i) (field_end bytes before j other)) [
-        | inr past ↦ is_behind past
+        | inr past ↦ is_after past
         | inl y ↦ elim (cases_eq i j) [
           | inl is ↦ is_same is
           | inr isnt ↦ elim (cases_lt i j) [
@@ -64,9 +64,9 @@ kept_ahead o w p v now after local ahead =
     ∙ (ap (drop o) (sym (take-take (o + w) p after ahead) ∙ (ap (take (o + w)) local.kept ∙ take-take (o + w) p now ahead))
     ∙ drop-take o w now)
 
-kept_behind : (o w p v : ℕ) (now after : List ℕ) → IsLocal p v now after
+kept_after : (o w p v : ℕ) (now after : List ℕ) → IsLocal p v now after
     → (p + v ≤ o) ⊎ (v ≡ 0) → take w (drop o after) ≡ take w (drop o now)
-kept_behind o w p v now after local behind = ap (take w) (drop_behind p v o now after local behind)
+kept_after o w p v now after local following = ap (take w) (drop_after p v o now after local following)
 
 -- of a field of which no earlier relocation has a byte, before it is written
 pub field_untouched : (architecture : Architecture) (bytes before : List ℕ) (n : ℕ)
@@ -180,13 +180,13 @@ step architecture addresses bytes symbols before total i row n other v now after
     subst (λ k. WritesRow other v (take k (drop p now)) (take k (drop p after))) (sym len) (own_write other v p now after written) in
     elim (cases_eq (window_len other) 0) [
       | inl empty ↦
-          is_kept (kept_behind o w p (window_len other) now after local (inr empty)) (λ is. absurd (omega (arith, is, len, empty)))
+          is_kept (kept_after o w p (window_len other) now after local (inr empty)) (λ is. absurd (omega (arith, is, len, empty)))
       | inr wide ↦
           let is_other : IsField architecture bytes before n other = record { is_row = has.is_row; some = omega (arith, wide, len) } in
           elim (meet architecture bytes before total i row n other apart i_below n_below is_field is_other) [
             | is_ahead x ↦ is_kept (kept_ahead o w p (window_len other) now after local x) (λ _ at. omega (arith, x, at, width))
-            | is_behind x ↦
-                is_kept (kept_behind o w p (window_len other) now after local (inl (omega (arith, x, len))))
+            | is_after x ↦
+                is_kept (kept_after o w p (window_len other) now after local (inl (omega (arith, x, len))))
                 (λ is at. omega (arith, x, at, is))
             | is_same is ↦ is_own is writes (omega (arith, wide, len))
             | is_later less composes ↦ is_joined (joined_later bytes before i row n other alone composes) writes (omega (arith, wide, len))
@@ -206,5 +206,5 @@ pair_kept bytes before i row n other now after local far =
     let p = offset_at bytes n in
     elim far [
       | inl x ↦ kept_ahead o w p _ now after local x
-      | inr x ↦ kept_behind o w p _ now after local (inl x)
+      | inr x ↦ kept_after o w p _ now after local (inl x)
     ]

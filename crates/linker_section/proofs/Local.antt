@@ -36,7 +36,7 @@ use Rattle.linker_utils.specs.declared.elf.Architecture.{Architecture}
 pub record IsLocal (offset len : ℕ) (before after : List ℕ) : Type 0 where
   pub inside : offset + len ≤ length before
   pub kept : take offset after ≡ take offset before
-  pub behind : drop (offset + len) after ≡ drop (offset + len) before
+  pub following : drop (offset + len) after ≡ drop (offset + len) before
   pub same_length : length after ≡ length before
 
 -- ---- a row
@@ -108,7 +108,7 @@ one_local row v offset before after w =
     record {
       inside = let l = w.written.accepted.long in let d = length-drop offset before in let i = w.inside in omega (arith, l, d, i);
       kept = ap (take offset) w.around ∙ take_at (take offset before) w.rest offset n;
-      behind = sym (drop-drop (window_len row) offset after)
+      following = sym (drop-drop (window_len row) offset after)
           ∙ (ap (drop (window_len row)) (ap (drop offset) w.around ∙ drop_at (take offset before) w.rest offset n)
           ∙ (rest_same row.size row.kind v (drop offset before) w.rest (takes row w.written.accepted.supported) w.written.written
           ∙ drop-drop (window_len row) offset before));
@@ -136,7 +136,7 @@ pair_local architecture addresses bytes symbols first second before after w =
     record {
       inside = omega (arith, is, d, i, was_there);
       kept = ap (take offset) w.around ∙ take_at (take offset before) w.rest offset n;
-      behind = sym (drop-drop (uleb_len (take 10 there)) offset after)
+      following = sym (drop-drop (uleb_len (take 10 there)) offset after)
           ∙ (ap (drop (uleb_len (take 10 there))) (ap (drop offset) w.around ∙ drop_at (take offset before) w.rest offset n)
           ∙ (ap (λ k. drop k w.rest) (is ∙ ap (λ k. k + 1) last)
           ∙ (sym now.rest_is ∙ (was.rest_is ∙ (ap (λ k. drop k there) (sym is) ∙ drop-drop (uleb_len (take 10 there)) offset before)))));

@@ -52,9 +52,9 @@ pub all_written : (architecture : Architecture) (addresses : Addresses) (bytes :
     → AreWrittenBelow architecture addresses bytes symbols before now memory i
     → AreApart architecture bytes before i → length bytes / 24 ≤ i
     → AreAllRelocated architecture addresses bytes symbols before now
-all_written architecture addresses bytes symbols before now memory i below apart behind =
+all_written architecture addresses bytes symbols before now memory i below apart following =
     let within = below.within in
-    let all : i ≡ length bytes / 24 = omega (arith, behind, within) in
+    let all : i ≡ length bytes / 24 = omega (arith, following, within) in
     all_relocated architecture addresses bytes before now symbols
     (subst (AreApart architecture bytes before) all apart)
     (subst (λ n. AreRelocated architecture addresses bytes symbols before n now) all below.relocated)
@@ -63,9 +63,9 @@ pub reached_all : (architecture : Architecture) (addresses : Addresses) (bytes :
     (symbols : List Symbol) (limit : Option ℕ) (before now memory : List ℕ) (i : ℕ) (last : Field)
     → Reached architecture addresses bytes symbols limit before now memory i last
     → length bytes / 24 ≤ i → AreAllRelocated architecture addresses bytes symbols before now
-reached_all architecture addresses bytes symbols limit before now memory i last reached behind =
+reached_all architecture addresses bytes symbols limit before now memory i last reached following =
     all_written architecture addresses bytes symbols before now memory i reached.below
-    (apart_now limit architecture bytes before now i last reached.is_limit reached.order) behind
+    (apart_now limit architecture bytes before now i last reached.is_limit reached.order) following
 
 -- the section stays, and what is kept of earlier relocations
 pub below_kept : (architecture : Architecture) (addresses : Addresses) (bytes : List ℕ)
@@ -139,16 +139,16 @@ front_quickly architecture addresses bytes symbols before now after memory other
     let value = quick.value in
     let field : Field = record { offset = o; len = window_len row; kind = row.kind } in
     let some = value.some in
-    let behind = quick.behind in
+    let following = quick.following in
     let within = front.within in
     let same : field_of_row row o now ≡ field =
     ap (λ n. record { offset = o; len = n; kind = row.kind }) (len_alone row (drop o now) value.valued value.single) in
     let next_is : next_field (field_of_row row o now) last ≡ field =
     ap (λ f. next_field f last) same
     ∙ cond-false (eqb (window_len row) 0) last field (ne_eqb (window_len row) 0 (λ e. omega (arith, e, some))) in
-    let far : leb last.len (o - last.offset) ≡ true = le-leb last.len (o - last.offset) (omega (arith, behind, within)) in
+    let far : leb last.len (o - last.offset) ≡ true = le-leb last.len (o - last.offset) (omega (arith, following, within)) in
     let clear : is_clear_of field last ≡ true = or_left (leb last.len (o - last.offset)) _ far in
-    let below : last.offset ≤ o = omega (arith, behind, within) in
+    let below : last.offset ≤ o = omega (arith, following, within) in
     let clear_now : clear_in None i (field_of_row row o now) last ≡ true =
     ap (λ f. clear_in None i f last) same ∙ or_right (eqb (window_len row) 0) (is_clear_of field last) clear in
     let end_is = quick.end_is in
@@ -233,7 +233,7 @@ pub there_isnt : (bytes rest : List ℕ) (i : ℕ) → rest ≡ drop (i * 24) by
 there_isnt bytes rest i is none =
     let d = length-drop (i * 24) bytes in let e = ap length is in omega (arith, d, e, none)
 
-pub rest_behind : (bytes rest : List ℕ) (i : ℕ) → rest ≡ drop (i * 24) bytes
+pub rest_after : (bytes rest : List ℕ) (i : ℕ) → rest ≡ drop (i * 24) bytes
     → drop 24 rest ≡ drop ((i + 1) * 24) bytes
-rest_behind bytes rest i is =
+rest_after bytes rest i is =
     ap (drop 24) is ∙ (drop-drop 24 (i * 24) bytes ∙ ap (λ n. drop n bytes) (omega arith))

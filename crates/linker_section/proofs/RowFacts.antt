@@ -21,7 +21,7 @@ use Rattle.linker_elf.specs.declared.x86_64.relocations.X86_64Relocation.{X86_64
 use Rattle.linker_elf.specs.declared.x86_64.relocations.X86_64Relocation.TheVariants as x86_64
 use Rattle.linker_section.specs.Inner.Facts.{requirements_by, SaysNeeds, SaysWay}
 use Rattle.linker_section.specs.Needed.{needs_of}
-use Rattle.linker_utils.specs.Architectures.{IsOf, IsRow}
+use Rattle.linker_utils.specs.Architectures.{IsNamedValue, IsRow}
 use Rattle.linker_utils.specs.declared.elf.Architecture.{Architecture}
 use Rattle.linker_utils.specs.declared.elf.Architecture.TheVariants.{AArch64, RiscV, LoongArch64}
 use Rattle.linker_utils.specs.declared.elf.Architecture.TheVariants.{Ppc64, X86_64}
@@ -155,7 +155,7 @@ x86_64_said name = (
 
 by_names : {Name : Type 0} (architecture : Architecture) (elf : Name → ElfName)
     (row_of : Name → Option RelocationKindInfo) → ((name : Name) → IsSaid architecture (row_of name))
-    → (code : ℕ) (row : RelocationKindInfo) → IsOf elf row_of code (Some row)
+    → (code : ℕ) (row : RelocationKindInfo) → IsNamedValue elf row_of code (Some row)
     → IsSaid architecture (Some row)
 by_names architecture elf row_of said code row of =
     subst (IsSaid architecture) (sym of.value_is) (said of.name)

@@ -17,7 +17,7 @@ use Rattle.linker_elf.specs.declared.riscv64.relocations.RiscVRelocation.{RiscVR
 use Rattle.linker_elf.specs.declared.riscv64.relocations.RiscVRelocation.TheVariants as riscv64_names
 use Rattle.linker_elf.specs.declared.x86_64.relocations.X86_64Relocation.{X86_64Relocation}
 use Rattle.linker_elf.specs.declared.x86_64.relocations.X86_64Relocation.TheVariants as x86_64_names
-use Rattle.linker_utils.specs.Architectures.{IsOf, IsRow}
+use Rattle.linker_utils.specs.Architectures.{IsNamedValue, IsRow}
 use Rattle.linker_utils.specs.declared.elf.Architecture.{Architecture}
 use Rattle.linker_utils.specs.declared.elf.Architecture.TheVariants.{AArch64, RiscV, LoongArch64}
 use Rattle.linker_utils.specs.declared.elf.Architecture.TheVariants.{Ppc64, X86_64}
@@ -52,7 +52,7 @@ is_named_or_not (unnamed code) = inr (λ is. is)
 
 of_one : {Name A : Type 0} (elf : Name → ElfName) (value_of : Name → A) (none : A) (code : ℕ)
     (x y : A) → ((name : Name) → (IsNamed (elf name) → ⊥) → value_of name ≡ none)
-    → IsOf elf value_of code x → IsOf elf value_of code y → x ≡ y
+    → IsNamedValue elf value_of code x → IsNamedValue elf value_of code y → x ≡ y
 of_one elf value_of none code x y unnamed_is a b =
     elim (is_named_or_not (elf a.name)) [
       | inl is ↦

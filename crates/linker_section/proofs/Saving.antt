@@ -20,7 +20,7 @@ use Rattle.linker_elf.specs.declared.elf.RelocationKindInfo.{RelocationKindInfo}
 pub put_back : (place word : ℕ) (before after : List ℕ)
     → drop (place + 8) after ≡ drop (place + 8) before → length after ≡ length before
     → IsSavedAt place before word → with_word place word after ≡ take place after ++ drop place before
-put_back place word before after behind same saved =
+put_back place word before after following same saved =
     elim (cases_lt (length after) place) [
       | inl past ↦
           cond-false (leb place (length after)) _ after (lt-leb place (length after) past)
@@ -30,7 +30,7 @@ put_back place word before after behind same saved =
           cond-true (leb place (length after)) _ after (le-leb place (length after) within)
           ∙ ap (λ x. take place after ++ x)
           (ap (λ x. x ++ drop (place + 8) after) (ap (λ n. take (n - place) (to_le_bytes w64 word)) same ∙ saved)
-          ∙ (ap (λ x. take 8 (drop place before) ++ x) (behind ∙ sym (drop-drop 8 place before))
+          ∙ (ap (λ x. take 8 (drop place before) ++ x) (following ∙ sym (drop-drop 8 place before))
           ∙ take-append-drop 8 (drop place before)))
     ]
 
@@ -38,8 +38,8 @@ pub undone : (place word : ℕ) (before after : List ℕ)
     → take place after ≡ take place before → drop (place + 8) after ≡ drop (place + 8) before
     → length after ≡ length before → IsSavedAt place before word
     → with_word place word after ≡ before
-undone place word before after kept behind same saved =
-    put_back place word before after behind same saved
+undone place word before after kept following same saved =
+    put_back place word before after following same saved
     ∙ (ap (λ x. x ++ drop place before) kept ∙ take-append-drop place before)
 
 plus : (place : ℕ) → place + 8 + 8 ≡ place + 16
@@ -50,7 +50,7 @@ pub both_undone : (place word next : ℕ) (before after : List ℕ)
     → take place after ≡ take place before → drop (place + 16) after ≡ drop (place + 16) before
     → length after ≡ length before → IsSavedAt place before word → IsSavedAt (place + 8) before next
     → with_word place word (with_word (place + 8) next after) ≡ before
-both_undone place word next before after kept behind same saved saved_next =
+both_undone place word next before after kept following same saved saved_next =
     elim (cases_lt (length after) (place + 8)) [
       | inl past ↦
           ap (with_word place word) (cond-false (leb (place + 8) (length after)) _ after (lt-leb (place + 8) (length after) past))
@@ -58,7 +58,7 @@ both_undone place word next before after kept behind same saved saved_next =
           (drop_all (place + 8) after (omega (arith, past)) ∙ sym (drop_all (place + 8) before (omega (arith, past, same)))) same saved
       | inr within ↦
           let n = length-take-le (place + 8) after within in
-          let first = put_back (place + 8) next before after (ap (λ k. drop k after) (plus place) ∙ (behind ∙ ap (λ k. drop k before) (sym (plus place)))) same saved_next in
+          let first = put_back (place + 8) next before after (ap (λ k. drop k after) (plus place) ∙ (following ∙ ap (λ k. drop k before) (sym (plus place)))) same saved_next in
           ap (with_word place word) first
           ∙ undone place word before (take (place + 8) after ++ drop (place + 8) before)
           (take-append-le place (take (place + 8) after) _ (omega (arith, n)) ∙ (take-take place (place + 8) after (omega arith) ∙ kept))
@@ -117,12 +117,12 @@ pub restores_local : (architecture : Architecture) (bytes memory : List ℕ) (n 
     → length after ≡ length now → IsSavedAt (relocation_in bytes n).offset now word
     → Restores architecture bytes memory n now before
     → Restores architecture bytes (set memory n word) (n + 1) after before
-restores_local architecture bytes memory n word now after before row room is_row ends kept behind same saved restores =
+restores_local architecture bytes memory n word now after before row room is_row ends kept following same saved restores =
     let o = (relocation_in bytes n).offset in
     subst (λ k. Restores architecture bytes (set memory n word) k after before) (plus_one n)
     (restores_more architecture bytes memory n word now after before (Some row) room is_row
     (ap (λ p. with_word p word after) (cond-false (ends_pair row.size row.kind) (sum_64 o 8) o ends)
-    ∙ undone o word now after kept behind same saved) restores)
+    ∙ undone o word now after kept following same saved) restores)
 
 -- after that of a pair
 pub restores_pair : (architecture : Architecture) (bytes memory : List ℕ) (n word next : ℕ)
@@ -139,7 +139,7 @@ pub restores_pair : (architecture : Architecture) (bytes memory : List ℕ) (n w
     → IsSavedAt ((relocation_in bytes n).offset + 8) now next
     → Restores architecture bytes memory n now before
     → Restores architecture bytes (set (set memory n word) (n + 1) next) (n + 2) after before
-restores_pair architecture bytes memory n word next now after before row other room is_row ends is_other other_ends same_offset small kept behind same saved saved_next restores =
+restores_pair architecture bytes memory n word next now after before row other room is_row ends is_other other_ends same_offset small kept following same saved saved_next restores =
     let o = (relocation_in bytes n).offset in
     let middle = with_word (o + 8) next after in
     subst (λ k. Restores architecture bytes (set (set memory n word) (n + 1) next) k after before) (plus_two n)
@@ -149,7 +149,7 @@ restores_pair architecture bytes memory n word next now after before row other r
     (subst (λ k. Restores architecture bytes (set memory n word) k middle before) (plus_one n)
     (restores_more architecture bytes memory n word now middle before (Some row) (omega (arith, room)) is_row
     (ap (λ p. with_word p word middle) (cond-false (ends_pair row.size row.kind) (sum_64 o 8) o ends)
-    ∙ both_undone o word next now after kept behind same saved saved_next) restores)))
+    ∙ both_undone o word next now after kept following same saved saved_next) restores)))
 
 -- ---- words and bytes
 

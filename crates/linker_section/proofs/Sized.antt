@@ -30,7 +30,7 @@ use Rattle.linker_section.proofs.Composing.{no}
 use Rattle.linker_section.proofs.Numbers.{is_word6}
 use Rattle.linker_section.specs.Fields.{changes_number, changes_bits, continues, IsField, field_len, is_of_pair, uleb_len}
 use Rattle.linker_section.specs.Values.{has_value, is_auipc, offset_at}
-use Rattle.linker_utils.specs.Architectures.{IsOf, IsRow}
+use Rattle.linker_utils.specs.Architectures.{IsNamedValue, IsRow}
 use Rattle.linker_utils.specs.declared.elf.Architecture.{Architecture}
 use Rattle.linker_utils.specs.declared.elf.Architecture.TheVariants.{AArch64, RiscV, LoongArch64}
 use Rattle.linker_utils.specs.declared.elf.Architecture.TheVariants.{Ppc64, X86_64}
@@ -156,7 +156,7 @@ valued_x86_64 _ = refl
 
 test_of : {Name : Type 0} (elf : Name → ElfName) (row_of : Name → Option RelocationKindInfo)
     (code : ℕ) (row : Option RelocationKindInfo) (test : Option RelocationKindInfo → Bool)
-    → ((name : Name) → test (row_of name) ≡ true) → IsOf elf row_of code row
+    → ((name : Name) → test (row_of name) ≡ true) → IsNamedValue elf row_of code row
     → test row ≡ true
 test_of elf row_of code row test all is = ap test is.value_is ∙ all is.name
 

@@ -9,7 +9,7 @@ use Rattle.std.specs.List.{swap, Contains}
 use Rattle.std.specs.List.Sorted.{IsPermutation, IsNonDecreasingBy}
 use Rattle.std.specs.Prelude.{slice_index}
 use Rattle.linker_elf.specs.declared.elf.RelocationKindInfo.{RelocationKindInfo}
-use Rattle.linker_section.proofs.Claims.{OneMore, HaveNone, apart_more, claimed_more, apart_pair, claimed_pair, apart_without, claimed_without, not_clear, ordered_overlapped, behind_overlapped}
+use Rattle.linker_section.proofs.Claims.{OneMore, HaveNone, apart_more, claimed_more, apart_pair, claimed_pair, apart_without, claimed_without, not_clear, ordered_overlapped, after_overlapped}
 use Rattle.linker_section.proofs.Rows.{one_info}
 use Rattle.linker_section.proofs.Stepping.{same_place}
 use Rattle.linker_section.proofs.Composing.{begun_has_value}
@@ -232,7 +232,7 @@ swept_overlapped architecture bytes section order count p index last field row i
             let offsets = ap (offset_at bytes) e in (
               index,
               seen.0,
-              behind_overlapped architecture bytes section i index row at.row field last
+              after_overlapped architecture bytes section i index row at.row field last
                   (elim (cases_eq i index) [
                     | inl same ↦ let s = ap (offset_at bytes) same in absurd (omega (arith, less, offsets, s))
                     | inr differ ↦ omega (arith, differ, above)

@@ -85,7 +85,7 @@ same_len architecture bytes before now k last row order same has after clear =
             | inr some ↦ elim (or_cases (eqb field.len 0) (is_clear_of field last) clear) [
               | inl is ↦ absurd (some (eqb-true field.len 0 is))
               | inr is ↦ elim (clear_cases field last after is) [
-                | inl far ↦ ap (field_len row) (order.behind o far)
+                | inl far ↦ ap (field_len row) (order.following o far)
                 | inr joins ↦ absurd (pair_continues_none row last.kind paired joins.continues_is)
               ]
             ]
@@ -162,7 +162,7 @@ claimed_after architecture bytes before now k last field row order after offset 
     ]
 
 -- the next field ends at or after the last
-pub record IsBehind (field last next : Field) : Type 0 where
+pub record IsAfter (field last next : Field) : Type 0 where
   pub end : last.offset + last.len ≤ next.offset + next.len
   pub own : field.offset + field.len ≤ next.offset + next.len ⊎ (field.len ≡ 0)
   pub is_one : (next ≡ last) ⊎ ((next ≡ field) × (0 < field.len))
@@ -170,14 +170,14 @@ pub record IsBehind (field last next : Field) : Type 0 where
 next_is : (architecture : Architecture) (bytes before : List ℕ) (k : ℕ) (last field : Field)
     (row : RelocationKindInfo) → last.offset ≤ field.offset
     → IsClearField architecture bytes before k row field last
-    → IsBehind field last (next_field field last)
+    → IsAfter field last (next_field field last)
 next_is architecture bytes before k last field row after clear =
     elim clear [
       | without len none ↦
-          subst (IsBehind field last) (sym (cond-true (eqb field.len 0) last field (eq-eqb field.len 0 len)))
+          subst (IsAfter field last) (sym (cond-true (eqb field.len 0) last field (eq-eqb field.len 0 len)))
           (record { end = omega arith; own = inr len; is_one = inl refl })
       | having some h is ↦
-          subst (IsBehind field last) (sym (cond-false (eqb field.len 0) last field (ne_eqb field.len 0 (λ e. omega (arith, e, some)))))
+          subst (IsAfter field last) (sym (cond-false (eqb field.len 0) last field (ne_eqb field.len 0 (λ e. omega (arith, e, some)))))
           (record {
             end = elim (clear_cases field last after is) [
               | inl far ↦ omega (arith, far)
@@ -215,21 +215,21 @@ pub unchanged : (o w : ℕ) (now after : List ℕ) → IsLocal o w now after →
 unchanged o w now after local none =
     sym (take-append-drop o after)
     ∙ (ap (λ x. x ++ drop o after) local.kept
-    ∙ (ap (λ x. take o now ++ x) (ap (λ n. drop n after) (sym (plus_none o w none)) ∙ (local.behind ∙ ap (λ n. drop n now) (plus_none o w none)))
+    ∙ (ap (λ x. take o now ++ x) (ap (λ n. drop n after) (sym (plus_none o w none)) ∙ (local.following ∙ ap (λ n. drop n now) (plus_none o w none)))
     ∙ take-append-drop o now))
 
 split : (o w offset : ℕ) → o + w ≤ offset → offset ≡ o + w + (offset - (o + w))
-split o w offset behind = omega (arith, behind)
+split o w offset following = omega (arith, following)
 
-pub drop_behind : (o w offset : ℕ) (now after : List ℕ) → IsLocal o w now after
+pub drop_after : (o w offset : ℕ) (now after : List ℕ) → IsLocal o w now after
     → o + w ≤ offset ⊎ (w ≡ 0) → drop offset after ≡ drop offset now
-drop_behind o w offset now after local window =
+drop_after o w offset now after local window =
     elim window [
-      | inl behind ↦
-          ap (λ n. drop n after) (split o w offset behind)
+      | inl following ↦
+          ap (λ n. drop n after) (split o w offset following)
           ∙ (sym (drop-drop (offset - (o + w)) (o + w) after)
-          ∙ (ap (drop (offset - (o + w))) local.behind
-          ∙ (drop-drop (offset - (o + w)) (o + w) now ∙ ap (λ n. drop n now) (sym (split o w offset behind)))))
+          ∙ (ap (drop (offset - (o + w))) local.following
+          ∙ (drop-drop (offset - (o + w)) (o + w) now ∙ ap (λ n. drop n now) (sym (split o w offset following)))))
       | inr none ↦ ap (drop offset) (unchanged o w now after local none)
     ]
 
@@ -250,7 +250,7 @@ ascends_one architecture bytes before now after k last row v order below same is
     let alone = written_alone row v o now after written in
     let local = one_local row v o now after written in
     let len : field.len ≡ window_len row = len_alone row (drop o now) has alone in
-    let behind = next_is architecture bytes before k last field row below is in
+    let following = next_is architecture bytes before k last field row below is in
     let inside = local.inside in
     record {
       apart = apart_after architecture bytes before now k last field row order below refl is;
@@ -259,18 +259,18 @@ ascends_one architecture bytes before now after k last row v order below same is
           let at : i ≡ k = omega (arith, here) in
           let one : row ≡ other = one_info architecture _ row other is_row (subst (λ x. IsRow architecture (relocation_in bytes x).code (Some other)) at is_other) in
           subst (λ x. begins_pair x.size x.kind ≡ false) one (or_parts (begins_pair row.size row.kind) (ends_pair row.size row.kind) alone).0;
-      inside = λ some. elim behind.is_one [
+      inside = λ some. elim following.is_one [
         | inl is_last ↦ let a = order.inside (let l = ap (λ f. f.len) is_last in omega (arith, some, l)) in
             let e = ap (λ f. f.offset) is_last in let l = ap (λ f. f.len) is_last in omega (arith, a, e, l)
         | inr is_field ↦ let e = ap (λ f. f.offset) (is_field.0) in let l = ap (λ f. f.len) (is_field.0) in omega (arith, inside, len, e, l, same)
       ];
-      behind = λ offset from.
-          let end = behind.end in
-          let window : o + window_len row ≤ offset ⊎ (window_len row ≡ 0) = elim behind.own [
+      following = λ offset from.
+          let end = following.end in
+          let window : o + window_len row ≤ offset ⊎ (window_len row ≡ 0) = elim following.own [
             | inl own ↦ inl (omega (arith, own, from, len))
             | inr none ↦ inr (sym len ∙ none)
           ] in
-          drop_behind o (window_len row) offset now after local window ∙ order.behind offset (omega (arith, end, from));
+          drop_after o (window_len row) offset now after local window ∙ order.following offset (omega (arith, end, from));
     }
 
 -- ---- a relocation without a value
@@ -300,7 +300,7 @@ ascends_mark architecture addresses bytes before now symbols k last order value 
           unvalued_begins_none row.size row.kind
           (no_value architecture addresses bytes symbols (relocation_in bytes k) row value (subst (λ x. IsRow architecture (relocation_in bytes x).code (Some row)) at is_row));
       inside = order.inside;
-      behind = order.behind;
+      following = order.following;
     }
 
 -- ---- in either order
@@ -316,7 +316,7 @@ first_order None architecture bytes before =
       };
       no_pair = λ i row here. absurd (omega (arith, here));
       inside = λ some. absurd (omega (arith, some));
-      behind = λ offset from. refl;
+      following = λ offset from. refl;
     }
 first_order (Some limit) architecture bytes before = omega arith
 
@@ -471,7 +471,7 @@ one_restores architecture bytes memory before now after k word row v room is_row
     let small = small_row row v (drop o now) written.rest written.written in
     restores_local architecture bytes memory k word now after before row room is_row
     (or_parts (begins_pair row.size row.kind) (ends_pair row.size row.kind) (written_alone row v o now after written)).1
-    local.kept (drop_behind o (window_len row) (o + 8) now after local (inl (omega (arith, small)))) local.same_length saved restores
+    local.kept (drop_after o (window_len row) (o + 8) now after local (inl (omega (arith, small)))) local.same_length saved restores
 
 -- what is kept of relocations below an index stays
 pub stop : (architecture : Architecture) (addresses : Addresses) (bytes before now memory other : List ℕ)
@@ -553,8 +553,8 @@ ascends_pair architecture addresses bytes before now after symbols k last row or
                 let one : pair.other ≡ other = one_info architecture _ pair.other other pair.is_other (subst (λ x. IsRow architecture (relocation_in bytes x).code (Some other)) at is_other) in
                 subst (λ x. begins_pair x.size x.kind ≡ false) one (ended_begins_none pair.other.size pair.other.kind pair.ends);
             inside = λ some. omega (arith, inside, len, same);
-            behind = λ offset from. drop_behind o (uleb_len (take 10 (drop o now))) offset now after local (inl (omega (arith, from, len)))
-                ∙ order.behind offset (elim (clear_cases field last below clear) [
+            following = λ offset from. drop_after o (uleb_len (take 10 (drop o now))) offset now after local (inl (omega (arith, from, len)))
+                ∙ order.following offset (elim (clear_cases field last below clear) [
                   | inl far ↦ omega (arith, far, from)
                   | inr joins ↦ let j = joins.offset_is in let l = joins.len_is in omega (arith, j, l, from)
                 ]);
@@ -629,5 +629,5 @@ pair_restores architecture addresses bytes memory before now after symbols k wor
     let most = uleb_len_most 10 (drop o now) in
     restores_pair architecture bytes memory k word next now after before row pair.other room is_row
     (begun_ends_none row.size row.kind begins) pair.is_other pair.ends pair.same_offset small local.kept
-    (drop_behind o (uleb_len (take 10 (drop o now))) (o + 16) now after local (inl (omega (arith, most))))
+    (drop_after o (uleb_len (take 10 (drop o now))) (o + 16) now after local (inl (omega (arith, most))))
     local.same_length saved (subst (λ p. IsSavedAt p now next) small saved_next) restores

@@ -90,7 +90,7 @@ fn write_quickly(
 /// that of the relocation before.
 fn last_field(architecture: Architecture, relocations: &[u8], index: usize, step: &Step) -> Field
     requires within { index < length relocations.now / 24 }
-    requires behind { step.now.index ≤ index }
+    requires following { step.now.index ≤ index }
     ensures { (field : Field) → IsLastOf architecture relocations.now index step.now field
         → result ≡ field }
 {
@@ -123,7 +123,7 @@ fn write_slowly(
 ) -> Result<Option<Step>, SectionError>
     requires within { index < length relocations.now / 24 }
     requires room { length relocations.now / 24 ≤ length memory.old }
-    requires behind { step.now.index ≤ index }
+    requires following { step.now.index ≤ index }
     ensures len { length memory.new ≡ length memory.old }
     ensures step { (before : List ℕ) (end : ℕ)
         → AreWrittenBelow architecture addresses.now relocations.now symbols.now before section.old
@@ -175,7 +175,7 @@ fn write_ascending(
     let mut high = None;
     let mut index = 0;
     let mut rest = relocations;
-    while let Some((entry, behind)) = rest.split_first_chunk::<RELA_LEN>() {
+    while let Some((entry, following)) = rest.split_first_chunk::<RELA_LEN>() {
         let relocation = relocation_of(entry);
         if let Some((own_end, part)) = write_quickly(
             architecture,
@@ -192,7 +192,7 @@ fn write_ascending(
             end = own_end;
             high = part;
             index += 1;
-            rest = behind;
+            rest = following;
             continue;
         }
         match write_slowly(

@@ -169,7 +169,7 @@ pub fn first_from(relocations: &[u8], at: u64) -> usize
     ensures within { result ≤ length relocations.now / 24 }
     ensures before { IsAscending relocations.now
         → (k : ℕ) → k < result → offset_at relocations.now k < at }
-    ensures behind { IsAscending relocations.now
+    ensures following { IsAscending relocations.now
         → (k : ℕ) → result ≤ k → k < length relocations.now / 24
         → at ≤ offset_at relocations.now k }
 {

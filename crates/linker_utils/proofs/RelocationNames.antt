@@ -16,17 +16,17 @@ use Rattle.linker_elf.specs.declared.ppc64.relocations.Ppc64Relocation.TheVarian
 use Rattle.linker_elf.specs.X86Relocations.{x86_64_name}
 use Rattle.linker_elf.specs.declared.x86_64.relocations.X86_64Relocation.{X86_64Relocation}
 use Rattle.linker_elf.specs.declared.x86_64.relocations.X86_64Relocation.TheVariants as x86_64_names
-use Rattle.linker_utils.specs.Architectures.{IsOf}
+use Rattle.linker_utils.specs.Architectures.{IsNamedValue}
 
 named_is : (elf : ElfName) (r_type : ℕ) (text : List ℕ) → IsNamed elf → code_of elf ≡ r_type → text ≡ text_of elf → named r_type text ≡ elf
 named_is (named r t) r_type text is code_is text_is = ap (λ k. named k text) (sym code_is) ∙ ap (λ k. named r k) text_is
 named_is (unnamed r) r_type text is code_is text_is = absurd is
 
-pub of_named : {Name : Type 0} (elf : Name → ElfName) (r_type : ℕ) (name : Name) (text : List ℕ) → IsNameOf elf r_type name → IsNamed (elf name) → text ≡ text_of (elf name) → IsOf elf elf r_type (named r_type text)
+pub of_named : {Name : Type 0} (elf : Name → ElfName) (r_type : ℕ) (name : Name) (text : List ℕ) → IsNameOf elf r_type name → IsNamed (elf name) → text ≡ text_of (elf name) → IsNamedValue elf elf r_type (named r_type text)
 of_named elf r_type name text is_name is_named text_is =
     record { name = name; is_name = is_name; value_is = named_is (elf name) r_type text is_named is_name.code_is text_is }
 
-pub of_unnamed : {Name : Type 0} (elf : Name → ElfName) (r_type : ℕ) (name : Name) (code : ℕ) → IsNameOf elf r_type name → elf name ≡ unnamed code → IsOf elf elf r_type (unnamed r_type)
+pub of_unnamed : {Name : Type 0} (elf : Name → ElfName) (r_type : ℕ) (name : Name) (code : ℕ) → IsNameOf elf r_type name → elf name ≡ unnamed code → IsNamedValue elf elf r_type (unnamed r_type)
 of_unnamed elf r_type name code is_name is =
     record { name = name; is_name = is_name; value_is = ap unnamed (sym is_name.code_is ∙ ap code_of is) ∙ sym is }
 

@@ -58,7 +58,7 @@ use Rattle.linker_base.specs.declared.rewrite.DeletedBytes.{DeletedBytes}
 -- ---- relocations, by their codes
 
 -- a value, as the row or the code and text, of the name that a code has among names
-pub record IsOf {Name A : Type 0} (elf : Name → ElfName) (value_of : Name → A) (code : ℕ)
+pub record IsNamedValue {Name A : Type 0} (elf : Name → ElfName) (value_of : Name → A) (code : ℕ)
     (value : A) : Type 0 where
   pub name : Name
   pub is_name : IsNameOf elf code name
@@ -66,31 +66,31 @@ pub record IsOf {Name A : Type 0} (elf : Name → ElfName) (value_of : Name → 
 
 -- what the relocation with a code means
 abbrev pub IsRow : Architecture → ℕ → Option RelocationKindInfo → Type 0
-IsRow AArch64 = IsOf aarch64_name aarch64_row
-IsRow RiscV = IsOf riscv_name (λ name. (riscv_relocation name).row)
-IsRow LoongArch64 = IsOf loongarch_name loongarch_row
-IsRow Ppc64 = IsOf ppc64_name ppc64_row
-IsRow X86_64 = IsOf x86_64_name x86_64_row
+IsRow AArch64 = IsNamedValue aarch64_name aarch64_row
+IsRow RiscV = IsNamedValue riscv_name (λ name. (riscv_relocation name).row)
+IsRow LoongArch64 = IsNamedValue loongarch_name loongarch_row
+IsRow Ppc64 = IsNamedValue ppc64_name ppc64_row
+IsRow X86_64 = IsNamedValue x86_64_name x86_64_row
 
 -- how ELF names it
 abbrev pub IsElfName : Architecture → ℕ → ElfName → Type 0
-IsElfName AArch64 = IsOf aarch64_name aarch64_name
-IsElfName RiscV = IsOf riscv_name riscv_name
-IsElfName LoongArch64 = IsOf loongarch_name loongarch_name
-IsElfName Ppc64 = IsOf ppc64_name ppc64_name
-IsElfName X86_64 = IsOf x86_64_name x86_64_name
+IsElfName AArch64 = IsNamedValue aarch64_name aarch64_name
+IsElfName RiscV = IsNamedValue riscv_name riscv_name
+IsElfName LoongArch64 = IsNamedValue loongarch_name loongarch_name
+IsElfName Ppc64 = IsNamedValue ppc64_name ppc64_name
+IsElfName X86_64 = IsNamedValue x86_64_name x86_64_name
 
 -- what it does with a ULEB128 number
 abbrev pub IsRole : Architecture → ℕ → Option Uleb128Role → Type 0
-IsRole RiscV = IsOf riscv_name riscv_uleb128_role
-IsRole LoongArch64 = IsOf loongarch_name loongarch_uleb128_role
+IsRole RiscV = IsNamedValue riscv_name riscv_uleb128_role
+IsRole LoongArch64 = IsNamedValue loongarch_name loongarch_uleb128_role
 IsRole architecture = λ code role. role ≡ None
 
 -- whether it may be skipped after a rewrite
 abbrev pub IsSkippable : Architecture → ℕ → Bool → Type 0
-IsSkippable RiscV = IsOf riscv_name riscv_may_be_skipped
-IsSkippable Ppc64 = IsOf ppc64_name ppc64_may_be_skipped
-IsSkippable X86_64 = IsOf x86_64_name x86_64_may_be_skipped
+IsSkippable RiscV = IsNamedValue riscv_name riscv_may_be_skipped
+IsSkippable Ppc64 = IsNamedValue ppc64_name ppc64_may_be_skipped
+IsSkippable X86_64 = IsNamedValue x86_64_name x86_64_may_be_skipped
 IsSkippable architecture = λ code answer. answer ≡ false
 
 -- ---- forms and rewrites, by their numbers

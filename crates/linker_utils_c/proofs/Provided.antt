@@ -1,13 +1,13 @@
 -- What linkers provide, at an index.
 use Rattle.std.proofs.Common.{◌≡◌, ℕ, zero, suc, List, [], ◌∷◌, slice_get, refl, option_map}
 use Rattle.linker_output.specs.View.{Symbol, view_run, view_runs, view_symbols}
-use Rattle.linker_output.specs.declared.layout.ProvidedRun.{ProvidedRun}
+use Rattle.linker_output.specs.declared.layout.SaveRestoreRoutines.{SaveRestoreRoutines}
 use Rattle.linker_output.specs.declared.layout.ProvidedSymbol.{ProvidedSymbol}
 
 abbrev pub view_symbol : ProvidedSymbol → Symbol
 view_symbol s = record { name = s.name.now; place = s.place; offset = s.offset }
 
-pub runs_at : (rs : List ProvidedRun) (n : ℕ) → slice_get (view_runs rs) n ≡ option_map view_run (slice_get rs n)
+pub runs_at : (rs : List SaveRestoreRoutines) (n : ℕ) → slice_get (view_runs rs) n ≡ option_map view_run (slice_get rs n)
 runs_at [] n = refl
 runs_at (r ∷ rs) zero = refl
 runs_at (r ∷ rs) (suc n) = runs_at rs n

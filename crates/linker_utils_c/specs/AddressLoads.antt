@@ -2,9 +2,9 @@
 use Rattle.std.specs.Prelude.{◌≡◌, ◌⊎◌, ℕ, ◌/◌, Bool, List, length, take, drop, All}
 use Rattle.linker_rewriting.specs.Agreement.{Agree}
 use Rattle.linker_rewriting.specs.Decisions.{AreApart, AreClear}
-use Rattle.linker_rewriting.specs.Facts.{Setting}
+use Rattle.linker_rewriting.specs.Facts.{RelaxContext}
 use Rattle.linker_rewriting.specs.Rewritten.{AreRelocationsAfter, AreDone, OthersStay}
-use Rattle.linker_rewriting.specs.Words.{AreLoadsDecided, AreLoadsRejectedFirst, WordsAreWhole}
+use Rattle.linker_rewriting.specs.TocIndirection.{AreLoadsDecided, AreLoadsRejectedFirst, WordsAreWhole}
 use Rattle.linker_rewriting.specs.declared.decisions.Decision.{Decision}
 use Rattle.linker_utils_c.specs.Rewriting.{decisions_in, IsWrittenDecision, IsErrorReturned}
 use Rattle.linker_utils_c.specs.Status.{code}
@@ -12,7 +12,7 @@ use Rattle.linker_utils_c.specs.declared.rewriting.DecisionNumbers.{DecisionNumb
 use Rattle.linker_utils_c.specs.declared.status.Status.TheVariants.{Success}
 
 -- they are rewritten as decided, all of a word or none
-pub record AreLoadsRewrittenAs (s : Setting) (start : ℕ) (words : List ℕ) (kept : List Bool)
+pub record AreLoadsRewrittenAs (s : RelaxContext) (start : ℕ) (words : List ℕ) (kept : List Bool)
     (bytes bytes_after section section_after : List ℕ) (decisions : List Decision) : Type 0 where
   pub decided : AreLoadsDecided s start words kept bytes section decisions (length bytes / 24)
   pub whole : WordsAreWhole s start words bytes decisions (length bytes / 24)
@@ -22,7 +22,7 @@ pub record AreLoadsRewrittenAs (s : Setting) (start : ℕ) (words : List ℕ) (k
   pub done : AreDone bytes decisions section section_after (length bytes / 24)
   pub others : OthersStay bytes decisions section section_after (length bytes / 24)
 
-abbrev pub AreLoadsReturned : Setting → ℕ → List ℕ → List Bool → List ℕ → List ℕ → List ℕ → List ℕ
+abbrev pub AreLoadsReturned : RelaxContext → ℕ → List ℕ → List Bool → List ℕ → List ℕ → List ℕ → List ℕ
     → List DecisionNumbers → List DecisionNumbers → ℕ → ℕ → ℕ → Type 0
 AreLoadsReturned s start words kept bytes bytes_after section section_after old new
     old_faulty faulty status =

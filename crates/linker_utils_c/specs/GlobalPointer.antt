@@ -2,7 +2,7 @@
 use Rattle.std.specs.Prelude.{◌≡◌, ◌⊎◌, ℕ, ◌<◌, ◌/◌, List, Bool, true, length, take, drop, All}
 use Rattle.linker_rewriting.specs.Agreement.{Agree}
 use Rattle.linker_rewriting.specs.Decisions.{AreClear, IsRejectedFirst}
-use Rattle.linker_rewriting.specs.Facts.{Setting}
+use Rattle.linker_rewriting.specs.Facts.{RelaxContext}
 use Rattle.linker_rewriting.specs.GlobalPointer.{ArePartsDecided, ArePartsWhole, AreRelocationsBy}
 use Rattle.linker_rewriting.specs.GlobalPointer.{ArePartsRejected, AreBased, section_based}
 use Rattle.linker_rewriting.specs.GlobalPointer.{is_placed, IsFirstUnplaced}
@@ -18,14 +18,14 @@ use Rattle.linker_utils_c.specs.declared.rewriting.DecisionNumbers.{DecisionNumb
 use Rattle.linker_utils_c.specs.declared.status.Status.TheVariants.{Success, OutOfReach}
 
 -- all parts of a symbol are rewritten as decided, or none is
-pub record ArePartsRewrittenAs (s : Setting) (gp : ℕ) (kept : List Bool)
+pub record ArePartsRewrittenAs (s : RelaxContext) (gp : ℕ) (kept : List Bool)
     (bytes bytes_after section : List ℕ) (decisions : List Decision) : Type 0 where
   pub decided : ArePartsDecided s gp kept bytes section decisions (length bytes / 24)
   pub whole : ArePartsWhole s bytes decisions (length bytes / 24)
   pub clear : AreClear s.architecture bytes section decisions (length bytes / 24)
   pub relocations : AreRelocationsBy decisions bytes bytes_after (length bytes / 24)
 
-abbrev pub ArePartsReturned : Setting → ℕ → List Bool → List ℕ → List ℕ → List ℕ
+abbrev pub ArePartsReturned : RelaxContext → ℕ → List Bool → List ℕ → List ℕ → List ℕ
     → List DecisionNumbers → List DecisionNumbers → List Deletion → List Deletion → ℕ → ℕ → ℕ → ℕ
     → ℕ → Type 0
 ArePartsReturned s gp kept bytes bytes_after section old new deleted deleted_after old_len len

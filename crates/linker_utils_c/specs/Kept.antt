@@ -5,7 +5,7 @@ use Rattle.linker_rewriting.specs.Agreement.{Agree, IsContradiction}
 use Rattle.linker_rewriting.specs.Kept.{AreAsKept, IsFirstChanged, HaveStubs, IsFirstWithoutStub}
 use Rattle.linker_rewriting.specs.declared.facts.OutputFacts.{OutputFacts}
 use Rattle.linker_rewriting.specs.declared.facts.SymbolFacts.{SymbolFacts}
-use Rattle.linker_rewriting.specs.declared.kept.KeptFacts.{KeptFacts}
+use Rattle.linker_rewriting.specs.declared.kept.FactsSnapshot.{FactsSnapshot}
 use Rattle.linker_rewriting.specs.declared.kept.WritingError.{WritingError}
 use Rattle.linker_rewriting.specs.declared.kept.WritingError.TheVariants.{Contradiction, Changed}
 use Rattle.linker_rewriting.specs.declared.kept.WritingError.TheVariants.{NeedsStub, Section}
@@ -21,7 +21,7 @@ use Rattle.linker_utils_c.specs.declared.status.Status.TheVariants as statuses
 -- The tables agree, all facts are as kept, no call lacks its stub, and all values are written or
 -- none is; or the index is that of the first symbol or relocation of which one of these isn't so, and
 -- none is.
-abbrev pub IsRewrittenOutcome : Architecture → OutputFacts → List SymbolFacts → List KeptFacts
+abbrev pub IsRewrittenOutcome : Architecture → OutputFacts → List SymbolFacts → List FactsSnapshot
     → Addresses → List ℕ → List Symbol → List ℕ → List ℕ → ℕ → ℕ → ℕ → Result Unit WritingError
     → Type 0
 IsRewrittenOutcome architecture output facts kept addresses bytes symbols before after old_faulty
@@ -51,7 +51,7 @@ IsRewrittenOutcome architecture output facts kept addresses bytes symbols before
     (Err error)
 
 pub record IsRewrittenReturned (architecture : Architecture) (output : OutputFacts)
-    (facts : List SymbolFacts) (kept : List KeptFacts) (addresses : Addresses) (bytes : List ℕ)
+    (facts : List SymbolFacts) (kept : List FactsSnapshot) (addresses : Addresses) (bytes : List ℕ)
     (symbols : List Symbol) (before after memory : List ℕ) (old_faulty faulty status : ℕ) : Type 0
   where
     pub short : length memory < room_of bytes → (status ≡ code ShortMemory) × (after ≡ before)

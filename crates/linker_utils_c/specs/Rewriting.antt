@@ -6,19 +6,19 @@ use Rattle.linker_elf.specs.declared.elf.choice.Choice.{Choice}
 use Rattle.linker_rewriting.specs.Agreement.{Agree}
 use Rattle.linker_rewriting.specs.Decisions.{AreDecidedIn, AreApart, AreClear, AllCanBeMade}
 use Rattle.linker_rewriting.specs.Decisions.{IsRejectedIn, IsRejectedPlaced, deletions_by}
-use Rattle.linker_rewriting.specs.Facts.{Setting}
+use Rattle.linker_rewriting.specs.Facts.{RelaxContext}
 use Rattle.linker_rewriting.specs.Rewritten.{AreRelocationsAfter, AreDone, OthersStay}
 use Rattle.linker_rewriting.specs.Rewritten.{GroupsAreWholeIn}
 use Rattle.linker_rewriting.specs.declared.decisions.Decision.{Decision}
 use Rattle.linker_rewriting.specs.declared.decisions.Decision.TheVariants.{Kept, Rewritten}
-use Rattle.linker_rewriting.specs.declared.decisions.Decision.TheVariants.{TakenAlong, Redirected}
+use Rattle.linker_rewriting.specs.declared.decisions.Decision.TheVariants.{Consumed, RewrittenWithSymbol}
 use Rattle.linker_rewriting.specs.declared.decisions.Subject.{Subject}
 use Rattle.linker_rewriting.specs.declared.decisions.RewritingError.{RewritingError}
 use Rattle.linker_rewriting.specs.declared.decisions.RewritingError.TheVariants as errors
-use Rattle.linker_rewriting.specs.declared.groups.KeptGroups.{KeptGroups}
+use Rattle.linker_rewriting.specs.declared.groups.UnrelaxableGroups.{UnrelaxableGroups}
 use Rattle.linker_rewriting.specs.declared.phases.Phase.{Phase}
-use Rattle.linker_rewriting.specs.declared.phases.Phase.TheVariants.{Early, ThreadOffsets}
-use Rattle.linker_rewriting.specs.declared.phases.Phase.TheVariants.{GotLoads, Distances}
+use Rattle.linker_rewriting.specs.declared.phases.Phase.TheVariants.{PreLayout, TlsLocalExec}
+use Rattle.linker_rewriting.specs.declared.phases.Phase.TheVariants.{GotToPcRel, ShortPcRel}
 use Rattle.linker_utils.specs.Architectures.{rewrite_of_number}
 use Rattle.linker_utils.specs.Machines.{architecture_of}
 use Rattle.linker_utils.specs.declared.architecture.Relaxation.{Relaxation}
@@ -35,27 +35,21 @@ use Rattle.linker_utils_c.specs.declared.status.Status.TheVariants.{FactsContrad
 -- ---- phases
 
 abbrev pub phase_number : Phase → ℕ
-phase_number Early = 0
-phase_number ThreadOffsets = 1
-phase_number GotLoads = 2
-phase_number Distances = 3
+phase_number PreLayout = 0
+phase_number TlsLocalExec = 1
+phase_number GotToPcRel = 2
+phase_number ShortPcRel = 3
 
 -- that with a number
 abbrev pub phase_of : ℕ → Option Phase
 phase_of number =
-    if number == phase_number Early then Some Early
-    else (if number == phase_number ThreadOffsets then Some ThreadOffsets
-    else (if number == phase_number GotLoads then Some GotLoads
-    else (if number == phase_number Distances then Some Distances
+    if number == phase_number PreLayout then Some PreLayout
+    else (if number == phase_number TlsLocalExec then Some TlsLocalExec
+    else (if number == phase_number GotToPcRel then Some GotToPcRel
+    else (if number == phase_number ShortPcRel then Some ShortPcRel
     else None)))
 
 -- ---- decisions
-
-abbrev pub fate_number : Decision → ℕ
-fate_number Kept = 0
-fate_number (Rewritten chosen) = 1
-fate_number TakenAlong = 2
-fate_number (Redirected chosen subject) = 3
 
 -- one that rewrites nothing
 abbrev pub of_fate : ℕ → DecisionNumbers
@@ -88,12 +82,12 @@ subject_in numbers = record { symbol = numbers.symbol; addend = numbers.addend }
 abbrev pub rewritten_by : ℕ → Subject → Option (Choice Relaxation ℕ) → Decision
 rewritten_by fate subject None = Kept
 rewritten_by fate subject (Some chosen) =
-    if fate == 1 then Rewritten chosen else Redirected chosen subject
+    if fate == 1 then Rewritten chosen else RewrittenWithSymbol chosen subject
 
 abbrev pub decision_by : ℕ → Subject → Option (Choice Relaxation ℕ) → Decision
 decision_by fate subject choice =
     if fate == 0 then Kept
-    else (if fate == 2 then TakenAlong else rewritten_by fate subject choice)
+    else (if fate == 2 then Consumed else rewritten_by fate subject choice)
 
 -- the decision that C's struct is
 abbrev pub decision_in : DecisionNumbers → Decision
@@ -106,9 +100,9 @@ decisions_in decisions = map decision_in decisions
 abbrev pub IsWrittenAs : Decision → DecisionNumbers → Type 0
 IsWrittenAs (Rewritten chosen) numbers =
     (numbers.fate ≡ 1) × (subject_in numbers ≡ record { symbol = 0; addend = pos 0 })
-IsWrittenAs (Redirected chosen subject) numbers = numbers.fate ≡ 3
+IsWrittenAs (RewrittenWithSymbol chosen subject) numbers = numbers.fate ≡ 3
 IsWrittenAs Kept numbers = numbers ≡ of_fate 0
-IsWrittenAs TakenAlong numbers = numbers ≡ of_fate 2
+IsWrittenAs Consumed numbers = numbers ≡ of_fate 2
 
 abbrev pub IsWrittenDecision : DecisionNumbers → Type 0
 IsWrittenDecision numbers = IsWrittenAs (decision_in numbers) numbers
@@ -122,7 +116,7 @@ IsSurveyReturned Surveyed Contradicts Unchanged status =
     ⊎ ((status ≡ code FactsContradict) × Contradicts × Unchanged)
 
 -- it is rewritten as decided, all of a group or none
-pub record IsRewrittenAs (s : Setting) (kept : List KeptGroups) (bytes bytes_after : List ℕ)
+pub record IsRewrittenAs (s : RelaxContext) (kept : List UnrelaxableGroups) (bytes bytes_after : List ℕ)
     (section section_after : List ℕ) (decisions : List Decision) : Type 0 where
   pub decided : AreDecidedIn s kept bytes section decisions (length bytes / 24)
   pub groups : GroupsAreWholeIn s.architecture s.phase bytes decisions (length bytes / 24)
@@ -156,7 +150,7 @@ pub record IsErrorReturned (IsError : RewritingError → Type 0) (bytes bytes_af
   pub section_stays : section_after ≡ section
 
 -- before addresses are known
-abbrev pub IsRewriteReturned : Setting → List KeptGroups → List ℕ → List ℕ → List ℕ → List ℕ
+abbrev pub IsRewriteReturned : RelaxContext → List UnrelaxableGroups → List ℕ → List ℕ → List ℕ → List ℕ
     → List DecisionNumbers → List DecisionNumbers → ℕ → ℕ → ℕ → Type 0
 IsRewriteReturned s kept bytes bytes_after section section_after old new old_faulty faulty status =
     (drop (length bytes / 24) new ≡ drop (length bytes / 24) old)
@@ -174,7 +168,7 @@ pub record AreDeletionsTo (bytes section : List ℕ) (decisions : List Decision)
   pub others_stay : drop len new ≡ drop len old
 
 -- once they are
-abbrev pub IsPlacedReturned : Setting → List KeptGroups → List ℕ → List ℕ → List ℕ → List ℕ
+abbrev pub IsPlacedReturned : RelaxContext → List UnrelaxableGroups → List ℕ → List ℕ → List ℕ → List ℕ
     → List DecisionNumbers → List DecisionNumbers → List Deletion → List Deletion → ℕ → ℕ → ℕ → ℕ
     → ℕ → Type 0
 IsPlacedReturned s kept bytes bytes_after section section_after old new deleted deleted_after

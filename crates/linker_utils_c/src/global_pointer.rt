@@ -2,7 +2,7 @@
 
 ghost use Rattle.std.specs.Prelude.{◌≡◌, ◌/◌, ℕ, length, IfSome, IfNone};
 ghost use Rattle.linker_rewriting.specs.Agreement.{Agree, IsContradiction};
-ghost use Rattle.linker_rewriting.specs.Facts.{setting};
+ghost use Rattle.linker_rewriting.specs.Facts.{context};
 ghost use Rattle.linker_rewriting.specs.GlobalPointer.{AreSymbolsSurveyed};
 ghost use Rattle.linker_utils.specs.Machines.{architecture_of};
 ghost use Rattle.linker_utils_c.specs.GlobalPointer.{ArePartsReturned, AreBasesReturned};
@@ -14,7 +14,7 @@ use crate::rewriting::{DecisionNumbers, put_error, survey_status};
 use crate::status::Status;
 use linker_rewriting::facts::{OutputFacts, SymbolFacts};
 use linker_rewriting::global_pointer::{
-    from_global_pointer, rewrite_global_pointer, survey_global_pointer,
+    finish_gp_relaxation, rewrite_global_pointer, survey_global_pointer,
 };
 use linker_rewriting::phases::Phase;
 use linker_section::facts::{Addresses, Symbol};
@@ -35,7 +35,7 @@ pub extern "C" fn linker_utils_survey_global_pointer_nonnull(
     kept: &mut [bool],
 ) -> u32
     ensures known { IfSome (architecture_of machine) (λ architecture.
-        IsSurveyReturned (AreSymbolsSurveyed (setting architecture Phase.Distances output.now
+        IsSurveyReturned (AreSymbolsSurveyed (context architecture Phase.ShortPcRel output.now
         symbols.now addresses.now values.now) global_pointer relocations.now section.now kept.old
         kept.new (length relocations.now / 24) × Agree symbols.now values.now relocations.now)
         ((symbol : ℕ) × IsContradiction symbols.now values.now relocations.now symbol)
@@ -85,7 +85,7 @@ pub extern "C" fn linker_utils_rewrite_global_pointer_nonnull(
     faulty: &mut usize,
 ) -> u32
     ensures known { IfSome (architecture_of machine) (λ architecture.
-        ArePartsReturned (setting architecture Phase.Distances output.now symbols.now addresses.now
+        ArePartsReturned (context architecture Phase.ShortPcRel output.now symbols.now addresses.now
         values.now) global_pointer kept.now relocations.old relocations.new section.now
         decisions.old decisions.new deleted.old deleted.new deleted_used.old deleted_used.new
         faulty.old faulty.new result) }
@@ -118,14 +118,14 @@ pub extern "C" fn linker_utils_rewrite_global_pointer_nonnull(
     }
 }
 
-/// Writes the base of each low part of a section that has none, as `from_global_pointer` of
+/// Writes the base of each low part of a section that has none, as `finish_gp_relaxation` of
 /// `linker_rewriting`.
 ///
 /// `OutOfReach`, where no base reaches what the relocation at `faulty` refers to, its symbol isn't
 /// in the table, or its instruction isn't in the section. Then the section and its relocations are
 /// unchanged.
 #[unsafe(no_mangle)]
-pub extern "C" fn linker_utils_from_global_pointer_nonnull(
+pub extern "C" fn linker_utils_finish_gp_relaxation_nonnull(
     addresses: &Addresses,
     values: &[Symbol],
     global_pointer: u64,
@@ -136,7 +136,7 @@ pub extern "C" fn linker_utils_from_global_pointer_nonnull(
     ensures { AreBasesReturned addresses.now values.now global_pointer relocations.old
         relocations.new section.old section.new faulty.old faulty.new result }
 {
-    match from_global_pointer(addresses, values, global_pointer, relocations, section) {
+    match finish_gp_relaxation(addresses, values, global_pointer, relocations, section) {
         Ok(()) => Status::Success.number(),
         Err(index) => {
             *faulty = index;

@@ -9,18 +9,20 @@ ghost use Rattle.linker_utils_c.specs.Status.{code};
 use crate::sections::status_of_error;
 use crate::status::Status;
 use linker_rewriting::facts::{OutputFacts, SymbolFacts};
-use linker_rewriting::kept::{KeptFacts, WritingError, keep_facts, relocate_rewritten_section};
+use linker_rewriting::kept::{
+    FactsSnapshot, WritingError, relocate_rewritten_section, snapshot_facts,
+};
 use linker_section::facts::{Addresses, Symbol};
 use linker_section::sections::memory_len;
 use linker_utils::elf::Architecture;
 
-/// Keeps what choices of rewrites read of an object's symbols and of the output, as `keep_facts` of
+/// Keeps what choices of rewrites read of an object's symbols and of the output, as `snapshot_facts` of
 /// `linker_rewriting`. The error is `DifferentLengths`.
 #[unsafe(no_mangle)]
-pub extern "C" fn linker_utils_keep_facts_nonnull(
+pub extern "C" fn linker_utils_snapshot_facts_nonnull(
     output: &OutputFacts,
     symbols: &[SymbolFacts],
-    kept: &mut [KeptFacts],
+    kept: &mut [FactsSnapshot],
 ) -> u32
     ensures kept { length kept.old ≡ length symbols.now
         → (result ≡ code Status.Success) × AreKept output.now symbols.now kept.new }
@@ -30,7 +32,7 @@ pub extern "C" fn linker_utils_keep_facts_nonnull(
     if kept.len() != symbols.len() {
         return Status::DifferentLengths.number();
     }
-    keep_facts(output, symbols, kept);
+    snapshot_facts(output, symbols, kept);
     Status::Success.number()
 }
 
@@ -45,7 +47,7 @@ pub extern "C" fn linker_utils_relocate_rewritten_section_nonnull(
     machine: u16,
     output: &OutputFacts,
     facts: &[SymbolFacts],
-    kept: &[KeptFacts],
+    kept: &[FactsSnapshot],
     addresses: &Addresses,
     relocations: &[u8],
     symbols: &[Symbol],

@@ -587,7 +587,7 @@ fn put_symbol(
 /// after it to the beginning of `prefix`, its length to `prefix_used`, and the numbers. The first
 /// that applies of `UnknownArchitecture`; `NotProvided`, of an index that is too large; `TooShort`.
 #[unsafe(no_mangle)]
-pub extern "C" fn linker_utils_get_provided_run_nonnull(
+pub extern "C" fn linker_utils_get_save_restore_routines_nonnull(
     machine: u16,
     index: usize,
     prefix: &mut [u8],

@@ -4,10 +4,10 @@ ghost use Rattle.std.specs.Prelude.{◌≡◌, ◌/◌, ℕ, length, IfSome, IfN
 ghost use Rattle.linker_output.specs.Addresses.{entry_code_of};
 ghost use Rattle.linker_output.specs.Targets.{target_of};
 ghost use Rattle.linker_rewriting.specs.Agreement.{Agree, IsContradiction};
-ghost use Rattle.linker_rewriting.specs.Facts.{early, setting};
+ghost use Rattle.linker_rewriting.specs.Facts.{pre_layout, context};
 ghost use Rattle.linker_rewriting.specs.Groups.{has_rewrites};
 ghost use Rattle.linker_rewriting.specs.Surveys.{IsSurveyed, IsSurveyedIn};
-ghost use Rattle.linker_rewriting.specs.Words.{AreLoadsSurveyed, entry_code};
+ghost use Rattle.linker_rewriting.specs.TocIndirection.{AreLoadsSurveyed, entry_code};
 ghost use Rattle.linker_utils.specs.Architectures.{relaxation_architecture};
 ghost use Rattle.linker_utils.specs.Machines.{architecture_of, machine_of};
 ghost use Rattle.linker_utils_c.specs.AddressLoads.{AreLoadsReturned};
@@ -21,11 +21,11 @@ use crate::deltas::Deletion;
 use crate::status::Status;
 use linker_rewriting::decisions::{AsDecision, Decision, FromDeletion, RewritingError, Subject};
 use linker_rewriting::facts::{OutputFacts, SymbolFacts};
-use linker_rewriting::groups::{KeptGroups, has_rewrites};
+use linker_rewriting::groups::{UnrelaxableGroups, has_rewrites};
 use linker_rewriting::phases::Phase;
 use linker_rewriting::sections::{rewrite_placed_section, rewrite_section};
 use linker_rewriting::surveys::{survey, survey_placed_section};
-use linker_rewriting::words::{rewrite_address_loads, survey_address_loads};
+use linker_rewriting::toc_indirection::{rewrite_toc_loads, survey_toc_loads};
 use linker_section::facts::{Addresses, Symbol};
 use linker_utils::architecture::Relaxation;
 use linker_utils::elf::{Architecture, Choice};
@@ -130,7 +130,7 @@ impl AsDecision for DecisionNumbers {
             return Decision::Kept;
         }
         if self.fate == 2 {
-            return Decision::TakenAlong;
+            return Decision::Consumed;
         }
         let Some(choice) = self.choice() else {
             return Decision::Kept;
@@ -138,7 +138,7 @@ impl AsDecision for DecisionNumbers {
         if self.fate == 1 {
             Decision::Rewritten(choice)
         } else {
-            Decision::Redirected(
+            Decision::RewrittenWithSymbol(
                 choice,
                 Subject {
                     symbol: self.symbol,
@@ -152,7 +152,7 @@ impl AsDecision for DecisionNumbers {
     fn from_decision(made: Decision) -> DecisionNumbers {
         match made {
             Decision::Kept => of_fate(0),
-            Decision::TakenAlong => of_fate(2),
+            Decision::Consumed => of_fate(2),
             Decision::Rewritten(choice) => of_choice(
                 1,
                 choice,
@@ -161,7 +161,7 @@ impl AsDecision for DecisionNumbers {
                     addend: 0,
                 },
             ),
-            Decision::Redirected(choice, subject) => of_choice(3, choice, subject),
+            Decision::RewrittenWithSymbol(choice, subject) => of_choice(3, choice, subject),
         }
     }
 }
@@ -179,10 +179,10 @@ fn phase_of(number: u32) -> Option<Phase>
     ensures { result ≡ phase_of number }
 {
     match number {
-        0 => Some(Phase::Early),
-        1 => Some(Phase::ThreadOffsets),
-        2 => Some(Phase::GotLoads),
-        3 => Some(Phase::Distances),
+        0 => Some(Phase::PreLayout),
+        1 => Some(Phase::TlsLocalExec),
+        2 => Some(Phase::GotToPcRel),
+        3 => Some(Phase::ShortPcRel),
         _ => None,
     }
 }
@@ -211,7 +211,7 @@ pub extern "C" fn linker_utils_survey_nonnull(
     symbols: &[SymbolFacts],
     relocations: &[u8],
     section: &[u8],
-    kept: &mut [KeptGroups],
+    kept: &mut [UnrelaxableGroups],
 ) -> u32
     ensures known { IfSome (architecture_of machine) (λ architecture. (result ≡ code Status.Success)
         × IsSurveyed architecture output.now symbols.now relocations.now section.now kept.old
@@ -239,10 +239,10 @@ pub extern "C" fn linker_utils_survey_placed_section_nonnull(
     values: &[Symbol],
     relocations: &[u8],
     section: &[u8],
-    kept: &mut [KeptGroups],
+    kept: &mut [UnrelaxableGroups],
 ) -> u32
     ensures known { IfSome (architecture_of machine) (λ architecture. IfSome (phase_of phase)
-        (λ when. IsSurveyReturned (IsSurveyedIn (setting architecture when output.now symbols.now
+        (λ when. IsSurveyReturned (IsSurveyedIn (context architecture when output.now symbols.now
         addresses.now values.now) relocations.now section.now kept.old kept.new
         (length relocations.now / 24) × Agree symbols.now values.now relocations.now)
         ((symbol : ℕ) × IsContradiction symbols.now values.now relocations.now symbol)
@@ -320,14 +320,14 @@ pub extern "C" fn linker_utils_rewrite_section_nonnull(
     machine: u16,
     output: &OutputFacts,
     symbols: &[SymbolFacts],
-    kept: &[KeptGroups],
+    kept: &[UnrelaxableGroups],
     relocations: &mut [u8],
     section: &mut [u8],
     decisions: &mut [DecisionNumbers],
     faulty: &mut usize,
 ) -> u32
     ensures known { IfSome (architecture_of machine) (λ architecture.
-        IsRewriteReturned (early architecture output.now symbols.now) kept.now relocations.old
+        IsRewriteReturned (pre_layout architecture output.now symbols.now) kept.now relocations.old
         relocations.new section.old section.new decisions.old decisions.new faulty.old faulty.new
         result) }
     ensures unknown { IfNone (architecture_of machine)
@@ -370,7 +370,7 @@ pub extern "C" fn linker_utils_rewrite_placed_section_nonnull(
     symbols: &[SymbolFacts],
     addresses: &Addresses,
     values: &[Symbol],
-    kept: &[KeptGroups],
+    kept: &[UnrelaxableGroups],
     relocations: &mut [u8],
     section: &mut [u8],
     decisions: &mut [DecisionNumbers],
@@ -379,7 +379,7 @@ pub extern "C" fn linker_utils_rewrite_placed_section_nonnull(
     faulty: &mut usize,
 ) -> u32
     ensures known { IfSome (architecture_of machine) (λ architecture. IfSome (phase_of phase)
-        (λ when. IsPlacedReturned (setting architecture when output.now symbols.now addresses.now
+        (λ when. IsPlacedReturned (context architecture when output.now symbols.now addresses.now
         values.now) kept.now relocations.old relocations.new section.old section.new decisions.old
         decisions.new deleted.old deleted.new deleted_used.old deleted_used.new
         faulty.old faulty.new result)) }
@@ -422,9 +422,9 @@ pub extern "C" fn linker_utils_rewrite_placed_section_nonnull(
 }
 
 /// Notes which words of an object's section of addresses stay, by one of its sections of code, as
-/// `survey_address_loads` of `linker_rewriting`. `UnknownArchitecture`; `FactsContradict`.
+/// `survey_toc_loads` of `linker_rewriting`. `UnknownArchitecture`; `FactsContradict`.
 #[unsafe(no_mangle)]
-pub extern "C" fn linker_utils_survey_address_loads_nonnull(
+pub extern "C" fn linker_utils_survey_toc_loads_nonnull(
     machine: u16,
     output: &OutputFacts,
     symbols: &[SymbolFacts],
@@ -437,7 +437,7 @@ pub extern "C" fn linker_utils_survey_address_loads_nonnull(
     kept: &mut [bool],
 ) -> u32
     ensures known { IfSome (architecture_of machine) (λ architecture.
-        IsSurveyReturned (AreLoadsSurveyed (setting architecture Phase.Distances output.now
+        IsSurveyReturned (AreLoadsSurveyed (context architecture Phase.ShortPcRel output.now
         symbols.now addresses.now values.now) words_start words.now relocations.now section.now
         kept.old kept.new (length relocations.now / 24)
         × Agree symbols.now values.now relocations.now)
@@ -448,7 +448,7 @@ pub extern "C" fn linker_utils_survey_address_loads_nonnull(
     let Some(architecture) = Architecture::from_machine(machine) else {
         return Status::UnknownArchitecture.number();
     };
-    survey_status(survey_address_loads(
+    survey_status(survey_toc_loads(
         architecture,
         output,
         symbols,
@@ -464,7 +464,7 @@ pub extern "C" fn linker_utils_survey_address_loads_nonnull(
 
 /// Has the instructions of a section of code compute the addresses that they load from words of an
 /// object's section of addresses, and turns their relocations into those after it, as
-/// `rewrite_address_loads` of `linker_rewriting`. What became of each relocation is in `decisions`,
+/// `rewrite_toc_loads` of `linker_rewriting`. What became of each relocation is in `decisions`,
 /// whose elements after those of the relocations are unchanged. The types of loads are those of
 /// which `linker_utils_entry_relocation` says another one.
 ///
@@ -473,7 +473,7 @@ pub extern "C" fn linker_utils_survey_address_loads_nonnull(
 /// relocation at `faulty`: `NotSurveyed` or `Overlaps`. Then the section and its relocations are
 /// unchanged, and the decisions below `faulty` are made.
 #[unsafe(no_mangle)]
-pub extern "C" fn linker_utils_rewrite_address_loads_nonnull(
+pub extern "C" fn linker_utils_rewrite_toc_loads_nonnull(
     machine: u16,
     output: &OutputFacts,
     symbols: &[SymbolFacts],
@@ -488,7 +488,7 @@ pub extern "C" fn linker_utils_rewrite_address_loads_nonnull(
     faulty: &mut usize,
 ) -> u32
     ensures known { IfSome (architecture_of machine) (λ architecture.
-        AreLoadsReturned (setting architecture Phase.Distances output.now symbols.now addresses.now
+        AreLoadsReturned (context architecture Phase.ShortPcRel output.now symbols.now addresses.now
         values.now) words_start words.now kept.now relocations.old relocations.new section.old
         section.new decisions.old decisions.new faulty.old faulty.new result) }
     ensures loads { (architecture : Architecture) (r_type : ℕ)
@@ -501,7 +501,7 @@ pub extern "C" fn linker_utils_rewrite_address_loads_nonnull(
     let Some(architecture) = Architecture::from_machine(machine) else {
         return Status::UnknownArchitecture.number();
     };
-    match rewrite_address_loads(
+    match rewrite_toc_loads(
         architecture,
         output,
         symbols,

@@ -597,8 +597,8 @@ opcode_at r.R_X86_64_GOTPCREL section o =
 opcode_at name section o = slice_index section (o - 2)
 
 -- What is required with a rewrite: one of some instructions is there, and the rewrite matches.
-abbrev pub IsAskedFor : List Original → RelaxationKind → List ℕ → ℕ → Type 0
-IsAskedFor instructions kind section o =
+abbrev pub HasPattern : List Original → RelaxationKind → List ℕ → ℕ → Type 0
+HasPattern instructions kind section o =
     IsTrue (is_one_at instructions section o) × x86_64_matches kind section o
 
 abbrev pub x86_64_after : RelaxationKind → ℕ → Operands → Operands
@@ -607,7 +607,7 @@ x86_64_after kind = operands_after (x86_64_rewrite kind)
 abbrev pub IsByTable : Table → X86_64Relocation → List ℕ → ℕ → LinkFacts
     → Choice RelaxationKind X86_64Relocation → Type 0
 IsByTable t name section o facts chosen =
-    IsFirst (Applies (IsAskedFor t.instructions) x86_64_row x86_64_after section o facts) t.entries
+    IsFirst (Applies (HasPattern t.instructions) x86_64_row x86_64_after section o facts) t.entries
     (choice kinds.NoOp name) chosen
 
 abbrev pub IsX86Choice : X86_64Relocation → List ℕ → ℕ → LinkFacts

@@ -5,19 +5,19 @@ ghost use Rattle.linker_elf.specs.Choices.{Fits, choice};
 ghost use Rattle.linker_elf.specs.Inner.ChoiceTables.{IsTableOf};
 ghost use Rattle.linker_elf.proofs.SameNames.{equalities, exact_code};
 ghost use Rattle.linker_elf.specs.contracts.x86_64.relocations.X86_64Relocation.{enum as names};
-ghost use Rattle.linker_x86_64.specs.Inner.X86Tables.{StandAt, none_sampled, x86_64_tables};
+ghost use Rattle.linker_x86_64.specs.Inner.X86Tables.{MatchesPattern, none_sampled, x86_64_tables};
 ghost use Rattle.linker_x86_64.specs.X86Rewrites as rewrites;
 ghost use Rattle.linker_x86_64.specs.declared.rewrites.RelaxationKind.TheVariants as kinds;
 
 use super::rewrites::{is_lea_of_descriptor, is_legacy};
 use super::{RelaxationKind, X86_64Relocation, X86_64Relocation as Names};
 use linker_elf::elf::choice_table::{
-    Chosen, ChosenByTable, ChosenKind, Table, by_table, choice_by, conditions, table_of,
+    ChoiceTable, Chosen, RewriteSet, Table, by_table, choice_by, conditions, table_of,
 };
 use linker_elf::elf::{Choice, LinkFacts, Operands};
 
 /// The instructions that an entry is for.
-pub enum AskedFor {
+pub enum Pattern {
     /// Those that its rewrite is for.
     OfRewrite,
     /// Of them those with an operand relative to the instruction pointer, n bytes before the
@@ -27,25 +27,25 @@ pub enum AskedFor {
     LeaOfDescriptor(u8),
 }
 
-impl ChosenKind for RelaxationKind {
+impl RewriteSet for RelaxationKind {
     type Relocation = Names;
 
-    type Originals = AskedFor;
+    type Originals = Pattern;
 
-    ghost are_at = { StandAt };
+    ghost are_at = { MatchesPattern };
 
     ghost tables = { x86_64_tables };
 
     ghost laws = { equalities kinds.NoOp names (λ x y. x.0 == y.0, tt) (exact_code, tt) };
 
     #[inline(always)]
-    fn stand_at(self, originals: &AskedFor, section: &[u8], offset: u64) -> bool {
-        let are_asked = match *originals {
-            AskedFor::OfRewrite => true,
-            AskedFor::Legacy(n, opcode) => is_legacy(section, offset, n, opcode),
-            AskedFor::LeaOfDescriptor(n) => is_lea_of_descriptor(section, offset, n),
+    fn matches_at(self, originals: &Pattern, section: &[u8], offset: u64) -> bool {
+        let is_pattern = match *originals {
+            Pattern::OfRewrite => true,
+            Pattern::Legacy(n, opcode) => is_legacy(section, offset, n, opcode),
+            Pattern::LeaOfDescriptor(n) => is_lea_of_descriptor(section, offset, n),
         };
-        are_asked && self.matches(section, offset)
+        is_pattern && self.matches(section, offset)
     }
 
     #[inline(always)]
@@ -242,8 +242,8 @@ macro_rules! by_name {
 /// The entries of a relocation, by an opcode.
 #[inline(always)]
 fn entries_by(name: Names, opcode: u8) -> Table<RelaxationKind>
-    ensures table { IsTableOf StandAt
-        (rewrites.IsAskedFor (rewrites.x86_64_table name opcode).instructions)
+    ensures table { IsTableOf MatchesPattern
+        (rewrites.HasPattern (rewrites.x86_64_table name opcode).instructions)
         result.now (rewrites.x86_64_table name opcode).entries }
     ensures few { length result.now ≤ 5 }
 {
@@ -260,8 +260,8 @@ fn choice_by_opcode(
     offset: u64,
     facts: &LinkFacts,
 ) -> Chosen<RelaxationKind>
-    requires table { IsTableOf StandAt
-        (rewrites.IsAskedFor (rewrites.x86_64_table name opcode).instructions)
+    requires table { IsTableOf MatchesPattern
+        (rewrites.HasPattern (rewrites.x86_64_table name opcode).instructions)
         table.now (rewrites.x86_64_table name opcode).entries }
     requires few { length table.now ≤ 5 }
     requires opcode { opcode ≡ rewrites.opcode_at name section.now offset }
@@ -294,7 +294,7 @@ fn opcode_at(name: Names, section: &[u8], offset: u64) -> u8
     }
 }
 
-impl ChosenByTable for RelaxationKind {
+impl ChoiceTable for RelaxationKind {
     ghost sampled = { λ name none section o. none_sampled name none (rewrites.opcode_at name section o) };
 
     #[inline(always)]
@@ -337,7 +337,7 @@ impl ChosenByTable for RelaxationKind {
 /// let facts = LinkFacts {
 ///     is_local: true,
 ///     has_fixed_address: true,
-///     has_fixed_distance: true,
+///     is_pcrel_link_time_constant: true,
 ///     is_executable: true,
 ///     has_addresses: true,
 ///     operands,

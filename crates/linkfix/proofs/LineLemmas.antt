@@ -80,13 +80,13 @@ next_line_at_lf None rest front part line after i one kept low lf more is left =
 next_line_at_lf (Some xs) None front part line after i one kept low lf more is left = absurd kept
 next_line_at_lf (Some xs) (Some zs) front part line after i one kept low lf more is left =
     let before = front ++ take i part in
-    let behind = drop (i + 1) part ++ zs in
-    let all : xs ≡ before ++ 10 ∷ behind = kept ∙ ap (λ l. front ++ (l ++ zs)) (split_at_lf part i low lf)
-    ∙ ap (λ l. front ++ l) (append_assoc (take i part) (10 ∷ drop (i + 1) part) zs) ∙ sym (append_assoc front (take i part) (10 ∷ behind)) in
+    let following = drop (i + 1) part ++ zs in
+    let all : xs ≡ before ++ 10 ∷ following = kept ∙ ap (λ l. front ++ (l ++ zs)) (split_at_lf part i low lf)
+    ∙ ap (λ l. front ++ l) (append_assoc (take i part) (10 ∷ drop (i + 1) part) zs) ∙ sym (append_assoc front (take i part) (10 ∷ following)) in
     let whole = All-append (λ byte. byte ≢ 10) front (take i part) one more in (
-      is ∙ sym (line_before_lf before behind whole) ∙ ap first_line (sym all),
-      ap (λ l. Some (l ++ zs)) left ∙ ap Some (sym (left_after_lf before behind whole) ∙ ap (drop_through 10) (sym all)),
-      (λ _ none. not_empty before behind (sym all ∙ none), λ _. refl),
+      is ∙ sym (line_before_lf before following whole) ∙ ap first_line (sym all),
+      ap (λ l. Some (l ++ zs)) left ∙ ap Some (sym (left_after_lf before following whole) ∙ ap (drop_through 10) (sym all)),
+      (λ _ none. not_empty before following (sym all ∙ none), λ _. refl),
     )
 
 -- the input ends with the line

@@ -4,7 +4,7 @@ use Rattle.std.proofs.lemmas.Bool.{cases_Bool}
 use Rattle.std.specs.List.{position_or_len, prefix_len}
 use Rattle.linkfix.specs.Words.{begins_word, is_space, prepend_to_first, words_of}
 
--- what is left behind the spaces in front
+-- what is left after the spaces in front
 abbrev pub after_spaces : List ℕ → List ℕ
 after_spaces line = drop (prefix_len is_space line) line
 

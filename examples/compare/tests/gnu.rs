@@ -192,7 +192,7 @@ const SAID: [(&str, &str, &str); 133] = [
     ("R_PPC64_GOT_TPREL_PCREL34", "paddi 6, 13, N, 0", "PldToPaddiThread (direct)"),
     ("R_PPC64_REL16_HA", "addis 2, 12, 1", "as it was (direct)"),
     ("R_PPC64_REL16_HA", "lis 2, N", "AddisToLis (direct)"),
-    ("R_PPC64_REL16_LO", "addi 2, 2, N", "AddiBehindLis (direct)"),
+    ("R_PPC64_REL16_LO", "addi 2, 2, N", "AddiAfterLis (direct)"),
     ("R_PPC64_REL16_LO", "addi 2, 2, N", "as it was (direct)"),
     ("R_PPC64_REL24", "addi 3, 13, N", "part of another's rewrite"),
     ("R_PPC64_REL24", "bl N", "NopToRestoreToc (direct)"),

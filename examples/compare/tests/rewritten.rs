@@ -109,7 +109,7 @@ fn compare_way(way: &str, counts: &mut [usize; 2]) {
                 if symbols[before.symbol].is_undefined_weak {
                     continue;
                 }
-                let is_listed = scope_of(of, before.code) != Scope::Unlisted;
+                let is_listed = scope_of(of, before.code) != Scope::NotRelaxable;
                 let window = decision.window();
                 let window = match decision {
                     Decision::Rewritten(_) if window.len > 0 => (window.back, window.len),

@@ -7,7 +7,7 @@ use linker_utils::output::{LazyEntry, Origins};
 use linker_utils::placement::{Branch, StubShape};
 use linker_utils::recognise::FieldBits;
 use linker_utils::relaxation::{BlockHead, Call, RelaxDelta};
-use linker_utils::rewriting::{KeptFacts, KeptGroups, OutputFacts, SymbolFacts};
+use linker_utils::rewriting::{FactsSnapshot, UnrelaxableGroups, OutputFacts, SymbolFacts};
 use linker_utils::section::{Addresses, Symbol};
 
 fields! { RelaxDelta: input_offset, bytes_deleted, cumulative_deleted, }
@@ -24,8 +24,8 @@ fields! {
     SymbolFacts: is_local, is_ifunc, is_absolute, is_undefined_weak, is_tls_get_addr, other,
 }
 fields! { OutputFacts: is_executable, is_fixed, has_near_symbols, }
-fields! { KeptGroups: initial_exec, general_dynamic, local_dynamic, descriptor, got_load, }
-fields! { KeptFacts: bits, }
+fields! { UnrelaxableGroups: initial_exec, general_dynamic, local_dynamic, descriptor, got_load, }
+fields! { FactsSnapshot: bits, }
 fields! { Origins: thread_pointer, module_block, }
 fields! { LazyEntry: address, word, header, index, }
 fields! { Branch: offset, target, max_backward, max_forward, }

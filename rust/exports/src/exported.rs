@@ -36,10 +36,10 @@ use linker_utils::placement::StubShape;
 use linker_utils::recognise::FieldBits;
 use linker_utils::relaxation::BlockHead;
 use linker_utils::relaxation::RelaxDelta;
-use linker_utils::rewriting::KeptFacts;
-use linker_utils::rewriting::KeptGroups;
+use linker_utils::rewriting::FactsSnapshot;
 use linker_utils::rewriting::OutputFacts;
 use linker_utils::rewriting::SymbolFacts;
+use linker_utils::rewriting::UnrelaxableGroups;
 use linker_utils::riscv64::Call;
 use linker_utils::runs::relaxation::Shapes;
 use linker_utils::section::Addresses;
@@ -497,7 +497,7 @@ unsafe extern "C" fn linker_utils_rewrite_global_pointer_nonnull(
 }
 
 #[unsafe(no_mangle)]
-unsafe extern "C" fn linker_utils_from_global_pointer_nonnull(
+unsafe extern "C" fn linker_utils_finish_gp_relaxation_nonnull(
     addresses: *const Addresses,
     values: *const Symbol,
     values_len: usize,
@@ -510,7 +510,7 @@ unsafe extern "C" fn linker_utils_from_global_pointer_nonnull(
 ) -> u32 {
     // SAFETY: the arguments are as the head of the header says.
     unsafe {
-        crate::global_pointer::linker_utils_from_global_pointer_nonnull(
+        crate::global_pointer::linker_utils_finish_gp_relaxation_nonnull(
             &*addresses,
             from_raw_parts(values, values_len),
             global_pointer,
@@ -589,16 +589,16 @@ unsafe extern "C" fn linker_utils_deltas_output_to_input_by_heads_nonnull(
 }
 
 #[unsafe(no_mangle)]
-unsafe extern "C" fn linker_utils_keep_facts_nonnull(
+unsafe extern "C" fn linker_utils_snapshot_facts_nonnull(
     output: *const OutputFacts,
     symbols: *const SymbolFacts,
     symbols_len: usize,
-    kept: *mut KeptFacts,
+    kept: *mut FactsSnapshot,
     kept_len: usize,
 ) -> u32 {
     // SAFETY: the arguments are as the head of the header says.
     unsafe {
-        crate::kept::linker_utils_keep_facts_nonnull(
+        crate::kept::linker_utils_snapshot_facts_nonnull(
             &*output,
             from_raw_parts(symbols, symbols_len),
             from_raw_parts_mut(kept, kept_len),
@@ -612,7 +612,7 @@ unsafe extern "C" fn linker_utils_relocate_rewritten_section_nonnull(
     output: *const OutputFacts,
     facts: *const SymbolFacts,
     facts_len: usize,
-    kept: *const KeptFacts,
+    kept: *const FactsSnapshot,
     kept_len: usize,
     addresses: *const Addresses,
     relocations: *const u8,
@@ -1016,7 +1016,7 @@ unsafe extern "C" fn linker_utils_get_provided_symbol_nonnull(
 }
 
 #[unsafe(no_mangle)]
-unsafe extern "C" fn linker_utils_get_provided_run_nonnull(
+unsafe extern "C" fn linker_utils_get_save_restore_routines_nonnull(
     machine: u16,
     index: usize,
     prefix: *mut u8,
@@ -1026,7 +1026,7 @@ unsafe extern "C" fn linker_utils_get_provided_run_nonnull(
 ) -> u32 {
     // SAFETY: the arguments are as the head of the header says.
     unsafe {
-        crate::output::linker_utils_get_provided_run_nonnull(
+        crate::output::linker_utils_get_save_restore_routines_nonnull(
             machine,
             index,
             from_raw_parts_mut(prefix, prefix_len),
@@ -1932,7 +1932,7 @@ unsafe extern "C" fn linker_utils_survey_nonnull(
     relocations_len: usize,
     section: *const u8,
     section_len: usize,
-    kept: *mut KeptGroups,
+    kept: *mut UnrelaxableGroups,
     kept_len: usize,
 ) -> u32 {
     // SAFETY: the arguments are as the head of the header says.
@@ -1962,7 +1962,7 @@ unsafe extern "C" fn linker_utils_survey_placed_section_nonnull(
     relocations_len: usize,
     section: *const u8,
     section_len: usize,
-    kept: *mut KeptGroups,
+    kept: *mut UnrelaxableGroups,
     kept_len: usize,
 ) -> u32 {
     // SAFETY: the arguments are as the head of the header says.
@@ -1987,7 +1987,7 @@ unsafe extern "C" fn linker_utils_rewrite_section_nonnull(
     output: *const OutputFacts,
     symbols: *const SymbolFacts,
     symbols_len: usize,
-    kept: *const KeptGroups,
+    kept: *const UnrelaxableGroups,
     kept_len: usize,
     relocations: *mut u8,
     relocations_len: usize,
@@ -2022,7 +2022,7 @@ unsafe extern "C" fn linker_utils_rewrite_placed_section_nonnull(
     addresses: *const Addresses,
     values: *const Symbol,
     values_len: usize,
-    kept: *const KeptGroups,
+    kept: *const UnrelaxableGroups,
     kept_len: usize,
     relocations: *mut u8,
     relocations_len: usize,
@@ -2056,7 +2056,7 @@ unsafe extern "C" fn linker_utils_rewrite_placed_section_nonnull(
 }
 
 #[unsafe(no_mangle)]
-unsafe extern "C" fn linker_utils_survey_address_loads_nonnull(
+unsafe extern "C" fn linker_utils_survey_toc_loads_nonnull(
     machine: u16,
     output: *const OutputFacts,
     symbols: *const SymbolFacts,
@@ -2076,7 +2076,7 @@ unsafe extern "C" fn linker_utils_survey_address_loads_nonnull(
 ) -> u32 {
     // SAFETY: the arguments are as the head of the header says.
     unsafe {
-        crate::rewriting::linker_utils_survey_address_loads_nonnull(
+        crate::rewriting::linker_utils_survey_toc_loads_nonnull(
             machine,
             &*output,
             from_raw_parts(symbols, symbols_len),
@@ -2092,7 +2092,7 @@ unsafe extern "C" fn linker_utils_survey_address_loads_nonnull(
 }
 
 #[unsafe(no_mangle)]
-unsafe extern "C" fn linker_utils_rewrite_address_loads_nonnull(
+unsafe extern "C" fn linker_utils_rewrite_toc_loads_nonnull(
     machine: u16,
     output: *const OutputFacts,
     symbols: *const SymbolFacts,
@@ -2115,7 +2115,7 @@ unsafe extern "C" fn linker_utils_rewrite_address_loads_nonnull(
 ) -> u32 {
     // SAFETY: the arguments are as the head of the header says.
     unsafe {
-        crate::rewriting::linker_utils_rewrite_address_loads_nonnull(
+        crate::rewriting::linker_utils_rewrite_toc_loads_nonnull(
             machine,
             &*output,
             from_raw_parts(symbols, symbols_len),

@@ -7,7 +7,7 @@ use crate::rewriting::{DecisionNumbers, put_error, survey_status};
 use crate::status::Status;
 use linker_utils::rewriting::{OutputFacts, SymbolFacts};
 use linker_utils::rewriting::{
-    from_global_pointer, rewrite_global_pointer, survey_global_pointer,
+    finish_gp_relaxation, rewrite_global_pointer, survey_global_pointer,
 };
 use linker_utils::rewriting::Phase;
 use linker_utils::section::{Addresses, Symbol};
@@ -90,13 +90,13 @@ pub fn linker_utils_rewrite_global_pointer_nonnull(
     }
 }
 
-/// Writes the base of each low part of a section that has none, as `from_global_pointer` of
+/// Writes the base of each low part of a section that has none, as `finish_gp_relaxation` of
 /// `linker_rewriting`.
 ///
 /// `OutOfReach`, where no base reaches what the relocation at `faulty` refers to, its symbol isn't
 /// in the table, or its instruction isn't in the section. Then the section and its relocations are
 /// unchanged.
-pub fn linker_utils_from_global_pointer_nonnull(
+pub fn linker_utils_finish_gp_relaxation_nonnull(
     addresses: &Addresses,
     values: &[Symbol],
     global_pointer: u64,
@@ -104,7 +104,7 @@ pub fn linker_utils_from_global_pointer_nonnull(
     section: &mut [u8],
     faulty: &mut usize,
 ) -> u32 {
-    match from_global_pointer(addresses, values, global_pointer, relocations, section) {
+    match finish_gp_relaxation(addresses, values, global_pointer, relocations, section) {
         Ok(()) => Status::Success.number(),
         Err(index) => {
             *faulty = index;

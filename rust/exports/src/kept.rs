@@ -5,22 +5,24 @@
 use crate::sections::status_of_error;
 use crate::status::Status;
 use linker_utils::rewriting::{OutputFacts, SymbolFacts};
-use linker_utils::rewriting::{KeptFacts, WritingError, keep_facts, relocate_rewritten_section};
+use linker_utils::rewriting::{
+    FactsSnapshot, WritingError, relocate_rewritten_section, snapshot_facts,
+};
 use linker_utils::section::{Addresses, Symbol};
 use linker_utils::section::memory_len;
 use linker_utils::elf::Architecture;
 
-/// Keeps what choices of rewrites read of an object's symbols and of the output, as `keep_facts` of
+/// Keeps what choices of rewrites read of an object's symbols and of the output, as `snapshot_facts` of
 /// `linker_rewriting`. The error is `DifferentLengths`.
-pub fn linker_utils_keep_facts_nonnull(
+pub fn linker_utils_snapshot_facts_nonnull(
     output: &OutputFacts,
     symbols: &[SymbolFacts],
-    kept: &mut [KeptFacts],
+    kept: &mut [FactsSnapshot],
 ) -> u32 {
     if kept.len() != symbols.len() {
         return Status::DifferentLengths.number();
     }
-    keep_facts(output, symbols, kept);
+    snapshot_facts(output, symbols, kept);
     Status::Success.number()
 }
 
@@ -34,7 +36,7 @@ pub fn linker_utils_relocate_rewritten_section_nonnull(
     machine: u16,
     output: &OutputFacts,
     facts: &[SymbolFacts],
-    kept: &[KeptFacts],
+    kept: &[FactsSnapshot],
     addresses: &Addresses,
     relocations: &[u8],
     symbols: &[Symbol],

@@ -448,7 +448,7 @@ fn put_symbol(
 /// Writes the run with an index of functions that linkers provide: their names without the number
 /// after it to the beginning of `prefix`, its length to `prefix_used`, and the numbers. The first
 /// that applies of `UnknownArchitecture`; `NotProvided`, of an index that is too large; `TooShort`.
-pub fn linker_utils_get_provided_run_nonnull(
+pub fn linker_utils_get_save_restore_routines_nonnull(
     machine: u16,
     index: usize,
     prefix: &mut [u8],

@@ -6,11 +6,11 @@ use crate::deltas::Deletion;
 use crate::status::Status;
 use linker_utils::rewriting::{AsDecision, Decision, FromDeletion, RewritingError, Subject};
 use linker_utils::rewriting::{OutputFacts, SymbolFacts};
-use linker_utils::rewriting::{KeptGroups, has_rewrites};
+use linker_utils::rewriting::{UnrelaxableGroups, has_rewrites};
 use linker_utils::rewriting::Phase;
 use linker_utils::rewriting::{rewrite_placed_section, rewrite_section};
 use linker_utils::rewriting::{survey, survey_placed_section};
-use linker_utils::rewriting::{rewrite_address_loads, survey_address_loads};
+use linker_utils::rewriting::{rewrite_toc_loads, survey_toc_loads};
 use linker_utils::section::{Addresses, Symbol};
 use linker_utils::architecture::Relaxation;
 use linker_utils::elf::{Architecture, Choice};
@@ -99,7 +99,7 @@ impl AsDecision for DecisionNumbers {
             return Decision::Kept;
         }
         if self.fate == 2 {
-            return Decision::TakenAlong;
+            return Decision::Consumed;
         }
         let Some(choice) = self.choice() else {
             return Decision::Kept;
@@ -107,7 +107,7 @@ impl AsDecision for DecisionNumbers {
         if self.fate == 1 {
             Decision::Rewritten(choice)
         } else {
-            Decision::Redirected(
+            Decision::RewrittenWithSymbol(
                 choice,
                 Subject {
                     symbol: self.symbol,
@@ -121,7 +121,7 @@ impl AsDecision for DecisionNumbers {
     fn from_decision(made: Decision) -> DecisionNumbers {
         match made {
             Decision::Kept => of_fate(0),
-            Decision::TakenAlong => of_fate(2),
+            Decision::Consumed => of_fate(2),
             Decision::Rewritten(choice) => of_choice(
                 1,
                 choice,
@@ -130,7 +130,7 @@ impl AsDecision for DecisionNumbers {
                     addend: 0,
                 },
             ),
-            Decision::Redirected(choice, subject) => of_choice(3, choice, subject),
+            Decision::RewrittenWithSymbol(choice, subject) => of_choice(3, choice, subject),
         }
     }
 }
@@ -146,10 +146,10 @@ impl FromDeletion for Deletion {
 #[inline(always)]
 fn phase_of(number: u32) -> Option<Phase> {
     match number {
-        0 => Some(Phase::Early),
-        1 => Some(Phase::ThreadOffsets),
-        2 => Some(Phase::GotLoads),
-        3 => Some(Phase::Distances),
+        0 => Some(Phase::PreLayout),
+        1 => Some(Phase::TlsLocalExec),
+        2 => Some(Phase::GotToPcRel),
+        3 => Some(Phase::ShortPcRel),
         _ => None,
     }
 }
@@ -171,7 +171,7 @@ pub fn linker_utils_survey_nonnull(
     symbols: &[SymbolFacts],
     relocations: &[u8],
     section: &[u8],
-    kept: &mut [KeptGroups],
+    kept: &mut [UnrelaxableGroups],
 ) -> u32 {
     let Some(architecture) = Architecture::from_machine(machine) else {
         return Status::UnknownArchitecture.number();
@@ -192,7 +192,7 @@ pub fn linker_utils_survey_placed_section_nonnull(
     values: &[Symbol],
     relocations: &[u8],
     section: &[u8],
-    kept: &mut [KeptGroups],
+    kept: &mut [UnrelaxableGroups],
 ) -> u32 {
     let Some(architecture) = Architecture::from_machine(machine) else {
         return Status::UnknownArchitecture.number();
@@ -255,7 +255,7 @@ pub fn linker_utils_rewrite_section_nonnull(
     machine: u16,
     output: &OutputFacts,
     symbols: &[SymbolFacts],
-    kept: &[KeptGroups],
+    kept: &[UnrelaxableGroups],
     relocations: &mut [u8],
     section: &mut [u8],
     decisions: &mut [DecisionNumbers],
@@ -295,7 +295,7 @@ pub fn linker_utils_rewrite_placed_section_nonnull(
     symbols: &[SymbolFacts],
     addresses: &Addresses,
     values: &[Symbol],
-    kept: &[KeptGroups],
+    kept: &[UnrelaxableGroups],
     relocations: &mut [u8],
     section: &mut [u8],
     decisions: &mut [DecisionNumbers],
@@ -331,8 +331,8 @@ pub fn linker_utils_rewrite_placed_section_nonnull(
 }
 
 /// Notes which words of an object's section of addresses stay, by one of its sections of code, as
-/// `survey_address_loads` of `linker_rewriting`. `UnknownArchitecture`; `FactsContradict`.
-pub fn linker_utils_survey_address_loads_nonnull(
+/// `survey_toc_loads` of `linker_rewriting`. `UnknownArchitecture`; `FactsContradict`.
+pub fn linker_utils_survey_toc_loads_nonnull(
     machine: u16,
     output: &OutputFacts,
     symbols: &[SymbolFacts],
@@ -347,7 +347,7 @@ pub fn linker_utils_survey_address_loads_nonnull(
     let Some(architecture) = Architecture::from_machine(machine) else {
         return Status::UnknownArchitecture.number();
     };
-    survey_status(survey_address_loads(
+    survey_status(survey_toc_loads(
         architecture,
         output,
         symbols,
@@ -363,7 +363,7 @@ pub fn linker_utils_survey_address_loads_nonnull(
 
 /// Has the instructions of a section of code compute the addresses that they load from words of an
 /// object's section of addresses, and turns their relocations into those after it, as
-/// `rewrite_address_loads` of `linker_rewriting`. What became of each relocation is in `decisions`,
+/// `rewrite_toc_loads` of `linker_rewriting`. What became of each relocation is in `decisions`,
 /// whose elements after those of the relocations are unchanged. The types of loads are those of
 /// which `linker_utils_entry_relocation` says another one.
 ///
@@ -371,7 +371,7 @@ pub fn linker_utils_survey_address_loads_nonnull(
 /// `ShortMemory`, where there are fewer decisions than relocations; and why it can't rewrite the
 /// relocation at `faulty`: `NotSurveyed` or `Overlaps`. Then the section and its relocations are
 /// unchanged, and the decisions below `faulty` are made.
-pub fn linker_utils_rewrite_address_loads_nonnull(
+pub fn linker_utils_rewrite_toc_loads_nonnull(
     machine: u16,
     output: &OutputFacts,
     symbols: &[SymbolFacts],
@@ -388,7 +388,7 @@ pub fn linker_utils_rewrite_address_loads_nonnull(
     let Some(architecture) = Architecture::from_machine(machine) else {
         return Status::UnknownArchitecture.number();
     };
-    match rewrite_address_loads(
+    match rewrite_toc_loads(
         architecture,
         output,
         symbols,

@@ -5,7 +5,7 @@ use crate::layout::Layout;
 use crate::objects::Object;
 use linker_utils::elf::{Architecture, RewriteWindow};
 use linker_utils::rewriting::{
-    Decision, KeptGroups, Phase, rewrite_placed_section, rewrite_section, survey,
+    Decision, UnrelaxableGroups, Phase, rewrite_placed_section, rewrite_section, survey,
     survey_placed_section,
 };
 use linker_utils::section::{memory_len, relocate_section, relocation_at, relocations_len};
@@ -30,7 +30,7 @@ pub struct Linked {
     pub members: Vec<Member>,
 }
 
-const LATER: [Phase; 3] = [Phase::ThreadOffsets, Phase::GotLoads, Phase::Distances];
+const LATER: [Phase; 3] = [Phase::TlsLocalExec, Phase::GotToPcRel, Phase::ShortPcRel];
 
 /// What stands for deleted bytes, which are still there.
 fn no_operation(architecture: Architecture) -> &'static [u8] {
@@ -113,7 +113,7 @@ pub fn link(object: &Object, layout: &Layout) -> Vec<Result<Linked, Box<dyn Erro
         tables.iter().map(|table| vec![None; relocations_len(table)]).collect();
     let mut errors: Vec<Option<String>> = vec![None; count];
 
-    let mut kept = vec![KeptGroups::default(); layout.symbols.len()];
+    let mut kept = vec![UnrelaxableGroups::default(); layout.symbols.len()];
     for &index in &code {
         survey(
             architecture,
@@ -141,7 +141,7 @@ pub fn link(object: &Object, layout: &Layout) -> Vec<Result<Linked, Box<dyn Erro
         }
     }
     for phase in LATER {
-        let mut kept = vec![KeptGroups::default(); layout.symbols.len()];
+        let mut kept = vec![UnrelaxableGroups::default(); layout.symbols.len()];
         for &index in &code {
             survey_placed_section(
                 architecture,

@@ -8,7 +8,7 @@ use super::rewrites::{
 use crate::linker_base::rewrite::has_window;
 use crate::linker_elf::aarch64::{AArch64Relocation, AArch64Relocation as Names};
 use crate::linker_elf::elf::choice_table::{
-    Chosen, ChosenByTable, ChosenKind, Table, by_table, choice_by, conditions,
+    ChoiceTable, Chosen, RewriteSet, Table, by_table, choice_by, conditions,
 };
 use crate::linker_elf::elf::{Choice, LinkFacts, Operands};
 
@@ -56,7 +56,7 @@ pub fn is_tls_descriptor_sequence(section: &[u8], offset: u64) -> bool {
 
 /// The instructions that an entry is for: what its rewrite is meant for, or others.
 #[derive(Debug)]
-pub enum AskedFor {
+pub enum Pattern {
     /// What the rewrite is meant for.
     OfRewrite,
     /// The `adrp` of a pair `adrp xN`, `ldr xN, [xN, #imm]`.
@@ -71,23 +71,23 @@ pub enum AskedFor {
     B,
 }
 
-impl ChosenKind for RelaxationKind {
+impl RewriteSet for RelaxationKind {
     type Relocation = Names;
 
-    type Originals = AskedFor;
+    type Originals = Pattern;
 
     #[inline(always)]
-    fn stand_at(self, originals: &AskedFor, section: &[u8], offset: u64) -> bool {
+    fn matches_at(self, originals: &Pattern, section: &[u8], offset: u64) -> bool {
         match *originals {
-            AskedFor::OfRewrite => self.matches(section, offset),
-            AskedFor::AdrpOfPair => is_entry_load(section, offset),
-            AskedFor::LdrOfPair => 4 <= offset && is_entry_load(section, offset - 4),
-            AskedFor::OfDescriptor(back) => {
+            Pattern::OfRewrite => self.matches(section, offset),
+            Pattern::AdrpOfPair => is_entry_load(section, offset),
+            Pattern::LdrOfPair => 4 <= offset && is_entry_load(section, offset - 4),
+            Pattern::OfDescriptor(back) => {
                 back <= offset && is_tls_descriptor_sequence(section, offset - back)
             }
             _ if !has_window(section, offset, 0, 4) => false,
-            AskedFor::Bl => word_at(section, offset) >> 26 == 0x25,
-            AskedFor::B => word_at(section, offset) >> 26 == 0x05,
+            Pattern::Bl => word_at(section, offset) >> 26 == 0x25,
+            Pattern::B => word_at(section, offset) >> 26 == 0x05,
         }
     }
 
@@ -168,7 +168,7 @@ macro_rules! choices {
     };
 }
 
-impl ChosenByTable for RelaxationKind {
+impl ChoiceTable for RelaxationKind {
     #[inline(always)]
     fn entries(name: Names, _section: &[u8], _offset: u64) -> Table<Self> {
         choices!(by_table(when, name, table => table))
@@ -190,7 +190,8 @@ impl ChosenByTable for RelaxationKind {
 ///
 /// // `adrp x3, :got:v` and `ldr x3, [x3, :got_lo12:v]`, where v is defined in the output
 /// let mut section = [0x03, 0, 0, 0x90, 0x63, 0, 0x40, 0xf9];
-/// let facts = LinkFacts { is_local: true, has_fixed_distance: true, ..LinkFacts::default() };
+/// let mut facts = LinkFacts { is_local: true, ..LinkFacts::default() };
+/// facts.is_pcrel_link_time_constant = true;
 /// let page = choose(AArch64Relocation::R_AARCH64_ADR_GOT_PAGE, &section, 0, &facts);
 /// assert_eq!(page.kind, RelaxationKind::NoOp);
 /// assert_eq!(page.relocation, AArch64Relocation::R_AARCH64_ADR_PREL_PG_HI21);

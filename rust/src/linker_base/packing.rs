@@ -101,8 +101,8 @@ pub fn copy_kept(section: &[u8], base: u64, deltas: &[RelaxDelta], packed: &mut 
     let (first, start) = first_run(deltas, base);
     let mut from = start;
     let mut at = 0;
-    let behind = count_begun(deltas, section_end);
-    for index in first..behind {
+    let following = count_begun(deltas, section_end);
+    for index in first..following {
         let delta = &deltas[index];
         at = put(packed, at, between(section, base, from, delta.input_offset));
         from = delta

@@ -6,7 +6,7 @@ use crate::linker_output::addresses::AddressSection;
 use crate::linker_output::dynamic::DynamicTypes;
 use crate::linker_output::flags::FlagRules;
 use crate::linker_output::got::{GotLayout, ThreadPointer};
-use crate::linker_output::layout::{CodeUnit, Interpreter, ProvidedRun, ProvidedSymbol};
+use crate::linker_output::layout::{CodeUnit, Interpreter, ProvidedSymbol, SaveRestoreRoutines};
 use crate::linker_output::stubs::Stub;
 use crate::architecture::by_architecture;
 use crate::elf::Architecture;
@@ -44,7 +44,7 @@ pub struct Target {
     /// The symbols that a linker defines if an object refers to them.
     pub symbols: &'static [ProvidedSymbol],
     /// The functions that a linker defines if an object calls them.
-    pub runs: &'static [ProvidedRun],
+    pub runs: &'static [SaveRestoreRoutines],
     /// The bits of `e_flags` that the path of the dynamic linker depends on.
     pub interpreter_flags: u32,
     /// The paths of the dynamic linker.

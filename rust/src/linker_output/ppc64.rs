@@ -8,7 +8,9 @@ use crate::linker_output::description::Target;
 use crate::linker_output::dynamic::{DynamicType, DynamicTypes, named};
 use crate::linker_output::flags::FlagRules;
 use crate::linker_output::got::{GotHeader, GotLayout, ThreadPointer};
-use crate::linker_output::layout::{Interpreter, ProvidedRun, ProvidedSymbol, RunWord, SymbolPlace, WORDS};
+use crate::linker_output::layout::{
+    Interpreter, ProvidedSymbol, RunWord, SaveRestoreRoutines, SymbolPlace, WORDS,
+};
 use crate::linker_output::stubs::{Stub, StubField, field};
 use crate::elf::{AllowedRange, Architecture};
 
@@ -27,7 +29,7 @@ const BLR: u32 = 0x4e80_0020;
 /// The functions of registers 14 to 31, by the first instruction and those after the last one.
 macro_rules! of_registers {
     ($prefix:literal, $word:literal, $tail:expr) => {
-        ProvidedRun {
+        SaveRestoreRoutines {
             prefix: $prefix,
             first: 14,
             count: 18,
@@ -43,7 +45,7 @@ macro_rules! of_registers {
 /// `addi 12, 0, -192`.
 macro_rules! of_vectors {
     ($prefix:literal, $word:literal) => {
-        ProvidedRun {
+        SaveRestoreRoutines {
             prefix: $prefix,
             first: 20,
             count: 12,

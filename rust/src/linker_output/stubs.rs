@@ -161,7 +161,7 @@ impl Target {
     /// What a call changes on its way through a stub are registers that a function may change, in
     /// which no argument is: x16 and x17 of AArch64, t3 of RISC-V and LoongArch, and r0, r12 and
     /// ctr of PowerPC64, whose r12 has the target's address. So no stub may serve a call of
-    /// PowerPC64's functions of a `ProvidedRun`, which take r0 or r12.
+    /// PowerPC64's functions of a `SaveRestoreRoutines`, which take r0 or r12.
     ///
     /// ```
     /// use linker_utils::output::StubKind;

@@ -58,9 +58,9 @@ pub(crate) fn keeps_call(
 ) -> bool {
     match (phase, architecture) {
         #[cfg(feature = "aarch64")]
-        (Phase::Early, Architecture::AArch64) => aarch64_keeps(symbols, relocation),
+        (Phase::PreLayout, Architecture::AArch64) => aarch64_keeps(symbols, relocation),
         #[cfg(feature = "ppc64")]
-        (Phase::Early, Architecture::Ppc64) => ppc64_keeps(symbols, relocation),
+        (Phase::PreLayout, Architecture::Ppc64) => ppc64_keeps(symbols, relocation),
         _ => false,
     }
 }

@@ -2,7 +2,7 @@
 // Made by tools/generate of crates/linker_rewriting/src/candidates.rt.
 //! Whether the instruction of a relocation can be rewritten, if each other one of its group can.
 
-use crate::linker_rewriting::facts::{OutputFacts, Setting, SymbolFacts, link_facts};
+use crate::linker_rewriting::facts::{OutputFacts, RelaxContext, SymbolFacts, link_facts};
 use crate::linker_rewriting::phases::Phase;
 use crate::linker_rewriting::sequences::{is_marked_in, is_whole};
 use crate::linker_base::rewrite::DeletedBytes;
@@ -111,24 +111,24 @@ pub(crate) fn candidate_by(
 /// bytes after the section, or it is of a sequence whose relocations aren't all next to it.
 #[inline(always)]
 pub(crate) fn candidate(
-    setting: &Setting<'_>,
+    context: &RelaxContext<'_>,
     relocations: &[u8],
     section: &[u8],
     index: usize,
     relocation: &Rela,
 ) -> Option<Choice<Relaxation, u32>> {
     let marked = is_marked_in(
-        setting.phase,
-        setting.architecture,
+        context.phase,
+        context.architecture,
         relocations,
         index,
         relocation,
     );
-    let facts = link_facts(setting, relocation, relocation, marked);
+    let facts = link_facts(context, relocation, relocation, marked);
     match &facts {
         Some(facts) => candidate_by(
-            setting.architecture,
-            setting.symbols,
+            context.architecture,
+            context.symbols,
             relocations,
             section,
             index,
@@ -159,26 +159,26 @@ fn at_base(facts: Option<LinkFacts>) -> Option<LinkFacts> {
 /// whatever the distance.
 #[inline(always)]
 pub(crate) fn is_matched(
-    setting: &Setting<'_>,
+    context: &RelaxContext<'_>,
     relocations: &[u8],
     section: &[u8],
     index: usize,
     relocation: &Rela,
 ) -> bool {
     let marked = is_marked_in(
-        setting.phase,
-        setting.architecture,
+        context.phase,
+        context.architecture,
         relocations,
         index,
         relocation,
     );
-    let facts = link_facts(setting, relocation, relocation, marked);
+    let facts = link_facts(context, relocation, relocation, marked);
     let Some(facts) = at_base(facts) else {
         return false;
     };
     candidate_by(
-        setting.architecture,
-        setting.symbols,
+        context.architecture,
+        context.symbols,
         relocations,
         section,
         index,

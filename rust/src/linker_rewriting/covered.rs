@@ -131,7 +131,7 @@ fn reaches(
 /// Whether a rewrite takes along the relocation with an index.
 #[inline(always)]
 fn is_taken<D: AsDecision>(decisions: &[D], index: usize) -> bool {
-    matches!(decisions[index].as_decision(), Decision::TakenAlong)
+    matches!(decisions[index].as_decision(), Decision::Consumed)
 }
 
 /// The first relocation that no rewrite takes along and whose field has a byte that the decision of

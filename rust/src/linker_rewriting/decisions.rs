@@ -6,11 +6,14 @@ use crate::linker_rewriting::calls::keeps_call;
 use crate::linker_rewriting::candidates::candidate;
 use crate::linker_rewriting::codes::{is_listed, lists_any, of_each};
 use crate::linker_rewriting::covered::first_covered;
-use crate::linker_rewriting::facts::{OutputFacts, Setting, SymbolFacts};
-use crate::linker_rewriting::groups::{KeptGroups, Scope, group_stays, scope_in};
-use crate::linker_rewriting::labels::{high_of, is_note, label_candidate, note_labels, set_all};
+use crate::linker_rewriting::facts::{OutputFacts, RelaxContext, SymbolFacts};
+use crate::linker_rewriting::groups::{Scope, UnrelaxableGroups, group_stays, scope_in};
 use crate::linker_rewriting::phases::Phase;
 use crate::linker_rewriting::relocations::relocation_in;
+#[cfg(feature = "riscv64")]
+use crate::linker_rewriting::riscv_pcrel_groups::{
+    high_of, is_note, label_candidate, note_labels, set_all,
+};
 use crate::linker_base::rewrite::DeletedBytes;
 use crate::linker_section::facts::{Addresses, Symbol};
 use crate::linker_section::relocations::{Rela, relocation_at, relocations_len};
@@ -37,9 +40,9 @@ pub enum Decision {
     /// The same, but the relocation after it is of another symbol and addend: those of the high
     /// part of a TLS descriptor of RISC-V, whose label was its symbol, or those of the word that
     /// was loaded.
-    Redirected(Choice<Relaxation, u32>, Subject),
+    RewrittenWithSymbol(Choice<Relaxation, u32>, Subject),
     /// The relocation goes, since the rewrite at the one before or at the next one takes it along.
-    TakenAlong,
+    Consumed,
 }
 
 /// What becomes of a relocation: a `Decision`, or an element of the caller's own array that says as
@@ -106,7 +109,7 @@ impl Decision {
     pub fn takes_next(&self) -> bool {
         match self {
             Decision::Rewritten(choice) => choice.kind.skipped_offset().is_some(),
-            Decision::Redirected(choice, _) => choice.kind.skipped_offset().is_some(),
+            Decision::RewrittenWithSymbol(choice, _) => choice.kind.skipped_offset().is_some(),
             _ => false,
         }
     }
@@ -118,7 +121,7 @@ impl Decision {
     pub fn window(&self) -> RewriteWindow {
         match self {
             Decision::Rewritten(choice) => choice.kind.window(),
-            Decision::Redirected(choice, _) => choice.kind.window(),
+            Decision::RewrittenWithSymbol(choice, _) => choice.kind.window(),
             _ => RewriteWindow { back: 0, len: 0 },
         }
     }
@@ -129,19 +132,30 @@ impl Decision {
     pub fn deleted(&self) -> Option<DeletedBytes> {
         match self {
             Decision::Rewritten(choice) => choice.kind.deleted(),
-            Decision::Redirected(choice, _) => choice.kind.deleted(),
+            Decision::RewrittenWithSymbol(choice, _) => choice.kind.deleted(),
             _ => None,
         }
     }
 }
 
 /// Whether the relocation with an index, if there is one, is alone and is rewritten.
-fn is_rewritten_at(setting: &Setting<'_>, relocations: &[u8], section: &[u8], index: usize) -> bool {
+fn is_rewritten_at(
+    context: &RelaxContext<'_>,
+    relocations: &[u8],
+    section: &[u8],
+    index: usize,
+) -> bool {
     let Some(relocation) = relocation_at(relocations, index) else {
         return false;
     };
-    match scope_in(setting.architecture, setting.phase, relocation.code) {
-        Scope::Alone => candidate(setting, relocations, section, index, &relocation).is_some(),
+    match scope_in(context.architecture, context.phase, relocation.code) {
+        Scope::Independent => candidate(
+            context,
+            relocations,
+            section,
+            index,
+            &relocation,
+        ).is_some(),
         _ => false,
     }
 }
@@ -150,7 +164,7 @@ fn is_rewritten_at(setting: &Setting<'_>, relocations: &[u8], section: &[u8], in
 #[inline(always)]
 fn label_decision(phase: Phase, chosen: Choice<Relaxation, u32>, high: &Rela) -> Decision {
     match phase {
-        Phase::ThreadOffsets => Decision::Redirected(
+        Phase::TlsLocalExec => Decision::RewrittenWithSymbol(
             chosen,
             Subject {
                 symbol: high.symbol,
@@ -162,9 +176,10 @@ fn label_decision(phase: Phase, chosen: Choice<Relaxation, u32>, high: &Rela) ->
 }
 
 /// What becomes of a relocation of a label whose group stays or doesn't.
+#[cfg(feature = "riscv64")]
 fn decide_label(
     stays: bool,
-    setting: &Setting<'_>,
+    context: &RelaxContext<'_>,
     relocations: &[u8],
     section: &[u8],
     index: usize,
@@ -174,40 +189,41 @@ fn decide_label(
         return Decision::Kept;
     }
     let Some(high) = high_of(
-        setting.phase,
-        setting.addresses,
-        setting.values,
+        context.phase,
+        context.addresses,
+        context.values,
         relocations,
         relocation,
     ) else {
         return Decision::Kept;
     };
-    match label_candidate(setting, relocations, section, index, relocation, high) {
-        Some(chosen) => label_decision(setting.phase, chosen, &relocation_in(relocations, high)),
+    match label_candidate(context, relocations, section, index, relocation, high) {
+        Some(chosen) => label_decision(context.phase, chosen, &relocation_in(relocations, high)),
         None => Decision::Kept,
     }
 }
 
 /// What becomes of a relocation that no other takes along. `stays` is what was noted of its label.
 /// None if its group doesn't stay, but it can't be rewritten.
+#[cfg(feature = "riscv64")]
 #[inline(always)]
 fn decide(
     stays: bool,
-    setting: &Setting<'_>,
-    kept: &[KeptGroups],
+    context: &RelaxContext<'_>,
+    kept: &[UnrelaxableGroups],
     relocations: &[u8],
     section: &[u8],
     index: usize,
     relocation: &Rela,
 ) -> Option<Decision> {
-    let is_grouped = match scope_in(setting.architecture, setting.phase, relocation.code) {
-        Scope::Unlisted => return Some(Decision::Kept),
+    let is_grouped = match scope_in(context.architecture, context.phase, relocation.code) {
+        Scope::NotRelaxable => return Some(Decision::Kept),
         Scope::Labelled => {
-            return Some(decide_label(stays, setting, relocations, section, index, relocation));
+            return Some(decide_label(stays, context, relocations, section, index, relocation));
         }
-        Scope::Ahead => {
-            if is_rewritten_at(setting, relocations, section, index + 1) {
-                return Some(Decision::TakenAlong);
+        Scope::FirstOfPair => {
+            if is_rewritten_at(context, relocations, section, index + 1) {
+                return Some(Decision::Consumed);
             }
             return Some(Decision::Kept);
         }
@@ -217,15 +233,15 @@ fn decide(
             }
             true
         }
-        Scope::Matched(group) => {
+        Scope::IfGroupMatches(group) => {
             if group_stays(kept, group, relocation.symbol) {
                 return Some(Decision::Kept);
             }
             false
         }
-        Scope::Alone => false,
+        Scope::Independent => false,
     };
-    match candidate(setting, relocations, section, index, relocation) {
+    match candidate(context, relocations, section, index, relocation) {
         Some(choice) => Some(Decision::Rewritten(choice)),
         None if is_grouped => None,
         None => Some(Decision::Kept),
@@ -250,22 +266,23 @@ fn is_left(
 }
 
 /// What becomes of a relocation, which another may take along.
+#[cfg(feature = "riscv64")]
 fn decide_after(
     is_taken: bool,
     stays: bool,
-    setting: &Setting<'_>,
-    kept: &[KeptGroups],
+    context: &RelaxContext<'_>,
+    kept: &[UnrelaxableGroups],
     relocations: &[u8],
     section: &[u8],
     index: usize,
     relocation: &Rela,
 ) -> Option<Decision> {
     if is_taken {
-        return Some(Decision::TakenAlong);
+        return Some(Decision::Consumed);
     }
     decide(
         stays,
-        setting,
+        context,
         kept,
         relocations,
         section,
@@ -296,7 +313,7 @@ pub(crate) fn span_of(decision: &Decision, offset: u64) -> (u64, u64) {
 /// Where the bytes end that are rewritten or deleted up to some from a start to an end, by where
 /// those before them do. None if they aren't after those.
 #[inline(always)]
-pub(crate) fn end_behind(start: u64, own: u64, end: u64) -> Option<u64> {
+pub(crate) fn end_after(start: u64, own: u64, end: u64) -> Option<u64> {
     if own <= start {
         return Some(end);
     }
@@ -307,12 +324,13 @@ pub(crate) fn end_behind(start: u64, own: u64, end: u64) -> Option<u64> {
 }
 
 /// The same as `decide_section`, but relocations may be in the bytes of others.
+#[cfg(feature = "riscv64")]
 #[inline(always)]
 fn decide_all<D: AsDecision>(
     architecture: Architecture,
     phase: Phase,
-    setting: &Setting<'_>,
-    kept: &[KeptGroups],
+    context: &RelaxContext<'_>,
+    kept: &[UnrelaxableGroups],
     relocations: &[u8],
     section: &[u8],
     decisions: &mut [D],
@@ -325,7 +343,7 @@ fn decide_all<D: AsDecision>(
         set_all(relocations, Decision::Kept, decisions);
         return Ok(false);
     }
-    note_labels(setting, relocations, section, decisions);
+    note_labels(context, relocations, section, decisions);
     let mut end = 0;
     let mut is_taken = false;
     for index in 0..len {
@@ -333,7 +351,7 @@ fn decide_all<D: AsDecision>(
             is_taken,
             architecture,
             phase,
-            setting.symbols,
+            context.symbols,
             relocations,
             index,
         ) {
@@ -345,7 +363,7 @@ fn decide_all<D: AsDecision>(
         let Some(decision) = decide_after(
             is_taken,
             stays,
-            setting,
+            context,
             kept,
             relocations,
             section,
@@ -355,7 +373,7 @@ fn decide_all<D: AsDecision>(
             return Err(RewritingError::NotSurveyed(index));
         };
         let (start, own) = span_of(&decision, relocation.offset);
-        let Some(new_end) = end_behind(start, own, end) else {
+        let Some(new_end) = end_after(start, own, end) else {
             return Err(RewritingError::Overlaps(index));
         };
         end = new_end;
@@ -366,34 +384,36 @@ fn decide_all<D: AsDecision>(
 }
 
 /// The same, compiled for each architecture and phase.
+#[cfg(feature = "riscv64")]
 fn decide_each<D: AsDecision>(
-    setting: &Setting<'_>,
-    kept: &[KeptGroups],
+    context: &RelaxContext<'_>,
+    kept: &[UnrelaxableGroups],
     relocations: &[u8],
     section: &[u8],
     decisions: &mut [D],
 ) -> Result<bool, RewritingError> {
     of_each!(
-        setting.architecture,
-        setting.phase,
-        decide_all(setting, kept, relocations, section, decisions)
+        context.architecture,
+        context.phase,
+        decide_all(context, kept, relocations, section, decisions)
     )
 }
 
 /// Decides what becomes of each relocation of a section and of its instruction, in the caller's
 /// memory. Nothing is rewritten. False if all stay as they are by their codes.
+#[cfg(feature = "riscv64")]
 pub(crate) fn decide_section<D: AsDecision>(
-    setting: &Setting<'_>,
-    kept: &[KeptGroups],
+    context: &RelaxContext<'_>,
+    kept: &[UnrelaxableGroups],
     relocations: &[u8],
     section: &[u8],
     decisions: &mut [D],
 ) -> Result<bool, RewritingError> {
-    let changes = decide_each(setting, kept, relocations, section, decisions)?;
+    let changes = decide_each(context, kept, relocations, section, decisions)?;
     if !changes {
         return Ok(false);
     }
-    match first_covered(setting.architecture, relocations, section, decisions) {
+    match first_covered(context.architecture, relocations, section, decisions) {
         Some(index) => Err(RewritingError::Overlaps(index)),
         None => Ok(true),
     }

@@ -79,7 +79,7 @@ pub(crate) fn facts_of(
         is_ifunc: symbol.is_ifunc,
         is_undefined_weak: symbol.is_undefined_weak,
         has_fixed_address: output.is_fixed || has_own_address,
-        has_fixed_distance: output.has_near_symbols && !has_own_address,
+        is_pcrel_link_time_constant: output.has_near_symbols && !has_own_address,
         is_executable: output.is_executable,
         has_local_exec_base: true,
         may_compress: false,
@@ -109,7 +109,7 @@ pub(crate) fn facts_of(
 /// What rewrites are chosen by in a phase. Before addresses are known those are 0, and there are no
 /// values.
 #[derive(Clone, Copy)]
-pub(crate) struct Setting<'a> {
+pub(crate) struct RelaxContext<'a> {
     /// The architecture.
     pub(crate) architecture: Architecture,
     /// The phase.
@@ -141,7 +141,7 @@ pub(crate) fn address_in(addresses: &Addresses, value: &Symbol) -> u64 {
 #[inline(always)]
 fn is_executable_in(phase: Phase, output: &OutputFacts, symbol: &SymbolFacts) -> bool {
     match phase {
-        Phase::ThreadOffsets => output.is_executable && symbol.is_local && !symbol.is_ifunc,
+        Phase::TlsLocalExec => output.is_executable && symbol.is_local && !symbol.is_ifunc,
         _ => output.is_executable,
     }
 }
@@ -166,7 +166,7 @@ fn placed_facts(
         is_ifunc: symbol.is_ifunc,
         is_undefined_weak: symbol.is_undefined_weak,
         has_fixed_address: output.is_fixed || has_own_address,
-        has_fixed_distance: is_near && !symbol.is_undefined_weak,
+        is_pcrel_link_time_constant: is_near && !symbol.is_undefined_weak,
         is_executable: is_executable_in(phase, output, symbol),
         has_local_exec_base: true,
         may_compress: false,
@@ -206,7 +206,7 @@ fn facts_at(
     symbol: &SymbolFacts,
 ) -> Option<LinkFacts> {
     match phase {
-        Phase::Early => Some(facts_of(output, symbol, subject.addend, marked)),
+        Phase::PreLayout => Some(facts_of(output, symbol, subject.addend, marked)),
         _ => match values.get(subject.symbol as usize) {
             Some(value) => Some(placed_facts(
                 phase,
@@ -227,17 +227,17 @@ fn facts_at(
 /// that whose symbol and addend count. None where a table has no entry for the symbol.
 #[inline(always)]
 pub(crate) fn link_facts(
-    setting: &Setting<'_>,
+    context: &RelaxContext<'_>,
     relocation: &Rela,
     subject: &Rela,
     marked: bool,
 ) -> Option<LinkFacts> {
-    match setting.symbols.get(subject.symbol as usize) {
+    match context.symbols.get(subject.symbol as usize) {
         Some(symbol) => facts_at(
-            setting.phase,
-            setting.output,
-            setting.addresses,
-            setting.values,
+            context.phase,
+            context.output,
+            context.addresses,
+            context.values,
             relocation,
             subject,
             marked,

@@ -5,14 +5,14 @@
 
 use crate::linker_rewriting::agreement::contradiction;
 use crate::linker_rewriting::covered::first_covered;
-use crate::linker_rewriting::decisions::{AsDecision, Decision, FromDeletion, RewritingError, end_behind};
-use crate::linker_rewriting::facts::{OutputFacts, Setting, SymbolFacts, address_in};
-use crate::linker_rewriting::labels::{high_at, is_beyond};
+use crate::linker_rewriting::decisions::{AsDecision, Decision, FromDeletion, RewritingError, end_after};
+use crate::linker_rewriting::facts::{OutputFacts, RelaxContext, SymbolFacts, address_in};
 use crate::linker_rewriting::phases::Phase;
 use crate::linker_rewriting::relocations::{relocation_in, set_relocation};
+use crate::linker_rewriting::riscv_pcrel_groups::{high_at, is_beyond};
 use crate::linker_rewriting::sections::list_deletions;
 use crate::linker_rewriting::sequences::is_marked_at;
-use crate::linker_rewriting::words::{keep_word, subject_of, word_stays};
+use crate::linker_rewriting::toc_indirection::{keep_word, subject_of, word_stays};
 use crate::linker_base::rewrite::overwrite;
 use crate::linker_section::facts::{Addresses, Symbol};
 use crate::linker_section::relocations::{Rela, is_ascending, relocations_len};
@@ -111,13 +111,17 @@ fn part_subject(
 }
 
 /// What a relocation is of an address, and the relocation whose symbol and addend are its own.
-fn member_of(setting: &Setting<'_>, relocations: &[u8], relocation: &Rela) -> Option<(Part, Rela)> {
-    let Some(part) = part_of(setting.architecture, relocation.code) else {
+fn member_of(
+    context: &RelaxContext<'_>,
+    relocations: &[u8],
+    relocation: &Rela,
+) -> Option<(Part, Rela)> {
+    let Some(part) = part_of(context.architecture, relocation.code) else {
         return None;
     };
     match part_subject(
-        setting.addresses,
-        setting.values,
+        context.addresses,
+        context.values,
         relocations,
         relocation,
         part,
@@ -231,7 +235,7 @@ fn is_expected(section: &[u8], relocation: &Rela, part: Part, subject: &Rela) ->
 /// Whether a part can be rewritten, if all of its symbol can.
 fn fits(
     ascends: bool,
-    setting: &Setting<'_>,
+    context: &RelaxContext<'_>,
     gp: u64,
     relocations: &[u8],
     section: &[u8],
@@ -241,13 +245,13 @@ fn fits(
 ) -> bool {
     ascends
         && !is_beyond(relocations, relocation.offset, index)
-        && setting.output.is_executable
-        && setting.output.is_fixed
-        && is_marked_at(setting.architecture, relocations, index, relocation)
+        && context.output.is_executable
+        && context.output.is_fixed
+        && is_marked_at(context.architecture, relocations, index, relocation)
         && is_reached(
-            setting.symbols,
-            setting.addresses,
-            setting.values,
+            context.symbols,
+            context.addresses,
+            context.values,
             gp,
             &member.1,
         )
@@ -258,7 +262,7 @@ fn fits(
 #[inline(always)]
 fn kept_by(
     ascends: bool,
-    setting: &Setting<'_>,
+    context: &RelaxContext<'_>,
     gp: u64,
     relocations: &[u8],
     section: &[u8],
@@ -271,7 +275,7 @@ fn kept_by(
     };
     if fits(
         ascends,
-        setting,
+        context,
         gp,
         relocations,
         section,
@@ -288,17 +292,17 @@ fn kept_by(
 /// The symbol that a relocation keeps, since it is of an address and doesn't fit.
 fn keeping_symbol(
     ascends: bool,
-    setting: &Setting<'_>,
+    context: &RelaxContext<'_>,
     gp: u64,
     relocations: &[u8],
     section: &[u8],
     index: usize,
     relocation: &Rela,
 ) -> Option<usize> {
-    let member = member_of(setting, relocations, relocation);
+    let member = member_of(context, relocations, relocation);
     kept_by(
         ascends,
-        setting,
+        context,
         gp,
         relocations,
         section,
@@ -367,9 +371,9 @@ pub fn survey_global_pointer(
     if let Some(symbol) = contradiction(symbols, values, relocations) {
         return Err(symbol);
     }
-    let setting = Setting {
+    let context = RelaxContext {
         architecture,
-        phase: Phase::Distances,
+        phase: Phase::ShortPcRel,
         output,
         symbols,
         addresses,
@@ -380,7 +384,7 @@ pub fn survey_global_pointer(
         let relocation = relocation_in(relocations, index);
         let symbol = keeping_symbol(
             ascends,
-            &setting,
+            &context,
             gp,
             relocations,
             section,
@@ -400,7 +404,7 @@ fn part_decision(part: Part, subject: &Rela) -> Decision {
             kind: Relaxation::RiscV(RelaxationKind::Delete),
             relocation: 0,
         }),
-        Part::Low(relocation) | Part::Labelled(relocation) => Decision::Redirected(
+        Part::Low(relocation) | Part::Labelled(relocation) => Decision::RewrittenWithSymbol(
             Choice {
                 kind: Relaxation::RiscV(RelaxationKind::NoOp),
                 relocation,
@@ -414,7 +418,7 @@ fn part_decision(part: Part, subject: &Rela) -> Decision {
 #[inline(always)]
 fn decided_by(
     ascends: bool,
-    setting: &Setting<'_>,
+    context: &RelaxContext<'_>,
     gp: u64,
     kept: &[bool],
     relocations: &[u8],
@@ -431,7 +435,7 @@ fn decided_by(
     }
     if fits(
         ascends,
-        setting,
+        context,
         gp,
         relocations,
         section,
@@ -448,7 +452,7 @@ fn decided_by(
 /// What becomes of a relocation. None if its symbol doesn't stay, but it can't be rewritten.
 fn decide_part(
     ascends: bool,
-    setting: &Setting<'_>,
+    context: &RelaxContext<'_>,
     gp: u64,
     kept: &[bool],
     relocations: &[u8],
@@ -456,10 +460,10 @@ fn decide_part(
     index: usize,
     relocation: &Rela,
 ) -> Option<Decision> {
-    let member = member_of(setting, relocations, relocation);
+    let member = member_of(context, relocations, relocation);
     decided_by(
         ascends,
-        setting,
+        context,
         gp,
         kept,
         relocations,
@@ -475,14 +479,14 @@ fn decide_part(
 #[inline(always)]
 fn part_end(decision: &Decision, offset: u64) -> u64 {
     match decision {
-        Decision::Rewritten(_) | Decision::Redirected(_, _) => offset + 4,
-        Decision::Kept | Decision::TakenAlong => offset,
+        Decision::Rewritten(_) | Decision::RewrittenWithSymbol(_, _) => offset + 4,
+        Decision::Kept | Decision::Consumed => offset,
     }
 }
 
 /// The same as `decide_parts`, but relocations may be in the bytes of others.
 fn decide_each_part<D: AsDecision>(
-    setting: &Setting<'_>,
+    context: &RelaxContext<'_>,
     gp: u64,
     kept: &[bool],
     relocations: &[u8],
@@ -499,7 +503,7 @@ fn decide_each_part<D: AsDecision>(
         let relocation = relocation_in(relocations, index);
         let Some(decision) = decide_part(
             ascends,
-            setting,
+            context,
             gp,
             kept,
             relocations,
@@ -510,7 +514,7 @@ fn decide_each_part<D: AsDecision>(
             return Err(RewritingError::NotSurveyed(index));
         };
         let own = part_end(&decision, relocation.offset);
-        let Some(new_end) = end_behind(relocation.offset, own, end) else {
+        let Some(new_end) = end_after(relocation.offset, own, end) else {
             return Err(RewritingError::Overlaps(index));
         };
         end = new_end;
@@ -521,15 +525,15 @@ fn decide_each_part<D: AsDecision>(
 
 /// Decides what becomes of each relocation of a section, in the caller's memory.
 fn decide_parts<D: AsDecision>(
-    setting: &Setting<'_>,
+    context: &RelaxContext<'_>,
     gp: u64,
     kept: &[bool],
     relocations: &[u8],
     section: &[u8],
     decisions: &mut [D],
 ) -> Result<(), RewritingError> {
-    decide_each_part(setting, gp, kept, relocations, section, decisions)?;
-    match first_covered(setting.architecture, relocations, section, decisions) {
+    decide_each_part(context, gp, kept, relocations, section, decisions)?;
+    match first_covered(context.architecture, relocations, section, decisions) {
         Some(index) => Err(RewritingError::Overlaps(index)),
         None => Ok(()),
     }
@@ -540,7 +544,7 @@ fn decide_parts<D: AsDecision>(
 fn relocation_by(decision: &Decision, relocation: &Rela) -> Rela {
     match decision {
         Decision::Kept => *relocation,
-        Decision::TakenAlong => Rela {
+        Decision::Consumed => Rela {
             code: 0,
             ..*relocation
         },
@@ -548,7 +552,7 @@ fn relocation_by(decision: &Decision, relocation: &Rela) -> Rela {
             code: choice.relocation,
             ..*relocation
         },
-        Decision::Redirected(choice, subject) => Rela {
+        Decision::RewrittenWithSymbol(choice, subject) => Rela {
             offset: relocation.offset,
             code: choice.relocation,
             symbol: subject.symbol,
@@ -575,7 +579,7 @@ fn turn_all<D: AsDecision>(decisions: &[D], relocations: &mut [u8]) {
 ///
 /// The relocation of such an instruction gets the type 0. Those of the low parts of these symbols
 /// get the symbol and the addend of the address and the type `GPREL_I` or `GPREL_S`, which no other
-/// call knows: `from_global_pointer` writes the base of their instruction once all addresses are
+/// call knows: `finish_gp_relaxation` writes the base of their instruction once all addresses are
 /// final, and gives them the type whose value is then written. What became of each relocation is in
 /// `decisions`, which needs room for each of them.
 ///
@@ -639,15 +643,15 @@ pub fn rewrite_global_pointer<D: AsDecision, L: FromDeletion>(
     if let Some(symbol) = contradiction(symbols, values, relocations) {
         return Err(RewritingError::Contradiction(symbol));
     }
-    let setting = Setting {
+    let context = RelaxContext {
         architecture,
-        phase: Phase::Distances,
+        phase: Phase::ShortPcRel,
         output,
         symbols,
         addresses,
         values,
     };
-    match decide_parts(&setting, gp, kept, relocations, section, decisions) {
+    match decide_parts(&context, gp, kept, relocations, section, decisions) {
         Ok(()) => match list_deletions(relocations, decisions, deleted) {
             Some(len) => {
                 turn_all(decisions, relocations);
@@ -791,7 +795,7 @@ fn set_bases(
 /// isn't in the table; or whose instruction isn't in the section.
 ///
 /// ```
-/// use linker_utils::rewriting::{GPREL_I, from_global_pointer};
+/// use linker_utils::rewriting::{GPREL_I, finish_gp_relaxation};
 /// use linker_utils::section::{Addresses, Symbol};
 ///
 /// // lw a0, %lo(x)(a0), whose lui was deleted, becomes lw a0, 5(gp), where x is 5 above gp
@@ -800,12 +804,12 @@ fn set_bases(
 /// relocations[8] = u8::try_from(GPREL_I).unwrap();
 /// let values = [Symbol { address: 0x2_0805, ..Symbol::default() }];
 /// let addresses = Addresses::default();
-/// from_global_pointer(&addresses, &values, 0x2_0800, &mut relocations, &mut section).unwrap();
+/// finish_gp_relaxation(&addresses, &values, 0x2_0800, &mut relocations, &mut section).unwrap();
 /// assert_eq!(section, [0x03, 0xa5, 0x01, 0]);
 /// // R_RISCV_LO12_I, whose value is x - 0x20800
 /// assert_eq!((relocations[8], &relocations[16..]), (27, &(-0x2_0800i64).to_le_bytes()[..]));
 /// ```
-pub fn from_global_pointer(
+pub fn finish_gp_relaxation(
     addresses: &Addresses,
     values: &[Symbol],
     gp: u64,

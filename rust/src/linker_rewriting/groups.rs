@@ -38,18 +38,18 @@ pub enum Group {
 #[derive(Clone, Copy, Debug, PartialEq, Eq)]
 pub enum Scope {
     /// It isn't rewritten.
-    Unlisted,
+    NotRelaxable,
     /// It alone, and what its rewrite takes along. Of two that are a load from LoongArch's GOT both
     /// are rewritten, or neither is.
-    Alone,
+    Independent,
     /// All of its group.
     Grouped(Group),
     /// It goes where the next relocation is alone and is rewritten: that rewrite is of both
     /// instructions.
-    Ahead,
+    FirstOfPair,
     /// It alone, by its own value, where each instruction of its group is one that the rewrite is
     /// meant for.
-    Matched(Group),
+    IfGroupMatches(Group),
     /// All of one label of RISC-V: a high part, and the low parts whose symbol is the label at it.
     Labelled,
 }
@@ -60,7 +60,7 @@ pub enum Scope {
 /// whichever symbol it is of. By default none stays.
 #[repr(C)]
 #[derive(Default, Clone, Copy, Debug, PartialEq, Eq)]
-pub struct KeptGroups {
+pub struct UnrelaxableGroups {
     /// Those of `Group::InitialExec`.
     pub initial_exec: bool,
     /// Those of `Group::GeneralDynamic`.
@@ -73,7 +73,7 @@ pub struct KeptGroups {
     pub got_load: bool,
 }
 
-impl KeptGroups {
+impl UnrelaxableGroups {
     /// Whether the group of a kind stays.
     #[must_use]
     #[inline(always)]
@@ -89,25 +89,25 @@ impl KeptGroups {
 
     /// The same, where the group of a kind stays too.
     #[inline(always)]
-    pub(crate) fn with_kept(self, group: Group) -> KeptGroups {
+    pub(crate) fn with_kept(self, group: Group) -> UnrelaxableGroups {
         match group {
-            Group::InitialExec => KeptGroups {
+            Group::InitialExec => UnrelaxableGroups {
                 initial_exec: true,
                 ..self
             },
-            Group::GeneralDynamic => KeptGroups {
+            Group::GeneralDynamic => UnrelaxableGroups {
                 general_dynamic: true,
                 ..self
             },
-            Group::LocalDynamic => KeptGroups {
+            Group::LocalDynamic => UnrelaxableGroups {
                 local_dynamic: true,
                 ..self
             },
-            Group::Descriptor => KeptGroups {
+            Group::Descriptor => UnrelaxableGroups {
                 descriptor: true,
                 ..self
             },
-            Group::GotLoad => KeptGroups {
+            Group::GotLoad => UnrelaxableGroups {
                 got_load: true,
                 ..self
             },
@@ -121,7 +121,8 @@ impl KeptGroups {
 fn aarch64_scope(name: AArch64Relocation) -> Scope {
     match name {
         #[cfg(feature = "aarch64")]
-        AArch64Relocation::R_AARCH64_CALL26 | AArch64Relocation::R_AARCH64_JUMP26 => Scope::Alone,
+        AArch64Relocation::R_AARCH64_CALL26 | AArch64Relocation::R_AARCH64_JUMP26 =>
+            Scope::Independent,
         #[cfg(feature = "aarch64")]
         AArch64Relocation::R_AARCH64_TLSIE_ADR_GOTTPREL_PAGE21
         | AArch64Relocation::R_AARCH64_TLSIE_LD64_GOTTPREL_LO12_NC => {
@@ -132,7 +133,7 @@ fn aarch64_scope(name: AArch64Relocation) -> Scope {
         | AArch64Relocation::R_AARCH64_TLSDESC_LD64_LO12
         | AArch64Relocation::R_AARCH64_TLSDESC_ADD_LO12
         | AArch64Relocation::R_AARCH64_TLSDESC_CALL => Scope::Grouped(Group::Descriptor),
-        _ => Scope::Unlisted,
+        _ => Scope::NotRelaxable,
     }
 }
 
@@ -143,7 +144,7 @@ fn loongarch_scope(name: LoongArch64Relocation) -> Scope {
     match name {
         #[cfg(feature = "loongarch64")]
         LoongArch64Relocation::R_LARCH_GOT_PC_HI20 | LoongArch64Relocation::R_LARCH_GOT_PC_LO12 =>
-            Scope::Alone,
+            Scope::Independent,
         #[cfg(feature = "loongarch64")]
         LoongArch64Relocation::R_LARCH_TLS_IE_PC_HI20
         | LoongArch64Relocation::R_LARCH_TLS_IE_PC_LO12
@@ -156,7 +157,7 @@ fn loongarch_scope(name: LoongArch64Relocation) -> Scope {
         | LoongArch64Relocation::R_LARCH_TLS_DESC64_PC_HI12
         | LoongArch64Relocation::R_LARCH_TLS_DESC_LD
         | LoongArch64Relocation::R_LARCH_TLS_DESC_CALL => Scope::Grouped(Group::Descriptor),
-        _ => Scope::Unlisted,
+        _ => Scope::NotRelaxable,
     }
 }
 
@@ -166,7 +167,7 @@ fn loongarch_scope(name: LoongArch64Relocation) -> Scope {
 fn ppc64_scope(name: Ppc64Relocation) -> Scope {
     match name {
         #[cfg(feature = "ppc64")]
-        Ppc64Relocation::R_PPC64_REL24 | Ppc64Relocation::R_PPC64_GOT_PCREL34 => Scope::Alone,
+        Ppc64Relocation::R_PPC64_REL24 | Ppc64Relocation::R_PPC64_GOT_PCREL34 => Scope::Independent,
         #[cfg(feature = "ppc64")]
         Ppc64Relocation::R_PPC64_GOT16
         | Ppc64Relocation::R_PPC64_GOT16_DS
@@ -195,7 +196,7 @@ fn ppc64_scope(name: Ppc64Relocation) -> Scope {
         | Ppc64Relocation::R_PPC64_GOT_TLSLD16_HA
         | Ppc64Relocation::R_PPC64_GOT_TLSLD_PCREL34
         | Ppc64Relocation::R_PPC64_TLSLD => Scope::Grouped(Group::LocalDynamic),
-        _ => Scope::Unlisted,
+        _ => Scope::NotRelaxable,
     }
 }
 
@@ -213,7 +214,7 @@ fn x86_64_scope(name: X86_64Relocation) -> Scope {
         | X86_64Relocation::R_X86_64_GOTTPOFF
         | X86_64Relocation::R_X86_64_CODE_4_GOTTPOFF
         | X86_64Relocation::R_X86_64_CODE_6_GOTTPOFF
-        | X86_64Relocation::R_X86_64_TLSGD => Scope::Alone,
+        | X86_64Relocation::R_X86_64_TLSGD => Scope::Independent,
         #[cfg(feature = "x86_64")]
         X86_64Relocation::R_X86_64_TLSLD
         | X86_64Relocation::R_X86_64_DTPOFF32
@@ -224,7 +225,7 @@ fn x86_64_scope(name: X86_64Relocation) -> Scope {
         | X86_64Relocation::R_X86_64_CODE_5_GOTPC32_TLSDESC
         | X86_64Relocation::R_X86_64_CODE_6_GOTPC32_TLSDESC
         | X86_64Relocation::R_X86_64_TLSDESC_CALL => Scope::Grouped(Group::Descriptor),
-        _ => Scope::Unlisted,
+        _ => Scope::NotRelaxable,
     }
 }
 
@@ -233,21 +234,21 @@ fn x86_64_scope(name: X86_64Relocation) -> Scope {
 #[inline(always)]
 fn aarch64_scope_in(phase: Phase, name: AArch64Relocation) -> Scope {
     match phase {
-        Phase::Early => aarch64_scope(name),
-        Phase::GotLoads => match name {
+        Phase::PreLayout => aarch64_scope(name),
+        Phase::GotToPcRel => match name {
             #[cfg(feature = "aarch64")]
             AArch64Relocation::R_AARCH64_ADR_GOT_PAGE
             | AArch64Relocation::R_AARCH64_LD64_GOT_LO12_NC => Scope::Grouped(Group::GotLoad),
-            _ => Scope::Unlisted,
+            _ => Scope::NotRelaxable,
         },
-        Phase::Distances => match name {
+        Phase::ShortPcRel => match name {
             #[cfg(feature = "aarch64")]
-            AArch64Relocation::R_AARCH64_ADR_PREL_PG_HI21 => Scope::Ahead,
+            AArch64Relocation::R_AARCH64_ADR_PREL_PG_HI21 => Scope::FirstOfPair,
             #[cfg(feature = "aarch64")]
-            AArch64Relocation::R_AARCH64_ADD_ABS_LO12_NC => Scope::Alone,
-            _ => Scope::Unlisted,
+            AArch64Relocation::R_AARCH64_ADD_ABS_LO12_NC => Scope::Independent,
+            _ => Scope::NotRelaxable,
         },
-        Phase::ThreadOffsets => Scope::Unlisted,
+        Phase::TlsLocalExec => Scope::NotRelaxable,
     }
 }
 
@@ -256,7 +257,7 @@ fn aarch64_scope_in(phase: Phase, name: AArch64Relocation) -> Scope {
 #[inline(always)]
 fn riscv_scope_in(phase: Phase, name: RiscVRelocation) -> Scope {
     match phase {
-        Phase::ThreadOffsets => match name {
+        Phase::TlsLocalExec => match name {
             #[cfg(feature = "riscv64")]
             RiscVRelocation::R_RISCV_TPREL_HI20
             | RiscVRelocation::R_RISCV_TPREL_ADD
@@ -267,16 +268,16 @@ fn riscv_scope_in(phase: Phase, name: RiscVRelocation) -> Scope {
             | RiscVRelocation::R_RISCV_TLSDESC_LOAD_LO12
             | RiscVRelocation::R_RISCV_TLSDESC_ADD_LO12
             | RiscVRelocation::R_RISCV_TLSDESC_CALL => Scope::Labelled,
-            _ => Scope::Unlisted,
+            _ => Scope::NotRelaxable,
         },
-        Phase::GotLoads => match name {
+        Phase::GotToPcRel => match name {
             #[cfg(feature = "riscv64")]
             RiscVRelocation::R_RISCV_GOT_HI20
             | RiscVRelocation::R_RISCV_PCREL_LO12_I
             | RiscVRelocation::R_RISCV_PCREL_LO12_S => Scope::Labelled,
-            _ => Scope::Unlisted,
+            _ => Scope::NotRelaxable,
         },
-        Phase::Early | Phase::Distances => Scope::Unlisted,
+        Phase::PreLayout | Phase::ShortPcRel => Scope::NotRelaxable,
     }
 }
 
@@ -285,15 +286,15 @@ fn riscv_scope_in(phase: Phase, name: RiscVRelocation) -> Scope {
 #[inline(always)]
 fn loongarch_scope_in(phase: Phase, name: LoongArch64Relocation) -> Scope {
     match phase {
-        Phase::Early => loongarch_scope(name),
-        Phase::ThreadOffsets => match name {
+        Phase::PreLayout => loongarch_scope(name),
+        Phase::TlsLocalExec => match name {
             #[cfg(feature = "loongarch64")]
             LoongArch64Relocation::R_LARCH_TLS_LE_HI20_R
             | LoongArch64Relocation::R_LARCH_TLS_LE_ADD_R
             | LoongArch64Relocation::R_LARCH_TLS_LE_LO12_R => Scope::Grouped(Group::InitialExec),
-            _ => Scope::Unlisted,
+            _ => Scope::NotRelaxable,
         },
-        Phase::GotLoads | Phase::Distances => Scope::Unlisted,
+        Phase::GotToPcRel | Phase::ShortPcRel => Scope::NotRelaxable,
     }
 }
 
@@ -302,22 +303,22 @@ fn loongarch_scope_in(phase: Phase, name: LoongArch64Relocation) -> Scope {
 #[inline(always)]
 fn ppc64_scope_in(phase: Phase, name: Ppc64Relocation) -> Scope {
     match phase {
-        Phase::Early => ppc64_scope(name),
-        Phase::ThreadOffsets => match name {
+        Phase::PreLayout => ppc64_scope(name),
+        Phase::TlsLocalExec => match name {
             #[cfg(feature = "ppc64")]
             Ppc64Relocation::R_PPC64_TPREL16_HA
             | Ppc64Relocation::R_PPC64_TPREL16_LO
             | Ppc64Relocation::R_PPC64_TPREL16_LO_DS => Scope::Grouped(Group::InitialExec),
-            _ => Scope::Unlisted,
+            _ => Scope::NotRelaxable,
         },
-        Phase::Distances => match name {
+        Phase::ShortPcRel => match name {
             #[cfg(feature = "ppc64")]
             Ppc64Relocation::R_PPC64_TOC16_HA
             | Ppc64Relocation::R_PPC64_TOC16_LO
-            | Ppc64Relocation::R_PPC64_TOC16_LO_DS => Scope::Matched(Group::GotLoad),
-            _ => Scope::Unlisted,
+            | Ppc64Relocation::R_PPC64_TOC16_LO_DS => Scope::IfGroupMatches(Group::GotLoad),
+            _ => Scope::NotRelaxable,
         },
-        Phase::GotLoads => Scope::Unlisted,
+        Phase::GotToPcRel => Scope::NotRelaxable,
     }
 }
 
@@ -326,8 +327,8 @@ fn ppc64_scope_in(phase: Phase, name: Ppc64Relocation) -> Scope {
 #[inline(always)]
 fn x86_64_scope_in(phase: Phase, name: X86_64Relocation) -> Scope {
     match phase {
-        Phase::Early => x86_64_scope(name),
-        Phase::ThreadOffsets | Phase::GotLoads | Phase::Distances => Scope::Unlisted,
+        Phase::PreLayout => x86_64_scope(name),
+        Phase::TlsLocalExec | Phase::GotToPcRel | Phase::ShortPcRel => Scope::NotRelaxable,
     }
 }
 
@@ -340,8 +341,8 @@ fn x86_64_scope_in(phase: Phase, name: X86_64Relocation) -> Scope {
 ///
 /// // R_AARCH64_ADR_GOT_PAGE
 /// let group = Scope::Grouped(Group::GotLoad);
-/// assert_eq!(scope_in(Architecture::AArch64, Phase::GotLoads, 311), group);
-/// assert_eq!(scope_in(Architecture::AArch64, Phase::Early, 311), Scope::Unlisted);
+/// assert_eq!(scope_in(Architecture::AArch64, Phase::GotToPcRel, 311), group);
+/// assert_eq!(scope_in(Architecture::AArch64, Phase::PreLayout, 311), Scope::NotRelaxable);
 /// ```
 #[must_use]
 #[inline(always)]
@@ -367,28 +368,28 @@ pub fn scope_in(architecture: Architecture, phase: Phase, code: u32) -> Scope {
 fn is_listed(architecture: Architecture, phase: Phase) -> bool {
     match architecture {
         #[cfg(feature = "aarch64")]
-        Architecture::AArch64 => !matches!(phase, Phase::ThreadOffsets),
+        Architecture::AArch64 => !matches!(phase, Phase::TlsLocalExec),
         #[cfg(feature = "riscv64")]
-        Architecture::RiscV => matches!(phase, Phase::ThreadOffsets | Phase::GotLoads),
+        Architecture::RiscV => matches!(phase, Phase::TlsLocalExec | Phase::GotToPcRel),
         #[cfg(feature = "loongarch64")]
-        Architecture::LoongArch64 => matches!(phase, Phase::Early | Phase::ThreadOffsets),
+        Architecture::LoongArch64 => matches!(phase, Phase::PreLayout | Phase::TlsLocalExec),
         #[cfg(feature = "ppc64")]
-        Architecture::Ppc64 => !matches!(phase, Phase::GotLoads),
+        Architecture::Ppc64 => !matches!(phase, Phase::GotToPcRel),
         #[cfg(feature = "x86_64")]
-        Architecture::X86_64 => matches!(phase, Phase::Early),
+        Architecture::X86_64 => matches!(phase, Phase::PreLayout),
     }
 }
 
 /// Whether an architecture has rewrites in a phase. In one without them a linker surveys and
-/// rewrites nothing: each relocation is `Scope::Unlisted`.
+/// rewrites nothing: each relocation is `Scope::NotRelaxable`.
 ///
 /// ```
 /// use linker_utils::rewriting::has_rewrites;
 /// use linker_utils::rewriting::Phase;
 /// use linker_utils::elf::Architecture;
 ///
-/// assert!(has_rewrites(Architecture::RiscV, Phase::ThreadOffsets));
-/// assert!(!has_rewrites(Architecture::X86_64, Phase::ThreadOffsets));
+/// assert!(has_rewrites(Architecture::RiscV, Phase::TlsLocalExec));
+/// assert!(!has_rewrites(Architecture::X86_64, Phase::TlsLocalExec));
 /// ```
 #[must_use]
 pub fn has_rewrites(architecture: Architecture, phase: Phase) -> bool {
@@ -403,14 +404,14 @@ pub fn has_rewrites(architecture: Architecture, phase: Phase) -> bool {
 /// use linker_utils::elf::Architecture;
 ///
 /// // R_X86_64_GOTPCRELX, R_X86_64_TLSLD and R_X86_64_PC32
-/// assert_eq!(scope_of(Architecture::X86_64, 41), Scope::Alone);
+/// assert_eq!(scope_of(Architecture::X86_64, 41), Scope::Independent);
 /// assert_eq!(scope_of(Architecture::X86_64, 20), Scope::Grouped(Group::LocalDynamic));
-/// assert_eq!(scope_of(Architecture::X86_64, 2), Scope::Unlisted);
+/// assert_eq!(scope_of(Architecture::X86_64, 2), Scope::NotRelaxable);
 /// ```
 #[must_use]
 #[inline(always)]
 pub fn scope_of(architecture: Architecture, code: u32) -> Scope {
-    scope_in(architecture, Phase::Early, code)
+    scope_in(architecture, Phase::PreLayout, code)
 }
 
 /// Whether a name of PowerPC64 marks a call of `__tls_get_addr`.
@@ -443,7 +444,7 @@ pub(crate) fn symbol_of_group(group: Group, symbol: u32) -> u32 {
 
 /// Whether the group of a kind stays at an index of a table. All do where the table has none.
 #[inline(always)]
-pub(crate) fn stays_at(kept: &[KeptGroups], group: Group, symbol: u32) -> bool {
+pub(crate) fn stays_at(kept: &[UnrelaxableGroups], group: Group, symbol: u32) -> bool {
     match kept.get(symbol as usize) {
         Some(kept) => kept.keeps(group),
         None => true,
@@ -452,6 +453,6 @@ pub(crate) fn stays_at(kept: &[KeptGroups], group: Group, symbol: u32) -> bool {
 
 /// Whether the group of a kind and of a symbol stays.
 #[inline(always)]
-pub(crate) fn group_stays(kept: &[KeptGroups], group: Group, symbol: u32) -> bool {
+pub(crate) fn group_stays(kept: &[UnrelaxableGroups], group: Group, symbol: u32) -> bool {
     stays_at(kept, group, 0) || stays_at(kept, group, symbol_of_group(group, symbol))
 }

@@ -17,7 +17,7 @@ use crate::ppc64::Ppc64Relocation;
 /// table of these has those of an object at the indexes that its relocations name (`r_sym`).
 #[repr(C)]
 #[derive(Default, Clone, Copy, Debug, PartialEq, Eq)]
-pub struct KeptFacts {
+pub struct FactsSnapshot {
     /// The bits, as `kept_bits` says.
     pub bits: u16,
 }
@@ -51,7 +51,7 @@ fn toc_bits(other: u8) -> u16 {
 
 /// What choices read of a symbol and of the output.
 #[inline(always)]
-fn kept_facts(output: &OutputFacts, symbol: &SymbolFacts) -> KeptFacts {
+fn facts_snapshot(output: &OutputFacts, symbol: &SymbolFacts) -> FactsSnapshot {
     let of_output = bit_if(1 << 10, output.has_near_symbols)
         + bit_if(1 << 9, output.is_fixed)
         + bit_if(1 << 8, output.is_executable);
@@ -61,7 +61,7 @@ fn kept_facts(output: &OutputFacts, symbol: &SymbolFacts) -> KeptFacts {
         + bit_if(4, symbol.is_absolute)
         + bit_if(2, symbol.is_ifunc)
         + bit_if(1, symbol.is_local);
-    KeptFacts {
+    FactsSnapshot {
         bits: (1 << 15) + of_output + toc + of_symbol,
     }
 }
@@ -74,10 +74,10 @@ fn kept_facts(output: &OutputFacts, symbol: &SymbolFacts) -> KeptFacts {
 ///
 /// - room: `symbols.len() == kept.len()`
 #[cfg_attr(debug_assertions, track_caller)]
-pub fn keep_facts(output: &OutputFacts, symbols: &[SymbolFacts], kept: &mut [KeptFacts]) {
+pub fn snapshot_facts(output: &OutputFacts, symbols: &[SymbolFacts], kept: &mut [FactsSnapshot]) {
     debug_assert!(symbols.len() == kept.len());
     for index in 0..symbols.len() {
-        kept[index] = kept_facts(output, &symbols[index]);
+        kept[index] = facts_snapshot(output, &symbols[index]);
     }
 }
 
@@ -86,12 +86,12 @@ pub fn keep_facts(output: &OutputFacts, symbols: &[SymbolFacts], kept: &mut [Kep
 fn is_as_kept(
     output: &OutputFacts,
     symbols: &[SymbolFacts],
-    kept: &[KeptFacts],
+    kept: &[FactsSnapshot],
     relocation: &Rela,
 ) -> bool {
     let index = relocation.symbol as usize;
     match (kept.get(index), symbols.get(index)) {
-        (Some(before), Some(symbol)) => before.bits == kept_facts(output, symbol).bits,
+        (Some(before), Some(symbol)) => before.bits == facts_snapshot(output, symbol).bits,
         (None, None) => true,
         _ => false,
     }
@@ -104,7 +104,7 @@ fn is_as_kept(
 pub fn first_changed(
     output: &OutputFacts,
     symbols: &[SymbolFacts],
-    kept: &[KeptFacts],
+    kept: &[FactsSnapshot],
     relocations: &[u8],
 ) -> Option<usize> {
     for index in 0..relocations_len(relocations) {
@@ -167,7 +167,7 @@ fn first_without_stub(
 
 /// Writes the values of a section whose instructions were rewritten, as `relocate_section` does,
 /// where choices would still read the same facts: `facts` and `output` are those that hold now, and
-/// `kept` those of `keep_facts` when rewrites were chosen. So a symbol that was bound then and
+/// `kept` those of `snapshot_facts` when rewrites were chosen. So a symbol that was bound then and
 /// isn't any more doesn't get code that bypasses its GOT entry. A relocation that needs an entry
 /// which the linker hasn't made is an error of `relocate_section` (`NoEntry`).
 ///
@@ -181,7 +181,7 @@ fn first_without_stub(
 ///
 /// ```
 /// use linker_utils::rewriting::{OutputFacts, SymbolFacts};
-/// use linker_utils::rewriting::{KeptFacts, WritingError, keep_facts, relocate_rewritten_section};
+/// use linker_utils::rewriting::{FactsSnapshot, WritingError, snapshot_facts, relocate_rewritten_section};
 /// use linker_utils::section::{Addresses, Symbol};
 /// use linker_utils::elf::Architecture;
 ///
@@ -195,8 +195,8 @@ fn first_without_stub(
 ///     SymbolFacts::default(),
 ///     SymbolFacts { is_local: true, ..SymbolFacts::default() },
 /// ];
-/// let mut kept = [KeptFacts::default(); 2];
-/// keep_facts(&output, &facts, &mut kept);
+/// let mut kept = [FactsSnapshot::default(); 2];
+/// snapshot_facts(&output, &facts, &mut kept);
 /// // another definition replaces f
 /// facts[1].is_local = false;
 /// let addresses = Addresses { section: 0x1000, ..Addresses::default() };
@@ -223,7 +223,7 @@ pub fn relocate_rewritten_section(
     architecture: Architecture,
     output: &OutputFacts,
     facts: &[SymbolFacts],
-    kept: &[KeptFacts],
+    kept: &[FactsSnapshot],
     addresses: &Addresses,
     relocations: &[u8],
     symbols: &[Symbol],

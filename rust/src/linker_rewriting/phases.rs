@@ -6,11 +6,11 @@
 #[derive(Clone, Copy, Debug, PartialEq, Eq)]
 pub enum Phase {
     /// Before addresses are known.
-    Early,
+    PreLayout,
     /// Once offsets from the thread pointer are known. Bytes may be deleted.
-    ThreadOffsets,
+    TlsLocalExec,
     /// Once addresses are known: loads of an address from the GOT become its computation.
-    GotLoads,
+    GotToPcRel,
     /// After these: addresses that an instruction reaches alone.
-    Distances,
+    ShortPcRel,
 }

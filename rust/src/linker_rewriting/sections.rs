@@ -3,9 +3,11 @@
 //! The rewrites of a section, made in one call for each phase.
 
 use crate::linker_rewriting::agreement::contradiction;
-use crate::linker_rewriting::decisions::{AsDecision, Decision, FromDeletion, RewritingError, decide_section};
-use crate::linker_rewriting::facts::{NO_ADDRESSES, OutputFacts, Setting, SymbolFacts};
-use crate::linker_rewriting::groups::KeptGroups;
+use crate::linker_rewriting::decisions::{AsDecision, Decision, FromDeletion, RewritingError};
+#[cfg(feature = "riscv64")]
+use crate::linker_rewriting::decisions::decide_section;
+use crate::linker_rewriting::facts::{NO_ADDRESSES, OutputFacts, RelaxContext, SymbolFacts};
+use crate::linker_rewriting::groups::UnrelaxableGroups;
 use crate::linker_rewriting::phases::Phase;
 use crate::linker_rewriting::relocations::{relocation_in, set_relocation};
 use crate::linker_section::facts::{Addresses, Symbol};
@@ -17,14 +19,14 @@ use crate::elf::{Architecture, InstructionRewrite};
 fn make(decision: Decision, relocation: &mut Rela, section: &mut [u8]) {
     match decision {
         Decision::Kept => {}
-        Decision::TakenAlong => relocation.code = 0,
+        Decision::Consumed => relocation.code = 0,
         Decision::Rewritten(choice) => {
             choice
                 .kind
                 .apply(section, &mut relocation.offset, &mut relocation.addend);
             relocation.code = choice.relocation;
         }
-        Decision::Redirected(choice, subject) => {
+        Decision::RewrittenWithSymbol(choice, subject) => {
             relocation.symbol = subject.symbol;
             relocation.addend = subject.addend;
             let kind = choice.kind;
@@ -63,7 +65,7 @@ fn make_changes<D: AsDecision>(
 /// turns its relocations into those after it. It decides by all of the section's bytes before it
 /// rewrites one.
 ///
-/// An instruction whose relocation is `Scope::Alone` is rewritten where it can be. Those of a group
+/// An instruction whose relocation is `Scope::Independent` is rewritten where it can be. Those of a group
 /// are all rewritten, or none is where the group stays by `kept`, which `survey` made of all
 /// sections of code of the object with the same facts. A relocation that a rewrite takes along gets
 /// the type 0, so that indexes stay. A relocation of a symbol that isn't in the table isn't
@@ -94,7 +96,7 @@ fn make_changes<D: AsDecision>(
 /// ```
 /// use linker_utils::rewriting::Decision;
 /// use linker_utils::rewriting::{OutputFacts, SymbolFacts};
-/// use linker_utils::rewriting::KeptGroups;
+/// use linker_utils::rewriting::UnrelaxableGroups;
 /// use linker_utils::rewriting::rewrite_section;
 /// use linker_utils::elf::Architecture;
 ///
@@ -113,7 +115,7 @@ fn make_changes<D: AsDecision>(
 ///     Architecture::X86_64,
 ///     &output,
 ///     &symbols,
-///     &[KeptGroups::default(); 2],
+///     &[UnrelaxableGroups::default(); 2],
 ///     &mut relocations,
 ///     &mut section,
 ///     &mut decisions,
@@ -123,24 +125,25 @@ fn make_changes<D: AsDecision>(
 /// // R_X86_64_PC32
 /// assert_eq!(relocations[8], 2);
 /// ```
+#[cfg(feature = "riscv64")]
 pub fn rewrite_section<D: AsDecision>(
     architecture: Architecture,
     output: &OutputFacts,
     symbols: &[SymbolFacts],
-    kept: &[KeptGroups],
+    kept: &[UnrelaxableGroups],
     relocations: &mut [u8],
     section: &mut [u8],
     decisions: &mut [D],
 ) -> Result<(), RewritingError> {
-    let setting = Setting {
+    let context = RelaxContext {
         architecture,
-        phase: Phase::Early,
+        phase: Phase::PreLayout,
         output,
         symbols,
         addresses: &NO_ADDRESSES,
         values: &[],
     };
-    match decide_section(&setting, kept, relocations, section, decisions) {
+    match decide_section(&context, kept, relocations, section, decisions) {
         Ok(changes) => {
             make_changes(changes, decisions, relocations, section);
             Ok(())
@@ -199,19 +202,20 @@ fn list_changes<D: AsDecision, L: FromDeletion>(
 /// Bytes that are to be deleted are listed in `deleted` by their offset in the section and how many
 /// they are, ascending, as `SectionRelaxDeltas::new` of `linker_base::relaxation` takes them. They
 /// are in the section, apart from each other and from all that is rewritten, and still there.
-/// `Phase::ThreadOffsets` alone has any. Returns how many there are. A relocation that goes, with
+/// `Phase::TlsLocalExec` alone has any. Returns how many there are. A relocation that goes, with
 /// its instruction or without, gets the type 0.
 ///
-/// - `ThreadOffsets`: where an offset from the thread pointer has 12 bits, RISC-V's and LoongArch's
+/// - `TlsLocalExec`: where an offset from the thread pointer has 12 bits, RISC-V's and LoongArch's
 ///   `lui` and `add` of it are deleted, and loads and stores are over the thread pointer; where it
 ///   has 16 bits, PowerPC64's `addis` becomes a `nop`. An instruction of RISC-V and LoongArch has
 ///   to be marked for that. RISC-V's TLS descriptors become such offsets too, all of a label or
 ///   none: what is left out is deleted where the high part is marked, and a `nop` elsewhere. Their
-///   relocations are then of the symbol and the addend of the high part (`Decision::Redirected`).
-/// - `GotLoads`: AArch64's loads of an address from the GOT become `adrp` and `add`, where both
+///   relocations are then of the symbol and the addend of the high part
+///   (`Decision::RewrittenWithSymbol`).
+/// - `GotToPcRel`: AArch64's loads of an address from the GOT become `adrp` and `add`, where both
 ///   relocations are next to each other and have no addend. RISC-V's become `auipc` and `addi`,
 ///   where all of a label are marked.
-/// - `Distances`: AArch64's `adrp` and `add` next to each other become `nop` and `adr`. Where a
+/// - `ShortPcRel`: AArch64's `adrp` and `add` next to each other become `nop` and `adr`. Where a
 ///   distance from the TOC pointer has 16 bits, PowerPC64's `addis` becomes a `nop`, and what reads
 ///   it is over the TOC pointer.
 ///
@@ -225,7 +229,7 @@ fn list_changes<D: AsDecision, L: FromDeletion>(
 /// ```
 /// use linker_utils::rewriting::Decision;
 /// use linker_utils::rewriting::{OutputFacts, SymbolFacts};
-/// use linker_utils::rewriting::KeptGroups;
+/// use linker_utils::rewriting::UnrelaxableGroups;
 /// use linker_utils::rewriting::Phase;
 /// use linker_utils::rewriting::rewrite_placed_section;
 /// use linker_utils::section::{Addresses, Symbol};
@@ -242,12 +246,12 @@ fn list_changes<D: AsDecision, L: FromDeletion>(
 /// let values = [Symbol::default(), Symbol { address: 0x2004, ..Symbol::default() }];
 /// let rewritten = rewrite_placed_section(
 ///     Architecture::AArch64,
-///     Phase::Distances,
+///     Phase::ShortPcRel,
 ///     &OutputFacts { is_executable: true, is_fixed: true, has_near_symbols: true },
 ///     &[SymbolFacts { is_local: true, ..SymbolFacts::default() }; 2],
 ///     &Addresses { section: 0x1000, ..Addresses::default() },
 ///     &values,
-///     &[KeptGroups::default(); 2],
+///     &[UnrelaxableGroups::default(); 2],
 ///     &mut relocations,
 ///     &mut section,
 ///     &mut [Decision::Kept; 2],
@@ -259,6 +263,7 @@ fn list_changes<D: AsDecision, L: FromDeletion>(
 /// assert_eq!((relocations[8], relocations[9]), (0, 0));
 /// assert_eq!((relocations[32], relocations[33]), (0x12, 1));
 /// ```
+#[cfg(feature = "riscv64")]
 pub fn rewrite_placed_section<D: AsDecision, L: FromDeletion>(
     architecture: Architecture,
     phase: Phase,
@@ -266,7 +271,7 @@ pub fn rewrite_placed_section<D: AsDecision, L: FromDeletion>(
     symbols: &[SymbolFacts],
     addresses: &Addresses,
     values: &[Symbol],
-    kept: &[KeptGroups],
+    kept: &[UnrelaxableGroups],
     relocations: &mut [u8],
     section: &mut [u8],
     decisions: &mut [D],
@@ -275,7 +280,7 @@ pub fn rewrite_placed_section<D: AsDecision, L: FromDeletion>(
     if let Some(symbol) = contradiction(symbols, values, relocations) {
         return Err(RewritingError::Contradiction(symbol));
     }
-    let setting = Setting {
+    let context = RelaxContext {
         architecture,
         phase,
         output,
@@ -283,7 +288,7 @@ pub fn rewrite_placed_section<D: AsDecision, L: FromDeletion>(
         addresses,
         values,
     };
-    match decide_section(&setting, kept, relocations, section, decisions) {
+    match decide_section(&context, kept, relocations, section, decisions) {
         Ok(changes) => match list_changes(changes, relocations, decisions, deleted) {
             Some(len) => {
                 make_changes(changes, decisions, relocations, section);

@@ -67,7 +67,7 @@ pub(crate) fn is_marked_at(
 fn mark_code_in(phase: Phase, architecture: Architecture) -> Option<u32> {
     match (phase, architecture) {
         #[cfg(feature = "ppc64")]
-        (Phase::Early, Architecture::Ppc64) => {
+        (Phase::PreLayout, Architecture::Ppc64) => {
             #[cfg(feature = "ppc64")]
             {
                 Some(Ppc64Relocation::R_PPC64_REL24_NOTOC.elf_code())
@@ -77,7 +77,7 @@ fn mark_code_in(phase: Phase, architecture: Architecture) -> Option<u32> {
                 None
             }
         }
-        (Phase::Early, _) => None,
+        (Phase::PreLayout, _) => None,
         _ => mark_code(architecture),
     }
 }

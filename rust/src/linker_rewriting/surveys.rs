@@ -5,8 +5,8 @@
 use crate::linker_rewriting::agreement::contradiction;
 use crate::linker_rewriting::candidates::{candidate, is_matched, is_tls_get_addr};
 use crate::linker_rewriting::codes::{is_surveyed, of_each};
-use crate::linker_rewriting::facts::{NO_ADDRESSES, OutputFacts, Setting, SymbolFacts};
-use crate::linker_rewriting::groups::{Group, KeptGroups, Scope, scope_in, symbol_of_group};
+use crate::linker_rewriting::facts::{NO_ADDRESSES, OutputFacts, RelaxContext, SymbolFacts};
+use crate::linker_rewriting::groups::{Group, Scope, UnrelaxableGroups, scope_in, symbol_of_group};
 #[cfg(feature = "ppc64")]
 use crate::linker_rewriting::groups::marks_call;
 use crate::linker_rewriting::phases::Phase;
@@ -17,7 +17,7 @@ use crate::elf::Architecture;
 
 /// Notes that the group of a kind and of a symbol stays.
 #[inline(always)]
-fn keep(kept: &mut [KeptGroups], group: Group, symbol: u32) {
+fn keep(kept: &mut [UnrelaxableGroups], group: Group, symbol: u32) {
     let index = symbol as usize;
     if index < kept.len() {
         kept[index] = kept[index].with_kept(group);
@@ -26,7 +26,7 @@ fn keep(kept: &mut [KeptGroups], group: Group, symbol: u32) {
 
 /// Notes that the group of a kind, if any, among a symbol's stays.
 #[inline(always)]
-fn keep_group(kept: &mut [KeptGroups], group: Option<Group>, symbol: u32) {
+fn keep_group(kept: &mut [UnrelaxableGroups], group: Option<Group>, symbol: u32) {
     if let Some(group) = group {
         keep(kept, group, symbol_of_group(group, symbol));
     }
@@ -34,7 +34,7 @@ fn keep_group(kept: &mut [KeptGroups], group: Option<Group>, symbol: u32) {
 
 /// Notes that all groups of thread-local storage in the object stay, if they do.
 #[inline(always)]
-fn keep_threads(kept: &mut [KeptGroups], stay: bool) {
+fn keep_threads(kept: &mut [UnrelaxableGroups], stay: bool) {
     if stay {
         keep(kept, Group::InitialExec, 0);
         keep(kept, Group::GeneralDynamic, 0);
@@ -45,21 +45,21 @@ fn keep_threads(kept: &mut [KeptGroups], stay: bool) {
 /// The kind of the groups that a relocation keeps, since it has no rewrite, though it is of one.
 #[inline(always)]
 fn keeping(
-    setting: &Setting<'_>,
+    context: &RelaxContext<'_>,
     relocations: &[u8],
     section: &[u8],
     index: usize,
     relocation: &Rela,
 ) -> Option<Group> {
-    match scope_in(setting.architecture, setting.phase, relocation.code) {
+    match scope_in(context.architecture, context.phase, relocation.code) {
         Scope::Grouped(group) => {
-            match candidate(setting, relocations, section, index, relocation) {
+            match candidate(context, relocations, section, index, relocation) {
                 Some(_) => None,
                 None => Some(group),
             }
         }
-        Scope::Matched(group) => {
-            if is_matched(setting, relocations, section, index, relocation) {
+        Scope::IfGroupMatches(group) => {
+            if is_matched(context, relocations, section, index, relocation) {
                 None
             } else {
                 Some(group)
@@ -108,7 +108,7 @@ fn is_unmarked(
 ) -> bool {
     match (phase, architecture) {
         #[cfg(feature = "ppc64")]
-        (Phase::Early, Architecture::Ppc64) => {
+        (Phase::PreLayout, Architecture::Ppc64) => {
             ppc64_is_unmarked(symbols, relocations, index, relocation)
         }
         _ => false,
@@ -125,7 +125,7 @@ fn needs_mark(
 ) -> bool {
     match (phase, architecture) {
         #[cfg(feature = "ppc64")]
-        (Phase::Early, Architecture::Ppc64) => is_tls_get_addr(symbols, relocation.symbol),
+        (Phase::PreLayout, Architecture::Ppc64) => is_tls_get_addr(symbols, relocation.symbol),
         _ => false,
     }
 }
@@ -150,13 +150,13 @@ fn keeps_none(
 fn next_in(
     architecture: Architecture,
     phase: Phase,
-    setting: &Setting<'_>,
+    context: &RelaxContext<'_>,
     relocations: &[u8],
     from: usize,
 ) -> usize {
     let len = relocations_len(relocations);
     for index in from..len {
-        if !keeps_none(architecture, phase, setting.symbols, relocations, index) {
+        if !keeps_none(architecture, phase, context.symbols, relocations, index) {
             return index;
         }
     }
@@ -164,33 +164,38 @@ fn next_in(
 }
 
 /// The same, compiled for each architecture and phase.
-fn next_keeping(setting: &Setting<'_>, relocations: &[u8], from: usize) -> usize {
+fn next_keeping(context: &RelaxContext<'_>, relocations: &[u8], from: usize) -> usize {
     of_each!(
-        setting.architecture,
-        setting.phase,
-        next_in(setting, relocations, from)
+        context.architecture,
+        context.phase,
+        next_in(context, relocations, from)
     )
 }
 
 /// Notes which groups stay in a phase, by a section, as `survey` and `survey_placed_section` say.
 #[inline(always)]
-fn survey_in(setting: &Setting<'_>, relocations: &[u8], section: &[u8], kept: &mut [KeptGroups]) {
+fn survey_in(
+    context: &RelaxContext<'_>,
+    relocations: &[u8],
+    section: &[u8],
+    kept: &mut [UnrelaxableGroups],
+) {
     let len = relocations_len(relocations);
-    let mut index = next_keeping(setting, relocations, 0);
+    let mut index = next_keeping(context, relocations, 0);
     while index < len {
         let relocation = relocation_in(relocations, index);
-        let group = keeping(setting, relocations, section, index, &relocation);
+        let group = keeping(context, relocations, section, index, &relocation);
         keep_group(kept, group, relocation.symbol);
         let unmarked = is_unmarked(
-            setting.architecture,
-            setting.phase,
-            setting.symbols,
+            context.architecture,
+            context.phase,
+            context.symbols,
             relocations,
             index,
             &relocation,
         );
         keep_threads(kept, unmarked);
-        index = next_keeping(setting, relocations, index + 1);
+        index = next_keeping(context, relocations, index + 1);
     }
 }
 
@@ -198,8 +203,9 @@ fn survey_in(setting: &Setting<'_>, relocations: &[u8], section: &[u8], kept: &m
 /// and has no rewrite: its instruction is none that a rewrite is meant for, its symbol may be of
 /// another file, or what the rewrite takes along isn't there. `rewrite_section` rewrites all of a
 /// group or none by these notes, so survey each section of code of an object before one of them is
-/// rewritten, with one table for the object, whose entries are `KeptGroups::default()` at first.
-/// What stays there already stays. A group stays too where the table has no entry for its symbol.
+/// rewritten, with one table for the object, whose entries are `UnrelaxableGroups::default()` at
+/// first. What is noted there already is kept. A group is unrelaxable too where the table has no
+/// entry for its symbol.
 ///
 /// An offset in the module's TLS block that stands in data counts from the block, also where code no
 /// longer does. Where data of the object has one that is loaded, as `R_X86_64_DTPOFF64`, note
@@ -207,7 +213,7 @@ fn survey_in(setting: &Setting<'_>, relocations: &[u8], section: &[u8], kept: &m
 ///
 /// ```
 /// use linker_utils::rewriting::{OutputFacts, SymbolFacts};
-/// use linker_utils::rewriting::KeptGroups;
+/// use linker_utils::rewriting::UnrelaxableGroups;
 /// use linker_utils::rewriting::survey;
 /// use linker_utils::elf::Architecture;
 ///
@@ -216,12 +222,10 @@ fn survey_in(setting: &Setting<'_>, relocations: &[u8], section: &[u8], kept: &m
 /// (relocations[8], relocations[12]) = (35, 1);
 /// let output = OutputFacts { is_executable: true, is_fixed: true, has_near_symbols: true };
 /// let symbols = [SymbolFacts::default(); 2];
-/// let mut kept = [KeptGroups::default(); 2];
+/// let mut kept = [UnrelaxableGroups::default(); 2];
 /// survey(Architecture::X86_64, &output, &symbols, &relocations, &[0x90], &mut kept);
-/// assert_eq!(
-///     kept,
-///     [KeptGroups::default(), KeptGroups { descriptor: true, ..KeptGroups::default() }],
-/// );
+/// let none = UnrelaxableGroups::default();
+/// assert_eq!(kept, [none, UnrelaxableGroups { descriptor: true, ..none }]);
 /// ```
 pub fn survey(
     architecture: Architecture,
@@ -229,17 +233,17 @@ pub fn survey(
     symbols: &[SymbolFacts],
     relocations: &[u8],
     section: &[u8],
-    kept: &mut [KeptGroups],
+    kept: &mut [UnrelaxableGroups],
 ) {
-    let setting = Setting {
+    let context = RelaxContext {
         architecture,
-        phase: Phase::Early,
+        phase: Phase::PreLayout,
         output,
         symbols,
         addresses: &NO_ADDRESSES,
         values: &[],
     };
-    survey_in(&setting, relocations, section, kept);
+    survey_in(&context, relocations, section, kept);
 }
 
 /// Notes which groups of an object stay in a phase once addresses are known, by a section, as
@@ -257,7 +261,7 @@ pub fn survey(
 ///
 /// ```
 /// use linker_utils::rewriting::{OutputFacts, SymbolFacts};
-/// use linker_utils::rewriting::KeptGroups;
+/// use linker_utils::rewriting::UnrelaxableGroups;
 /// use linker_utils::rewriting::Phase;
 /// use linker_utils::rewriting::survey_placed_section;
 /// use linker_utils::section::{Addresses, Symbol};
@@ -266,10 +270,10 @@ pub fn survey(
 /// // lui a0, 0, with R_RISCV_TPREL_HI20 of symbol 1, which no mark follows
 /// let mut relocations = [0; 24];
 /// (relocations[8], relocations[12]) = (29, 1);
-/// let mut kept = [KeptGroups::default(); 2];
+/// let mut kept = [UnrelaxableGroups::default(); 2];
 /// survey_placed_section(
 ///     Architecture::RiscV,
-///     Phase::ThreadOffsets,
+///     Phase::TlsLocalExec,
 ///     &OutputFacts { is_executable: true, is_fixed: true, has_near_symbols: true },
 ///     &[SymbolFacts { is_local: true, ..SymbolFacts::default() }; 2],
 ///     &Addresses::default(),
@@ -290,12 +294,12 @@ pub fn survey_placed_section(
     values: &[Symbol],
     relocations: &[u8],
     section: &[u8],
-    kept: &mut [KeptGroups],
+    kept: &mut [UnrelaxableGroups],
 ) -> Result<(), usize> {
     if let Some(symbol) = contradiction(symbols, values, relocations) {
         return Err(symbol);
     }
-    let setting = Setting {
+    let context = RelaxContext {
         architecture,
         phase,
         output,
@@ -303,6 +307,6 @@ pub fn survey_placed_section(
         addresses,
         values,
     };
-    survey_in(&setting, relocations, section, kept);
+    survey_in(&context, relocations, section, kept);
     Ok(())
 }

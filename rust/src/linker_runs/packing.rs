@@ -92,8 +92,8 @@ pub(crate) enum Piece {
 
 /// Whether the item at an index begins at or above a position after the one before it.
 #[inline(always)]
-fn is_apart(index: usize, behind: &Position, item: &Item) -> bool {
-    index == 0 || behind.input_offset <= item.offset()
+fn is_apart(index: usize, following: &Position, item: &Item) -> bool {
+    index == 0 || following.input_offset <= item.offset()
 }
 
 /// Whether an item lies in a section that begins at the input offset `base`.
@@ -167,8 +167,8 @@ fn kept_of(deltas: &[RelaxDelta], at: &Position, end: &Position, item: &Item) ->
     if kept > item.len() {
         return None;
     }
-    let behind = position_from(deltas, at, at.input_offset + kept);
-    if behind.output_offset == at.output_offset + kept {
+    let following = position_from(deltas, at, at.input_offset + kept);
+    if following.output_offset == at.output_offset + kept {
         Some(kept)
     } else {
         None
@@ -236,10 +236,10 @@ fn test_items<I: AsItem>(
     begin: &Position,
 ) -> Result<(), RejectedItem> {
     let count = items.len();
-    let mut behind = *begin;
+    let mut following = *begin;
     for index in 0..count {
         let item = items.at(index);
-        if !is_apart(index, &behind, &item) {
+        if !is_apart(index, &following, &item) {
             return Err(RejectedItem {
                 index,
                 error: ItemError::Overlaps,
@@ -251,8 +251,8 @@ fn test_items<I: AsItem>(
                 error: ItemError::OutOfSection,
             });
         }
-        let at = position_from(deltas, &behind, item.offset());
-        if !stay_whole(&behind, &at) {
+        let at = position_from(deltas, &following, item.offset());
+        if !stay_whole(&following, &at) {
             return Err(RejectedItem {
                 index,
                 error: ItemError::DeletedOutside,
@@ -262,10 +262,10 @@ fn test_items<I: AsItem>(
         if let Err(error) = piece_of(machine, section, base, deltas, &at, &past, start, &item) {
             return Err(RejectedItem { index, error });
         }
-        behind = past;
+        following = past;
     }
-    let end = position_from(deltas, &behind, base + section.len() as u64);
-    if stay_whole(&behind, &end) {
+    let end = position_from(deltas, &following, base + section.len() as u64);
+    if stay_whole(&following, &end) {
         Ok(())
     } else {
         Err(RejectedItem {

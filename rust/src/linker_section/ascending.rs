@@ -132,7 +132,7 @@ fn write_ascending(
     let mut high = None;
     let mut index = 0;
     let mut rest = relocations;
-    while let Some((entry, behind)) = rest.split_first_chunk::<RELA_LEN>() {
+    while let Some((entry, following)) = rest.split_first_chunk::<RELA_LEN>() {
         let relocation = relocation_of(entry);
         if let Some((own_end, part)) = write_quickly(
             architecture,
@@ -149,7 +149,7 @@ fn write_ascending(
             end = own_end;
             high = part;
             index += 1;
-            rest = behind;
+            rest = following;
             continue;
         }
         match write_slowly(

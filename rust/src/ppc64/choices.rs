@@ -4,25 +4,25 @@
 
 use super::rewrites::RelaxationKind;
 use crate::linker_elf::elf::choice_table::{
-    Chosen, ChosenByTable, ChosenKind, Table, by_table, choice_by, conditions,
+    ChoiceTable, Chosen, RewriteSet, Table, by_table, choice_by, conditions,
 };
 use crate::linker_elf::elf::{Choice, LinkFacts, Operands};
 use crate::linker_elf::ppc64::{Ppc64Relocation, Ppc64Relocation as Names};
 
 /// The instructions that an entry is for.
 #[derive(Debug)]
-pub enum AskedFor {
+pub enum Pattern {
     /// Those that its rewrite is meant for.
     OfRewrite,
 }
 
-impl ChosenKind for RelaxationKind {
+impl RewriteSet for RelaxationKind {
     type Relocation = Names;
 
-    type Originals = AskedFor;
+    type Originals = Pattern;
 
     #[inline(always)]
-    fn stand_at(self, originals: &AskedFor, section: &[u8], offset: u64) -> bool {
+    fn matches_at(self, originals: &Pattern, section: &[u8], offset: u64) -> bool {
         self.matches(section, offset)
     }
 
@@ -162,7 +162,7 @@ macro_rules! choices {
             ]
             R_PPC64_REL24: [NopToRestoreToc => R_PPC64_REL24, after_call]
             R_PPC64_REL16_HA: [AddisToLis => R_PPC64_ADDR16_HA, to_address(0)]
-            R_PPC64_REL16_LO: [AddiBehindLis => R_PPC64_ADDR16_LO, to_address(4)]
+            R_PPC64_REL16_LO: [AddiAfterLis => R_PPC64_ADDR16_LO, to_address(4)]
             R_PPC64_TPREL16_HA: [AddisThreadToNop => R_PPC64_NONE, without_high_offset]
             R_PPC64_TPREL16_LO: [BaseToThread => R_PPC64_TPREL16, without_high_offset]
             R_PPC64_TPREL16_LO_DS: [BaseToThread => R_PPC64_TPREL16_DS, without_high_offset]
@@ -170,7 +170,7 @@ macro_rules! choices {
     };
 }
 
-impl ChosenByTable for RelaxationKind {
+impl ChoiceTable for RelaxationKind {
     #[inline(always)]
     fn entries(name: Names, _section: &[u8], _offset: u64) -> Table<Self> {
         choices!(by_table(when, name, table => table))

@@ -67,7 +67,7 @@ pub enum RelaxationKind {
     /// Turns `addis 2,12`, at the entry of a function, into `lis 2,0`.
     AddisToLis,
     /// Writes `addi 2,2,0` after that. The addend is then 0.
-    AddiBehindLis,
+    AddiAfterLis,
     /// Writes `nop` in place of `addis rT,13`.
     AddisThreadToNop,
     /// Makes register 13, the thread pointer, the base of an instruction: bits 16 to 20.
@@ -449,7 +449,7 @@ impl RelaxationKind {
             14 => RelaxationKind::NopToRestoreToc,
             15 => RelaxationKind::KeepAddis,
             16 => RelaxationKind::AddisToLis,
-            17 => RelaxationKind::AddiBehindLis,
+            17 => RelaxationKind::AddiAfterLis,
             18 => RelaxationKind::AddisThreadToNop,
             19 => RelaxationKind::BaseToThread,
             _ => return prefixed_rewrite(number),
@@ -465,7 +465,7 @@ impl RelaxationKind {
     }
 
     /// Rewrites the instruction at an offset of a section. All other bytes are unchanged. So are
-    /// the addend, except that it is 0 after `AddiBehindLis`, and the offset, except that
+    /// the addend, except that it is 0 after `AddiAfterLis`, and the offset, except that
     /// `CallToAddi`, `CallToAdd` and `CallToAddi4096` move it 4 bytes on.
     ///
     /// # Requires
@@ -563,7 +563,7 @@ impl RelaxationKind {
                 put_two(section_bytes, offset, call, 0xe841_0018);
             }
             RelaxationKind::AddisToLis => put_word(section_bytes, offset, 0x3c40_0000),
-            RelaxationKind::AddiBehindLis => {
+            RelaxationKind::AddiAfterLis => {
                 put_word(section_bytes, offset, 0x3842_0000);
                 *addend = 0;
             }
@@ -643,7 +643,7 @@ impl RelaxationKind {
             RelaxationKind::IndexedToDs => offset % 4 == 0 && is_indexed_word(word),
             RelaxationKind::AddiToAddisThread | RelaxationKind::AddiToLd => is_addi(word),
             RelaxationKind::AddisToLis => is_addis_of_entry(word),
-            RelaxationKind::AddiBehindLis => is_addi_of_toc(word),
+            RelaxationKind::AddiAfterLis => is_addi_of_toc(word),
             RelaxationKind::CallToAddi
             | RelaxationKind::CallToAdd
             | RelaxationKind::CallToAddi4096

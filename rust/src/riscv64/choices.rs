@@ -7,13 +7,13 @@ use super::rewrites::{is_add_tp, is_addi_to_a0, is_auipc, is_ld, is_low_over_oth
 use super::{RelaxationKind, RiscVRelocation, RiscVRelocation as Names};
 use crate::linker_base::rewrite::has_window;
 use crate::linker_elf::elf::choice_table::{
-    Chosen, ChosenByTable, ChosenKind, SIGNED_12, Table, by_table, choice_by, conditions,
+    ChoiceTable, Chosen, RewriteSet, SIGNED_12, Table, by_table, choice_by, conditions,
 };
 use crate::linker_elf::elf::{Choice, LinkFacts, Operands};
 
 /// The instructions that an entry is for: what its rewrite is meant for, or another one.
 #[derive(Debug)]
-pub enum AskedFor {
+pub enum Pattern {
     OfRewrite,
     Lui,
     AddTp,
@@ -23,22 +23,22 @@ pub enum AskedFor {
     LowOverOther,
 }
 
-impl ChosenKind for RelaxationKind {
+impl RewriteSet for RelaxationKind {
     type Relocation = Names;
 
-    type Originals = AskedFor;
+    type Originals = Pattern;
 
     #[inline(always)]
-    fn stand_at(self, originals: &AskedFor, section: &[u8], offset: u64) -> bool {
+    fn matches_at(self, originals: &Pattern, section: &[u8], offset: u64) -> bool {
         match originals {
-            AskedFor::OfRewrite => self.matches(section, offset),
+            Pattern::OfRewrite => self.matches(section, offset),
             _ if !has_window(section, offset, 0, 4) => false,
-            AskedFor::Lui => is_lui(word_at(section, offset)),
-            AskedFor::AddTp => is_add_tp(word_at(section, offset)),
-            AskedFor::Auipc => is_auipc(word_at(section, offset)),
-            AskedFor::Ld => is_ld(word_at(section, offset)),
-            AskedFor::AddiToA0 => is_addi_to_a0(word_at(section, offset)),
-            AskedFor::LowOverOther => is_low_over_other(word_at(section, offset)),
+            Pattern::Lui => is_lui(word_at(section, offset)),
+            Pattern::AddTp => is_add_tp(word_at(section, offset)),
+            Pattern::Auipc => is_auipc(word_at(section, offset)),
+            Pattern::Ld => is_ld(word_at(section, offset)),
+            Pattern::AddiToA0 => is_addi_to_a0(word_at(section, offset)),
+            Pattern::LowOverOther => is_low_over_other(word_at(section, offset)),
         }
     }
 
@@ -153,7 +153,7 @@ macro_rules! choices {
     };
 }
 
-impl ChosenByTable for RelaxationKind {
+impl ChoiceTable for RelaxationKind {
     #[inline(always)]
     fn entries(name: Names, _section: &[u8], _offset: u64) -> Table<Self> {
         choices!(by_table(when, name, table => table))
@@ -175,7 +175,7 @@ impl ChosenByTable for RelaxationKind {
 /// // auipc ra, 0; jalr ra, 0(ra), which calls a function 0x1000 bytes on
 /// let call = [0x97, 0x00, 0x00, 0x00, 0xe7, 0x80, 0x00, 0x00];
 /// let facts = LinkFacts {
-///     has_fixed_distance: true,
+///     is_pcrel_link_time_constant: true,
 ///     is_relaxable: true,
 ///     has_addresses: true,
 ///     operands: Operands {

@@ -5,13 +5,13 @@
 use super::rewrites::{is_lea_of_descriptor, is_legacy};
 use super::{RelaxationKind, X86_64Relocation, X86_64Relocation as Names};
 use crate::linker_elf::elf::choice_table::{
-    Chosen, ChosenByTable, ChosenKind, Table, by_table, choice_by, conditions, table_of,
+    ChoiceTable, Chosen, RewriteSet, Table, by_table, choice_by, conditions, table_of,
 };
 use crate::linker_elf::elf::{Choice, LinkFacts, Operands};
 
 /// The instructions that an entry is for.
 #[derive(Debug)]
-pub enum AskedFor {
+pub enum Pattern {
     /// Those that its rewrite is for.
     OfRewrite,
     /// Of them those with an operand relative to the instruction pointer, n bytes before the
@@ -21,19 +21,19 @@ pub enum AskedFor {
     LeaOfDescriptor(u8),
 }
 
-impl ChosenKind for RelaxationKind {
+impl RewriteSet for RelaxationKind {
     type Relocation = Names;
 
-    type Originals = AskedFor;
+    type Originals = Pattern;
 
     #[inline(always)]
-    fn stand_at(self, originals: &AskedFor, section: &[u8], offset: u64) -> bool {
-        let are_asked = match *originals {
-            AskedFor::OfRewrite => true,
-            AskedFor::Legacy(n, opcode) => is_legacy(section, offset, n, opcode),
-            AskedFor::LeaOfDescriptor(n) => is_lea_of_descriptor(section, offset, n),
+    fn matches_at(self, originals: &Pattern, section: &[u8], offset: u64) -> bool {
+        let is_pattern = match *originals {
+            Pattern::OfRewrite => true,
+            Pattern::Legacy(n, opcode) => is_legacy(section, offset, n, opcode),
+            Pattern::LeaOfDescriptor(n) => is_lea_of_descriptor(section, offset, n),
         };
-        are_asked && self.matches(section, offset)
+        is_pattern && self.matches(section, offset)
     }
 
     #[inline(always)]
@@ -266,7 +266,7 @@ fn opcode_at(name: Names, section: &[u8], offset: u64) -> u8 {
     }
 }
 
-impl ChosenByTable for RelaxationKind {
+impl ChoiceTable for RelaxationKind {
     #[inline(always)]
     fn entries(name: Names, section: &[u8], offset: u64) -> Table<Self> {
         entries_by(name, opcode_at(name, section, offset))
@@ -307,7 +307,7 @@ impl ChosenByTable for RelaxationKind {
 /// let facts = LinkFacts {
 ///     is_local: true,
 ///     has_fixed_address: true,
-///     has_fixed_distance: true,
+///     is_pcrel_link_time_constant: true,
 ///     is_executable: true,
 ///     has_addresses: true,
 ///     operands,

@@ -9,9 +9,10 @@ layout! {
         min, max, has_range,
     }
     "linker_utils_link_facts": raw::LinkFacts {
-        is_local, is_ifunc, is_undefined_weak, has_fixed_address, has_fixed_distance, is_executable,
-        has_local_exec_base, may_compress, is_relaxable, has_got_high_part, is_label_relaxable,
-        toc_base_is_exclusive, may_change_toc, has_addresses, group_fits, operands,
+        is_local, is_ifunc, is_undefined_weak, has_fixed_address, is_pcrel_link_time_constant,
+        is_executable, has_local_exec_base, may_compress, is_relaxable, has_got_high_part,
+        is_label_relaxable, toc_base_is_exclusive, may_change_toc, has_addresses, group_fits,
+        operands,
     }
     "linker_utils_choice": raw::Choice {
         rewrite, relocation, modifier, deleted_len, deleted_start, other_offset, other_relocation,
@@ -34,7 +35,7 @@ layout! {
     "linker_utils_symbol_facts": raw::SymbolFacts {
         is_local, is_ifunc, is_absolute, is_undefined_weak, is_tls_get_addr, other,
     }
-    "linker_utils_kept_groups": raw::KeptGroups {
+    "linker_utils_unrelaxable_groups": raw::UnrelaxableGroups {
         initial_exec, general_dynamic, local_dynamic, descriptor, got_load,
     }
     "linker_utils_decision": raw::Decision {
@@ -69,7 +70,7 @@ layout! {
     "linker_utils_provided_symbol": raw::ProvidedSymbol {
         offset, place,
     }
-    "linker_utils_provided_run": raw::ProvidedRun {
+    "linker_utils_save_restore_routines": raw::SaveRestoreRoutines {
         len, first, count, spacing,
     }
     "linker_utils_stub": raw::Stub {
@@ -96,7 +97,7 @@ layout! {
     "linker_utils_window_bounds": raw::RewriteWindow {
         back, len,
     }
-    "linker_utils_kept_facts": raw::KeptFacts {
+    "linker_utils_facts_snapshot": raw::FactsSnapshot {
         bits,
     }
     "linker_utils_block_head": raw::BlockHead {

@@ -52,7 +52,7 @@ facts_hold mask facts =
     is_held mask 1 (facts.is_local && not facts.is_ifunc)
     && is_held mask 2 facts.is_undefined_weak
     && is_held mask 4 facts.has_fixed_address
-    && is_held mask 8 facts.has_fixed_distance
+    && is_held mask 8 facts.is_pcrel_link_time_constant
     && is_held mask 0x10 facts.is_executable
     && is_held mask 0x20 facts.has_local_exec_base
     && is_held mask 0x40 facts.may_compress
@@ -127,18 +127,18 @@ IsChoiceAt A (e ∷ es) (suc i) chosen = IsChoiceAt A es i chosen
 -- ---- tables
 
 -- the instructions that an entry of the code is for are those that the definition requires
-abbrev pub AreAsked : {O K : Type 0} → (O → K → List ℕ → ℕ → Type 0) → (K → List ℕ → ℕ → Type 0)
+abbrev pub IsPatternOf : {O K : Type 0} → (O → K → List ℕ → ℕ → Type 0) → (K → List ℕ → ℕ → Type 0)
     → O → K → Type 0
-AreAsked are_at Asked originals kind =
-    (section : List ℕ) (o : ℕ) → are_at originals kind section o ↔ Asked kind section o
+IsPatternOf are_at Required originals kind =
+    (section : List ℕ) (o : ℕ) → are_at originals kind section o ↔ Required kind section o
 
 -- The entries of the code are those of the definition, for the instructions that it requires.
 abbrev pub IsTableOf : {O K R : Type 0} → (O → K → List ℕ → ℕ → Type 0)
     → (K → List ℕ → ℕ → Type 0) → List (ChoiceEntry O K R) → List (Entry K R) → Type 0
-IsTableOf are_at Asked [] [] = ⊤
-IsTableOf are_at Asked (e ∷ es) (d ∷ ds) =
-    (entry_of e ≡ d) × (AreAsked are_at Asked e.originals e.kind × IsTableOf are_at Asked es ds)
-IsTableOf are_at Asked es ds = ⊥
+IsTableOf are_at Required [] [] = ⊤
+IsTableOf are_at Required (e ∷ es) (d ∷ ds) =
+    (entry_of e ≡ d) × (IsPatternOf are_at Required e.originals e.kind × IsTableOf are_at Required es ds)
+IsTableOf are_at Required es ds = ⊥
 
 -- ---- what an architecture brings
 

@@ -2,7 +2,7 @@
 
 ghost use Rattle.std.specs.Prelude.{◌≡◌, ◌==◌, ◌↔◌, ◌≤◌, ℕ, List, [], Option, IsTrue, IfSome};
 ghost use Rattle.std.specs.Prelude.{false, not, length};
-ghost use Rattle.linker_elf.specs.Choices.{Fits, Holds, choice};
+ghost use Rattle.linker_elf.specs.Choices.{Fits, ConditionHolds, choice};
 ghost use Rattle.linker_elf.specs.Inner.ChoiceTables.{is_held, facts_hold, value_condition};
 ghost use Rattle.linker_elf.specs.Inner.ChoiceTables.{seldom_facts_hold, AreSampled};
 ghost use Rattle.linker_elf.specs.Inner.ChoiceTables.{ValuesHold, EntryApplies};
@@ -24,7 +24,7 @@ pub const WEAK_ZERO: u32 = 1 << 1;
 /// `has_fixed_address`.
 pub const FIXED_ADDRESS: u32 = 1 << 2;
 
-/// `has_fixed_distance`.
+/// `is_pcrel_link_time_constant`.
 pub const FIXED_DISTANCE: u32 = 1 << 3;
 
 /// `is_executable`.
@@ -120,7 +120,7 @@ pub trait RelocationName: Copy {
 }
 
 /// The rewrites of an architecture, as entries of its tables have them. The default is `NoOp`.
-pub trait ChosenKind: InstructionRewrite + Default + 'static {
+pub trait RewriteSet: InstructionRewrite + Default + 'static {
     /// The names of its relocations.
     type Relocation: RelocationName + PartialEq + 'static;
 
@@ -143,7 +143,7 @@ pub trait ChosenKind: InstructionRewrite + Default + 'static {
 
     /// Whether the instructions that an entry with this rewrite is for are at
     /// an offset of a section.
-    fn stand_at(self, originals: &Self::Originals, section: &[u8], offset: u64) -> bool
+    fn matches_at(self, originals: &Self::Originals, section: &[u8], offset: u64) -> bool
         ensures { IsTrue result ↔ are_at originals.now self section.now offset };
 
     /// The operands of the relocation after the rewrite at an offset, from those before it.
@@ -156,16 +156,16 @@ pub trait ChosenKind: InstructionRewrite + Default + 'static {
 
 /// The entries of a relocation of an architecture.
 pub type Table<K> = &'static [ChoiceEntry<
-    <K as ChosenKind>::Originals,
+    <K as RewriteSet>::Originals,
     K,
-    <K as ChosenKind>::Relocation,
+    <K as RewriteSet>::Relocation,
 >];
 
 /// The choice of a rewrite of an architecture.
-pub type Chosen<K> = Choice<K, <K as ChosenKind>::Relocation>;
+pub type Chosen<K> = Choice<K, <K as RewriteSet>::Relocation>;
 
 /// The rewrites of an architecture, which are chosen by tables.
-pub trait ChosenByTable: ChosenKind {
+pub trait ChoiceTable: RewriteSet {
     /// The entries of a relocation at an offset of a section.
     fn entries(name: Self::Relocation, section: &[u8], offset: u64) -> Table<Self>
         ensures table { IsTableOf Self.are_at (Self.tables.required name section.now offset)
@@ -223,7 +223,7 @@ pub trait ChosenByTable: ChosenKind {
     }
 
     // a relocation that has entries has some after the opcode of x86-64's `mov`
-    ghost sampled: { AreSampled Self.ChosenKind.tables.entries };
+    ghost sampled: { AreSampled Self.RewriteSet.tables.entries };
 }
 
 /// Whether a table has entries.
@@ -236,42 +236,42 @@ fn has_entries<O, K, R>(entries: &'static [ChoiceEntry<O, K, R>]) -> bool
 
 /// Whether a fact holds, if a mask has its bit.
 #[inline(always)]
-fn is_held(asked: u32, fact: u32, holds: bool) -> bool
-    ensures { result ≡ is_held asked fact holds }
+fn is_held(conditions: u32, fact: u32, holds: bool) -> bool
+    ensures { result ≡ is_held conditions fact holds }
 {
-    asked & fact == 0 || holds
+    conditions & fact == 0 || holds
 }
 
 impl LinkFacts {
     /// Whether of the facts of a mask those hold that seldom do.
     #[inline(always)]
-    fn seldom_hold(&self, asked: u32) -> bool
-        ensures { result ≡ seldom_facts_hold asked self.now }
+    fn seldom_hold(&self, conditions: u32) -> bool
+        ensures { result ≡ seldom_facts_hold conditions self.now }
     {
-        is_held(asked, WEAK_ZERO, self.is_undefined_weak)
-            && is_held(asked, FIXED_ADDRESS, self.has_fixed_address)
+        is_held(conditions, WEAK_ZERO, self.is_undefined_weak)
+            && is_held(conditions, FIXED_ADDRESS, self.has_fixed_address)
     }
 
     /// Whether the facts of a mask hold.
     #[inline(always)]
-    fn hold(&self, asked: u32) -> bool
-        ensures { result ≡ facts_hold asked self.now }
+    fn hold(&self, conditions: u32) -> bool
+        ensures { result ≡ facts_hold conditions self.now }
     {
         let has_no_plt = self.operands.plt_entry == self.operands.symbol;
-        is_held(asked, BOUND, self.is_local && !self.is_ifunc)
-            & is_held(asked, WEAK_ZERO, self.is_undefined_weak)
-            & is_held(asked, FIXED_ADDRESS, self.has_fixed_address)
-            & is_held(asked, FIXED_DISTANCE, self.has_fixed_distance)
-            & is_held(asked, EXECUTABLE, self.is_executable)
-            & is_held(asked, LOCAL_EXEC_BASE, self.has_local_exec_base)
-            & is_held(asked, COMPRESSIBLE, self.may_compress)
-            & is_held(asked, RELAXABLE, self.is_relaxable)
-            & is_held(asked, LABEL_RELAXABLE, self.is_label_relaxable)
-            & is_held(asked, GOT_HIGH_PART, self.has_got_high_part)
-            & is_held(asked, EXCLUSIVE_TOC_BASE, self.toc_base_is_exclusive)
-            & is_held(asked, CHANGED_TOC, self.may_change_toc)
-            & is_held(asked, WITHOUT_PLT, has_no_plt)
-            & is_held(asked, GROUP_FITS, self.group_fits)
+        is_held(conditions, BOUND, self.is_local && !self.is_ifunc)
+            & is_held(conditions, WEAK_ZERO, self.is_undefined_weak)
+            & is_held(conditions, FIXED_ADDRESS, self.has_fixed_address)
+            & is_held(conditions, FIXED_DISTANCE, self.is_pcrel_link_time_constant)
+            & is_held(conditions, EXECUTABLE, self.is_executable)
+            & is_held(conditions, LOCAL_EXEC_BASE, self.has_local_exec_base)
+            & is_held(conditions, COMPRESSIBLE, self.may_compress)
+            & is_held(conditions, RELAXABLE, self.is_relaxable)
+            & is_held(conditions, LABEL_RELAXABLE, self.is_label_relaxable)
+            & is_held(conditions, GOT_HIGH_PART, self.has_got_high_part)
+            & is_held(conditions, EXCLUSIVE_TOC_BASE, self.toc_base_is_exclusive)
+            & is_held(conditions, CHANGED_TOC, self.may_change_toc)
+            & is_held(conditions, WITHOUT_PLT, has_no_plt)
+            & is_held(conditions, GROUP_FITS, self.group_fits)
     }
 }
 
@@ -280,7 +280,7 @@ impl<R: RelocationName> ValueCondition<R> {
     #[inline(always)]
     fn holds(&self, facts: &LinkFacts, after: &Operands) -> bool
         ensures { IsTrue result
-            ↔ Holds R.row_of after.now facts.now (value_condition self.now) }
+            ↔ ConditionHolds R.row_of after.now facts.now (value_condition self.now) }
     {
         match *self {
             ValueCondition::Low12 => facts.is_low_12(),
@@ -331,7 +331,7 @@ fn has_addend(addend: Option<i64>, facts: &LinkFacts) -> bool
 /// Whether an entry's instructions are at an offset of a section, and its conditions hold. The
 /// instructions are tested before the facts, except for those that seldom hold.
 #[inline(always)]
-fn applies<K: ChosenKind>(
+fn applies<K: RewriteSet>(
     entry: &'static ChoiceEntry<K::Originals, K, K::Relocation>,
     section: &[u8],
     offset: u64,
@@ -344,7 +344,7 @@ fn applies<K: ChosenKind>(
     if !facts.seldom_hold(conditions.facts) {
         return false;
     }
-    if !entry.kind.stand_at(&entry.originals, section, offset) {
+    if !entry.kind.matches_at(&entry.originals, section, offset) {
         return false;
     }
     if !facts.hold(conditions.facts) {
@@ -359,7 +359,7 @@ fn applies<K: ChosenKind>(
 
 /// The choice of the entry with an index, if there is one and it applies.
 #[inline(always)]
-fn choice_at<K: ChosenKind>(
+fn choice_at<K: RewriteSet>(
     entries: Table<K>,
     index: usize,
     section: &[u8],
@@ -384,7 +384,7 @@ fn choice_at<K: ChosenKind>(
 
 /// The choice that leaves the instruction and the relocation.
 #[inline(always)]
-fn unchanged<K: ChosenKind>(relocation: K::Relocation) -> Chosen<K>
+fn unchanged<K: RewriteSet>(relocation: K::Relocation) -> Chosen<K>
     ensures { result ≡ choice K.tables.no_op relocation }
 {
     Choice {
@@ -396,7 +396,7 @@ fn unchanged<K: ChosenKind>(relocation: K::Relocation) -> Chosen<K>
 /// The choice of the first entry that applies, and else another. Of a constant table the compiler
 /// leaves the tests that its entries require: so it is inlined, and has no loop.
 #[inline(always)]
-fn first_entry<K: ChosenKind>(
+fn first_entry<K: RewriteSet>(
     entries: Table<K>,
     section: &[u8],
     offset: u64,
@@ -427,7 +427,7 @@ fn first_entry<K: ChosenKind>(
 
 /// The choice by the entries of a relocation.
 #[inline(always)]
-pub fn choice_by<K: ChosenKind>(
+pub fn choice_by<K: RewriteSet>(
     entries: Table<K>,
     name: K::Relocation,
     section: &[u8],
@@ -444,7 +444,7 @@ pub fn choice_by<K: ChosenKind>(
 
 // The macros below make an architecture's tables of its `choices!`, which lists for each
 // relocation, or for several with `|` between, its entries in brackets. The module that calls them
-// has the enums `RelaxationKind`, `AskedFor` and, by the name `Names`, that of the relocations.
+// has the enums `RelaxationKind`, `Pattern` and, by the name `Names`, that of the relocations.
 
 /// Conditions on values, each a variant of `ValueCondition` with the name of a relocation. Without
 /// a count of bytes before the place that is 0.
@@ -491,9 +491,9 @@ macro_rules! conditions {
 /// The instructions that an entry is for: those of its rewrite, if no others are named.
 #[macro_export]
 macro_rules! originals {
-    () => { AskedFor::OfRewrite };
+    () => { Pattern::OfRewrite };
     ($originals:ident $(($($argument:expr),*))?) => {
-        AskedFor::$originals $(($($argument),*))?
+        Pattern::$originals $(($($argument),*))?
     };
 }
 

@@ -172,8 +172,8 @@ new_stub code state branch boundary part =
     }
 
 -- no boundary is far ahead of a branch, where stubs may be shared and its target has none
-abbrev pub IsLeft : Code → State → Branch → Type 0
-IsLeft code state branch = state.may_share ≡ true
+abbrev pub StaysUnshared : Code → State → Branch → Type 0
+StaysUnshared code state branch = state.may_share ≡ true
     → ((j : ℕ) → j < length state.stubs.items
     → (stub_at state.stubs.items j).target ≢ branch.target)
     → HasNoFar code branch
@@ -184,7 +184,7 @@ IsNewFar code state branch boundary = (state.may_share ≡ true) × IsFar code b
 
 abbrev pub IsNewNear : Code → State → Branch → ℕ → Part → Type 0
 IsNewNear code state branch boundary part =
-    IsNear code branch (new_stub code state branch boundary part) × IsLeft code state branch
+    IsNear code branch (new_stub code state branch boundary part) × StaysUnshared code state branch
 
 abbrev pub IsNew : Code → State → Branch → ℕ → Part → Type 0
 IsNew code state branch boundary Middle = IsNewFar code state branch boundary
@@ -204,13 +204,13 @@ IsOutAhead code state branch =
     passed code.boundaries.now branch.offset < length code.boundaries.now
     → IsOutThere code state branch (passed code.boundaries.now branch.offset) Front
 
-abbrev pub IsOutBehind : Code → State → Branch → Type 0
-IsOutBehind code state branch =
+abbrev pub IsOutAfter : Code → State → Branch → Type 0
+IsOutAfter code state branch =
     (b : ℕ) → b + 1 ≡ passed code.boundaries.now branch.offset
     → IsOutThere code state branch b Back
 
 abbrev pub IsOut : Code → State → Branch → Type 0
-IsOut code state branch = IsOutAhead code state branch × IsOutBehind code state branch
+IsOut code state branch = IsOutAhead code state branch × IsOutAfter code state branch
 
 -- how many bytes of stubs there are at boundaries before an index
 unfoldable pub bytes_before : StubShape → List Group → ℕ → ℕ

@@ -5,8 +5,8 @@ ghost use Rattle.std.specs.Prelude.{◌↔◌, IfNone, IsTrue};
 ghost use Rattle.std.specs.List.{sum_by};
 ghost use Rattle.linker_output.specs.Placement.{branch_at, at, part_of, stub_at, HasNoFar, HasSpare, IsCode, IsFar};
 ghost use Rattle.linker_output.specs.Inner.Placement.{IsState, level, way_at, level_of, IsAt};
-ghost use Rattle.linker_output.specs.Inner.Placement.{HasNoneAt, IsLeft, IsNew, IsOut, IsWay};
-ghost use Rattle.linker_output.specs.Inner.Placement.{IsOutAhead, IsOutBehind, IsOutThere, IsStubAt};
+ghost use Rattle.linker_output.specs.Inner.Placement.{HasNoneAt, StaysUnshared, IsNew, IsOut, IsWay};
+ghost use Rattle.linker_output.specs.Inner.Placement.{IsOutAhead, IsOutAfter, IsOutThere, IsStubAt};
 ghost use Rattle.linker_output.specs.Inner.Placement.{list_of, new_stub, new_way, with_one, IsNear, SameStubs};
 ghost use Rattle.linker_output.specs.declared.placement.Way.TheVariants.{Near, Far};
 
@@ -218,10 +218,10 @@ impl State {
         ensures none { IfNone result (HasNoFar code.now branch.now) }
     {
         let half = branch.max_forward / 2;
-        let behind = passed(code.boundaries, branch.offset.saturating_add(half));
+        let following = passed(code.boundaries, branch.offset.saturating_add(half));
         let ahead = passed(code.boundaries, branch.offset);
-        if behind > ahead && behind - ahead > 1 {
-            Some(behind - 1)
+        if following > ahead && following - ahead > 1 {
+            Some(following - 1)
         } else {
             None
         }
@@ -247,7 +247,7 @@ impl State {
             → sum_by level self.old.ways.items < sum_by level self.new.ways.items) }
         ensures same { IfOk result (λ went. went ≡ false → self.new ≡ self.old) }
         ensures left { IfOk result (λ went. went ≡ false
-            → IsLeft code.now self.old (branch_at code.now.branches.now index)) }
+            → StaysUnshared code.now self.old (branch_at code.now.branches.now index)) }
         ensures may_share { IfOk result (λ _. self.new.may_share ≡ self.old.may_share) }
     {
         let Way::Direct = self.ways[index] else {
@@ -324,7 +324,7 @@ impl State {
         requires next { level_of part ≡ 2 }
         requires higher { level (way_at self.old.ways.items index) < 2 }
         requires needed { ¬ HasSpare code.now (branch_at code.now.branches.now index) }
-        requires left { IsLeft code.now self.old (branch_at code.now.branches.now index) }
+        requires left { StaysUnshared code.now self.old (branch_at code.now.branches.now index) }
         ensures state { IfOk result (λ _. IsState code.now self.new) }
         ensures higher { IfOk result (λ went. went ≡ true
             → sum_by level self.old.ways.items < sum_by level self.new.ways.items) }
@@ -362,7 +362,7 @@ impl State {
         requires within { index < length code.now.branches.now }
         requires higher { level (way_at self.old.ways.items index) < 2 }
         requires needed { ¬ HasSpare code.now (branch_at code.now.branches.now index) }
-        requires left { IsLeft code.now self.old (branch_at code.now.branches.now index) }
+        requires left { StaysUnshared code.now self.old (branch_at code.now.branches.now index) }
         ensures state { IfOk result (λ _. IsState code.now self.new) }
         ensures higher { IfOk result (λ went. went ≡ true
             → sum_by level self.old.ways.items < sum_by level self.new.ways.items) }
@@ -385,14 +385,14 @@ impl State {
         requires within { index < length code.now.branches.now }
         requires higher { level (way_at self.old.ways.items index) < 2 }
         requires needed { ¬ HasSpare code.now (branch_at code.now.branches.now index) }
-        requires left { IsLeft code.now self.old (branch_at code.now.branches.now index) }
+        requires left { StaysUnshared code.now self.old (branch_at code.now.branches.now index) }
         ensures state { IfOk result (λ _. IsState code.now self.new) }
         ensures higher { IfOk result (λ went. went ≡ true
             → sum_by level self.old.ways.items < sum_by level self.new.ways.items) }
         ensures same { IfOk result (λ went. went ≡ false → self.new ≡ self.old) }
         ensures may_share { IfOk result (λ _. self.new.may_share ≡ self.old.may_share) }
         ensures none { IfOk result (λ went. went ≡ false
-            → IsOutBehind code.now self.old (branch_at code.now.branches.now index)) }
+            → IsOutAfter code.now self.old (branch_at code.now.branches.now index)) }
     {
         let ahead = passed(code.boundaries, code.branches[index].offset);
         if ahead == 0 {
@@ -408,7 +408,7 @@ impl State {
         requires within { index < length code.now.branches.now }
         requires higher { level (way_at self.old.ways.items index) < 2 }
         requires needed { ¬ HasSpare code.now (branch_at code.now.branches.now index) }
-        requires left { IsLeft code.now self.old (branch_at code.now.branches.now index) }
+        requires left { StaysUnshared code.now self.old (branch_at code.now.branches.now index) }
         ensures state { IfOk result (λ _. IsState code.now self.new) }
         ensures higher { IfOk result (λ went. went ≡ true
             → sum_by level self.old.ways.items < sum_by level self.new.ways.items) }

@@ -3,12 +3,12 @@ use Rattle.std.specs.Prelude.{ℕ, List}
 use Rattle.linker_elf.specs.Inner.ChoiceTables.{Tables}
 use Rattle.linker_elf.specs.declared.ppc64.relocations.Ppc64Relocation.{Ppc64Relocation}
 use Rattle.linker_ppc64.specs.Ppc64Rewrites.{ppc64_matches, ppc64_entries}
-use Rattle.linker_ppc64.specs.declared.choices.AskedFor.{AskedFor}
+use Rattle.linker_ppc64.specs.declared.choices.Pattern.{Pattern}
 use Rattle.linker_ppc64.specs.declared.rewrites.RelaxationKind.{RelaxationKind}
 use Rattle.linker_ppc64.specs.declared.rewrites.RelaxationKind.TheVariants as kinds
 
-abbrev pub AreThere : AskedFor → RelaxationKind → List ℕ → ℕ → Type 0
-AreThere originals = ppc64_matches
+abbrev pub MatchesPattern : Pattern → RelaxationKind → List ℕ → ℕ → Type 0
+MatchesPattern originals = ppc64_matches
 
 -- the tables; no condition is on what counts from a place that a rewrite moves
 abbrev pub ppc64_tables : Tables RelaxationKind Ppc64Relocation

@@ -5,7 +5,7 @@ use Rattle.linker_elf.specs.Choices.{choice}
 use Rattle.linker_elf.specs.declared.elf.choice.Choice.{Choice}
 use Rattle.linker_elf.specs.declared.elf.choice_table.ChoiceEntry.{ChoiceEntry}
 use Rattle.linker_reading.specs.Recognised.{Recogniser, IsMade, IsOneOf, IsFirstPlace}
-use Rattle.linker_reading.specs.Windows.{IsThere}
+use Rattle.linker_reading.specs.Windows.{IsRecognisable}
 use Rattle.linker_reading.specs.declared.recognise.engine.Recognised.{Recognised}
 use Rattle.linker_reading.specs.declared.recognise.fields.FieldBits.{FieldBits}
 use Rattle.linker_utils.specs.Architectures.{relaxation_matches}
@@ -42,6 +42,6 @@ pub record AreFoundOfFirst {A B : Type 0} (of : B → A) (IsSo : B → Type 0) (
       → (j : ℕ) × (slice_index_or found j None ≡ Some b)
 
 -- They are those that are there in bytes.
-abbrev pub AreThere : {K R : Type 0} → Recogniser K R → R → List ℕ → ℕ → List (Choice K R) → Type 0
-AreThere {K} {R} it name bytes o choices =
-    (c : Choice K R) → IsOneOf c choices ↔ IsThere it name bytes o c
+abbrev pub AreAllRecognisable : {K R : Type 0} → Recogniser K R → R → List ℕ → ℕ → List (Choice K R) → Type 0
+AreAllRecognisable {K} {R} it name bytes o choices =
+    (c : Choice K R) → IsOneOf c choices ↔ IsRecognisable it name bytes o c

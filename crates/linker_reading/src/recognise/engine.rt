@@ -10,15 +10,15 @@ ghost use Rattle.linker_elf.specs.declared.elf.choice.LinkFacts.{LinkFacts};
 ghost use Rattle.linker_reading.specs.FieldsOfBytes.{is_in, is_in_field};
 ghost use Rattle.linker_reading.specs.Inner.Found.{IsMeant, IsRepeated, choices_in};
 ghost use Rattle.linker_reading.specs.Inner.Laws.{AreLawsOf};
-ghost use Rattle.linker_reading.specs.Recognised.{HasField, AreLeft, deleted_start, deleted_count};
+ghost use Rattle.linker_reading.specs.Recognised.{HasField, DifferOnlyInFields, deleted_start, deleted_count};
 ghost use Rattle.linker_reading.specs.Recognised.{linked_offset, value_at, Recogniser, choices_at};
-ghost use Rattle.linker_reading.specs.Recognised.{IsChosen, IsMade, IsFound, IsOneOf, AreThose};
+ghost use Rattle.linker_reading.specs.Recognised.{IsChosen, IsMade, IsFound, IsOneOf, AreExactly};
 ghost use Rattle.linker_reading.specs.Recognised.{ArePlaced, AreDistinct};
 
 use crate::fields::FieldValue;
 use crate::reading::read;
 use crate::recognise::fields::{FieldBits, are_same_but};
-use linker_elf::elf::choice_table::{ChoiceEntry, ChosenByTable, ChosenKind, RelocationName};
+use linker_elf::elf::choice_table::{ChoiceEntry, ChoiceTable, RelocationName, RewriteSet};
 use linker_elf::elf::{InstructionRewrite, Row};
 use linker_utils::architecture::Relaxation;
 use linker_utils::elf::{Choice, LinkFacts};
@@ -87,7 +87,7 @@ fn are_left(
     others: &[FieldBits],
     linked: &[u8],
 ) -> bool
-    ensures { IsTrue result ↔ AreLeft after.now at row.now deleted offset others.now linked.now }
+    ensures { IsTrue result ↔ DifferOnlyInFields after.now at row.now deleted offset others.now linked.now }
 {
     let (start, count) = deleted_at(deleted, offset);
     let linked_len = linked.len() as u64;
@@ -124,7 +124,7 @@ fn value_at(row: &Option<Row>, at: u64, linked: &[u8]) -> Option<FieldValue>
 /// A relocation's name, with the table of its choices.
 pub trait RecognisedName: RelocationName + PartialEq + 'static {
     /// The rewrites.
-    type Kind: ChosenByTable<Relocation = Self, Originals: 'static> + PartialEq + 'static;
+    type Kind: ChoiceTable<Relocation = Self, Originals: 'static> + PartialEq + 'static;
 
     // the tables and relocations
     ghost how: { Recogniser Self.Kind Self };
@@ -307,7 +307,7 @@ pub fn recognise<N: RecognisedName>(
     linked: &[u8],
 ) -> [Option<Recognised<N::Kind, N>>; CANDIDATES]
     requires { length original.now ≤ 64 }
-    ensures found { AreThose (IsFound N.how name original.now offset others.now linked.now)
+    ensures found { AreExactly (IsFound N.how name original.now offset others.now linked.now)
         result }
     ensures any { (facts : LinkFacts) (m : Recognised N.Kind N)
         → IsChosen N.how name original.now offset facts m.choice

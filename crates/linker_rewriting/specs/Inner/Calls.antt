@@ -11,9 +11,9 @@ use Rattle.linker_rewriting.specs.Facts.{may_change_toc}
 use Rattle.linker_rewriting.specs.Groups.{IsScopeIn}
 use Rattle.linker_rewriting.specs.declared.facts.SymbolFacts.{SymbolFacts}
 use Rattle.linker_rewriting.specs.declared.groups.Scope.{Scope}
-use Rattle.linker_rewriting.specs.declared.groups.Scope.TheVariants.{Unlisted}
+use Rattle.linker_rewriting.specs.declared.groups.Scope.TheVariants.{NotRelaxable}
 use Rattle.linker_rewriting.specs.declared.phases.Phase.{Phase}
-use Rattle.linker_rewriting.specs.declared.phases.Phase.TheVariants.{Early}
+use Rattle.linker_rewriting.specs.declared.phases.Phase.TheVariants.{PreLayout}
 use Rattle.linker_section.specs.declared.relocations.Rela.{Rela}
 use Rattle.linker_utils.specs.declared.elf.Architecture.{Architecture}
 use Rattle.linker_utils.specs.declared.elf.Architecture.TheVariants.{AArch64, Ppc64}
@@ -38,13 +38,13 @@ ppc64_keeps symbol code =
     code == code_of (ppc64_name ppc64.R_PPC64_REL24) && not (changes_toc symbol)
 
 abbrev pub keeps_call : Phase → Architecture → Option SymbolFacts → ℕ → Bool
-keeps_call Early AArch64 = aarch64_keeps
-keeps_call Early Ppc64 = ppc64_keeps
+keeps_call PreLayout AArch64 = aarch64_keeps
+keeps_call PreLayout Ppc64 = ppc64_keeps
 keeps_call phase architecture = λ symbol code. false
 
 -- a relocation stays as it is by its code, or as such a call
 abbrev pub IsLeft : Architecture → Phase → List SymbolFacts → Rela → Type 0
 IsLeft architecture phase symbols r =
     (scope : Scope) × IsScopeIn architecture phase r.code scope
-    × ((scope ≡ Unlisted)
+    × ((scope ≡ NotRelaxable)
     ⊎ (keeps_call phase architecture (slice_get symbols r.symbol) r.code ≡ true))

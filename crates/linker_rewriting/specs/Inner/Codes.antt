@@ -4,9 +4,9 @@ use Rattle.linker_rewriting.specs.Candidates.{calls_tls_get_addr}
 use Rattle.linker_rewriting.specs.Groups.{IsScopeIn}
 use Rattle.linker_rewriting.specs.declared.facts.SymbolFacts.{SymbolFacts}
 use Rattle.linker_rewriting.specs.declared.groups.Scope.{Scope}
-use Rattle.linker_rewriting.specs.declared.groups.Scope.TheVariants.{Unlisted, Grouped, Matched}
+use Rattle.linker_rewriting.specs.declared.groups.Scope.TheVariants.{NotRelaxable, Grouped, IfGroupMatches}
 use Rattle.linker_rewriting.specs.declared.phases.Phase.{Phase}
-use Rattle.linker_rewriting.specs.declared.phases.Phase.TheVariants.{Early}
+use Rattle.linker_rewriting.specs.declared.phases.Phase.TheVariants.{PreLayout}
 use Rattle.linker_section.specs.declared.relocations.Rela.{Rela}
 use Rattle.linker_utils.specs.declared.elf.Architecture.{Architecture}
 use Rattle.linker_utils.specs.declared.elf.Architecture.TheVariants as architectures
@@ -14,12 +14,12 @@ use Rattle.linker_utils.specs.declared.elf.Architecture.TheVariants as architect
 -- a relocation with a code that isn't listed has no scope
 abbrev pub IsListed : Architecture → Phase → ℕ → Bool → Type 0
 IsListed architecture phase code listed =
-    listed ≡ false → IsScopeIn architecture phase code Unlisted
+    listed ≡ false → IsScopeIn architecture phase code NotRelaxable
 
 -- a survey asks for the rewrite of what is of a group
 abbrev pub is_of_group : Scope → Bool
 is_of_group (Grouped group) = true
-is_of_group (Matched group) = true
+is_of_group (IfGroupMatches group) = true
 is_of_group scope = false
 
 abbrev pub IsOfNone : Architecture → Phase → ℕ → Type 0
@@ -27,15 +27,15 @@ IsOfNone architecture phase code =
     (scope : Scope) × IsScopeIn architecture phase code scope × (is_of_group scope ≡ false)
 
 -- one that it doesn't ask for is of none
-abbrev pub IsAsked : Architecture → Phase → ℕ → Bool → Type 0
-IsAsked architecture phase code asked = asked ≡ false → IsOfNone architecture phase code
+abbrev pub IsUngroupedUnless : Architecture → Phase → ℕ → Bool → Type 0
+IsUngroupedUnless architecture phase code may_be_grouped = may_be_grouped ≡ false → IsOfNone architecture phase code
 
 -- PowerPC64: it asks for the mark of a use of `__tls_get_addr`
 abbrev pub needs_mark : Phase → Architecture → Option SymbolFacts → Bool
-needs_mark Early architectures.Ppc64 = calls_tls_get_addr
+needs_mark PreLayout architectures.Ppc64 = calls_tls_get_addr
 needs_mark phase architecture = λ symbol. false
 
--- a relocation is of no group, and isn't asked for its mark
+-- a relocation is of no group, and isn't may_be_grouped for its mark
 abbrev pub KeepsNone : Architecture → Phase → List SymbolFacts → Rela → Type 0
 KeepsNone architecture phase symbols r =
     IsOfNone architecture phase r.code

@@ -4,7 +4,7 @@ use Rattle.linker_rewriting.specs.Decisions.{decision_at}
 use Rattle.linker_rewriting.specs.Groups.{IsScopeIn}
 use Rattle.linker_rewriting.specs.declared.decisions.Decision.{Decision}
 use Rattle.linker_rewriting.specs.declared.decisions.Decision.TheVariants.{Kept}
-use Rattle.linker_rewriting.specs.declared.groups.Scope.TheVariants.{Unlisted}
+use Rattle.linker_rewriting.specs.declared.groups.Scope.TheVariants.{NotRelaxable}
 use Rattle.linker_rewriting.specs.declared.phases.Phase.{Phase}
 use Rattle.linker_section.specs.Relocations.{relocation_in}
 use Rattle.linker_utils.specs.declared.elf.Architecture.{Architecture}
@@ -12,7 +12,7 @@ use Rattle.linker_utils.specs.declared.elf.Architecture.{Architecture}
 -- no relocation with an index below a limit may be rewritten, by its code
 abbrev pub AreUnlisted : Architecture → Phase → List ℕ → ℕ → Type 0
 AreUnlisted architecture phase bytes limit =
-    (n : ℕ) → n < limit → IsScopeIn architecture phase (relocation_in bytes n).code Unlisted
+    (n : ℕ) → n < limit → IsScopeIn architecture phase (relocation_in bytes n).code NotRelaxable
 
 -- they are left as they are
 abbrev pub AreKept : List Decision → ℕ → Type 0

@@ -3,16 +3,16 @@ use Rattle.std.specs.Prelude.{ℕ, List}
 use Rattle.linker_elf.specs.Inner.ChoiceTables.{Tables}
 use Rattle.linker_elf.specs.Originals.{HasWord}
 use Rattle.linker_riscv64.specs.RiscVRewrites.{riscv_matches, IsLui, IsAuipc, IsLd, IsAddTp}
-use Rattle.linker_riscv64.specs.RiscVRewrites.{IsAddiToA0, IsLowOverOther, IsAskedFor}
+use Rattle.linker_riscv64.specs.RiscVRewrites.{IsAddiToA0, IsLowOverOther, HasPattern}
 use Rattle.linker_riscv64.specs.RiscVRewrites.{riscv_entries}
-use Rattle.linker_riscv64.specs.declared.choices.AskedFor.{AskedFor}
-use Rattle.linker_riscv64.specs.declared.choices.AskedFor.TheVariants as originals
+use Rattle.linker_riscv64.specs.declared.choices.Pattern.{Pattern}
+use Rattle.linker_riscv64.specs.declared.choices.Pattern.TheVariants as originals
 use Rattle.linker_riscv64.specs.declared.rewrites.RelaxationKind.{RelaxationKind}
 use Rattle.linker_riscv64.specs.declared.rewrites.RelaxationKind.TheVariants as kinds
 use Rattle.linker_elf.specs.declared.riscv64.relocations.RiscVRelocation.{RiscVRelocation}
 
 -- what an entry with a rewrite is for is at an offset of a section
-abbrev pub IsThere : AskedFor → RelaxationKind → List ℕ → ℕ → Type 0
+abbrev pub IsThere : Pattern → RelaxationKind → List ℕ → ℕ → Type 0
 IsThere originals.OfRewrite kind section o = riscv_matches kind section o
 IsThere originals.Lui kind section o = HasWord section o IsLui
 IsThere originals.AddTp kind section o = HasWord section o IsAddTp
@@ -26,7 +26,7 @@ abbrev pub riscv_tables : Tables RelaxationKind RiscVRelocation
 riscv_tables =
     record {
       entries = λ name section o. riscv_entries name;
-      required = λ name at p. IsAskedFor name;
+      required = λ name at p. HasPattern name;
       after = λ kind o operands. operands;
       no_op = kinds.NoOp;
     }

@@ -119,8 +119,8 @@ fn sweep_back<I: AsItem>(
     ensures longer { result ≡ true → sum shapes.old < sum shapes.new }
 {
     let mut more = 0;
-    for behind in 0..items.len() {
-        let index = items.len() - 1 - behind;
+    for following in 0..items.len() {
+        let index = items.len() - 1 - following;
         more += lengthen_at(items, start, places, freed, more, shapes, index);
         freed[index] += more;
     }

@@ -215,7 +215,7 @@ impl Item {
     #[inline]
     fn is_anchor(&self, number: u64, offset: u64) -> bool
         requires number { 0 < number }
-        requires behind { end_of self.now ≤ offset }
+        requires following { end_of self.now ≤ offset }
         ensures { IsTrue result ↔ IsAnchor number offset self.now }
     {
         match self {
@@ -233,7 +233,7 @@ impl Item {
     fn frees_multiples(&self, number: u64, offset: u64) -> bool
         requires number { 0 < number }
         requires sound { IsSound self.now }
-        requires behind { end_of self.now ≤ offset }
+        requires following { end_of self.now ≤ offset }
         ensures { IsTrue result ↔ FreesMultiples number offset self.now }
     {
         match self {
@@ -301,8 +301,8 @@ fn is_always_multiple<I: AsItem>(
 {
     let here = items.at(index);
     let offset = here.offset();
-    for behind in 0..index {
-        let item = items.at(index - 1 - behind);
+    for following in 0..index {
+        let item = items.at(index - 1 - following);
         if item.is_anchor(number, offset) {
             return true;
         }

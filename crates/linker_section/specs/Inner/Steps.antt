@@ -77,7 +77,7 @@ pub record Ascends (architecture : Architecture) (bytes before now : List ℕ) (
       → IsRow architecture (relocation_in bytes i).code (Some row)
       → begins_pair row.size row.kind ≡ false
   pub inside : 0 < last.len → last.offset + last.len ≤ length before
-  pub behind : (offset : ℕ) → last.offset + last.len ≤ offset → drop offset now ≡ drop offset before
+  pub following : (offset : ℕ) → last.offset + last.len ≤ offset → drop offset now ≡ drop offset before
 
 abbrev pub IsInOrder : Option ℕ → Architecture → List ℕ → List ℕ → List ℕ → ℕ → Field → Type 0
 IsInOrder None architecture bytes before now k last =
@@ -138,7 +138,7 @@ pub record IsQuickStep (architecture : Architecture) (addresses : Addresses) (by
   pub saved : IsSavedAt (offset_at bytes i) now word
   pub kept_is : kept ≡ set memory i word
   pub written : IsWritten row v (offset_at bytes i) now after
-  pub behind : end ≤ offset_at bytes i
+  pub following : end ≤ offset_at bytes i
   pub end_is : own_end ≡ offset_at bytes i + window_len row
 
 -- The last field before an index is that of a step, or where the step was another, that of the

@@ -2,23 +2,23 @@
 use Rattle.std.specs.Prelude.{ℕ, ◌≡◌, ⊤, List, [], ◌∷◌}
 use Rattle.std.proofs.Common.{subst, refl}
 use Rattle.linker_elf.specs.Inner.ChoiceTables.{Tables}
-use Rattle.linker_x86_64.specs.X86Rewrites.{IsAskedFor, Table, x86_64_table, x86_64_after}
+use Rattle.linker_x86_64.specs.X86Rewrites.{HasPattern, Table, x86_64_table, x86_64_after}
 use Rattle.linker_x86_64.specs.X86Rewrites.{opcode_at}
 use Rattle.linker_x86_64.specs.X86Rewrites.{Original, original, legacy, lea_of_descriptor}
-use Rattle.linker_x86_64.specs.declared.choices.AskedFor.{AskedFor}
-use Rattle.linker_x86_64.specs.declared.choices.AskedFor.TheVariants as asked
+use Rattle.linker_x86_64.specs.declared.choices.Pattern.{Pattern}
+use Rattle.linker_x86_64.specs.declared.choices.Pattern.TheVariants as pattern
 use Rattle.linker_x86_64.specs.declared.rewrites.RelaxationKind.{RelaxationKind}
 use Rattle.linker_x86_64.specs.declared.rewrites.RelaxationKind.TheVariants as kinds
 use Rattle.linker_elf.specs.declared.x86_64.relocations.X86_64Relocation.{X86_64Relocation}
 use Rattle.linker_elf.specs.declared.x86_64.relocations.X86_64Relocation.TheVariants as r
 
-abbrev pub asked_instructions : AskedFor → List Original
-asked_instructions asked.OfRewrite = original 0 [] ∷ []
-asked_instructions (asked.Legacy n opcode) = legacy n opcode
-asked_instructions (asked.LeaOfDescriptor n) = lea_of_descriptor n
+abbrev pub pattern_instructions : Pattern → List Original
+pattern_instructions pattern.OfRewrite = original 0 [] ∷ []
+pattern_instructions (pattern.Legacy n opcode) = legacy n opcode
+pattern_instructions (pattern.LeaOfDescriptor n) = lea_of_descriptor n
 
-abbrev pub StandAt : AskedFor → RelaxationKind → List ℕ → ℕ → Type 0
-StandAt originals = IsAskedFor (asked_instructions originals)
+abbrev pub MatchesPattern : Pattern → RelaxationKind → List ℕ → ℕ → Type 0
+MatchesPattern originals = HasPattern (pattern_instructions originals)
 
 -- the table of a relocation at an offset
 abbrev pub table_at : X86_64Relocation → List ℕ → ℕ → Table
@@ -29,7 +29,7 @@ abbrev pub x86_64_tables : Tables RelaxationKind X86_64Relocation
 x86_64_tables =
     record {
       entries = λ name section o. (table_at name section o).entries;
-      required = λ name section o. IsAskedFor (table_at name section o).instructions;
+      required = λ name section o. HasPattern (table_at name section o).instructions;
       after = x86_64_after;
       no_op = kinds.NoOp;
     }

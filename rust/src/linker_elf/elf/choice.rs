@@ -20,7 +20,7 @@ pub struct LinkFacts {
     /// The distance from the code to the symbol is the same wherever the output is loaded: that to
     /// any symbol of the output, but to an absolute one only in an output that is always loaded at
     /// one address.
-    pub has_fixed_distance: bool,
+    pub is_pcrel_link_time_constant: bool,
     /// The output is an executable, position-independent or not.
     pub is_executable: bool,
     /// The sequence that computed the base of local-dynamic TLS for this relocation was rewritten
@@ -90,7 +90,7 @@ impl<K: InstructionRewrite, R: Copy + PartialEq> Choice<K, R> {
     /// let mut facts = LinkFacts { operands, ..LinkFacts::default() };
     /// assert!(choose(name, &call, 2, &facts).is_unchanged(name));
     /// facts.is_local = true;
-    /// facts.has_fixed_distance = true;
+    /// facts.is_pcrel_link_time_constant = true;
     /// assert!(!choose(name, &call, 2, &facts).is_unchanged(name));
     /// ```
     #[must_use]

@@ -146,10 +146,10 @@ impl State {
     /// A boundary ahead of a branch within half of its reach, beyond the next one.
     fn far_boundary(&self, code: &Code<'_>, branch: &Branch) -> Option<usize> {
         let half = branch.max_forward / 2;
-        let behind = passed(code.boundaries, branch.offset.saturating_add(half));
+        let following = passed(code.boundaries, branch.offset.saturating_add(half));
         let ahead = passed(code.boundaries, branch.offset);
-        if behind > ahead && behind - ahead > 1 {
-            Some(behind - 1)
+        if following > ahead && following - ahead > 1 {
+            Some(following - 1)
         } else {
             None
         }

@@ -5,7 +5,7 @@
 use crate::linker_reading::fields::FieldValue;
 use crate::linker_reading::reading::read;
 use crate::linker_reading::recognise::fields::{FieldBits, are_same_but};
-use crate::linker_elf::elf::choice_table::{ChoiceEntry, ChosenByTable, ChosenKind, RelocationName};
+use crate::linker_elf::elf::choice_table::{ChoiceEntry, ChoiceTable, RelocationName, RewriteSet};
 use crate::linker_elf::elf::{InstructionRewrite, Row};
 use crate::architecture::Relaxation;
 use crate::elf::{Choice, LinkFacts};
@@ -97,7 +97,7 @@ fn value_at(row: &Option<Row>, at: u64, linked: &[u8]) -> Option<FieldValue> {
 /// A relocation's name, with the table of its choices.
 pub trait RecognisedName: RelocationName + PartialEq + 'static {
     /// The rewrites.
-    type Kind: ChosenByTable<Relocation = Self, Originals: 'static> + PartialEq + 'static;
+    type Kind: ChoiceTable<Relocation = Self, Originals: 'static> + PartialEq + 'static;
 
     /// The code, `r_type` in ELF files.
     #[must_use]

@@ -206,8 +206,8 @@ fn is_always_multiple<I: AsItem>(
 ) -> bool {
     let here = items.at(index);
     let offset = here.offset();
-    for behind in 0..index {
-        let item = items.at(index - 1 - behind);
+    for following in 0..index {
+        let item = items.at(index - 1 - following);
         if item.is_anchor(number, offset) {
             return true;
         }

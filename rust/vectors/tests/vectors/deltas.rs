@@ -79,7 +79,7 @@ fn half_deleted(count: u32) -> Vec<(u64, u32)> {
 }
 
 /// Requires that a kept byte's offsets are translated to each other, by at most so many looks, also
-/// with the heads of the blocks, which stand behind one that is none, and with more or fewer.
+/// with the heads of the blocks, which stand after one that is none, and with more or fewer.
 fn expect_translated(
     deltas: &SectionRelaxDeltas,
     behind_none: &[BlockHead],

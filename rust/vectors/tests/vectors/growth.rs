@@ -16,7 +16,7 @@ use linker_utils::relaxation::{
     pack_section, shrink_calls,
 };
 use linker_utils::rewriting::{
-    Decision, KeptGroups, OutputFacts, Phase, SymbolFacts, rewrite_global_pointer,
+    Decision, OutputFacts, Phase, SymbolFacts, UnrelaxableGroups, rewrite_global_pointer,
     rewrite_placed_section, rewrite_section, survey, survey_global_pointer,
 };
 use linker_utils::runs::items::{Relocation, first_malformed, section_items};
@@ -250,7 +250,7 @@ fn chains() -> [Named<Call>; 4] {
             let behind = |index| Call { site: site_of(index), target: site_of(index) - REACH - 4 };
             (0..count).map(behind).collect()
         }),
-        // out of reach once those behind it are of which the turn comes first
+        // out of reach once those after it are of which the turn comes first
         ("in no order", |count| {
             let turns = mixed(count);
             let left = not_below(&turns);
@@ -495,7 +495,8 @@ fn expect_rewritten(count: usize) {
                 let (is_executable, is_fixed, has_near_symbols) = (true, true, true);
                 let output = OutputFacts { is_executable, is_fixed, has_near_symbols };
                 let facts = SymbolFacts { is_local: true, ..SymbolFacts::default() };
-                let (symbols, mut kept) = (vec![facts; count], vec![KeptGroups::default(); count]);
+                let (symbols, mut kept) =
+                    (vec![facts; count], vec![UnrelaxableGroups::default(); count]);
                 let mut section = section[..relocation(count, 0).offset as usize & !3].to_vec();
                 survey(architecture, &output, &symbols, &relocations, &section, &mut kept);
                 let mut decisions = vec![Decision::Kept; count];
@@ -522,7 +523,7 @@ fn expect_labels(count: usize) {
     // R_RISCV_TLSDESC_HI20 and R_RISCV_TLSDESC_LOAD_LO12; R_RISCV_GOT_HI20 and
     // R_RISCV_PCREL_HI20, with R_RISCV_PCREL_LO12_I
     let parts =
-        [(62, 63, Phase::ThreadOffsets), (20, 24, Phase::GotLoads), (23, 24, Phase::Distances)];
+        [(62, 63, Phase::TlsLocalExec), (20, 24, Phase::GotToPcRel), (23, 24, Phase::ShortPcRel)];
     for ((high, low, phase), labels) in parts.into_iter().flat_map(|it| [(it, 1), (it, 2)]) {
         let made = |count: usize| {
             let at = |offset, code, symbol| Rela { offset, code, symbol, addend: 0 };
@@ -547,7 +548,7 @@ fn expect_labels(count: usize) {
                 [[0x17, 0x05, 0, 0].repeat(labels), [0x13, 5, 5, 0].repeat(len)].concat();
             let (mut kept, riscv) = ([false; 4], Architecture::RiscV);
             let (mut decisions, mut deleted) = (vec![Decision::Kept; len], vec![(0, 0); len]);
-            if phase == Phase::Distances {
+            if phase == Phase::ShortPcRel {
                 survey_global_pointer(
                     riscv,
                     &output,
@@ -582,7 +583,7 @@ fn expect_labels(count: usize) {
                     &facts,
                     &addresses,
                     &values,
-                    &[KeptGroups::default(); 4],
+                    &[UnrelaxableGroups::default(); 4],
                     &mut relocations,
                     &mut section,
                     &mut decisions,
@@ -667,7 +668,7 @@ fn expect_placements(count: usize) {
         (branches.collect(), targets, (1..=count as u64 / 16 + 1).map(|at| at << 14).collect())
     };
     expect_growth("place_stubs over long code", count, long, place);
-    // each reaches its target until the branch behind it has a stub
+    // each reaches its target until the branch after it has a stub
     let chain = |count: usize| {
         let branch = |index: usize| {
             let offset = (index as u64 + 1) << 10;

@@ -5,7 +5,7 @@ use crate::{aarch64, loongarch64, ppc64, riscv64, x86_64};
 use linker_utils::aarch64::{AArch64Relocation, RelaxationKind as AArch64Kind};
 use linker_utils::architecture::Relaxation;
 use linker_utils::bit_misc::BitRange;
-use linker_utils::choice_table::ChosenByTable;
+use linker_utils::choice_table::ChoiceTable;
 use linker_utils::elf::{
     Architecture, Choice, InstructionRewrite, LinkFacts, Operands, RelocateError,
 };
@@ -31,7 +31,7 @@ fn low_bits(end: u8, bits: u64) -> FieldValue {
     FieldValue { known: BitRange { start: 0, end }, bits, rounding: 0 }
 }
 
-/// A general-dynamic TLS sequence as GNU as assembles it, and a byte behind it.
+/// A general-dynamic TLS sequence as GNU as assembles it, and a byte after it.
 const GENERAL_DYNAMIC: [u8; 17] = [
     0x66, 0x48, 0x8d, 0x3d, 0x00, 0x00, 0x00, 0x00, 0x66, 0x66, 0x48, 0xe8, 0x00, 0x00, 0x00, 0x00,
     0xc3,
@@ -52,7 +52,7 @@ fn a_sequence_that_gnu_ld_rewrote_is_recognised() {
     let made = Recognised { choice: local_exec, offset: 12, value: Some(whole(-0xcb8)) };
     assert_eq!(found, [Some(made), None, None, None, None, None]);
 
-    // with another operation on `%rax`, and with another byte behind the sequence
+    // with another operation on `%rax`, and with another byte after the sequence
     for at in [10, 16] {
         let mut altered = LOCAL_EXEC;
         altered[at] ^= 8;
@@ -437,7 +437,7 @@ fn what_linkers_made_is_recognised_in_its_window() {
 /// The choices of a table, of whatever stands there.
 macro_rules! listed {
     ($variant:ident, $kinds:ty, $names:ty, $code:expr, $bytes:expr, $at:expr) => {
-        <$kinds as ChosenByTable>::entries(<$names>::from_elf($code), $bytes, $at)
+        <$kinds as ChoiceTable>::entries(<$names>::from_elf($code), $bytes, $at)
             .iter()
             .map(|it| Choice {
                 kind: Relaxation::$variant(it.kind),

@@ -33,5 +33,5 @@ returns c = λ valid room.
     let ends = c.args.base + length c.args.section.now in
     let room = c.loop-index.auto.packed ∙ room in
     copied_end _ _ _ _ _ _ _ _ _ (c.loop-index.invariant.copied valid room) room c.put-end.ensures.bytes
-    (λ j d h inside. begin_above c.args.deltas.now ends c.count_begun-behind.result valid (c.count_begun-behind.ensures.begun valid) j d (omega (arith, c.loop-index-test.false)) inside)
+    (λ j d h inside. begin_above c.args.deltas.now ends c.count_begun-following.result valid (c.count_begun-following.ensures.begun valid) j d (omega (arith, c.loop-index-test.false)) inside)
     c.between-2.ensures

@@ -3,7 +3,7 @@ use Rattle.linker_final.proofs.PackedBytes.{are_bytes}
 use Rattle.linker_final.proofs.SameDecisions.{same_decisions}
 use Rattle.linker_rewriting.specs.Decisions.{AreDecidedIn, IsRejected}
 use Rattle.linker_final.specs.Final.{HasRewritten, rewriting_phase}
-use Rattle.linker_rewriting.specs.Facts.{early}
+use Rattle.linker_rewriting.specs.Facts.{pre_layout}
 use Rattle.linker_rewriting.specs.Kept.{IsWritingCause}
 use Rattle.linker_rewriting.specs.Rewritten.{AreRelocationsAfter, AreDone, OthersStay}
 use Rattle.linker_final.proofs.sections.link_section.Goals as goal
@@ -27,7 +27,7 @@ returns-in-Ok-clause-linked c =
     let final : (i : ℕ) → get_or c.relocate_rewritten_section.new.section i 0 < 2 ^ 8 = λ i. search rules in (
       c.rewrite_section.new.section,
       record {
-        decided = subst (λ ds. AreDecidedIn (early c.args.architecture c.args.output.now c.args.facts.now) c.args.groups.now before section ds count) same c.in_default.ensures.decided;
+        decided = subst (λ ds. AreDecidedIn (pre_layout c.args.architecture c.args.output.now c.args.facts.now) c.args.groups.now before section ds count) same c.in_default.ensures.decided;
         relocations = subst (λ ds. AreRelocationsAfter ds before c.rewrite_section.new.relocations count) same c.in_default.ensures.relocations;
         done = subst (λ ds. AreDone before ds section c.rewrite_section.new.section count) same c.in_default.ensures.done;
         others = subst (λ ds. OthersStay before ds section c.rewrite_section.new.section count) same c.in_default.ensures.others;
@@ -49,7 +49,7 @@ returns-in-Err-relocate_rewritten_section-clause-cause c =
     let bytes = c.rewrite_section.new.section in
     let after = c.rewrite_section.new.relocations in
     let count = length before / 24 in
-    let s = early c.args.architecture c.args.output.now c.args.facts.now in
+    let s = pre_layout c.args.architecture c.args.output.now c.args.facts.now in
     let made = c.in_default.ensures in
     let stopped = c.in-Err-relocate_rewritten_section in
     let rewritten : HasRewritten (rewriting_phase s c.args.groups.now before section c.rewrite_section.new.decisions after bytes) =

@@ -3,7 +3,7 @@ use Rattle.linker_final.proofs.PackedBytes.{are_bytes}
 use Rattle.linker_final.proofs.SameDecisions.{same_decisions, same_deletions}
 use Rattle.linker_final.specs.Final.{AreListed, HasRewritten, RewritingPhase, deletions_in, rewriting_phase}
 use Rattle.linker_rewriting.specs.Decisions.{AreDecidedIn, IsRejected, IsRejectedPlaced, deletions_by}
-use Rattle.linker_rewriting.specs.Facts.{early, setting}
+use Rattle.linker_rewriting.specs.Facts.{pre_layout, context}
 use Rattle.linker_rewriting.specs.Kept.{IsWritingCause}
 use Rattle.linker_rewriting.specs.Rewritten.{AreRelocationsAfter, AreDone, OthersStay}
 use Rattle.linker_final.proofs.sections.link_section_in_two_phases.Goals as goal
@@ -21,8 +21,8 @@ pub returns-in-Err-rewrite_placed_section-clause-cause :
     goal.returns-in-Err-rewrite_placed_section-clause-cause
 returns-in-Err-rewrite_placed_section-clause-cause c =
     let same = same_decisions c.rewrite_section.new.decisions in
-    let first = early c.args.architecture c.args.output.now c.args.facts.now in
-    let second = setting c.args.architecture c.args.phase c.args.output.now c.args.facts.now c.args.addresses.now c.args.symbols.now in
+    let first = pre_layout c.args.architecture c.args.output.now c.args.facts.now in
+    let second = context c.args.architecture c.args.phase c.args.output.now c.args.facts.now c.args.addresses.now c.args.symbols.now in
     let before = c.args.relocations.now in
     let section = c.args.section.now in
     let between = c.rewrite_section.new.relocations in
@@ -52,8 +52,8 @@ pub returns-in-Ok-clause-linked : goal.returns-in-Ok-clause-linked
 returns-in-Ok-clause-linked c =
     let same = same_decisions c.rewrite_section.new.decisions in
     let same_too = same_decisions c.rewrite_placed_section.new.decisions in
-    let first = early c.args.architecture c.args.output.now c.args.facts.now in
-    let second = setting c.args.architecture c.args.phase c.args.output.now c.args.facts.now c.args.addresses.now c.args.symbols.now in
+    let first = pre_layout c.args.architecture c.args.output.now c.args.facts.now in
+    let second = context c.args.architecture c.args.phase c.args.output.now c.args.facts.now c.args.addresses.now c.args.symbols.now in
     let before = c.args.relocations.now in
     let section = c.args.section.now in
     let between = c.rewrite_section.new.relocations in
@@ -128,8 +128,8 @@ pub returns-in-Err-relocate_rewritten_section-clause-cause : goal.returns-in-Err
 returns-in-Err-relocate_rewritten_section-clause-cause c =
     let same = same_decisions c.rewrite_section.new.decisions in
     let same_too = same_decisions c.rewrite_placed_section.new.decisions in
-    let first = early c.args.architecture c.args.output.now c.args.facts.now in
-    let second = setting c.args.architecture c.args.phase c.args.output.now c.args.facts.now c.args.addresses.now c.args.symbols.now in
+    let first = pre_layout c.args.architecture c.args.output.now c.args.facts.now in
+    let second = context c.args.architecture c.args.phase c.args.output.now c.args.facts.now c.args.addresses.now c.args.symbols.now in
     let before = c.args.relocations.now in
     let section = c.args.section.now in
     let between = c.rewrite_section.new.relocations in

@@ -33,7 +33,7 @@ use Rattle.linker_elf.specs.declared.elf.value.Operands.{Operands}
 use Rattle.linker_laws.specs.AArch64RelocationLaws as relocation_laws
 use Rattle.linker_laws.specs.Schemes.{AreAddresses, symbol_address, IsAddress, plt_address}
 use Rattle.linker_laws.proofs.Sums.{sum_below}
-use Rattle.linker_laws.specs.AArch64RewriteLaws.{word_of, pair, behind, BeginsRewrittenAt}
+use Rattle.linker_laws.specs.AArch64RewriteLaws.{word_of, pair, following, BeginsRewrittenAt}
 use Rattle.linker_laws.specs.AArch64RewriteLaws as aarch64_laws
 use Rattle.linker_laws.specs.AArch64Machine.{in_64_bits, adr_address, go_on, go_to, branch_target}
 use Rattle.linker_laws.specs.AArch64Machine.{execute, step, write_x, next_pc, State, adrp_address}
@@ -57,8 +57,8 @@ use Rattle.linker_laws.proofs.AArch64Near.{near}
 use Rattle.linker_laws.proofs.AArch64Words.{IsAdrOf}
 use Rattle.linker_laws.proofs.rewrites.aarch64.Goals as goal
 
-small_behind : (n : ℕ) (o : Operands) → AreAddresses o → AreAddresses (behind n o)
-small_behind n o small =
+small_after : (n : ℕ) (o : Operands) → AreAddresses o → AreAddresses (following n o)
+small_after n o small =
     record {
       symbol = small.symbol;
       place = sum_below o.place n;
@@ -102,10 +102,10 @@ address_by : relocation_laws.Literals → (o : Operands) (s : State) (both made 
     → aarch64_laws.IsRewritten AdrpAddToNopAdr both made
     → (adrp1 add1 adr2 : List ℕ)
     → IsAdrOf 1 (rd_of (word_of (drop 4 both))) (word_of adrp1)
-    → aarch64_laws.IsRelocated names.R_AARCH64_ADD_ABS_LO12_NC (behind 4 o) (drop 4 both) add1
+    → aarch64_laws.IsRelocated names.R_AARCH64_ADD_ABS_LO12_NC (following 4 o) (drop 4 both) add1
     → IsAddress (relocation_laws.page_and_offset Add 1 o (word_of adrp1) (word_of add1))
     (symbol_address o)
-    → aarch64_laws.IsRelocated names.R_AARCH64_ADR_PREL_LO21 (behind 4 o) (drop 4 made) adr2
+    → aarch64_laws.IsRelocated names.R_AARCH64_ADR_PREL_LO21 (following 4 o) (drop 4 made) adr2
     → RunAlike (pair adrp1 add1) (pair made adr2) s
 address_by literals o s both made p is_made adrp1 add1 adr2 first d1 leads b2 =
     let one = p.one_register in
@@ -129,8 +129,8 @@ address_by literals o s both made p is_made adrp1 add1 adr2 first d1 leads b2 =
     ∙ one.register in
     let t = go_on s in
     let value : adr_address y t ≡ symbol_address o =
-    adr_is (behind 4 o) y (symbol_address o) t (ap (λ q. sum_64 q 4) p.at)
-    (literals.0 (behind 4 o) (small_behind 4 o p.small) o.place (drop 4 made) adr2 b2 tt) in
+    adr_is (following 4 o) y (symbol_address o) t (ap (λ q. sum_64 q 4) p.at)
+    (literals.0 (following 4 o) (small_after 4 o p.small) o.place (drop 4 made) adr2 b2 tt) in
     alike_runs _ (pair adrp1 add1) (pair made adr2) s _ (set n (adr_address y t) t)
     (run_pair (word_of adrp1) (word_of add1) s _ _ d.first refl d.second)
     (run_pair (word_of made) y s t _ (ap (λ w. step w s) words.first) refl
@@ -151,8 +151,8 @@ near_here o small =
     near (sum_64 (symbol_address o) 0) o.place o.place (sum_below (symbol_address o) 0) place place
     (omega arith)
 
-near_behind : (o : Operands) → AreAddresses o → AreNear o (sum_64 o.place 4)
-near_behind o small =
+near_after : (o : Operands) → AreAddresses o → AreNear o (sum_64 o.place 4)
+near_after o small =
     let place = small.place in
     near (sum_64 (symbol_address o) 0) o.place (sum_64 o.place 4) (sum_below (symbol_address o) 0) place
     (sum_below o.place 4) (omega arith)
@@ -167,7 +167,7 @@ address relative literals = (
       b2,
   λ o s both made p is_made adrp1 add1 adr2 a1 d1 b2.
       let one = p.one_register in
-      let fits = near_behind o p.small a1.value b2.value a1.value_is b2.value_is
+      let fits = near_after o p.small a1.value b2.value a1.value_is b2.value_is
       b2.accepted.reached.0 in
       address_by literals o s both made p is_made adrp1 add1 adr2
       (adr_of_register one.register (adrp_after _ _ both adrp1 a1.written one.first)) d1
@@ -182,7 +182,7 @@ adrp_made_by : relocation_laws.Literals → (o : Operands) (s : State) (adrp add
     → aarch64_laws.IsPair IsAdd64 o s adrp add → aarch64_laws.IsRewritten AdrpToAdr adrp made
     → aarch64_laws.IsRewritten ReplaceWithNop add nop → (adrp1 add1 adr2 : List ℕ)
     → IsAdrOf 1 (rd_of (word_of add)) (word_of adrp1)
-    → aarch64_laws.IsRelocated names.R_AARCH64_ADD_ABS_LO12_NC (behind 4 o) add add1
+    → aarch64_laws.IsRelocated names.R_AARCH64_ADD_ABS_LO12_NC (following 4 o) add add1
     → IsAddress (relocation_laws.page_and_offset Add 1 o (word_of adrp1) (word_of add1))
     (symbol_address o)
     → aarch64_laws.IsRelocated names.R_AARCH64_ADR_PREL_LO21 o made adr2
@@ -233,10 +233,10 @@ add_made_by : relocation_laws.Literals → (o : Operands) (s : State) (adrp add 
     → aarch64_laws.IsOnPage (λ word. IsAdd64 word × (rd_of word ≢ 31)) o s adrp add
     → aarch64_laws.IsRewritten AddToAdr add made → (adrp1 add1 adr2 : List ℕ)
     → IsAdrOf 1 (rd_of (word_of adrp)) (word_of adrp1)
-    → aarch64_laws.IsRelocated names.R_AARCH64_ADD_ABS_LO12_NC (behind 4 o) add add1
+    → aarch64_laws.IsRelocated names.R_AARCH64_ADD_ABS_LO12_NC (following 4 o) add add1
     → IsAddress (relocation_laws.page_and_offset Add 1 o (word_of adrp1) (word_of add1))
     (symbol_address o)
-    → aarch64_laws.IsRelocated names.R_AARCH64_ADR_PREL_LO21 (behind 4 o) made adr2
+    → aarch64_laws.IsRelocated names.R_AARCH64_ADR_PREL_LO21 (following 4 o) made adr2
     → RunAlike (pair adrp1 add1) (pair adrp1 adr2) s
 add_made_by literals o s adrp add made p is_made adrp1 add1 adr2 adrp_is d1 leads b2 =
     let n = rd_of (word_of adrp) in
@@ -257,8 +257,8 @@ add_made_by literals o s adrp add made p is_made adrp1 add1 adr2 adrp_is d1 lead
     step_adrp x n s (decodes_adrp x adrp_is.opcode adrp_is.top) adrp_is.rd_is p.not_31 in
     let value : added z t ≡ adr_address y t =
     page_added o n x z (symbol_address o) s (add_is.rn_is ∙ p.source) p.at leads
-    ∙ sym (adr_is (behind 4 o) y (symbol_address o) t (ap (λ q. sum_64 q 4) p.at)
-    (literals.0 (behind 4 o) (small_behind 4 o p.small) o.place made adr2 b2 tt)) in
+    ∙ sym (adr_is (following 4 o) y (symbol_address o) t (ap (λ q. sum_64 q 4) p.at)
+    (literals.0 (following 4 o) (small_after 4 o p.small) o.place made adr2 b2 tt)) in
     alike_runs _ (pair adrp1 add1) (pair adrp1 adr2) s _ _
     (run_pair x z s t _ first refl
     (step_add z d t add_is.decodes add_is.rd_is ∙ ap (λ v. Some (set d v t)) value))
@@ -274,7 +274,7 @@ add_made relative literals = (
       (adrp_after _ _ adrp adrp1 a1.written p.is_adrp) d1
       (relative.0.0 o p.small o.place adrp adrp1 a1 tt (sum_64 o.place 4) add add1 d1 tt) b2,
   λ o s adrp add made p is_made adrp1 add1 adr2 a1 d1 b2.
-      let fits = near_behind o p.small a1.value b2.value a1.value_is b2.value_is
+      let fits = near_after o p.small a1.value b2.value a1.value_is b2.value_is
       b2.accepted.reached.0 in
       add_made_by literals o s adrp add made p is_made adrp1 add1 adr2
       (adrp_after _ _ adrp adrp1 a1.written p.is_adrp) d1
@@ -303,8 +303,8 @@ ldr_made entries literals o s adrp ldr made p holds is_made adrp1 ldr1 adr2 a1 l
     let value : loaded z t ≡ adr_address y t =
     entry_loaded o n x z o.got_entry s (ldr_is.rn_is ∙ p.source) p.at
     (entries.0 o p.small o.place adrp adrp1 a1 tt (sum_64 o.place 4) ldr ldr1 l1 tt) ∙ holds
-    ∙ sym (adr_is (behind 4 o) y (symbol_address o) t (ap (λ q. sum_64 q 4) p.at)
-    (literals.0 (behind 4 o) (small_behind 4 o p.small) o.place made adr2 b2 tt)) in
+    ∙ sym (adr_is (following 4 o) y (symbol_address o) t (ap (λ q. sum_64 q 4) p.at)
+    (literals.0 (following 4 o) (small_after 4 o p.small) o.place made adr2 b2 tt)) in
     alike_runs _ (pair adrp1 ldr1) (pair adrp1 adr2) s _ _
     (run_pair x z s t _ first refl
     (ap (λ c. execute c z t) ldr_is.decodes

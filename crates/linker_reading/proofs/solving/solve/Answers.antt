@@ -2,7 +2,7 @@ use Rattle.std.proofs.Common.{◌≡◌, ◌≤◌, ◌↔◌, true, false, Some
 use Rattle.std.specs.Prelude.{not, ◌&&◌, ◌==◌, nat_lt, if◌then◌else◌}
 use Rattle.linker_base.specs.Bits.{field}
 use Rattle.linker_elf.specs.Value.{page_if, difference_64, sum_64, bias_number}
-use Rattle.linker_reading.specs.Fields.{IsOf}
+use Rattle.linker_reading.specs.Fields.{FieldHolds}
 use Rattle.linker_reading.specs.Solving.{is_paged, is_solvable, terms_of, base, has_base}
 use Rattle.linker_reading.proofs.Formulas.{solves, rounding_after, known_above}
 use Rattle.linker_reading.proofs.solving.solve.Goals.{else-paged-via-then-paged+else-field-lt12, else-paged-via-else-paged}
@@ -48,7 +48,7 @@ returns-else-paged-clause-solved c =
       rounding = c.without_rounding.ensures.rounding
           ∙ ap (λ r. if f.known.start == 0 then 0 else r) rounding;
       solves = solves row f o t c.without_rounding.result is above
-          (λ n. subst (λ r. IsOf c.without_rounding.result n
+          (λ n. subst (λ r. FieldHolds c.without_rounding.result n
           ↔ (field (sum_64 n r) f.known.start f.known.end ≡ f.bits)) rounding
           (c.without_rounding.ensures.same n));
     })

@@ -3,9 +3,9 @@ use Rattle.std.proofs.lemmas.Bool.{cases_lt, false≢true}
 use Rattle.std.proofs.lemmas.List.{length-take}
 use Rattle.linker_reading.proofs.Found.{one_of, place_in, some_same}
 use Rattle.linker_reading.proofs.Parts.{part_by}
-use Rattle.linker_reading.proofs.Tables.{behind, taken_at}
+use Rattle.linker_reading.proofs.Tables.{following, taken_at}
 use Rattle.linker_reading.specs.Recognised.{IsOneOf, choices_at}
-use Rattle.linker_reading.specs.Windows.{IsThere}
+use Rattle.linker_reading.specs.Windows.{IsRecognisable}
 use Rattle.linker_reading.proofs.windows.has_each.Goals as goal
 
 pub returns-then-not-is_there : goal.returns-then-not-is_there
@@ -17,7 +17,7 @@ returns-then-not-is_there g c =
     let kept = one_of one (take n array) c.loop-index.index (taken_at array (take n array) n refl c.loop-index.index c.loop-index-test.true ∙ c.choice_at.ensures) in (
       (λ is. absurd (false≢true is)),
       (λ each.
-          let is = subst (λ l. IsThere g.N.RecognisedName.how c.args.name l (c.args.offset - c.args.begin) one) (sym part) (each one ((c.requires.those one).0 kept)) in
+          let is = subst (λ l. IsRecognisable g.N.RecognisedName.how c.args.name l (c.args.offset - c.args.begin) one) (sym part) (each one ((c.requires.those one).0 kept)) in
           sym c.if-not-is_there.true ∙ (c.is_there.ensures c.args.name is.listed).1 is),
     )
 
@@ -31,7 +31,7 @@ loop-index-preserved g c i d h at listed =
     (λ since.
     let place : i ≡ c.loop-index.index = omega (arith, h, since) in
     let same : d ≡ one = some_same d one (sym at ∙ ap (slice_get c.args.there.now.0) place ∙ c.choice_at.ensures) in
-    subst (λ x. IsThere g.N.RecognisedName.how c.args.name bytes o x) (sym same)
+    subst (λ x. IsRecognisable g.N.RecognisedName.how c.args.name bytes o x) (sym same)
     ((c.is_there.ensures c.args.name (subst (λ x. IsOneOf x (choices_at g.N.RecognisedName.how c.args.name bytes o)) same listed)).0 c.if-not-is_there.false))
     (cases_lt i c.loop-index.index)
 
@@ -47,7 +47,7 @@ returns-then-not-is_listed g c =
     let kept = one_of one (take n array) c.loop-index-2.index (taken_at array (take n array) n refl c.loop-index-2.index c.loop-index-2-test.true ∙ c.choice_at-in-loop-index-2.ensures) in (
       (λ is. absurd (false≢true is)),
       (λ each.
-          let is = subst (λ l. IsThere g.N.RecognisedName.how c.args.name l (c.args.offset - c.args.begin) one) (sym part) (each one ((c.requires.those one).0 kept)) in
+          let is = subst (λ l. IsRecognisable g.N.RecognisedName.how c.args.name l (c.args.offset - c.args.begin) one) (sym part) (each one ((c.requires.those one).0 kept)) in
           sym c.if-not-is_listed.true ∙ c.is_listed.ensures.1 (subst (IsOneOf one) (sym c.listed-listed.ensures.choices) is.listed)),
     )
 
@@ -69,10 +69,10 @@ returns g c =
     let part = part_by c.args.begin c.args.end c.min-from.result c.min.result c.max.result c.args.original.now c.min-from.ensures c.min.ensures c.max.ensures in (
       (λ _ d is.
           let at = place_in d (take n array) ((c.requires.those d).1 is) in
-          let less : at.0 < n = (let few = length-take n array in let inside = behind d (take n array) at.0 at.1 in omega (arith, few, inside)) in
+          let less : at.0 < n = (let few = length-take n array in let inside = following d (take n array) at.0 at.1 in omega (arith, few, inside)) in
           let here = sym (taken_at array (take n array) n refl at.0 less) ∙ at.1 in
           let listed = subst (IsOneOf d) c.listed-listed.ensures.choices (c.loop-index-2.invariant at.0 d (omega (arith, less, c.loop-index-2-test.false)) here) in
-          subst (λ l. IsThere g.N.RecognisedName.how c.args.name l (c.args.offset - c.args.begin) d) part
+          subst (λ l. IsRecognisable g.N.RecognisedName.how c.args.name l (c.args.offset - c.args.begin) d) part
           (c.loop-index.invariant at.0 d (omega (arith, less, c.loop-index-test.false)) here listed)),
       (λ _. refl),
     )

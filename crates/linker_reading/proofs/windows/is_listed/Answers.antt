@@ -1,7 +1,7 @@
 use Rattle.std.proofs.Common.{◌≡◌, ◌<◌, length, Some, get_or, slice_get, take, refl, ap, sym, ◌∙◌, ⊎_elim, arith, rules}
 use Rattle.std.proofs.lemmas.Bool.{both_ways, cases_lt, false≢true}
 use Rattle.linker_reading.proofs.Found.{one_of, place_in, some_same}
-use Rattle.linker_reading.proofs.Tables.{got, behind, taken_at, taken_few, equal_choices}
+use Rattle.linker_reading.proofs.Tables.{got, following, taken_at, taken_few, equal_choices}
 use Rattle.linker_reading.proofs.windows.is_listed.Goals as goal
 
 pub returns-then-eq : goal.returns-then-eq
@@ -40,7 +40,7 @@ returns g c =
       (λ one.
           let at = place_in c.args.choice (take n array) one in
           let few = taken_few array (take n array) n refl in
-          let placed = behind c.args.choice (take n array) at.0 at.1 in
+          let placed = following c.args.choice (take n array) at.0 at.1 in
           let less : at.0 < n = omega (arith, few, placed) in
           absurd (c.loop-index.invariant at.0 (omega (arith, less, c.loop-index-test.false)) (sym (taken_at array (take n array) n refl at.0 less) ∙ at.1))),
     )

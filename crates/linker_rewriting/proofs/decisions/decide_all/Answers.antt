@@ -5,12 +5,12 @@ use Rattle.linker_riscv64.proofs.Shrunk.{written_more}
 use Rattle.linker_rewriting.proofs.Deciding.{AreDecidedTo, ends_within, more_decided, more_kept, not_surveyed, decided_after, overlapping, IsGrown}
 use Rattle.linker_section.specs.Relocations.{relocation_in}
 use Rattle.linker_rewriting.specs.Inner.Calls.{IsLeft}
-use Rattle.linker_rewriting.specs.Inner.Settings.{setting_of}
-use Rattle.linker_rewriting.specs.Labels.{IsInLabel, IsLabelNote}
+use Rattle.linker_rewriting.specs.Inner.Contexts.{context_of}
+use Rattle.linker_rewriting.specs.RiscVPcrelGroups.{IsInLabel, IsLabelNote}
 use Rattle.linker_rewriting.specs.Notes.{is_note}
 use Rattle.linker_rewriting.specs.declared.decisions.Decision.TheVariants.{Kept}
 use Rattle.linker_rewriting.proofs.KeptCalls.{left_decided}
-use Rattle.linker_rewriting.specs.Decisions.{decision_at, CanBeMade, IsDecisionAfter, IsEndBehind, start_by, end_by}
+use Rattle.linker_rewriting.specs.Decisions.{decision_at, CanBeMade, IsDecisionAfter, IsEndAfter, start_by, end_by}
 use Rattle.linker_rewriting.proofs.decisions.decide_all.Goals as goal
 
 pub returns-in_default-clause-rejected : goal.returns-in_default-clause-rejected
@@ -24,14 +24,14 @@ returns-in_default-clause-rejected g c =
     (let t = c.loop-index-test.true in let e = c.relocations_len-len.ensures in omega arith) in (
       less,
       c.loop-index.invariant.decided.decided,
-      not_surveyed (setting_of a.setting.now) a.kept.now a.relocations.now a.section.now k r c.loop-index.is_taken
-          (subst (IsDecisionAfter (setting_of a.setting.now) a.kept.now a.relocations.now a.section.now k r c.loop-index.is_taken) c.in_default.is c.decide_after.ensures.decision)
+      not_surveyed (context_of a.context.now) a.kept.now a.relocations.now a.section.now k r c.loop-index.is_taken
+          (subst (IsDecisionAfter (context_of a.context.now) a.kept.now a.relocations.now a.section.now k r c.loop-index.is_taken) c.in_default.is c.decide_after.ensures.decision)
           c.relocation_in-relocation.ensures,
       enough,
     )
 
-pub returns-in_default-end_behind-clause-rejected : goal.returns-in_default-end_behind-clause-rejected
-returns-in_default-end_behind-clause-rejected g c =
+pub returns-in_default-end_after-clause-rejected : goal.returns-in_default-end_after-clause-rejected
+returns-in_default-end_after-clause-rejected g c =
     let a = c.args in
     let k = c.loop-index.index in
     let r = c.relocation_in-relocation.result in
@@ -41,11 +41,11 @@ returns-in_default-end_behind-clause-rejected g c =
     (let t = c.loop-index-test.true in let e = c.relocations_len-len.ensures in omega arith) in inl (
       less,
       c.loop-index.invariant.decided.decided,
-      overlapping (setting_of a.setting.now) a.kept.now a.relocations.now a.section.now (map g.D.AsDecision.decision c.loop-index.decisions) c.loop-index.end k r c.loop-index.is_taken c.in-Some.decision
-          (subst (IsDecisionAfter (setting_of a.setting.now) a.kept.now a.relocations.now a.section.now k r c.loop-index.is_taken) c.in-Some.is c.decide_after.ensures.decision)
+      overlapping (context_of a.context.now) a.kept.now a.relocations.now a.section.now (map g.D.AsDecision.decision c.loop-index.decisions) c.loop-index.end k r c.loop-index.is_taken c.in-Some.decision
+          (subst (IsDecisionAfter (context_of a.context.now) a.kept.now a.relocations.now a.section.now k r c.loop-index.is_taken) c.in-Some.is c.decide_after.ensures.decision)
           c.relocation_in-relocation.ensures
-          (subst (λ x. IsEndBehind (x.0) (x.1) c.loop-index.end None) c.span_of-start.ensures
-          (subst (IsEndBehind (c.span_of-start.result.0) (c.span_of-start.result.1) c.loop-index.end) c.in_default-end_behind.is c.end_behind.ensures))
+          (subst (λ x. IsEndAfter (x.0) (x.1) c.loop-index.end None) c.span_of-start.ensures
+          (subst (IsEndAfter (c.span_of-start.result.0) (c.span_of-start.result.1) c.loop-index.end) c.in_default-end_after.is c.end_after.ensures))
           c.loop-index.invariant.decided.ends,
       enough,
     )
@@ -56,20 +56,20 @@ loop-index-preserved g c =
     let k = c.loop-index.index in
     let r = c.relocation_in-relocation.result in
     let d = c.in-Some.decision in
-    let end = c.in-Some-end_behind.new_end in
+    let end = c.in-Some-end_after.new_end in
     let same = c.relocation_in-relocation.ensures in
     let less : k < length a.relocations.now / 24 =
     (let t = c.loop-index-test.true in let e = c.relocations_len-len.ensures in omega arith) in
     let within : k < length c.loop-index.decisions =
     (let t = c.loop-index-test.true in let e = c.relocations_len-len.ensures in let f = c.if-decisions-len.false in let l = c.loop-index.auto.decisions in omega arith) in
     let grow : IsGrown start_by end_by a.relocations.now k d c.loop-index.end end =
-    subst (λ x. IsEndBehind (start_by d x.offset) (end_by d x.offset) c.loop-index.end (Some end)) same
-    (subst (λ x. IsEndBehind (x.0) (x.1) c.loop-index.end (Some end)) c.span_of-start.ensures
-    (subst (IsEndBehind (c.span_of-start.result.0) (c.span_of-start.result.1) c.loop-index.end) c.in-Some-end_behind.is c.end_behind.ensures)) in
+    subst (λ x. IsEndAfter (start_by d x.offset) (end_by d x.offset) c.loop-index.end (Some end)) same
+    (subst (λ x. IsEndAfter (x.0) (x.1) c.loop-index.end (Some end)) c.span_of-start.ensures
+    (subst (IsEndAfter (c.span_of-start.result.0) (c.span_of-start.result.1) c.loop-index.end) c.in-Some-end_after.is c.end_after.ensures)) in
     let f = g.D.AsDecision.decision in
     let xs = c.loop-index.decisions in
     let ds = map f xs in
-    let s = setting_of a.setting.now in
+    let s = context_of a.context.now in
     let within_map : k < length ds = (let e = length-map xs f in omega (arith, e, within)) in
     let written : map f (slice_set xs k c.from_decision-in-loop-index.result) ≡ slice_set ds k d =
     map-set f xs k c.from_decision-in-loop-index.result ∙ ap (slice_set ds k) c.from_decision-in-loop-index.ensures.decision in
@@ -105,7 +105,7 @@ decide_after-requires-clause-noted g c in_label =
     let k = c.loop-index.index in
     let xs = c.loop-index.decisions in
     let f = g.D.AsDecision.decision in
-    let s = setting_of a.setting.now in
+    let s = context_of a.context.now in
     let same = c.relocation_in-relocation.ensures in
     let less : k < length a.relocations.now / 24 =
     (let t = c.loop-index-test.true in let e = c.relocations_len-len.ensures in omega arith) in
@@ -119,7 +119,7 @@ decide_after-requires-clause-noted g c in_label =
     (sym noted)
     (subst (λ r. IsLabelNote s a.relocations.now a.section.now r (is_note (decision_at (map f xs) k))) (sym same)
     (c.loop-index.invariant.decided.notes k (omega arith) less
-    (subst (λ r. IsInLabel a.setting.now.architecture a.setting.now.phase r.code true) same in_label)))
+    (subst (λ r. IsInLabel a.context.now.architecture a.context.now.phase r.code true) same in_label)))
 
 pub loop-index-preserved-then-is_left : goal.loop-index-preserved-then-is_left
 loop-index-preserved-then-is_left g c =
@@ -132,7 +132,7 @@ loop-index-preserved-then-is_left g c =
     let f = g.D.AsDecision.decision in
     let xs = c.loop-index.decisions in
     let ds = map f xs in
-    let s = setting_of a.setting.now in
+    let s = context_of a.context.now in
     let within_map : k < length ds = (let e = length-map xs f in omega (arith, e, within)) in
     let written : map f (slice_set xs k c.from_decision.result) ≡ slice_set ds k Kept =
     map-set f xs k c.from_decision.result ∙ ap (slice_set ds k) c.from_decision.ensures.decision in
@@ -140,10 +140,10 @@ loop-index-preserved-then-is_left g c =
       decided = subst (λ l. AreDecidedTo s a.kept.now a.relocations.now a.section.now l c.loop-index.end c.loop-index.is_taken (k + 1)) (sym written)
           (more_kept s a.kept.now a.relocations.now a.section.now ds c.loop-index.end c.loop-index.is_taken k
           c.loop-index.invariant.decided within_map (c.is_left.ensures.not_taken c.if-is_left.true)
-          (left_decided a.setting.now.architecture a.setting.now.phase a.setting.now.output.now a.setting.now.symbols.now a.setting.now.addresses.now a.setting.now.values.now a.kept.now a.relocations.now a.section.now k
+          (left_decided a.context.now.architecture a.context.now.phase a.context.now.output.now a.context.now.symbols.now a.context.now.addresses.now a.context.now.values.now a.kept.now a.relocations.now a.section.now k
           (relocation_in a.relocations.now k)
-          (subst (λ x. IsLeft x a.setting.now.phase a.setting.now.symbols.now (relocation_in a.relocations.now k)) c.requires.architecture
-          (subst (λ x. IsLeft a.architecture x a.setting.now.symbols.now (relocation_in a.relocations.now k)) c.requires.phase
+          (subst (λ x. IsLeft x a.context.now.phase a.context.now.symbols.now (relocation_in a.relocations.now k)) c.requires.architecture
+          (subst (λ x. IsLeft a.architecture x a.context.now.symbols.now (relocation_in a.relocations.now k)) c.requires.phase
           (c.is_left.ensures.left c.if-is_left.true)))));
       form = written_more g.D.AsDecision.is_written xs k c.from_decision.result within c.from_decision.ensures.form c.loop-index.invariant.form;
       others = drop-set-lt (length a.relocations.now / 24) xs k c.from_decision.result less ∙ c.loop-index.invariant.others;

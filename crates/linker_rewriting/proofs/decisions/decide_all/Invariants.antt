@@ -1,12 +1,12 @@
 use Rattle.std.proofs.Common.{◌≡◌, ◌/◌, length, map, take, drop}
 use Rattle.std.specs.Prelude.{All}
-use Rattle.linker_rewriting.specs.Inner.Settings.{setting_of}
+use Rattle.linker_rewriting.specs.Inner.Contexts.{context_of}
 use Rattle.linker_rewriting.proofs.Deciding.{AreDecidedTo}
 use Rattle.linker_rewriting.proofs.decisions.decide_all.Given as goal
 
 abbrev pub invariant-loop-index : goal.invariant-loop-index
 invariant-loop-index g l = record {
-  decided : AreDecidedTo (setting_of l.setting) l.kept l.relocations l.section (map g.D.AsDecision.decision l.decisions) l.end l.is_taken l.index;
+  decided : AreDecidedTo (context_of l.context) l.kept l.relocations l.section (map g.D.AsDecision.decision l.decisions) l.end l.is_taken l.index;
   form : All g.D.AsDecision.is_written (take l.index l.decisions);
   others : drop (length l.relocations / 24) l.decisions ≡ drop (length l.relocations / 24) l.fn.decisions;
 }

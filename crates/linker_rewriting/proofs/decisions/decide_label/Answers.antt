@@ -4,19 +4,19 @@ use Rattle.linker_base.specs.Rewrite.{CanRewrite}
 use Rattle.linker_utils.specs.Architectures.{relaxation_rewrite, relaxation_deleted}
 use Rattle.linker_rewriting.specs.Candidates.{deletes_within}
 use Rattle.linker_rewriting.specs.Decisions.{CanBeMade}
-use Rattle.linker_rewriting.specs.Inner.Settings.{setting_of}
-use Rattle.linker_rewriting.specs.Labels.{IsHighOf, IsLabelCandidate, IsLabelNote}
+use Rattle.linker_rewriting.specs.Inner.Contexts.{context_of}
+use Rattle.linker_rewriting.specs.RiscVPcrelGroups.{IsHighOf, IsLabelCandidate, IsLabelNote}
 use Rattle.linker_rewriting.proofs.LabelGroups.{rewritten_label, never_kept, can_make_label, noted_high}
 use Rattle.linker_rewriting.proofs.decisions.decide_label.Goals as goal
 
 pub returns-in-Some-label_candidate-clause-decision : goal.returns-in-Some-label_candidate-clause-decision
 returns-in-Some-label_candidate-clause-decision c =
     let a = c.args in
-    rewritten_label (setting_of a.setting.now) a.relocations.now a.section.now a.index a.relocation.now c.in-Some.high
+    rewritten_label (context_of a.context.now) a.relocations.now a.section.now a.index a.relocation.now c.in-Some.high
     c.in-Some-label_candidate.chosen c.relocation_in.result c.label_decision.result
-    (subst (IsLabelNote (setting_of a.setting.now) a.relocations.now a.section.now a.relocation.now) c.if-stays.false c.requires.noted)
-    (λ ascending. subst (IsHighOf a.setting.now.phase a.setting.now.addresses.now a.setting.now.values.now a.relocations.now a.relocation.now) c.in-Some.is (c.high_of.ensures.high ascending))
-    (subst (IsLabelCandidate (setting_of a.setting.now) a.relocations.now a.section.now a.index a.relocation.now c.in-Some.high)
+    (subst (IsLabelNote (context_of a.context.now) a.relocations.now a.section.now a.relocation.now) c.if-stays.false c.requires.noted)
+    (λ ascending. subst (IsHighOf a.context.now.phase a.context.now.addresses.now a.context.now.values.now a.relocations.now a.relocation.now) c.in-Some.is (c.high_of.ensures.high ascending))
+    (subst (IsLabelCandidate (context_of a.context.now) a.relocations.now a.section.now a.index a.relocation.now c.in-Some.high)
     c.in-Some-label_candidate.is c.label_candidate.ensures.candidate)
     c.relocation_in.ensures c.label_decision.ensures
 
@@ -24,7 +24,7 @@ pub returns-in-Some-label_candidate-clause-made : goal.returns-in-Some-label_can
 returns-in-Some-label_candidate-clause-made c =
     let a = c.args in
     subst (λ d. CanBeMade d a.section.now a.relocation.now.offset) (sym c.label_decision.ensures)
-    (can_make_label a.setting.now.phase c.in-Some-label_candidate.chosen c.relocation_in.result a.section.now a.relocation.now.offset (
+    (can_make_label a.context.now.phase c.in-Some-label_candidate.chosen c.relocation_in.result a.section.now a.relocation.now.offset (
       subst (λ x. IfSome x (λ y. CanRewrite (relaxation_rewrite y.kind) a.section.now a.relocation.now.offset)) c.in-Some-label_candidate.is c.label_candidate.ensures.rewritable,
       subst (λ x. IfSome x (λ y. deletes_within a.section.now a.relocation.now.offset (relaxation_deleted y.kind) ≡ true)) c.in-Some-label_candidate.is c.label_candidate.ensures.deletes,
     ))
@@ -32,10 +32,10 @@ returns-in-Some-label_candidate-clause-made c =
 pub returns-in-None-clause-decision : goal.returns-in-None-clause-decision
 returns-in-None-clause-decision c =
     let a = c.args in
-    absurd (never_kept (setting_of a.setting.now) a.relocations.now a.section.now a.index a.relocation.now c.in-Some.high
-    (subst (IsLabelNote (setting_of a.setting.now) a.relocations.now a.section.now a.relocation.now) c.if-stays.false c.requires.noted)
-    (λ ascending. subst (IsHighOf a.setting.now.phase a.setting.now.addresses.now a.setting.now.values.now a.relocations.now a.relocation.now) c.in-Some.is (c.high_of.ensures.high ascending))
-    (subst (IsLabelCandidate (setting_of a.setting.now) a.relocations.now a.section.now a.index a.relocation.now c.in-Some.high)
+    absurd (never_kept (context_of a.context.now) a.relocations.now a.section.now a.index a.relocation.now c.in-Some.high
+    (subst (IsLabelNote (context_of a.context.now) a.relocations.now a.section.now a.relocation.now) c.if-stays.false c.requires.noted)
+    (λ ascending. subst (IsHighOf a.context.now.phase a.context.now.addresses.now a.context.now.values.now a.relocations.now a.relocation.now) c.in-Some.is (c.high_of.ensures.high ascending))
+    (subst (IsLabelCandidate (context_of a.context.now) a.relocations.now a.section.now a.index a.relocation.now c.in-Some.high)
     c.in-None.is c.label_candidate.ensures.candidate)
     c.requires.there c.requires.within c.requires.in_label)
 
@@ -43,13 +43,13 @@ pub returns-then-stays-clause-decision : goal.returns-then-stays-clause-decision
 returns-then-stays-clause-decision c =
     let a = c.args in
     inl (
-      subst (IsLabelNote (setting_of a.setting.now) a.relocations.now a.section.now a.relocation.now) c.if-stays.true c.requires.noted,
+      subst (IsLabelNote (context_of a.context.now) a.relocations.now a.section.now a.relocation.now) c.if-stays.true c.requires.noted,
       refl,
     )
 
 pub returns-in_default-clause-decision : goal.returns-in_default-clause-decision
 returns-in_default-clause-decision c =
     let a = c.args in
-    absurd (noted_high (setting_of a.setting.now) a.relocations.now a.section.now a.relocation.now
-    (subst (IsLabelNote (setting_of a.setting.now) a.relocations.now a.section.now a.relocation.now) c.if-stays.false c.requires.noted)
+    absurd (noted_high (context_of a.context.now) a.relocations.now a.section.now a.relocation.now
+    (subst (IsLabelNote (context_of a.context.now) a.relocations.now a.section.now a.relocation.now) c.if-stays.false c.requires.noted)
     (λ ascending. c.in_default.ensures.high ascending))

@@ -4,8 +4,8 @@ use Rattle.std.proofs.lemmas.List.{length-map, map-set, drop-set-lt}
 use Rattle.linker_riscv64.proofs.Shrunk.{written_more}
 use Rattle.linker_rewriting.proofs.Deciding.{IsGrown}
 use Rattle.linker_rewriting.proofs.GlobalPointer.{ArePartsApartTo, more_apart, more_by, part_start, parts_overlap}
-use Rattle.linker_rewriting.specs.Decisions.{CanBeMade, AllCanBeMade, IsEndBehind}
-use Rattle.linker_rewriting.specs.Inner.Settings.{setting_of}
+use Rattle.linker_rewriting.specs.Decisions.{CanBeMade, AllCanBeMade, IsEndAfter}
+use Rattle.linker_rewriting.specs.Inner.Contexts.{context_of}
 use Rattle.linker_rewriting.specs.GlobalPointer.{IsPartDecided, ArePartsDecided, part_end}
 use Rattle.linker_section.specs.Relocations.{relocation_in}
 use Rattle.linker_rewriting.proofs.global_pointer.decide_each_part.Goals as goal
@@ -14,7 +14,7 @@ pub returns-in_default-clause-rejected : goal.returns-in_default-clause-rejected
 returns-in_default-clause-rejected g c =
     let a = c.args in
     let k = c.loop-index.index in
-    let s = setting_of a.setting.now in
+    let s = context_of a.context.now in
     let enough : length a.relocations.now / 24 ≤ length (map g.D.AsDecision.decision c.loop-index.decisions) =
     (let e = c.relocations_len-len.ensures in let f = c.if-decisions-len.false in let l = c.loop-index.auto.decisions in let m = length-map c.loop-index.decisions g.D.AsDecision.decision in omega arith) in
     let less : k < length a.relocations.now / 24 =
@@ -27,12 +27,12 @@ returns-in_default-clause-rejected g c =
       enough,
     )
 
-pub returns-in_default-end_behind-clause-rejected :
-    goal.returns-in_default-end_behind-clause-rejected
-returns-in_default-end_behind-clause-rejected g c =
+pub returns-in_default-end_after-clause-rejected :
+    goal.returns-in_default-end_after-clause-rejected
+returns-in_default-end_after-clause-rejected g c =
     let a = c.args in
     let k = c.loop-index.index in
-    let s = setting_of a.setting.now in
+    let s = context_of a.context.now in
     let d = c.in-Some.decision in
     let same = c.relocation_in-relocation.ensures in
     let enough : length a.relocations.now / 24 ≤ length (map g.D.AsDecision.decision c.loop-index.decisions) =
@@ -45,9 +45,9 @@ returns-in_default-end_behind-clause-rejected g c =
       parts_overlap s a.gp a.kept.now a.relocations.now a.section.now (map g.D.AsDecision.decision c.loop-index.decisions) c.loop-index.end k d
           (subst (λ r. IsPartDecided s a.gp a.kept.now a.relocations.now a.section.now k r (Some d)) same
           (subst (IsPartDecided s a.gp a.kept.now a.relocations.now a.section.now k c.relocation_in-relocation.result) c.in-Some.is c.decide_part.ensures.decision))
-          (subst (λ r. IsEndBehind r.offset (part_end d r.offset) c.loop-index.end None) same
-          (subst (λ own. IsEndBehind c.relocation_in-relocation.result.offset own c.loop-index.end None) c.part_end-own.ensures
-          (subst (IsEndBehind c.relocation_in-relocation.result.offset c.part_end-own.result c.loop-index.end) c.in_default-end_behind.is c.end_behind.ensures)))
+          (subst (λ r. IsEndAfter r.offset (part_end d r.offset) c.loop-index.end None) same
+          (subst (λ own. IsEndAfter c.relocation_in-relocation.result.offset own c.loop-index.end None) c.part_end-own.ensures
+          (subst (IsEndAfter c.relocation_in-relocation.result.offset c.part_end-own.result c.loop-index.end) c.in_default-end_after.is c.end_after.ensures)))
           c.loop-index.invariant.apart,
       enough,
     )
@@ -58,12 +58,12 @@ loop-index-preserved g c =
     let k = c.loop-index.index in
     let r = c.relocation_in-relocation.result in
     let d = c.in-Some.decision in
-    let end = c.in-Some-end_behind.new_end in
+    let end = c.in-Some-end_after.new_end in
     let same = c.relocation_in-relocation.ensures in
     let grow : IsGrown part_start part_end a.relocations.now k d c.loop-index.end end =
-    subst (λ x. IsEndBehind x.offset (part_end d x.offset) c.loop-index.end (Some end)) same
-    (subst (λ own. IsEndBehind r.offset own c.loop-index.end (Some end)) c.part_end-own.ensures
-    (subst (IsEndBehind r.offset c.part_end-own.result c.loop-index.end) c.in-Some-end_behind.is c.end_behind.ensures)) in
+    subst (λ x. IsEndAfter x.offset (part_end d x.offset) c.loop-index.end (Some end)) same
+    (subst (λ own. IsEndAfter r.offset own c.loop-index.end (Some end)) c.part_end-own.ensures
+    (subst (IsEndAfter r.offset c.part_end-own.result c.loop-index.end) c.in-Some-end_after.is c.end_after.ensures)) in
     let less : k < length a.relocations.now / 24 =
     (let t = c.loop-index-test.true in let e = c.relocations_len-len.ensures in omega arith) in
     let within : k < length c.loop-index.decisions =
@@ -71,7 +71,7 @@ loop-index-preserved g c =
     let f = g.D.AsDecision.decision in
     let xs = c.loop-index.decisions in
     let ds = map f xs in
-    let s = setting_of a.setting.now in
+    let s = context_of a.context.now in
     let within_map : k < length ds = (let e = length-map xs f in omega (arith, e, within)) in
     let written : map f (slice_set xs k c.from_decision.result) ≡ slice_set ds k d =
     map-set f xs k c.from_decision.result ∙ ap (slice_set ds k) c.from_decision.ensures.decision in

@@ -2,13 +2,13 @@ use Rattle.std.proofs.Common.{◌≡◌, ◌/◌, length, map, take, drop}
 use Rattle.std.specs.Prelude.{All}
 use Rattle.linker_rewriting.proofs.GlobalPointer.{ArePartsApartTo}
 use Rattle.linker_rewriting.specs.Decisions.{AllCanBeMade}
-use Rattle.linker_rewriting.specs.Inner.Settings.{setting_of}
+use Rattle.linker_rewriting.specs.Inner.Contexts.{context_of}
 use Rattle.linker_rewriting.specs.GlobalPointer.{ArePartsDecided}
 use Rattle.linker_rewriting.proofs.global_pointer.decide_each_part.Given as goal
 
 abbrev pub invariant-loop-index : goal.invariant-loop-index
 invariant-loop-index g l = record {
-  decided : ArePartsDecided (setting_of l.setting) l.gp l.kept l.relocations l.section (map g.D.AsDecision.decision l.decisions) l.index;
+  decided : ArePartsDecided (context_of l.context) l.gp l.kept l.relocations l.section (map g.D.AsDecision.decision l.decisions) l.index;
   made : AllCanBeMade l.relocations l.section (map g.D.AsDecision.decision l.decisions) l.index;
   apart : ArePartsApartTo l.relocations (map g.D.AsDecision.decision l.decisions) l.end l.index;
   form : All g.D.AsDecision.is_written (take l.index l.decisions);

@@ -1,13 +1,13 @@
 use Rattle.std.proofs.Common.{◌≤◌, ◌/◌, length, map, inr, arith}
 use Rattle.std.proofs.lemmas.List.{length-map}
 use Rattle.linker_rewriting.proofs.GlobalPointer.{bytes_apart}
-use Rattle.linker_rewriting.specs.Inner.Settings.{setting_of}
+use Rattle.linker_rewriting.specs.Inner.Contexts.{context_of}
 use Rattle.linker_rewriting.proofs.global_pointer.decide_parts.Goals as goal
 
 pub first_covered-requires-clause-apart : goal.first_covered-requires-clause-apart
 first_covered-requires-clause-apart g c =
     let a = c.args in
-    bytes_apart (setting_of a.setting.now) a.gp a.kept.now a.relocations.now a.section.now
+    bytes_apart (context_of a.context.now) a.gp a.kept.now a.relocations.now a.section.now
     (map g.D.AsDecision.decision c.decide_each_part.new.decisions) (length a.relocations.now / 24)
     c.in_ok-decide_each_part.ensures.decided c.in_ok-decide_each_part.ensures.apart
 

@@ -1,20 +1,20 @@
 use Rattle.std.proofs.Common.{◌/◌, length, map, rules}
 use Rattle.linker_rewriting.proofs.GlobalPointer.{whole, means_unsurveyed, rejected_first}
 use Rattle.linker_rewriting.proofs.Listing.{all_fit}
-use Rattle.linker_rewriting.specs.Facts.{setting}
-use Rattle.linker_rewriting.specs.declared.phases.Phase.TheVariants.{Distances}
+use Rattle.linker_rewriting.specs.Facts.{context}
+use Rattle.linker_rewriting.specs.declared.phases.Phase.TheVariants.{ShortPcRel}
 use Rattle.linker_rewriting.proofs.global_pointer.rewrite_global_pointer.Goals as goal
 
 pub returns-in-Err-clause-surveyed : goal.returns-in-Err-clause-surveyed
 returns-in-Err-clause-surveyed g c =
     let a = c.args in
-    means_unsurveyed (setting a.architecture Distances a.output.now a.symbols.now a.addresses.now a.values.now)
+    means_unsurveyed (context a.architecture ShortPcRel a.output.now a.symbols.now a.addresses.now a.values.now)
     a.gp a.kept.now a.relocations.now a.section.now (map g.D.AsDecision.decision c.decide_parts.new.decisions) 0 _ (c.in-Err.ensures.rejected 0)
 
 pub returns-in-Some-list_deletions-clause-symbols : goal.returns-in-Some-list_deletions-clause-symbols
 returns-in-Some-list_deletions-clause-symbols g c =
     let a = c.args in
-    whole (setting a.architecture Distances a.output.now a.symbols.now a.addresses.now a.values.now)
+    whole (context a.architecture ShortPcRel a.output.now a.symbols.now a.addresses.now a.values.now)
     a.gp a.kept.now a.relocations.now a.section.now (map g.D.AsDecision.decision c.decide_parts.new.decisions)
     (length a.relocations.now / 24) c.in-Ok.ensures.decided
 
@@ -27,6 +27,6 @@ list_deletions-requires-clause-fit g c =
 pub returns-in-Err-clause-rejected : goal.returns-in-Err-clause-rejected
 returns-in-Err-clause-rejected g c =
     let a = c.args in
-    rejected_first (setting a.architecture Distances a.output.now a.symbols.now a.addresses.now a.values.now)
+    rejected_first (context a.architecture ShortPcRel a.output.now a.symbols.now a.addresses.now a.values.now)
     a.gp a.kept.now a.relocations.now a.section.now (map g.D.AsDecision.decision c.decide_parts.new.decisions)
     (length a.deleted.now) _ c.in_default.ensures (c.in-Err.ensures.rejected (length a.deleted.now))

@@ -1,5 +1,5 @@
 use Rattle.std.proofs.Common.{◌/◌, length, map, rules}
-use Rattle.linker_rewriting.specs.Facts.{setting}
+use Rattle.linker_rewriting.specs.Facts.{context}
 use Rattle.linker_rewriting.proofs.Listing.{all_fit}
 use Rattle.linker_rewriting.proofs.Noted.{means_unsurveyed}
 use Rattle.linker_rewriting.proofs.Whole.{whole, labels_whole}
@@ -8,13 +8,13 @@ use Rattle.linker_rewriting.proofs.sections.rewrite_placed_section.Goals as goal
 pub returns-in-Err-clause-surveyed : goal.returns-in-Err-clause-surveyed
 returns-in-Err-clause-surveyed g c =
     let a = c.args in
-    means_unsurveyed (setting a.architecture a.phase a.output.now a.symbols.now a.addresses.now a.values.now)
+    means_unsurveyed (context a.architecture a.phase a.output.now a.symbols.now a.addresses.now a.values.now)
     a.kept.now a.relocations.now a.section.now (map g.D.AsDecision.decision c.decide_section.new.decisions) _ c.in-Err.ensures.rejected
 
 pub returns-in-Some-list_changes-clause-groups : goal.returns-in-Some-list_changes-clause-groups
 returns-in-Some-list_changes-clause-groups g c =
     let a = c.args in
-    whole (setting a.architecture a.phase a.output.now a.symbols.now a.addresses.now a.values.now)
+    whole (context a.architecture a.phase a.output.now a.symbols.now a.addresses.now a.values.now)
     a.kept.now a.relocations.now a.section.now (map g.D.AsDecision.decision c.decide_section.new.decisions)
     (length a.relocations.now / 24) c.in-Ok.ensures.decided
 
@@ -27,6 +27,6 @@ list_changes-requires-clause-fit g c =
 pub returns-in-Some-list_changes-clause-labels : goal.returns-in-Some-list_changes-clause-labels
 returns-in-Some-list_changes-clause-labels g c =
     let a = c.args in
-    labels_whole (setting a.architecture a.phase a.output.now a.symbols.now a.addresses.now a.values.now)
+    labels_whole (context a.architecture a.phase a.output.now a.symbols.now a.addresses.now a.values.now)
     a.kept.now a.relocations.now a.section.now (map g.D.AsDecision.decision c.decide_section.new.decisions)
     (length a.relocations.now / 24) c.in-Ok.ensures.decided

@@ -7,7 +7,7 @@ use borrow.Author.Count.{below_more}
 pub loop-index-preserved : goal.loop-index-preserved
 loop-index-preserved c =
     let a = c.args in
-    let s = a.setting.now in
+    let s = a.context.now in
     let r = relocation_in a.relocations.now c.loop-index.index in
     let all = below_more (λ n. a.from ≤ n → KeepsNone s.architecture s.phase s.symbols.now (relocation_in a.relocations.now n))
     c.loop-index.index (λ n less from. c.loop-index.invariant n from less)

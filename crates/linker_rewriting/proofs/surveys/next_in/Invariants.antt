@@ -6,4 +6,4 @@ use Rattle.linker_rewriting.proofs.surveys.next_in.Given as goal
 abbrev pub invariant-loop-index : goal.invariant-loop-index
 invariant-loop-index l =
     (n : ℕ) → l.from ≤ n → n < l.index
-    → KeepsNone l.setting.architecture l.setting.phase l.setting.symbols.now (relocation_in l.relocations n)
+    → KeepsNone l.context.architecture l.context.phase l.context.symbols.now (relocation_in l.relocations n)

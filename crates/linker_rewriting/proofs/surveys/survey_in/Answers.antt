@@ -1,7 +1,7 @@
 use Rattle.std.proofs.Common.{◌+◌, subst}
 use Rattle.linker_rewriting.proofs.Surveying.{more_surveyed, none_surveyed}
 use Rattle.linker_rewriting.proofs.Untouched.{left_between}
-use Rattle.linker_rewriting.specs.Inner.Settings.{setting_of}
+use Rattle.linker_rewriting.specs.Inner.Contexts.{context_of}
 use Rattle.linker_rewriting.specs.Surveys.{AreKeptToo, IsGroupOf, IsKeeping, IsUnmarked}
 use Rattle.linker_rewriting.proofs.surveys.survey_in.Goals as goal
 
@@ -9,11 +9,11 @@ pub loop-index-preserved : goal.loop-index-preserved
 loop-index-preserved c =
     let a = c.args in
     let k = c.loop-index.index in
-    let s = setting_of a.setting.now in
+    let s = context_of a.context.now in
     let same = c.relocation_in-relocation.ensures in
     record {
       within = c.next_keeping-index-in-loop-index.ensures.within;
-      surveyed = left_between a.setting.now.architecture a.setting.now.phase a.setting.now.output.now a.setting.now.symbols.now a.setting.now.addresses.now a.setting.now.values.now a.relocations.now a.section.now
+      surveyed = left_between a.context.now.architecture a.context.now.phase a.context.now.output.now a.context.now.symbols.now a.context.now.addresses.now a.context.now.values.now a.relocations.now a.section.now
           a.kept.now c.keep_threads.new.kept (k + 1) c.next_keeping-index-in-loop-index.result c.next_keeping-index-in-loop-index.ensures.from
           (more_surveyed s a.relocations.now a.section.now
           a.kept.now c.loop-index.kept c.keep_group.new.kept c.keep_threads.new.kept k
@@ -28,10 +28,10 @@ loop-index-preserved c =
 pub loop-index-init : goal.loop-index-init
 loop-index-init c =
     let a = c.args in
-    let s = setting_of a.setting.now in
+    let s = context_of a.context.now in
     record {
       within = c.next_keeping-index.ensures.within;
-      surveyed = left_between a.setting.now.architecture a.setting.now.phase a.setting.now.output.now a.setting.now.symbols.now a.setting.now.addresses.now a.setting.now.values.now a.relocations.now a.section.now
+      surveyed = left_between a.context.now.architecture a.context.now.phase a.context.now.output.now a.context.now.symbols.now a.context.now.addresses.now a.context.now.values.now a.relocations.now a.section.now
           a.kept.now a.kept.now 0 c.next_keeping-index.result c.next_keeping-index.ensures.from
           (none_surveyed s a.relocations.now a.section.now a.kept.now)
           c.next_keeping-index.ensures.between;

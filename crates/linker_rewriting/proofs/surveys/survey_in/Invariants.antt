@@ -1,12 +1,12 @@
 use Rattle.std.proofs.Common.{◌≤◌, ◌/◌, ◌-◌, length}
-use Rattle.linker_rewriting.specs.Inner.Settings.{setting_of}
+use Rattle.linker_rewriting.specs.Inner.Contexts.{context_of}
 use Rattle.linker_rewriting.specs.Surveys.{IsSurveyedIn}
 use Rattle.linker_rewriting.proofs.surveys.survey_in.Given as goal
 
 abbrev pub invariant-loop-index : goal.invariant-loop-index
 invariant-loop-index l = record {
   within : l.index ≤ length l.relocations / 24;
-  surveyed : IsSurveyedIn (setting_of l.setting) l.relocations
+  surveyed : IsSurveyedIn (context_of l.context) l.relocations
       l.section l.fn.kept l.kept l.index;
 }
 

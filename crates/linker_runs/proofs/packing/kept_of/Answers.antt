@@ -15,26 +15,26 @@ returns-then-kept-len-clause-none c = λ valid position last keeps.
     let to : c.args.end.now.output_offset ≡ rank ds (end_of item) = last.output ∙ ap (rank ds) c.requires.end in
     absurd (omega (arith, first, to, steps, c.saturating_sub-kept.ensures, c.len.ensures, c.if-kept-len.true))
 
-pub returns-then-behind-at-clause-some : goal.returns-then-behind-at-clause-some
-returns-then-behind-at-clause-some c = λ valid position last.
+pub returns-then-following-at-clause-some : goal.returns-then-following-at-clause-some
+returns-then-following-at-clause-some c = λ valid position last.
     let ds = deletions_of c.args.deltas.now in
     let item = c.args.item.now in
     let steps = rank_steps ds (offset_of item) (len_of item) in
     let first : c.args.at.now.output_offset ≡ rank ds (offset_of item) = position.output ∙ ap (rank ds) c.requires.at in
     let to : c.args.end.now.output_offset ≡ rank ds (end_of item) = last.output ∙ ap (rank ds) c.requires.end in
     let kept : c.saturating_sub-kept.result ≡ kept_len ds item = omega (arith, c.saturating_sub-kept.ensures, first, to) in
-    let place : c.position_from-behind.result.input_offset ≡ offset_of item + kept_len ds item = omega (arith, c.position_from-behind.ensures.offset, c.requires.at, kept) in
-    let there : c.position_from-behind.result.output_offset ≡ rank ds (offset_of item + kept_len ds item) = (c.position_from-behind.ensures.position valid position (omega arith)).output ∙ ap (rank ds) place in
-    (kept, omega (arith, there, first, kept, c.if-behind-at.true))
+    let place : c.position_from-following.result.input_offset ≡ offset_of item + kept_len ds item = omega (arith, c.position_from-following.ensures.offset, c.requires.at, kept) in
+    let there : c.position_from-following.result.output_offset ≡ rank ds (offset_of item + kept_len ds item) = (c.position_from-following.ensures.position valid position (omega arith)).output ∙ ap (rank ds) place in
+    (kept, omega (arith, there, first, kept, c.if-following-at.true))
 
-pub returns-else-behind-at-clause-none : goal.returns-else-behind-at-clause-none
-returns-else-behind-at-clause-none c = λ valid position last keeps.
+pub returns-else-following-at-clause-none : goal.returns-else-following-at-clause-none
+returns-else-following-at-clause-none c = λ valid position last keeps.
     let ds = deletions_of c.args.deltas.now in
     let item = c.args.item.now in
     let steps = rank_steps ds (offset_of item) (len_of item) in
     let first : c.args.at.now.output_offset ≡ rank ds (offset_of item) = position.output ∙ ap (rank ds) c.requires.at in
     let to : c.args.end.now.output_offset ≡ rank ds (end_of item) = last.output ∙ ap (rank ds) c.requires.end in
     let kept : c.saturating_sub-kept.result ≡ kept_len ds item = omega (arith, c.saturating_sub-kept.ensures, first, to) in
-    let place : c.position_from-behind.result.input_offset ≡ offset_of item + kept_len ds item = omega (arith, c.position_from-behind.ensures.offset, c.requires.at, kept) in
-    let there : c.position_from-behind.result.output_offset ≡ rank ds (offset_of item + kept_len ds item) = (c.position_from-behind.ensures.position valid position (omega arith)).output ∙ ap (rank ds) place in
-    c.if-behind-at.false (omega (arith, there, first, kept, keeps))
+    let place : c.position_from-following.result.input_offset ≡ offset_of item + kept_len ds item = omega (arith, c.position_from-following.ensures.offset, c.requires.at, kept) in
+    let there : c.position_from-following.result.output_offset ≡ rank ds (offset_of item + kept_len ds item) = (c.position_from-following.ensures.position valid position (omega arith)).output ∙ ap (rank ds) place in
+    c.if-following-at.false (omega (arith, there, first, kept, keeps))

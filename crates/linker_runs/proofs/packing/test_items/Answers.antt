@@ -26,7 +26,7 @@ returns-then-not-is_apart-clause-err g c = λ valid begun.
     let stands = c.loop-index.invariant.stands ds c.args.start in
     record {
       before = c.loop-index.invariant.ready valid begun;
-      here = inl ((omega arith), λ apart. both_ways c.is_apart.result c.if-not-is_apart.true (c.is_apart.ensures.1 (λ some. omega (arith, (apart_from s items n c.loop-index.behind.input_offset stands).1 apart some, here))));
+      here = inl ((omega arith), λ apart. both_ways c.is_apart.result c.if-not-is_apart.true (c.is_apart.ensures.1 (λ some. omega (arith, (apart_from s items n c.loop-index.following.input_offset stands).1 apart some, here))));
     }
 
 pub returns-then-not-is_inside-clause-err : goal.returns-then-not-is_inside-clause-err
@@ -37,7 +37,7 @@ returns-then-not-is_inside-clause-err g c = λ valid begun.
     let n = c.loop-index.index in
     let here : offset_of c.at-item.result ≡ offset_of (item_at items n) = ap offset_of c.at-item.ensures in
     let stands = c.loop-index.invariant.stands ds c.args.start in
-    let apart : IsApart items n = (apart_from s items n c.loop-index.behind.input_offset stands).0 (λ some. omega (arith, c.is_apart.ensures.0 c.if-not-is_apart.false some, here)) in
+    let apart : IsApart items n = (apart_from s items n c.loop-index.following.input_offset stands).0 (λ some. omega (arith, c.is_apart.ensures.0 c.if-not-is_apart.false some, here)) in
     record {
       before = c.loop-index.invariant.ready valid begun;
       here = inl ((omega arith), (apart, λ inside. both_ways c.is_inside.result c.if-not-is_inside.true ((c.is_inside.ensures ds c.args.start).1 (subst (IsInside s) (sym c.at-item.ensures) inside))));
@@ -51,10 +51,10 @@ stay_whole-requires g c =
     let n = c.loop-index.index in
     let here : offset_of c.at-item.result ≡ offset_of (item_at items n) = ap offset_of c.at-item.ensures in
     let stands = c.loop-index.invariant.stands ds c.args.start in
-    let apart : IsApart items n = (apart_from s items n c.loop-index.behind.input_offset stands).0 (λ some. omega (arith, c.is_apart.ensures.0 c.if-not-is_apart.false some, here)) in
+    let apart : IsApart items n = (apart_from s items n c.loop-index.following.input_offset stands).0 (λ some. omega (arith, c.is_apart.ensures.0 c.if-not-is_apart.false some, here)) in
     let inside : IsInside s (item_at items n) = subst (IsInside s) c.at-item.ensures ((c.is_inside.ensures ds c.args.start).0 c.if-not-is_inside.false) in
     let place : c.position_from-at.result.input_offset ≡ offset_of (item_at items n) = c.position_from-at.ensures.offset ∙ c.offset.ensures ∙ here in
-    let up : c.loop-index.behind.input_offset ≤ c.position_from-at.result.input_offset = omega (arith, gap_below s items n apart inside, stands, place) in
+    let up : c.loop-index.following.input_offset ≤ c.position_from-at.result.input_offset = omega (arith, gap_below s items n apart inside, stands, place) in
     up
 
 pub returns-then-not-stay_whole-clause-err : goal.returns-then-not-stay_whole-clause-err
@@ -65,10 +65,10 @@ returns-then-not-stay_whole-clause-err g c = λ valid begun.
     let n = c.loop-index.index in
     let here : offset_of c.at-item.result ≡ offset_of (item_at items n) = ap offset_of c.at-item.ensures in
     let stands = c.loop-index.invariant.stands ds c.args.start in
-    let apart : IsApart items n = (apart_from s items n c.loop-index.behind.input_offset stands).0 (λ some. omega (arith, c.is_apart.ensures.0 c.if-not-is_apart.false some, here)) in
+    let apart : IsApart items n = (apart_from s items n c.loop-index.following.input_offset stands).0 (λ some. omega (arith, c.is_apart.ensures.0 c.if-not-is_apart.false some, here)) in
     let inside : IsInside s (item_at items n) = subst (IsInside s) c.at-item.ensures ((c.is_inside.ensures ds c.args.start).0 c.if-not-is_inside.false) in
     let place : c.position_from-at.result.input_offset ≡ offset_of (item_at items n) = c.position_from-at.ensures.offset ∙ c.offset.ensures ∙ here in
-    let up : c.loop-index.behind.input_offset ≤ c.position_from-at.result.input_offset = omega (arith, gap_below s items n apart inside, stands, place) in
+    let up : c.loop-index.following.input_offset ≤ c.position_from-at.result.input_offset = omega (arith, gap_below s items n apart inside, stands, place) in
     let at = c.position_from-at.ensures.position valid (c.loop-index.invariant.position valid begun) (omega (arith, up, c.position_from-at.ensures.offset)) in
     let whole = c.stay_whole.ensures c.args.deltas.now valid (c.loop-index.invariant.position valid begun) at in
     record {
@@ -98,13 +98,13 @@ returns-in-Err-clause-err g c = λ valid begun.
     let n = c.loop-index.index in
     let here : offset_of c.at-item.result ≡ offset_of (item_at items n) = ap offset_of c.at-item.ensures in
     let stands = c.loop-index.invariant.stands ds c.args.start in
-    let apart : IsApart items n = (apart_from s items n c.loop-index.behind.input_offset stands).0 (λ some. omega (arith, c.is_apart.ensures.0 c.if-not-is_apart.false some, here)) in
+    let apart : IsApart items n = (apart_from s items n c.loop-index.following.input_offset stands).0 (λ some. omega (arith, c.is_apart.ensures.0 c.if-not-is_apart.false some, here)) in
     let inside : IsInside s (item_at items n) = subst (IsInside s) c.at-item.ensures ((c.is_inside.ensures ds c.args.start).0 c.if-not-is_inside.false) in
     let place : c.position_from-at.result.input_offset ≡ offset_of (item_at items n) = c.position_from-at.ensures.offset ∙ c.offset.ensures ∙ here in
-    let up : c.loop-index.behind.input_offset ≤ c.position_from-at.result.input_offset = omega (arith, gap_below s items n apart inside, stands, place) in
+    let up : c.loop-index.following.input_offset ≤ c.position_from-at.result.input_offset = omega (arith, gap_below s items n apart inside, stands, place) in
     let at = c.position_from-at.ensures.position valid (c.loop-index.invariant.position valid begun) (omega (arith, up, c.position_from-at.ensures.offset)) in
     let whole = c.stay_whole.ensures c.args.deltas.now valid (c.loop-index.invariant.position valid begun) at in
-    let gap : KeepsGap s items n = subst (λ x. StayWhole ds x (offset_of (item_at items n))) stands (subst (StayWhole ds c.loop-index.behind.input_offset) place (whole.0 c.if-not-stay_whole.false)) in
+    let gap : KeepsGap s items n = subst (λ x. StayWhole ds x (offset_of (item_at items n))) stands (subst (StayWhole ds c.loop-index.following.input_offset) place (whole.0 c.if-not-stay_whole.false)) in
     let within : end_of (item_at items n) ≤ c.args.base + length c.args.section.now = inside.1 in
     let end : c.position_from-past.result.input_offset ≡ end_of (item_at items n) = omega (arith, c.position_from-past.ensures.offset, c.saturating_add.ensures, c.offset-in-loop-index.ensures, c.len.ensures, ap end_of c.at-item.ensures, within, c.requires.small) in
     let past = c.position_from-past.ensures.position valid at (omega (arith, end, place, c.position_from-past.ensures.offset)) in
@@ -122,10 +122,10 @@ loop-index-preserved g c =
     let n = c.loop-index.index in
     let here : offset_of c.at-item.result ≡ offset_of (item_at items n) = ap offset_of c.at-item.ensures in
     let stands = c.loop-index.invariant.stands ds c.args.start in
-    let apart : IsApart items n = (apart_from s items n c.loop-index.behind.input_offset stands).0 (λ some. omega (arith, c.is_apart.ensures.0 c.if-not-is_apart.false some, here)) in
+    let apart : IsApart items n = (apart_from s items n c.loop-index.following.input_offset stands).0 (λ some. omega (arith, c.is_apart.ensures.0 c.if-not-is_apart.false some, here)) in
     let inside : IsInside s (item_at items n) = subst (IsInside s) c.at-item.ensures ((c.is_inside.ensures ds c.args.start).0 c.if-not-is_inside.false) in
     let place : c.position_from-at.result.input_offset ≡ offset_of (item_at items n) = c.position_from-at.ensures.offset ∙ c.offset.ensures ∙ here in
-    let up : c.loop-index.behind.input_offset ≤ c.position_from-at.result.input_offset = omega (arith, gap_below s items n apart inside, stands, place) in
+    let up : c.loop-index.following.input_offset ≤ c.position_from-at.result.input_offset = omega (arith, gap_below s items n apart inside, stands, place) in
     let within : end_of (item_at items n) ≤ c.args.base + length c.args.section.now = inside.1 in
     let end : c.position_from-past.result.input_offset ≡ end_of (item_at items n) = omega (arith, c.position_from-past.ensures.offset, c.saturating_add.ensures, c.offset-in-loop-index.ensures, c.len.ensures, ap end_of c.at-item.ensures, within, c.requires.small) in
     record {
@@ -138,7 +138,7 @@ loop-index-preserved g c =
       ready = λ valid begun.
           let at = c.position_from-at.ensures.position valid (c.loop-index.invariant.position valid begun) (omega (arith, up, c.position_from-at.ensures.offset)) in
           let whole = c.stay_whole.ensures c.args.deltas.now valid (c.loop-index.invariant.position valid begun) at in
-          let gap : KeepsGap s items n = subst (λ x. StayWhole ds x (offset_of (item_at items n))) stands (subst (StayWhole ds c.loop-index.behind.input_offset) place (whole.0 c.if-not-stay_whole.false)) in
+          let gap : KeepsGap s items n = subst (λ x. StayWhole ds x (offset_of (item_at items n))) stands (subst (StayWhole ds c.loop-index.following.input_offset) place (whole.0 c.if-not-stay_whole.false)) in
           below_more (CanWrite c.args.machine s items) n (c.loop-index.invariant.ready valid begun)
           (record {
             apart = apart;
@@ -166,7 +166,7 @@ returns-then-stay_whole-clause-ok g c = λ valid begun.
     let end = c.position_from-end.ensures.position valid (c.loop-index.invariant.position valid begun) (omega (arith, last_below c.args.base (c.args.base + length c.args.section.now) c.args.section.now items c.loop-index.index (omega arith) c.loop-index.invariant.inside, c.loop-index.invariant.stands [] 0)) in
     let whole = c.stay_whole-2.ensures c.args.deltas.now valid (c.loop-index.invariant.position valid begun) end in (
       subst (AreReady c.args.machine s items) all (c.loop-index.invariant.ready valid begun),
-      subst (λ x. StayWhole ds x (c.args.base + length c.args.section.now)) stands (subst (StayWhole ds c.loop-index.behind.input_offset) c.position_from-end.ensures.offset (whole.0 c.if-stay_whole.true)),
+      subst (λ x. StayWhole ds x (c.args.base + length c.args.section.now)) stands (subst (StayWhole ds c.loop-index.following.input_offset) c.position_from-end.ensures.offset (whole.0 c.if-stay_whole.true)),
     )
 
 pub returns-else-stay_whole-clause-err : goal.returns-else-stay_whole-clause-err

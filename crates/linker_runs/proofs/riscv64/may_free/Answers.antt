@@ -12,8 +12,8 @@ use Rattle.linker_runs.proofs.riscv64.may_free.Goals as goal
 -- there is one next alignment
 same_next : (relocations : List Relocation) (i j k : ℕ) → IsNextAlignment relocations i j → IsNextAlignment relocations i k → j ≡ k
 same_next relocations i j k a b =
-    let ja = a.behind in
-    let kb = b.behind in
+    let ja = a.following in
+    let kb = b.following in
     let jw = a.within in
     let kw = b.within in
     ⊎_elim (λ (same : j ≡ k). same)

@@ -13,8 +13,8 @@ returns-in-Some c field is =
     let a = c.args in
     let k = a.index - 1 in
     let other = c.if-step-index.false in
-    let behind = c.requires.behind in
-    let own = is.own other k (omega (arith, other, behind)) in
+    let following = c.requires.following in
+    let own = is.own other k (omega (arith, other, following)) in
     let same = c.relocation_in-relocation.ensures in
     let row : IsRow a.architecture (relocation_in a.relocations.now k).code (Some c.in-Some.row) =
     subst (λ r. IsRow a.architecture r.code (Some c.in-Some.row)) same
@@ -30,8 +30,8 @@ returns-in-None c field is =
     let a = c.args in
     let k = a.index - 1 in
     let other = c.if-step-index.false in
-    let behind = c.requires.behind in
-    let own = is.own other k (omega (arith, other, behind)) in
+    let following = c.requires.following in
+    let own = is.own other k (omega (arith, other, following)) in
     let row : IsRow a.architecture (relocation_in a.relocations.now k).code None =
     subst (λ r. IsRow a.architecture r.code None) c.relocation_in-relocation.ensures
     (subst (IsRow a.architecture c.relocation_in-relocation.result.code) c.in-None.is c.row.ensures) in

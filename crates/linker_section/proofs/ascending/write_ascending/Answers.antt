@@ -1,6 +1,6 @@
 use Rattle.std.proofs.Common.{◌≡◌, ◌<◌, ◌^◌, ◌∙◌, refl, sym, ap, subst, arith, rules, length, take, Ok}
 use Rattle.std.specs.Prelude.{IfSome, IfNone}
-use Rattle.linker_section.proofs.Reaching.{below_first, below_kept, below_quickly, front_first, front_quickly, front_slowly, end_fits, there_is, there_isnt, rest_behind, first_run, only_run}
+use Rattle.linker_section.proofs.Reaching.{below_first, below_kept, below_quickly, front_first, front_quickly, front_slowly, end_fits, there_is, there_isnt, rest_after, first_run, only_run}
 use Rattle.linker_section.specs.Inner.Steps.{IsFront, IsQuickStep, IsSlowStep}
 use Rattle.linker_section.specs.Relocations.{relocation_of}
 use Rattle.linker_section.proofs.ascending.write_ascending.Goals as goal
@@ -14,7 +14,7 @@ loop-entry-init c =
       room = refl;
       rest = refl;
       within = omega arith;
-      behind = omega arith;
+      following = omega arith;
       high = tt;
     }
 
@@ -31,7 +31,7 @@ loop-entry-preserved-in-Some-write_quickly c =
     let cases = c.in-Some.ensures.cases in
     let len = cases.2 in
     let there = there_is bytes l.rest.now l.index inv.rest (omega (arith, len)) in
-    let behind = inv.behind in
+    let following = inv.following in
     let memory = inv.room in
     let room = c.requires in
     let end = c.in-Some-write_quickly.own_end in
@@ -40,11 +40,11 @@ loop-entry-preserved-in-Some-write_quickly c =
     c.in-Some-write_quickly.is c.write_quickly.ensures.some in
     record {
       below = below_quickly a.architecture a.addresses.now bytes a.symbols.now a.section.now l.section c.write_quickly.new.section l.memory c.write_quickly.new.memory l.index l.end end there (omega (arith, there, memory, room)) quick inv.below;
-      front = front_quickly a.architecture a.addresses.now bytes a.symbols.now a.section.now l.section c.write_quickly.new.section l.memory c.write_quickly.new.memory l.index l.end end l.step behind inv.below.same_length quick inv.front;
+      front = front_quickly a.architecture a.addresses.now bytes a.symbols.now a.section.now l.section c.write_quickly.new.section l.memory c.write_quickly.new.memory l.index l.end end l.step following inv.below.same_length quick inv.front;
       room = c.write_quickly.ensures.len ∙ inv.room;
-      rest = cases.1 ∙ rest_behind bytes l.rest.now l.index inv.rest;
+      rest = cases.1 ∙ rest_after bytes l.rest.now l.index inv.rest;
       within = omega (arith, there);
-      behind = omega (arith, behind);
+      following = omega (arith, following);
       high = c.in-Some-write_quickly.ensures.high;
     }
 
@@ -111,7 +111,7 @@ loop-entry-preserved c =
       room = c.write_slowly.ensures.len ∙ (c.write_quickly.ensures.len ∙ inv.room);
       rest = c.relocations_from-rest.ensures;
       within = step.1.below.within;
-      behind = omega arith;
+      following = omega arith;
       high = inv.high;
     }
 

@@ -12,7 +12,7 @@ invariant-loop-entry l = record {
   room : length l.memory ≡ length l.fn.memory;
   rest : l.rest ≡ drop (l.index * 24) l.relocations;
   within : l.index ≤ length l.relocations / 24;
-  behind : l.step.index ≤ l.index;
+  following : l.step.index ≤ l.index;
   high : IfSome l.high (IsHighValue l.architecture l.addresses l.relocations l.symbols);
 }
 

@@ -83,7 +83,7 @@ returns-clause-some c =
       written = is_written row v o section after c.write_held_at.result (sym c.is_err.ensures.value ∙ c.if-is_err.false)
           (subst (λ x. IsWrittenAt row x o section after c.write_held_at.result) (to_z-of_z w64 v fits)
           (subst (λ r. IsWrittenAt row (to_z w64 (of_z w64 v)) r.offset section after c.write_held_at.result) same c.write_held_at.ensures));
-      behind = omega (arith, front, offset);
+      following = omega (arith, front, offset);
       end_is = omega (arith, offset, window);
     }
 

@@ -7,7 +7,7 @@ invariant-loop-low l = record {
   order : l.low ≤ l.high;
   within : l.high ≤ length l.relocations / 24;
   before : IsAscending l.relocations → (k : ℕ) → k < l.low → offset_at l.relocations k < l.at;
-  behind : IsAscending l.relocations
+  following : IsAscending l.relocations
       → (k : ℕ) → l.high ≤ k → k < length l.relocations / 24 → l.at ≤ offset_at l.relocations k;
 }
 

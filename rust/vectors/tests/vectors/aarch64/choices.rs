@@ -36,7 +36,7 @@ static DESCRIPTOR_RELOCATIONS: [(u64, AArch64Relocation); 4] = [
 fn own(operands: Operands) -> LinkFacts {
     LinkFacts {
         is_local: true,
-        has_fixed_distance: true,
+        is_pcrel_link_time_constant: true,
         is_executable: true,
         has_addresses: true,
         operands,
@@ -206,7 +206,7 @@ fn entry_loads_become_addresses_as_by_linkers() {
             let others = [
                 LinkFacts { is_local: false, ..here },
                 LinkFacts { is_ifunc: true, ..here },
-                LinkFacts { has_fixed_distance: false, ..here },
+                LinkFacts { is_pcrel_link_time_constant: false, ..here },
                 next(&here, 1 << 33),
             ];
             for other in &others {
@@ -275,7 +275,7 @@ fn halves_made<const N: usize>(mut words: [u32; N], halves: &[(u64, bool)]) -> (
     for (bytes, word) in section.chunks_mut(4).zip(words) {
         bytes.copy_from_slice(&word.to_le_bytes());
     }
-    // the variable is 0x12350 bytes behind the thread pointer
+    // the variable is 0x12350 bytes after the thread pointer
     let operands = Operands { tls_base: 0x2000, has_tls_base: true, ..Operands::default() };
     let facts = own(Operands { symbol: 0x1_4350, ..operands });
     let named = |is_high: bool| match is_high {
@@ -303,7 +303,7 @@ fn halves_made<const N: usize>(mut words: [u32; N], halves: &[(u64, bool)]) -> (
 }
 
 /// `adrp x0`; `b` over two instructions to `ldr x0, [x0]`; `add`; `adrp x0`; `add`; that `ldr`: it has
-/// what either `adrp` leaves, and stands behind none. The words are what ld.lld 19 and GNU ld 2.40
+/// what either `adrp` leaves, and stands after none. The words are what ld.lld 19 and GNU ld 2.40
 /// make of it.
 #[test]
 fn halves_are_rewritten_where_they_are() {

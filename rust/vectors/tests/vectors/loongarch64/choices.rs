@@ -62,7 +62,7 @@ fn rewritten(name: Name, words: [u32; 4], at: u64, facts: &LinkFacts) -> (Kind, 
 fn facts_of(symbol: u64, tls_base: u64, is_relaxable: bool) -> LinkFacts {
     LinkFacts {
         is_local: true,
-        has_fixed_distance: true,
+        is_pcrel_link_time_constant: true,
         is_executable: true,
         is_relaxable,
         has_addresses: true,

@@ -8,7 +8,7 @@ pub(crate) const IMAGE: u64 = 0x1_2001_dec8;
 pub(crate) const ENTRY: u64 = 0x1_2001_ffe8;
 
 /// A relocation's type, its offset in a sequence, the symbol's address, or 0 of one elsewhere, the
-/// place after all deletions, the sequence and what is behind it, and the word at the place, or 0
+/// place after all deletions, the sequence and what is after it, and the word at the place, or 0
 /// where it was deleted.
 pub(crate) static SITES: [(u32, u64, u64, u64, [u32; 4], u32); 28] = [
     (

@@ -11,7 +11,7 @@ use linker_utils::ppc64::{Ppc64Relocation, RelaxationKind, choose, row};
 fn own() -> LinkFacts {
     LinkFacts {
         is_local: true,
-        has_fixed_distance: true,
+        is_pcrel_link_time_constant: true,
         is_executable: true,
         toc_base_is_exclusive: true,
         may_change_toc: true,
@@ -587,7 +587,7 @@ fn words_match_linkers() {
             is_local: flags & 1 != 0,
             may_change_toc: flags & 2 != 0,
             is_relaxable: flags & 4 != 0,
-            has_fixed_distance: true,
+            is_pcrel_link_time_constant: true,
             is_executable: true,
             toc_base_is_exclusive: true,
             group_fits: true,

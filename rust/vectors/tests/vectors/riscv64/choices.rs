@@ -11,7 +11,7 @@ use linker_utils::utils::u32_from_slice;
 fn facts_at(symbol: u64, place: u64) -> LinkFacts {
     LinkFacts {
         has_fixed_address: true,
-        has_fixed_distance: true,
+        is_pcrel_link_time_constant: true,
         may_compress: true,
         is_relaxable: true,
         has_addresses: true,
@@ -172,7 +172,7 @@ fn altered_calls_are_left() {
 fn facts_in(symbol: u64, place: u64, is_local: bool, is_relaxable: bool) -> LinkFacts {
     LinkFacts {
         is_local,
-        has_fixed_distance: true,
+        is_pcrel_link_time_constant: true,
         is_executable: true,
         is_relaxable,
         has_addresses: true,
@@ -232,7 +232,7 @@ fn a_load_from_the_got_becomes_the_address_of_a_linker() {
     for replaceable in [
         LinkFacts { is_local: false, ..facts },
         LinkFacts { is_ifunc: true, ..facts },
-        LinkFacts { has_fixed_distance: false, ..facts },
+        LinkFacts { is_pcrel_link_time_constant: false, ..facts },
         LinkFacts { is_label_relaxable: false, ..facts },
         // the mark of a low part, as compilers write it
         LinkFacts { is_label_relaxable: false, is_relaxable: true, ..facts },

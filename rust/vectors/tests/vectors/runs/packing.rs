@@ -27,7 +27,7 @@ fn expect(
     assert_eq!(&packed[..bytes.len().min(len)], bytes);
 }
 
-/// Requires that an item behind all that end before it is rejected so.
+/// Requires that an item after all that end before it is rejected so.
 fn expect_rejected(
     machine: Machine,
     section: &[u8],
@@ -143,7 +143,7 @@ fn rejected_items_of_riscv_are_named() {
     let deltas = plan.deletions.deltas();
     let rows = [
         (aligned(0x128, 6, 8, None), ItemError::OutOfSection),
-        // the `tail f`, which is deleted but for its first two bytes, and the call behind it
+        // the `tail f`, which is deleted but for its first two bytes, and the call after it
         (aligned(0x10c, 16, 16, None), ItemError::NotItsFirstBytes),
         // from its last bytes on: the others are of no item
         (site(0x110, 0x12a, CALL), ItemError::DeletedOutside),

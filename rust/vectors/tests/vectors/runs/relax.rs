@@ -135,7 +135,7 @@ fn targets_of_decided_deletions_mean_nothing() {
 }
 
 /// The 12 bytes of nops that assemblers write for `.option norvc` and `.balign 16` are enough at
-/// multiples of 4: behind a `jal`, but not behind a `c.j`, and not behind a `c.nop`. GNU ld and
+/// multiples of 4: after a `jal`, but not after a `c.j`, and not after a `c.nop`. GNU ld and
 /// ld.lld reject the last: "12 bytes required for alignment to 16-byte boundary".
 #[test]
 fn fewer_nops_need_addresses_that_are_always_multiples() {

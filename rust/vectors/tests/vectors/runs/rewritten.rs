@@ -5,7 +5,7 @@ use super::aligned;
 use linker_utils::elf::Architecture;
 use linker_utils::relaxation::DeltaSlice;
 use linker_utils::rewriting::{
-    Decision, KeptGroups, OutputFacts, Phase, SymbolFacts, rewrite_placed_section,
+    Decision, OutputFacts, Phase, SymbolFacts, UnrelaxableGroups, rewrite_placed_section,
     survey_placed_section,
 };
 use linker_utils::runs::items::{Relocation, RewrittenItemsError, rewritten_items_into};
@@ -42,7 +42,7 @@ fn table(entries: &[Entry]) -> Vec<u8> {
     bytes
 }
 
-/// The section after `Phase::ThreadOffsets`, its relocations and what is deleted.
+/// The section after `Phase::TlsLocalExec`, its relocations and what is deleted.
 fn without_thread_offsets(
     architecture: Architecture,
     section: &[u8],
@@ -58,8 +58,8 @@ fn without_thread_offsets(
     };
     let values = [Symbol { address: 0x20000, is_thread_local: true, ..Symbol::default() }; 4];
     let (mut section, mut rela) = (section.to_vec(), table(entries));
-    let mut kept = [KeptGroups::default(); 4];
-    let phase = Phase::ThreadOffsets;
+    let mut kept = [UnrelaxableGroups::default(); 4];
+    let phase = Phase::TlsLocalExec;
     survey_placed_section(
         architecture,
         phase,

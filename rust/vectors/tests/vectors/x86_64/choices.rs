@@ -36,14 +36,14 @@ fn facts_of(name: X86_64Relocation, kind: RelaxationKind, number: u32) -> LinkFa
     match kind {
         RelaxationKind::MovIndirectToLea => LinkFacts {
             is_local: true,
-            has_fixed_distance: true,
+            is_pcrel_link_time_constant: true,
             operands: Operands { symbol: number.wrapping_add(PLACE + 4), ..operands },
             ..facts
         },
         // the field is one byte lower
         RelaxationKind::JmpIndirectToRelative => LinkFacts {
             is_local: true,
-            has_fixed_distance: true,
+            is_pcrel_link_time_constant: true,
             operands: Operands { symbol: number.wrapping_add(PLACE + 3), ..operands },
             ..facts
         },
@@ -65,7 +65,7 @@ fn facts_of(name: X86_64Relocation, kind: RelaxationKind, number: u32) -> LinkFa
             | X86_64Relocation::R_X86_64_CODE_6_GOTPCRELX => LinkFacts {
                 is_local: true,
                 has_fixed_address: true,
-                has_fixed_distance: true,
+                is_pcrel_link_time_constant: true,
                 operands: Operands { symbol: number, ..operands },
                 ..facts
             },
@@ -282,7 +282,7 @@ fn loads_without_a_mark_become_lea() {
         let facts = LinkFacts {
             is_local: true,
             has_fixed_address: true,
-            has_fixed_distance: true,
+            is_pcrel_link_time_constant: true,
             has_addresses: true,
             operands,
             ..LinkFacts::default()
@@ -303,7 +303,7 @@ fn other_instructions_are_not_rewritten() {
     let facts = LinkFacts {
         is_local: true,
         has_fixed_address: true,
-        has_fixed_distance: true,
+        is_pcrel_link_time_constant: true,
         is_executable: true,
         has_local_exec_base: true,
         group_fits: true,

@@ -4,7 +4,7 @@ use Rattle.std.specs.List.{sum_by}
 use Rattle.std.proofs.lemmas.Result.{IfOk-weaker}
 use Rattle.linker_output.specs.declared.placement.State.{State}
 use Rattle.linker_output.specs.Placement.{branch_at}
-use Rattle.linker_output.specs.Inner.Placement.{IsLeft, IsOutBehind, level, way_at}
+use Rattle.linker_output.specs.Inner.Placement.{StaysUnshared, IsOutAfter, level, way_at}
 use Rattle.linker_output.proofs.placement.State.go_near.Goals as goal
 
 pub returns-clause-higher : goal.returns-clause-higher
@@ -22,7 +22,7 @@ pub returns-clause-out : goal.returns-clause-out
 returns-clause-out c =
     let code = c.args.code.now in
     let branch = branch_at code.branches.now c.args.index in
-    IfOk-weaker c.go_back.result _ _ (λ w f e. (c.in_ok-went.ensures.none c.if-went.false, subst (λ s. IsOutBehind code s branch) (c.in_ok-went.ensures.same c.if-went.false) (f e))) c.go_back.ensures.none
+    IfOk-weaker c.go_back.result _ _ (λ w f e. (c.in_ok-went.ensures.none c.if-went.false, subst (λ s. IsOutAfter code s branch) (c.in_ok-went.ensures.same c.if-went.false) (f e))) c.go_back.ensures.none
 
 pub go_back-requires-clause-higher : goal.go_back-requires-clause-higher
 go_back-requires-clause-higher c =
@@ -30,4 +30,4 @@ go_back-requires-clause-higher c =
 
 pub go_back-requires-clause-left : goal.go_back-requires-clause-left
 go_back-requires-clause-left c =
-    subst (λ s. IsLeft c.args.code.now s (branch_at c.args.code.now.branches.now c.args.index)) (sym (c.in_ok-went.ensures.same c.if-went.false)) c.requires.left
+    subst (λ s. StaysUnshared c.args.code.now s (branch_at c.args.code.now.branches.now c.args.index)) (sym (c.in_ok-went.ensures.same c.if-went.false)) c.requires.left

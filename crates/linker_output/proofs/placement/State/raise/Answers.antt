@@ -4,7 +4,7 @@ use Rattle.std.specs.List.{sum_by}
 use Rattle.std.proofs.lemmas.Result.{IfOk-weaker}
 use Rattle.linker_output.specs.declared.placement.State.{State}
 use Rattle.linker_output.specs.Placement.{branch_at}
-use Rattle.linker_output.specs.Inner.Placement.{IsLeft, IsOut, level, way_at}
+use Rattle.linker_output.specs.Inner.Placement.{StaysUnshared, IsOut, level, way_at}
 use Rattle.linker_output.proofs.placement.State.raise.Goals as goal
 
 pub returns-clause-higher : goal.returns-clause-higher
@@ -28,4 +28,4 @@ go_near-requires-clause-higher c =
 
 pub go_near-requires-clause-left : goal.go_near-requires-clause-left
 go_near-requires-clause-left c =
-    subst (λ s. IsLeft c.args.code.now s (branch_at c.args.code.now.branches.now c.args.index)) (sym (c.in_ok-went.ensures.same c.if-went.false)) (c.in_ok-went.ensures.left c.if-went.false)
+    subst (λ s. StaysUnshared c.args.code.now s (branch_at c.args.code.now.branches.now c.args.index)) (sym (c.in_ok-went.ensures.same c.if-went.false)) (c.in_ok-went.ensures.left c.if-went.false)

@@ -7,4 +7,4 @@ use Rattle.linker_output.proofs.placement.laying.passed.Goals as goal
 pub returns-clause-passed : goal.returns-clause-passed
 returns-clause-passed c = sym (prefix_len_is (λ b. nat_le b c.args.offset) c.args.boundaries.now c.loop-low.low 0 (omega arith)
     (λ k h. le_true _ _ (c.loop-low.invariant.before k h))
-    (λ h. le_false _ _ (c.loop-low.invariant.behind c.loop-low.low (omega arith) h)))
+    (λ h. le_false _ _ (c.loop-low.invariant.following c.loop-low.low (omega arith) h)))

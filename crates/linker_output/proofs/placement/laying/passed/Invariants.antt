@@ -6,7 +6,7 @@ invariant-loop-low l = record {
   order : l.low ≤ l.high;
   within : l.high ≤ length l.boundaries;
   before : (k : ℕ) → k < l.low → get_or l.boundaries k 0 ≤ l.offset;
-  behind : (k : ℕ) → l.high ≤ k → k < length l.boundaries → l.offset < get_or l.boundaries k 0;
+  following : (k : ℕ) → l.high ≤ k → k < length l.boundaries → l.offset < get_or l.boundaries k 0;
 }
 
 abbrev pub decreases-loop-low : goal.decreases-loop-low

@@ -21,7 +21,7 @@ returns-clause-listed g c = λ m s rs len is before.
     let count = length-map c.args.deleted.now g.L.AsDeletion.deletion in
     let there : f x ≡ item = c.from_item.ensures.item in
     let made : Makes m s base rs i (f x) = subst (Makes m s base rs i) (sym there) is in
-    let behind : all.result.end ≤ offset_of (f x) = omega (arith, c.if-offset-all.false, c.offset-3.ensures, ap offset_of there) in
+    let following : all.result.end ≤ offset_of (f x) = omega (arith, c.if-offset-all.false, c.offset-3.ensures, ap offset_of there) in
     let end : after ≡ end_of item = omega (arith, c.offset-4.ensures, c.len.ensures) in
     let next : all.result.gone < length c.args.deleted.now → after ≤ base + (deleted_at ds all.result.gone).0 = λ more. ⊎_elim
     (λ (cut : base + (deleted_at ds all.result.gone).0 < after). absurd (both_ways c.is_cut.result c.if-is_cut.false (c.is_cut.ensures.1 (more, omega (arith, cut, end)))))
@@ -30,4 +30,4 @@ returns-clause-listed g c = λ m s rs len is before.
     put_made f g.I.AsItem.is_written (record { machine = m; section = s; base = base; relocations = rs; deletions = ds }) i all.result.gone all.result.count all.result.end after all.new.out all.new.makers x so_far
     (omega (arith, so_far.few, all.ensures.range.1, c.requires.index, c.requires.room, all.auto.out))
     (omega (arith, so_far.few, all.ensures.range.1, c.requires.index, c.requires.makers, all.auto.makers))
-    made c.from_item.ensures.form behind (end ∙ sym (ap end_of there)) (λ more. next (omega (arith, more, count)))
+    made c.from_item.ensures.form following (end ∙ sym (ap end_of there)) (λ more. next (omega (arith, more, count)))

@@ -3,13 +3,13 @@ use Rattle.linker_runs.specs.Relaxing.{choice_of}
 use Rattle.linker_runs.specs.Inner.Relaxing.{AreCautious, AreForced, is_in_reach_cautiously}
 use Rattle.linker_runs.proofs.relaxation.cautious.sweep_back.Given as goal
 
-abbrev pub invariant-loop-behind : goal.invariant-loop-behind
-invariant-loop-behind g l = record {
-  freed : AreCautious l.items l.shapes l.freed (length l.items - l.behind) l.more;
+abbrev pub invariant-loop-following : goal.invariant-loop-following
+invariant-loop-following g l = record {
+  freed : AreCautious l.items l.shapes l.freed (length l.items - l.following) l.more;
   fits : get_or l.freed (length l.items) 0 < 2 ^ 64;
   short : (i : ℕ) → choice_of l.shapes i ≤ 2;
   forced : AreForced l.items l.shapes;
   same : l.more ≡ 0 → l.shapes ≡ l.initial.shapes;
-  reached : l.more ≡ 0 → (k : ℕ) → length l.items - l.behind ≤ k → k < length l.items → is_in_reach_cautiously l.items (choice_of l.initial.shapes) k ≡ true;
+  reached : l.more ≡ 0 → (k : ℕ) → length l.items - l.following ≤ k → k < length l.items → is_in_reach_cautiously l.items (choice_of l.initial.shapes) k ≡ true;
   longer : 0 < l.more → sum l.initial.shapes < sum l.shapes;
 }

@@ -18,60 +18,60 @@ last_of w start o items n b below =
 at_offset : (w start o p : ℕ) (items : List Item) (n : ℕ) → o ≡ p → IsAlwaysMultiple w start o items n → IsAlwaysMultiple w start p items n
 at_offset w start o p items n same always = subst (λ x. IsAlwaysMultiple w start x items n) same always
 
-pub loop-behind-init : goal.loop-behind-init
-loop-behind-init g c = (
+pub loop-following-init : goal.loop-following-init
+loop-following-init g c = (
   subst (IsAlwaysMultiple c.args.number c.args.start c.offset-offset.result c.args.items.now) (omega arith),
   subst (IsAlwaysMultiple c.args.number c.args.start c.offset-offset.result c.args.items.now) (omega arith),
 )
 
-pub is_anchor-requires-clause-behind : goal.is_anchor-requires-clause-behind
-is_anchor-requires-clause-behind g c =
-    let below = ends_by c.args.start c.args.items.now c.requires.in_order c.args.index (c.args.index - 1 - c.loop-behind.behind) c.requires.within (omega arith) in
+pub is_anchor-requires-clause-following : goal.is_anchor-requires-clause-following
+is_anchor-requires-clause-following g c =
+    let below = ends_by c.args.start c.args.items.now c.requires.in_order c.args.index (c.args.index - 1 - c.loop-following.following) c.requires.within (omega arith) in
     let e = c.offset-offset.ensures ∙ ap offset_of c.at-here.ensures in
     omega (arith, ap end_of c.at-item.ensures)
 
-pub frees_multiples-requires-clause-behind : goal.frees_multiples-requires-clause-behind
-frees_multiples-requires-clause-behind g c =
-    let below = ends_by c.args.start c.args.items.now c.requires.in_order c.args.index (c.args.index - 1 - c.loop-behind.behind) c.requires.within (omega arith) in
+pub frees_multiples-requires-clause-following : goal.frees_multiples-requires-clause-following
+frees_multiples-requires-clause-following g c =
+    let below = ends_by c.args.start c.args.items.now c.requires.in_order c.args.index (c.args.index - 1 - c.loop-following.following) c.requires.within (omega arith) in
     let e = c.offset-offset.ensures ∙ ap offset_of c.at-here.ensures in
     omega (arith, ap end_of c.at-item.ensures)
 
 pub returns-then-is_anchor : goal.returns-then-is_anchor
 returns-then-is_anchor g c =
     let anchor = subst (IsAnchor c.args.number c.offset-offset.result) c.at-item.ensures (c.is_anchor.ensures.0 (search rules)) in
-    let last = last_of c.args.number c.args.start c.offset-offset.result c.args.items.now c.args.index c.loop-behind.behind c.loop-behind-test.true in (
-      λ _. at_offset c.args.number c.args.start c.offset-offset.result (offset_of (item_at c.args.items.now c.args.index)) c.args.items.now c.args.index (c.offset-offset.ensures ∙ ap offset_of c.at-here.ensures) (c.loop-behind.invariant.0 (last.0 (inl anchor))),
+    let last = last_of c.args.number c.args.start c.offset-offset.result c.args.items.now c.args.index c.loop-following.following c.loop-following-test.true in (
+      λ _. at_offset c.args.number c.args.start c.offset-offset.result (offset_of (item_at c.args.items.now c.args.index)) c.args.items.now c.args.index (c.offset-offset.ensures ∙ ap offset_of c.at-here.ensures) (c.loop-following.invariant.0 (last.0 (inl anchor))),
       λ _. search rules,
     )
 
 pub returns-then-not-frees_multiples : goal.returns-then-not-frees_multiples
 returns-then-not-frees_multiples g c =
-    let last = last_of c.args.number c.args.start c.offset-offset.result c.args.items.now c.args.index c.loop-behind.behind c.loop-behind-test.true in (
+    let last = last_of c.args.number c.args.start c.offset-offset.result c.args.items.now c.args.index c.loop-following.following c.loop-following-test.true in (
       λ never. absurd (false_is never),
       λ always. absurd (⊎_elim
           (λ anchor. (let h = c.is_anchor.ensures.1 (subst (IsAnchor c.args.number c.offset-offset.result) (sym c.at-item.ensures) anchor) in let g = c.if-is_anchor.false in cc))
           (λ other. (let h = c.frees_multiples.ensures.1 (subst (FreesMultiples c.args.number c.offset-offset.result) (sym c.at-item.ensures) other.0) in let g = c.if-not-frees_multiples.true in cc))
-          (last.1 (c.loop-behind.invariant.1 (at_offset c.args.number c.args.start (offset_of (item_at c.args.items.now c.args.index)) c.offset-offset.result c.args.items.now c.args.index (sym (c.offset-offset.ensures ∙ ap offset_of c.at-here.ensures)) always)))),
+          (last.1 (c.loop-following.invariant.1 (at_offset c.args.number c.args.start (offset_of (item_at c.args.items.now c.args.index)) c.offset-offset.result c.args.items.now c.args.index (sym (c.offset-offset.ensures ∙ ap offset_of c.at-here.ensures)) always)))),
     )
   where
     false_is : IsTrue false → ⊥
     false_is never = cc
 
-pub loop-behind-preserved : goal.loop-behind-preserved
-loop-behind-preserved g c =
+pub loop-following-preserved : goal.loop-following-preserved
+loop-following-preserved g c =
     let number = c.args.number in
     let start = c.args.start in
     let o = c.offset-offset.result in
     let items = c.args.items.now in
-    let behind = c.loop-behind.behind in
-    let last = last_of number start o items c.args.index behind c.loop-behind-test.true in
-    let z : c.args.index - 1 - behind ≡ c.args.index - (behind + 1) = omega arith in
+    let following = c.loop-following.following in
+    let last = last_of number start o items c.args.index following c.loop-following-test.true in
+    let z : c.args.index - 1 - following ≡ c.args.index - (following + 1) = omega arith in
     let frees = subst (FreesMultiples number o) c.at-item.ensures (c.frees_multiples.ensures.0 (search rules)) in (
-      λ rest. c.loop-behind.invariant.0 (last.0 (inr (frees, subst (IsAlwaysMultiple number start o items) (sym z) rest))),
+      λ rest. c.loop-following.invariant.0 (last.0 (inr (frees, subst (IsAlwaysMultiple number start o items) (sym z) rest))),
       λ all. ⊎_elim
           (λ anchor. (let h = c.is_anchor.ensures.1 (subst (IsAnchor c.args.number c.offset-offset.result) (sym c.at-item.ensures) anchor) in let g = c.if-is_anchor.false in cc))
           (λ other. subst (IsAlwaysMultiple number start o items) z other.1)
-          (last.1 (c.loop-behind.invariant.1 all)),
+          (last.1 (c.loop-following.invariant.1 all)),
     )
 
 pub returns : goal.returns
@@ -80,11 +80,11 @@ returns g c =
     let start = c.args.start in
     let o = c.offset-offset.result in
     let items = c.args.items.now in
-    let none : c.args.index - c.loop-behind.behind ≡ 0 = omega arith in (
+    let none : c.args.index - c.loop-following.following ≡ 0 = omega arith in (
       λ test. at_offset number start o (offset_of (item_at items c.args.index)) items c.args.index (c.offset-offset.ensures ∙ ap offset_of c.at-here.ensures)
-          (c.loop-behind.invariant.0 (subst (IsAlwaysMultiple number start o items) (sym none) (divides test))),
+          (c.loop-following.invariant.0 (subst (IsAlwaysMultiple number start o items) (sym none) (divides test))),
       λ always. divided (subst (IsAlwaysMultiple number start o items) none
-          (c.loop-behind.invariant.1 (at_offset number start (offset_of (item_at items c.args.index)) o items c.args.index (sym (c.offset-offset.ensures ∙ ap offset_of c.at-here.ensures)) always))),
+          (c.loop-following.invariant.1 (at_offset number start (offset_of (item_at items c.args.index)) o items c.args.index (sym (c.offset-offset.ensures ∙ ap offset_of c.at-here.ensures)) always))),
     )
   where
     divides : IsTrue (nat_eq ((c.args.start + c.offset-offset.result) % c.args.number) 0) → (c.args.start + c.offset-offset.result) % c.args.number ≡ 0

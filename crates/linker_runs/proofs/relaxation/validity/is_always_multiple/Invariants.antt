@@ -3,5 +3,5 @@ use Rattle.linker_runs.specs.Choosing.{IsAlwaysMultiple}
 use Rattle.linker_runs.proofs.relaxation.validity.is_always_multiple.Given as goal
 
 -- what is left to be told is what all items tell
-abbrev pub invariant-loop-behind : goal.invariant-loop-behind
-invariant-loop-behind g l = IsAlwaysMultiple l.number l.start l.offset l.items (l.index - l.behind) ↔ IsAlwaysMultiple l.number l.start l.offset l.items l.index
+abbrev pub invariant-loop-following : goal.invariant-loop-following
+invariant-loop-following g l = IsAlwaysMultiple l.number l.start l.offset l.items (l.index - l.following) ↔ IsAlwaysMultiple l.number l.start l.offset l.items l.index

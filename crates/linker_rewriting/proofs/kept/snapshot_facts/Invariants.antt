@@ -1,0 +1,10 @@
+use Rattle.std.proofs.Common.{◌≡◌, ◌<◌, ℕ, length}
+use Rattle.std.specs.Prelude.{slice_get}
+use Rattle.linker_rewriting.specs.Kept.{facts_now}
+use Rattle.linker_rewriting.proofs.kept.snapshot_facts.Given as goal
+
+abbrev pub invariant-loop-index : goal.invariant-loop-index
+invariant-loop-index l = record {
+  kept : (n : ℕ) → n < l.index → slice_get l.kept n ≡ facts_now l.output (slice_get l.symbols n);
+  room : length l.symbols ≡ length l.kept;
+}

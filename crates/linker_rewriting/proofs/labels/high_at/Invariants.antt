@@ -1,5 +1,0 @@
-use Rattle.linker_rewriting.proofs.LabelGroups.{NoneIn}
-use Rattle.linker_rewriting.proofs.labels.high_at.Given as goal
-
-abbrev pub invariant-loop-index : goal.invariant-loop-index
-invariant-loop-index l = NoneIn l.relocations l.code l.at l.first l.index

@@ -1,0 +1,51 @@
+use Rattle.std.proofs.Common.{◌≡◌, ◌≤◌, ◌<◌, ◌⊎◌, inl, inr, ℕ, subst, arith, false, below_more}
+use Rattle.linker_rewriting.specs.RiscVPcrelGroups.{is_high}
+use Rattle.linker_rewriting.proofs.LabelGroups.{isnt_code, found, none_at, none_searched}
+use Rattle.linker_section.specs.Relocations.{relocation_in}
+use Rattle.linker_rewriting.proofs.riscv_pcrel_groups.high_at.Goals as goal
+
+inside : {index end len count : ℕ} → index < end → end ≤ len → len ≡ count → index < count
+inside less most same = omega (arith, less, most, same)
+
+below : {index end far : ℕ} → index < end → end ≤ far → index < far
+below less most = omega (arith, less, most)
+
+ended : {index end len count far : ℕ} → (len ≤ end) ⊎ (far ≤ end) → end ≤ index → len ≡ count
+    → (count ≤ index) ⊎ (far ≤ index)
+ended (inl all) most same = inl (omega (arith, all, most, same))
+ended (inr some) most same = inr (omega (arith, some, most))
+
+pub loop-index-preserved : goal.loop-index-preserved
+loop-index-preserved c k from below =
+    let a = c.args in
+    below_more (λ j. c.first_from-first.result ≤ j → is_high a.code a.at (relocation_in a.relocations.now j) ≡ false)
+    c.loop-index.index (λ j under first. c.loop-index.invariant j first under)
+    (λ _. subst (λ r. is_high a.code a.at r ≡ false) c.relocation_in-relocation.ensures
+    (isnt_code a.code a.at c.relocation_in-relocation.result c.if-relocation-code.false))
+    k below from
+
+pub returns-then-relocation-code-clause-high : goal.returns-then-relocation-code-clause-high
+returns-then-relocation-code-clause-high c =
+    let a = c.args in
+    λ ascending. found a.relocations.now a.code a.at c.first_from-first.result c.loop-index.index
+    c.relocation_in-relocation.result (c.first_from-first.ensures.before ascending)
+    c.loop-index.invariant (inside c.loop-index-test.true c.search_end-index-end.ensures.within c.relocations_len.ensures)
+    (below c.loop-index-test.true c.search_end-index-end.ensures.near)
+    c.relocation_in-relocation.ensures c.if-relocation-at.false c.if-relocation-code.true
+
+pub returns-then-relocation-at-clause-high : goal.returns-then-relocation-at-clause-high
+returns-then-relocation-at-clause-high c =
+    let a = c.args in
+    λ ascending. none_at a.relocations.now a.code a.at c.first_from-first.result c.loop-index.index ascending
+    (c.first_from-first.ensures.before ascending) (c.first_from-first.ensures.following ascending)
+    c.loop-index.invariant c.loop-index.auto.index
+    (inside c.loop-index-test.true c.search_end-index-end.ensures.within c.relocations_len.ensures)
+    (subst (λ r. r.offset ≡ a.at → ⊥) c.relocation_in-relocation.ensures c.if-relocation-at.true)
+
+pub returns-clause-high : goal.returns-clause-high
+returns-clause-high c =
+    let a = c.args in
+    λ ascending. none_searched a.relocations.now a.code a.at c.first_from-first.result c.loop-index.index ascending
+    (c.first_from-first.ensures.before ascending) (c.first_from-first.ensures.following ascending)
+    c.loop-index.invariant
+    (ended c.search_end-index-end.ensures.far c.loop-index-test.false c.relocations_len.ensures)

@@ -1,0 +1,22 @@
+use Rattle.std.proofs.Common.{subst}
+use Rattle.linker_rewriting.specs.Inner.Contexts.{context_of}
+use Rattle.linker_rewriting.specs.RiscVPcrelGroups.{IsInLabel, IsHighOf, IsLabelCandidate}
+use Rattle.linker_rewriting.proofs.LabelGroups.{unlabelled_lacks, rewritten_lacks}
+use Rattle.linker_rewriting.proofs.riscv_pcrel_groups.lacking.Goals as goal
+
+pub returns-then-not-is_in_label-clause-lacking : goal.returns-then-not-is_in_label-clause-lacking
+returns-then-not-is_in_label-clause-lacking c =
+    let a = c.args in
+    λ ascending. unlabelled_lacks (context_of a.context.now)
+    a.relocations.now a.section.now a.index a.relocation.now
+    (subst (IsInLabel a.context.now.architecture a.context.now.phase a.relocation.now.code) c.if-not-is_in_label.true c.is_in_label.ensures)
+
+pub returns-in-Some-label_candidate-clause-lacking : goal.returns-in-Some-label_candidate-clause-lacking
+returns-in-Some-label_candidate-clause-lacking c =
+    let a = c.args in
+    λ ascending. rewritten_lacks (context_of a.context.now)
+    a.relocations.now a.section.now a.index a.relocation.now c.in-Some.high _
+    (subst (IsHighOf a.context.now.phase a.context.now.addresses.now a.context.now.values.now a.relocations.now a.relocation.now) c.in-Some.is
+    (c.high_of.ensures.high ascending))
+    (subst (IsLabelCandidate (context_of a.context.now) a.relocations.now a.section.now a.index a.relocation.now c.in-Some.high)
+    c.in-Some-label_candidate.is c.label_candidate.ensures.candidate)

@@ -1,0 +1,47 @@
+use Rattle.std.proofs.Common.{◌≡◌, ◌<◌, ◌+◌, ◌/◌, ◌∙◌, length, map, slice_set, ap, sym, subst, arith, Some, None}
+use Rattle.std.proofs.lemmas.List.{length-map, map-set, drop-set-lt}
+use Rattle.std.specs.Prelude.{IfSome}
+use Rattle.linker_rewriting.specs.Inner.Contexts.{context_of}
+use Rattle.linker_rewriting.specs.RiscVPcrelGroups.{IsLacking}
+use Rattle.linker_rewriting.specs.Notes.{AreHighsNoted}
+use Rattle.linker_rewriting.specs.declared.decisions.Decision.TheVariants.{Consumed}
+use Rattle.linker_rewriting.proofs.LabelGroups.{more_noted, same_noted}
+use Rattle.linker_rewriting.proofs.riscv_pcrel_groups.note_highs.Goals as goal
+
+pub loop-index-preserved : goal.loop-index-preserved
+loop-index-preserved g c =
+    let a = c.args in
+    let k = c.loop-index.index in
+    let within : c.in-Some.high < length a.relocations.now / 24 =
+    subst (λ x. IfSome x (λ high. high < length a.relocations.now / 24)) c.in-Some.is c.lacking.ensures.within in
+    let f = g.D.AsDecision.decision in
+    let xs = c.loop-index.decisions in
+    let ds = map f xs in
+    let s = context_of a.context.now in
+    let within_map : c.in-Some.high < length ds =
+    (let m = length-map xs f in let l = c.loop-index.auto.decisions in let e = c.requires.enough in omega (arith, m, l, e, within)) in
+    let written : map f (slice_set xs c.in-Some.high c.from_decision.result) ≡ slice_set ds c.in-Some.high Consumed =
+    map-set f xs c.in-Some.high c.from_decision.result ∙ ap (slice_set ds c.in-Some.high) c.from_decision.ensures.decision in
+    record {
+      noted = subst (λ l. AreHighsNoted s a.relocations.now a.section.now l (k + 1)) (sym written)
+          (more_noted s a.relocations.now a.section.now ds k c.in-Some.high
+          c.loop-index.invariant.noted
+          (subst (λ r. IsLacking s a.relocations.now a.section.now k r (Some c.in-Some.high)) c.relocation_in-relocation.ensures
+          (subst (IsLacking s a.relocations.now a.section.now k c.relocation_in-relocation.result) c.in-Some.is
+          (c.lacking.ensures.lacking c.requires.ascending)))
+          within_map);
+      others = drop-set-lt (length a.relocations.now / 24) xs c.in-Some.high c.from_decision.result within ∙ c.loop-index.invariant.others;
+    }
+
+pub loop-index-preserved-in_default : goal.loop-index-preserved-in_default
+loop-index-preserved-in_default g c =
+    let a = c.args in
+    let k = c.loop-index.index in
+    record {
+      noted = same_noted (context_of a.context.now) a.relocations.now a.section.now
+          (map g.D.AsDecision.decision c.loop-index.decisions) k c.loop-index.invariant.noted
+          (subst (λ r. IsLacking (context_of a.context.now) a.relocations.now a.section.now k r None) c.relocation_in-relocation.ensures
+          (subst (IsLacking (context_of a.context.now) a.relocations.now a.section.now k c.relocation_in-relocation.result) c.in_default.is
+          (c.lacking.ensures.lacking c.requires.ascending)));
+      others = c.loop-index.invariant.others;
+    }

@@ -1,0 +1,107 @@
+use Rattle.std.proofs.Common.{◌≡◌, ◌<◌, ◌≤◌, ◌+◌, ◌/◌, ◌∙◌, length, map, take, slice_set, ap, sym, subst, arith, Some, None, inl}
+use Rattle.std.specs.Prelude.{IfSome, All}
+use Rattle.std.proofs.lemmas.List.{length-map, map-set, drop-set-lt}
+use Rattle.linker_riscv64.proofs.Shrunk.{written_more}
+use Rattle.linker_rewriting.proofs.Deciding.{ends_within, IsGrown}
+use Rattle.linker_rewriting.proofs.LoadsDecided.{AreLoadsDecidedTo, more_loads, loads_overlap}
+use Rattle.linker_rewriting.specs.Decisions.{CanBeMade, IsEndAfter, start_by, end_by}
+use Rattle.linker_rewriting.specs.Inner.Contexts.{context_of}
+use Rattle.linker_rewriting.specs.TocIndirection.{IsLoadDecided, IsLoadDecision, IsLoadNotSurveyed}
+use Rattle.linker_rewriting.proofs.toc_indirection.decide_each_load.Goals as goal
+
+pub returns-in_default-clause-rejected : goal.returns-in_default-clause-rejected
+returns-in_default-clause-rejected g c =
+    let a = c.args in
+    let k = c.loop-index.index in
+    let s = context_of a.context.now in
+    let enough : length a.relocations.now / 24 ≤ length (map g.D.AsDecision.decision c.loop-index.decisions) =
+    (let e = c.relocations_len-len.ensures in let f = c.if-decisions-len.false in let l = c.loop-index.auto.decisions in let m = length-map c.loop-index.decisions g.D.AsDecision.decision in omega arith) in
+    let less : k < length a.relocations.now / 24 =
+    (let t = c.loop-index-test.true in let e = c.relocations_len-len.ensures in omega arith) in (
+      less,
+      c.loop-index.invariant.decided.decided,
+      subst (IsLoadNotSurveyed s a.start a.words.now a.kept.now a.relocations.now a.section.now k) c.relocation_in-relocation.ensures
+          (subst (IsLoadDecided s a.start a.words.now a.kept.now a.relocations.now a.section.now k c.relocation_in-relocation.result) c.in_default.is c.decide_load.ensures.decision),
+      enough,
+    )
+
+pub returns-in_default-end_after-clause-rejected : goal.returns-in_default-end_after-clause-rejected
+returns-in_default-end_after-clause-rejected g c =
+    let a = c.args in
+    let k = c.loop-index.index in
+    let s = context_of a.context.now in
+    let enough : length a.relocations.now / 24 ≤ length (map g.D.AsDecision.decision c.loop-index.decisions) =
+    (let e = c.relocations_len-len.ensures in let f = c.if-decisions-len.false in let l = c.loop-index.auto.decisions in let m = length-map c.loop-index.decisions g.D.AsDecision.decision in omega arith) in
+    let less : k < length a.relocations.now / 24 =
+    (let t = c.loop-index-test.true in let e = c.relocations_len-len.ensures in omega arith) in inl (
+      less,
+      c.loop-index.invariant.decided.decided,
+      loads_overlap s a.start a.words.now a.kept.now a.relocations.now a.section.now (map g.D.AsDecision.decision c.loop-index.decisions) c.loop-index.end k c.relocation_in-relocation.result c.in-Some.decision
+          (subst (IsLoadDecided s a.start a.words.now a.kept.now a.relocations.now a.section.now k c.relocation_in-relocation.result) c.in-Some.is c.decide_load.ensures.decision)
+          c.relocation_in-relocation.ensures
+          (subst (λ x. IsEndAfter (x.0) (x.1) c.loop-index.end None) c.span_of-begin.ensures
+          (subst (IsEndAfter (c.span_of-begin.result.0) (c.span_of-begin.result.1) c.loop-index.end) c.in_default-end_after.is c.end_after.ensures))
+          c.loop-index.invariant.decided.ends,
+      enough,
+    )
+
+pub loop-index-preserved : goal.loop-index-preserved
+loop-index-preserved g c =
+    let a = c.args in
+    let k = c.loop-index.index in
+    let r = c.relocation_in-relocation.result in
+    let d = c.in-Some.decision in
+    let end = c.in-Some-end_after.new_end in
+    let same = c.relocation_in-relocation.ensures in
+    let less : k < length a.relocations.now / 24 =
+    (let t = c.loop-index-test.true in let e = c.relocations_len-len.ensures in omega arith) in
+    let within : k < length c.loop-index.decisions =
+    (let t = c.loop-index-test.true in let e = c.relocations_len-len.ensures in let f = c.if-decisions-len.false in let l = c.loop-index.auto.decisions in omega arith) in
+    let grow : IsGrown start_by end_by a.relocations.now k d c.loop-index.end end =
+    subst (λ x. IsEndAfter (start_by d x.offset) (end_by d x.offset) c.loop-index.end (Some end)) same
+    (subst (λ x. IsEndAfter (x.0) (x.1) c.loop-index.end (Some end)) c.span_of-begin.ensures
+    (subst (IsEndAfter (c.span_of-begin.result.0) (c.span_of-begin.result.1) c.loop-index.end) c.in-Some-end_after.is c.end_after.ensures)) in
+    let f = g.D.AsDecision.decision in
+    let xs = c.loop-index.decisions in
+    let ds = map f xs in
+    let s = context_of a.context.now in
+    let within_map : k < length ds = (let e = length-map xs f in omega (arith, e, within)) in
+    let written : map f (slice_set xs k c.from_decision.result) ≡ slice_set ds k d =
+    map-set f xs k c.from_decision.result ∙ ap (slice_set ds k) c.from_decision.ensures.decision in
+    record {
+      decided = subst (λ l. AreLoadsDecidedTo s a.start a.words.now a.kept.now a.relocations.now a.section.now l end (k + 1)) (sym written)
+          (more_loads s a.start a.words.now a.kept.now a.relocations.now a.section.now ds c.loop-index.end end k d
+          c.loop-index.invariant.decided within_map
+          (subst (λ x. IsLoadDecision s a.start a.words.now a.kept.now a.relocations.now a.section.now k x d) same
+          (subst (IsLoadDecided s a.start a.words.now a.kept.now a.relocations.now a.section.now k r) c.in-Some.is c.decide_load.ensures.decision))
+          (subst (λ y. CanBeMade d a.section.now y.offset) same
+          (subst (λ x. IfSome x (λ y. CanBeMade y a.section.now r.offset)) c.in-Some.is c.decide_load.ensures.made))
+          grow);
+      form = written_more g.D.AsDecision.is_written xs k c.from_decision.result within c.from_decision.ensures.form c.loop-index.invariant.form;
+      others = drop-set-lt (length a.relocations.now / 24) xs k c.from_decision.result less ∙ c.loop-index.invariant.others;
+    }
+
+pub returns-clause-form : goal.returns-clause-form
+returns-clause-form g c =
+    let end : c.loop-index.index ≡ length c.args.relocations.now / 24 =
+    (let t = c.loop-index-test.false in let e = c.relocations_len-len.ensures in let n = c.loop-index.auto.index-end in omega arith) in
+    subst (λ n. All g.D.AsDecision.is_written (take n c.loop-index.decisions)) end c.loop-index.invariant.form
+
+pub span_of-begin-requires : goal.span_of-begin-requires
+span_of-begin-requires g c =
+    let a = c.args in
+    let o = c.relocation_in-relocation.result.offset in
+    ends_within c.in-Some.decision a.section.now o 0xffffffffffffffff (omega arith) (omega arith)
+    (subst (λ x. IfSome x (λ y. CanBeMade y a.section.now o)) c.in-Some.is c.decide_load.ensures.made)
+
+pub returns-clause-decided : goal.returns-clause-decided
+returns-clause-decided g c =
+    let t = c.loop-index-test.false in
+    let e = c.relocations_len-len.ensures in
+    λ n less. c.loop-index.invariant.decided.decided n (omega (arith, t, e, less))
+
+pub returns-clause-apart : goal.returns-clause-apart
+returns-clause-apart g c =
+    let t = c.loop-index-test.false in
+    let e = c.relocations_len-len.ensures in
+    λ i j ij less some_i some_j. c.loop-index.invariant.decided.apart i j ij (omega (arith, t, e, less)) some_i some_j

@@ -1,0 +1,9 @@
+use Rattle.linker_rewriting.specs.Facts.{context}
+use Rattle.linker_rewriting.specs.TocIndirection.{AreLoadsSurveyed}
+use Rattle.linker_rewriting.specs.declared.phases.Phase.TheVariants.{ShortPcRel}
+use Rattle.linker_rewriting.proofs.toc_indirection.survey_toc_loads.Given as goal
+
+abbrev pub invariant-loop-index : goal.invariant-loop-index
+invariant-loop-index l =
+    AreLoadsSurveyed (context l.fn.architecture ShortPcRel l.output l.symbols l.addresses l.values) l.words_start
+    l.words l.relocations l.section l.fn.kept l.kept l.index

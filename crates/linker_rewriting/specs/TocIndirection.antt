@@ -1,0 +1,259 @@
+-- Instructions that load addresses from the words of a section, as from those of PowerPC64's `.toc`
+-- (64-bit ELF V2 ABI for Power, "TOC"). Nothing changes such a word, so that the instructions may
+-- compute its address: all that load it, or none.
+use Rattle.std.specs.Prelude.{◌≡◌, ℕ, ℤ, ◌<◌, ◌≤◌, ◌/◌, ◌⊎◌, ◌==◌, if◌then◌else◌, Bool, true}
+use Rattle.std.specs.Prelude.{false, List, length, Option, None, Some, slice_get}
+use Rattle.std.specs.Int.{w64, cast_unsigned}
+use Rattle.linker_elf.specs.ElfNames.{code_of}
+use Rattle.linker_elf.specs.Ppc64Relocations.{ppc64_name}
+use Rattle.linker_elf.specs.Value.{sum_64, difference_64}
+use Rattle.linker_elf.specs.declared.elf.choice.Choice.{Choice}
+use Rattle.linker_elf.specs.declared.ppc64.relocations.Ppc64Relocation.TheVariants as ppc64
+use Rattle.linker_rewriting.specs.Candidates.{IsCandidateWith}
+use Rattle.linker_rewriting.specs.Decisions.{IsFirstCovered}
+use Rattle.linker_rewriting.specs.Decisions.{decision_at, start_by, end_by, start_at, end_at}
+use Rattle.linker_rewriting.specs.Decisions.{IsRejectedFirst}
+use Rattle.linker_rewriting.specs.Facts.{RelaxContext, address_in, link_facts}
+use Rattle.linker_rewriting.specs.RiscVPcrelGroups.{IsHighFrom}
+use Rattle.linker_rewriting.specs.Rewritten.{IsRewritten}
+use Rattle.linker_rewriting.specs.declared.decisions.Decision.{Decision}
+use Rattle.linker_rewriting.specs.declared.decisions.Decision.TheVariants.{Kept, RewrittenWithSymbol}
+use Rattle.linker_rewriting.specs.declared.decisions.RewritingError.{RewritingError}
+use Rattle.linker_rewriting.specs.declared.decisions.RewritingError.TheVariants.{TooShort}
+use Rattle.linker_rewriting.specs.declared.decisions.RewritingError.TheVariants.{NotSurveyed}
+use Rattle.linker_rewriting.specs.declared.decisions.RewritingError.TheVariants.{Overlaps}
+use Rattle.linker_rewriting.specs.declared.decisions.RewritingError.TheVariants.{Contradiction}
+use Rattle.linker_rewriting.specs.declared.decisions.Subject.{Subject}
+use Rattle.linker_section.specs.Relocations.{relocation_in}
+use Rattle.linker_section.specs.Values.{IsAscending}
+use Rattle.linker_section.specs.declared.facts.Addresses.{Addresses}
+use Rattle.linker_section.specs.declared.facts.Symbol.{Symbol}
+use Rattle.linker_section.specs.declared.relocations.Rela.{Rela}
+use Rattle.linker_utils.specs.declared.architecture.Relaxation.{Relaxation}
+use Rattle.linker_utils.specs.declared.elf.Architecture.{Architecture}
+use Rattle.linker_utils.specs.declared.elf.Architecture.TheVariants.{Ppc64}
+
+-- ---- loads
+
+-- the code of a relocation for an entry of the GOT in place of one for a word
+abbrev pub entry_code : Architecture → ℕ → Option ℕ
+entry_code Ppc64 code =
+    if code_of (ppc64_name ppc64.R_PPC64_TOC16_HA) == code
+    then Some (code_of (ppc64_name ppc64.R_PPC64_GOT16_HA))
+    else (if code_of (ppc64_name ppc64.R_PPC64_TOC16_LO) == code
+    then Some (code_of (ppc64_name ppc64.R_PPC64_GOT16_LO))
+    else (if code_of (ppc64_name ppc64.R_PPC64_TOC16_LO_DS) == code
+    then Some (code_of (ppc64_name ppc64.R_PPC64_GOT16_LO_DS))
+    else None))
+entry_code architecture code = None
+
+-- the code of a word's own relocation
+abbrev pub word_code : ℕ
+word_code = code_of (ppc64_name ppc64.R_PPC64_ADDR64)
+
+-- how far S + A is after the start of the section of words
+abbrev pub offset_after : Addresses → ℕ → ℤ → Option Symbol → Option ℕ
+offset_after addresses start addend None = None
+offset_after addresses start addend (Some value) =
+    Some
+    (difference_64 (sum_64 (address_in addresses value) (cast_unsigned w64 addend)) start)
+
+abbrev pub word_offset : Addresses → List Symbol → ℕ → Rela → Option ℕ
+word_offset addresses values start r =
+    offset_after addresses start r.addend (slice_get values r.symbol)
+
+-- the relocation, by its index, of the word that a relocation refers to
+abbrev pub IsWordOf : RelaxContext → ℕ → List ℕ → Rela → Option ℕ → Type 0
+IsWordOf s start words r word =
+    IsAscending words
+    → IsHighFrom words word_code (word_offset s.addresses s.values start r) word
+
+-- what a relocation loads: the code for an entry, and the word
+abbrev pub IsLoad : RelaxContext → ℕ → List ℕ → Rela → Option (ℕ × ℕ) → Type 0
+IsLoad s start words r None =
+    (entry_code s.architecture r.code ≡ None) ⊎ IsWordOf s start words r None
+IsLoad s start words r (Some load) =
+    (entry_code s.architecture r.code ≡ Some (load.0)) × IsWordOf s start words r (Some (load.1))
+
+-- The rewrite of such a load, if each other one of the word is rewritten: that of an entry of the
+-- GOT with the word's address.
+abbrev pub IsLoadCandidate : RelaxContext → List ℕ → List ℕ → List ℕ → ℕ → Rela → ℕ × ℕ
+    → Option (Choice Relaxation ℕ) → Type 0
+IsLoadCandidate s words bytes section n r load candidate =
+    IsCandidateWith s bytes section n (record r { code = load.0 })
+    (link_facts s.phase s.output s.symbols s.addresses s.values r
+    (relocation_in words (load.1)) false) candidate
+
+-- ---- words that stay
+
+-- by its relocation's index; one without an entry stays
+abbrev pub stays_if : Option Bool → Bool
+stays_if None = true
+stays_if (Some stays) = stays
+
+abbrev pub word_stays : List Bool → ℕ → Bool
+word_stays kept word = stays_if (slice_get kept word)
+
+abbrev pub HasLoadRewrite : RelaxContext → List ℕ → List ℕ → List ℕ → ℕ → Rela → Option (ℕ × ℕ) → Type 0
+HasLoadRewrite s words bytes section n r None = Unit {0}
+HasLoadRewrite s words bytes section n r (Some load) =
+    (chosen : Choice Relaxation ℕ) × IsLoadCandidate s words bytes section n r load (Some chosen)
+
+-- the word that a relocation keeps, since it loads it and has no rewrite
+abbrev pub IsKeepingWord : RelaxContext → ℕ → List ℕ → List ℕ → List ℕ → ℕ → Rela → Option ℕ → Type 0
+IsKeepingWord s start words bytes section n r None =
+    (load : Option (ℕ × ℕ)) × IsLoad s start words r load
+    × HasLoadRewrite s words bytes section n r load
+IsKeepingWord s start words bytes section n r (Some word) =
+    (entry : ℕ) × IsLoad s start words r (Some (entry, word))
+    × IsLoadCandidate s words bytes section n r (entry, word) None
+
+abbrev pub WordUnchangedBy : List Bool → Option ℕ → Type 0
+WordUnchangedBy after None = Unit {0}
+WordUnchangedBy after (Some word) = word_stays after word ≡ true
+
+pub record IsWordNoted (s : RelaxContext) (start : ℕ) (words bytes section : List ℕ) (after : List Bool)
+    (n : ℕ) : Type 0 where
+  pub word : Option ℕ
+  pub is_keeping : IsKeepingWord s start words bytes section n (relocation_in bytes n) word
+  pub stays : WordUnchangedBy after word
+
+-- of the relocations with an index below a limit each that keeps a word is noted
+abbrev pub AreWordsNoted : RelaxContext → ℕ → List ℕ → List ℕ → List ℕ → List Bool → ℕ → Type 0
+AreWordsNoted s start words bytes section after limit =
+    (n : ℕ) → n < limit → IsWordNoted s start words bytes section after n
+
+-- They are noted. What stayed before stays, and what else stays has a cause.
+pub record AreLoadsSurveyed (s : RelaxContext) (start : ℕ) (words bytes section : List ℕ)
+    (before after : List Bool) (limit : ℕ) : Type 0 where
+  pub noted : AreWordsNoted s start words bytes section after limit
+  pub stayed : (word : ℕ) → word_stays before word ≡ true → word_stays after word ≡ true
+  pub caused : (word : ℕ) → word_stays after word ≡ true
+      → (word_stays before word ≡ true)
+      ⊎ ((n : ℕ) × (n < limit)
+      × IsKeepingWord s start words bytes section n (relocation_in bytes n) (Some word))
+
+-- ---- decisions
+
+-- the relocation after a rewrite is of the symbol and the addend of the word's
+abbrev pub subject_of : Rela → Subject
+subject_of r = record { symbol = r.symbol; addend = r.addend }
+
+-- of a load of a word that stays, and of one that doesn't: it has a rewrite
+abbrev pub IsWordDecision : RelaxContext → List ℕ → List ℕ → List ℕ → ℕ → Rela → ℕ × ℕ → Bool → Decision
+    → Type 0
+IsWordDecision s words bytes section n r load true decision = decision ≡ Kept
+IsWordDecision s words bytes section n r load false decision =
+    (chosen : Choice Relaxation ℕ)
+    × IsLoadCandidate s words bytes section n r load (Some chosen)
+    × (decision ≡ RewrittenWithSymbol chosen (subject_of (relocation_in words (load.1))))
+
+abbrev pub IsDecisionBy : RelaxContext → List ℕ → List Bool → List ℕ → List ℕ → ℕ → Rela
+    → Option (ℕ × ℕ) → Decision → Type 0
+IsDecisionBy s words kept bytes section n r None decision = decision ≡ Kept
+IsDecisionBy s words kept bytes section n r (Some load) decision =
+    IsWordDecision s words bytes section n r load (word_stays kept (load.1)) decision
+
+abbrev pub IsLoadDecision : RelaxContext → ℕ → List ℕ → List Bool → List ℕ → List ℕ → ℕ → Rela
+    → Decision → Type 0
+IsLoadDecision s start words kept bytes section n r decision =
+    (load : Option (ℕ × ℕ)) × IsLoad s start words r load
+    × IsDecisionBy s words kept bytes section n r load decision
+
+-- its word doesn't stay, but it has no rewrite
+abbrev pub IsLoadNotSurveyed : RelaxContext → ℕ → List ℕ → List Bool → List ℕ → List ℕ
+    → ℕ → Rela → Type 0
+IsLoadNotSurveyed s start words kept bytes section n r =
+    (load : ℕ × ℕ) × IsLoad s start words r (Some load)
+    × (word_stays kept (load.1) ≡ false)
+    × IsLoadCandidate s words bytes section n r load None
+
+abbrev pub IsLoadDecided : RelaxContext → ℕ → List ℕ → List Bool → List ℕ → List ℕ → ℕ → Rela
+    → Option Decision → Type 0
+IsLoadDecided s start words kept bytes section n r None =
+    IsLoadNotSurveyed s start words kept bytes section n r
+IsLoadDecided s start words kept bytes section n r (Some decision) =
+    IsLoadDecision s start words kept bytes section n r decision
+
+-- those of the relocations with an index below a limit
+abbrev pub AreLoadsDecided : RelaxContext → ℕ → List ℕ → List Bool → List ℕ → List ℕ → List Decision → ℕ
+    → Type 0
+AreLoadsDecided s start words kept bytes section decisions limit =
+    (n : ℕ) → n < limit
+    → IsLoadDecision s start words kept bytes section n (relocation_in bytes n)
+    (decision_at decisions n)
+
+-- ---- errors
+
+-- the rewrite of the relocation with an index would write bytes at or below those of one before it
+pub record IsLoadOverlapping (s : RelaxContext) (start : ℕ) (words : List ℕ) (kept : List Bool)
+    (bytes section : List ℕ) (decisions : List Decision) (n : ℕ) : Type 0 where
+  pub decision : Decision
+  pub decided : IsLoadDecision s start words kept bytes section n (relocation_in bytes n) decision
+  pub writes : start_by decision (relocation_in bytes n).offset
+      < end_by decision (relocation_in bytes n).offset
+  pub before : ℕ
+  pub is_before : before < n
+  pub is_written : start_at bytes decisions before < end_at bytes decisions before
+  pub overlap : start_by decision (relocation_in bytes n).offset
+      < end_at bytes decisions before
+
+-- Those below the index are decided. That at the index isn't, though there is room for all.
+abbrev pub AreLoadsRejected : RelaxContext → ℕ → List ℕ → List Bool → List ℕ → List ℕ → List Decision
+    → RewritingError → Type 0
+AreLoadsRejected s start words kept bytes section decisions TooShort =
+    length decisions < length bytes / 24
+AreLoadsRejected s start words kept bytes section decisions (NotSurveyed n) =
+    (n < length bytes / 24) × AreLoadsDecided s start words kept bytes section decisions n
+    × IsLoadNotSurveyed s start words kept bytes section n (relocation_in bytes n)
+    × (length bytes / 24 ≤ length decisions)
+AreLoadsRejected s start words kept bytes section decisions (Overlaps n) =
+    ((n < length bytes / 24) × AreLoadsDecided s start words kept bytes section decisions n
+    × IsLoadOverlapping s start words kept bytes section decisions n
+    × (length bytes / 24 ≤ length decisions))
+    ⊎ (AreLoadsDecided s start words kept bytes section decisions (length bytes / 24)
+    × IsFirstCovered s.architecture bytes section decisions (length bytes / 24) (Some n)
+    × (length bytes / 24 ≤ length decisions))
+AreLoadsRejected s start words kept bytes section decisions (Contradiction symbol) = ⊥
+
+-- the tables of symbols contradict each other, or they agree and there is another error
+abbrev pub AreLoadsRejectedFirst : RelaxContext → ℕ → List ℕ → List Bool → List ℕ → List ℕ
+    → List Decision → RewritingError → Type 0
+AreLoadsRejectedFirst s start words kept bytes section decisions =
+    IsRejectedFirst s.symbols s.values bytes
+    (AreLoadsRejected s start words kept bytes section decisions)
+
+-- an error that a section wasn't surveyed comes only where what it keeps isn't all noted
+abbrev pub MeansWordsUnsurveyed : RelaxContext → ℕ → List ℕ → List ℕ → List ℕ → List Bool
+    → RewritingError → Type 0
+MeansWordsUnsurveyed s start words bytes section kept (NotSurveyed n) =
+    IsAscending words → ¬ AreWordsNoted s start words bytes section kept (length bytes / 24)
+MeansWordsUnsurveyed s start words bytes section kept error = Unit {0}
+
+-- ---- whole words
+
+-- of two sections that are decided by one table, each at its address, all loads of a word are
+-- rewritten, or none is
+abbrev pub WordsAreWholeIn : RelaxContext → RelaxContext → ℕ → List ℕ → List ℕ → List ℕ → List Decision
+    → List Decision → ℕ → ℕ → Type 0
+WordsAreWholeIn s other start words bytes others_bytes decisions others limit others_limit =
+    IsAscending words
+    → (i j entry other_entry word : ℕ) → i < limit → j < others_limit
+    → IsLoad s start words (relocation_in bytes i) (Some (entry, word))
+    → IsLoad other start words (relocation_in others_bytes j) (Some (other_entry, word))
+    → IsRewritten (decision_at decisions i) → IsRewritten (decision_at others j)
+
+-- of one section, all loads of a word are rewritten, or none is
+abbrev pub WordsAreWhole : RelaxContext → ℕ → List ℕ → List ℕ → List Decision → ℕ → Type 0
+WordsAreWhole s start words bytes decisions limit =
+    WordsAreWholeIn s s start words bytes bytes decisions decisions limit limit
+
+-- of any two sections that are decided by one table
+abbrev pub WordsAreWholeAcross : Type 0
+WordsAreWholeAcross =
+    (s other : RelaxContext) (start : ℕ) (words : List ℕ) (kept : List Bool)
+    (bytes section others_bytes others_section : List ℕ) (decisions others : List Decision)
+    (limit others_limit : ℕ)
+    → AreLoadsDecided s start words kept bytes section decisions limit
+    → AreLoadsDecided other start words kept others_bytes others_section others others_limit
+    → WordsAreWholeIn s other start words bytes others_bytes decisions others limit others_limit

@@ -1,0 +1,394 @@
+//! Groups of one label of RISC-V: a high part, and the low parts whose symbol is the label at it.
+
+ghost use Rattle.std.specs.Prelude.{◌≡◌, ◌+◌, ◌<◌, ◌≤◌, ◌/◌, ◌⊎◌, ℕ, length, IfSome, true};
+ghost use Rattle.std.specs.Prelude.{map, drop, take, All};
+ghost use Rattle.linker_base.specs.Rewrite.{CanRewrite};
+ghost use Rattle.linker_utils.specs.Architectures.{relaxation_rewrite, relaxation_deleted};
+ghost use Rattle.linker_section.specs.Relocations.{relocation_in};
+ghost use Rattle.linker_section.specs.Values.{IsAscending};
+ghost use Rattle.linker_rewriting.specs.Candidates.{deletes_within};
+ghost use Rattle.linker_rewriting.specs.Decisions.{decision_at};
+ghost use Rattle.linker_rewriting.specs.Inner.Contexts.{context_of};
+ghost use Rattle.linker_rewriting.specs.RiscVPcrelGroups.{high_code, IsHighAt, label_offset, IsHighOf};
+ghost use Rattle.linker_rewriting.specs.RiscVPcrelGroups.{is_beyond, searched};
+ghost use Rattle.linker_rewriting.specs.RiscVPcrelGroups.{is_labelled, IsInLabel, is_label_marked};
+ghost use Rattle.linker_rewriting.specs.RiscVPcrelGroups.{has_labels};
+ghost use Rattle.linker_rewriting.specs.RiscVPcrelGroups.{without_entry, IsLabelCandidate, IsLacking};
+ghost use Rattle.linker_rewriting.specs.Notes.{is_note, AreHighsNoted, IsNoteOf, AreLabelsNoted};
+
+use crate::candidates::candidate_by;
+use crate::decisions::{AsDecision, Decision};
+use crate::facts::{OutputFacts, RelaxContext, SymbolFacts, link_facts};
+use crate::groups::{Scope, scope_in};
+use crate::phases::Phase;
+use crate::relocations::relocation_in;
+use crate::sequences::is_marked_at;
+use linker_section::facts::{Addresses, Symbol};
+use linker_section::relocations::{Rela, first_from, is_ascending, relocations_len};
+use linker_utils::architecture::Relaxation;
+use linker_utils::elf::{Architecture, Choice, LinkFacts, Operands};
+use linker_utils::riscv64::RiscVRelocation;
+
+/// The code of the high parts whose groups a phase rewrites.
+#[inline(always)]
+fn high_code(phase: Phase) -> u32
+    ensures { result ≡ high_code phase }
+{
+    match phase {
+        Phase::TlsLocalExec => RiscVRelocation::R_RISCV_TLSDESC_HI20.elf_code(),
+        _ => RiscVRelocation::R_RISCV_GOT_HI20.elf_code(),
+    }
+}
+
+/// How many relocations at one offset are searched for a high part.
+const SEARCHED: usize = 16;
+
+/// Whether as many others at an offset are before the relocation with an index, among relocations
+/// that ascend.
+#[inline(always)]
+pub(crate) fn is_beyond(relocations: &[u8], at: u64, index: usize) -> bool
+    requires { index < length relocations.now / 24 }
+    ensures { result ≡ is_beyond relocations.now at index }
+{
+    SEARCHED <= index && relocation_in(relocations, index - SEARCHED).offset == at
+}
+
+/// Where a search ends that begins at an index, of n relocations.
+#[inline(always)]
+fn search_end(first: usize, len: usize) -> usize
+    requires { first ≤ len }
+    ensures from { first ≤ result }
+    ensures within { result ≤ len }
+    ensures near { result ≤ first + searched }
+    ensures far { (len ≤ result) ⊎ (first + searched ≤ result) }
+{
+    if len - first < SEARCHED {
+        len
+    } else {
+        first + SEARCHED
+    }
+}
+
+/// The index of the first relocation with a code at an offset, among those that are searched of
+/// relocations that ascend. So it takes O(log n).
+pub(crate) fn high_at(relocations: &[u8], code: u32, at: u64) -> Option<usize>
+    ensures within { IfSome result (λ high. high < length relocations.now / 24) }
+    ensures high { IsAscending relocations.now → IsHighAt relocations.now code at result }
+{
+    let first = first_from(relocations, at);
+    for index in first..search_end(first, relocations_len(relocations)) {
+        let relocation = relocation_in(relocations, index);
+        if relocation.offset != at {
+            return None;
+        }
+        if relocation.code == code {
+            return Some(index);
+        }
+    }
+    None
+}
+
+/// Where the label of a relocation is in the section.
+#[inline(always)]
+fn label_offset(
+    phase: Phase,
+    addresses: &Addresses,
+    values: &[Symbol],
+    relocation: &Rela,
+) -> Option<u64>
+    ensures { result ≡ label_offset phase addresses.now values.now relocation.now }
+{
+    if relocation.code == high_code(phase) {
+        return Some(relocation.offset);
+    }
+    match values.get(relocation.symbol as usize) {
+        Some(label) => Some(label.address.wrapping_sub(addresses.section)),
+        None => None,
+    }
+}
+
+/// The index of the high part at the label of a relocation, among relocations that ascend.
+pub(crate) fn high_of(
+    phase: Phase,
+    addresses: &Addresses,
+    values: &[Symbol],
+    relocations: &[u8],
+    relocation: &Rela,
+) -> Option<usize>
+    ensures within { IfSome result (λ high. high < length relocations.now / 24) }
+    ensures high { IsAscending relocations.now
+        → IsHighOf phase addresses.now values.now relocations.now relocation.now result }
+{
+    match label_offset(phase, addresses, values, relocation) {
+        Some(at) => high_at(relocations, high_code(phase), at),
+        None => None,
+    }
+}
+
+/// Whether a scope is that of one label.
+#[inline(always)]
+fn is_labelled(scope: Scope) -> bool
+    ensures { result ≡ is_labelled scope }
+{
+    matches!(scope, Scope::Labelled)
+}
+
+/// Whether a relocation with a code is rewritten with its label.
+#[inline(always)]
+pub(crate) fn is_in_label(architecture: Architecture, phase: Phase, code: u32) -> bool
+    ensures { IsInLabel architecture phase code result }
+{
+    is_labelled(scope_in(architecture, phase, code))
+}
+
+/// Whether the mark is there that counts for a relocation with a high part.
+#[inline(always)]
+fn is_label_marked(
+    architecture: Architecture,
+    phase: Phase,
+    relocations: &[u8],
+    index: usize,
+    relocation: &Rela,
+    high: usize,
+) -> bool
+    requires index { index + 3 ≤ usize.MAX }
+    requires high { high < length relocations.now / 24 }
+    ensures { result
+        ≡ is_label_marked architecture phase relocations.now index relocation.now high }
+{
+    match phase {
+        Phase::TlsLocalExec => {
+            let part = relocation_in(relocations, high);
+            is_marked_at(architecture, relocations, high, &part)
+        }
+        _ => is_marked_at(architecture, relocations, index, relocation),
+    }
+}
+
+/// The same facts, where no entry of the GOT is in reach.
+#[inline(always)]
+fn without_entry(facts: Option<LinkFacts>) -> Option<LinkFacts>
+    ensures { result ≡ without_entry facts }
+{
+    match facts {
+        Some(facts) => Some(LinkFacts {
+            operands: Operands {
+                got_entry: facts.operands.place.wrapping_add(0x8000_0000_0000_0000),
+                ..facts.operands
+            },
+            ..facts
+        }),
+        None => None,
+    }
+}
+
+/// The rewrite of the instruction of the relocation with an index, by the facts of its label's high
+/// part.
+pub(crate) fn label_candidate(
+    context: &RelaxContext<'_>,
+    relocations: &[u8],
+    section: &[u8],
+    index: usize,
+    relocation: &Rela,
+    high: usize,
+) -> Option<Choice<Relaxation, u32>>
+    requires index { index + 3 ≤ usize.MAX }
+    requires high { high < length relocations.now / 24 }
+    ensures candidate { IsLabelCandidate (context_of context.now) relocations.now section.now index
+        relocation.now high result }
+    ensures rewritable { IfSome result (λ chosen. CanRewrite (relaxation_rewrite chosen.kind)
+        section.now relocation.now.offset) }
+    ensures deletes { IfSome result (λ chosen. deletes_within section.now relocation.now.offset
+        (relaxation_deleted chosen.kind) ≡ true) }
+{
+    let part = relocation_in(relocations, high);
+    let marked = is_label_marked(
+        context.architecture,
+        context.phase,
+        relocations,
+        index,
+        relocation,
+        high,
+    );
+    let facts = without_entry(link_facts(context, &part, &part, marked));
+    match facts {
+        Some(facts) => candidate_by(
+            context.architecture,
+            context.symbols,
+            relocations,
+            section,
+            index,
+            relocation,
+            &facts,
+        ),
+        None => None,
+    }
+}
+
+/// The index of the high part whose group stays, since this relocation is of it and has no rewrite.
+fn lacking(
+    context: &RelaxContext<'_>,
+    relocations: &[u8],
+    section: &[u8],
+    index: usize,
+    relocation: &Rela,
+) -> Option<usize>
+    requires { index + 3 ≤ usize.MAX }
+    ensures within { IfSome result (λ high. high < length relocations.now / 24) }
+    ensures lacking { IsAscending relocations.now → IsLacking (context_of context.now)
+        relocations.now section.now index relocation.now result }
+{
+    if !is_in_label(context.architecture, context.phase, relocation.code) {
+        return None;
+    }
+    let Some(high) = high_of(
+        context.phase,
+        context.addresses,
+        context.values,
+        relocations,
+        relocation,
+    ) else {
+        return None;
+    };
+    match label_candidate(context, relocations, section, index, relocation, high) {
+        Some(_) => None,
+        None => Some(high),
+    }
+}
+
+/// Whether a decision is the note that a group stays.
+#[inline(always)]
+pub(crate) fn is_note(decision: &Decision) -> bool
+    ensures { result ≡ is_note decision.now }
+{
+    matches!(decision, Decision::Consumed)
+}
+
+/// Sets all decisions of a section to one.
+pub(crate) fn set_all<D: AsDecision>(relocations: &[u8], decision: Decision, decisions: &mut [D])
+    requires { length relocations.now / 24 ≤ length decisions.old }
+    ensures set { (n : ℕ) → n < length relocations.now / 24
+        → decision_at (map D.decision decisions.new) n ≡ decision }
+    ensures form { All D.is_written (take (length relocations.now / 24) decisions.new) }
+    ensures others { drop (length relocations.now / 24) decisions.new
+        ≡ drop (length relocations.now / 24) decisions.old }
+{
+    for index in 0..relocations_len(relocations) {
+        decisions[index] = D::from_decision(decision);
+    }
+}
+
+/// Notes at each high part of a section whether its group stays.
+fn note_highs<D: AsDecision>(
+    context: &RelaxContext<'_>,
+    relocations: &[u8],
+    section: &[u8],
+    decisions: &mut [D],
+)
+    requires ascending { IsAscending relocations.now }
+    requires enough { length relocations.now / 24 ≤ length decisions.old }
+    requires clear { (n : ℕ) → n < length relocations.now / 24
+        → decision_at (map D.decision decisions.old) n ≡ Decision.Kept }
+    ensures noted { AreHighsNoted (context_of context.now) relocations.now section.now (map
+        D.decision decisions.new) (length relocations.now / 24) }
+    ensures others { drop (length relocations.now / 24) decisions.new
+        ≡ drop (length relocations.now / 24) decisions.old }
+{
+    for index in 0..relocations_len(relocations) {
+        let relocation = relocation_in(relocations, index);
+        let Some(high) = lacking(context, relocations, section, index, &relocation) else {
+            continue;
+        };
+        decisions[high] = D::from_decision(Decision::Consumed);
+    }
+}
+
+/// What is noted of the group of a relocation: at its high part; it stays where there is none.
+#[inline(always)]
+fn note_of<D: AsDecision>(
+    phase: Phase,
+    addresses: &Addresses,
+    values: &[Symbol],
+    relocations: &[u8],
+    decisions: &[D],
+    relocation: &Rela,
+) -> Decision
+    requires ascending { IsAscending relocations.now }
+    requires enough { length relocations.now / 24 ≤ length decisions.now }
+    ensures { IsNoteOf phase addresses.now values.now relocations.now
+        (map D.decision decisions.now) relocation.now result }
+{
+    match high_of(phase, addresses, values, relocations, relocation) {
+        Some(high) => decisions[high].as_decision(),
+        None => Decision::Consumed,
+    }
+}
+
+/// Notes at each relocation of a label what is noted at its high part.
+fn copy_notes<D: AsDecision>(
+    context: &RelaxContext<'_>,
+    relocations: &[u8],
+    section: &[u8],
+    decisions: &mut [D],
+)
+    requires ascending { IsAscending relocations.now }
+    requires enough { length relocations.now / 24 ≤ length decisions.old }
+    requires noted { AreHighsNoted (context_of context.now) relocations.now section.now (map
+        D.decision decisions.old) (length relocations.now / 24) }
+    ensures noted { AreLabelsNoted (context_of context.now) relocations.now section.now (map
+        D.decision decisions.new) 0 }
+    ensures others { drop (length relocations.now / 24) decisions.new
+        ≡ drop (length relocations.now / 24) decisions.old }
+{
+    for index in 0..relocations_len(relocations) {
+        let relocation = relocation_in(relocations, index);
+        if !is_in_label(context.architecture, context.phase, relocation.code) {
+            continue;
+        }
+        let note = note_of(
+            context.phase,
+            context.addresses,
+            context.values,
+            relocations,
+            decisions,
+            &relocation,
+        );
+        decisions[index] = D::from_decision(note);
+    }
+}
+
+/// Whether an architecture has groups of labels in a phase.
+#[inline(always)]
+fn has_labels(architecture: Architecture, phase: Phase) -> bool
+    ensures { result ≡ has_labels architecture phase }
+{
+    match architecture {
+        Architecture::RiscV => matches!(phase, Phase::TlsLocalExec | Phase::GotToPcRel),
+        _ => false,
+    }
+}
+
+/// Notes at each relocation of a label of RISC-V whether its group stays, in place of its decision.
+pub(crate) fn note_labels<D: AsDecision>(
+    context: &RelaxContext<'_>,
+    relocations: &[u8],
+    section: &[u8],
+    decisions: &mut [D],
+)
+    requires enough { length relocations.now / 24 ≤ length decisions.old }
+    ensures noted { AreLabelsNoted (context_of context.now) relocations.now section.now (map
+        D.decision decisions.new) 0 }
+    ensures others { drop (length relocations.now / 24) decisions.new
+        ≡ drop (length relocations.now / 24) decisions.old }
+{
+    if !has_labels(context.architecture, context.phase) {
+        return;
+    }
+    if !is_ascending(relocations) {
+        set_all(relocations, Decision::Consumed, decisions);
+        return;
+    }
+    set_all(relocations, Decision::Kept, decisions);
+    note_highs(context, relocations, section, decisions);
+    copy_notes(context, relocations, section, decisions);
+}

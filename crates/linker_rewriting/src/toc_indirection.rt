@@ -1,0 +1,576 @@
+//! Instructions that load addresses from the words of a section, as from those of PowerPC64's
+//! `.toc`. Nothing changes such a word, so that once addresses are known the instructions may
+//! compute its address: all that load it, or none.
+
+ghost use Rattle.std.specs.Prelude.{◌≡◌, ◌⊎◌, ◌↔◌, ◌+◌, ◌<◌, ◌≤◌, ◌/◌, ℕ, length, map, take};
+ghost use Rattle.std.specs.Prelude.{drop, IfSome, IfErr, OnOk, OnErr, All, true};
+ghost use Rattle.linker_base.specs.Rewrite.{CanRewrite};
+ghost use Rattle.linker_rewriting.specs.Agreement.{Agree, IsContradiction};
+ghost use Rattle.linker_rewriting.specs.Candidates.{deletes_within};
+ghost use Rattle.linker_rewriting.specs.Decisions.{AreClear};
+ghost use Rattle.linker_rewriting.specs.Decisions.{CanBeMade, AllCanBeMade, AreApart};
+ghost use Rattle.linker_rewriting.specs.Facts.{context};
+ghost use Rattle.linker_rewriting.specs.Inner.Contexts.{context_of};
+ghost use Rattle.linker_rewriting.specs.Inner.TocIndirection.{IsThatWord, with_code};
+ghost use Rattle.linker_rewriting.specs.Rewritten.{AreRelocationsAfter, AreDone, OthersStay};
+ghost use Rattle.linker_rewriting.specs.TocIndirection.{entry_code, word_code, word_offset, subject_of};
+ghost use Rattle.linker_rewriting.specs.TocIndirection.{IsLoad, IsLoadCandidate, word_stays, IsKeepingWord};
+ghost use Rattle.linker_rewriting.specs.TocIndirection.{AreLoadsSurveyed, IsLoadDecided, AreLoadsDecided};
+ghost use Rattle.linker_rewriting.specs.TocIndirection.{AreLoadsRejected, MeansWordsUnsurveyed};
+ghost use Rattle.linker_rewriting.specs.TocIndirection.{AreLoadsRejectedFirst};
+ghost use Rattle.linker_rewriting.specs.TocIndirection.{WordsAreWhole};
+ghost use Rattle.linker_section.specs.Relocations.{relocation_in};
+ghost use Rattle.linker_utils.specs.Architectures.{relaxation_rewrite, relaxation_deleted};
+
+use crate::agreement::contradiction;
+use crate::candidates::candidate_by;
+use crate::covered::first_covered;
+use crate::decisions::{AsDecision, Decision, RewritingError, Subject, end_after, span_of};
+use crate::facts::{OutputFacts, RelaxContext, SymbolFacts, address_in, link_facts};
+use crate::phases::Phase;
+use crate::relocations::relocation_in;
+use crate::riscv_pcrel_groups::high_at;
+use crate::sections::make_all;
+use linker_section::facts::{Addresses, Symbol};
+use linker_section::relocations::{Rela, relocations_len};
+use linker_utils::architecture::Relaxation;
+use linker_utils::elf::{Architecture, Choice};
+use linker_utils::ppc64::Ppc64Relocation;
+
+/// The code of a relocation for an entry of the GOT in place of one for a word.
+#[inline(always)]
+fn entry_code(architecture: Architecture, code: u32) -> Option<u32>
+    ensures { result ≡ entry_code architecture code }
+{
+    match architecture {
+        Architecture::Ppc64 => {
+            if Ppc64Relocation::R_PPC64_TOC16_HA.elf_code() == code {
+                Some(Ppc64Relocation::R_PPC64_GOT16_HA.elf_code())
+            } else if Ppc64Relocation::R_PPC64_TOC16_LO.elf_code() == code {
+                Some(Ppc64Relocation::R_PPC64_GOT16_LO.elf_code())
+            } else if Ppc64Relocation::R_PPC64_TOC16_LO_DS.elf_code() == code {
+                Some(Ppc64Relocation::R_PPC64_GOT16_LO_DS.elf_code())
+            } else {
+                None
+            }
+        }
+        _ => None,
+    }
+}
+
+/// The code of a word's own relocation.
+#[inline(always)]
+fn word_code() -> u32
+    ensures { result ≡ word_code }
+{
+    Ppc64Relocation::R_PPC64_ADDR64.elf_code()
+}
+
+/// How far what a relocation refers to is after the start of the section of words.
+#[inline(always)]
+fn word_offset(
+    addresses: &Addresses,
+    values: &[Symbol],
+    start: u64,
+    relocation: &Rela,
+) -> Option<u64>
+    ensures { result ≡ word_offset addresses.now values.now start relocation.now }
+{
+    match values.get(relocation.symbol as usize) {
+        Some(value) => {
+            let addend = relocation.addend.cast_unsigned();
+            let address = address_in(addresses, value).wrapping_add(addend);
+            Some(address.wrapping_sub(start))
+        }
+        None => None,
+    }
+}
+
+/// What a relocation loads: the code for an entry of the GOT, and the index of the word's
+/// relocation.
+fn load_of(
+    context: &RelaxContext<'_>,
+    start: u64,
+    words: &[u8],
+    relocation: &Rela,
+) -> Option<(u32, usize)>
+    ensures within { IfSome result (λ load. load.1 < length words.now / 24) }
+    ensures load { IsLoad (context_of context.now) start words.now relocation.now result }
+{
+    let Some(entry) = entry_code(context.architecture, relocation.code) else {
+        return None;
+    };
+    let Some(at) = word_offset(context.addresses, context.values, start, relocation) else {
+        return None;
+    };
+    match high_at(words, word_code(), at) {
+        Some(word) => Some((entry, word)),
+        None => None,
+    }
+}
+
+/// A relocation with another code.
+#[inline(always)]
+fn with_code(code: u32, relocation: &Rela) -> Rela
+    ensures { result ≡ with_code code relocation.now }
+{
+    Rela {
+        code,
+        ..*relocation
+    }
+}
+
+/// The rewrite of a load, if each other one of the word is rewritten.
+#[inline(always)]
+fn load_candidate(
+    context: &RelaxContext<'_>,
+    words: &[u8],
+    relocations: &[u8],
+    section: &[u8],
+    index: usize,
+    relocation: &Rela,
+    load: (u32, usize),
+) -> Option<Choice<Relaxation, u32>>
+    requires index { index + 3 ≤ usize.MAX }
+    requires within { load.1 < length words.now / 24 }
+    ensures candidate { IsLoadCandidate (context_of context.now) words.now relocations.now
+        section.now index relocation.now load result }
+    ensures rewritable { IfSome result (λ chosen. CanRewrite (relaxation_rewrite chosen.kind)
+        section.now relocation.now.offset) }
+    ensures deletes { IfSome result (λ chosen. deletes_within section.now relocation.now.offset
+        (relaxation_deleted chosen.kind) ≡ true) }
+{
+    let (entry, word) = load;
+    let word = relocation_in(words, word);
+    let facts = link_facts(context, relocation, &word, false);
+    let of_entry = with_code(entry, relocation);
+    match &facts {
+        Some(facts) => candidate_by(
+            context.architecture,
+            context.symbols,
+            relocations,
+            section,
+            index,
+            &of_entry,
+            facts,
+        ),
+        None => None,
+    }
+}
+
+/// Whether a word stays, by the index of its relocation.
+#[inline(always)]
+pub(crate) fn word_stays(kept: &[bool], word: usize) -> bool
+    ensures { result ≡ word_stays kept.now word }
+{
+    match kept.get(word) {
+        Some(stays) => *stays,
+        None => true,
+    }
+}
+
+/// Notes that a word, if any, stays.
+#[inline(always)]
+pub(crate) fn keep_word(kept: &mut [bool], word: Option<usize>)
+    ensures { (w : ℕ) → (word_stays kept.new w ≡ true)
+        ↔ ((word_stays kept.old w ≡ true) ⊎ IsThatWord word w) }
+{
+    if let Some(word) = word {
+        if word < kept.len() {
+            kept[word] = true;
+        }
+    }
+}
+
+/// The word that a relocation keeps, since it loads it and has no rewrite.
+#[inline(always)]
+fn keeping_word(
+    context: &RelaxContext<'_>,
+    start: u64,
+    words: &[u8],
+    relocations: &[u8],
+    section: &[u8],
+    index: usize,
+    relocation: &Rela,
+) -> Option<usize>
+    requires { index + 3 ≤ usize.MAX }
+    ensures { IsKeepingWord (context_of context.now) start words.now relocations.now section.now
+        index relocation.now result }
+{
+    let Some(load) = load_of(context, start, words, relocation) else {
+        return None;
+    };
+    match load_candidate(
+        context,
+        words,
+        relocations,
+        section,
+        index,
+        relocation,
+        load,
+    ) {
+        Some(_) => None,
+        None => Some(load.1),
+    }
+}
+
+/// Notes which words of an object's section of addresses stay, since a relocation of this section
+/// of code is of an instruction that loads one and can't compute its address: it is none that the
+/// rewrite is meant for, the address may be of another file or in another place each time, or it is
+/// out of reach. `rewrite_toc_loads` rewrites all loads of a word or none by these notes, so
+/// survey each section of code of the object before one of them is rewritten, with one table for
+/// the section of addresses, all of whose elements are false at first. What stays there already
+/// stays. A word without an element stays.
+///
+/// `words` are the relocations of the section of addresses, as `linker_output`'s description names
+/// it, and have to ascend by offset; `kept` has an element for each. `words_start` is its address.
+/// A relocation is of a word where it refers to its address, whichever its symbol. `symbols` and
+/// `values` both have an object's symbols at the indexes that its relocations name. Only PowerPC64
+/// has such a section: of other architectures nothing is noted.
+///
+/// # Errors
+///
+/// `kept` is as before. `symbols` and `values` contradict each other about the symbol of a
+/// relocation of the section, as `RewritingError::Contradiction` says: the index of the first such
+/// symbol. Those of words are compared by the call that writes the words' values by both tables.
+///
+/// ```
+/// use linker_rewriting::facts::{OutputFacts, SymbolFacts};
+/// use linker_rewriting::toc_indirection::survey_toc_loads;
+/// use linker_section::facts::{Addresses, Symbol};
+/// use linker_utils::elf::Architecture;
+///
+/// // lwz 3,.toc@toc@l(3), with R_PPC64_TOC16_LO_DS of `.toc`, whose word is that of symbol 2: no
+/// // load of an address
+/// let relocation = |code: u8, symbol: u8| {
+///     let mut bytes = [0; 24];
+///     (bytes[8], bytes[12]) = (code, symbol);
+///     bytes
+/// };
+/// let mut kept = [false];
+/// survey_toc_loads(
+///     Architecture::Ppc64,
+///     &OutputFacts { is_executable: true, is_fixed: true, has_near_symbols: true },
+///     &[SymbolFacts { is_local: true, ..SymbolFacts::default() }; 3],
+///     &Addresses { section: 0x1000, got_base: 0x1_8000, ..Addresses::default() },
+///     &[0, 0x1_0000, 0x1_2345].map(|address| Symbol { address, ..Symbol::default() }),
+///     0x1_0000,
+///     &relocation(38, 2),
+///     &relocation(64, 1),
+///     &[0, 0, 0x63, 0x80],
+///     &mut kept,
+/// )
+/// .unwrap();
+/// assert_eq!(kept, [true]);
+/// ```
+pub fn survey_toc_loads(
+    architecture: Architecture,
+    output: &OutputFacts,
+    symbols: &[SymbolFacts],
+    addresses: &Addresses,
+    values: &[Symbol],
+    words_start: u64,
+    words: &[u8],
+    relocations: &[u8],
+    section: &[u8],
+    kept: &mut [bool],
+) -> Result<(), usize>
+    ensures surveyed { OnOk result (AreLoadsSurveyed (context architecture Phase.ShortPcRel
+        output.now symbols.now addresses.now values.now) words_start words.now relocations.now
+        section.now kept.old kept.new (length relocations.now / 24)) }
+    ensures agree { OnOk result
+        (Agree symbols.now values.now relocations.now) }
+    ensures contradiction { IfErr result
+        (IsContradiction symbols.now values.now relocations.now) }
+    ensures unchanged { OnErr result (kept.new ≡ kept.old) }
+{
+    if let Some(symbol) = contradiction(symbols, values, relocations) {
+        return Err(symbol);
+    }
+    let context = RelaxContext {
+        architecture,
+        phase: Phase::ShortPcRel,
+        output,
+        symbols,
+        addresses,
+        values,
+    };
+    for index in 0..relocations_len(relocations) {
+        let relocation = relocation_in(relocations, index);
+        let word = keeping_word(
+            &context,
+            words_start,
+            words,
+            relocations,
+            section,
+            index,
+            &relocation,
+        );
+        keep_word(kept, word);
+    }
+    Ok(())
+}
+
+/// What a rewritten load's relocation is of: the symbol and the addend of the word's.
+#[inline(always)]
+pub(crate) fn subject_of(word: &Rela) -> Subject
+    ensures { result ≡ subject_of word.now }
+{
+    Subject {
+        symbol: word.symbol,
+        addend: word.addend,
+    }
+}
+
+/// What becomes of a relocation. None if it loads a word that doesn't stay, but can't be rewritten.
+fn decide_load(
+    context: &RelaxContext<'_>,
+    start: u64,
+    words: &[u8],
+    kept: &[bool],
+    relocations: &[u8],
+    section: &[u8],
+    index: usize,
+    relocation: &Rela,
+) -> Option<Decision>
+    requires { index + 3 ≤ usize.MAX }
+    ensures decision { IsLoadDecided (context_of context.now) start words.now kept.now
+        relocations.now section.now index relocation.now result }
+    ensures made { IfSome result (λ d. CanBeMade d section.now relocation.now.offset) }
+{
+    let Some(load) = load_of(context, start, words, relocation) else {
+        return Some(Decision::Kept);
+    };
+    if word_stays(kept, load.1) {
+        return Some(Decision::Kept);
+    }
+    match load_candidate(
+        context,
+        words,
+        relocations,
+        section,
+        index,
+        relocation,
+        load,
+    ) {
+        Some(chosen) => {
+            let subject = subject_of(&relocation_in(words, load.1));
+            Some(Decision::RewrittenWithSymbol(chosen, subject))
+        }
+        None => None,
+    }
+}
+
+/// The same as `decide_loads`, but relocations may be in the bytes of others.
+fn decide_each_load<D: AsDecision>(
+    context: &RelaxContext<'_>,
+    start: u64,
+    words: &[u8],
+    kept: &[bool],
+    relocations: &[u8],
+    section: &[u8],
+    decisions: &mut [D],
+) -> Result<(), RewritingError>
+    ensures enough { OnOk result (length relocations.now / 24 ≤ length decisions.old) }
+    ensures decided { OnOk result (AreLoadsDecided (context_of context.now) start words.now kept.now
+        relocations.now section.now (map D.decision decisions.new) (length relocations.now / 24)) }
+    ensures made { OnOk result (AllCanBeMade relocations.now section.now
+        (map D.decision decisions.new) (length relocations.now / 24)) }
+    ensures apart { OnOk result (AreApart relocations.now (map D.decision decisions.new)
+        (length relocations.now / 24)) }
+    ensures form { OnOk result
+        (All D.is_written (take (length relocations.now / 24) decisions.new)) }
+    ensures others_stay { drop (length relocations.now / 24) decisions.new
+        ≡ drop (length relocations.now / 24) decisions.old }
+    ensures rejected { IfErr result (AreLoadsRejected (context_of context.now) start words.now
+        kept.now relocations.now section.now (map D.decision decisions.new)) }
+{
+    let len = relocations_len(relocations);
+    if decisions.len() < len {
+        return Err(RewritingError::TooShort);
+    }
+    let mut end = 0;
+    for index in 0..len {
+        let relocation = relocation_in(relocations, index);
+        let Some(decision) = decide_load(
+            context,
+            start,
+            words,
+            kept,
+            relocations,
+            section,
+            index,
+            &relocation,
+        ) else {
+            return Err(RewritingError::NotSurveyed(index));
+        };
+        let (begin, own) = span_of(&decision, relocation.offset);
+        let Some(new_end) = end_after(begin, own, end) else {
+            return Err(RewritingError::Overlaps(index));
+        };
+        end = new_end;
+        decisions[index] = D::from_decision(decision);
+    }
+    Ok(())
+}
+
+/// Decides what becomes of each relocation of a section and of its instruction, in the caller's
+/// memory. Nothing is rewritten.
+fn decide_loads<D: AsDecision>(
+    context: &RelaxContext<'_>,
+    start: u64,
+    words: &[u8],
+    kept: &[bool],
+    relocations: &[u8],
+    section: &[u8],
+    decisions: &mut [D],
+) -> Result<(), RewritingError>
+    ensures enough { OnOk result (length relocations.now / 24 ≤ length decisions.old) }
+    ensures decided { OnOk result (AreLoadsDecided (context_of context.now) start words.now kept.now
+        relocations.now section.now (map D.decision decisions.new) (length relocations.now / 24)) }
+    ensures made { OnOk result (AllCanBeMade relocations.now section.now
+        (map D.decision decisions.new) (length relocations.now / 24)) }
+    ensures apart { OnOk result (AreApart relocations.now (map D.decision decisions.new)
+        (length relocations.now / 24)) }
+    ensures clear { OnOk result (AreClear context.now.architecture relocations.now section.now
+        (map D.decision decisions.new) (length relocations.now / 24)) }
+    ensures form { OnOk result
+        (All D.is_written (take (length relocations.now / 24) decisions.new)) }
+    ensures others_stay { drop (length relocations.now / 24) decisions.new
+        ≡ drop (length relocations.now / 24) decisions.old }
+    ensures rejected { IfErr result (AreLoadsRejected (context_of context.now) start words.now
+        kept.now relocations.now section.now (map D.decision decisions.new)) }
+{
+    decide_each_load(context, start, words, kept, relocations, section, decisions)?;
+    match first_covered(context.architecture, relocations, section, decisions) {
+        Some(index) => Err(RewritingError::Overlaps(index)),
+        None => Ok(()),
+    }
+}
+
+/// Has the instructions of a section of code compute the addresses that they load from the words of
+/// an object's section of addresses, and turns their relocations into those after it, once
+/// addresses are known. They are then of the symbol and the addend of the word's relocation
+/// (`Decision::RewrittenWithSymbol`). All loads of a word are rewritten, or none is where the word
+/// stays by `kept`, which `survey_toc_loads` made of all sections of code of the object with the
+/// same facts, addresses and `words`. It decides by all of the section's bytes before it rewrites
+/// one.
+///
+/// What became of each relocation is in `decisions`, which needs room for each of them. Nothing is
+/// deleted.
+///
+/// # Errors
+///
+/// The section and its relocations are as before. `TooShort`: there are more relocations than
+/// `decisions`. `NotSurveyed`: a load of a word that doesn't stay can't be rewritten; it never
+/// comes where the section was surveyed into the table with the same facts. `Overlaps`: the bytes
+/// of two rewrites overlap, or those of the second lie below those of the first; where none do, the
+/// field of the relocation with the index, the first such, has a byte that the rewrite of another
+/// one writes. Before these `Contradiction`, as in `survey_toc_loads`.
+///
+/// ```
+/// use linker_rewriting::decisions::Decision;
+/// use linker_rewriting::facts::{OutputFacts, SymbolFacts};
+/// use linker_rewriting::toc_indirection::rewrite_toc_loads;
+/// use linker_section::facts::{Addresses, Symbol};
+/// use linker_utils::elf::Architecture;
+///
+/// // addis 3,2,.toc@toc@ha and ld 3,.toc@toc@l(3), where the word at the start of `.toc` is that
+/// // of symbol 2, become addis 3,2,x@toc@ha and addi 3,3,x@toc@l
+/// let relocation = |offset: u8, code: u8, symbol: u8| {
+///     let mut bytes = [0; 24];
+///     (bytes[0], bytes[8], bytes[12]) = (offset, code, symbol);
+///     bytes
+/// };
+/// let mut section = [0, 0, 0x62, 0x3c, 0, 0, 0x63, 0xe8];
+/// let mut relocations = [relocation(0, 50, 1), relocation(4, 64, 1)].concat();
+/// rewrite_toc_loads(
+///     Architecture::Ppc64,
+///     &OutputFacts { is_executable: true, is_fixed: true, has_near_symbols: true },
+///     &[SymbolFacts { is_local: true, ..SymbolFacts::default() }; 3],
+///     &Addresses { section: 0x1000, got_base: 0x1_8000, ..Addresses::default() },
+///     &[0, 0x1_0000, 0x1_2345].map(|address| Symbol { address, ..Symbol::default() }),
+///     0x1_0000,
+///     &relocation(0, 38, 2),
+///     &[false],
+///     &mut relocations,
+///     &mut section,
+///     &mut [Decision::Kept; 2],
+/// )
+/// .unwrap();
+/// assert_eq!(section, [0, 0, 0x62, 0x3c, 0, 0, 0x63, 0x38]);
+/// // R_PPC64_TOC16_HA and R_PPC64_TOC16_LO, both of symbol 2
+/// assert_eq!((relocations[8], relocations[12]), (50, 2));
+/// assert_eq!((relocations[32], relocations[36]), (48, 2));
+/// ```
+pub fn rewrite_toc_loads<D: AsDecision>(
+    architecture: Architecture,
+    output: &OutputFacts,
+    symbols: &[SymbolFacts],
+    addresses: &Addresses,
+    values: &[Symbol],
+    words_start: u64,
+    words: &[u8],
+    kept: &[bool],
+    relocations: &mut [u8],
+    section: &mut [u8],
+    decisions: &mut [D],
+) -> Result<(), RewritingError>
+    ensures agree { OnOk result
+        (Agree symbols.now values.now relocations.old) }
+    ensures decided { OnOk result (AreLoadsDecided (context architecture Phase.ShortPcRel output.now
+        symbols.now addresses.now values.now) words_start words.now kept.now relocations.old
+        section.old (map D.decision decisions.new) (length relocations.old / 24)) }
+    ensures words { OnOk result (WordsAreWhole (context architecture Phase.ShortPcRel output.now
+        symbols.now addresses.now values.now) words_start words.now relocations.old
+        (map D.decision decisions.new) (length relocations.old / 24)) }
+    ensures apart { OnOk result (AreApart relocations.old (map D.decision decisions.new)
+        (length relocations.old / 24)) }
+    ensures clear { OnOk result (AreClear architecture relocations.old section.old
+        (map D.decision decisions.new) (length relocations.old / 24)) }
+    ensures relocations { OnOk result (AreRelocationsAfter (map D.decision decisions.new)
+        relocations.old relocations.new (length relocations.old / 24)) }
+    ensures done { OnOk result (AreDone relocations.old (map D.decision decisions.new) section.old
+        section.new (length relocations.old / 24)) }
+    ensures others { OnOk result (OthersStay relocations.old (map D.decision decisions.new)
+        section.old section.new (length relocations.old / 24)) }
+    ensures form { OnOk result
+        (All D.is_written (take (length relocations.old / 24) decisions.new)) }
+    ensures others_stay { drop (length relocations.old / 24) decisions.new
+        ≡ drop (length relocations.old / 24) decisions.old }
+    ensures rejected { IfErr result (AreLoadsRejectedFirst (context architecture Phase.ShortPcRel
+        output.now symbols.now addresses.now values.now) words_start words.now kept.now
+        relocations.old section.old (map D.decision decisions.new)) }
+    ensures surveyed { IfErr result (MeansWordsUnsurveyed (context architecture Phase.ShortPcRel
+        output.now symbols.now addresses.now values.now) words_start words.now relocations.old
+        section.old kept.now) }
+    ensures section { OnErr result (section.new ≡ section.old) }
+    ensures entries { OnErr result (relocations.new ≡ relocations.old) }
+{
+    if let Some(symbol) = contradiction(symbols, values, relocations) {
+        return Err(RewritingError::Contradiction(symbol));
+    }
+    let context = RelaxContext {
+        architecture,
+        phase: Phase::ShortPcRel,
+        output,
+        symbols,
+        addresses,
+        values,
+    };
+    match decide_loads(
+        &context,
+        words_start,
+        words,
+        kept,
+        relocations,
+        section,
+        decisions,
+    ) {
+        Ok(()) => {
+            make_all(decisions, relocations, section);
+            Ok(())
+        }
+        Err(error) => Err(error),
+    }
+}

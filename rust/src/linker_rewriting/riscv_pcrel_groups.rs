@@ -1,0 +1,304 @@
+// SPDX-License-Identifier: MIT OR Apache-2.0
+// Made by tools/generate of crates/linker_rewriting/src/riscv_pcrel_groups.rt.
+//! Groups of one label of RISC-V: a high part, and the low parts whose symbol is the label at it.
+
+use crate::linker_rewriting::candidates::candidate_by;
+use crate::linker_rewriting::decisions::{AsDecision, Decision};
+use crate::linker_rewriting::facts::{OutputFacts, RelaxContext, SymbolFacts, link_facts};
+use crate::linker_rewriting::groups::{Scope, scope_in};
+use crate::linker_rewriting::phases::Phase;
+use crate::linker_rewriting::relocations::relocation_in;
+use crate::linker_rewriting::sequences::is_marked_at;
+use crate::linker_section::facts::{Addresses, Symbol};
+use crate::linker_section::relocations::{Rela, first_from, is_ascending, relocations_len};
+use crate::architecture::Relaxation;
+use crate::elf::{Architecture, Choice, LinkFacts, Operands};
+#[cfg(feature = "riscv64")]
+use crate::riscv64::RiscVRelocation;
+
+/// The code of the high parts whose groups a phase rewrites.
+#[inline(always)]
+fn high_code(phase: Phase) -> u32 {
+    #[cfg(not(feature = "riscv64"))]
+    {
+        0
+    }
+    #[cfg(feature = "riscv64")]
+    {
+    match phase {
+        Phase::TlsLocalExec => RiscVRelocation::R_RISCV_TLSDESC_HI20.elf_code(),
+        _ => RiscVRelocation::R_RISCV_GOT_HI20.elf_code(),
+    }
+    }
+}
+
+/// How many relocations at one offset are searched for a high part.
+const SEARCHED: usize = 16;
+
+/// Whether as many others at an offset are before the relocation with an index, among relocations
+/// that ascend.
+#[inline(always)]
+pub(crate) fn is_beyond(relocations: &[u8], at: u64, index: usize) -> bool {
+    SEARCHED <= index && relocation_in(relocations, index - SEARCHED).offset == at
+}
+
+/// Where a search ends that begins at an index, of n relocations.
+#[inline(always)]
+fn search_end(first: usize, len: usize) -> usize {
+    if len - first < SEARCHED {
+        len
+    } else {
+        first + SEARCHED
+    }
+}
+
+/// The index of the first relocation with a code at an offset, among those that are searched of
+/// relocations that ascend. So it takes O(log n).
+pub(crate) fn high_at(relocations: &[u8], code: u32, at: u64) -> Option<usize> {
+    let first = first_from(relocations, at);
+    for index in first..search_end(first, relocations_len(relocations)) {
+        let relocation = relocation_in(relocations, index);
+        if relocation.offset != at {
+            return None;
+        }
+        if relocation.code == code {
+            return Some(index);
+        }
+    }
+    None
+}
+
+/// Where the label of a relocation is in the section.
+#[inline(always)]
+fn label_offset(
+    phase: Phase,
+    addresses: &Addresses,
+    values: &[Symbol],
+    relocation: &Rela,
+) -> Option<u64> {
+    if relocation.code == high_code(phase) {
+        return Some(relocation.offset);
+    }
+    match values.get(relocation.symbol as usize) {
+        Some(label) => Some(label.address.wrapping_sub(addresses.section)),
+        None => None,
+    }
+}
+
+/// The index of the high part at the label of a relocation, among relocations that ascend.
+pub(crate) fn high_of(
+    phase: Phase,
+    addresses: &Addresses,
+    values: &[Symbol],
+    relocations: &[u8],
+    relocation: &Rela,
+) -> Option<usize> {
+    match label_offset(phase, addresses, values, relocation) {
+        Some(at) => high_at(relocations, high_code(phase), at),
+        None => None,
+    }
+}
+
+/// Whether a scope is that of one label.
+#[inline(always)]
+fn is_labelled(scope: Scope) -> bool {
+    matches!(scope, Scope::Labelled)
+}
+
+/// Whether a relocation with a code is rewritten with its label.
+#[inline(always)]
+pub(crate) fn is_in_label(architecture: Architecture, phase: Phase, code: u32) -> bool {
+    is_labelled(scope_in(architecture, phase, code))
+}
+
+/// Whether the mark is there that counts for a relocation with a high part.
+#[inline(always)]
+fn is_label_marked(
+    architecture: Architecture,
+    phase: Phase,
+    relocations: &[u8],
+    index: usize,
+    relocation: &Rela,
+    high: usize,
+) -> bool {
+    match phase {
+        Phase::TlsLocalExec => {
+            let part = relocation_in(relocations, high);
+            is_marked_at(architecture, relocations, high, &part)
+        }
+        _ => is_marked_at(architecture, relocations, index, relocation),
+    }
+}
+
+/// The same facts, where no entry of the GOT is in reach.
+#[inline(always)]
+fn without_entry(facts: Option<LinkFacts>) -> Option<LinkFacts> {
+    match facts {
+        Some(facts) => Some(LinkFacts {
+            operands: Operands {
+                got_entry: facts.operands.place.wrapping_add(0x8000_0000_0000_0000),
+                ..facts.operands
+            },
+            ..facts
+        }),
+        None => None,
+    }
+}
+
+/// The rewrite of the instruction of the relocation with an index, by the facts of its label's high
+/// part.
+pub(crate) fn label_candidate(
+    context: &RelaxContext<'_>,
+    relocations: &[u8],
+    section: &[u8],
+    index: usize,
+    relocation: &Rela,
+    high: usize,
+) -> Option<Choice<Relaxation, u32>> {
+    let part = relocation_in(relocations, high);
+    let marked = is_label_marked(
+        context.architecture,
+        context.phase,
+        relocations,
+        index,
+        relocation,
+        high,
+    );
+    let facts = without_entry(link_facts(context, &part, &part, marked));
+    match facts {
+        Some(facts) => candidate_by(
+            context.architecture,
+            context.symbols,
+            relocations,
+            section,
+            index,
+            relocation,
+            &facts,
+        ),
+        None => None,
+    }
+}
+
+/// The index of the high part whose group stays, since this relocation is of it and has no rewrite.
+fn lacking(
+    context: &RelaxContext<'_>,
+    relocations: &[u8],
+    section: &[u8],
+    index: usize,
+    relocation: &Rela,
+) -> Option<usize> {
+    if !is_in_label(context.architecture, context.phase, relocation.code) {
+        return None;
+    }
+    let Some(high) = high_of(
+        context.phase,
+        context.addresses,
+        context.values,
+        relocations,
+        relocation,
+    ) else {
+        return None;
+    };
+    match label_candidate(context, relocations, section, index, relocation, high) {
+        Some(_) => None,
+        None => Some(high),
+    }
+}
+
+/// Whether a decision is the note that a group stays.
+#[inline(always)]
+pub(crate) fn is_note(decision: &Decision) -> bool {
+    matches!(decision, Decision::Consumed)
+}
+
+/// Sets all decisions of a section to one.
+pub(crate) fn set_all<D: AsDecision>(relocations: &[u8], decision: Decision, decisions: &mut [D]) {
+    for index in 0..relocations_len(relocations) {
+        decisions[index] = D::from_decision(decision);
+    }
+}
+
+/// Notes at each high part of a section whether its group stays.
+fn note_highs<D: AsDecision>(
+    context: &RelaxContext<'_>,
+    relocations: &[u8],
+    section: &[u8],
+    decisions: &mut [D],
+) {
+    for index in 0..relocations_len(relocations) {
+        let relocation = relocation_in(relocations, index);
+        let Some(high) = lacking(context, relocations, section, index, &relocation) else {
+            continue;
+        };
+        decisions[high] = D::from_decision(Decision::Consumed);
+    }
+}
+
+/// What is noted of the group of a relocation: at its high part; it stays where there is none.
+#[inline(always)]
+fn note_of<D: AsDecision>(
+    phase: Phase,
+    addresses: &Addresses,
+    values: &[Symbol],
+    relocations: &[u8],
+    decisions: &[D],
+    relocation: &Rela,
+) -> Decision {
+    match high_of(phase, addresses, values, relocations, relocation) {
+        Some(high) => decisions[high].as_decision(),
+        None => Decision::Consumed,
+    }
+}
+
+/// Notes at each relocation of a label what is noted at its high part.
+fn copy_notes<D: AsDecision>(
+    context: &RelaxContext<'_>,
+    relocations: &[u8],
+    section: &[u8],
+    decisions: &mut [D],
+) {
+    for index in 0..relocations_len(relocations) {
+        let relocation = relocation_in(relocations, index);
+        if !is_in_label(context.architecture, context.phase, relocation.code) {
+            continue;
+        }
+        let note = note_of(
+            context.phase,
+            context.addresses,
+            context.values,
+            relocations,
+            decisions,
+            &relocation,
+        );
+        decisions[index] = D::from_decision(note);
+    }
+}
+
+/// Whether an architecture has groups of labels in a phase.
+#[inline(always)]
+fn has_labels(architecture: Architecture, phase: Phase) -> bool {
+    match architecture {
+        #[cfg(feature = "riscv64")]
+        Architecture::RiscV => matches!(phase, Phase::TlsLocalExec | Phase::GotToPcRel),
+        _ => false,
+    }
+}
+
+/// Notes at each relocation of a label of RISC-V whether its group stays, in place of its decision.
+pub(crate) fn note_labels<D: AsDecision>(
+    context: &RelaxContext<'_>,
+    relocations: &[u8],
+    section: &[u8],
+    decisions: &mut [D],
+) {
+    if !has_labels(context.architecture, context.phase) {
+        return;
+    }
+    if !is_ascending(relocations) {
+        set_all(relocations, Decision::Consumed, decisions);
+        return;
+    }
+    set_all(relocations, Decision::Kept, decisions);
+    note_highs(context, relocations, section, decisions);
+    copy_notes(context, relocations, section, decisions);
+}
