@@ -68,111 +68,12 @@ static uint64_t linker_utils_no_elements[1];
 #define LINKER_UTILS_RELAS(byte, slice) \
     (byte *)((slice) ? (slice) : (void *)linker_utils_no_elements), 24 * slice##_len
 
-uint32_t linker_utils_relocation_name_nonnull(
-    uint16_t machine, uint32_t r_type, uint8_t *name, size_t name_len, size_t *name_used);
-static inline uint32_t linker_utils_relocation_name(
-    uint16_t machine, uint32_t r_type, uint8_t *name, size_t name_len, size_t *name_used) {
-    return linker_utils_relocation_name_nonnull(
-        machine, r_type, LINKER_UTILS_SLICE(uint8_t, name), name_len, name_used);
-}
-
 uint32_t linker_utils_relocate_nonnull(
     uint16_t machine, uint32_t r_type, int64_t value, uint8_t *dest, size_t dest_len);
 static inline uint32_t linker_utils_relocate(
     uint16_t machine, uint32_t r_type, int64_t value, uint8_t *dest, size_t dest_len) {
     return linker_utils_relocate_nonnull(
         machine, r_type, value, LINKER_UTILS_SLICE(uint8_t, dest), dest_len);
-}
-
-uint32_t linker_utils_choose_nonnull(
-    uint16_t machine, uint32_t r_type, const uint8_t *section, size_t section_len, uint64_t offset,
-    const struct linker_utils_link_facts *facts, struct linker_utils_choice *choice);
-static inline uint32_t linker_utils_choose(
-    uint16_t machine, uint32_t r_type, const struct linker_utils_section *section, uint64_t offset,
-    const struct linker_utils_link_facts *facts, struct linker_utils_choice *choice) {
-    return linker_utils_choose_nonnull(
-        machine, r_type, LINKER_UTILS_SLICE(const uint8_t, section->bytes), section->bytes_len,
-        offset, facts, choice);
-}
-
-bool linker_utils_relocation_fits_nonnull(
-    uint16_t machine, uint32_t r_type, const uint8_t *section, size_t section_len, uint64_t offset,
-    const struct linker_utils_link_facts *facts);
-static inline bool linker_utils_relocation_fits(
-    uint16_t machine, uint32_t r_type, const struct linker_utils_section *section, uint64_t offset,
-    const struct linker_utils_link_facts *facts) {
-    return linker_utils_relocation_fits_nonnull(
-        machine, r_type, LINKER_UTILS_SLICE(const uint8_t, section->bytes), section->bytes_len,
-        offset, facts);
-}
-
-uint32_t linker_utils_matches_nonnull(
-    uint16_t machine, uint32_t rewrite, uint8_t opcode_len, const uint8_t *section,
-    size_t section_len, uint64_t offset);
-static inline uint32_t linker_utils_matches(
-    uint16_t machine, uint32_t rewrite, uint8_t opcode_len,
-    const struct linker_utils_section *section, uint64_t offset) {
-    return linker_utils_matches_nonnull(
-        machine, rewrite, opcode_len, LINKER_UTILS_SLICE(const uint8_t, section->bytes),
-        section->bytes_len, offset);
-}
-
-uint32_t linker_utils_apply_nonnull(
-    uint16_t machine, uint32_t rewrite, uint8_t opcode_len, uint8_t *section, size_t section_len,
-    uint64_t *offset, int64_t *addend);
-static inline uint32_t linker_utils_apply(
-    uint16_t machine, uint32_t rewrite, uint8_t opcode_len,
-    const struct linker_utils_section *section, uint64_t *offset, int64_t *addend) {
-    return linker_utils_apply_nonnull(
-        machine, rewrite, opcode_len, LINKER_UTILS_SLICE(uint8_t, section->bytes),
-        section->bytes_len, offset, addend);
-}
-
-uint32_t linker_utils_deltas_create_nonnull(
-    const struct linker_utils_deletion *deletions, size_t deletions_len,
-    struct linker_utils_delta *deltas, size_t deltas_len, size_t *faulty);
-static inline uint32_t linker_utils_deltas_create(
-    const struct linker_utils_deletion *deletions, size_t deletions_len,
-    struct linker_utils_delta *deltas, size_t deltas_len, size_t *faulty) {
-    size_t ignored;
-    return linker_utils_deltas_create_nonnull(
-        LINKER_UTILS_SLICE(const struct linker_utils_deletion, deletions), deletions_len,
-        LINKER_UTILS_SLICE(struct linker_utils_delta, deltas), deltas_len,
-        faulty ? faulty : &ignored);
-}
-
-uint64_t linker_utils_deltas_input_to_output_nonnull(
-    const struct linker_utils_delta *deltas, size_t deltas_len, uint64_t input_offset);
-static inline uint64_t linker_utils_deltas_input_to_output(
-    const struct linker_utils_delta *deltas, size_t deltas_len, uint64_t input_offset) {
-    return linker_utils_deltas_input_to_output_nonnull(
-        LINKER_UTILS_SLICE(const struct linker_utils_delta, deltas), deltas_len, input_offset);
-}
-
-uint32_t linker_utils_deltas_output_to_input_nonnull(
-    const struct linker_utils_delta *deltas, size_t deltas_len, uint64_t output_offset,
-    uint64_t *input_offset);
-static inline uint32_t linker_utils_deltas_output_to_input(
-    const struct linker_utils_delta *deltas, size_t deltas_len, uint64_t output_offset,
-    uint64_t *input_offset) {
-    return linker_utils_deltas_output_to_input_nonnull(
-        LINKER_UTILS_SLICE(const struct linker_utils_delta, deltas), deltas_len, output_offset,
-        input_offset);
-}
-
-uint32_t linker_utils_value_at_nonnull(
-    uint16_t machine, const struct linker_utils_addresses *addresses, const uint8_t *relocations,
-    size_t relocations_len, const struct linker_utils_symbol *symbols, size_t symbols_len,
-    size_t index, int64_t *value);
-static inline uint32_t linker_utils_value_at(
-    const struct linker_utils_link *link, const struct linker_utils_object *object,
-    const struct linker_utils_section *section, size_t index, int64_t *value) {
-    const struct linker_utils_addresses addresses = {section->address, link->got_base,
-        link->thread_origin, link->module_origin, link->module_entry, link->has_tls};
-    return linker_utils_value_at_nonnull(
-        link->machine, &addresses, LINKER_UTILS_RELAS(const uint8_t, section->relocations),
-        LINKER_UTILS_SLICE(const struct linker_utils_symbol, object->values), object->values_len,
-        index, value);
 }
 
 size_t linker_utils_relocate_memory_nonnull(const uint8_t *relocations, size_t relocations_len);
@@ -298,19 +199,164 @@ static inline uint32_t linker_utils_rewrite_placed_section(
         rewritten->deleted_len, &rewritten->deleted_used, faulty ? faulty : &ignored);
 }
 
-uint32_t linker_utils_relocate_all_nonnull(
-    uint16_t machine, uint8_t *section, size_t section_len,
-    const struct linker_utils_relocation_entry *relocations, size_t relocations_len,
-    size_t *faulty);
-static inline uint32_t linker_utils_relocate_all(
+uint32_t linker_utils_choose_nonnull(
+    uint16_t machine, uint32_t r_type, const uint8_t *section, size_t section_len, uint64_t offset,
+    const struct linker_utils_link_facts *facts, struct linker_utils_choice *choice);
+static inline uint32_t linker_utils_choose(
+    uint16_t machine, uint32_t r_type, const struct linker_utils_section *section, uint64_t offset,
+    const struct linker_utils_link_facts *facts, struct linker_utils_choice *choice) {
+    return linker_utils_choose_nonnull(
+        machine, r_type, LINKER_UTILS_SLICE(const uint8_t, section->bytes), section->bytes_len,
+        offset, facts, choice);
+}
+
+uint32_t linker_utils_apply_nonnull(
+    uint16_t machine, uint32_t rewrite, uint8_t opcode_len, uint8_t *section, size_t section_len,
+    uint64_t *offset, int64_t *addend);
+static inline uint32_t linker_utils_apply(
+    uint16_t machine, uint32_t rewrite, uint8_t opcode_len,
+    const struct linker_utils_section *section, uint64_t *offset, int64_t *addend) {
+    return linker_utils_apply_nonnull(
+        machine, rewrite, opcode_len, LINKER_UTILS_SLICE(uint8_t, section->bytes),
+        section->bytes_len, offset, addend);
+}
+
+uint32_t linker_utils_rewritten_items_nonnull(
+    uint16_t machine, const uint8_t *section, size_t section_len, uint64_t base,
+    const struct linker_utils_rela *relocations, size_t relocations_len,
+    const struct linker_utils_deletion *deleted, size_t deleted_len,
+    struct linker_utils_item *items, size_t items_len, size_t *makers, size_t makers_len,
+    size_t *len, size_t *faulty);
+static inline uint32_t linker_utils_rewritten_items(
     uint16_t machine, const struct linker_utils_section *section,
-    const struct linker_utils_relocation_entry *relocations, size_t relocations_len,
+    const struct linker_utils_rela *relocations, size_t relocations_len,
+    struct linker_utils_items *items, size_t *faulty) {
+    size_t ignored;
+    return linker_utils_rewritten_items_nonnull(
+        machine, LINKER_UTILS_SLICE(const uint8_t, section->bytes), section->bytes_len,
+        section->base, LINKER_UTILS_SLICE(const struct linker_utils_rela, relocations),
+        relocations_len, LINKER_UTILS_SLICE(const struct linker_utils_deletion, section->deleted),
+        section->deleted_len, LINKER_UTILS_SLICE(struct linker_utils_item, items->items),
+        items->items_len, LINKER_UTILS_SLICE(size_t, items->makers), items->makers_len,
+        &items->items_used, faulty ? faulty : &ignored);
+}
+
+uint32_t linker_utils_relax_nonnull(
+    const struct linker_utils_item *items, size_t items_len, uint64_t start, uint8_t *shapes,
+    size_t shapes_len, uint64_t *kept, size_t kept_len, size_t *places, size_t places_len,
+    uint64_t *freed, size_t freed_len, size_t *faulty);
+static inline uint32_t linker_utils_relax(
+    const struct linker_utils_run *run, const struct linker_utils_relaxed *relaxed,
     size_t *faulty) {
     size_t ignored;
-    return linker_utils_relocate_all_nonnull(
-        machine, LINKER_UTILS_SLICE(uint8_t, section->bytes), section->bytes_len,
-        LINKER_UTILS_SLICE(const struct linker_utils_relocation_entry, relocations),
-        relocations_len, faulty ? faulty : &ignored);
+    return linker_utils_relax_nonnull(
+        LINKER_UTILS_SLICE(const struct linker_utils_item, run->items), run->items_len, run->start,
+        LINKER_UTILS_SLICE(uint8_t, relaxed->shapes), relaxed->shapes_len,
+        LINKER_UTILS_SLICE(uint64_t, relaxed->kept), relaxed->kept_len,
+        LINKER_UTILS_SLICE(size_t, relaxed->places), relaxed->places_len,
+        LINKER_UTILS_SLICE(uint64_t, relaxed->freed), relaxed->freed_len,
+        faulty ? faulty : &ignored);
+}
+
+uint32_t linker_utils_run_deltas_nonnull(
+    const struct linker_utils_item *items, size_t items_len, const uint64_t *kept, size_t kept_len,
+    struct linker_utils_delta *deltas, size_t deltas_len, size_t *len);
+static inline uint32_t linker_utils_run_deltas(
+    const struct linker_utils_run *run, const struct linker_utils_relaxed *relaxed,
+    struct linker_utils_delta *deltas, size_t deltas_len, size_t *len) {
+    return linker_utils_run_deltas_nonnull(
+        LINKER_UTILS_SLICE(const struct linker_utils_item, run->items), run->items_len,
+        LINKER_UTILS_SLICE(const uint64_t, relaxed->kept), relaxed->kept_len,
+        LINKER_UTILS_SLICE(struct linker_utils_delta, deltas), deltas_len, len);
+}
+
+uint64_t linker_utils_deltas_input_to_output_nonnull(
+    const struct linker_utils_delta *deltas, size_t deltas_len, uint64_t input_offset);
+static inline uint64_t linker_utils_deltas_input_to_output(
+    const struct linker_utils_delta *deltas, size_t deltas_len, uint64_t input_offset) {
+    return linker_utils_deltas_input_to_output_nonnull(
+        LINKER_UTILS_SLICE(const struct linker_utils_delta, deltas), deltas_len, input_offset);
+}
+
+size_t linker_utils_packed_run_len_nonnull(
+    uint64_t base, size_t section_len, const struct linker_utils_delta *deltas, size_t deltas_len);
+static inline size_t linker_utils_packed_run_len(
+    const struct linker_utils_section *section, const struct linker_utils_run *run) {
+    return linker_utils_packed_run_len_nonnull(
+        section->base, section->bytes_len,
+        LINKER_UTILS_SLICE(const struct linker_utils_delta, run->deltas), run->deltas_len);
+}
+
+uint32_t linker_utils_pack_run_nonnull(
+    uint16_t machine, const uint8_t *section, size_t section_len, uint64_t base,
+    const struct linker_utils_item *items, size_t items_len,
+    const struct linker_utils_delta *deltas, size_t deltas_len, uint64_t start,
+    uint8_t *relocations, size_t relocations_len, uint8_t *packed, size_t packed_len,
+    size_t *faulty);
+static inline uint32_t linker_utils_pack_run(
+    uint16_t machine, const struct linker_utils_section *section,
+    const struct linker_utils_run *run, uint8_t *packed, size_t packed_len, size_t *faulty) {
+    size_t ignored;
+    return linker_utils_pack_run_nonnull(
+        machine, LINKER_UTILS_SLICE(const uint8_t, section->bytes), section->bytes_len,
+        section->base, LINKER_UTILS_SLICE(const struct linker_utils_item, run->items),
+        run->items_len, LINKER_UTILS_SLICE(const struct linker_utils_delta, run->deltas),
+        run->deltas_len, run->start, LINKER_UTILS_RELAS(uint8_t, section->relocations),
+        LINKER_UTILS_SLICE(uint8_t, packed), packed_len, faulty ? faulty : &ignored);
+}
+
+uint32_t linker_utils_route_at_nonnull(
+    uint16_t machine, const struct linker_utils_addresses *addresses, const uint8_t *relocations,
+    size_t relocations_len, const struct linker_utils_symbol *symbols, size_t symbols_len,
+    size_t index, const uint8_t *section, size_t section_len, struct linker_utils_route *route);
+static inline uint32_t linker_utils_route_at(
+    const struct linker_utils_link *link, const struct linker_utils_object *object,
+    const struct linker_utils_section *section, size_t index, struct linker_utils_route *route) {
+    const struct linker_utils_addresses addresses = {section->address, link->got_base,
+        link->thread_origin, link->module_origin, link->module_entry, link->has_tls};
+    return linker_utils_route_at_nonnull(
+        link->machine, &addresses, LINKER_UTILS_RELAS(const uint8_t, section->relocations),
+        LINKER_UTILS_SLICE(const struct linker_utils_symbol, object->values), object->values_len,
+        index, LINKER_UTILS_SLICE(const uint8_t, section->bytes), section->bytes_len, route);
+}
+
+uint32_t linker_utils_route_by_word_nonnull(
+    uint16_t machine, uint64_t word, const uint8_t *relocations, size_t relocations_len,
+    size_t index, const uint8_t *section, size_t section_len, struct linker_utils_route *route);
+static inline uint32_t linker_utils_route_by_word(
+    uint16_t machine, uint64_t word, const struct linker_utils_section *section, size_t index,
+    struct linker_utils_route *route) {
+    return linker_utils_route_by_word_nonnull(
+        machine, word, LINKER_UTILS_RELAS(const uint8_t, section->relocations), index,
+        LINKER_UTILS_SLICE(const uint8_t, section->bytes), section->bytes_len, route);
+}
+
+uint32_t linker_utils_write_stub_nonnull(
+    uint16_t machine, uint32_t kind, uint64_t place, uint64_t target, uint8_t *bytes,
+    size_t bytes_len);
+static inline uint32_t linker_utils_write_stub(
+    uint16_t machine, uint32_t kind, uint64_t place, uint64_t target, uint8_t *bytes,
+    size_t bytes_len) {
+    return linker_utils_write_stub_nonnull(
+        machine, kind, place, target, LINKER_UTILS_SLICE(uint8_t, bytes), bytes_len);
+}
+
+uint32_t linker_utils_read_value_nonnull(
+    uint16_t machine, uint32_t r_type, const uint8_t *bytes, size_t bytes_len,
+    struct linker_utils_field_value *value);
+static inline uint32_t linker_utils_read_value(
+    uint16_t machine, uint32_t r_type, const uint8_t *bytes, size_t bytes_len,
+    struct linker_utils_field_value *value) {
+    return linker_utils_read_value_nonnull(
+        machine, r_type, LINKER_UTILS_SLICE(const uint8_t, bytes), bytes_len, value);
+}
+
+uint32_t linker_utils_relocation_name_nonnull(
+    uint16_t machine, uint32_t r_type, uint8_t *name, size_t name_len, size_t *name_used);
+static inline uint32_t linker_utils_relocation_name(
+    uint16_t machine, uint32_t r_type, uint8_t *name, size_t name_len, size_t *name_used) {
+    return linker_utils_relocation_name_nonnull(
+        machine, r_type, LINKER_UTILS_SLICE(uint8_t, name), name_len, name_used);
 }
 
 uint32_t linker_utils_row_write_nonnull(
@@ -351,20 +397,182 @@ static inline bool linker_utils_row_fits(
         facts);
 }
 
-uint32_t linker_utils_dynamic_name_nonnull(
-    uint16_t machine, uint32_t r_type, uint8_t *name, size_t name_len, size_t *name_used);
-static inline uint32_t linker_utils_dynamic_name(
-    uint16_t machine, uint32_t r_type, uint8_t *name, size_t name_len, size_t *name_used) {
-    return linker_utils_dynamic_name_nonnull(
-        machine, r_type, LINKER_UTILS_SLICE(uint8_t, name), name_len, name_used);
+uint32_t linker_utils_value_at_nonnull(
+    uint16_t machine, const struct linker_utils_addresses *addresses, const uint8_t *relocations,
+    size_t relocations_len, const struct linker_utils_symbol *symbols, size_t symbols_len,
+    size_t index, int64_t *value);
+static inline uint32_t linker_utils_value_at(
+    const struct linker_utils_link *link, const struct linker_utils_object *object,
+    const struct linker_utils_section *section, size_t index, int64_t *value) {
+    const struct linker_utils_addresses addresses = {section->address, link->got_base,
+        link->thread_origin, link->module_origin, link->module_entry, link->has_tls};
+    return linker_utils_value_at_nonnull(
+        link->machine, &addresses, LINKER_UTILS_RELAS(const uint8_t, section->relocations),
+        LINKER_UTILS_SLICE(const struct linker_utils_symbol, object->values), object->values_len,
+        index, value);
 }
 
-uint32_t linker_utils_interpreter_nonnull(
-    uint16_t machine, uint32_t flags, uint8_t *path, size_t path_len, size_t *path_used);
-static inline uint32_t linker_utils_interpreter(
-    uint16_t machine, uint32_t flags, uint8_t *path, size_t path_len, size_t *path_used) {
-    return linker_utils_interpreter_nonnull(
-        machine, flags, LINKER_UTILS_SLICE(uint8_t, path), path_len, path_used);
+uint32_t linker_utils_relocate_all_nonnull(
+    uint16_t machine, uint8_t *section, size_t section_len,
+    const struct linker_utils_relocation_entry *relocations, size_t relocations_len,
+    size_t *faulty);
+static inline uint32_t linker_utils_relocate_all(
+    uint16_t machine, const struct linker_utils_section *section,
+    const struct linker_utils_relocation_entry *relocations, size_t relocations_len,
+    size_t *faulty) {
+    size_t ignored;
+    return linker_utils_relocate_all_nonnull(
+        machine, LINKER_UTILS_SLICE(uint8_t, section->bytes), section->bytes_len,
+        LINKER_UTILS_SLICE(const struct linker_utils_relocation_entry, relocations),
+        relocations_len, faulty ? faulty : &ignored);
+}
+
+uint32_t linker_utils_fits_nonnull(
+    uint16_t machine, uint32_t form, uint64_t value, const uint8_t *bytes, size_t bytes_len);
+static inline uint32_t linker_utils_fits(
+    uint16_t machine, uint32_t form, uint64_t value, const uint8_t *bytes, size_t bytes_len) {
+    return linker_utils_fits_nonnull(
+        machine, form, value, LINKER_UTILS_SLICE(const uint8_t, bytes), bytes_len);
+}
+
+uint32_t linker_utils_write_nonnull(
+    uint16_t machine, uint32_t form, uint64_t value, bool negative, uint8_t *dest, size_t dest_len);
+static inline uint32_t linker_utils_write(
+    uint16_t machine, uint32_t form, uint64_t value, bool negative, uint8_t *dest,
+    size_t dest_len) {
+    return linker_utils_write_nonnull(
+        machine, form, value, negative, LINKER_UTILS_SLICE(uint8_t, dest), dest_len);
+}
+
+uint32_t linker_utils_read_nonnull(
+    uint16_t machine, uint32_t form, const uint8_t *bytes, size_t bytes_len, uint64_t *value,
+    uint8_t *negative);
+static inline uint32_t linker_utils_read(
+    uint16_t machine, uint32_t form, const uint8_t *bytes, size_t bytes_len, uint64_t *value,
+    uint8_t *negative) {
+    return linker_utils_read_nonnull(
+        machine, form, LINKER_UTILS_SLICE(const uint8_t, bytes), bytes_len, value, negative);
+}
+
+uint32_t linker_utils_operand_nonnull(
+    uint16_t machine, uint32_t form, const uint8_t *bytes, size_t bytes_len, int64_t *number);
+static inline uint32_t linker_utils_operand(
+    uint16_t machine, uint32_t form, const uint8_t *bytes, size_t bytes_len, int64_t *number) {
+    return linker_utils_operand_nonnull(
+        machine, form, LINKER_UTILS_SLICE(const uint8_t, bytes), bytes_len, number);
+}
+
+uint32_t linker_utils_write_mov_sequence_nonnull(
+    uint8_t *dest, size_t dest_len, uint32_t rd, uint64_t value);
+static inline uint32_t linker_utils_write_mov_sequence(
+    uint8_t *dest, size_t dest_len, uint32_t rd, uint64_t value) {
+    return linker_utils_write_mov_sequence_nonnull(
+        LINKER_UTILS_SLICE(uint8_t, dest), dest_len, rd, value);
+}
+
+uint32_t linker_utils_write_address_sequence_nonnull(
+    uint8_t *dest, size_t dest_len, uint64_t pc, uint64_t target);
+static inline uint32_t linker_utils_write_address_sequence(
+    uint8_t *dest, size_t dest_len, uint64_t pc, uint64_t target) {
+    return linker_utils_write_address_sequence_nonnull(
+        LINKER_UTILS_SLICE(uint8_t, dest), dest_len, pc, target);
+}
+
+uint32_t linker_utils_write_ha_lo_nonnull(
+    uint8_t *ha, size_t ha_len, uint8_t *lo, size_t lo_len, uint64_t value);
+static inline uint32_t linker_utils_write_ha_lo(
+    uint8_t *ha, size_t ha_len, uint8_t *lo, size_t lo_len, uint64_t value) {
+    return linker_utils_write_ha_lo_nonnull(
+        LINKER_UTILS_SLICE(uint8_t, ha), ha_len, LINKER_UTILS_SLICE(uint8_t, lo), lo_len, value);
+}
+
+uint32_t linker_utils_write_uleb128_nonnull(uint8_t *dest, size_t dest_len, uint64_t value);
+static inline uint32_t linker_utils_write_uleb128(uint8_t *dest, size_t dest_len, uint64_t value) {
+    return linker_utils_write_uleb128_nonnull(LINKER_UTILS_SLICE(uint8_t, dest), dest_len, value);
+}
+
+uint32_t linker_utils_write_uleb128_pair_nonnull(
+    uint16_t machine, uint32_t r_type, uint8_t *dest, size_t dest_len, uint64_t first,
+    uint64_t second);
+static inline uint32_t linker_utils_write_uleb128_pair(
+    uint16_t machine, uint32_t r_type, uint8_t *dest, size_t dest_len, uint64_t first,
+    uint64_t second) {
+    return linker_utils_write_uleb128_pair_nonnull(
+        machine, r_type, LINKER_UTILS_SLICE(uint8_t, dest), dest_len, first, second);
+}
+
+uint32_t linker_utils_u32_from_slice_nonnull(
+    const uint8_t *bytes, size_t bytes_len, uint32_t *value);
+static inline uint32_t linker_utils_u32_from_slice(
+    const uint8_t *bytes, size_t bytes_len, uint32_t *value) {
+    return linker_utils_u32_from_slice_nonnull(
+        LINKER_UTILS_SLICE(const uint8_t, bytes), bytes_len, value);
+}
+
+uint32_t linker_utils_u64_from_slice_nonnull(
+    const uint8_t *bytes, size_t bytes_len, uint64_t *value);
+static inline uint32_t linker_utils_u64_from_slice(
+    const uint8_t *bytes, size_t bytes_len, uint64_t *value) {
+    return linker_utils_u64_from_slice_nonnull(
+        LINKER_UTILS_SLICE(const uint8_t, bytes), bytes_len, value);
+}
+
+uint32_t linker_utils_read_u32_nonnull(
+    const uint8_t *bytes, size_t bytes_len, uint32_t *value, size_t *consumed);
+static inline uint32_t linker_utils_read_u32(
+    const uint8_t *bytes, size_t bytes_len, uint32_t *value, size_t *consumed) {
+    return linker_utils_read_u32_nonnull(
+        LINKER_UTILS_SLICE(const uint8_t, bytes), bytes_len, value, consumed);
+}
+
+uint32_t linker_utils_read_uleb128_nonnull(
+    const uint8_t *bytes, size_t bytes_len, uint64_t *value, size_t *consumed);
+static inline uint32_t linker_utils_read_uleb128(
+    const uint8_t *bytes, size_t bytes_len, uint64_t *value, size_t *consumed) {
+    return linker_utils_read_uleb128_nonnull(
+        LINKER_UTILS_SLICE(const uint8_t, bytes), bytes_len, value, consumed);
+}
+
+uint32_t linker_utils_snapshot_facts_nonnull(
+    const struct linker_utils_output_facts *output, const struct linker_utils_symbol_facts *symbols,
+    size_t symbols_len, struct linker_utils_facts_snapshot *kept, size_t kept_len);
+static inline uint32_t linker_utils_snapshot_facts(
+    const struct linker_utils_link *link, const struct linker_utils_object *object) {
+    const struct linker_utils_output_facts output = {link->is_executable, link->is_fixed,
+        link->has_near_symbols};
+    return linker_utils_snapshot_facts_nonnull(
+        &output, LINKER_UTILS_SLICE(const struct linker_utils_symbol_facts, object->facts),
+        object->facts_len,
+        LINKER_UTILS_SLICE(struct linker_utils_facts_snapshot, object->facts_snapshot),
+        object->facts_snapshot_len);
+}
+
+uint32_t linker_utils_relocate_rewritten_section_nonnull(
+    uint16_t machine, const struct linker_utils_output_facts *output,
+    const struct linker_utils_symbol_facts *facts, size_t facts_len,
+    const struct linker_utils_facts_snapshot *kept, size_t kept_len,
+    const struct linker_utils_addresses *addresses, const uint8_t *relocations,
+    size_t relocations_len, const struct linker_utils_symbol *symbols, size_t symbols_len,
+    uint8_t *section, size_t section_len, uint64_t *memory, size_t memory_len, size_t *faulty);
+static inline uint32_t linker_utils_relocate_rewritten_section(
+    const struct linker_utils_link *link, const struct linker_utils_object *object,
+    const struct linker_utils_section *section, uint64_t *memory, size_t memory_len,
+    size_t *faulty) {
+    size_t ignored;
+    const struct linker_utils_output_facts output = {link->is_executable, link->is_fixed,
+        link->has_near_symbols};
+    const struct linker_utils_addresses addresses = {section->address, link->got_base,
+        link->thread_origin, link->module_origin, link->module_entry, link->has_tls};
+    return linker_utils_relocate_rewritten_section_nonnull(
+        link->machine, &output,
+        LINKER_UTILS_SLICE(const struct linker_utils_symbol_facts, object->facts),
+        object->facts_len,
+        LINKER_UTILS_SLICE(const struct linker_utils_facts_snapshot, object->facts_snapshot),
+        object->facts_snapshot_len, &addresses,
+        LINKER_UTILS_RELAS(const uint8_t, section->relocations),
+        LINKER_UTILS_SLICE(const struct linker_utils_symbol, object->values), object->values_len,
+        LINKER_UTILS_SLICE(uint8_t, section->bytes), section->bytes_len,
+        LINKER_UTILS_SLICE(uint64_t, memory), memory_len, faulty ? faulty : &ignored);
 }
 
 uint32_t linker_utils_address_section_nonnull(
@@ -502,134 +710,26 @@ static inline uint32_t linker_utils_finish_gp_relaxation(
         faulty ? faulty : &ignored);
 }
 
-uint32_t linker_utils_get_provided_symbol_nonnull(
-    uint16_t machine, size_t index, uint8_t *name, size_t name_len, size_t *name_used,
-    struct linker_utils_provided_symbol *symbol);
-static inline uint32_t linker_utils_get_provided_symbol(
-    uint16_t machine, size_t index, uint8_t *name, size_t name_len, size_t *name_used,
-    struct linker_utils_provided_symbol *symbol) {
-    return linker_utils_get_provided_symbol_nonnull(
-        machine, index, LINKER_UTILS_SLICE(uint8_t, name), name_len, name_used, symbol);
+bool linker_utils_relocation_fits_nonnull(
+    uint16_t machine, uint32_t r_type, const uint8_t *section, size_t section_len, uint64_t offset,
+    const struct linker_utils_link_facts *facts);
+static inline bool linker_utils_relocation_fits(
+    uint16_t machine, uint32_t r_type, const struct linker_utils_section *section, uint64_t offset,
+    const struct linker_utils_link_facts *facts) {
+    return linker_utils_relocation_fits_nonnull(
+        machine, r_type, LINKER_UTILS_SLICE(const uint8_t, section->bytes), section->bytes_len,
+        offset, facts);
 }
 
-uint32_t linker_utils_get_save_restore_routines_nonnull(
-    uint16_t machine, size_t index, uint8_t *prefix, size_t prefix_len, size_t *prefix_used,
-    struct linker_utils_save_restore_routines *run);
-static inline uint32_t linker_utils_get_save_restore_routines(
-    uint16_t machine, size_t index, uint8_t *prefix, size_t prefix_len, size_t *prefix_used,
-    struct linker_utils_save_restore_routines *run) {
-    return linker_utils_get_save_restore_routines_nonnull(
-        machine, index, LINKER_UTILS_SLICE(uint8_t, prefix), prefix_len, prefix_used, run);
-}
-
-uint32_t linker_utils_write_stub_nonnull(
-    uint16_t machine, uint32_t kind, uint64_t place, uint64_t target, uint8_t *bytes,
-    size_t bytes_len);
-static inline uint32_t linker_utils_write_stub(
-    uint16_t machine, uint32_t kind, uint64_t place, uint64_t target, uint8_t *bytes,
-    size_t bytes_len) {
-    return linker_utils_write_stub_nonnull(
-        machine, kind, place, target, LINKER_UTILS_SLICE(uint8_t, bytes), bytes_len);
-}
-
-uint32_t linker_utils_write_lazy_header_nonnull(
-    uint16_t machine, uint64_t header, uint64_t words, uint8_t *bytes, size_t bytes_len);
-static inline uint32_t linker_utils_write_lazy_header(
-    uint16_t machine, uint64_t header, uint64_t words, uint8_t *bytes, size_t bytes_len) {
-    return linker_utils_write_lazy_header_nonnull(
-        machine, header, words, LINKER_UTILS_SLICE(uint8_t, bytes), bytes_len);
-}
-
-uint32_t linker_utils_write_lazy_entry_nonnull(
-    uint16_t machine, const struct linker_utils_lazy_entry *entry, uint8_t *bytes,
-    size_t bytes_len);
-static inline uint32_t linker_utils_write_lazy_entry(
-    uint16_t machine, const struct linker_utils_lazy_entry *entry, uint8_t *bytes,
-    size_t bytes_len) {
-    return linker_utils_write_lazy_entry_nonnull(
-        machine, entry, LINKER_UTILS_SLICE(uint8_t, bytes), bytes_len);
-}
-
-uint32_t linker_utils_route_at_nonnull(
-    uint16_t machine, const struct linker_utils_addresses *addresses, const uint8_t *relocations,
-    size_t relocations_len, const struct linker_utils_symbol *symbols, size_t symbols_len,
-    size_t index, const uint8_t *section, size_t section_len, struct linker_utils_route *route);
-static inline uint32_t linker_utils_route_at(
-    const struct linker_utils_link *link, const struct linker_utils_object *object,
-    const struct linker_utils_section *section, size_t index, struct linker_utils_route *route) {
-    const struct linker_utils_addresses addresses = {section->address, link->got_base,
-        link->thread_origin, link->module_origin, link->module_entry, link->has_tls};
-    return linker_utils_route_at_nonnull(
-        link->machine, &addresses, LINKER_UTILS_RELAS(const uint8_t, section->relocations),
-        LINKER_UTILS_SLICE(const struct linker_utils_symbol, object->values), object->values_len,
-        index, LINKER_UTILS_SLICE(const uint8_t, section->bytes), section->bytes_len, route);
-}
-
-uint32_t linker_utils_route_by_word_nonnull(
-    uint16_t machine, uint64_t word, const uint8_t *relocations, size_t relocations_len,
-    size_t index, const uint8_t *section, size_t section_len, struct linker_utils_route *route);
-static inline uint32_t linker_utils_route_by_word(
-    uint16_t machine, uint64_t word, const struct linker_utils_section *section, size_t index,
-    struct linker_utils_route *route) {
-    return linker_utils_route_by_word_nonnull(
-        machine, word, LINKER_UTILS_RELAS(const uint8_t, section->relocations), index,
-        LINKER_UTILS_SLICE(const uint8_t, section->bytes), section->bytes_len, route);
-}
-
-uint32_t linker_utils_place_stubs_nonnull(
-    const struct linker_utils_branch *branches, size_t branches_len, const uint64_t *targets,
-    size_t targets_len, const uint64_t *boundaries, size_t boundaries_len,
-    const struct linker_utils_stub_shape *shape, struct linker_utils_placed_stub *stubs,
-    size_t stubs_len, size_t *stubs_used, size_t *ways, size_t ways_len, uint64_t *before,
-    size_t before_len, size_t *faulty);
-static inline uint32_t linker_utils_place_stubs(
-    const struct linker_utils_branches *branches, const struct linker_utils_stub_shape *shape,
-    struct linker_utils_placement *placement, size_t *faulty) {
-    size_t ignored;
-    return linker_utils_place_stubs_nonnull(
-        LINKER_UTILS_SLICE(const struct linker_utils_branch, branches->branches),
-        branches->branches_len, LINKER_UTILS_SLICE(const uint64_t, branches->targets),
-        branches->targets_len, LINKER_UTILS_SLICE(const uint64_t, branches->boundaries),
-        branches->boundaries_len, shape,
-        LINKER_UTILS_SLICE(struct linker_utils_placed_stub, placement->stubs), placement->stubs_len,
-        &placement->stubs_used, LINKER_UTILS_SLICE(size_t, placement->ways), placement->ways_len,
-        LINKER_UTILS_SLICE(uint64_t, placement->before), placement->before_len,
-        faulty ? faulty : &ignored);
-}
-
-uint32_t linker_utils_fits_nonnull(
-    uint16_t machine, uint32_t form, uint64_t value, const uint8_t *bytes, size_t bytes_len);
-static inline uint32_t linker_utils_fits(
-    uint16_t machine, uint32_t form, uint64_t value, const uint8_t *bytes, size_t bytes_len) {
-    return linker_utils_fits_nonnull(
-        machine, form, value, LINKER_UTILS_SLICE(const uint8_t, bytes), bytes_len);
-}
-
-uint32_t linker_utils_write_nonnull(
-    uint16_t machine, uint32_t form, uint64_t value, bool negative, uint8_t *dest, size_t dest_len);
-static inline uint32_t linker_utils_write(
-    uint16_t machine, uint32_t form, uint64_t value, bool negative, uint8_t *dest,
-    size_t dest_len) {
-    return linker_utils_write_nonnull(
-        machine, form, value, negative, LINKER_UTILS_SLICE(uint8_t, dest), dest_len);
-}
-
-uint32_t linker_utils_read_nonnull(
-    uint16_t machine, uint32_t form, const uint8_t *bytes, size_t bytes_len, uint64_t *value,
-    uint8_t *negative);
-static inline uint32_t linker_utils_read(
-    uint16_t machine, uint32_t form, const uint8_t *bytes, size_t bytes_len, uint64_t *value,
-    uint8_t *negative) {
-    return linker_utils_read_nonnull(
-        machine, form, LINKER_UTILS_SLICE(const uint8_t, bytes), bytes_len, value, negative);
-}
-
-uint32_t linker_utils_operand_nonnull(
-    uint16_t machine, uint32_t form, const uint8_t *bytes, size_t bytes_len, int64_t *number);
-static inline uint32_t linker_utils_operand(
-    uint16_t machine, uint32_t form, const uint8_t *bytes, size_t bytes_len, int64_t *number) {
-    return linker_utils_operand_nonnull(
-        machine, form, LINKER_UTILS_SLICE(const uint8_t, bytes), bytes_len, number);
+uint32_t linker_utils_matches_nonnull(
+    uint16_t machine, uint32_t rewrite, uint8_t opcode_len, const uint8_t *section,
+    size_t section_len, uint64_t offset);
+static inline uint32_t linker_utils_matches(
+    uint16_t machine, uint32_t rewrite, uint8_t opcode_len,
+    const struct linker_utils_section *section, uint64_t offset) {
+    return linker_utils_matches_nonnull(
+        machine, rewrite, opcode_len, LINKER_UTILS_SLICE(const uint8_t, section->bytes),
+        section->bytes_len, offset);
 }
 
 uint32_t linker_utils_can_apply_nonnull(
@@ -643,133 +743,17 @@ static inline uint32_t linker_utils_can_apply(
         section->bytes_len, offset);
 }
 
-uint32_t linker_utils_snapshot_facts_nonnull(
-    const struct linker_utils_output_facts *output, const struct linker_utils_symbol_facts *symbols,
-    size_t symbols_len, struct linker_utils_facts_snapshot *kept, size_t kept_len);
-static inline uint32_t linker_utils_snapshot_facts(
-    const struct linker_utils_link *link, const struct linker_utils_object *object) {
-    const struct linker_utils_output_facts output = {link->is_executable, link->is_fixed,
-        link->has_near_symbols};
-    return linker_utils_snapshot_facts_nonnull(
-        &output, LINKER_UTILS_SLICE(const struct linker_utils_symbol_facts, object->facts),
-        object->facts_len,
-        LINKER_UTILS_SLICE(struct linker_utils_facts_snapshot, object->facts_snapshot),
-        object->facts_snapshot_len);
-}
-
-uint32_t linker_utils_relocate_rewritten_section_nonnull(
-    uint16_t machine, const struct linker_utils_output_facts *output,
-    const struct linker_utils_symbol_facts *facts, size_t facts_len,
-    const struct linker_utils_facts_snapshot *kept, size_t kept_len,
-    const struct linker_utils_addresses *addresses, const uint8_t *relocations,
-    size_t relocations_len, const struct linker_utils_symbol *symbols, size_t symbols_len,
-    uint8_t *section, size_t section_len, uint64_t *memory, size_t memory_len, size_t *faulty);
-static inline uint32_t linker_utils_relocate_rewritten_section(
-    const struct linker_utils_link *link, const struct linker_utils_object *object,
-    const struct linker_utils_section *section, uint64_t *memory, size_t memory_len,
-    size_t *faulty) {
+uint32_t linker_utils_deltas_create_nonnull(
+    const struct linker_utils_deletion *deletions, size_t deletions_len,
+    struct linker_utils_delta *deltas, size_t deltas_len, size_t *faulty);
+static inline uint32_t linker_utils_deltas_create(
+    const struct linker_utils_deletion *deletions, size_t deletions_len,
+    struct linker_utils_delta *deltas, size_t deltas_len, size_t *faulty) {
     size_t ignored;
-    const struct linker_utils_output_facts output = {link->is_executable, link->is_fixed,
-        link->has_near_symbols};
-    const struct linker_utils_addresses addresses = {section->address, link->got_base,
-        link->thread_origin, link->module_origin, link->module_entry, link->has_tls};
-    return linker_utils_relocate_rewritten_section_nonnull(
-        link->machine, &output,
-        LINKER_UTILS_SLICE(const struct linker_utils_symbol_facts, object->facts),
-        object->facts_len,
-        LINKER_UTILS_SLICE(const struct linker_utils_facts_snapshot, object->facts_snapshot),
-        object->facts_snapshot_len, &addresses,
-        LINKER_UTILS_RELAS(const uint8_t, section->relocations),
-        LINKER_UTILS_SLICE(const struct linker_utils_symbol, object->values), object->values_len,
-        LINKER_UTILS_SLICE(uint8_t, section->bytes), section->bytes_len,
-        LINKER_UTILS_SLICE(uint64_t, memory), memory_len, faulty ? faulty : &ignored);
-}
-
-uint32_t linker_utils_write_mov_sequence_nonnull(
-    uint8_t *dest, size_t dest_len, uint32_t rd, uint64_t value);
-static inline uint32_t linker_utils_write_mov_sequence(
-    uint8_t *dest, size_t dest_len, uint32_t rd, uint64_t value) {
-    return linker_utils_write_mov_sequence_nonnull(
-        LINKER_UTILS_SLICE(uint8_t, dest), dest_len, rd, value);
-}
-
-uint32_t linker_utils_write_address_sequence_nonnull(
-    uint8_t *dest, size_t dest_len, uint64_t pc, uint64_t target);
-static inline uint32_t linker_utils_write_address_sequence(
-    uint8_t *dest, size_t dest_len, uint64_t pc, uint64_t target) {
-    return linker_utils_write_address_sequence_nonnull(
-        LINKER_UTILS_SLICE(uint8_t, dest), dest_len, pc, target);
-}
-
-uint32_t linker_utils_write_ha_lo_nonnull(
-    uint8_t *ha, size_t ha_len, uint8_t *lo, size_t lo_len, uint64_t value);
-static inline uint32_t linker_utils_write_ha_lo(
-    uint8_t *ha, size_t ha_len, uint8_t *lo, size_t lo_len, uint64_t value) {
-    return linker_utils_write_ha_lo_nonnull(
-        LINKER_UTILS_SLICE(uint8_t, ha), ha_len, LINKER_UTILS_SLICE(uint8_t, lo), lo_len, value);
-}
-
-uint32_t linker_utils_write_uleb128_nonnull(uint8_t *dest, size_t dest_len, uint64_t value);
-static inline uint32_t linker_utils_write_uleb128(uint8_t *dest, size_t dest_len, uint64_t value) {
-    return linker_utils_write_uleb128_nonnull(LINKER_UTILS_SLICE(uint8_t, dest), dest_len, value);
-}
-
-uint32_t linker_utils_write_uleb128_pair_nonnull(
-    uint16_t machine, uint32_t r_type, uint8_t *dest, size_t dest_len, uint64_t first,
-    uint64_t second);
-static inline uint32_t linker_utils_write_uleb128_pair(
-    uint16_t machine, uint32_t r_type, uint8_t *dest, size_t dest_len, uint64_t first,
-    uint64_t second) {
-    return linker_utils_write_uleb128_pair_nonnull(
-        machine, r_type, LINKER_UTILS_SLICE(uint8_t, dest), dest_len, first, second);
-}
-
-uint32_t linker_utils_u32_from_slice_nonnull(
-    const uint8_t *bytes, size_t bytes_len, uint32_t *value);
-static inline uint32_t linker_utils_u32_from_slice(
-    const uint8_t *bytes, size_t bytes_len, uint32_t *value) {
-    return linker_utils_u32_from_slice_nonnull(
-        LINKER_UTILS_SLICE(const uint8_t, bytes), bytes_len, value);
-}
-
-uint32_t linker_utils_u64_from_slice_nonnull(
-    const uint8_t *bytes, size_t bytes_len, uint64_t *value);
-static inline uint32_t linker_utils_u64_from_slice(
-    const uint8_t *bytes, size_t bytes_len, uint64_t *value) {
-    return linker_utils_u64_from_slice_nonnull(
-        LINKER_UTILS_SLICE(const uint8_t, bytes), bytes_len, value);
-}
-
-uint32_t linker_utils_read_u32_nonnull(
-    const uint8_t *bytes, size_t bytes_len, uint32_t *value, size_t *consumed);
-static inline uint32_t linker_utils_read_u32(
-    const uint8_t *bytes, size_t bytes_len, uint32_t *value, size_t *consumed) {
-    return linker_utils_read_u32_nonnull(
-        LINKER_UTILS_SLICE(const uint8_t, bytes), bytes_len, value, consumed);
-}
-
-uint32_t linker_utils_read_uleb128_nonnull(
-    const uint8_t *bytes, size_t bytes_len, uint64_t *value, size_t *consumed);
-static inline uint32_t linker_utils_read_uleb128(
-    const uint8_t *bytes, size_t bytes_len, uint64_t *value, size_t *consumed) {
-    return linker_utils_read_uleb128_nonnull(
-        LINKER_UTILS_SLICE(const uint8_t, bytes), bytes_len, value, consumed);
-}
-
-bool linker_utils_has_valid_deltas_nonnull(
-    const struct linker_utils_delta *deltas, size_t deltas_len);
-static inline bool linker_utils_has_valid_deltas(
-    const struct linker_utils_delta *deltas, size_t deltas_len) {
-    return linker_utils_has_valid_deltas_nonnull(
-        LINKER_UTILS_SLICE(const struct linker_utils_delta, deltas), deltas_len);
-}
-
-uint64_t linker_utils_deltas_total_deleted_nonnull(
-    const struct linker_utils_delta *deltas, size_t deltas_len);
-static inline uint64_t linker_utils_deltas_total_deleted(
-    const struct linker_utils_delta *deltas, size_t deltas_len) {
-    return linker_utils_deltas_total_deleted_nonnull(
-        LINKER_UTILS_SLICE(const struct linker_utils_delta, deltas), deltas_len);
+    return linker_utils_deltas_create_nonnull(
+        LINKER_UTILS_SLICE(const struct linker_utils_deletion, deletions), deletions_len,
+        LINKER_UTILS_SLICE(struct linker_utils_delta, deltas), deltas_len,
+        faulty ? faulty : &ignored);
 }
 
 uint32_t linker_utils_deletions_valid_nonnull(
@@ -793,6 +777,33 @@ static inline uint32_t linker_utils_deltas_create_in_one_pass(
         LINKER_UTILS_SLICE(const struct linker_utils_deletion, deletions), deletions_len,
         LINKER_UTILS_SLICE(struct linker_utils_delta, deltas), deltas_len,
         faulty ? faulty : &ignored);
+}
+
+uint32_t linker_utils_deltas_output_to_input_nonnull(
+    const struct linker_utils_delta *deltas, size_t deltas_len, uint64_t output_offset,
+    uint64_t *input_offset);
+static inline uint32_t linker_utils_deltas_output_to_input(
+    const struct linker_utils_delta *deltas, size_t deltas_len, uint64_t output_offset,
+    uint64_t *input_offset) {
+    return linker_utils_deltas_output_to_input_nonnull(
+        LINKER_UTILS_SLICE(const struct linker_utils_delta, deltas), deltas_len, output_offset,
+        input_offset);
+}
+
+bool linker_utils_has_valid_deltas_nonnull(
+    const struct linker_utils_delta *deltas, size_t deltas_len);
+static inline bool linker_utils_has_valid_deltas(
+    const struct linker_utils_delta *deltas, size_t deltas_len) {
+    return linker_utils_has_valid_deltas_nonnull(
+        LINKER_UTILS_SLICE(const struct linker_utils_delta, deltas), deltas_len);
+}
+
+uint64_t linker_utils_deltas_total_deleted_nonnull(
+    const struct linker_utils_delta *deltas, size_t deltas_len);
+static inline uint64_t linker_utils_deltas_total_deleted(
+    const struct linker_utils_delta *deltas, size_t deltas_len) {
+    return linker_utils_deltas_total_deleted_nonnull(
+        LINKER_UTILS_SLICE(const struct linker_utils_delta, deltas), deltas_len);
 }
 
 uint32_t linker_utils_deletions_mergeable_nonnull(
@@ -877,6 +888,45 @@ static inline uint32_t linker_utils_deltas_output_to_input_by_heads(
         LINKER_UTILS_SLICE(const struct linker_utils_delta, deltas), deltas_len,
         LINKER_UTILS_SLICE(const struct linker_utils_block_head, heads), heads_len, output_offset,
         input_offset);
+}
+
+uint32_t linker_utils_section_items_nonnull(
+    uint16_t machine, const uint8_t *section, size_t section_len, uint64_t base,
+    const struct linker_utils_rela *relocations, size_t relocations_len,
+    struct linker_utils_item *items, size_t items_len, size_t *makers, size_t makers_len,
+    size_t *len, size_t *faulty);
+static inline uint32_t linker_utils_section_items(
+    uint16_t machine, const struct linker_utils_section *section,
+    const struct linker_utils_rela *relocations, size_t relocations_len,
+    struct linker_utils_items *items, size_t *faulty) {
+    size_t ignored;
+    return linker_utils_section_items_nonnull(
+        machine, LINKER_UTILS_SLICE(const uint8_t, section->bytes), section->bytes_len,
+        section->base, LINKER_UTILS_SLICE(const struct linker_utils_rela, relocations),
+        relocations_len, LINKER_UTILS_SLICE(struct linker_utils_item, items->items),
+        items->items_len, LINKER_UTILS_SLICE(size_t, items->makers), items->makers_len,
+        &items->items_used, faulty ? faulty : &ignored);
+}
+
+uint32_t linker_utils_items_relaxable_nonnull(
+    const struct linker_utils_item *items, size_t items_len, uint64_t start, size_t *faulty);
+static inline uint32_t linker_utils_items_relaxable(
+    const struct linker_utils_run *run, size_t *faulty) {
+    size_t ignored;
+    return linker_utils_items_relaxable_nonnull(
+        LINKER_UTILS_SLICE(const struct linker_utils_item, run->items), run->items_len, run->start,
+        faulty ? faulty : &ignored);
+}
+
+uint32_t linker_utils_has_its_instructions_nonnull(
+    uint16_t machine, const uint8_t *section, size_t section_len, uint64_t base,
+    const struct linker_utils_item *item);
+static inline uint32_t linker_utils_has_its_instructions(
+    uint16_t machine, const struct linker_utils_section *section,
+    const struct linker_utils_item *item) {
+    return linker_utils_has_its_instructions_nonnull(
+        machine, LINKER_UTILS_SLICE(const uint8_t, section->bytes), section->bytes_len,
+        section->base, item);
 }
 
 uint32_t linker_utils_jal_site_nonnull(
@@ -964,129 +1014,79 @@ static inline uint32_t linker_utils_shrink_calls(
         LINKER_UTILS_SLICE(uint8_t, chosen), chosen_len, faulty ? faulty : &ignored);
 }
 
-uint32_t linker_utils_section_items_nonnull(
-    uint16_t machine, const uint8_t *section, size_t section_len, uint64_t base,
-    const struct linker_utils_rela *relocations, size_t relocations_len,
-    struct linker_utils_item *items, size_t items_len, size_t *makers, size_t makers_len,
-    size_t *len, size_t *faulty);
-static inline uint32_t linker_utils_section_items(
-    uint16_t machine, const struct linker_utils_section *section,
-    const struct linker_utils_rela *relocations, size_t relocations_len,
-    struct linker_utils_items *items, size_t *faulty) {
-    size_t ignored;
-    return linker_utils_section_items_nonnull(
-        machine, LINKER_UTILS_SLICE(const uint8_t, section->bytes), section->bytes_len,
-        section->base, LINKER_UTILS_SLICE(const struct linker_utils_rela, relocations),
-        relocations_len, LINKER_UTILS_SLICE(struct linker_utils_item, items->items),
-        items->items_len, LINKER_UTILS_SLICE(size_t, items->makers), items->makers_len,
-        &items->items_used, faulty ? faulty : &ignored);
+uint32_t linker_utils_dynamic_name_nonnull(
+    uint16_t machine, uint32_t r_type, uint8_t *name, size_t name_len, size_t *name_used);
+static inline uint32_t linker_utils_dynamic_name(
+    uint16_t machine, uint32_t r_type, uint8_t *name, size_t name_len, size_t *name_used) {
+    return linker_utils_dynamic_name_nonnull(
+        machine, r_type, LINKER_UTILS_SLICE(uint8_t, name), name_len, name_used);
 }
 
-uint32_t linker_utils_rewritten_items_nonnull(
-    uint16_t machine, const uint8_t *section, size_t section_len, uint64_t base,
-    const struct linker_utils_rela *relocations, size_t relocations_len,
-    const struct linker_utils_deletion *deleted, size_t deleted_len,
-    struct linker_utils_item *items, size_t items_len, size_t *makers, size_t makers_len,
-    size_t *len, size_t *faulty);
-static inline uint32_t linker_utils_rewritten_items(
-    uint16_t machine, const struct linker_utils_section *section,
-    const struct linker_utils_rela *relocations, size_t relocations_len,
-    struct linker_utils_items *items, size_t *faulty) {
-    size_t ignored;
-    return linker_utils_rewritten_items_nonnull(
-        machine, LINKER_UTILS_SLICE(const uint8_t, section->bytes), section->bytes_len,
-        section->base, LINKER_UTILS_SLICE(const struct linker_utils_rela, relocations),
-        relocations_len, LINKER_UTILS_SLICE(const struct linker_utils_deletion, section->deleted),
-        section->deleted_len, LINKER_UTILS_SLICE(struct linker_utils_item, items->items),
-        items->items_len, LINKER_UTILS_SLICE(size_t, items->makers), items->makers_len,
-        &items->items_used, faulty ? faulty : &ignored);
+uint32_t linker_utils_interpreter_nonnull(
+    uint16_t machine, uint32_t flags, uint8_t *path, size_t path_len, size_t *path_used);
+static inline uint32_t linker_utils_interpreter(
+    uint16_t machine, uint32_t flags, uint8_t *path, size_t path_len, size_t *path_used) {
+    return linker_utils_interpreter_nonnull(
+        machine, flags, LINKER_UTILS_SLICE(uint8_t, path), path_len, path_used);
 }
 
-uint32_t linker_utils_items_relaxable_nonnull(
-    const struct linker_utils_item *items, size_t items_len, uint64_t start, size_t *faulty);
-static inline uint32_t linker_utils_items_relaxable(
-    const struct linker_utils_run *run, size_t *faulty) {
+uint32_t linker_utils_get_provided_symbol_nonnull(
+    uint16_t machine, size_t index, uint8_t *name, size_t name_len, size_t *name_used,
+    struct linker_utils_provided_symbol *symbol);
+static inline uint32_t linker_utils_get_provided_symbol(
+    uint16_t machine, size_t index, uint8_t *name, size_t name_len, size_t *name_used,
+    struct linker_utils_provided_symbol *symbol) {
+    return linker_utils_get_provided_symbol_nonnull(
+        machine, index, LINKER_UTILS_SLICE(uint8_t, name), name_len, name_used, symbol);
+}
+
+uint32_t linker_utils_get_save_restore_routines_nonnull(
+    uint16_t machine, size_t index, uint8_t *prefix, size_t prefix_len, size_t *prefix_used,
+    struct linker_utils_save_restore_routines *run);
+static inline uint32_t linker_utils_get_save_restore_routines(
+    uint16_t machine, size_t index, uint8_t *prefix, size_t prefix_len, size_t *prefix_used,
+    struct linker_utils_save_restore_routines *run) {
+    return linker_utils_get_save_restore_routines_nonnull(
+        machine, index, LINKER_UTILS_SLICE(uint8_t, prefix), prefix_len, prefix_used, run);
+}
+
+uint32_t linker_utils_write_lazy_header_nonnull(
+    uint16_t machine, uint64_t header, uint64_t words, uint8_t *bytes, size_t bytes_len);
+static inline uint32_t linker_utils_write_lazy_header(
+    uint16_t machine, uint64_t header, uint64_t words, uint8_t *bytes, size_t bytes_len) {
+    return linker_utils_write_lazy_header_nonnull(
+        machine, header, words, LINKER_UTILS_SLICE(uint8_t, bytes), bytes_len);
+}
+
+uint32_t linker_utils_write_lazy_entry_nonnull(
+    uint16_t machine, const struct linker_utils_lazy_entry *entry, uint8_t *bytes,
+    size_t bytes_len);
+static inline uint32_t linker_utils_write_lazy_entry(
+    uint16_t machine, const struct linker_utils_lazy_entry *entry, uint8_t *bytes,
+    size_t bytes_len) {
+    return linker_utils_write_lazy_entry_nonnull(
+        machine, entry, LINKER_UTILS_SLICE(uint8_t, bytes), bytes_len);
+}
+
+uint32_t linker_utils_place_stubs_nonnull(
+    const struct linker_utils_branch *branches, size_t branches_len, const uint64_t *targets,
+    size_t targets_len, const uint64_t *boundaries, size_t boundaries_len,
+    const struct linker_utils_stub_shape *shape, struct linker_utils_placed_stub *stubs,
+    size_t stubs_len, size_t *stubs_used, size_t *ways, size_t ways_len, uint64_t *before,
+    size_t before_len, size_t *faulty);
+static inline uint32_t linker_utils_place_stubs(
+    const struct linker_utils_branches *branches, const struct linker_utils_stub_shape *shape,
+    struct linker_utils_placement *placement, size_t *faulty) {
     size_t ignored;
-    return linker_utils_items_relaxable_nonnull(
-        LINKER_UTILS_SLICE(const struct linker_utils_item, run->items), run->items_len, run->start,
+    return linker_utils_place_stubs_nonnull(
+        LINKER_UTILS_SLICE(const struct linker_utils_branch, branches->branches),
+        branches->branches_len, LINKER_UTILS_SLICE(const uint64_t, branches->targets),
+        branches->targets_len, LINKER_UTILS_SLICE(const uint64_t, branches->boundaries),
+        branches->boundaries_len, shape,
+        LINKER_UTILS_SLICE(struct linker_utils_placed_stub, placement->stubs), placement->stubs_len,
+        &placement->stubs_used, LINKER_UTILS_SLICE(size_t, placement->ways), placement->ways_len,
+        LINKER_UTILS_SLICE(uint64_t, placement->before), placement->before_len,
         faulty ? faulty : &ignored);
-}
-
-uint32_t linker_utils_relax_nonnull(
-    const struct linker_utils_item *items, size_t items_len, uint64_t start, uint8_t *shapes,
-    size_t shapes_len, uint64_t *kept, size_t kept_len, size_t *places, size_t places_len,
-    uint64_t *freed, size_t freed_len, size_t *faulty);
-static inline uint32_t linker_utils_relax(
-    const struct linker_utils_run *run, const struct linker_utils_relaxed *relaxed,
-    size_t *faulty) {
-    size_t ignored;
-    return linker_utils_relax_nonnull(
-        LINKER_UTILS_SLICE(const struct linker_utils_item, run->items), run->items_len, run->start,
-        LINKER_UTILS_SLICE(uint8_t, relaxed->shapes), relaxed->shapes_len,
-        LINKER_UTILS_SLICE(uint64_t, relaxed->kept), relaxed->kept_len,
-        LINKER_UTILS_SLICE(size_t, relaxed->places), relaxed->places_len,
-        LINKER_UTILS_SLICE(uint64_t, relaxed->freed), relaxed->freed_len,
-        faulty ? faulty : &ignored);
-}
-
-uint32_t linker_utils_run_deltas_nonnull(
-    const struct linker_utils_item *items, size_t items_len, const uint64_t *kept, size_t kept_len,
-    struct linker_utils_delta *deltas, size_t deltas_len, size_t *len);
-static inline uint32_t linker_utils_run_deltas(
-    const struct linker_utils_run *run, const struct linker_utils_relaxed *relaxed,
-    struct linker_utils_delta *deltas, size_t deltas_len, size_t *len) {
-    return linker_utils_run_deltas_nonnull(
-        LINKER_UTILS_SLICE(const struct linker_utils_item, run->items), run->items_len,
-        LINKER_UTILS_SLICE(const uint64_t, relaxed->kept), relaxed->kept_len,
-        LINKER_UTILS_SLICE(struct linker_utils_delta, deltas), deltas_len, len);
-}
-
-size_t linker_utils_packed_run_len_nonnull(
-    uint64_t base, size_t section_len, const struct linker_utils_delta *deltas, size_t deltas_len);
-static inline size_t linker_utils_packed_run_len(
-    const struct linker_utils_section *section, const struct linker_utils_run *run) {
-    return linker_utils_packed_run_len_nonnull(
-        section->base, section->bytes_len,
-        LINKER_UTILS_SLICE(const struct linker_utils_delta, run->deltas), run->deltas_len);
-}
-
-uint32_t linker_utils_has_its_instructions_nonnull(
-    uint16_t machine, const uint8_t *section, size_t section_len, uint64_t base,
-    const struct linker_utils_item *item);
-static inline uint32_t linker_utils_has_its_instructions(
-    uint16_t machine, const struct linker_utils_section *section,
-    const struct linker_utils_item *item) {
-    return linker_utils_has_its_instructions_nonnull(
-        machine, LINKER_UTILS_SLICE(const uint8_t, section->bytes), section->bytes_len,
-        section->base, item);
-}
-
-uint32_t linker_utils_pack_run_nonnull(
-    uint16_t machine, const uint8_t *section, size_t section_len, uint64_t base,
-    const struct linker_utils_item *items, size_t items_len,
-    const struct linker_utils_delta *deltas, size_t deltas_len, uint64_t start,
-    uint8_t *relocations, size_t relocations_len, uint8_t *packed, size_t packed_len,
-    size_t *faulty);
-static inline uint32_t linker_utils_pack_run(
-    uint16_t machine, const struct linker_utils_section *section,
-    const struct linker_utils_run *run, uint8_t *packed, size_t packed_len, size_t *faulty) {
-    size_t ignored;
-    return linker_utils_pack_run_nonnull(
-        machine, LINKER_UTILS_SLICE(const uint8_t, section->bytes), section->bytes_len,
-        section->base, LINKER_UTILS_SLICE(const struct linker_utils_item, run->items),
-        run->items_len, LINKER_UTILS_SLICE(const struct linker_utils_delta, run->deltas),
-        run->deltas_len, run->start, LINKER_UTILS_RELAS(uint8_t, section->relocations),
-        LINKER_UTILS_SLICE(uint8_t, packed), packed_len, faulty ? faulty : &ignored);
-}
-
-uint32_t linker_utils_read_value_nonnull(
-    uint16_t machine, uint32_t r_type, const uint8_t *bytes, size_t bytes_len,
-    struct linker_utils_field_value *value);
-static inline uint32_t linker_utils_read_value(
-    uint16_t machine, uint32_t r_type, const uint8_t *bytes, size_t bytes_len,
-    struct linker_utils_field_value *value) {
-    return linker_utils_read_value_nonnull(
-        machine, r_type, LINKER_UTILS_SLICE(const uint8_t, bytes), bytes_len, value);
 }
 
 uint32_t linker_utils_field_bits_nonnull(

@@ -30,7 +30,7 @@ fn main() {
     let mut above = Path::new(folder).ancestors().map(|it| it.join("include"));
     let include = above.find(|it| it.join("linker_utils.h").exists());
     let include = include.unwrap_or_else(|| "../../include".into());
-    let headers = ["_lists", "", "_further"].map(|name| {
+    let headers = ["_lists", "_relocations", "_reading"].map(|name| {
         let header = include.join(format!("linker_utils{name}.h"));
         println!("cargo:rerun-if-changed={}", header.display());
         fs::read_to_string(header).expect("the header is there")

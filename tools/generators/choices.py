@@ -1,8 +1,9 @@
 # SPDX-License-Identifier: MIT OR Apache-2.0
 """The tables of the rewrites that a linker chooses, of the data in the code.
 
-rust/examples/list_choices.rs lists the entries. The tables are docs/CHOICES.md, the end of the docs of
-each `choose` in the Rust crate (rust/doc/ARCH/choose.md) and, shorter, a comment of
+rust/examples/list_choices.rs lists the entries. The tables are docs/CHOICES.md, with copies of
+rust/doc/ARCH/choose.linker.md, the end of the docs of each `choose` in the Rust crate
+(rust/doc/ARCH/choose.md) and, shorter, a comment of
 include/linker_utils_lists.h, between the lines MARKS. There the enums of rewrites are of the source too, with
 its docs.
 """
@@ -199,12 +200,15 @@ def page(listed):
     yield "# Which rewrite a linker chooses"
     yield ""
     yield "Made by `tools/generate` of the tables in `choices` of each architecture's crate, by which"
-    yield "`choose` chooses. What a linker has to ensure is in the docs of each `choose`."
+    yield "`choose` chooses, and of what is written by hand in `rust/doc`: what a linker ensures where it takes"
+    yield "an entry. In C `NoOp` is `NO_OP`, `fits` is `linker_utils_relocation_fits`, and so on."
     for text in (ORDER, CELLS, WORDS):
         yield from ("", text)
     for architecture in listed:
         yield from ("", f"## {architecture.name}", "")
         yield from markdown(architecture, "`{}`")
+        ensured = (ROOT / f"rust/doc/{architecture.module}/choose.linker.md").read_text()
+        yield ensured.rstrip("\n").replace("\n# ", "\n### ")
 
 
 def end_of_docs(architecture):

@@ -16,9 +16,9 @@ from types import SimpleNamespace
 from generators.erase_source import Source
 
 ROOT = Path(__file__).resolve().parents[2]
-HEADERS = ["linker_utils_lists.h", "linker_utils.h", "linker_utils_further.h"]
+MAIN = "linker_utils.h"
 INLINE, HEAD, VERSION = "include/linker_utils_inline.h", "bindings/inline_head.h", "bindings/version.c"
-TYPES = "include/linker_utils_types.h"
+LISTS, TYPES = "include/linker_utils_lists.h", "include/linker_utils_types.h"
 RAW, CRATE, STRUCTS = "bindings/rust/src/raw.rs", "bindings/rust/src/lib.rs", "bindings/rust/tests/data/structs.rs"
 MADE = "Made by tools/generate of the exports in crates/linker_utils_c/src and of the headers"
 IN_C = {"": "void", "bool": "bool", "i64": "int64_t", "u8": "uint8_t", "u16": "uint16_t", "u32": "uint32_t",
@@ -149,7 +149,11 @@ def library_structs():
 
 def headers():
     """The headers' text, with the structs that are written by hand of the inline functions."""
-    return "".join((ROOT / name).read_text() for name in [*(f"include/{name}" for name in HEADERS), HEAD])
+    main = (ROOT / "include" / MAIN).read_text()
+    names = re.findall(r'(?m)^#include "(\w+\.h)"$', main)
+    lists, *further, inline = (f"include/{name}" for name in names)
+    assert inline == INLINE
+    return "".join((ROOT / name).read_text() for name in [lists, f"include/{MAIN}", *further, HEAD])
 
 
 def header(text):
@@ -445,7 +449,7 @@ def make_types():
             cases += f'        case {name}: return "{name}";\n'
             most = max(most, code)
         cases += "        }\n        break;\n"
-    kinds = re.findall(r"(?m)^    LINKER_UTILS_KIND_(\w+)", (ROOT / "include" / HEADERS[0]).read_text())
+    kinds = re.findall(r"(?m)^    LINKER_UTILS_KIND_(\w+)", (ROOT / LISTS).read_text())
     return text + f"""
 /* The name of a relocation type of a machine, as "R_X86_64_PC32". NULL where it has none. */
 static inline const char *linker_utils_type_name(uint16_t machine, uint32_t r_type) {{

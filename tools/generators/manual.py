@@ -1,16 +1,14 @@
 # SPDX-License-Identifier: MIT OR Apache-2.0
-"""Copies of the front page, docs/MANUAL.md: in rust/doc/lib.md its sections with the examples in Rust, and
-at the top of include/linker_utils.h its examples in C, each between two lines of marks. Copies of a
-function of two examples in docs/LINK.md, and of what is of Rust there in rust/doc/link_in_ten_calls.md.
+"""Copies of the front page, docs/MANUAL.md: in rust/doc/lib.md its sections with the examples in Rust,
+between two lines of marks. Copies of a function of two examples in docs/LINK.md, and of what is of Rust
+there in rust/doc/link_in_ten_calls.md.
 """
 import re
 import sys
 from pathlib import Path
 
 ROOT = Path(__file__).resolve().parents[2]
-RUST, HEADER = "rust/doc/lib.md", "include/linker_utils.h"
-MARKS = {RUST: ("<!-- of docs/MANUAL.md, by tools/generate -->", "<!-- end -->"),
-         HEADER: (" * Examples, of docs/MANUAL.md by tools/generate; each goes on from those before it:", " * End of the examples.")}
+RUST, BEGIN, END = "rust/doc/lib.md", "<!-- of docs/MANUAL.md, by tools/generate -->", "<!-- end -->"
 PART = re.compile(r"(.*?)\n\n(.*?)```rust\n(.*?)```\n\n(?:[^`].*?\n\n)?```c\n(.*?)```\n", re.S)
 MOST = 8  # lines of an example
 PAGE, RUST_PAGE = "docs/LINK.md", "rust/doc/link_in_ten_calls.md"
@@ -39,14 +37,6 @@ def in_rust(found):
     for title, text, rust, _ in found:
         yield f"## {title}\n\n{text}```\n{before}{rust}```\n"
         before += "".join(f"# {line}\n" for line in rust.split("\n") if line)
-
-
-def in_c(found):
-    yield " *"
-    for title, _, _, c in found:
-        yield f" * {title}:"
-        yield from (f" *     {line}".rstrip() for line in c.rstrip("\n").split("\n"))
-    yield " *"
 
 
 def program():
@@ -92,13 +82,9 @@ def rust_page(text):
 
 
 def make():
-    found = parts()
-    made = {RUST: "\n" + "\n".join(in_rust(found)) + "\n", HEADER: "\n".join(in_c(found)) + "\n"}
-    for name, text in made.items():
-        begin, end = MARKS[name]
-        before, _, rest = (ROOT / name).read_text().partition(begin + "\n")
-        _, is_there, after = rest.partition(end + "\n")
-        if not is_there:
-            sys.exit(f"{name} lacks the lines of tools/generate")
-        made[name] = f"{before}{begin}\n{text}{end}\n{after}"
-    return made | {PAGE: page(), RUST_PAGE: rust_page(page())}
+    before, _, rest = (ROOT / RUST).read_text().partition(BEGIN + "\n")
+    _, is_there, after = rest.partition(END + "\n")
+    if not is_there:
+        sys.exit(f"{RUST} lacks the lines of tools/generate")
+    text = "\n" + "\n".join(in_rust(parts())) + "\n"
+    return {RUST: f"{before}{BEGIN}\n{text}{END}\n{after}", PAGE: page(), RUST_PAGE: rust_page(page())}

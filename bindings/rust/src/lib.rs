@@ -36,7 +36,7 @@ pub enum RelocationSize {
 }
 
 /// What a relocation means. How it is applied is said at `struct linker_utils_relocation_info` in
-/// `include/linker_utils_further.h`.
+/// `include/linker_utils_relocations.h`.
 #[derive(Debug, Clone, PartialEq, Eq)]
 pub struct RelocationInfo {
     pub kind: RelocationKind,
@@ -141,7 +141,7 @@ impl Operands {
 }
 
 /// What a linker knows of a relocation's symbol and of its output when it chooses a rewrite. Each
-/// field is explained at `struct linker_utils_link_facts` in `include/linker_utils.h`.
+/// field is explained at `struct linker_utils_link_facts` in `include/linker_utils_rewriting.h`.
 #[derive(Debug, Clone, Copy, Default, PartialEq, Eq)]
 pub struct LinkFacts {
     pub is_local: bool,
@@ -437,7 +437,7 @@ pub struct OutputFacts {
 }
 
 /// Which groups of a symbol stay as they are. Each field is explained at
-/// `struct linker_utils_unrelaxable_groups` in `include/linker_utils.h`.
+/// `struct linker_utils_unrelaxable_groups` in `include/linker_utils_rewriting.h`.
 #[repr(C)]
 #[derive(Debug, Clone, Copy, Default, PartialEq, Eq)]
 pub struct UnrelaxableGroups {
@@ -449,7 +449,7 @@ pub struct UnrelaxableGroups {
 }
 
 /// What choices of rewrites read of a symbol and of the output, as `struct linker_utils_facts_snapshot` in
-/// `include/linker_utils_further.h` explains.
+/// `include/linker_utils_rewriting.h` explains.
 #[repr(C)]
 #[derive(Debug, Clone, Copy, Default, PartialEq, Eq)]
 pub struct FactsSnapshot {
@@ -477,7 +477,7 @@ pub enum Decision {
 }
 
 /// The types of the dynamic relocations that a linker emits. Each field is explained at
-/// `struct linker_utils_dynamic_types` in `include/linker_utils_further.h`.
+/// `struct linker_utils_dynamic_types` in `include/linker_utils_outputs.h`.
 #[repr(C)]
 #[derive(Debug, Clone, Copy, Default, PartialEq, Eq)]
 pub struct DynamicTypes {
@@ -1011,7 +1011,7 @@ pub struct Row {
 }
 
 /// What a relocation means and requires, as `struct linker_utils_row` in
-/// `include/linker_utils_further.h` explains.
+/// `include/linker_utils_relocations.h` explains.
 #[derive(Debug, Clone, PartialEq, Eq)]
 pub struct RowFields {
     pub machine: u16,

@@ -11,6 +11,67 @@ pub use crate::{
 };
 use std::ffi::c_char;
 
+/// `struct linker_utils_requirements`.
+#[repr(C)]
+#[derive(Debug, Clone, Copy, Default, PartialEq, Eq)]
+pub struct Requirements {
+    pub entry_addend: i64,
+    pub entry_class: u32,
+    pub is_branch: u8,
+    pub may_use_stub: u8,
+    pub stub_only_if_undefined: u8,
+    pub is_word: u8,
+    pub depends_on_load: u8,
+}
+
+/// `struct linker_utils_got`.
+#[repr(C)]
+#[derive(Debug, Clone, Copy, Default, PartialEq, Eq)]
+pub struct Got {
+    pub base: u64,
+    pub header: u64,
+    pub has_header: u8,
+}
+
+/// `struct linker_utils_entry_words`.
+#[repr(C)]
+#[derive(Debug, Clone, Copy, Default, PartialEq, Eq)]
+pub struct EntryWords {
+    pub first: u64,
+    pub second: u64,
+}
+
+/// `struct linker_utils_route`.
+#[repr(C)]
+#[derive(Debug, Clone, Copy, Default, PartialEq, Eq)]
+pub struct Route {
+    pub target: u64,
+    pub entry: u64,
+    pub kind: u32,
+    pub is_by_stub: u8,
+}
+
+/// `struct linker_utils_relocation_info`.
+#[repr(C)]
+#[derive(Debug, Clone, Copy, Default, PartialEq, Eq)]
+pub struct RelocationInfo {
+    pub kind: u32,
+    pub form: u32,
+    pub mask: u32,
+    pub machine: u16,
+    pub is_bits: u8,
+    pub byte_size: u8,
+    pub first_bit: u8,
+    pub end_bit: u8,
+    pub has_range: u8,
+    pub thunkable: u8,
+    pub implicit_addend: u8,
+    pub min: i64,
+    pub max: i64,
+    pub alignment: u64,
+    pub bias: u64,
+}
+
 /// `struct linker_utils_relocation_reach`.
 #[repr(C)]
 #[derive(Debug, Clone, Copy, Default, PartialEq, Eq)]
@@ -18,6 +79,52 @@ pub struct Reach {
     pub min: i64,
     pub max: i64,
     pub has_range: u8,
+}
+
+/// `struct linker_utils_row`.
+#[repr(C)]
+#[derive(Debug, Clone, Copy, PartialEq, Eq)]
+pub struct Row {
+    pub alignment: u64,
+    pub reach: Reach,
+    pub needs: Requirements,
+    pub r_type: u32,
+    pub kind: u32,
+    pub machine: u16,
+    pub window: u8,
+    pub may_use_plt: u8,
+    pub is_relative: u8,
+    pub name: [u8; 40],
+}
+
+impl Default for Row {
+    fn default() -> Row {
+        Row {
+            alignment: Default::default(),
+            reach: Default::default(),
+            needs: Default::default(),
+            r_type: Default::default(),
+            kind: Default::default(),
+            machine: Default::default(),
+            window: Default::default(),
+            may_use_plt: Default::default(),
+            is_relative: Default::default(),
+            name: [0; 40],
+        }
+    }
+}
+
+/// `struct linker_utils_decision`.
+#[repr(C)]
+#[derive(Debug, Clone, Copy, Default, PartialEq, Eq)]
+pub struct Decision {
+    pub addend: i64,
+    pub symbol: u32,
+    pub rewrite: u32,
+    pub relocation: u32,
+    pub machine: u16,
+    pub fate: u8,
+    pub opcode_len: u8,
 }
 
 /// `struct linker_utils_link_facts`.
@@ -58,109 +165,12 @@ pub struct Choice {
     pub skipped_offset: u8,
 }
 
-/// `struct linker_utils_requirements`.
-#[repr(C)]
-#[derive(Debug, Clone, Copy, Default, PartialEq, Eq)]
-pub struct Requirements {
-    pub entry_addend: i64,
-    pub entry_class: u32,
-    pub is_branch: u8,
-    pub may_use_stub: u8,
-    pub stub_only_if_undefined: u8,
-    pub is_word: u8,
-    pub depends_on_load: u8,
-}
-
-/// `struct linker_utils_decision`.
-#[repr(C)]
-#[derive(Debug, Clone, Copy, Default, PartialEq, Eq)]
-pub struct Decision {
-    pub addend: i64,
-    pub symbol: u32,
-    pub rewrite: u32,
-    pub relocation: u32,
-    pub machine: u16,
-    pub fate: u8,
-    pub opcode_len: u8,
-}
-
-/// `struct linker_utils_relocation_info`.
-#[repr(C)]
-#[derive(Debug, Clone, Copy, Default, PartialEq, Eq)]
-pub struct RelocationInfo {
-    pub kind: u32,
-    pub form: u32,
-    pub mask: u32,
-    pub machine: u16,
-    pub is_bits: u8,
-    pub byte_size: u8,
-    pub first_bit: u8,
-    pub end_bit: u8,
-    pub has_range: u8,
-    pub thunkable: u8,
-    pub implicit_addend: u8,
-    pub min: i64,
-    pub max: i64,
-    pub alignment: u64,
-    pub bias: u64,
-}
-
-/// `struct linker_utils_row`.
-#[repr(C)]
-#[derive(Debug, Clone, Copy, PartialEq, Eq)]
-pub struct Row {
-    pub alignment: u64,
-    pub reach: Reach,
-    pub needs: Requirements,
-    pub r_type: u32,
-    pub kind: u32,
-    pub machine: u16,
-    pub window: u8,
-    pub may_use_plt: u8,
-    pub is_relative: u8,
-    pub name: [u8; 40],
-}
-
-impl Default for Row {
-    fn default() -> Row {
-        Row {
-            alignment: Default::default(),
-            reach: Default::default(),
-            needs: Default::default(),
-            r_type: Default::default(),
-            kind: Default::default(),
-            machine: Default::default(),
-            window: Default::default(),
-            may_use_plt: Default::default(),
-            is_relative: Default::default(),
-            name: [0; 40],
-        }
-    }
-}
-
 /// `struct linker_utils_word_types`.
 #[repr(C)]
 #[derive(Debug, Clone, Copy, Default, PartialEq, Eq)]
 pub struct WordTypes {
     pub first: u32,
     pub second: u32,
-}
-
-/// `struct linker_utils_entry_words`.
-#[repr(C)]
-#[derive(Debug, Clone, Copy, Default, PartialEq, Eq)]
-pub struct EntryWords {
-    pub first: u64,
-    pub second: u64,
-}
-
-/// `struct linker_utils_got`.
-#[repr(C)]
-#[derive(Debug, Clone, Copy, Default, PartialEq, Eq)]
-pub struct Got {
-    pub base: u64,
-    pub header: u64,
-    pub has_header: u8,
 }
 
 /// `struct linker_utils_provided_symbol`.
@@ -179,16 +189,6 @@ pub struct SaveRestoreRoutines {
     pub first: u32,
     pub count: u32,
     pub spacing: u32,
-}
-
-/// `struct linker_utils_route`.
-#[repr(C)]
-#[derive(Debug, Clone, Copy, Default, PartialEq, Eq)]
-pub struct Route {
-    pub target: u64,
-    pub entry: u64,
-    pub kind: u32,
-    pub is_by_stub: u8,
 }
 
 /// `struct linker_utils_recognised`.
@@ -214,95 +214,19 @@ pub struct Destination {
 extern "C" {
     pub fn linker_utils_version() -> *const c_char;
     pub fn linker_utils_is_proved() -> bool;
+    pub fn linker_utils_find(machine: u16, r_type: u32) -> u32;
     pub fn linker_utils_value(
         machine: u16,
         r_type: u32,
         operands: *const Operands,
         value: *mut i64,
     ) -> u32;
-    pub fn linker_utils_relocation_name_nonnull(
-        machine: u16,
-        r_type: u32,
-        name: *mut u8,
-        name_len: usize,
-        name_used: *mut usize,
-    ) -> u32;
-    pub fn linker_utils_reach(machine: u16, r_type: u32, reach: *mut Reach) -> u32;
     pub fn linker_utils_relocate_nonnull(
         machine: u16,
         r_type: u32,
         value: i64,
         dest: *mut u8,
         dest_len: usize,
-    ) -> u32;
-    pub fn linker_utils_choose_nonnull(
-        machine: u16,
-        r_type: u32,
-        section: *const u8,
-        section_len: usize,
-        offset: u64,
-        facts: *const LinkFacts,
-        choice: *mut Choice,
-    ) -> u32;
-    pub fn linker_utils_relocation_fits_nonnull(
-        machine: u16,
-        r_type: u32,
-        section: *const u8,
-        section_len: usize,
-        offset: u64,
-        facts: *const LinkFacts,
-    ) -> bool;
-    pub fn linker_utils_matches_nonnull(
-        machine: u16,
-        rewrite: u32,
-        opcode_len: u8,
-        section: *const u8,
-        section_len: usize,
-        offset: u64,
-    ) -> u32;
-    pub fn linker_utils_apply_nonnull(
-        machine: u16,
-        rewrite: u32,
-        opcode_len: u8,
-        section: *mut u8,
-        section_len: usize,
-        offset: *mut u64,
-        addend: *mut i64,
-    ) -> u32;
-    pub fn linker_utils_deltas_create_nonnull(
-        deletions: *const Deletion,
-        deletions_len: usize,
-        deltas: *mut Delta,
-        deltas_len: usize,
-        faulty: *mut usize,
-    ) -> u32;
-    pub fn linker_utils_deltas_input_to_output_nonnull(
-        deltas: *const Delta,
-        deltas_len: usize,
-        input_offset: u64,
-    ) -> u64;
-    pub fn linker_utils_deltas_output_to_input_nonnull(
-        deltas: *const Delta,
-        deltas_len: usize,
-        output_offset: u64,
-        input_offset: *mut u64,
-    ) -> u32;
-    pub fn linker_utils_needs(
-        machine: u16,
-        r_type: u32,
-        addend: i64,
-        is_thread_local: bool,
-        required: *mut Requirements,
-    ) -> u32;
-    pub fn linker_utils_value_at_nonnull(
-        machine: u16,
-        addresses: *const Addresses,
-        relocations: *const u8,
-        relocations_len: usize,
-        symbols: *const Symbol,
-        symbols_len: usize,
-        index: usize,
-        value: *mut i64,
     ) -> u32;
     pub fn linker_utils_relocate_memory_nonnull(
         relocations: *const u8,
@@ -321,7 +245,27 @@ extern "C" {
         memory_len: usize,
         faulty: *mut usize,
     ) -> u32;
-    pub fn linker_utils_has_rewrites(machine: u16, phase: u32) -> bool;
+    pub fn linker_utils_needs(
+        machine: u16,
+        r_type: u32,
+        addend: i64,
+        is_thread_local: bool,
+        required: *mut Requirements,
+    ) -> u32;
+    pub fn linker_utils_get_origins(
+        machine: u16,
+        image: u64,
+        image_len: u64,
+        alignment: u64,
+        origins: *mut Origins,
+    ) -> u32;
+    pub fn linker_utils_get_got(machine: u16, address: u64, dynamic: u64, got: *mut Got) -> u32;
+    pub fn linker_utils_static_words(
+        entry_class: u32,
+        address: u64,
+        origins: *const Origins,
+        words: *mut EntryWords,
+    ) -> u32;
     pub fn linker_utils_survey_nonnull(
         machine: u16,
         output: *const OutputFacts,
@@ -387,20 +331,149 @@ extern "C" {
         deleted_used: *mut usize,
         faulty: *mut usize,
     ) -> u32;
-    pub fn linker_utils_relocation(machine: u16, r_type: u32, info: *mut RelocationInfo) -> u32;
-    pub fn linker_utils_asks_for_got(machine: u16, r_type: u32) -> bool;
-    pub fn linker_utils_may_use_plt(machine: u16, r_type: u32) -> bool;
-    pub fn linker_utils_may_be_skipped(machine: u16, r_type: u32) -> bool;
-    pub fn linker_utils_clui_rel_info(info: *mut RelocationInfo);
-    pub fn linker_utils_relocate_all_nonnull(
+    pub fn linker_utils_choose_nonnull(
         machine: u16,
+        r_type: u32,
+        section: *const u8,
+        section_len: usize,
+        offset: u64,
+        facts: *const LinkFacts,
+        choice: *mut Choice,
+    ) -> u32;
+    pub fn linker_utils_apply_nonnull(
+        machine: u16,
+        rewrite: u32,
+        opcode_len: u8,
         section: *mut u8,
         section_len: usize,
-        relocations: *const Relocation,
+        offset: *mut u64,
+        addend: *mut i64,
+    ) -> u32;
+    pub fn linker_utils_rewritten_items_nonnull(
+        machine: u16,
+        section: *const u8,
+        section_len: usize,
+        base: u64,
+        relocations: *const Rela,
         relocations_len: usize,
+        deleted: *const Deletion,
+        deleted_len: usize,
+        items: *mut Item,
+        items_len: usize,
+        makers: *mut usize,
+        makers_len: usize,
+        len: *mut usize,
         faulty: *mut usize,
     ) -> u32;
-    pub fn linker_utils_find(machine: u16, r_type: u32) -> u32;
+    pub fn linker_utils_relax_nonnull(
+        items: *const Item,
+        items_len: usize,
+        start: u64,
+        shapes: *mut u8,
+        shapes_len: usize,
+        kept: *mut u64,
+        kept_len: usize,
+        places: *mut usize,
+        places_len: usize,
+        freed: *mut u64,
+        freed_len: usize,
+        faulty: *mut usize,
+    ) -> u32;
+    pub fn linker_utils_run_deltas_nonnull(
+        items: *const Item,
+        items_len: usize,
+        kept: *const u64,
+        kept_len: usize,
+        deltas: *mut Delta,
+        deltas_len: usize,
+        len: *mut usize,
+    ) -> u32;
+    pub fn linker_utils_deltas_input_to_output_nonnull(
+        deltas: *const Delta,
+        deltas_len: usize,
+        input_offset: u64,
+    ) -> u64;
+    pub fn linker_utils_packed_run_len_nonnull(
+        base: u64,
+        section_len: usize,
+        deltas: *const Delta,
+        deltas_len: usize,
+    ) -> usize;
+    pub fn linker_utils_pack_run_nonnull(
+        machine: u16,
+        section: *const u8,
+        section_len: usize,
+        base: u64,
+        items: *const Item,
+        items_len: usize,
+        deltas: *const Delta,
+        deltas_len: usize,
+        start: u64,
+        relocations: *mut u8,
+        relocations_len: usize,
+        packed: *mut u8,
+        packed_len: usize,
+        faulty: *mut usize,
+    ) -> u32;
+    pub fn linker_utils_route_at_nonnull(
+        machine: u16,
+        addresses: *const Addresses,
+        relocations: *const u8,
+        relocations_len: usize,
+        symbols: *const Symbol,
+        symbols_len: usize,
+        index: usize,
+        section: *const u8,
+        section_len: usize,
+        route: *mut Route,
+    ) -> u32;
+    pub fn linker_utils_route_by_word_nonnull(
+        machine: u16,
+        word: u64,
+        relocations: *const u8,
+        relocations_len: usize,
+        index: usize,
+        section: *const u8,
+        section_len: usize,
+        route: *mut Route,
+    ) -> u32;
+    pub fn linker_utils_get_stub(machine: u16, kind: u32, stub: *mut Stub) -> u32;
+    pub fn linker_utils_write_stub_nonnull(
+        machine: u16,
+        kind: u32,
+        place: u64,
+        target: u64,
+        bytes: *mut u8,
+        bytes_len: usize,
+    ) -> u32;
+    pub fn linker_utils_read_value_nonnull(
+        machine: u16,
+        r_type: u32,
+        bytes: *const u8,
+        bytes_len: usize,
+        value: *mut FieldValue,
+    ) -> u32;
+    pub fn linker_utils_solve(
+        machine: u16,
+        r_type: u32,
+        value: *const FieldValue,
+        operands: *const Operands,
+        reference: *mut u32,
+        address: *mut FieldValue,
+    ) -> u32;
+    pub fn linker_utils_relocation(machine: u16, r_type: u32, info: *mut RelocationInfo) -> u32;
+    pub fn linker_utils_relocation_name_nonnull(
+        machine: u16,
+        r_type: u32,
+        name: *mut u8,
+        name_len: usize,
+        name_used: *mut usize,
+    ) -> u32;
+    pub fn linker_utils_asks_for_got(machine: u16, r_type: u32) -> bool;
+    pub fn linker_utils_may_use_plt(machine: u16, r_type: u32) -> bool;
+    pub fn linker_utils_clui_rel_info(info: *mut RelocationInfo);
+    pub fn linker_utils_reach(machine: u16, r_type: u32, reach: *mut Reach) -> u32;
+    pub fn linker_utils_row_of(handle: u32, row: *mut Row) -> u32;
     pub fn linker_utils_row_value(handle: u32, operands: *const Operands, value: *mut i64) -> u32;
     pub fn linker_utils_row_write_nonnull(
         handle: u32,
@@ -436,48 +509,132 @@ extern "C" {
         offset: u64,
         facts: *const LinkFacts,
     ) -> bool;
-    pub fn linker_utils_row_of(handle: u32, row: *mut Row) -> u32;
-    pub fn linker_utils_get_dynamic_types(machine: u16, types: *mut DynamicTypes) -> u32;
-    pub fn linker_utils_dynamic_name_nonnull(
+    pub fn linker_utils_value_at_nonnull(
+        machine: u16,
+        addresses: *const Addresses,
+        relocations: *const u8,
+        relocations_len: usize,
+        symbols: *const Symbol,
+        symbols_len: usize,
+        index: usize,
+        value: *mut i64,
+    ) -> u32;
+    pub fn linker_utils_relocate_all_nonnull(
+        machine: u16,
+        section: *mut u8,
+        section_len: usize,
+        relocations: *const Relocation,
+        relocations_len: usize,
+        faulty: *mut usize,
+    ) -> u32;
+    pub fn linker_utils_window(machine: u16, form: u32, window: *mut usize) -> u32;
+    pub fn linker_utils_fits_nonnull(
+        machine: u16,
+        form: u32,
+        value: u64,
+        bytes: *const u8,
+        bytes_len: usize,
+    ) -> u32;
+    pub fn linker_utils_write_nonnull(
+        machine: u16,
+        form: u32,
+        value: u64,
+        negative: bool,
+        dest: *mut u8,
+        dest_len: usize,
+    ) -> u32;
+    pub fn linker_utils_read_nonnull(
+        machine: u16,
+        form: u32,
+        bytes: *const u8,
+        bytes_len: usize,
+        value: *mut u64,
+        negative: *mut u8,
+    ) -> u32;
+    pub fn linker_utils_operand_nonnull(
+        machine: u16,
+        form: u32,
+        bytes: *const u8,
+        bytes_len: usize,
+        number: *mut i64,
+    ) -> u32;
+    pub fn linker_utils_write_mov_sequence_nonnull(
+        dest: *mut u8,
+        dest_len: usize,
+        rd: u32,
+        value: u64,
+    ) -> u32;
+    pub fn linker_utils_write_address_sequence_nonnull(
+        dest: *mut u8,
+        dest_len: usize,
+        pc: u64,
+        target: u64,
+    ) -> u32;
+    pub fn linker_utils_highest_relocation_with_bias(s: u64, pc: u64) -> u64;
+    pub fn linker_utils_write_ha_lo_nonnull(
+        ha: *mut u8,
+        ha_len: usize,
+        lo: *mut u8,
+        lo_len: usize,
+        value: u64,
+    ) -> u32;
+    pub fn linker_utils_uleb128_role(machine: u16, r_type: u32) -> u32;
+    pub fn linker_utils_write_uleb128_nonnull(dest: *mut u8, dest_len: usize, value: u64) -> u32;
+    pub fn linker_utils_write_uleb128_pair_nonnull(
         machine: u16,
         r_type: u32,
-        name: *mut u8,
-        name_len: usize,
-        name_used: *mut usize,
+        dest: *mut u8,
+        dest_len: usize,
+        first: u64,
+        second: u64,
     ) -> u32;
-    pub fn linker_utils_dynamic_words(
+    pub fn linker_utils_u32_from_slice_nonnull(
+        bytes: *const u8,
+        bytes_len: usize,
+        value: *mut u32,
+    ) -> u32;
+    pub fn linker_utils_u64_from_slice_nonnull(
+        bytes: *const u8,
+        bytes_len: usize,
+        value: *mut u64,
+    ) -> u32;
+    pub fn linker_utils_read_u32_nonnull(
+        bytes: *const u8,
+        bytes_len: usize,
+        value: *mut u32,
+        consumed: *mut usize,
+    ) -> u32;
+    pub fn linker_utils_read_uleb128_nonnull(
+        bytes: *const u8,
+        bytes_len: usize,
+        value: *mut u64,
+        consumed: *mut usize,
+    ) -> u32;
+    pub fn linker_utils_has_rewrites(machine: u16, phase: u32) -> bool;
+    pub fn linker_utils_snapshot_facts_nonnull(
+        output: *const OutputFacts,
+        symbols: *const SymbolFacts,
+        symbols_len: usize,
+        kept: *mut FactsSnapshot,
+        kept_len: usize,
+    ) -> u32;
+    pub fn linker_utils_relocate_rewritten_section_nonnull(
         machine: u16,
-        entry_class: u32,
-        is_bound: bool,
-        is_executable: bool,
-        words: *mut WordTypes,
-    ) -> u32;
-    pub fn linker_utils_get_entry_words(entry_class: u32) -> u64;
-    pub fn linker_utils_get_origins(
-        machine: u16,
-        image: u64,
-        image_len: u64,
-        alignment: u64,
-        origins: *mut Origins,
-    ) -> u32;
-    pub fn linker_utils_static_words(
-        entry_class: u32,
-        address: u64,
-        origins: *const Origins,
-        words: *mut EntryWords,
-    ) -> u32;
-    pub fn linker_utils_get_got(machine: u16, address: u64, dynamic: u64, got: *mut Got) -> u32;
-    pub fn linker_utils_join_flags(machine: u16, first: u32, second: u32, joined: *mut u32) -> u32;
-    pub fn linker_utils_output_flags(machine: u16, joined: u32) -> u32;
-    pub fn linker_utils_page(machine: u16) -> u64;
-    pub fn linker_utils_code_unit(machine: u16, flags: u32) -> u64;
-    pub fn linker_utils_filler(machine: u16, offset: u64) -> u8;
-    pub fn linker_utils_interpreter_nonnull(
-        machine: u16,
-        flags: u32,
-        path: *mut u8,
-        path_len: usize,
-        path_used: *mut usize,
+        output: *const OutputFacts,
+        facts: *const SymbolFacts,
+        facts_len: usize,
+        kept: *const FactsSnapshot,
+        kept_len: usize,
+        addresses: *const Addresses,
+        relocations: *const u8,
+        relocations_len: usize,
+        symbols: *const Symbol,
+        symbols_len: usize,
+        section: *mut u8,
+        section_len: usize,
+        memory: *mut u64,
+        memory_len: usize,
+        faulty: *mut usize,
     ) -> u32;
     pub fn linker_utils_address_section_nonnull(
         machine: u16,
@@ -574,124 +731,21 @@ extern "C" {
         section_len: usize,
         faulty: *mut usize,
     ) -> u32;
-    pub fn linker_utils_get_provided_symbol_nonnull(
+    pub fn linker_utils_relocation_fits_nonnull(
         machine: u16,
-        index: usize,
-        name: *mut u8,
-        name_len: usize,
-        name_used: *mut usize,
-        symbol: *mut ProvidedSymbol,
-    ) -> u32;
-    pub fn linker_utils_get_save_restore_routines_nonnull(
-        machine: u16,
-        index: usize,
-        prefix: *mut u8,
-        prefix_len: usize,
-        prefix_used: *mut usize,
-        run: *mut SaveRestoreRoutines,
-    ) -> u32;
-    pub fn linker_utils_provided_word(machine: u16, run: usize, index: u64, word: *mut u32) -> u32;
-    pub fn linker_utils_get_stub(machine: u16, kind: u32, stub: *mut Stub) -> u32;
-    pub fn linker_utils_write_stub_nonnull(
-        machine: u16,
-        kind: u32,
-        place: u64,
-        target: u64,
-        bytes: *mut u8,
-        bytes_len: usize,
-    ) -> u32;
-    pub fn linker_utils_get_lazy_plt(machine: u16, plt: *mut LazyPlt) -> u32;
-    pub fn linker_utils_write_lazy_header_nonnull(
-        machine: u16,
-        header: u64,
-        words: u64,
-        bytes: *mut u8,
-        bytes_len: usize,
-    ) -> u32;
-    pub fn linker_utils_write_lazy_entry_nonnull(
-        machine: u16,
-        entry: *const LazyEntry,
-        bytes: *mut u8,
-        bytes_len: usize,
-    ) -> u32;
-    pub fn linker_utils_lazy_header_word(
-        machine: u16,
-        index: usize,
-        dynamic: u64,
-        header: u64,
-        word: *mut u64,
-    ) -> u32;
-    pub fn linker_utils_lazy_entry_word(machine: u16, entry: u64, header: u64, dynamic: u64) -> u64;
-    pub fn linker_utils_route_at_nonnull(
-        machine: u16,
-        addresses: *const Addresses,
-        relocations: *const u8,
-        relocations_len: usize,
-        symbols: *const Symbol,
-        symbols_len: usize,
-        index: usize,
+        r_type: u32,
         section: *const u8,
         section_len: usize,
-        route: *mut Route,
-    ) -> u32;
-    pub fn linker_utils_route_by_word_nonnull(
+        offset: u64,
+        facts: *const LinkFacts,
+    ) -> bool;
+    pub fn linker_utils_matches_nonnull(
         machine: u16,
-        word: u64,
-        relocations: *const u8,
-        relocations_len: usize,
-        index: usize,
+        rewrite: u32,
+        opcode_len: u8,
         section: *const u8,
         section_len: usize,
-        route: *mut Route,
-    ) -> u32;
-    pub fn linker_utils_most_stubs(branches_len: usize) -> usize;
-    pub fn linker_utils_place_stubs_nonnull(
-        branches: *const Branch,
-        branches_len: usize,
-        targets: *const u64,
-        targets_len: usize,
-        boundaries: *const u64,
-        boundaries_len: usize,
-        shape: *const StubShape,
-        stubs: *mut PlacedStub,
-        stubs_len: usize,
-        stubs_used: *mut usize,
-        ways: *mut usize,
-        ways_len: usize,
-        before: *mut u64,
-        before_len: usize,
-        faulty: *mut usize,
-    ) -> u32;
-    pub fn linker_utils_window(machine: u16, form: u32, window: *mut usize) -> u32;
-    pub fn linker_utils_fits_nonnull(
-        machine: u16,
-        form: u32,
-        value: u64,
-        bytes: *const u8,
-        bytes_len: usize,
-    ) -> u32;
-    pub fn linker_utils_write_nonnull(
-        machine: u16,
-        form: u32,
-        value: u64,
-        negative: bool,
-        dest: *mut u8,
-        dest_len: usize,
-    ) -> u32;
-    pub fn linker_utils_read_nonnull(
-        machine: u16,
-        form: u32,
-        bytes: *const u8,
-        bytes_len: usize,
-        value: *mut u64,
-        negative: *mut u8,
-    ) -> u32;
-    pub fn linker_utils_operand_nonnull(
-        machine: u16,
-        form: u32,
-        bytes: *const u8,
-        bytes_len: usize,
-        number: *mut i64,
+        offset: u64,
     ) -> u32;
     pub fn linker_utils_can_apply_nonnull(
         machine: u16,
@@ -702,6 +756,7 @@ extern "C" {
         offset: u64,
     ) -> u32;
     pub fn linker_utils_is_unchanged(machine: u16, r_type: u32, choice: *const Choice) -> bool;
+    pub fn linker_utils_may_be_skipped(machine: u16, r_type: u32) -> bool;
     pub fn linker_utils_rewrite_window(
         machine: u16,
         rewrite: u32,
@@ -714,88 +769,13 @@ extern "C" {
         opcode_len: u8,
         modifier: *mut u32,
     ) -> u32;
-    pub fn linker_utils_snapshot_facts_nonnull(
-        output: *const OutputFacts,
-        symbols: *const SymbolFacts,
-        symbols_len: usize,
-        kept: *mut FactsSnapshot,
-        kept_len: usize,
-    ) -> u32;
-    pub fn linker_utils_relocate_rewritten_section_nonnull(
-        machine: u16,
-        output: *const OutputFacts,
-        facts: *const SymbolFacts,
-        facts_len: usize,
-        kept: *const FactsSnapshot,
-        kept_len: usize,
-        addresses: *const Addresses,
-        relocations: *const u8,
-        relocations_len: usize,
-        symbols: *const Symbol,
-        symbols_len: usize,
-        section: *mut u8,
-        section_len: usize,
-        memory: *mut u64,
-        memory_len: usize,
+    pub fn linker_utils_deltas_create_nonnull(
+        deletions: *const Deletion,
+        deletions_len: usize,
+        deltas: *mut Delta,
+        deltas_len: usize,
         faulty: *mut usize,
     ) -> u32;
-    pub fn linker_utils_write_mov_sequence_nonnull(
-        dest: *mut u8,
-        dest_len: usize,
-        rd: u32,
-        value: u64,
-    ) -> u32;
-    pub fn linker_utils_write_address_sequence_nonnull(
-        dest: *mut u8,
-        dest_len: usize,
-        pc: u64,
-        target: u64,
-    ) -> u32;
-    pub fn linker_utils_highest_relocation_with_bias(s: u64, pc: u64) -> u64;
-    pub fn linker_utils_write_ha_lo_nonnull(
-        ha: *mut u8,
-        ha_len: usize,
-        lo: *mut u8,
-        lo_len: usize,
-        value: u64,
-    ) -> u32;
-    pub fn linker_utils_uleb128_role(machine: u16, r_type: u32) -> u32;
-    pub fn linker_utils_write_uleb128_nonnull(dest: *mut u8, dest_len: usize, value: u64) -> u32;
-    pub fn linker_utils_write_uleb128_pair_nonnull(
-        machine: u16,
-        r_type: u32,
-        dest: *mut u8,
-        dest_len: usize,
-        first: u64,
-        second: u64,
-    ) -> u32;
-    pub fn linker_utils_u32_from_slice_nonnull(
-        bytes: *const u8,
-        bytes_len: usize,
-        value: *mut u32,
-    ) -> u32;
-    pub fn linker_utils_u64_from_slice_nonnull(
-        bytes: *const u8,
-        bytes_len: usize,
-        value: *mut u64,
-    ) -> u32;
-    pub fn linker_utils_read_u32_nonnull(
-        bytes: *const u8,
-        bytes_len: usize,
-        value: *mut u32,
-        consumed: *mut usize,
-    ) -> u32;
-    pub fn linker_utils_read_uleb128_nonnull(
-        bytes: *const u8,
-        bytes_len: usize,
-        value: *mut u64,
-        consumed: *mut usize,
-    ) -> u32;
-    pub fn linker_utils_has_valid_deltas_nonnull(deltas: *const Delta, deltas_len: usize) -> bool;
-    pub fn linker_utils_deltas_total_deleted_nonnull(
-        deltas: *const Delta,
-        deltas_len: usize,
-    ) -> u64;
     pub fn linker_utils_deletions_valid_nonnull(
         deletions: *const Deletion,
         deletions_len: usize,
@@ -808,6 +788,17 @@ extern "C" {
         deltas_len: usize,
         faulty: *mut usize,
     ) -> u32;
+    pub fn linker_utils_deltas_output_to_input_nonnull(
+        deltas: *const Delta,
+        deltas_len: usize,
+        output_offset: u64,
+        input_offset: *mut u64,
+    ) -> u32;
+    pub fn linker_utils_has_valid_deltas_nonnull(deltas: *const Delta, deltas_len: usize) -> bool;
+    pub fn linker_utils_deltas_total_deleted_nonnull(
+        deltas: *const Delta,
+        deltas_len: usize,
+    ) -> u64;
     pub fn linker_utils_deletions_mergeable_nonnull(
         deltas: *const Delta,
         deltas_len: usize,
@@ -856,6 +847,34 @@ extern "C" {
         heads_len: usize,
         output_offset: u64,
         input_offset: *mut u64,
+    ) -> u32;
+    pub fn linker_utils_standard_shapes(number: u32, shapes: *mut Shapes) -> u32;
+    pub fn linker_utils_section_items_nonnull(
+        machine: u16,
+        section: *const u8,
+        section_len: usize,
+        base: u64,
+        relocations: *const Rela,
+        relocations_len: usize,
+        items: *mut Item,
+        items_len: usize,
+        makers: *mut usize,
+        makers_len: usize,
+        len: *mut usize,
+        faulty: *mut usize,
+    ) -> u32;
+    pub fn linker_utils_items_relaxable_nonnull(
+        items: *const Item,
+        items_len: usize,
+        start: u64,
+        faulty: *mut usize,
+    ) -> u32;
+    pub fn linker_utils_has_its_instructions_nonnull(
+        machine: u16,
+        section: *const u8,
+        section_len: usize,
+        base: u64,
+        item: *const Item,
     ) -> u32;
     pub fn linker_utils_jal_site_nonnull(
         section: *mut u8,
@@ -921,109 +940,90 @@ extern "C" {
         chosen_len: usize,
         faulty: *mut usize,
     ) -> u32;
-    pub fn linker_utils_standard_shapes(number: u32, shapes: *mut Shapes) -> u32;
-    pub fn linker_utils_section_items_nonnull(
-        machine: u16,
-        section: *const u8,
-        section_len: usize,
-        base: u64,
-        relocations: *const Rela,
-        relocations_len: usize,
-        items: *mut Item,
-        items_len: usize,
-        makers: *mut usize,
-        makers_len: usize,
-        len: *mut usize,
-        faulty: *mut usize,
-    ) -> u32;
-    pub fn linker_utils_rewritten_items_nonnull(
-        machine: u16,
-        section: *const u8,
-        section_len: usize,
-        base: u64,
-        relocations: *const Rela,
-        relocations_len: usize,
-        deleted: *const Deletion,
-        deleted_len: usize,
-        items: *mut Item,
-        items_len: usize,
-        makers: *mut usize,
-        makers_len: usize,
-        len: *mut usize,
-        faulty: *mut usize,
-    ) -> u32;
-    pub fn linker_utils_items_relaxable_nonnull(
-        items: *const Item,
-        items_len: usize,
-        start: u64,
-        faulty: *mut usize,
-    ) -> u32;
-    pub fn linker_utils_relax_nonnull(
-        items: *const Item,
-        items_len: usize,
-        start: u64,
-        shapes: *mut u8,
-        shapes_len: usize,
-        kept: *mut u64,
-        kept_len: usize,
-        places: *mut usize,
-        places_len: usize,
-        freed: *mut u64,
-        freed_len: usize,
-        faulty: *mut usize,
-    ) -> u32;
-    pub fn linker_utils_run_deltas_nonnull(
-        items: *const Item,
-        items_len: usize,
-        kept: *const u64,
-        kept_len: usize,
-        deltas: *mut Delta,
-        deltas_len: usize,
-        len: *mut usize,
-    ) -> u32;
-    pub fn linker_utils_packed_run_len_nonnull(
-        base: u64,
-        section_len: usize,
-        deltas: *const Delta,
-        deltas_len: usize,
-    ) -> usize;
-    pub fn linker_utils_has_its_instructions_nonnull(
-        machine: u16,
-        section: *const u8,
-        section_len: usize,
-        base: u64,
-        item: *const Item,
-    ) -> u32;
-    pub fn linker_utils_pack_run_nonnull(
-        machine: u16,
-        section: *const u8,
-        section_len: usize,
-        base: u64,
-        items: *const Item,
-        items_len: usize,
-        deltas: *const Delta,
-        deltas_len: usize,
-        start: u64,
-        relocations: *mut u8,
-        relocations_len: usize,
-        packed: *mut u8,
-        packed_len: usize,
-        faulty: *mut usize,
-    ) -> u32;
-    pub fn linker_utils_read_value_nonnull(
+    pub fn linker_utils_get_dynamic_types(machine: u16, types: *mut DynamicTypes) -> u32;
+    pub fn linker_utils_dynamic_name_nonnull(
         machine: u16,
         r_type: u32,
-        bytes: *const u8,
+        name: *mut u8,
+        name_len: usize,
+        name_used: *mut usize,
+    ) -> u32;
+    pub fn linker_utils_dynamic_words(
+        machine: u16,
+        entry_class: u32,
+        is_bound: bool,
+        is_executable: bool,
+        words: *mut WordTypes,
+    ) -> u32;
+    pub fn linker_utils_get_entry_words(entry_class: u32) -> u64;
+    pub fn linker_utils_join_flags(machine: u16, first: u32, second: u32, joined: *mut u32) -> u32;
+    pub fn linker_utils_output_flags(machine: u16, joined: u32) -> u32;
+    pub fn linker_utils_page(machine: u16) -> u64;
+    pub fn linker_utils_code_unit(machine: u16, flags: u32) -> u64;
+    pub fn linker_utils_filler(machine: u16, offset: u64) -> u8;
+    pub fn linker_utils_interpreter_nonnull(
+        machine: u16,
+        flags: u32,
+        path: *mut u8,
+        path_len: usize,
+        path_used: *mut usize,
+    ) -> u32;
+    pub fn linker_utils_get_provided_symbol_nonnull(
+        machine: u16,
+        index: usize,
+        name: *mut u8,
+        name_len: usize,
+        name_used: *mut usize,
+        symbol: *mut ProvidedSymbol,
+    ) -> u32;
+    pub fn linker_utils_get_save_restore_routines_nonnull(
+        machine: u16,
+        index: usize,
+        prefix: *mut u8,
+        prefix_len: usize,
+        prefix_used: *mut usize,
+        run: *mut SaveRestoreRoutines,
+    ) -> u32;
+    pub fn linker_utils_provided_word(machine: u16, run: usize, index: u64, word: *mut u32) -> u32;
+    pub fn linker_utils_get_lazy_plt(machine: u16, plt: *mut LazyPlt) -> u32;
+    pub fn linker_utils_write_lazy_header_nonnull(
+        machine: u16,
+        header: u64,
+        words: u64,
+        bytes: *mut u8,
         bytes_len: usize,
-        value: *mut FieldValue,
     ) -> u32;
-    pub fn linker_utils_solve(
+    pub fn linker_utils_write_lazy_entry_nonnull(
         machine: u16,
-        r_type: u32,
-        value: *const FieldValue,
-        operands: *const Operands,
-        reference: *mut u32,
-        address: *mut FieldValue,
+        entry: *const LazyEntry,
+        bytes: *mut u8,
+        bytes_len: usize,
+    ) -> u32;
+    pub fn linker_utils_lazy_header_word(
+        machine: u16,
+        index: usize,
+        dynamic: u64,
+        header: u64,
+        word: *mut u64,
+    ) -> u32;
+    pub fn linker_utils_lazy_entry_word(machine: u16, entry: u64, header: u64, dynamic: u64) -> u64;
+    pub fn linker_utils_most_stubs(branches_len: usize) -> usize;
+    pub fn linker_utils_place_stubs_nonnull(
+        branches: *const Branch,
+        branches_len: usize,
+        targets: *const u64,
+        targets_len: usize,
+        boundaries: *const u64,
+        boundaries_len: usize,
+        shape: *const StubShape,
+        stubs: *mut PlacedStub,
+        stubs_len: usize,
+        stubs_used: *mut usize,
+        ways: *mut usize,
+        ways_len: usize,
+        before: *mut u64,
+        before_len: usize,
+        faulty: *mut usize,
     ) -> u32;
     pub fn linker_utils_join(
         high: *const FieldValue,

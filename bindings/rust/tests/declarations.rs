@@ -48,9 +48,11 @@ fn list(text: &str) -> impl Iterator<Item = String> + '_ {
 
 /// The headers, each directive in one line: what users read, and then its inline functions.
 fn headers() -> String {
-    let texts = ["_lists", "", "_further", "_inline"]
-        .map(|name| repository(&format!("include/linker_utils{name}.h")).replace("\\\n", " "));
-    texts.join("\n")
+    let main = repository("include/linker_utils.h");
+    let included = main.lines().filter_map(|line| line.strip_prefix("#include \"")?.strip_suffix('"'));
+    let texts = included.map(|name| repository(&format!("include/{name}")));
+    let texts = texts.chain([main.clone()]).collect::<Vec<_>>();
+    texts.join("\n").replace("\\\n", " ")
 }
 
 /// The headers without comments and directives.
@@ -195,9 +197,10 @@ fn the_functions_are_those_of_the_library() {
 /// The crate hasn't those that only inline functions take.
 fn structs_of_c() -> BTreeMap<String, Vec<String>> {
     let header = header();
-    let bodies = header.split("\nstruct ").skip(1).map(|part| {
-        let (name, rest) = part.split_at(part.find(' ').expect("a name"));
-        (name, bracketed(rest.trim_start()).0)
+    let bodies = header.split("\nstruct ").skip(1).filter_map(|part| {
+        let (name, rest) = part.split_at(part.find(' ')?);
+        // a name without a body ends by a semicolon
+        (!name.contains(';')).then(|| (name, bracketed(rest.trim_start()).0))
     });
     let bodies = bodies.collect::<BTreeMap<_, _>>();
     let functions = functions_of_c().into_values().collect::<String>();
