@@ -8,8 +8,9 @@ use crate::measure::{Beside, Report, Side};
 use crate::table::{FORMS, LOONGARCH64, MACHINES, REWRITES, RISCV, name_of};
 use crate::{CALLS, architecture, calls_apart, section_of};
 use erased_crate::runs;
-use erased_crate::runs::packing::{Machine, has_its_instructions, pack_run};
-use erased_crate::runs::relaxation::first_faulty;
+use erased_crate::runs::{Machine, Run, has_its_instructions, pack_run};
+use erased_crate::section::Section;
+use erased_crate::runs::first_faulty;
 use sathunne::raw::*;
 
 // SAFETY of each call of an export below: a slice's pointer and length are its own, and a reference
@@ -690,7 +691,7 @@ fn rewritten_beside(
     of_crate: Machine,
     section: &[u8],
     relocations: &[sathunne::Rela],
-    listed: &[runs::items::Relocation],
+    listed: &[runs::Relocation],
 ) {
     let calls = relocations.iter().filter(|it| it.has_target != 0);
     let deleted: Vec<_> = calls.map(|it| (it.offset + 40, 4)).collect();
@@ -719,13 +720,14 @@ fn rewritten_beside(
             &mut 0,
         )
     };
-    let made = runs::items::section_items(of_crate, section, 0, listed).expect("items");
+    let section = Section::new(section, []);
+    let made = runs::section_items(of_crate, &section, listed).expect("items");
     let mut out = vec![made.items[0]; room];
     let mut out_makers = vec![0; room];
     let of_crate = || {
         let out = &mut out[..];
         let makers = &mut out_makers[..];
-        runs::items::rewritten_items_into(of_crate, section, 0, listed, &deleted, out, makers).is_ok()
+        runs::rewritten_items_into(of_crate, &section, listed, &deleted, out, makers).is_ok()
     };
     let name = format!("`linker_utils_rewritten_items`, {}, a relocation", name_of(machine));
     whole_beside(report, &name, relocations.len(), call, of_crate);
@@ -784,7 +786,7 @@ fn runs(report: &mut Report, random: &mut Random) {
         let export = format!("`linker_utils_section_items`, {name}, a relocation");
         let listed: Vec<_> = relocations
             .iter()
-            .map(|it| runs::items::Relocation {
+            .map(|it| runs::Relocation {
                 offset: it.offset,
                 code: it.r_type,
                 has_symbol: it.has_symbol != 0,
@@ -793,7 +795,7 @@ fn runs(report: &mut Report, random: &mut Random) {
                 may_compress: it.may_compress != 0,
             })
             .collect();
-        let made = || runs::items::section_items(of_crate, &section, 0, &listed);
+        let made = || runs::section_items(of_crate, &Section::new(&section, []), &listed);
         let call = || {
             let (items, used, faulty) = (items.as_mut_ptr(), &mut used, &mut 0);
             let makers = makers.as_mut_ptr();
@@ -887,7 +889,10 @@ fn runs(report: &mut Report, random: &mut Random) {
                     &mut 0,
                 )
             },
-            || pack_run(of_crate, &section, 0, &run, &lost, 0, &mut [], &mut of_erased).is_ok(),
+            || {
+                let run = Run { start: 0, items: &run, deltas: &lost };
+                pack_run(of_crate, &mut Section::new(&section, []), &run, &mut of_erased).is_ok()
+            },
         );
     }
 }

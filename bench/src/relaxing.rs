@@ -4,7 +4,7 @@
 use crate::calls_apart;
 use crate::inputs::Random;
 use crate::measure::{Beside, Report, Side};
-use erased_crate::runs::relaxation as erased;
+use erased_crate::runs as erased;
 use erased_crate::runs::shapes::riscv64::CALL;
 use sathunne::{Item, Relaxed, ShapesName, standard_shapes};
 

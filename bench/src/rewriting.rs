@@ -154,12 +154,17 @@ fn surveys(report: &mut Report, input: &Input) {
         vec![rewriting::UnrelaxableGroups::default(); SYMBOLS],
         |kept: &mut Vec<_>| kept.fill(rewriting::UnrelaxableGroups::default()),
         move |kept: &mut Vec<_>| {
-            let output = rewriting::OutputFacts {
+            let link = section::Link {
                 is_executable,
                 is_fixed,
                 has_near_symbols,
+                ..section::Link::new(architecture)
             };
-            rewriting::survey(architecture, &output, &symbols, relocations, section, kept);
+            let object = section::Object {
+                facts: &symbols,
+                ..section::Object::default()
+            };
+            rewriting::survey(&link, &object, &section::Section::new(section, relocations), kept);
         },
         |kept: &Vec<rewriting::UnrelaxableGroups>| kept.iter().filter(|it| it.initial_exec).count(),
     );
@@ -212,20 +217,19 @@ fn rewrites(report: &mut Report, input: &Input) {
     let mut made = vec![rewriting::Decision::Kept; input.count()];
     let erased = anew(input, move |bytes| {
         let (section, relocations) = bytes.split_at_mut(LEN);
-        let output = rewriting::OutputFacts {
+        let link = section::Link {
             is_executable,
             is_fixed,
             has_near_symbols,
+            ..section::Link::new(architecture)
         };
-        let done = rewriting::rewrite_section(
-            architecture,
-            &output,
-            &symbols,
-            &kept,
-            relocations,
-            section,
-            &mut made,
-        );
+        let object = section::Object {
+            facts: &symbols,
+            unrelaxable_groups: &kept,
+            ..section::Object::default()
+        };
+        let mut section = section::Section::new(section, relocations);
+        let done = rewriting::rewrite_section(&link, &object, &mut section, &mut made);
         assert_eq!(done, Ok(()));
     });
     let name = format!("`linker_utils_rewrite_section`, {}", name_of(input.machine));
@@ -675,7 +679,7 @@ fn routes(report: &mut Report, calls: &Calls) {
         })
     });
     let architecture = Architecture::from_machine(calls.machine).expect("an architecture");
-    let addresses = section::Addresses { section: Calls::SECTION, ..Default::default() };
+    let addresses = section::Link::new(architecture).addresses(Calls::SECTION);
     let symbols = Calls::TARGETS.map(|address| section::Symbol { address, ..Default::default() });
     let erased = Side::number(move || {
         let description = output::Target::of(architecture);

@@ -38,18 +38,17 @@ impl Input {
     }
 
     /// The same symbols and addresses for the crate.
-    fn of_crate(&self) -> (Vec<section::Symbol>, section::Addresses) {
+    fn of_crate(&self) -> (Vec<section::Symbol>, section::Link) {
         let symbols = self.symbols.iter().map(|it| section::Symbol {
             address: it.address,
             address_entry: it.address_entry,
             ..section::Symbol::default()
         });
-        let addresses = section::Addresses {
-            section: self.addresses.section,
+        let link = section::Link {
             got_base: self.addresses.got_base,
-            ..section::Addresses::default()
+            ..section::Link::new(self.architecture())
         };
-        (symbols.collect(), addresses)
+        (symbols.collect(), link)
     }
 }
 
@@ -266,19 +265,18 @@ fn by_exports(input: &Input) -> Side<'_> {
 
 /// All values in one call of the crate's.
 fn by_crate(input: &Input) -> Side<'_> {
-    let (symbols, addresses) = input.of_crate();
-    let architecture = input.architecture();
+    let (symbols, link) = input.of_crate();
     let mut memory = vec![0; section::memory_len(&input.relocations)];
-    Side::writes(input.section.clone(), move |section| {
-        let relocations = &input.relocations;
-        let written = section::relocate_section(
-            architecture,
-            &addresses,
-            relocations,
-            &symbols,
-            section,
-            &mut memory,
-        );
+    Side::writes(input.section.clone(), move |bytes| {
+        let object = section::Object {
+            values: &symbols,
+            ..section::Object::default()
+        };
+        let mut section = section::Section {
+            address: input.addresses.section,
+            ..section::Section::new(bytes, &input.relocations)
+        };
+        let written = section::relocate_section(&link, &object, &mut section, &mut memory);
         assert_eq!(written, Ok(()));
     })
 }
@@ -320,7 +318,8 @@ fn requirements(report: &mut Report, input: &Input) {
 }
 
 fn values(report: &mut Report, input: &Input) {
-    let (symbols, addresses) = input.of_crate();
+    let (symbols, link) = input.of_crate();
+    let addresses = link.addresses(input.addresses.section);
     let architecture = input.architecture();
     let exports = Side::number(move || {
         (0..input.count()).fold(0, |sum, index| {

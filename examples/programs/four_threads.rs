@@ -1,7 +1,7 @@
 // SPDX-License-Identifier: MIT OR Apache-2.0
 //! Relocates all members of an archive by four threads over one description of the output, and then by
 //! one. Both have to leave the same bytes.    usage: four_threads ARCHIVE
-use linker_utils::section::{Addresses, Symbol, memory_len, relocate_section};
+use linker_utils::section::{Link, Object, Section, Symbol, memory_len, relocate_section};
 use linker_utils::{elf::Architecture, output::Target};
 use object::{LittleEndian as LE, SectionIndex, elf::*, read::archive::ArchiveFile, read::elf::*};
 use std::sync::{OnceLock, atomic::AtomicUsize, atomic::Ordering::Relaxed};
@@ -43,21 +43,21 @@ impl Member<'_> {
             symbols.push(global.copied().unwrap_or_else(|| self.describe(it)));
         }
         let (target, mut left) = (Target::of(*machine), Vec::new());
-        let origins = target.origins(START, 0x100_0000, 64);
+        let link = Link {
+            got_base: target.got_base(GOT), origins: Some(target.origins(START, 0x100_0000, 64)),
+            module_entry: Some(GOT), ..Link::new(*machine)
+        };
+        let object = Object { values: &symbols, ..Object::default() };
         for it in self.sections.iter().filter(|it| it.sh_type(LE) == SHT_RELA) {
             let section = self.sections.section(SectionIndex(it.sh_info(LE) as usize))?;
             if it.sh_link(LE) as usize != self.symbols.section().0 {
                 return Err("it has relocations of other symbols".into());
             }
-            let (mut bytes, relas) = (section.data(LE, self.file)?.to_vec(), it.data(LE, self.file)?);
-            let here = Addresses {
-                section: self.start.wrapping_add(section.sh_offset(LE)), got_base: target.got_base(GOT),
-                thread_origin: origins.thread_pointer, module_origin: origins.module_block,
-                module_entry: GOT, has_tls: true,
-            };
-            let mut memory = vec![0; memory_len(relas)];
-            relocate_section(*machine, &here, relas, &symbols, &mut bytes, &mut memory)?;
-            left.push(bytes);
+            let (bytes, relas) = (section.data(LE, self.file)?.to_vec(), it.data(LE, self.file)?);
+            let address = self.start.wrapping_add(section.sh_offset(LE));
+            let mut section = Section { address, ..Section::new(bytes, relas) };
+            relocate_section(&link, &object, &mut section, &mut vec![0; memory_len(relas)])?;
+            left.push(section.bytes);
         }
         Ok(left)
     }

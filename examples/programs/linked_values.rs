@@ -13,7 +13,8 @@ fn main() -> Result<(), Box<dyn std::error::Error>> {
         is_undefined_weak: it.is_undefined(LE) && it.st_bind() == STB_WEAK, ..Symbol::default()
     }).collect();
     let got = sections.section_by_name(LE, b".got").map_or(0, |(_, got)| got.sh_addr(LE));
-    let here = Addresses { got_base: Target::of(machine).got_base(got), ..Addresses::default() };
+    let link = Link { got_base: Target::of(machine).got_base(got), ..Link::new(machine) };
+    let here = link.addresses(0);
     let [mut same, mut different, mut others] = [0; 3];
     for it in sections.iter().filter(|it| it.sh_type(LE) == SHT_RELA && it.sh_info(LE) != 0) {
         let section = sections.section(SectionIndex(it.sh_info(LE) as usize))?;

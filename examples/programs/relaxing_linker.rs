@@ -4,22 +4,19 @@
 //! common and absolute symbols are errors.    usage: relaxing_linker OUTPUT OBJECT..
 use linker_utils::elf::Architecture::RiscV;
 use linker_utils::output::Target;
-use linker_utils::runs::items::{Relocation, section_items};
-use linker_utils::runs::packing::{Machine::RiscV64, pack_run, packed_run_len};
-use linker_utils::runs::relaxation::{Alignment, Item, first_faulty, relax};
-use linker_utils::section::{Addresses, Symbol, memory_len, relocate_section, relocation_at};
+use linker_utils::runs::{Alignment, Item, Machine::RiscV64, Relocation, Run, first_faulty};
+use linker_utils::runs::{pack_run, packed_run_len, relax, section_items};
+use linker_utils::section::{Link, Object, Section, Symbol, memory_len, relocate_section, relocation_at};
 use object::{LittleEndian as LE, elf::*, read::elf::*};
 use std::{collections::HashMap, error::Error, fs, os::unix::fs::PermissionsExt};
 
 const START: u64 = 0x11000; // of the code; the page below has the headers
 const PAGE: u64 = 0x1000;
 
-struct Section {
+struct Placed {
     of: (usize, usize), // its object, and its index there
-    bytes: Vec<u8>,
-    relas: Vec<u8>,
-    offset: u64, // in the run of all sections, before anything gets shorter
-    nops: Item,  // before it, so that it may be aligned
+    section: Section<Vec<u8>, Vec<u8>>, // its base is that before anything gets shorter
+    nops: Item, // before it, so that it may be aligned
     items: Vec<Item>,
 }
 
@@ -69,7 +66,8 @@ fn main() -> Result<(), Box<dyn Error>> {
                 let offset = end.next_multiple_of(alignment) + alignment;
                 let (nops, items) = ((offset - end) as u32, Vec::new());
                 let nops = Item::Aligned(Alignment { offset: end, nops, alignment, max_skip: None });
-                list.push(Section { of: (object, index), bytes, relas, offset, nops, items });
+                let section = Section { base: offset, ..Section::new(bytes, relas) };
+                list.push(Placed { of: (object, index), section, nops, items });
                 (end, least) = (offset + it.sh_size(LE), 2);
             }
         }
@@ -78,9 +76,9 @@ fn main() -> Result<(), Box<dyn Error>> {
 
     // where in the run symbols are; none where nothing defines them
     let own = |object: usize, symbol: &Sym64<LE>| {
-        let section = list.iter().find(|it: &&Section| it.of == (object, symbol.st_shndx(LE).into()))?;
-        let is_inside = symbol.st_value(LE) <= section.bytes.len() as u64;
-        is_inside.then_some(section.offset + symbol.st_value(LE))
+        let it = list.iter().find(|it: &&Placed| it.of == (object, symbol.st_shndx(LE).into()))?;
+        let is_inside = symbol.st_value(LE) <= it.section.bytes.len() as u64;
+        is_inside.then_some(it.section.base + symbol.st_value(LE))
     };
     let (mut globals, mut places) = (HashMap::new(), Vec::new());
     for (object, (_, _, symbols, _)) in objects.iter().enumerate() {
@@ -100,10 +98,10 @@ fn main() -> Result<(), Box<dyn Error>> {
     }
 
     // what gets shorter
-    for section in &mut list {
-        let ((_, _, symbols, may_compress), places) = (&objects[section.of.0], &places[section.of.0]);
+    for Placed { of, section, items, .. } in &mut list {
+        let ((_, _, symbols, may_compress), places) = (&objects[of.0], &places[of.0]);
         let mut relocations = Vec::new();
-        while let Some(it) = relocation_at(&section.relas, relocations.len()) {
+        while let Some(it) = relocation_at(&section.relocations, relocations.len()) {
             let symbol = symbols.symbol(it.symbol as usize)?;
             let place = places[it.symbol as usize];
             if it.symbol != 0 && place.is_none() && symbol.st_bind() != STB_WEAK {
@@ -111,14 +109,14 @@ fn main() -> Result<(), Box<dyn Error>> {
                 return Err(format!("{name} isn't defined").into());
             }
             // a call of a weak function that nothing defines goes to itself
-            let place = place.unwrap_or(section.offset.wrapping_add(it.offset));
+            let place = place.unwrap_or(section.base.wrapping_add(it.offset));
             relocations.push(Relocation {
                 offset: it.offset, code: it.code, has_symbol: it.symbol != 0, addend: it.addend,
                 target: (it.symbol != 0 && it.addend == 0).then_some(place),
                 may_compress: *may_compress,
             });
         }
-        section.items = section_items(RiscV64, &section.bytes, section.offset, &relocations)?.items;
+        *items = section_items(RiscV64, section, &relocations)?.items;
     }
     let items: Vec<_> = list.iter().flat_map(|it| [&[it.nops], &it.items[..]].concat()).collect();
     first_faulty(&items, START).map_or(Ok(()), Err)?;
@@ -135,18 +133,22 @@ fn main() -> Result<(), Box<dyn Error>> {
     let head = [&head[..], &[flags | 64 << 32 | 56 << 48, 2], &load(5, START, code_end), &load(6, data, end)];
     let mut image = head.concat().into_iter().flat_map(u64::to_le_bytes).collect::<Vec<_>>();
     image.resize((end - START + PAGE) as usize, 0);
-    for Section { of, bytes, mut relas, offset, items, .. } in list {
+    for Placed { of, mut section, items, .. } in list {
         let symbols = places[of.0].iter().enumerate().map(|(index, place)| Symbol {
             address: place.map_or(0, address),
             is_undefined_weak: index > 0 && place.is_none(),
             ..Symbol::default()
         });
         let symbols: Vec<_> = symbols.collect();
-        let here = Addresses { section: address(offset), ..Addresses::default() };
-        let start = (here.section - START + PAGE) as usize;
-        let packed = &mut image[start..][..packed_run_len(offset, bytes.len(), deletions.deltas())];
-        pack_run(RiscV64, &bytes, offset, &items, deletions.deltas(), START, &mut relas, packed)?;
-        relocate_section(RiscV, &here, &relas, &symbols, packed, &mut vec![0; memory_len(&relas)])?;
+        let start = address(section.base);
+        let run = Run { start: START, items: &items, deltas: deletions.deltas() };
+        let len = packed_run_len(section.base, section.bytes.len(), run.deltas);
+        let bytes = &mut image[(start - START + PAGE) as usize..][..len];
+        pack_run(RiscV64, &mut section, &run, bytes)?;
+        let object = Object { values: &symbols, ..Object::default() };
+        let mut memory = vec![0; memory_len(&section.relocations)];
+        let mut packed = Section { address: start, ..Section::new(bytes, section.relocations) };
+        relocate_section(&Link::new(RiscV), &object, &mut packed, &mut memory)?;
     }
     fs::write(output, image)?;
     Ok(fs::set_permissions(output, fs::Permissions::from_mode(0o755))?)

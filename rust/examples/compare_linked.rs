@@ -3,7 +3,7 @@
 
 use linker_utils::elf::{Architecture, Operands};
 use linker_utils::recognise::architecture::{destination_of, recognise, window_of};
-use linker_utils::recognise::{FieldBits, field_bits};
+use linker_utils::recognise::{FieldBits, Windows, field_bits};
 use linker_utils::x86_64::X86_64Relocation::*;
 
 /// What stands in a linked section, which is at an address, for the first of some relocations of the object's:
@@ -18,7 +18,8 @@ fn made(of: Architecture, object: &[u8], linked: (u64, &[u8]), relocations: &[(u
         Some(FieldBits { offset, bits: field_bits(&of.row(other.1)?, &object[other.0..]) })
     });
     let (others, original) = (others.collect::<Vec<_>>(), &object[range.clone()]);
-    let found = recognise(of, code, original, window.back, &others, &linked.1[range.clone()]);
+    let (offset, others, linked_bytes) = (window.back, &others[..], &linked.1[range.clone()]);
+    let found = recognise(of, code, &Windows { original, offset, others, linked: linked_bytes });
     found.into_iter().flatten().map(|made| {
         let operands = Operands { place: linked.0 + range.start as u64 + made.offset, addend, ..Operands::default() };
         let symbol = destination_of(of, &made, original, window.back, &operands).and_then(|to| to.symbol(0));

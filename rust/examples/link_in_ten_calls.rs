@@ -4,9 +4,10 @@
 use linker_utils::aarch64::AArch64Relocation::*;
 use linker_utils::elf::Architecture;
 use linker_utils::output::{Target, entry_words, static_words};
-use linker_utils::rewriting::{Decision, UnrelaxableGroups, OutputFacts, Phase, SymbolFacts};
+use linker_utils::rewriting::{Decision, UnrelaxableGroups, Phase, SymbolFacts};
 use linker_utils::rewriting::{rewrite_placed_section, rewrite_section, survey, survey_placed_section};
-use linker_utils::section::{Addresses, EntryClass, Symbol, memory_len, needs, relocate_section, relocation_at};
+use linker_utils::section::{EntryClass, Link, Object, Section, Symbol};
+use linker_utils::section::{memory_len, needs, relocate_section, relocation_at};
 use linker_utils::x86_64::X86_64Relocation::*;
 
 /// Where the linker puts the code, the GOT and the TLS image.
@@ -21,19 +22,24 @@ fn link(
     facts: &[SymbolFacts],
     symbols: &mut [Symbol],
 ) -> Vec<u64> {
-    let [section, got, image] = PLACES;
-    let output = OutputFacts { is_executable: true, is_fixed: true, has_near_symbols: true };
+    let [address, got, image] = PLACES;
+    let mut link =
+        Link { is_executable: true, is_fixed: true, has_near_symbols: true, ..Link::new(architecture) };
+    let object = Object { facts, ..Object::default() };
     let count = rela.len() / 24;
+    let mut section = Section { address, ..Section::new(code, rela) };
     let mut decisions = vec![Decision::Kept; count];
     // 1 and 2: rewrites that need no address
     let mut kept = vec![UnrelaxableGroups::default(); facts.len()];
-    survey(architecture, &output, facts, rela, code, &mut kept);
-    rewrite_section(architecture, &output, facts, &kept, rela, code, &mut decisions).unwrap();
+    survey(&link, &object, &section, &mut kept);
+    let surveyed = Object { unrelaxable_groups: &kept, ..object };
+    rewrite_section(&link, &surveyed, &mut section, &mut decisions).unwrap();
     // 3 to 6: which entries of the GOT are still needed, and what they hold
     let target = Target::of(architecture);
-    let (origins, got_base) = (target.origins(image, 8, 1), target.got_base(got));
+    let origins = target.origins(image, 8, 1);
+    (link.origins, link.got_base) = (Some(origins), target.got_base(got));
     let mut words = Vec::new();
-    for relocation in (0..count).filter_map(|index| relocation_at(rela, index)) {
+    for relocation in (0..count).filter_map(|index| relocation_at(section.relocations, index)) {
         let symbol = &mut symbols[relocation.symbol as usize];
         let needed = needs(architecture, relocation.code, relocation.addend, symbol.is_thread_local);
         let Some(entry) = needed.and_then(|needed| needed.entry) else { continue };
@@ -49,27 +55,18 @@ fn link(
         }
     }
     // 7 and 8: rewrites by addresses
-    let addresses = Addresses {
-        section,
-        got_base,
-        thread_origin: origins.thread_pointer,
-        module_origin: origins.module_block,
-        module_entry: 0,
-        has_tls: true,
-    };
+    let object = Object { values: symbols, ..object };
+    let mut deleted = vec![(0, 0); count];
     for phase in [Phase::TlsLocalExec, Phase::GotToPcRel, Phase::ShortPcRel] {
         let mut kept = vec![UnrelaxableGroups::default(); facts.len()];
-        let (at, deleted) = (&addresses, &mut vec![(0, 0); count]);
-        survey_placed_section(architecture, phase, &output, facts, at, symbols, rela, code, &mut kept)
+        survey_placed_section(&link, &object, &section, phase, &mut kept).unwrap();
+        let surveyed = Object { unrelaxable_groups: &kept, ..object };
+        rewrite_placed_section(&link, &surveyed, &mut section, phase, &mut decisions, &mut deleted)
             .unwrap();
-        rewrite_placed_section(
-            architecture, phase, &output, facts, at, symbols, &kept, rela, code, &mut decisions, deleted,
-        )
-        .unwrap();
     }
     // 9 and 10: values
-    let mut memory = vec![0; memory_len(rela)];
-    relocate_section(architecture, &addresses, rela, symbols, code, &mut memory).unwrap();
+    let mut memory = vec![0; memory_len(section.relocations)];
+    relocate_section(&link, &object, &mut section, &mut memory).unwrap();
     words
 }
 

@@ -7,8 +7,8 @@ use std::io::{self, Write};
 
 fn main() -> io::Result<()> {
     let mut out = io::stdout().lock();
-    for machine in 0..=u16::MAX {
-        let Some(architecture) = Architecture::from_machine(machine) else { continue };
+    for &architecture in Architecture::ALL {
+        let machine = architecture.machine();
         // no psABI has a type above
         for code in 0..0x1_0000 {
             let Some(name) = architecture.name(code) else { continue };

@@ -4,7 +4,7 @@
 
 use linker_utils::elf::{Architecture, InstructionRewrite, Operands};
 use linker_utils::reading::solve;
-use linker_utils::recognise::architecture::recognise;
+use linker_utils::recognise::{Windows, architecture::recognise};
 use linker_utils::x86_64::X86_64Relocation::*;
 
 fn main() {
@@ -26,11 +26,12 @@ fn main() {
         (7..14, 3, R_X86_64_REX_GOTPCRELX, 0x404010),
         (14..20, 2, R_X86_64_GOTPCRELX, 0x402000),
     ] {
-        let (before, after) = (&object[window.clone()], &linked[window.clone()]);
-        let found = recognise(architecture, name.elf_code(), before, offset, &[], after);
+        let (original, linked) = (&object[window.clone()], &linked[window.clone()]);
+        let windows = Windows { original, offset, others: &[], linked };
+        let found = recognise(architecture, name.elf_code(), &windows);
         let made = found.into_iter().flatten().next().expect("a rewrite, or none");
         // the addend of the relocation after the rewrite
-        let (mut bytes, mut at, mut addend) = (before.to_vec(), offset, addend);
+        let (mut bytes, mut at, mut addend) = (original.to_vec(), offset, addend);
         made.choice.kind.apply(&mut bytes, &mut at, &mut addend);
         let row = architecture.row(made.choice.relocation).expect("a relocation with a row");
         let place = address + window.start as u64 + made.offset;

@@ -16,14 +16,13 @@
 use std::error::Error;
 use std::io::{self, BufRead};
 
-use linker_utils::runs::items::{Relocation, section_items};
-use linker_utils::runs::packing::{Machine, pack_run, packed_run_len};
-use linker_utils::runs::relaxation::{Alignment, Item, first_faulty, relax};
+use linker_utils::runs::{Alignment, Item, Machine, Relocation, Run, first_faulty, relax};
+use linker_utils::runs::{pack_run, packed_run_len, section_items};
+use linker_utils::section::Section;
 
 #[derive(Default)]
-struct Section {
-    base: u64,
-    bytes: Vec<u8>,
+struct Input {
+    section: Section<Vec<u8>, [u8; 0]>,
     relocations: Vec<Relocation>,
     items: Vec<Item>,
 }
@@ -35,7 +34,7 @@ fn bytes_of(text: &str) -> Result<Vec<u8>, Box<dyn Error>> {
 
 fn main() -> Result<(), Box<dyn Error>> {
     let (mut machine, mut may_compress, mut start) = (Machine::RiscV64, false, 0);
-    let (mut sections, mut others) = (Vec::<Section>::new(), Vec::new());
+    let (mut sections, mut others) = (Vec::<Input>::new(), Vec::new());
     for line in io::stdin().lock().lines() {
         let line = line?;
         let words: Vec<&str> = line.split(' ').collect();
@@ -44,10 +43,9 @@ fn main() -> Result<(), Box<dyn Error>> {
             ["machine", "riscv64", "c"] => may_compress = true,
             ["machine", "loongarch64"] => machine = Machine::LoongArch64,
             ["start", address] => start = address.parse()?,
-            ["section", base, bytes] => sections.push(Section {
-                base: base.parse()?,
-                bytes: bytes_of(bytes)?,
-                ..Section::default()
+            ["section", base, bytes] => sections.push(Input {
+                section: Section { base: base.parse()?, ..Section::new(bytes_of(bytes)?, []) },
+                ..Input::default()
             }),
             ["relocation", offset, code, symbol, addend, target] => {
                 sections.last_mut().ok_or("no section")?.relocations.push(Relocation {
@@ -68,11 +66,10 @@ fn main() -> Result<(), Box<dyn Error>> {
             _ => return Err(format!("not a line: {line}").into()),
         }
     }
-    for section in &mut sections {
-        let (bytes, base, relocations) = (&section.bytes, section.base, &section.relocations);
-        section.items = section_items(machine, bytes, base, relocations)?.items;
+    for input in &mut sections {
+        input.items = section_items(machine, &input.section, &input.relocations)?.items;
     }
-    let mut items: Vec<Item> = sections.iter().flat_map(|section| &section.items).copied().collect();
+    let mut items: Vec<Item> = sections.iter().flat_map(|input| &input.items).copied().collect();
     items.extend(others);
     items.sort_by_key(Item::offset);
     if let Some(faulty) = first_faulty(&items, start) {
@@ -87,12 +84,11 @@ fn main() -> Result<(), Box<dyn Error>> {
         }
     }
     let deltas = plan.deletions.deltas();
-    for section in &sections {
-        let (bytes, base) = (&section.bytes, section.base);
-        let mut packed = vec![0; packed_run_len(base, bytes.len(), deltas)];
-        let result = pack_run(machine, bytes, base, &section.items, deltas, start, &mut [], &mut packed);
-        if let Err(rejected) = result {
-            let offset = section.items.get(rejected.index).map(Item::offset);
+    for Input { section, items, .. } in &mut sections {
+        let mut packed = vec![0; packed_run_len(section.base, section.bytes.len(), deltas)];
+        let run = Run { start, items, deltas };
+        if let Err(rejected) = pack_run(machine, section, &run, &mut packed) {
+            let offset = items.get(rejected.index).map(Item::offset);
             println!("rejected {offset:?} {:?}", rejected.error);
             return Ok(());
         }

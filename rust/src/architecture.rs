@@ -141,7 +141,7 @@ macro_rules! of_handle {
 }
 
 impl Relaxation {
-    /// The rewrite's number and its count of bytes before the field, which `Architecture::rewrite`
+    /// The rewrite's number and its count of bytes before the field, which [`Architecture::rewrite`](crate::elf::Architecture::rewrite)
     /// takes. The count is 0 except for the rewrites of x86-64 that have one.
     #[must_use]
     #[inline]
@@ -219,7 +219,7 @@ impl Relaxation {
     /// `ppc64` and `x86_64` says. `None` where none is skipped, and for all other architectures.
     ///
     /// Skip the relocation at that offset, and not whichever is the next. For PowerPC64 and x86-64
-    /// it is that of a call: the rewrite needs one there whose type `Architecture::may_be_skipped`
+    /// it is that of a call: the rewrite needs one there whose type [`Architecture::may_be_skipped`](crate::elf::Architecture::may_be_skipped)
     /// and whose symbol is `__tls_get_addr`, which a linker tests before it sets `group_fits`.
     ///
     /// ```
@@ -355,7 +355,7 @@ impl Architecture {
         by_architecture!(self, row_of(code))
     }
 
-    /// Computes the value of the relocation with a code and writes it, as `Row::apply` does. None of
+    /// Computes the value of the relocation with a code and writes it, as [`Row::apply`](crate::elf::Row::apply) does. None of
     /// a code without a row, and nothing is written.
     ///
     /// ```
@@ -407,7 +407,7 @@ impl Architecture {
         architectures!([first_of](self))
     }
 
-    /// The architecture of a handle, whose code is the rest by `HANDLE_UNIT`. None of a number that
+    /// The architecture of a handle, whose code is the rest by [`HANDLE_UNIT`](crate::architecture::HANDLE_UNIT). None of a number that
     /// is no handle.
     #[must_use]
     #[inline(always)]
@@ -427,7 +427,7 @@ impl Architecture {
     }
 
     /// Whether the relocation with a code requires a GOT entry, as
-    /// `Row::asks_for_got` says. False of a code without a row.
+    /// [`Row::asks_for_got`](crate::elf::Row::asks_for_got) says. False of a code without a row.
     ///
     /// ```
     /// use linker_utils::elf::Architecture;
@@ -445,7 +445,7 @@ impl Architecture {
     }
 
     /// Whether an entry of the PLT may serve as the target of the relocation with a code, as
-    /// `Row::may_use_plt` says. False of a code without a row.
+    /// [`Row::may_use_plt`](crate::elf::Row::may_use_plt) says. False of a code without a row.
     ///
     /// ```
     /// use linker_utils::elf::Architecture;

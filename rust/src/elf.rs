@@ -25,7 +25,7 @@ pub use crate::linker_elf::elf::{EM_RISCV, RiscVInstruction};
 pub use crate::linker_elf::elf::EM_X86_64;
 
 /// Why a relocation's value isn't written, and which values can be.
-#[derive(Debug, Clone, Copy, PartialEq, Eq)]
+#[derive(Debug, Clone, Copy, PartialEq, Eq, Hash)]
 pub struct WriteError {
     /// Why.
     pub error: RelocateError,
@@ -69,7 +69,8 @@ impl WriteError {
 }
 
 /// Why a pair of relocations at a ULEB128 number isn't written.
-#[derive(Debug, Clone, Copy, PartialEq, Eq)]
+#[cfg_attr(not(exhaustive), non_exhaustive)]
+#[derive(Debug, Clone, Copy, PartialEq, Eq, Hash)]
 pub enum Uleb128PairError {
     /// The first relocation is none that sets or adds to such a number.
     NotFirst,
@@ -78,8 +79,8 @@ pub enum Uleb128PairError {
 }
 
 /// The architectures whose relocations and instructions the library knows. A variant's number is
-/// `e_machine` in the ELF header of its files: `EM_AARCH64`, `EM_RISCV`, `EM_LOONGARCH`, `EM_PPC64`
-/// and `EM_X86_64` (ELF specification, "ELF Header").
+/// `e_machine` in the ELF header of its files: [`EM_AARCH64`](crate::elf::EM_AARCH64), [`EM_RISCV`](crate::elf::EM_RISCV), [`EM_LOONGARCH`](crate::elf::EM_LOONGARCH), [`EM_PPC64`](crate::elf::EM_PPC64)
+/// and [`EM_X86_64`](crate::elf::EM_X86_64) (ELF specification, "ELF Header").
 #[cfg_attr(not(exhaustive), non_exhaustive)]
 #[derive(Debug, Clone, Copy, PartialEq, Eq, Hash, PartialOrd, Ord)]
 pub enum Architecture {

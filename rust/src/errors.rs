@@ -8,9 +8,7 @@ use crate::relaxation::{OutOfMemory, SectionRelaxDeltas};
 use crate::rewriting::{RewritingError, WritingError};
 #[cfg(feature = "riscv64")]
 use crate::riscv64::{CallError, JumpError, PackError, RejectedCall};
-use crate::runs::items::{ItemsError, RewrittenItemsError};
-use crate::runs::packing::{ItemError, RejectedItem};
-use crate::runs::relaxation::{Fault, ItemFault};
+use crate::runs::{Fault, ItemError, ItemFault, ItemsError, RejectedItem, RewrittenItemsError};
 use crate::section::{self, RelocationError, SectionError};
 use crate::utils::Uleb128Error;
 use core::error::Error;
@@ -454,7 +452,10 @@ impl Display for SectionError {
 
 impl Error for SectionError {
     fn source(&self) -> Option<&(dyn Error + 'static)> {
-        Some(&self.error)
+        match &self.rejected {
+            Some(error) => Some(error),
+            None => Some(&self.error),
+        }
     }
 }
 

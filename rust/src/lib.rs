@@ -11,6 +11,7 @@
 #![allow(non_camel_case_types, reason = "a relocation has the name that its psABI gives it")]
 #![allow(unused_imports, unused_variables, reason = "some are there for contracts alone")]
 #![allow(clippy::complexity, clippy::style, reason = "the text is that of the proved source")]
+#![allow(rustdoc::redundant_explicit_links, reason = "tools/generate links by whole paths")]
 #![cfg_attr(
     not(all(
         feature = "aarch64",
@@ -40,6 +41,7 @@ mod tests;
 #[cfg(feature = "compat")]
 pub mod compat;
 mod errors;
+mod link;
 mod linker_base;
 mod linker_elf;
 mod linker_output;
@@ -49,7 +51,52 @@ mod linker_runs;
 mod linker_section;
 pub mod names;
 pub mod readers;
+pub mod recognise;
 mod traits;
+
+/// What `rust/exports` calls: for users `link` and [`recognise`](crate::recognise::recognise()) have it, with fewer parameters.
+#[doc(hidden)]
+pub mod source {
+    pub use crate::{output, placement, reading};
+
+    pub mod recognise {
+        pub use crate::linker_reading::recognise::{recognise, recognise_chosen};
+        pub use crate::recognise::*;
+
+        pub mod architecture {
+            pub use crate::linker_reading::recognise::architecture::{recognise, recognise_chosen};
+            pub use crate::recognise::architecture::*;
+        }
+    }
+
+    pub mod rewriting {
+        pub use crate::linker_rewriting::facts::OutputFacts;
+        #[cfg(feature = "riscv64")]
+        pub use crate::linker_rewriting::global_pointer::{
+            finish_gp_relaxation, rewrite_global_pointer, survey_global_pointer,
+        };
+        pub use crate::linker_rewriting::kept::{
+            WritingError, snapshot_facts, relocate_rewritten_section,
+        };
+        #[cfg(feature = "riscv64")]
+        pub use crate::linker_rewriting::sections::{rewrite_placed_section, rewrite_section};
+        pub use crate::linker_rewriting::surveys::{survey, survey_placed_section};
+        #[cfg(feature = "riscv64")]
+        pub use crate::linker_rewriting::toc_indirection::{rewrite_toc_loads, survey_toc_loads};
+        pub use crate::rewriting::*;
+    }
+
+    pub mod runs {
+        pub use crate::linker_runs::items::{rewritten_items_into, section_items_into};
+        pub use crate::linker_runs::packing::pack_run;
+        pub use crate::runs::*;
+    }
+
+    pub mod section {
+        pub use crate::linker_section::sections::{SectionError, relocate_section};
+        pub use crate::section::*;
+    }
+}
 
 #[doc(hidden)]
 pub use crate::linker_elf::elf::choice_table;
@@ -60,16 +107,31 @@ pub mod link_in_ten_calls {
     use crate::output::{LazyPlt, Target, static_words};
     use crate::placement::place_stubs;
     use crate::rewriting::{
-        snapshot_facts, relocate_rewritten_section, rewrite_placed_section, rewrite_section, survey,
-        survey_placed_section,
+        snapshot_facts, relocate_rewritten_section, survey, survey_placed_section,
     };
-    use crate::runs::{items::rewritten_items_into, packing::pack_run, relaxation::relax};
+    #[cfg(feature = "riscv64")]
+    use crate::rewriting::{rewrite_placed_section, rewrite_section};
+    use crate::runs::{pack_run, relax, rewritten_items_into};
     use crate::section::{memory_len, needs, relocate_section};
 }
 
 pub mod runs {
     #![doc = include_str!("../doc/runs.md")]
-    pub use crate::linker_runs::{items, packing, relaxation, shapes};
+    pub use crate::link::{
+        Run, pack_run, rewritten_items_into, section_items, section_items_into,
+    };
+    pub use crate::linker_runs::items::{
+        AsItem, AsRelocation, ItemsError, Relocation, RewrittenItemsError, SectionItems,
+        first_malformed,
+    };
+    pub use crate::linker_runs::packing::{
+        ItemError, Machine, RejectedItem, has_its_instructions, packed_run_len,
+    };
+    pub use crate::linker_runs::relaxation::{
+        Alignment, Fault, Item, ItemFault, Plan, Shape, Shapes, Site, are_items, deletions,
+        first_faulty, relax, relax_into, translations_are_exact,
+    };
+    pub use crate::linker_runs::shapes;
 }
 
 /// Which forms an instruction has and the number in its immediate; what stands in the fields of
@@ -82,54 +144,40 @@ pub mod reading {
     pub use crate::linker_reading::solving::{Origin, Reference, Terms, join, solve, terms_of};
 }
 
-/// What a linker made of a relocation, by the bytes before and after: which rewrite, which
-/// relocation it then wrote, and what stands in its field.
-pub mod recognise {
-    pub use crate::linker_reading::recognise::architecture;
-    pub use crate::linker_reading::recognise::fields::{
-        FieldBits, field_bits, same_but_for, writes_change_fields,
-    };
-    pub use crate::linker_reading::recognise::{
-        CANDIDATES, MAX_WINDOW, Recognised, RecognisedName, recognise, recognise_chosen,
-        written_choices_are_left,
-    };
-}
-
 pub mod section {
     #![doc = include_str!("../doc/section.md")]
+    pub use crate::link::{Link, Object, Section, SectionError, relocate_section};
     pub use crate::linker_section::facts::{Addresses, Symbol};
     pub use crate::linker_section::needed::{Entry, EntryClass, Requirements, needs};
     pub use crate::linker_section::relocations::{
         RELA_LEN, Rela, first_from, is_ascending, relocation_at, relocations_len,
     };
-    pub use crate::linker_section::sections::{
-        RelocationError, SectionError, memory_len, relocate_section,
-    };
+    pub use crate::linker_section::sections::{RelocationError, memory_len};
     pub use crate::linker_section::values::{ValueError, value};
 }
 
 pub mod rewriting {
     #![doc = include_str!("../doc/rewriting.md")]
+    pub use crate::link::{
+        Words, WritingError, first_changed, snapshot_facts, relocate_rewritten_section, survey,
+        survey_placed_section,
+    };
+    #[cfg(feature = "riscv64")]
+    pub use crate::link::{
+        finish_gp_relaxation, rewrite_toc_loads, rewrite_global_pointer, rewrite_placed_section,
+        rewrite_section, survey_toc_loads, survey_global_pointer,
+    };
     pub use crate::linker_rewriting::decisions::{
         AsDecision, Decision, FromDeletion, RewritingError, Subject,
     };
-    pub use crate::linker_rewriting::facts::{OutputFacts, SymbolFacts};
+    pub use crate::linker_rewriting::facts::SymbolFacts;
     #[cfg(feature = "riscv64")]
-    pub use crate::linker_rewriting::global_pointer::{
-        GPREL_I, GPREL_S, finish_gp_relaxation, rewrite_global_pointer, survey_global_pointer,
-    };
+    pub use crate::linker_rewriting::global_pointer::{GPREL_I, GPREL_S};
     pub use crate::linker_rewriting::groups::{
         Group, UnrelaxableGroups, Scope, has_rewrites, scope_in, scope_of,
     };
-    pub use crate::linker_rewriting::kept::{
-        FactsSnapshot, WritingError, first_changed, snapshot_facts, relocate_rewritten_section,
-    };
+    pub use crate::linker_rewriting::kept::FactsSnapshot;
     pub use crate::linker_rewriting::phases::Phase;
-    #[cfg(feature = "riscv64")]
-    pub use crate::linker_rewriting::sections::{rewrite_placed_section, rewrite_section};
-    pub use crate::linker_rewriting::surveys::{survey, survey_placed_section};
-    #[cfg(feature = "riscv64")]
-    pub use crate::linker_rewriting::toc_indirection::{rewrite_toc_loads, survey_toc_loads};
 }
 
 pub mod output {
@@ -154,7 +202,7 @@ pub mod output {
 pub mod placement {
     #![doc = include_str!("../doc/placement.md")]
     pub use crate::linker_output::placement::{
-        Branch, Code, Group, Layout, Part, PlaceError, Placement, StubAt, StubShape, place_stubs,
+        Branch, Code, Layout, Part, PlaceError, Placement, StubAt, StubCounts, StubShape, place_stubs,
     };
 }
 

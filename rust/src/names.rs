@@ -11,7 +11,7 @@
 //! # Ok::<(), linker_utils::names::UnknownName>(())
 //! ```
 
-use crate::elf::Architecture;
+use crate::elf::{Architecture, Row, architectures};
 use core::error::Error;
 use core::fmt::{Display, Formatter, Result as FmtResult};
 use core::str::FromStr;
@@ -84,6 +84,30 @@ impl Display for Architecture {
 
 /// Above the codes of all names. `tests/names.rs` compares `ALL` with the enums.
 const END: u32 = 2048;
+
+macro_rules! listed {
+    (() $(#[$gate:meta] $of:ident $module:ident $names:ident $handles:literal,)*) => {
+        &[$(#[$gate] Architecture::$of,)*]
+    };
+}
+
+impl Architecture {
+    /// All architectures that the crate has code of.
+    pub const ALL: &[Architecture] = architectures!([listed] ());
+
+    /// The relocations that have a row, by ascending code, each with it.
+    ///
+    /// ```
+    /// use linker_utils::elf::Architecture;
+    ///
+    /// // R_AARCH64_ABS64, R_AARCH64_ABS32 and R_AARCH64_ABS16 write 8, 4 and 2 bytes
+    /// let rows = Architecture::AArch64.rows().map(|(code, row)| (code, row.window()));
+    /// assert!(rows.skip_while(|row| row.0 < 257).take(3).eq([(257, 8), (258, 4), (259, 2)]));
+    /// ```
+    pub fn rows(self) -> impl DoubleEndedIterator<Item = (u32, Row)> + Clone {
+        (0..END).filter_map(move |code| Some((code, self.row(code)?)))
+    }
+}
 
 macro_rules! names {
     ($module:ident $names:ident) => {

@@ -5,6 +5,7 @@
 use crate::elf::Row;
 use crate::relaxation::{RelaxDeltaMap, SectionRelaxDeltas};
 use core::fmt::{Debug, Formatter, Result};
+use core::hash::{Hash, Hasher};
 use core::iter::Map;
 use core::slice::Iter;
 
@@ -22,6 +23,12 @@ impl PartialEq for Row {
 }
 
 impl Eq for Row {}
+
+impl Hash for Row {
+    fn hash<H: Hasher>(&self, state: &mut H) {
+        self.info().hash(state);
+    }
+}
 
 /// Deltas are equal that list the same deletions.
 impl PartialEq for SectionRelaxDeltas {

@@ -7,9 +7,9 @@ use linker_utils::readers::{self, ReadError};
 use linker_utils::relaxation::{OutOfMemory, PackError, RejectedCall, SectionRelaxDeltas};
 use linker_utils::rewriting::{RewritingError, WritingError};
 use linker_utils::riscv64::{CallError, JumpError};
-use linker_utils::runs::items::{ItemsError, RewrittenItemsError};
-use linker_utils::runs::packing::{ItemError, RejectedItem};
-use linker_utils::runs::relaxation::{Fault, ItemFault};
+use linker_utils::runs::{
+    Fault, ItemError, ItemFault, ItemsError, RejectedItem, RewrittenItemsError,
+};
 use linker_utils::section::{self, RelocationError, SectionError};
 use linker_utils::utils::{self, Uleb128Error};
 use std::error::Error;
@@ -256,8 +256,16 @@ fn errors_of_sections_are_printed() {
         (RelocationError::Write(RelocateError::Misaligned), "MISALIGNED"),
     ] {
         let place = "the relocation at index 7 is not written";
-        assert_eq!(texts(SectionError { index: 7, error }), [place.into(), status(name)]);
+        let error = SectionError { index: 7, error, rejected: None };
+        assert_eq!(texts(error), [place.into(), status(name)]);
     }
+    // with the value it is told which can be written
+    let cause = RelocateError::OutOfReach;
+    let row = Architecture::AArch64.row(279).unwrap();
+    let told = WriteError::new(&row, 0x8000, cause);
+    let error = RelocationError::Write(cause);
+    let error = SectionError { index: 7, error, rejected: Some(told) };
+    assert_eq!(texts(error)[1], told.to_string());
     let unknown = RelocationError::Value(section::ValueError::UnknownType);
     assert!(status("UNKNOWN_RELOCATION").starts_with(&unknown.to_string()));
     let number = RelocationError::Uleb128(Uleb128Error::DoesNotFit);
@@ -312,6 +320,7 @@ fn errors_of_routes_runs_and_rewritten_sections_are_errors() {
     let error = SectionError {
         index: 5,
         error: RelocationError::Overlaps,
+        rejected: None,
     };
     assert_eq!(texts(WritingError::Section(error)), texts(error));
     assert_eq!(

@@ -55,6 +55,9 @@ fn architectures_are_numbers_and_texts() {
         architecture.to_string()
     });
     assert_eq!(texts, ["PowerPC64", "x86-64", "AArch64", "RISC-V", "LoongArch"]);
+    let mut machines = Architecture::ALL.iter().map(|of| of.machine()).collect::<Vec<_>>();
+    machines.sort();
+    assert_eq!(machines, [21, 62, 183, 243, 258]);
     assert_eq!(Architecture::try_from(3), Err(UnknownMachine(3)));
     assert_eq!(UnknownMachine(3).to_string(), "the architecture with e_machine 3 is not known");
 }
@@ -67,4 +70,8 @@ fn rows_are_constants() {
     assert_eq!(ROW, Some(row.info()));
     assert_eq!(Some(row), Architecture::AArch64.row(283));
     assert!(format!("{row:?}").starts_with("Row(RelocationKindInfo { kind: "));
+    for &architecture in Architecture::ALL {
+        let of_codes = (0..0x1_0000).filter_map(|code| Some((code, architecture.row(code)?)));
+        assert!(architecture.rows().eq(of_codes));
+    }
 }

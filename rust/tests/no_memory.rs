@@ -12,10 +12,10 @@ use linker_utils::relaxation::{
     OutOfMemory, PackError, RelaxDelta, RelaxDeltaMap, SectionRelaxDeltas, pack_section,
     shrink_calls, shrink_calls_into,
 };
-use linker_utils::runs::items::{ItemsError, Relocation, section_items};
-use linker_utils::runs::packing::Machine;
-use linker_utils::runs::relaxation::{Alignment, Item, Site, relax};
 use linker_utils::runs::shapes::riscv64::CALL;
+use linker_utils::runs::{Alignment, Item, ItemsError, Machine, Relocation, Site};
+use linker_utils::runs::{relax, section_items};
+use linker_utils::section::Section;
 use linker_utils::utils::read_string;
 use std::alloc::{GlobalAlloc, Layout, System};
 use std::cell::Cell;
@@ -383,7 +383,7 @@ fn runs_are_not_relaxed() {
     let mut section = [0; 22];
     section[..8].copy_from_slice(&0x000080e7_00000097u64.to_le_bytes());
     let (count, made) = each_fails(
-        || section_items(Machine::RiscV64, &section, 0, &relocations),
+        || section_items(Machine::RiscV64, &Section::new(&section, []), &relocations),
         |error| assert_eq!(error, ItemsError::OutOfMemory),
     );
     assert!(count > 1);
@@ -392,7 +392,7 @@ fn runs_are_not_relaxed() {
     // R_LARCH_ALIGN at three nops
     let nops = [relocation(0, 102, 12, None)];
     let (count, made) = each_fails(
-        || section_items(Machine::LoongArch64, &[0; 12], 0, &nops),
+        || section_items(Machine::LoongArch64, &Section::new([0; 12], []), &nops),
         |error| assert_eq!(error, ItemsError::OutOfMemory),
     );
     assert_eq!((count > 1, made.items.len()), (true, 1));

@@ -3,21 +3,49 @@
 //! of "ELF Handling For Thread-Local Storage".
 
 use linker_utils::elf::Architecture::{self, AArch64, LoongArch64, Ppc64, RiscV, X86_64};
+use linker_utils::output::Origins;
 use linker_utils::relaxation::AsDeletion;
 use linker_utils::rewriting::{
-    AsDecision, Decision, FromDeletion, GPREL_I, GPREL_S, Group, FactsSnapshot, UnrelaxableGroups,
-    OutputFacts, Phase, RewritingError, Scope, SymbolFacts, WritingError, first_changed,
-    finish_gp_relaxation, has_rewrites, snapshot_facts, relocate_rewritten_section,
-    rewrite_toc_loads, rewrite_global_pointer, rewrite_placed_section, rewrite_section,
-    scope_in, scope_of, survey, survey_toc_loads, survey_global_pointer, survey_placed_section,
+    AsDecision, Decision, FromDeletion, GPREL_I, GPREL_S, Group, FactsSnapshot, UnrelaxableGroups, Phase,
+    RewritingError, Scope, SymbolFacts, Words, WritingError, first_changed, finish_gp_relaxation,
+    has_rewrites, snapshot_facts, relocate_rewritten_section, rewrite_toc_loads,
+    rewrite_global_pointer, rewrite_placed_section, rewrite_section, scope_in, scope_of, survey,
+    survey_toc_loads, survey_global_pointer, survey_placed_section,
 };
-use linker_utils::section::{Addresses, Rela, Symbol, relocate_section, relocation_at};
+use linker_utils::section::{
+    self, Addresses, Link, Object, Rela, Symbol, relocate_section, relocation_at,
+};
 
-const EXECUTABLE: OutputFacts = OutputFacts {
+const EXECUTABLE: Link = Link {
     is_executable: true,
     is_fixed: true,
     has_near_symbols: true,
+    ..Link::new(X86_64)
 };
+
+const NOWHERE: Addresses = EXECUTABLE.addresses(0);
+
+/// A link of an architecture, with the facts of an output and with addresses.
+fn link(architecture: Architecture, output: &Link, addresses: &Addresses) -> Link {
+    let origins = Origins {
+        thread_pointer: addresses.thread_origin,
+        module_block: addresses.module_origin,
+    };
+    Link {
+        architecture,
+        got_base: addresses.got_base,
+        origins: addresses.has_tls.then_some(origins),
+        module_entry: Some(addresses.module_entry),
+        ..*output
+    }
+}
+
+fn section_at<B, R>(addresses: &Addresses, bytes: B, relocations: R) -> section::Section<B, R> {
+    section::Section {
+        address: addresses.section,
+        ..section::Section::new(bytes, relocations)
+    }
+}
 
 /// Symbol 1 is a definition of this output, 2 is `__tls_get_addr`, 3 is another definition and 4 is
 /// of another file.
@@ -75,7 +103,7 @@ fn rewritten(
 }
 
 fn rewritten_in(
-    output: &OutputFacts,
+    output: &Link,
     architecture: Architecture,
     symbols: &[SymbolFacts],
     sections: &[&Section],
@@ -84,11 +112,12 @@ fn rewritten_in(
     for it in sections {
         let entries = bytes_of(&it.relocations);
         survey(
-            architecture,
-            output,
-            symbols,
-            &entries,
-            &it.bytes,
+            &link(architecture, output, &NOWHERE),
+            &Object {
+                facts: symbols,
+                ..Object::default()
+            },
+            &section_at(&NOWHERE, &it.bytes, &entries),
             &mut kept,
         );
     }
@@ -99,12 +128,13 @@ fn rewritten_in(
             let mut bytes = it.bytes.clone();
             let mut decisions = vec![Decision::Kept; it.relocations.len()];
             rewrite_section(
-                architecture,
-                output,
-                symbols,
-                &kept,
-                &mut entries,
-                &mut bytes,
+                &link(architecture, output, &NOWHERE),
+                &Object {
+                    facts: symbols,
+                    unrelaxable_groups: &kept,
+                    ..Object::default()
+                },
+                &mut section_at(&NOWHERE, &mut bytes, &mut entries),
                 &mut decisions,
             )
             .unwrap();
@@ -657,12 +687,13 @@ fn error_of(section: &Section, kept: &[UnrelaxableGroups], room: usize) -> Rewri
     let entries = bytes_of(&section.relocations);
     let (mut entries_after, mut bytes_after) = (entries.clone(), section.bytes.clone());
     let error = rewrite_section(
-        X86_64,
-        &EXECUTABLE,
-        &symbols(),
-        kept,
-        &mut entries_after,
-        &mut bytes_after,
+        &link(X86_64, &EXECUTABLE, &NOWHERE),
+        &Object {
+            facts: &symbols(),
+            unrelaxable_groups: kept,
+            ..Object::default()
+        },
+        &mut section_at(&NOWHERE, &mut bytes_after, &mut entries_after),
         &mut vec![Decision::Kept; room],
     )
     .unwrap_err();
@@ -693,12 +724,13 @@ fn rewritten_alone(section: &Section) -> (Result<(), RewritingError>, Vec<Decisi
     let (before, mut bytes) = (entries.clone(), section.bytes.clone());
     let mut decisions = vec![Decision::Kept; section.relocations.len()];
     let result = rewrite_section(
-        X86_64,
-        &EXECUTABLE,
-        &symbols(),
-        &[UnrelaxableGroups::default(); 5],
-        &mut entries,
-        &mut bytes,
+        &link(X86_64, &EXECUTABLE, &NOWHERE),
+        &Object {
+            facts: &symbols(),
+            unrelaxable_groups: &[UnrelaxableGroups::default(); 5],
+            ..Object::default()
+        },
+        &mut section_at(&NOWHERE, &mut bytes, &mut entries),
         &mut decisions,
     );
     assert!(result.is_ok() || (entries == before && bytes == section.bytes));
@@ -716,7 +748,11 @@ fn a_field_in_the_window_of_a_rewrite_is_an_error() {
                 let section = loads_among(3, at, &[rela(offset, code, 3, 0)]);
                 let (made, decisions) = rewritten_alone(&section);
                 let is_covered = (0..3).any(|n| is_opcode(n, offset, len));
-                let expected = if is_covered { Err(RewritingError::Overlaps(at)) } else { Ok(()) };
+                let expected = if is_covered {
+                    Err(RewritingError::Overlaps(at))
+                } else {
+                    Ok(())
+                };
                 assert_eq!(made, expected, "{section:x?}");
                 assert_eq!(decisions[at], Decision::Kept);
                 let made = decisions.iter().filter(|it| **it != Decision::Kept).count();
@@ -728,11 +764,15 @@ fn a_field_in_the_window_of_a_rewrite_is_an_error() {
 
 /// Which of the relocations of `loads_among` has a field in the bytes of a rewrite, the first.
 fn first_covered(section: &Section) -> Option<usize> {
-    let len = |code| [(14, 1), (12, 2), (10, 4), (1, 8)].iter().find(|it| it.0 == code).map(|it| it.1);
+    let len = |code| {
+        [(14, 1), (12, 2), (10, 4), (1, 8)]
+            .iter()
+            .find(|it| it.0 == code)
+            .map(|it| it.1)
+    };
     section.relocations.iter().position(|it| {
         len(it.code).is_some_and(|len| {
-            (0..section.bytes.len() as u64 / 8)
-                .any(|n| is_opcode(n, it.offset, len))
+            (0..section.bytes.len() as u64 / 8).any(|n| is_opcode(n, it.offset, len))
         })
     })
 }
@@ -741,7 +781,9 @@ fn first_covered(section: &Section) -> Option<usize> {
 fn fields_among_rewrites_are_found_in_any_order() {
     let mut state = 1u64;
     let mut next = |below: u64| {
-        state = state.wrapping_mul(6_364_136_223_846_793_005).wrapping_add(1);
+        state = state
+            .wrapping_mul(6_364_136_223_846_793_005)
+            .wrapping_add(1);
         (state >> 33) % below
     };
     let mut found = [0; 2];
@@ -750,14 +792,22 @@ fn fields_among_rewrites_are_found_in_any_order() {
         let mut section = loads_among(count, 0, &[]);
         for _ in 0..next(8) {
             // R_X86_64_8, 16, 32 and 64, mostly in the nops, and NONE and GNU_VTINHERIT, without a field
-            let offset = if next(8) == 0 { next(8 * count) } else { 8 * next(count + 1) };
+            let offset = if next(8) == 0 {
+                next(8 * count)
+            } else {
+                8 * next(count + 1)
+            };
             let code = [14, 14, 12, 10, 1, 0][next(6) as usize];
             let at = next(section.relocations.len() as u64 + 1) as usize;
             section.relocations.insert(at, rela(offset, code, 3, 0));
         }
         let (made, decisions) = rewritten_alone(&section);
         let covered = first_covered(&section);
-        assert_eq!(made.err(), covered.map(RewritingError::Overlaps), "{section:x?}");
+        assert_eq!(
+            made.err(),
+            covered.map(RewritingError::Overlaps),
+            "{section:x?}"
+        );
         found[usize::from(covered.is_some())] += 1;
         for (it, decision) in section.relocations.iter().zip(&decisions) {
             assert_eq!(matches!(decision, Decision::Rewritten(_)), it.code == 42);
@@ -799,15 +849,24 @@ fn groups_stay_where_tables_are_too_short() {
     let section = local_dynamic();
     let mut entries = bytes_of(&section.relocations);
     let mut bytes = section.bytes.clone();
-    survey(X86_64, &EXECUTABLE, &symbols(), &entries, &bytes, &mut []);
+    survey(
+        &link(X86_64, &EXECUTABLE, &NOWHERE),
+        &Object {
+            facts: &symbols(),
+            ..Object::default()
+        },
+        &section_at(&NOWHERE, &bytes, &entries),
+        &mut [],
+    );
     let mut decisions = [Decision::Consumed; 2];
     rewrite_section(
-        X86_64,
-        &EXECUTABLE,
-        &symbols(),
-        &[],
-        &mut entries,
-        &mut bytes,
+        &link(X86_64, &EXECUTABLE, &NOWHERE),
+        &Object {
+            facts: &symbols(),
+            unrelaxable_groups: &[],
+            ..Object::default()
+        },
+        &mut section_at(&NOWHERE, &mut bytes, &mut entries),
         &mut decisions,
     )
     .unwrap();
@@ -912,14 +971,14 @@ fn got_loads() -> Vec<(Architecture, Section)> {
 
 #[test]
 fn loads_from_the_got_stay_where_symbols_may_be_far() {
-    let far = OutputFacts {
+    let far = Link {
         has_near_symbols: false,
         ..EXECUTABLE
     };
     let mut absolute = symbols();
     absolute[1].is_absolute = true;
     for (architecture, section) in got_loads() {
-        let made = |output: &OutputFacts, facts: &[SymbolFacts]| {
+        let made = |output: &Link, facts: &[SymbolFacts]| {
             rewritten_in(output, architecture, facts, &[&section])
                 .remove(0)
                 .0
@@ -960,14 +1019,14 @@ fn placed(
     let mut kept = [UnrelaxableGroups::default(); 5];
     for it in sections {
         survey_placed_section(
-            architecture,
+            &link(architecture, &EXECUTABLE, addresses),
+            &Object {
+                facts: &symbols,
+                values,
+                ..Object::default()
+            },
+            &section_at(addresses, &it.bytes, &bytes_of(&it.relocations)),
             phase,
-            &EXECUTABLE,
-            &symbols,
-            addresses,
-            values,
-            &bytes_of(&it.relocations),
-            &it.bytes,
             &mut kept,
         )
         .unwrap();
@@ -979,15 +1038,15 @@ fn placed(
             let mut bytes = it.bytes.clone();
             let mut deleted = [(0, 0); 9];
             let len = rewrite_placed_section(
-                architecture,
+                &link(architecture, &EXECUTABLE, addresses),
+                &Object {
+                    facts: &symbols,
+                    values,
+                    unrelaxable_groups: &kept,
+                    ..Object::default()
+                },
+                &mut section_at(addresses, &mut bytes, &mut entries),
                 phase,
-                &EXECUTABLE,
-                &symbols,
-                addresses,
-                values,
-                &kept,
-                &mut entries,
-                &mut bytes,
                 &mut vec![Decision::Kept; it.relocations.len()],
                 &mut deleted,
             )
@@ -1011,11 +1070,12 @@ fn linked(
     let mut bytes = section.bytes.clone();
     let entries = bytes_of(&section.relocations);
     relocate_section(
-        architecture,
-        addresses,
-        &entries,
-        values,
-        &mut bytes,
+        &link(architecture, &EXECUTABLE, addresses),
+        &Object {
+            values,
+            ..Object::default()
+        },
+        &mut section_at(addresses, &mut bytes, &entries),
         &mut [0; 16],
     )
     .unwrap();
@@ -1135,23 +1195,25 @@ fn thread_offset(symbol: u32) -> Section {
 
 #[test]
 fn a_field_in_what_is_deleted_is_an_error() {
+    let addresses = Addresses {
+        thread_origin: 0x1000,
+        has_tls: true,
+        ..Addresses::default()
+    };
     let with = |at: usize, offset: u64| {
         let mut section = thread_offset(1);
         section.relocations.insert(at, rela(offset, 1, 3, 0));
         let mut entries = bytes_of(&section.relocations);
         let result = rewrite_placed_section(
-            RiscV,
-            Phase::TlsLocalExec,
-            &EXECUTABLE,
-            &symbols(),
-            &Addresses {
-                thread_origin: 0x1000,
-                ..Addresses::default()
+            &link(RiscV, &EXECUTABLE, &addresses),
+            &Object {
+                facts: &symbols(),
+                values: &values(0x1008, 0),
+                unrelaxable_groups: &[UnrelaxableGroups::default(); 5],
+                ..Object::default()
             },
-            &values(0x1008, 0),
-            &[UnrelaxableGroups::default(); 5],
-            &mut entries,
-            &mut section.bytes,
+            &mut section_at(&addresses, &mut section.bytes, &mut entries),
+            Phase::TlsLocalExec,
             &mut [Decision::Kept; 9],
             &mut [(0, 0); 9],
         );
@@ -1417,15 +1479,15 @@ fn deletions_need_room() {
         let mut entries = bytes_of(&section.relocations);
         let mut bytes = section.bytes.clone();
         let rewritten = rewrite_placed_section(
-            RiscV,
+            &link(RiscV, &EXECUTABLE, &addresses),
+            &Object {
+                facts: &symbols(),
+                values: &values(0x1008, 0),
+                unrelaxable_groups: &[UnrelaxableGroups::default(); 5],
+                ..Object::default()
+            },
+            &mut section_at(&addresses, &mut bytes, &mut entries),
             Phase::TlsLocalExec,
-            &EXECUTABLE,
-            &symbols(),
-            &addresses,
-            &values(0x1008, 0),
-            &[UnrelaxableGroups::default(); 5],
-            &mut entries,
-            &mut bytes,
             &mut [Decision::Kept; 8],
             &mut vec![(0, 0); room],
         );
@@ -1482,15 +1544,15 @@ fn decisions_and_deletions_may_be_the_callers_own() {
         offset: 0,
     }; 3];
     let rewritten = rewrite_placed_section(
-        RiscV,
+        &link(RiscV, &EXECUTABLE, &addresses),
+        &Object {
+            facts: &symbols(),
+            values: &values(0x1008, 0),
+            unrelaxable_groups: &[UnrelaxableGroups::default(); 5],
+            ..Object::default()
+        },
+        &mut section_at(&addresses, &mut bytes, &mut entries),
         Phase::TlsLocalExec,
-        &EXECUTABLE,
-        &symbols(),
-        &addresses,
-        &values(0x1008, 0),
-        &[UnrelaxableGroups::default(); 5],
-        &mut entries,
-        &mut bytes,
         &mut made,
         &mut deleted,
     );
@@ -1735,21 +1797,21 @@ fn values_are_written_where_the_facts_snapshot_still_hold() {
         ..Addresses::default()
     };
     let values = values(0x2000, 0);
-    let written = |kept: &[FactsSnapshot], output: &OutputFacts, facts: &[SymbolFacts]| {
+    let written = |kept: &[FactsSnapshot], output: &Link, facts: &[SymbolFacts]| {
         let mut section = call;
         let mut values = values;
         for (value, known) in values.iter_mut().zip(facts) {
             value.other = known.other;
         }
         let result = relocate_rewritten_section(
-            X86_64,
-            output,
-            facts,
-            kept,
-            &addresses,
-            &entries,
-            &values,
-            &mut section,
+            &link(X86_64, output, &addresses),
+            &Object {
+                facts,
+                facts_snapshot: kept,
+                values: &values,
+                ..Object::default()
+            },
+            &mut section_at(&addresses, &mut section, &entries),
             &mut [0; 1],
         );
         (result, section)
@@ -1758,7 +1820,14 @@ fn values_are_written_where_the_facts_snapshot_still_hold() {
     let mut kept = [FactsSnapshot::default(); 5];
     let changed = (Err(WritingError::Changed(0)), call);
     assert_eq!(written(&kept, &EXECUTABLE, &facts), changed);
-    snapshot_facts(&EXECUTABLE, &facts, &mut kept);
+    snapshot_facts(
+        &EXECUTABLE,
+        &Object {
+            facts: &facts,
+            ..Object::default()
+        },
+        &mut kept,
+    );
     // 0x2000 - 0x1006
     let done = (Ok(()), [0x67, 0xe8, 0xfa, 0x0f, 0, 0]);
     assert_eq!(written(&kept, &EXECUTABLE, &facts), done);
@@ -1781,15 +1850,15 @@ fn values_are_written_where_the_facts_snapshot_still_hold() {
         assert_eq!(written(&kept, &EXECUTABLE, &facts), done);
     }
     for output in [
-        OutputFacts {
+        Link {
             is_executable: false,
             ..EXECUTABLE
         },
-        OutputFacts {
+        Link {
             is_fixed: false,
             ..EXECUTABLE
         },
-        OutputFacts {
+        Link {
             has_near_symbols: false,
             ..EXECUTABLE
         },
@@ -1803,11 +1872,41 @@ fn values_are_written_where_the_facts_snapshot_still_hold() {
     // the first of two, and a symbol that is in no table
     let two = bytes_of(&[rela(2, 2, 3, -4), rela(2, 0, 1, 0)]);
     facts[1].is_local = false;
-    assert_eq!(first_changed(&EXECUTABLE, &facts, &kept, &two), Some(1));
-    let none = bytes_of(&[rela(2, 2, 9, -4)]);
-    assert_eq!(first_changed(&EXECUTABLE, &facts, &kept, &none), None);
     assert_eq!(
-        first_changed(&EXECUTABLE, &facts[..1], &kept, &two),
+        first_changed(
+            &EXECUTABLE,
+            &Object {
+                facts: &facts,
+                facts_snapshot: &kept,
+                ..Object::default()
+            },
+            &section_at(&NOWHERE, [], &two)
+        ),
+        Some(1)
+    );
+    let none = bytes_of(&[rela(2, 2, 9, -4)]);
+    assert_eq!(
+        first_changed(
+            &EXECUTABLE,
+            &Object {
+                facts: &facts,
+                facts_snapshot: &kept,
+                ..Object::default()
+            },
+            &section_at(&NOWHERE, [], &none)
+        ),
+        None
+    );
+    assert_eq!(
+        first_changed(
+            &EXECUTABLE,
+            &Object {
+                facts: &facts[..1],
+                facts_snapshot: &kept,
+                ..Object::default()
+            },
+            &section_at(&NOWHERE, [], &two)
+        ),
         Some(0)
     );
 }
@@ -1870,31 +1969,36 @@ fn with_addresses(
     let mut entries = bytes_of(&section.relocations);
     let mut kept = [false; 2];
     survey_toc_loads(
-        architecture,
-        &EXECUTABLE,
-        &symbols(),
-        addresses,
-        &placed_symbols(),
-        TOC,
-        table,
-        &entries,
-        &section.bytes,
+        &link(architecture, &EXECUTABLE, addresses),
+        &Object {
+            facts: &symbols(),
+            values: &placed_symbols(),
+            ..Object::default()
+        },
+        &section_at(addresses, &section.bytes, &entries),
+        &Words {
+            address: TOC,
+            relocations: table,
+            kept: &[],
+        },
         &mut kept,
     )
     .unwrap();
     let mut bytes = section.bytes.clone();
     let mut decisions = vec![Decision::Kept; section.relocations.len()];
     rewrite_toc_loads(
-        architecture,
-        &EXECUTABLE,
-        &symbols(),
-        addresses,
-        &placed_symbols(),
-        TOC,
-        table,
-        &kept,
-        &mut entries,
-        &mut bytes,
+        &link(architecture, &EXECUTABLE, addresses),
+        &Object {
+            facts: &symbols(),
+            values: &placed_symbols(),
+            ..Object::default()
+        },
+        &mut section_at(addresses, &mut bytes, &mut entries),
+        &Words {
+            address: TOC,
+            relocations: table,
+            kept: &kept,
+        },
         &mut decisions,
     )
     .unwrap();
@@ -2003,16 +2107,18 @@ fn loads_that_were_not_surveyed_are_an_error() {
     let (mut entries, mut bytes) = (given.clone(), section.bytes.clone());
     let mut rewrite = |decisions: &mut [Decision]| {
         rewrite_toc_loads(
-            Ppc64,
-            &EXECUTABLE,
-            &symbols(),
-            &CODE,
-            &placed_symbols(),
-            TOC,
-            &words_of(3),
-            &[false; 2],
-            &mut entries,
-            &mut bytes,
+            &link(Ppc64, &EXECUTABLE, &CODE),
+            &Object {
+                facts: &symbols(),
+                values: &placed_symbols(),
+                ..Object::default()
+            },
+            &mut section_at(&CODE, &mut bytes, &mut entries),
+            &Words {
+                address: TOC,
+                relocations: &words_of(3),
+                kept: &[false; 2],
+            },
             decisions,
         )
     };
@@ -2061,29 +2167,33 @@ fn near(bytes: &[u8], mut entries: Vec<u8>) -> ([bool; 4], Vec<u8>, Vec<(u64, u3
     };
     let (values, mut kept) = (near_symbols(), [false; 4]);
     survey_global_pointer(
-        RiscV,
-        &EXECUTABLE,
-        &known,
-        &addresses,
-        &values,
-        GLOBAL_POINTER,
-        &entries,
-        bytes,
+        &Link {
+            global_pointer: GLOBAL_POINTER,
+            ..link(RiscV, &EXECUTABLE, &addresses)
+        },
+        &Object {
+            facts: &known,
+            values: &values,
+            ..Object::default()
+        },
+        &section_at(&addresses, bytes, &entries),
         &mut kept,
     )
     .unwrap();
     let count = entries.len() / 24;
     let mut deleted = vec![(0, 0); count];
     let len = rewrite_global_pointer(
-        RiscV,
-        &EXECUTABLE,
-        &known,
-        &addresses,
-        &values,
-        GLOBAL_POINTER,
-        &kept,
-        &mut entries,
-        bytes,
+        &Link {
+            global_pointer: GLOBAL_POINTER,
+            ..link(RiscV, &EXECUTABLE, &addresses)
+        },
+        &Object {
+            facts: &known,
+            values: &values,
+            kept_high_parts: &kept,
+            ..Object::default()
+        },
+        &mut section_at(&addresses, bytes, &mut entries),
         &mut vec![Decision::Kept; count],
         &mut deleted,
     )
@@ -2106,7 +2216,18 @@ fn high_parts_near_the_global_pointer_go() {
     // lw a1, 5(gp), with a value of 5, as ld.lld --relax-gp writes it
     let mut bytes = code[4..8].to_vec();
     let none = Addresses::default();
-    finish_gp_relaxation(&none, &values, GLOBAL_POINTER, &mut low, &mut bytes).unwrap();
+    finish_gp_relaxation(
+        &Link {
+            global_pointer: GLOBAL_POINTER,
+            ..link(RiscV, &EXECUTABLE, &none)
+        },
+        &Object {
+            values: &values,
+            ..Object::default()
+        },
+        &mut section_at(&none, &mut bytes, &mut low),
+    )
+    .unwrap();
     assert_eq!(bytes, words(&[0x0001_a583]));
     let addend = GLOBAL_POINTER.wrapping_neg() as i64;
     assert_eq!(low, bytes_of(&[rela(0, 27, 1, addend)]));
@@ -2153,15 +2274,17 @@ fn parts_near_the_global_pointer_are_apart() {
         let mut entries = marked(parts);
         let before = entries.clone();
         let made = rewrite_global_pointer(
-            RiscV,
-            &EXECUTABLE,
-            &known,
-            &addresses,
-            &near_symbols(),
-            GLOBAL_POINTER,
-            &[false; 4],
-            &mut entries,
-            code,
+            &Link {
+                global_pointer: GLOBAL_POINTER,
+                ..link(RiscV, &EXECUTABLE, &addresses)
+            },
+            &Object {
+                facts: &known,
+                values: &near_symbols(),
+                kept_high_parts: &[false; 4],
+                ..Object::default()
+            },
+            &mut section_at(&addresses, code, &mut entries),
             &mut [Decision::Kept; 8],
             &mut [(0, 0); 4],
         );
@@ -2184,15 +2307,17 @@ fn parts_near_the_global_pointer_are_apart() {
     let symbols_stay = [true, false, false, false];
     let mut entries = marked(&parts);
     let made = rewrite_global_pointer(
-        RiscV,
-        &EXECUTABLE,
-        &known,
-        &addresses,
-        &near_symbols(),
-        GLOBAL_POINTER,
-        &symbols_stay,
-        &mut entries,
-        &code,
+        &Link {
+            global_pointer: GLOBAL_POINTER,
+            ..link(RiscV, &EXECUTABLE, &addresses)
+        },
+        &Object {
+            facts: &known,
+            values: &near_symbols(),
+            kept_high_parts: &symbols_stay,
+            ..Object::default()
+        },
+        &mut section_at(&addresses, &code, &mut entries),
         &mut [Decision::Kept; 8],
         &mut [(0, 0); 4],
     );
@@ -2227,37 +2352,42 @@ fn with_both(facts: &[SymbolFacts; 4], values: &[Symbol; 4]) -> [Option<usize>; 
     let (start, gp, phase) = (0x8000, GLOBAL_POINTER, Phase::GotToPcRel);
     let surveys = [
         survey_placed_section(
-            RiscV,
+            &link(RiscV, &EXECUTABLE, &addresses),
+            &Object {
+                facts,
+                values,
+                ..Object::default()
+            },
+            &section_at(&addresses, &code, &entries),
             phase,
-            &EXECUTABLE,
-            facts,
-            &addresses,
-            values,
-            &entries,
-            &code,
             &mut kept,
         ),
         survey_toc_loads(
-            RiscV,
-            &EXECUTABLE,
-            facts,
-            &addresses,
-            values,
-            start,
-            &word,
-            &entries,
-            &code,
+            &link(RiscV, &EXECUTABLE, &addresses),
+            &Object {
+                facts,
+                values,
+                ..Object::default()
+            },
+            &section_at(&addresses, &code, &entries),
+            &Words {
+                address: start,
+                relocations: &word,
+                kept: &[],
+            },
             &mut words_kept,
         ),
         survey_global_pointer(
-            RiscV,
-            &EXECUTABLE,
-            facts,
-            &addresses,
-            values,
-            gp,
-            &entries,
-            &code,
+            &Link {
+                global_pointer: gp,
+                ..link(RiscV, &EXECUTABLE, &addresses)
+            },
+            &Object {
+                facts,
+                values,
+                ..Object::default()
+            },
+            &section_at(&addresses, &code, &entries),
             &mut symbols_kept,
         ),
     ];
@@ -2266,57 +2396,68 @@ fn with_both(facts: &[SymbolFacts; 4], values: &[Symbol; 4]) -> [Option<usize>; 
     let (mut after, mut bytes) = (entries.clone(), code.clone());
     let (mut decisions, mut deleted) = ([Decision::Kept; 4], [(0, 0); 4]);
     let placed = rewrite_placed_section(
-        RiscV,
+        &link(RiscV, &EXECUTABLE, &addresses),
+        &Object {
+            facts,
+            values,
+            unrelaxable_groups: &kept,
+            ..Object::default()
+        },
+        &mut section_at(&addresses, &mut bytes, &mut after),
         phase,
-        &EXECUTABLE,
-        facts,
-        &addresses,
-        values,
-        &kept,
-        &mut after,
-        &mut bytes,
         &mut decisions,
         &mut deleted,
     );
     let loads = rewrite_toc_loads(
-        RiscV,
-        &EXECUTABLE,
-        facts,
-        &addresses,
-        values,
-        start,
-        &word,
-        &words_kept,
-        &mut after,
-        &mut bytes,
+        &link(RiscV, &EXECUTABLE, &addresses),
+        &Object {
+            facts,
+            values,
+            ..Object::default()
+        },
+        &mut section_at(&addresses, &mut bytes, &mut after),
+        &Words {
+            address: start,
+            relocations: &word,
+            kept: &words_kept,
+        },
         &mut decisions,
     );
     let mut turned = entries.clone();
     let near = rewrite_global_pointer(
-        RiscV,
-        &EXECUTABLE,
-        facts,
-        &addresses,
-        values,
-        gp,
-        &[false; 4],
-        &mut turned,
-        &code,
+        &Link {
+            global_pointer: gp,
+            ..link(RiscV, &EXECUTABLE, &addresses)
+        },
+        &Object {
+            facts,
+            values,
+            kept_high_parts: &[false; 4],
+            ..Object::default()
+        },
+        &mut section_at(&addresses, &code, &mut turned),
         &mut decisions,
         &mut deleted,
     );
     assert!(near.is_ok() || turned == entries);
     let mut facts_snapshot = [FactsSnapshot::default(); 4];
-    snapshot_facts(&EXECUTABLE, facts, &mut facts_snapshot);
-    let written = relocate_rewritten_section(
-        RiscV,
+    snapshot_facts(
         &EXECUTABLE,
-        facts,
-        &facts_snapshot,
-        &addresses,
-        &entries,
-        values,
-        &mut bytes,
+        &Object {
+            facts,
+            ..Object::default()
+        },
+        &mut facts_snapshot,
+    );
+    let written = relocate_rewritten_section(
+        &link(RiscV, &EXECUTABLE, &addresses),
+        &Object {
+            facts,
+            facts_snapshot: &facts_snapshot,
+            values,
+            ..Object::default()
+        },
+        &mut section_at(&addresses, &mut bytes, &entries),
         &mut [0; 4],
     );
     assert!(written.is_ok() || (after == entries && bytes == code));
@@ -2406,18 +2547,29 @@ fn calls_of_other_files_on_ppc64_go_by_a_stub() {
     };
     let written = |architecture, code, facts: SymbolFacts, value: Symbol| {
         let (facts, mut kept) = ([SymbolFacts::default(), facts], [FactsSnapshot::default(); 2]);
-        snapshot_facts(&EXECUTABLE, &facts, &mut kept);
+        snapshot_facts(
+            &EXECUTABLE,
+            &Object {
+                facts: &facts,
+                ..Object::default()
+            },
+            &mut kept,
+        );
         let mut section = words(&[0x4800_0001, 0xe841_0018]);
         let before = section.clone();
         let result = relocate_rewritten_section(
-            architecture,
-            &EXECUTABLE,
-            &facts,
-            &kept,
-            &addresses,
-            &bytes_of(&[rela(0, 0, 1, 0), rela(0, code, 1, 0)]),
-            &[Symbol::default(), value],
-            &mut section,
+            &link(architecture, &EXECUTABLE, &addresses),
+            &Object {
+                facts: &facts,
+                facts_snapshot: &kept,
+                values: &[Symbol::default(), value],
+                ..Object::default()
+            },
+            &mut section_at(
+                &addresses,
+                &mut section,
+                &bytes_of(&[rela(0, 0, 1, 0), rela(0, code, 1, 0)]),
+            ),
             &mut [0; 2],
         );
         assert!(result.is_ok() || section == before);

@@ -4,8 +4,9 @@
 
 use linker_utils::elf::Architecture::{self, AArch64, LoongArch64, Ppc64, RiscV, X86_64};
 use linker_utils::elf::RelocateError;
+use linker_utils::output::Origins;
 use linker_utils::section::{
-    Addresses, Entry, EntryClass, Rela, RelocationError, SectionError, Symbol, ValueError,
+    Addresses, Entry, EntryClass, Link, Object, Rela, RelocationError, Section, Symbol, ValueError,
     memory_len, needs, relocation_at, relocations_len, value,
 };
 use linker_utils::utils::Uleb128Error;
@@ -57,26 +58,48 @@ fn of(
     )
 }
 
-/// `relocate_section` with memory of its own; with an error the section is as before.
+/// An error without the value, which `relocate_section` compares with the cause.
+#[derive(Debug, PartialEq)]
+struct SectionError {
+    index: usize,
+    error: RelocationError,
+}
+
+/// `relocate_section` with memory of its own; with an error the section is as before, and a value
+/// that is rejected isn't one that can be written.
 fn relocate_section(
     architecture: Architecture,
     addresses: &Addresses,
     relocations: &[u8],
-    symbols: &[Symbol],
-    section: &mut [u8],
+    values: &[Symbol],
+    bytes: &mut [u8],
 ) -> Result<(), SectionError> {
-    let before = section.to_vec();
+    let before = bytes.to_vec();
     let mut memory = vec![0x5555; memory_len(relocations)];
-    let result = linker_utils::section::relocate_section(
-        architecture,
-        addresses,
-        relocations,
-        symbols,
-        section,
-        &mut memory,
-    );
-    assert!(result.is_ok() || section == before);
-    result
+    let link = Link {
+        got_base: addresses.got_base,
+        origins: addresses.has_tls.then_some(Origins {
+            thread_pointer: addresses.thread_origin,
+            module_block: addresses.module_origin,
+        }),
+        module_entry: Some(addresses.module_entry),
+        ..Link::new(architecture)
+    };
+    assert_eq!(link.addresses(addresses.section).has_tls, addresses.has_tls);
+    let object = Object { values, ..Object::default() };
+    let mut section = Section { address: addresses.section, ..Section::new(bytes, relocations) };
+    let result =
+        linker_utils::section::relocate_section(&link, &object, &mut section, &mut memory);
+    assert!(result.is_ok() || section.bytes == before);
+    result.map_err(|it| {
+        if let Some(rejected) = it.rejected {
+            assert_eq!(it.error, RelocationError::Write(rejected.error));
+            let is_far = !(rejected.least..=rejected.greatest).contains(&rejected.value);
+            let is_uneven = rejected.value.rem_euclid(rejected.alignment as i64) != 0;
+            assert!(is_far || is_uneven, "{rejected}");
+        }
+        SectionError { index: it.index, error: it.error }
+    })
 }
 
 /// The 24 bytes of a relocation.

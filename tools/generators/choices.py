@@ -276,7 +276,7 @@ def enumerators(architecture):
     found = re.findall(r"((?:    ///.*\n)+)(?:    #.*\n)?    (\w+)(\(u8\))?,", variants + "\n")
     for number, (docs, name, with_n) in enumerate(found):
         said = " ".join(re.findall(r"/// (.*)", docs))
-        said = re.sub(r"`(\w+)Instruction::(\w+)`", lambda form: f"LINKER_UTILS_{form[1].upper()}_FORM_{snake(form[2])}", said)
+        said = re.sub(r"\[`(\w+)Instruction::(\w+)`\]\([\w:]+\)", lambda form: f"LINKER_UTILS_{form[1].upper()}_FORM_{snake(form[2])}", said)
         said = f"opcode_len: {said[0].lower()}{said[1:]}" if with_n else said
         line = f"    LINKER_UTILS_{architecture.header.upper()}_REWRITE_{snake(name)} = {number},"
         line = line.removesuffix(",") if number + 1 == len(found) else line

@@ -18,6 +18,7 @@ from pathlib import Path
 
 from generators.erase_contracts import Contracts, state_requirements
 from generators.erase_features import WITHOUT, gate
+from generators.erase_links import link_docs
 from generators.erase_source import Source
 
 ROOT = Path(__file__).resolve().parents[2]
@@ -49,7 +50,14 @@ WORDS_ADDED = {"const", "pub(crate)"}
 ADDITIONS = "rust/additions.txt"
 # Paths of the source, and those here.
 SHOWN_AS = {r"reading::recognise(?:::fields)?": "recognise", r"reading::\w+": "reading", r"section::\w+": "section",
-            r"rewriting::\w+": "rewriting", r"output::placement": "placement", r"output::\w+": "output"}
+            r"rewriting::\w+": "rewriting", r"output::placement": "placement", r"output::\w+": "output",
+            r"runs::(?!shapes)\w+": "runs"}
+# What docs call a module of the source, where they name no item of it.
+MODULE = re.compile(r"`linker_(?:base::)?(output|reading|relaxation|rewriting|runs|section)(?:::\w+)?`")
+# The files of `rust/head` that are a layer over functions of the source.
+LAYERS = ["link", "recognise"]
+# Types of a module and those below that have another name here: in the source two modules have it.
+RENAMED = {"linker_output/src/placement": {"Group": "StubCounts"}}
 # The folder of the exports, and what an export may pass by value. A pointer may also be to a struct
 # with C's layout.
 EXPORTS = "rust/exports/src"
@@ -278,10 +286,11 @@ def erase(source, contracts, moved, is_std, taking, added, found):
     # an addition that inlines takes the place of the source's
     text = re.sub(r"(#\[cfg_attr\(.*, inline\(always\)\)\]\n(?: *#\[.*\]\n)*?) *#\[inline\(always\)\]\n",
                   r"\1", text)
-    # in examples of the docs, and in `use`: a module here has the items of all of these there
+    # in docs, and in `use` of exports: a module here has the items of all of these there
     for there, here in SHOWN_AS.items():
         text = re.sub(rf"(?m)^( *//[/!].*)\blinker_{there}::", rf"\1linker_utils::{here}::", text)
-        text = re.sub(rf"(?m)^(use linker_utils::){there}::", rf"\1{here}::", text)
+        text = re.sub(rf"(?m)^(use linker_utils::source::){there}::", rf"\1{here}::", text)
+    text = re.sub(r"(?m)^ *//[/!].*", lambda line: MODULE.sub(r"`\1`", line[0]), text)
     text = re.sub(r"(\{\n|\n\n|\A)\n+", r"\1", text)
     return re.sub(r"\n+(\n *\})", r"\1", text)
 
@@ -318,6 +327,35 @@ def make_readers(utils):
         reader = found[0].replace('#[cfg(feature = "readers")]\n', "").replace("::utils::", "::readers::")
         text += "\n" + re.sub(r"-> Result<(\w+)>", r"-> Result<\1, ReadError>", reader)
     return text
+
+
+def make_layer(name, made):
+    """A file of `rust/head` whose functions are inlined over those of the source. In place of a line
+    `//= PATH: WAS = IS, ..` stand the docs of what has this path, with other names of parameters and without
+    its example: a function, or `TYPE.MEMBER`. The docs of a function move there, and leave the example, which is
+    still tested."""
+    def documented(found):
+        indent, path, renames, more = found.groups()
+        *module, item = path.split("::")
+        file = f"rust/src/{'/'.join(module)}.rs"
+        of, _, member = item.rpartition(".")
+        body = re.search(rf"(?m)^pub (?:struct|enum) {of} \{{\n(?s:.*?)^\}}", made[file])[0] if of else made[file]
+        docs = re.search(rf"(?m)((?:^ *///.*\n)+)(?:^ *#\[.*\]\n)*^ *(?:pub )?(?:fn )?{member or item}[:(<]", body)[1]
+        if not of:
+            examples = "".join(re.findall(r"///\n/// ```\n(?:///.*\n)*?/// ```\n", docs))
+            examples = re.sub(r"linker_utils::(?=(?:recognise|rewriting|runs|section)::)", "linker_utils::source::", examples)
+            made[file] = made[file].replace(
+                docs, f"/// `crate::{name}::{item}`, with more parameters.\n{examples}", 1)
+        text = re.sub(r"(?m)^ *", "", re.sub(r" *///\n */// ```\n(?: *///.*\n)*? */// ```\n", "", docs))
+        for was, new in (each.split(" = ") for each in (renames or "").split(", ") if each):
+            text = re.sub(r"`[^`\n]*`", lambda span: re.sub(rf"(?<![\w.:]){was}(?!\w|\()", new, span[0]), text)
+        text, mark, requires = text.partition("///\n/// # Requires\n")
+        made_of = text + re.sub(r"(?m)^ *", "", more) + mark + requires
+        return re.sub(r"(?m)^", indent, made_of.rstrip("\n")) + "\n"
+
+    text = (ROOT / f"rust/head/{name}.rs").read_text()
+    text = re.sub(r"(?m)^( *)//= ([\w:.]+)(?:: (.*))?\n((?: *///.*\n)*)", documented, text)
+    return f"{MADE}rust/head/{name}.rs.\n{text}"
 
 
 def make_heads(made):
@@ -402,7 +440,8 @@ TARGETS = [
     ("vectors", "rust/vectors/src", "rust/vectors/src/lib.rs", {}),
     ("linkfix", "rust/linkfix/src", "rust/linkfix/src/main.rs", {"std": "std"}),
     ("linker_utils_c", EXPORTS, f"{EXPORTS}/lib.rs",
-     {f"linker_{name}": f"linker_utils::{name}" for name in ("runs", "reading", "section", "rewriting", "output")}),
+     {f"linker_{name}": f"linker_utils::source::{name}"
+      for name in ("runs", "reading", "section", "rewriting", "output")}),
 ]
 
 
@@ -438,6 +477,10 @@ def make():
         for source in sources[crate]:
             erased = erase(source, contracts if is_library else None, moved, crate in ("linkfix", "vectors"), taking,
                            added if is_library else {}, found)
+            for module, types in RENAMED.items():
+                if source.path.as_posix().startswith(f"crates/{module}"):
+                    for was, new in types.items():
+                        erased = re.sub(rf"\b{was}\b", new, erased)
             if folder == EXPORTS:
                 erased = erase_exports(erased)
             if crate in ("linker_section", "linker_rewriting", "linker_utils"):
@@ -469,10 +512,14 @@ def make():
         # the choices of each architecture share a folder
         if not pages.count(page) or pages.count(page) > 1 and page.parent.name != "choices":
             sys.exit(f"{page}: {pages.count(page)} functions have this name")
+    made |= {f"rust/src/{name}.rs": make_layer(name, made) for name in LAYERS}
     made |= gate({name: text for name, text in made.items() if name.startswith("rust/src/")},
                  lambda name, text: Source(Path(name), text), added)
     made["rust/src/readers.rs"] = make_readers(made["rust/src/linker_base/utils.rs"])
     made[f"{EXPORTS}/exported.rs"] = make_heads(made)
+    made |= link_docs({name: text for name, text in made.items() if name.startswith("rust/src/")},
+                      {name for name, words in added.items() if "doc(hidden)" in words},
+                      [f"rust/src/{name}.rs" for name in LAYERS])
     return made
 
 

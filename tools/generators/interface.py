@@ -3,7 +3,7 @@
 has private fields, and a `required` item of a trait has no default.
 
 rustdoc writes the items as JSON. Its form isn't stable: a form that isn't known here is an error, with
-which nothing is compared or written.
+which nothing is compared or written. A function with more than MOST_PARAMETERS is an error too.
 """
 import json
 import os
@@ -13,6 +13,7 @@ from pathlib import Path
 
 ROOT = Path(__file__).resolve().parents[2]
 LIST, FORM = "rust/interface.txt", 57
+MOST_PARAMETERS = 6
 # What rustc implements for nearly all types, and not for users.
 LEFT_OUT = {"Freeze", "RefUnwindSafe", "StructuralPartialEq", "Unpin", "UnsafeUnpin", "UnwindSafe"}
 # what of an item of a trait is its default
@@ -110,6 +111,8 @@ def lines(index, number, at, seen, within=""):
                 index[str(each)]["name"] == "compat", index[str(each)]["name"] or ""))
             name = name if at or it["name"] != "linker_utils" else ""
         case "function":
+            if len(inner["sig"]["inputs"]) > MOST_PARAMETERS:
+                sys.exit(f"tools/generate: {name} has more than {MOST_PARAMETERS} parameters")
             yield f"{required}{'const ' * inner['header']['is_const']}fn {name}" + head(
                 inner["sig"], inner["generics"]["params"])
         case "struct":

@@ -11,7 +11,7 @@ use linker_utils::elf::{Architecture, InstructionRewrite, Operands, Row};
 use linker_utils::loongarch64::LoongArch64Relocation;
 use linker_utils::ppc64::{self, Ppc64Relocation};
 use linker_utils::reading::{FieldValue, read, solve};
-use linker_utils::recognise::{self, FieldBits, RecognisedName};
+use linker_utils::recognise::{self, FieldBits, RecognisedName, Windows};
 use linker_utils::relaxation::RelocationModifier;
 use linker_utils::riscv64::RiscVRelocation;
 use linker_utils::x86_64::X86_64Relocation;
@@ -280,10 +280,8 @@ impl Before {
         others: &[FieldBits],
         linked: &[u8],
     ) -> impl Iterator<Item = Chosen> + Clone + use<> {
-        let (bytes, offset) = (&self.bytes, self.offset);
-        recognise::architecture::recognise(
-            self.architecture, self.code, bytes, offset, others, linked,
-        )
+        let windows = Windows { original: &self.bytes, offset: self.offset, others, linked };
+        recognise::architecture::recognise(self.architecture, self.code, &windows)
         // without the values, which are large
         .map(|made| made.map(|made| made.choice))
         .into_iter()

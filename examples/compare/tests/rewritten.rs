@@ -5,9 +5,9 @@
 use compare::elf::{self, Home, Linked, Object, Section};
 use linker_utils::elf::Architecture;
 use linker_utils::rewriting::{
-    Decision, KeptGroups, OutputFacts, Scope, SymbolFacts, rewrite_section, scope_of, survey,
+    Decision, UnrelaxableGroups, Scope, SymbolFacts, rewrite_section, scope_of, survey,
 };
-use linker_utils::section::{Rela, relocation_at};
+use linker_utils::section::{self, Link, Rela, relocation_at};
 use std::collections::HashSet;
 use std::fs;
 use std::path::Path;
@@ -82,22 +82,24 @@ fn compare_way(way: &str, counts: &mut [usize; 2]) {
         .filter(|it| !it.is_local && it.home != Home::Undefined)
         .map(|it| it.name.to_string())
         .collect();
-    let output = OutputFacts { is_executable: true, is_fixed: true, has_near_symbols: true };
     for object in &objects {
         let (of, symbols) = (object.architecture, facts_of(object, &defined));
-        let mut kept = vec![KeptGroups::default(); symbols.len()];
+        let link =
+            Link { is_executable: true, is_fixed: true, has_near_symbols: true, ..Link::new(of) };
+        let known = section::Object { facts: &symbols, ..section::Object::default() };
+        let mut kept = vec![UnrelaxableGroups::default(); symbols.len()];
         let sections = || object.sections.iter().enumerate().filter(|(_, it)| it.is_code);
         for (_, section) in sections() {
-            survey(of, &output, &symbols, &entries_of(section), section.bytes, &mut kept);
+            let section = section::Section::new(section.bytes, entries_of(section));
+            survey(&link, &known, &section, &mut kept);
         }
         for (index, section) in sections() {
             let mut entries = entries_of(section);
             let mut bytes = section.bytes.to_vec();
             let mut decisions = vec![Decision::Kept; section.relocations.len()];
-            rewrite_section(
-                of, &output, &symbols, &kept, &mut entries, &mut bytes, &mut decisions,
-            )
-            .unwrap();
+            let known = section::Object { unrelaxable_groups: &kept, ..known };
+            let mut made = section::Section::new(&mut bytes, &mut entries);
+            rewrite_section(&link, &known, &mut made, &mut decisions).unwrap();
             let Some(address) = address_of(&linked, object, index) else {
                 continue;
             };

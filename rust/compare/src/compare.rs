@@ -3,7 +3,7 @@
 //! same, leave the same behind and allocate as often.
 
 use exports::*;
-use linker_utils::runs::relaxation::{Shape, Shapes};
+use linker_utils::runs::{Shape, Shapes};
 use linker_utils::runs::shapes::{fixed, loongarch64, riscv64};
 use std::cell::Cell;
 use std::ffi::c_void;

@@ -7,7 +7,8 @@ use linker_utils::output::{LazyEntry, Origins};
 use linker_utils::placement::{Branch, StubShape};
 use linker_utils::recognise::FieldBits;
 use linker_utils::relaxation::{BlockHead, Call, RelaxDelta};
-use linker_utils::rewriting::{FactsSnapshot, UnrelaxableGroups, OutputFacts, SymbolFacts};
+use linker_utils::rewriting::{FactsSnapshot, UnrelaxableGroups, SymbolFacts};
+use linker_utils::source::rewriting::OutputFacts;
 use linker_utils::section::{Addresses, Symbol};
 
 fields! { RelaxDelta: input_offset, bytes_deleted, cumulative_deleted, }

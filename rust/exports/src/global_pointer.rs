@@ -5,16 +5,16 @@
 use crate::deltas::Deletion;
 use crate::rewriting::{DecisionNumbers, put_error, survey_status};
 use crate::status::Status;
-use linker_utils::rewriting::{OutputFacts, SymbolFacts};
-use linker_utils::rewriting::{
+use linker_utils::source::rewriting::{OutputFacts, SymbolFacts};
+use linker_utils::source::rewriting::{
     finish_gp_relaxation, rewrite_global_pointer, survey_global_pointer,
 };
-use linker_utils::rewriting::Phase;
-use linker_utils::section::{Addresses, Symbol};
+use linker_utils::source::rewriting::Phase;
+use linker_utils::source::section::{Addresses, Symbol};
 use linker_utils::elf::Architecture;
 
 /// Notes which symbols of an object keep the high part of their address, by one of its sections of
-/// code, as `survey_global_pointer` of `linker_rewriting`. `UnknownArchitecture`; `FactsContradict`.
+/// code, as `survey_global_pointer` of `rewriting`. `UnknownArchitecture`; `FactsContradict`.
 pub fn linker_utils_survey_global_pointer_nonnull(
     machine: u16,
     output: &OutputFacts,
@@ -43,7 +43,7 @@ pub fn linker_utils_survey_global_pointer_nonnull(
 }
 
 /// Has the high parts of addresses near the global pointer or 0 go, and turns the relocations of a
-/// section of code into those without them, as `rewrite_global_pointer` of `linker_rewriting`. What
+/// section of code into those without them, as `rewrite_global_pointer` of `rewriting`. What
 /// became of each relocation is in `decisions`, and what is to be deleted in the first
 /// `deleted_used` elements of `deleted`; the elements after these are unchanged.
 ///
@@ -91,7 +91,7 @@ pub fn linker_utils_rewrite_global_pointer_nonnull(
 }
 
 /// Writes the base of each low part of a section that has none, as `finish_gp_relaxation` of
-/// `linker_rewriting`.
+/// `rewriting`.
 ///
 /// `OutOfReach`, where no base reaches what the relocation at `faulty` refers to, its symbol isn't
 /// in the table, or its instruction isn't in the section. Then the section and its relocations are

@@ -4,16 +4,16 @@
 
 use crate::sections::status_of_error;
 use crate::status::Status;
-use linker_utils::rewriting::{OutputFacts, SymbolFacts};
-use linker_utils::rewriting::{
+use linker_utils::source::rewriting::{OutputFacts, SymbolFacts};
+use linker_utils::source::rewriting::{
     FactsSnapshot, WritingError, relocate_rewritten_section, snapshot_facts,
 };
-use linker_utils::section::{Addresses, Symbol};
-use linker_utils::section::memory_len;
+use linker_utils::source::section::{Addresses, Symbol};
+use linker_utils::source::section::memory_len;
 use linker_utils::elf::Architecture;
 
 /// Keeps what choices of rewrites read of an object's symbols and of the output, as `snapshot_facts` of
-/// `linker_rewriting`. The error is `DifferentLengths`.
+/// `rewriting`. The error is `DifferentLengths`.
 pub fn linker_utils_snapshot_facts_nonnull(
     output: &OutputFacts,
     symbols: &[SymbolFacts],
@@ -27,7 +27,7 @@ pub fn linker_utils_snapshot_facts_nonnull(
 }
 
 /// Writes the values of a section whose instructions were rewritten, as
-/// `relocate_rewritten_section` of `linker_rewriting`, or none of them. The first that applies of
+/// `relocate_rewritten_section` of `rewriting`, or none of them. The first that applies of
 /// `UnknownArchitecture`; `ShortMemory`, where `memory` has fewer elements than
 /// `linker_utils_relocate_memory`; `FactsContradict`, with the symbol at `faulty`; `FactsChanged`,
 /// with the first such relocation at `faulty`; `NeedsStub`, likewise; and why the relocation at

@@ -4,8 +4,8 @@
 
 use crate::relocate::status_of;
 use crate::status::Status;
-use linker_utils::output::{LazyEntry, LazyPlt};
-use linker_utils::output::StubError;
+use linker_utils::source::output::{LazyEntry, LazyPlt};
+use linker_utils::source::output::StubError;
 use linker_utils::elf::Architecture;
 
 /// Lengths of a lazy PLT, in bytes, and how many words `.got.plt` has before those of entries.

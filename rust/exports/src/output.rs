@@ -5,11 +5,11 @@
 
 use crate::relocate::status_of;
 use crate::status::Status;
-use linker_utils::output::Target;
-use linker_utils::output::{Origins, entry_words, static_words};
-use linker_utils::output::SymbolPlace;
-use linker_utils::output::{StubError, StubKind};
-use linker_utils::section::EntryClass;
+use linker_utils::source::output::Target;
+use linker_utils::source::output::{Origins, entry_words, static_words};
+use linker_utils::source::output::SymbolPlace;
+use linker_utils::source::output::{StubError, StubKind};
+use linker_utils::source::section::EntryClass;
 use linker_utils::elf::Architecture;
 
 /// The codes of the dynamic relocations that a linker emits.
@@ -215,7 +215,7 @@ pub fn linker_utils_get_entry_words(entry_class: u32) -> u64 {
     }
 }
 
-/// Writes what an entry's words hold in a static executable, as `static_words` of `linker_output`.
+/// Writes what an entry's words hold in a static executable, as `static_words` of `output`.
 /// `UnknownEntryClass`, also of a TLS descriptor, which no static executable has.
 pub fn linker_utils_static_words(
     entry_class: u32,

@@ -4,8 +4,8 @@
 
 use crate::relaxing::ItemNumbers;
 use crate::status::Status;
-use linker_utils::runs::items::AsItem;
-use linker_utils::runs::packing::{ItemError, Machine, has_its_instructions, pack_run, packed_run_len};
+use linker_utils::source::runs::AsItem;
+use linker_utils::source::runs::{ItemError, Machine, has_its_instructions, pack_run, packed_run_len};
 use linker_utils::elf::Architecture;
 use linker_utils::relaxation::RelaxDelta;
 

@@ -3,7 +3,7 @@
 //! Places of stubs, in arrays of the caller's.
 
 use crate::status::Status;
-use linker_utils::placement::{Branch, Code, Layout, PlaceError, StubShape, place_stubs};
+use linker_utils::source::placement::{Branch, Code, Layout, PlaceError, StubShape, place_stubs};
 
 /// A stub that is placed.
 #[repr(C)]

@@ -5,15 +5,15 @@
 
 use crate::forms::form_of;
 use crate::status::Status;
-use linker_utils::reading::FieldValue;
-use linker_utils::reading::operand;
-use linker_utils::reading::read;
-use linker_utils::reading::{Reference, Terms, join, solve, terms_of};
+use linker_utils::source::reading::FieldValue;
+use linker_utils::source::reading::operand;
+use linker_utils::source::reading::read;
+use linker_utils::source::reading::{Reference, Terms, join, solve, terms_of};
 use linker_utils::bit_misc::BitRange;
 use linker_utils::elf::{Architecture, Operands, RelocationInstruction, Row};
 
 /// The number that the machine makes of the immediate of the instruction that the bytes begin with,
-/// as `operand` of `linker_reading` returns it. The first that applies of `UnknownArchitecture`;
+/// as `operand` of `reading` returns it. The first that applies of `UnknownArchitecture`;
 /// `UnknownForm`; `DoesNotMatch`, where the bytes don't begin with an instruction of the form.
 pub fn linker_utils_operand_nonnull(
     machine: u16,
@@ -77,7 +77,7 @@ impl FieldValueNumbers {
 }
 
 /// What is known of the value of the relocation with `r_type` from the bytes that begin with its
-/// field, as `read` of `linker_reading` returns it. The first that applies of
+/// field, as `read` of `reading` returns it. The first that applies of
 /// `UnknownArchitecture`; `UnknownRelocation`; `TooShort`, where there are fewer bytes than the
 /// field's; `HoldsNoValue`.
 pub fn linker_utils_read_value_nonnull(
@@ -159,7 +159,7 @@ fn solve_row(
 }
 
 /// What is known of the address that the value of the relocation with `r_type` comes from, as
-/// `solve` of `linker_reading` returns it, and into `reference` which address it is: 0 that of the
+/// `solve` of `reading` returns it, and into `reference` which address it is: 0 that of the
 /// symbol, 1 that of the GOT entry, 2 that of the PLT entry. Of the operands only the place, the
 /// GOT's address and the base of TLS are read. The first that applies of `UnknownArchitecture`;
 /// `UnknownRelocation`; `BadFieldValue`; `NoAddress`, also where the base of TLS is read and there
@@ -192,7 +192,7 @@ fn put_whole(joined: Option<FieldValue>, whole: &mut FieldValueNumbers) -> u32 {
     }
 }
 
-/// What is known of an address from both halves of a pair, as `join` of `linker_reading` returns
+/// What is known of an address from both halves of a pair, as `join` of `reading` returns
 /// it. The first that applies of `BadFieldValue`, of either half, and `NotHalves`.
 pub fn linker_utils_join(
     high: &FieldValueNumbers,

@@ -5,17 +5,17 @@
 use crate::choices::{ChoiceNumbers, LinkFactNumbers, in_numbers};
 use crate::reading::{FieldValueNumbers, reference_number};
 use crate::status::Status;
-use linker_utils::reading::FieldValue;
-use linker_utils::recognise::architecture::{
+use linker_utils::source::reading::FieldValue;
+use linker_utils::source::recognise::architecture::{
     Destination, destination_of, recognise, recognise_chosen, window_of,
 };
-use linker_utils::recognise::{FieldBits, field_bits, same_but_for};
-use linker_utils::recognise::{CANDIDATES, MAX_WINDOW, Recognised};
+use linker_utils::source::recognise::{FieldBits, field_bits, same_but_for};
+use linker_utils::source::recognise::{CANDIDATES, MAX_WINDOW, Recognised};
 use linker_utils::architecture::Relaxation;
 use linker_utils::elf::{Architecture, Choice, Operands, RewriteWindow, Row};
 
 /// Which bits of the bytes that `bytes` begins with a write of the relocation with `r_type` may
-/// change, bit 0 the lowest of the first byte, as `field_bits` of `linker_reading` returns them.
+/// change, bit 0 the lowest of the first byte, as `field_bits` of `reading` returns them.
 /// The first that applies of `UnknownArchitecture`; `UnknownRelocation`; `TooShort`.
 pub fn linker_utils_field_bits_nonnull(
     machine: u16,
@@ -109,7 +109,7 @@ fn write_found(
 }
 
 /// Writes the window that `linker_utils_recognise` wants around the relocation with `r_type`, whose
-/// offset in the original bytes is given, as `window_of` of `linker_reading`. The first that
+/// offset in the original bytes is given, as `window_of` of `reading`. The first that
 /// applies of `UnknownArchitecture`; `WindowTooLong`.
 pub fn linker_utils_recognise_window_nonnull(
     machine: u16,
@@ -129,7 +129,7 @@ pub fn linker_utils_recognise_window_nonnull(
 }
 
 /// Writes which rewrites, and relocations after them, a linker may have made at the relocation with
-/// `r_type`, whose offset in the original bytes is given, as `recognise` of `linker_reading`.
+/// `r_type`, whose offset in the original bytes is given, as `recognise` of `reading`.
 /// `count` is how many there are, and the elements of `found` from there on are unchanged.
 ///
 /// `found` has 6 elements. The first that applies of `UnknownArchitecture`; `DifferentLengths`;
@@ -303,7 +303,7 @@ fn put_destination_of(
 }
 
 /// Where a relocation leads that `linker_utils_recognise` or `linker_utils_recognise_chosen` found,
-/// with the same original bytes and offset, as `destination_of` of `linker_reading`; the symbol by
+/// with the same original bytes and offset, as `destination_of` of `reading`; the symbol by
 /// its `st_other`. The first that applies of `UnknownArchitecture`; `WindowTooLong`;
 /// `UnknownRewrite`; `NoAddress`.
 pub fn linker_utils_get_destination_nonnull(

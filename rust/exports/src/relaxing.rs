@@ -3,11 +3,11 @@
 //! A run of items that is relaxed, in arrays of the caller's.
 
 use crate::status::Status;
-use linker_utils::runs::items::AsItem;
-use linker_utils::runs::relaxation::{Alignment, Fault, Item, Shapes, Site, first_faulty, relax_into};
-use linker_utils::runs::shapes::fixed;
-use linker_utils::runs::shapes::loongarch64::{CALL36, PCALA};
-use linker_utils::runs::shapes::riscv64::{CALL, CALL_WITHOUT_C, TAIL_C};
+use linker_utils::source::runs::AsItem;
+use linker_utils::source::runs::{Alignment, Fault, Item, Shapes, Site, first_faulty, relax_into};
+use linker_utils::source::runs::shapes::fixed;
+use linker_utils::source::runs::shapes::loongarch64::{CALL36, PCALA};
+use linker_utils::source::runs::shapes::riscv64::{CALL, CALL_WITHOUT_C, TAIL_C};
 use linker_utils::relaxation::RelaxDelta;
 
 /// A part of a run that relaxation may shorten.

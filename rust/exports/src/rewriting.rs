@@ -4,14 +4,14 @@
 
 use crate::deltas::Deletion;
 use crate::status::Status;
-use linker_utils::rewriting::{AsDecision, Decision, FromDeletion, RewritingError, Subject};
-use linker_utils::rewriting::{OutputFacts, SymbolFacts};
-use linker_utils::rewriting::{UnrelaxableGroups, has_rewrites};
-use linker_utils::rewriting::Phase;
-use linker_utils::rewriting::{rewrite_placed_section, rewrite_section};
-use linker_utils::rewriting::{survey, survey_placed_section};
-use linker_utils::rewriting::{rewrite_toc_loads, survey_toc_loads};
-use linker_utils::section::{Addresses, Symbol};
+use linker_utils::source::rewriting::{AsDecision, Decision, FromDeletion, RewritingError, Subject};
+use linker_utils::source::rewriting::{OutputFacts, SymbolFacts};
+use linker_utils::source::rewriting::{UnrelaxableGroups, has_rewrites};
+use linker_utils::source::rewriting::Phase;
+use linker_utils::source::rewriting::{rewrite_placed_section, rewrite_section};
+use linker_utils::source::rewriting::{survey, survey_placed_section};
+use linker_utils::source::rewriting::{rewrite_toc_loads, survey_toc_loads};
+use linker_utils::source::section::{Addresses, Symbol};
 use linker_utils::architecture::Relaxation;
 use linker_utils::elf::{Architecture, Choice};
 
@@ -154,7 +154,7 @@ fn phase_of(number: u32) -> Option<Phase> {
     }
 }
 
-/// Whether an architecture has rewrites in a phase, as `has_rewrites` of `linker_rewriting`. False
+/// Whether an architecture has rewrites in a phase, as `has_rewrites` of `rewriting`. False
 /// of a machine or a phase that isn't known.
 pub fn linker_utils_has_rewrites(machine: u16, phase: u32) -> bool {
     match (Architecture::from_machine(machine), phase_of(phase)) {
@@ -164,7 +164,7 @@ pub fn linker_utils_has_rewrites(machine: u16, phase: u32) -> bool {
 }
 
 /// Notes which groups of an object stay as they are, by one of its sections, as `survey` of
-/// `linker_rewriting`. `UnknownArchitecture`.
+/// `rewriting`. `UnknownArchitecture`.
 pub fn linker_utils_survey_nonnull(
     machine: u16,
     output: &OutputFacts,
@@ -181,7 +181,7 @@ pub fn linker_utils_survey_nonnull(
 }
 
 /// Notes which groups of an object stay in a phase once addresses are known, by one of its
-/// sections, as `survey_placed_section` of `linker_rewriting`. The first that applies of
+/// sections, as `survey_placed_section` of `rewriting`. The first that applies of
 /// `UnknownArchitecture`; `UnknownPhase`; `FactsContradict`.
 pub fn linker_utils_survey_placed_section_nonnull(
     machine: u16,
@@ -244,7 +244,7 @@ pub(crate) fn put_error(error: RewritingError, faulty: &mut usize) -> u32 {
 }
 
 /// Rewrites the instructions of a section of code before addresses are known, and turns its
-/// relocations into those after it, as `rewrite_section` of `linker_rewriting`. What became of each
+/// relocations into those after it, as `rewrite_section` of `rewriting`. What became of each
 /// relocation is in `decisions`, whose elements after those of the relocations are unchanged.
 ///
 /// The first that applies of `UnknownArchitecture`; `ShortMemory`, where there are fewer decisions
@@ -279,7 +279,7 @@ pub fn linker_utils_rewrite_section_nonnull(
 }
 
 /// Rewrites the instructions of a section of code in a phase, once addresses are known, and turns
-/// its relocations into those after it, as `rewrite_placed_section` of `linker_rewriting`. What
+/// its relocations into those after it, as `rewrite_placed_section` of `rewriting`. What
 /// became of each relocation is in `decisions`, and what is to be deleted in the first
 /// `deleted_used` elements of `deleted`; the elements after these are unchanged.
 ///
@@ -331,7 +331,7 @@ pub fn linker_utils_rewrite_placed_section_nonnull(
 }
 
 /// Notes which words of an object's section of addresses stay, by one of its sections of code, as
-/// `survey_toc_loads` of `linker_rewriting`. `UnknownArchitecture`; `FactsContradict`.
+/// `survey_toc_loads` of `rewriting`. `UnknownArchitecture`; `FactsContradict`.
 pub fn linker_utils_survey_toc_loads_nonnull(
     machine: u16,
     output: &OutputFacts,
@@ -363,7 +363,7 @@ pub fn linker_utils_survey_toc_loads_nonnull(
 
 /// Has the instructions of a section of code compute the addresses that they load from words of an
 /// object's section of addresses, and turns their relocations into those after it, as
-/// `rewrite_toc_loads` of `linker_rewriting`. What became of each relocation is in `decisions`,
+/// `rewrite_toc_loads` of `rewriting`. What became of each relocation is in `decisions`,
 /// whose elements after those of the relocations are unchanged. The types of loads are those of
 /// which `linker_utils_entry_relocation` says another one.
 ///

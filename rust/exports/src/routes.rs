@@ -5,11 +5,11 @@
 use crate::relocate::status_of;
 use crate::sections::value_status_of;
 use crate::status::Status;
-use linker_utils::output::Target;
-use linker_utils::output::{Route, RouteError};
-use linker_utils::output::StubKind;
-use linker_utils::section::{Addresses, Symbol};
-use linker_utils::section::relocation_at;
+use linker_utils::source::output::Target;
+use linker_utils::source::output::{Route, RouteError};
+use linker_utils::source::output::StubKind;
+use linker_utils::source::section::{Addresses, Symbol};
+use linker_utils::source::section::relocation_at;
 use linker_utils::elf::Architecture;
 
 /// How a branch goes.

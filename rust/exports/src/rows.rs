@@ -6,7 +6,7 @@ use crate::choices::{ChoiceNumbers, LinkFactNumbers, choose_in_numbers};
 use crate::relocate::{Reach, reach_by, reach_in, status_of, value_by, value_status, write_by};
 use crate::sections::{RequirementNumbers, in_numbers, needs_by};
 use crate::status::Status;
-use linker_utils::section::needs;
+use linker_utils::source::section::needs;
 use linker_utils::architecture::HANDLE_UNIT;
 use linker_utils::elf::{ApplyError, Architecture, Operands, RelocationKind, RelocationSize, Row};
 

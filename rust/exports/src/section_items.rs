@@ -6,7 +6,7 @@ use crate::deltas::Deletion;
 use crate::pack_runs::packing_machine;
 use crate::relaxing::ItemNumbers;
 use crate::status::Status;
-use linker_utils::runs::items::{
+use linker_utils::source::runs::{
     AsRelocation, Relocation, RewrittenItemsError, rewritten_items_into, section_items_into,
 };
 

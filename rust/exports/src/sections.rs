@@ -4,11 +4,11 @@
 
 use crate::relocate::{status_of, uleb_status_of};
 use crate::status::Status;
-use linker_utils::section::{Addresses, Symbol};
-use linker_utils::section::{EntryClass, Requirements, needs};
-use linker_utils::section::relocation_at;
-use linker_utils::section::{RelocationError, memory_len, relocate_section};
-use linker_utils::section::{ValueError, value as value_of};
+use linker_utils::source::section::{Addresses, Symbol};
+use linker_utils::source::section::{EntryClass, Requirements, needs};
+use linker_utils::source::section::relocation_at;
+use linker_utils::source::section::{RelocationError, memory_len, relocate_section};
+use linker_utils::source::section::{ValueError, value as value_of};
 use linker_utils::elf::Architecture;
 
 /// What a relocation requires.

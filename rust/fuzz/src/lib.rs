@@ -3,7 +3,7 @@
 //! panic, whatever the bytes are.
 
 use exports::*;
-use linker_utils::runs::relaxation::{Shape, Shapes};
+use linker_utils::runs::{Shape, Shapes};
 use linker_utils::runs::shapes::{fixed, loongarch64, riscv64};
 use linker_utils::utils;
 

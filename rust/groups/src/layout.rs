@@ -4,9 +4,9 @@
 use crate::objects::{Home, Object};
 use crate::random::Random;
 use linker_utils::output::{Origins, Target};
-use linker_utils::rewriting::{OutputFacts, SymbolFacts};
+use linker_utils::rewriting::SymbolFacts;
 use linker_utils::section::relocation_at;
-use linker_utils::section::{Addresses, EntryClass, Rela, Symbol, needs, relocations_len};
+use linker_utils::section::{EntryClass, Link, Rela, Symbol, needs, relocations_len};
 use std::collections::HashMap;
 
 /// The memory that instructions run in.
@@ -31,10 +31,8 @@ pub struct Layout {
     pub sections: Vec<u64>,
     pub symbols: Vec<Symbol>,
     pub facts: Vec<SymbolFacts>,
-    pub output: OutputFacts,
+    pub link: Link,
     pub origins: Origins,
-    pub got_base: u64,
-    pub module_entry: u64,
     pub words: Vec<Word>,
     /// The TLS image's address, and how long it is with that of other objects.
     pub image: u64,
@@ -49,17 +47,6 @@ fn aligned(address: u64, alignment: u64) -> u64 {
 }
 
 impl Layout {
-    pub fn addresses(&self, section: usize) -> Addresses {
-        Addresses {
-            section: self.sections[section],
-            got_base: self.got_base,
-            thread_origin: self.origins.thread_pointer,
-            module_origin: self.origins.module_block,
-            module_entry: self.module_entry,
-            has_tls: self.image_len > 0,
-        }
-    }
-
     /// None where the object is too large for the memory.
     pub fn new(object: &Object, random: &mut Random) -> Option<Layout> {
         let target = Target::of(object.architecture);
@@ -93,10 +80,15 @@ impl Layout {
         at += 64;
         place(&mut at, &is_toc);
         at = aligned(at, 8);
-        let got_base = target.got_base(got);
-
         let is_fixed = random.below(2) == 0;
-        let output = OutputFacts { is_executable: true, is_fixed, has_near_symbols: true };
+        let mut link = Link {
+            is_executable: true,
+            is_fixed,
+            has_near_symbols: true,
+            got_base: target.got_base(got),
+            origins: Some(origins),
+            ..Link::new(object.architecture)
+        };
         let (mut symbols, mut facts, mut truths) = (Vec::new(), Vec::new(), Vec::new());
         for (index, symbol) in object.symbols.iter().enumerate() {
             let foreign = CODE - FOREIGN_LEN * (index as u64 + 1);
@@ -151,7 +143,7 @@ impl Layout {
         }
 
         // entries of the GOT, all classes of each symbol and addend
-        let module_entry = at;
+        link.module_entry = Some(at);
         let mut words = vec![
             Word { address: got, value: target.got_header(got, 0).unwrap_or(0) },
             Word { address: at, value: 1 },
@@ -215,10 +207,8 @@ impl Layout {
             sections,
             symbols,
             facts,
-            output,
+            link,
             origins,
-            got_base,
-            module_entry,
             words,
             image,
             image_len,

@@ -8,7 +8,8 @@ use linker_utils::rewriting::{
     Decision, UnrelaxableGroups, Phase, rewrite_placed_section, rewrite_section, survey,
     survey_placed_section,
 };
-use linker_utils::section::{memory_len, relocate_section, relocation_at, relocations_len};
+use linker_utils::section::{self, Section, memory_len, relocate_section, relocation_at};
+use linker_utils::section::relocations_len;
 use std::error::Error;
 
 /// A relocation whose instruction is rewritten, or which goes with another one.
@@ -62,23 +63,18 @@ fn relocated(
     layout: &Layout,
     section: usize,
     relocations: &[u8],
-    mut bytes: Vec<u8>,
+    bytes: Vec<u8>,
 ) -> Result<Vec<u8>, Box<dyn Error>> {
     let relocations = without_alignments(object.architecture, relocations);
     let mut memory = vec![0; memory_len(&relocations)];
-    relocate_section(
-        object.architecture,
-        &layout.addresses(section),
-        &relocations,
-        &layout.symbols,
-        &mut bytes,
-        &mut memory,
-    )
-    .map_err(|error| {
-        let code = relocation_at(&relocations, error.index).map(|relocation| relocation.code);
+    let known = section::Object { values: &layout.symbols, ..section::Object::default() };
+    let mut section =
+        Section { address: layout.sections[section], ..Section::new(bytes, relocations) };
+    relocate_section(&layout.link, &known, &mut section, &mut memory).map_err(|error| {
+        let code = relocation_at(&section.relocations, error.index).map(|relocation| relocation.code);
         format!("relocation {} of type {code:?}: {:?}", error.index, error.error)
     })?;
-    Ok(bytes)
+    Ok(section.bytes)
 }
 
 /// Notes what a phase made of relocations.
@@ -113,29 +109,21 @@ pub fn link(object: &Object, layout: &Layout) -> Vec<Result<Linked, Box<dyn Erro
         tables.iter().map(|table| vec![None; relocations_len(table)]).collect();
     let mut errors: Vec<Option<String>> = vec![None; count];
 
+    let known = section::Object {
+        facts: &layout.facts,
+        values: &layout.symbols,
+        ..section::Object::default()
+    };
     let mut kept = vec![UnrelaxableGroups::default(); layout.symbols.len()];
     for &index in &code {
-        survey(
-            architecture,
-            &layout.output,
-            &layout.facts,
-            &tables[index],
-            &bytes[index],
-            &mut kept,
-        );
+        survey(&layout.link, &known, &Section::new(&bytes[index], &tables[index]), &mut kept);
     }
     for &index in &code {
         let mut decisions = vec![Decision::Kept; relocations_len(&tables[index])];
         let before = tables[index].clone();
-        match rewrite_section(
-            architecture,
-            &layout.output,
-            &layout.facts,
-            &kept,
-            &mut tables[index],
-            &mut bytes[index],
-            &mut decisions,
-        ) {
+        let known = section::Object { unrelaxable_groups: &kept, ..known };
+        let mut section = Section::new(&mut bytes[index], &mut tables[index]);
+        match rewrite_section(&layout.link, &known, &mut section, &mut decisions) {
             Ok(()) => note(&decisions, &before, &mut windows[index]),
             Err(error) => errors[index] = Some(format!("{error:?}")),
         }
@@ -143,36 +131,20 @@ pub fn link(object: &Object, layout: &Layout) -> Vec<Result<Linked, Box<dyn Erro
     for phase in LATER {
         let mut kept = vec![UnrelaxableGroups::default(); layout.symbols.len()];
         for &index in &code {
-            survey_placed_section(
-                architecture,
-                phase,
-                &layout.output,
-                &layout.facts,
-                &layout.addresses(index),
-                &layout.symbols,
-                &tables[index],
-                &bytes[index],
-                &mut kept,
-            )
-            .expect("tables that agree");
+            let section = Section::new(&bytes[index], &tables[index]);
+            let section = Section { address: layout.sections[index], ..section };
+            survey_placed_section(&layout.link, &known, &section, phase, &mut kept)
+                .expect("tables that agree");
         }
         for &index in &code {
             let mut decisions = vec![Decision::Kept; relocations_len(&tables[index])];
             let mut deleted = vec![(0, 0); decisions.len()];
             let before = tables[index].clone();
-            match rewrite_placed_section(
-                architecture,
-                phase,
-                &layout.output,
-                &layout.facts,
-                &layout.addresses(index),
-                &layout.symbols,
-                &kept,
-                &mut tables[index],
-                &mut bytes[index],
-                &mut decisions,
-                &mut deleted,
-            ) {
+            let known = section::Object { unrelaxable_groups: &kept, ..known };
+            let section = Section::new(&mut bytes[index], &mut tables[index]);
+            let mut section = Section { address: layout.sections[index], ..section };
+            let (made, listed) = (&mut decisions, &mut deleted);
+            match rewrite_placed_section(&layout.link, &known, &mut section, phase, made, listed) {
                 Ok(len) => {
                     note(&decisions, &before, &mut windows[index]);
                     for &(start, count) in &deleted[..len] {

@@ -165,7 +165,7 @@ fn run_object(
         machine.write(word.address, &word.value.to_le_bytes());
     }
     // where PowerPC64's stubs have stored the TOC pointer
-    machine.write(STACK + 24, &layout.got_base.to_le_bytes());
+    machine.write(STACK + 24, &layout.link.got_base.to_le_bytes());
     machine.set_thread(layout.origins.thread_pointer, layout.origins.module_block);
     for (index, section) in linked.iter().enumerate() {
         if !object.sections[index].is_code {
@@ -224,7 +224,7 @@ fn run_object(
         }
         let states: Vec<State> = (0..options.states * sequences.all.len() as u64)
             .map(|_| {
-                state(random, machine, layout.got_base, layout.origins.thread_pointer, architecture)
+                state(random, machine, layout.link.got_base, layout.origins.thread_pointer, architecture)
             })
             .collect();
         let runs: Vec<(&Sequence, &State)> = sequences

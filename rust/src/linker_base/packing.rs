@@ -34,7 +34,7 @@ fn position_at(deltas: &[RelaxDelta], begun: usize, input_offset: u64) -> Positi
 
 /// The position of an input offset, by a search.
 ///
-/// The deltas are as `SectionRelaxDeltas::deltas` lists them. With others the call is safe, but
+/// The deltas are as [`SectionRelaxDeltas::deltas`](crate::relaxation::SectionRelaxDeltas::deltas) lists them. With others the call is safe, but
 /// what it returns isn't specified.
 #[must_use]
 pub fn position_of(deltas: &[RelaxDelta], input_offset: u64) -> Position {

@@ -358,7 +358,7 @@ impl AllowedRange {
     }
 
     /// Whether a value is in the range. Where two instructions hold the value, a row's range may be
-    /// wider than what they reach: see `Row::reach`.
+    /// wider than what they reach: see [`Row::reach`](crate::elf::Row::reach).
     #[must_use]
     pub const fn contains(self, v: i64) -> bool {
         match self.bounds {

@@ -5,7 +5,7 @@
 use crate::linker_output::description::Target;
 
 /// The relocations of an instruction that loads an address, or of a half of it.
-#[derive(Clone, Copy, Debug, PartialEq, Eq)]
+#[derive(Clone, Copy, Debug, PartialEq, Eq, Hash)]
 pub struct WordLoad {
     /// The code, `r_type` in ELF files, where the address is in a word of the section.
     pub word: u32,
@@ -15,7 +15,7 @@ pub struct WordLoad {
 
 /// A section of objects whose words are addresses that nothing changes. A linker may have
 /// instructions compute such an address, as it may with one that the GOT has.
-#[derive(Clone, Copy, Debug, PartialEq, Eq)]
+#[derive(Clone, Copy, Debug, PartialEq, Eq, Hash)]
 pub struct AddressSection {
     /// Its name.
     pub name: &'static str,

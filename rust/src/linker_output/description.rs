@@ -21,7 +21,7 @@ macro_rules! target_of {
 ///
 /// The fields are public, so that a linker can describe a further architecture by a value of its
 /// own.
-#[derive(Clone, Copy)]
+#[derive(Clone, Copy, Debug, PartialEq, Eq, Hash)]
 pub struct Target {
     /// The dynamic relocations.
     pub dynamic: DynamicTypes,

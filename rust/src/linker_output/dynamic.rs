@@ -6,7 +6,7 @@ use crate::linker_output::description::Target;
 use crate::linker_section::needed::EntryClass;
 
 /// A type of dynamic relocations.
-#[derive(Clone, Copy, Debug, PartialEq, Eq)]
+#[derive(Clone, Copy, Debug, PartialEq, Eq, Hash)]
 pub struct DynamicType {
     /// The code, `r_type` in ELF files.
     pub code: u32,
@@ -15,7 +15,7 @@ pub struct DynamicType {
 }
 
 /// The types of dynamic relocations that a linker emits.
-#[derive(Clone, Copy, Debug, PartialEq, Eq)]
+#[derive(Clone, Copy, Debug, PartialEq, Eq, Hash)]
 pub struct DynamicTypes {
     /// A word with S + A.
     pub word: DynamicType,
@@ -63,7 +63,7 @@ fn name_in(types: &[DynamicType], code: u32) -> Option<&'static str> {
 
 impl Target {
     /// The name of a type of dynamic relocations, as "R_X86_64_RELATIVE", by its code, `r_type` in
-    /// ELF files. None of a code that is no type of `DynamicTypes`.
+    /// ELF files. None of a code that is no type of [`DynamicTypes`](crate::output::DynamicTypes).
     ///
     /// ```
     /// use linker_utils::output::Target;
@@ -103,7 +103,7 @@ impl Target {
     /// place. `is_executable` says that the output is a position-independent executable, and not a
     /// shared library. A descriptor's relocation is at its first word and writes both. In a shared
     /// library the second word of a bound symbol's `ModuleOffset` has its offset from
-    /// `Origins::module_block`.
+    /// [`Origins::module_block`](crate::output::Origins::module_block).
     ///
     /// ```
     /// use linker_utils::output::Target;

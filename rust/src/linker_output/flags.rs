@@ -5,7 +5,7 @@
 use crate::linker_output::description::Target;
 
 /// How `e_flags` of objects go together.
-#[derive(Clone, Copy, Debug, PartialEq, Eq)]
+#[derive(Clone, Copy, Debug, PartialEq, Eq, Hash)]
 pub struct FlagRules {
     /// The bits that are equal in all objects of an output.
     pub same: u32,

@@ -6,7 +6,7 @@ use crate::linker_output::description::Target;
 use crate::linker_section::needed::EntryClass;
 
 /// Where the thread pointer is, by the TLS image (ELF Handling For Thread-Local Storage).
-#[derive(Clone, Copy, Debug, PartialEq, Eq)]
+#[derive(Clone, Copy, Debug, PartialEq, Eq, Hash)]
 pub enum ThreadPointer {
     /// At the first multiple of the image's alignment at its end or above: variant II.
     AboveImage,
@@ -23,7 +23,7 @@ pub enum ThreadPointer {
 
 /// The addresses that offsets of thread-local storage count from.
 #[repr(C)]
-#[derive(Clone, Copy, Debug, PartialEq, Eq)]
+#[derive(Clone, Copy, Debug, PartialEq, Eq, Hash)]
 pub struct Origins {
     /// The address that the thread pointer stands for.
     pub thread_pointer: u64,
@@ -32,7 +32,7 @@ pub struct Origins {
 }
 
 /// The first word of the GOT.
-#[derive(Clone, Copy, Debug, PartialEq, Eq)]
+#[derive(Clone, Copy, Debug, PartialEq, Eq, Hash)]
 pub enum GotHeader {
     /// The address of `_DYNAMIC`, or 0 where there is none.
     Dynamic,
@@ -41,7 +41,7 @@ pub enum GotHeader {
 }
 
 /// The GOT.
-#[derive(Clone, Copy, Debug, PartialEq, Eq)]
+#[derive(Clone, Copy, Debug, PartialEq, Eq, Hash)]
 pub struct GotLayout {
     /// Its first word, if it isn't an entry.
     pub header: Option<GotHeader>,

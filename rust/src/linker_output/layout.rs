@@ -6,7 +6,7 @@
 use crate::linker_output::description::Target;
 
 /// How long the shortest instruction is, in bytes: what code is aligned to.
-#[derive(Clone, Copy, Debug, PartialEq, Eq)]
+#[derive(Clone, Copy, Debug, PartialEq, Eq, Hash)]
 pub struct CodeUnit {
     /// Without the flag.
     pub len: u64,
@@ -24,11 +24,11 @@ pub(crate) const WORDS: CodeUnit = CodeUnit {
 };
 
 /// Where a symbol is that a linker defines.
-#[derive(Clone, Copy, Debug, PartialEq, Eq)]
+#[derive(Clone, Copy, Debug, PartialEq, Eq, Hash)]
 pub enum SymbolPlace {
     /// At the TLS image in a shared library; in an executable at the address that the thread
     /// pointer stands for. The symbol is thread-local. An executable's object that refers to it may
-    /// have no local-dynamic TLS that stays (`UnrelaxableGroups` of `linker_rewriting`): its offsets
+    /// have no local-dynamic TLS that stays ([`UnrelaxableGroups`](crate::rewriting::UnrelaxableGroups) of `rewriting`): its offsets
     /// would still count from the image.
     ThreadLocal,
     /// At the GOT.
@@ -38,7 +38,7 @@ pub enum SymbolPlace {
 }
 
 /// A symbol that a linker defines if an object refers to it.
-#[derive(Clone, Copy, Debug, PartialEq, Eq)]
+#[derive(Clone, Copy, Debug, PartialEq, Eq, Hash)]
 pub struct ProvidedSymbol {
     /// Its name.
     pub name: &'static str,
@@ -49,7 +49,7 @@ pub struct ProvidedSymbol {
 }
 
 /// A word of each function of a run.
-#[derive(Clone, Copy, Debug, PartialEq, Eq)]
+#[derive(Clone, Copy, Debug, PartialEq, Eq, Hash)]
 pub struct RunWord {
     /// The word of the first function.
     pub word: u32,
@@ -61,7 +61,7 @@ pub struct RunWord {
 /// code, whose function with a number n begins 4 * `spacing` * (n - `first`) bytes after the run's
 /// start. They take registers that stubs change, so that branches have to reach them directly: a
 /// linker may place a run more than once.
-#[derive(Clone, Copy, Debug, PartialEq, Eq)]
+#[derive(Clone, Copy, Debug, PartialEq, Eq, Hash)]
 pub struct SaveRestoreRoutines {
     /// The functions' names without the number, which stands after it in decimal.
     pub prefix: &'static str,
@@ -134,9 +134,9 @@ impl SaveRestoreRoutines {
 }
 
 /// The path of the dynamic linker in glibc.
-#[derive(Clone, Copy, Debug, PartialEq, Eq)]
+#[derive(Clone, Copy, Debug, PartialEq, Eq, Hash)]
 pub struct Interpreter {
-    /// What the bits of `e_flags` are that `Target::interpreter_flags` has.
+    /// What the bits of `e_flags` are that [`Target::interpreter_flags`](crate::output::Target::interpreter_flags) has.
     pub flags: u32,
     /// The path.
     pub path: &'static str,

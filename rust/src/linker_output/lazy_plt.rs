@@ -13,7 +13,7 @@ use crate::linker_base::rewrite::overwrite;
 use crate::elf::{Architecture, Operands, RelocateError};
 
 /// What a field of a lazy PLT's code is computed from.
-#[derive(Clone, Copy, Debug, PartialEq, Eq)]
+#[derive(Clone, Copy, Debug, PartialEq, Eq, Hash)]
 pub enum LazyTarget {
     /// The address of the entry's word, and in the header that of the first word of `.got.plt`.
     Word,
@@ -24,7 +24,7 @@ pub enum LazyTarget {
 }
 
 /// A field of a lazy PLT's code.
-#[derive(Clone, Copy, Debug, PartialEq, Eq)]
+#[derive(Clone, Copy, Debug, PartialEq, Eq, Hash)]
 pub struct LazyField {
     /// Its place in the piece of code, and the relocation whose value it takes.
     pub field: StubField,
@@ -37,7 +37,7 @@ pub struct LazyField {
 }
 
 /// A piece of code with at most one field.
-#[derive(Clone, Copy, Debug, PartialEq, Eq)]
+#[derive(Clone, Copy, Debug, PartialEq, Eq, Hash)]
 pub struct LazyPiece {
     /// The code, in which the field is 0, and zeros after it.
     pub code: [u8; 8],
@@ -48,7 +48,7 @@ pub struct LazyPiece {
 }
 
 /// What a word of `.got.plt` holds before the dynamic linker changes it.
-#[derive(Clone, Copy, Debug, PartialEq, Eq)]
+#[derive(Clone, Copy, Debug, PartialEq, Eq, Hash)]
 pub enum LazyWord {
     /// 0.
     Zero,
@@ -63,7 +63,7 @@ pub enum LazyWord {
 /// The lazy PLT of an architecture.
 ///
 /// The fields are public, so that a linker can describe one by a value of its own.
-#[derive(Clone, Copy)]
+#[derive(Clone, Copy, Debug, PartialEq, Eq, Hash)]
 pub struct LazyPlt {
     /// The architecture whose relocations the fields have.
     pub instructions: Architecture,
@@ -83,7 +83,7 @@ pub struct LazyPlt {
 
 /// What an entry is written from.
 #[repr(C)]
-#[derive(Clone, Copy, Debug, PartialEq, Eq)]
+#[derive(Clone, Copy, Debug, PartialEq, Eq, Hash)]
 pub struct LazyEntry {
     /// Its address.
     pub address: u64,

@@ -21,11 +21,11 @@ use crate::linker_base::relaxation::OutOfMemory;
 
 /// A branch that may need a stub.
 #[repr(C)]
-#[derive(Clone, Copy, Debug, PartialEq, Eq)]
+#[derive(Clone, Copy, Debug, PartialEq, Eq, Hash)]
 pub struct Branch {
     /// Its offset.
     pub offset: u64,
-    /// Its target, as an index of `Code::targets`.
+    /// Its target, as an index of [`Code::targets`](crate::placement::Code::targets).
     pub target: usize,
     /// How far below the branch what it reaches may lie, in bytes.
     pub max_backward: u64,
@@ -35,7 +35,7 @@ pub struct Branch {
 
 /// What a stub is like.
 #[repr(C)]
-#[derive(Clone, Copy, Debug, PartialEq, Eq)]
+#[derive(Clone, Copy, Debug, PartialEq, Eq, Hash)]
 pub struct StubShape {
     /// How many bytes it has.
     pub len: u64,
@@ -49,7 +49,7 @@ pub struct StubShape {
 }
 
 /// The code between which stubs are placed.
-#[derive(Clone, Copy)]
+#[derive(Clone, Copy, Debug, PartialEq, Eq, Hash)]
 pub struct Code<'a> {
     /// The branches. Where their offsets ascend, more of them share a stub.
     pub branches: &'a [Branch],
@@ -63,7 +63,7 @@ pub struct Code<'a> {
 }
 
 /// Which of the stubs at a boundary a stub is one of.
-#[derive(Clone, Copy, PartialEq, Eq, Debug)]
+#[derive(Clone, Copy, PartialEq, Eq, Debug, Hash)]
 pub enum Part {
     /// The first ones, which are counted from the first one on.
     Front,
@@ -74,7 +74,7 @@ pub enum Part {
 }
 
 /// A stub.
-#[derive(Clone, Copy, Debug, PartialEq, Eq)]
+#[derive(Clone, Copy, Debug, PartialEq, Eq, Hash)]
 pub struct StubAt {
     /// The index of the boundary at which it stands.
     pub boundary: usize,
@@ -87,8 +87,8 @@ pub struct StubAt {
 }
 
 /// How many stubs there are at a boundary.
-#[derive(Clone, Copy, Debug, PartialEq, Eq)]
-pub struct Group {
+#[derive(Clone, Copy, Debug, PartialEq, Eq, Hash)]
+pub struct StubCounts {
     /// The first ones.
     pub front: u64,
     /// Those in between.
@@ -98,7 +98,7 @@ pub struct Group {
 }
 
 /// By what a branch goes.
-#[derive(Clone, Copy)]
+#[derive(Clone, Copy, Debug, PartialEq, Eq, Hash)]
 enum Way {
     /// To its target.
     Direct,
@@ -109,21 +109,21 @@ enum Way {
 }
 
 /// Stubs between sections.
-#[derive(Debug)]
+#[derive(Debug, Clone, PartialEq, Eq)]
 pub struct Layout {
     /// The stubs.
     pub stubs: Vec<StubAt>,
     /// Where each stub is.
     pub places: Vec<u64>,
     /// How many stubs there are at each boundary.
-    pub groups: Vec<Group>,
+    pub groups: Vec<StubCounts>,
     /// How many bytes of stubs there are before those at each boundary, and at the end how many in
     /// all.
     pub before: Vec<u64>,
 }
 
 /// Stubs with which each branch reaches what it goes by.
-#[derive(Debug)]
+#[derive(Debug, Clone, PartialEq, Eq)]
 pub struct Placement {
     /// The stubs.
     pub layout: Layout,
@@ -132,7 +132,8 @@ pub struct Placement {
 }
 
 /// Why no stubs are placed.
-#[derive(Debug)]
+#[cfg_attr(not(exhaustive), non_exhaustive)]
+#[derive(Debug, Clone, PartialEq, Eq)]
 pub enum PlaceError {
     /// Out of memory.
     OutOfMemory,
@@ -164,7 +165,7 @@ struct State {
     /// The stubs so far.
     stubs: Vec<StubAt>,
     /// How many of them are at each boundary.
-    groups: Vec<Group>,
+    groups: Vec<StubCounts>,
     /// By what each branch goes.
     ways: Vec<Way>,
     /// For each target the stub that was used last.
@@ -212,7 +213,7 @@ enum Sweep {
 impl State {
     /// No stubs, where each branch goes to its target.
     fn new(code: &Code<'_>, may_share: bool) -> Result<State, OutOfMemory> {
-        let none = Group {
+        let none = StubCounts {
             front: 0,
             middle: 0,
             back: 0,

@@ -23,7 +23,7 @@ use crate::elf::Ppc64Instruction;
 use crate::ppc64::Ppc64Relocation;
 
 /// How a branch goes.
-#[derive(Clone, Copy, Debug, PartialEq, Eq)]
+#[derive(Clone, Copy, Debug, PartialEq, Eq, Hash)]
 pub enum Route {
     /// To its target: the value of its relocation can be written, and on PowerPC64 the function
     /// gets, and the caller keeps, the TOC pointer.
@@ -42,7 +42,8 @@ pub enum Route {
 }
 
 /// Why a branch goes no way.
-#[derive(Clone, Copy, Debug, PartialEq, Eq)]
+#[cfg_attr(not(exhaustive), non_exhaustive)]
+#[derive(Clone, Copy, Debug, PartialEq, Eq, Hash)]
 pub enum RouteError {
     /// No stub may serve the relocation: it isn't that of a branch, and its formula has no L. Or
     /// its code has no row.
@@ -348,12 +349,12 @@ fn served_row(architecture: Architecture, code: u32) -> Option<Row> {
 }
 
 impl Target {
-    /// How the branch of a relocation to a symbol goes, by what `relocate_section` takes:
+    /// How the branch of a relocation to a symbol goes, by what [`relocate_section`](crate::section::relocate_section()) takes:
     /// `relocation` is one of a section that is at `addresses.section`, and `symbol` is what is
     /// known of its symbol.
     ///
     /// - `Direct` where its value can be written, and on PowerPC64 the TOC pointer is as the
-    ///   function and the caller expect. It goes to `Symbol::stub`, if that isn't 0, else to the
+    ///   function and the caller expect. It goes to [`Symbol::stub`](crate::section::Symbol::stub), if that isn't 0, else to the
     ///   symbol, on PowerPC64 to its local entry point.
     /// - A stub of the kind `Jump` where it doesn't reach, and may go by one: `R_AARCH64_CALL26`
     ///   and `R_AARCH64_JUMP26`, `R_LARCH_B26`, `R_PPC64_REL24` and `R_PPC64_REL24_NOTOC`. RISC-V's
@@ -363,16 +364,16 @@ impl Target {
     ///   `R_PPC64_REL24_NOTOC` to one that has a local entry point (they are above 1).
     ///   `R_PPC64_REL14` to the former is `NoRoom`.
     ///
-    /// With the address of its entry in the stub as `Symbol::stub`, and an addend of 0, the branch
+    /// With the address of its entry in the stub as [`Symbol::stub`](crate::section::Symbol::stub), and an addend of 0, the branch
     /// is `Direct` if it reaches that. A branch to an undefined weak symbol goes as
-    /// `linker_section::values` says, and by no stub.
+    /// `section` says, and by no stub.
     ///
     /// A function of another output and an indirect function are entered by the address in a word,
     /// as `route_by_word` says.
     ///
     /// # Errors
     ///
-    /// `NotABranch`, `Value`, `NoRoom`, `NoStub` and `Write`, as `RouteError` says.
+    /// `NotABranch`, `Value`, `NoRoom`, `NoStub` and `Write`, as [`RouteError`](crate::output::RouteError) says.
     ///
     /// ```
     /// use linker_utils::output::Target;
@@ -411,7 +412,7 @@ impl Target {
     ///
     /// # Errors
     ///
-    /// `NotABranch` and `NoRoom`, as `RouteError` says.
+    /// `NotABranch` and `NoRoom`, as [`RouteError`](crate::output::RouteError) says.
     ///
     /// ```
     /// use linker_utils::output::Target;

@@ -7,7 +7,7 @@ use crate::linker_base::rewrite::overwrite;
 use crate::elf::{AllowedRange, Architecture, Operands, RelocateError};
 
 /// A stub that a linker adds to code.
-#[derive(Clone, Copy, Debug, PartialEq, Eq)]
+#[derive(Clone, Copy, Debug, PartialEq, Eq, Hash)]
 pub enum StubKind {
     /// It jumps to the address that a word of 8 bytes has: to a function of another output, whose
     /// address the dynamic linker puts there, or to what an indirect function returns.
@@ -17,7 +17,8 @@ pub enum StubKind {
 }
 
 /// Why a stub isn't written.
-#[derive(Clone, Copy, Debug, PartialEq, Eq)]
+#[cfg_attr(not(exhaustive), non_exhaustive)]
+#[derive(Clone, Copy, Debug, PartialEq, Eq, Hash)]
 pub enum StubError {
     /// The architecture has no such stub: branches reach as far as it would.
     Missing,
@@ -28,7 +29,7 @@ pub enum StubError {
 }
 
 /// A field of a stub's code.
-#[derive(Clone, Copy, Debug, PartialEq, Eq)]
+#[derive(Clone, Copy, Debug, PartialEq, Eq, Hash)]
 pub struct StubField {
     /// Its offset in the pair.
     pub offset: usize,
@@ -39,7 +40,7 @@ pub struct StubField {
 }
 
 /// The code of a stub: 8 bytes with the fields, and what stands before and after these.
-#[derive(Clone, Copy, Debug, PartialEq, Eq)]
+#[derive(Clone, Copy, Debug, PartialEq, Eq, Hash)]
 pub struct Stub {
     /// The code before the pair.
     pub head: &'static [u8],
@@ -161,7 +162,7 @@ impl Target {
     /// What a call changes on its way through a stub are registers that a function may change, in
     /// which no argument is: x16 and x17 of AArch64, t3 of RISC-V and LoongArch, and r0, r12 and
     /// ctr of PowerPC64, whose r12 has the target's address. So no stub may serve a call of
-    /// PowerPC64's functions of a `SaveRestoreRoutines`, which take r0 or r12.
+    /// PowerPC64's functions of a [`SaveRestoreRoutines`](crate::output::SaveRestoreRoutines), which take r0 or r12.
     ///
     /// ```
     /// use linker_utils::output::StubKind;

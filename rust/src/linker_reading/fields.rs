@@ -5,7 +5,7 @@
 use crate::linker_base::bit_misc::BitRange;
 
 /// Some bits of a number of 64 bits, a relocation's value or an address.
-#[derive(Clone, Copy, Debug, PartialEq, Eq)]
+#[derive(Clone, Copy, Debug, PartialEq, Eq, Hash)]
 pub struct FieldValue {
     /// Which bits of the sum of the number and `rounding` are known. Bit 0 is the lowest.
     pub known: BitRange,
@@ -40,7 +40,7 @@ pub(crate) fn power_of_two(exponent: u8) -> u64 {
 
 impl FieldValue {
     /// Whether some bits are known, none above bit 63, and `bits` has no others. What `read`,
-    /// `solve` and `join` return is so, and the latter two require it.
+    /// [`solve`](crate::reading::solve()) and [`join`](crate::reading::join()) return is so, and the latter two require it.
     #[must_use]
     pub fn is_proper(&self) -> bool {
         if self.known.start >= self.known.end || self.known.end > 64 {

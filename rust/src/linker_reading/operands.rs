@@ -120,7 +120,7 @@ fn first_forms(
 /// x86-64, whose values are whole bytes.
 ///
 /// `LdSt`, `LdrRegister` and `MachOLow12` of AArch64 share their instructions, and so do `Movkz`
-/// and `Movnz`, and `Add` and `MachOLow12`: `operand` of each is the same. `R_LARCH_CALL30`'s pair
+/// and `Movnz`, and `Add` and `MachOLow12`: [`operand`](crate::reading::operand()) of each is the same. `R_LARCH_CALL30`'s pair
 /// isn't in the manual, so `Call30` is never returned.
 ///
 /// ```
@@ -222,7 +222,7 @@ fn scale_of(form: RelocationInstruction, bytes: &[u8]) -> u64 {
 ///   `oris`, `addu16i.d`, `lu32i.d` and `lu52i.d`: with their shift.
 /// - A pair: what both add up to.
 ///
-/// None where `form` isn't one that `forms_of` returns for these bytes.
+/// None where `form` isn't one that [`forms_of`](crate::reading::forms_of()) returns for these bytes.
 ///
 /// ```
 /// use linker_utils::reading::{forms_of, operand};

@@ -283,7 +283,7 @@ fn with_alignment(alignment: u64, field: FieldValue) -> FieldValue {
 ///   `rounding`. The other half has its low 12 bits. `UiType` and LoongArch's `Call36` have both
 ///   halves, so that all bits are known.
 /// - PowerPC64's and LoongArch's adjusted high halves need no rounding: the row's bias is part of
-///   the value, and `solve` takes it off.
+///   the value, and [`solve`](crate::reading::solve()) takes it off.
 /// - MOVN and MOVZ have 16 bits and the sign, whatever their shift is; a MOVK has 16 bits.
 /// - A `jirl` at `R_LARCH_PCALA_LO12` has bits 2 to 11, and bits 0 and 1 are 0.
 /// - Whole bytes have the low bits of the value, as a little-endian number; `R_RISCV_SET6` has 6.

@@ -9,7 +9,7 @@ use crate::linker_elf::elf::{
 };
 
 /// Which address a relocation's value is computed from.
-#[derive(Clone, Copy, Debug, PartialEq, Eq)]
+#[derive(Clone, Copy, Debug, PartialEq, Eq, Hash)]
 pub enum Reference {
     /// S + A.
     Symbol,
@@ -20,7 +20,7 @@ pub enum Reference {
 }
 
 /// What is taken off it.
-#[derive(Clone, Copy, Debug, PartialEq, Eq)]
+#[derive(Clone, Copy, Debug, PartialEq, Eq, Hash)]
 pub enum Origin {
     /// Nothing.
     Zero,
@@ -34,7 +34,7 @@ pub enum Origin {
 
 /// The terms of the formula of a value: the address, biased and cut to its page where the row says
 /// so, less the origin.
-#[derive(Clone, Copy, Debug, PartialEq, Eq)]
+#[derive(Clone, Copy, Debug, PartialEq, Eq, Hash)]
 pub struct Terms {
     /// The address.
     pub reference: Reference,
@@ -47,7 +47,7 @@ fn make_terms(reference: Reference, origin: Origin) -> Option<Terms> {
     Some(Terms { reference, origin })
 }
 
-/// `terms_of`, of a row that has bytes.
+/// [`terms_of`](crate::reading::terms_of()), of a row that has bytes.
 fn terms_of_kind(kind: RelocationKind) -> Option<Terms> {
     match kind {
         RelocationKind::Absolute
@@ -161,7 +161,7 @@ fn without_rounding(field: FieldValue) -> FieldValue {
 }
 
 /// What is known of the address that a value comes from: the inverse of
-/// `Row::value`. `terms_of` says which address it is. `field` is what is known of
+/// [`Row::value`](crate::elf::Row::value). [`terms_of`](crate::reading::terms_of()) says which address it is. `field` is what is known of
 /// the value, as `read` returns it. Of the operands only the place, the GOT's address and the base
 /// of TLS are read, whichever the formula takes off.
 ///
@@ -171,7 +171,7 @@ fn without_rounding(field: FieldValue) -> FieldValue {
 /// takes the page of the address, bits 12 and up are known, and the page of that rest counts: of
 /// what `read` returns, the rounding is the bias less the page of the place or of the GOT.
 ///
-/// `None` of rows without an inverse, as `terms_of` says; of an offset of a TLS symbol where there
+/// `None` of rows without an inverse, as [`terms_of`](crate::reading::terms_of()) says; of an offset of a TLS symbol where there
 /// is no `tls_base`; and of a row of pages if `field` begins below bit 12.
 ///
 /// # Requires
@@ -207,7 +207,7 @@ pub fn solve(
     }
 }
 
-/// What is known of an address from both halves of a pair, as `solve` returns them: `adrp` and
+/// What is known of an address from both halves of a pair, as [`solve`](crate::reading::solve()) returns them: `adrp` and
 /// `add`, `auipc` and `addi`, `addis` and `addi`, `pcalau12i` and `addi.d`. A number has the bits
 /// of the result exactly if it has those of both. The bits are known from bit 0 up to the last of
 /// the high half, without rounding. If that is bit 63, as `reach` makes it, `number` of the result

@@ -44,7 +44,7 @@ fn has_field(row: &Option<Row>, at: u64, bytes: &[u8]) -> bool {
 }
 
 /// Whether the rewrite of a choice that is listed for bytes is meant for what is at the offset, and
-/// all is there that `recognise` compares.
+/// all is there that [`recognise`](crate::recognise::recognise()) compares.
 fn is_there<N: RecognisedName>(choice: Choice<N::Kind, N>, bytes: &[u8], offset: u64) -> bool {
     let kind = N::relaxation(choice.kind);
     if !kind.matches(bytes, offset) {
@@ -135,11 +135,11 @@ pub(crate) fn least_window<N: RecognisedName>(
 }
 
 /// Where a recognised relocation leads.
-#[derive(Clone, Copy, Debug, PartialEq, Eq)]
+#[derive(Clone, Copy, Debug, PartialEq, Eq, Hash)]
 pub struct Destination {
     /// Which address it is.
     pub reference: Reference,
-    /// What is known of it: of S + A, L + A, or the GOT entry's address, as `solve` returns it.
+    /// What is known of it: of S + A, L + A, or the GOT entry's address, as [`solve`](crate::reading::solve()) returns it.
     pub address: FieldValue,
     /// A, the addend of the relocation after the rewrite.
     pub addend: i64,
@@ -228,10 +228,10 @@ fn destination_by(
     })
 }
 
-/// Where a relocation leads that `recognise` found, with the same original bytes and offset. Of the
+/// Where a relocation leads that [`recognise`](crate::recognise::recognise()) found, with the same original bytes and offset. Of the
 /// operands the addend is that before the rewrite, and the place is the address of the field in the
-/// linked file; the GOT's address and the base of TLS are read where `solve` does. `None` of a
-/// relocation without a row or without a value, of one that `solve` has no address for, and of a
+/// linked file; the GOT's address and the base of TLS are read where [`solve`](crate::reading::solve()) does. `None` of a
+/// relocation without a row or without a value, of one that [`solve`](crate::reading::solve()) has no address for, and of a
 /// rewrite that isn't meant for what is there.
 ///
 /// # Requires

@@ -22,7 +22,7 @@ use crate::elf::{Architecture, Choice, InstructionRewrite, RewriteWindow};
 use crate::relaxation::AsDeletion;
 
 /// What a relocation is of once its instruction is rewritten.
-#[derive(Clone, Copy, Debug, PartialEq, Eq)]
+#[derive(Clone, Copy, Debug, PartialEq, Eq, Hash)]
 pub struct Subject {
     /// The index of its symbol.
     pub symbol: u32,
@@ -31,7 +31,7 @@ pub struct Subject {
 }
 
 /// What becomes of a relocation and of its instruction.
-#[derive(Clone, Copy, Debug, PartialEq, Eq)]
+#[derive(Clone, Copy, Debug, PartialEq, Eq, Hash)]
 pub enum Decision {
     /// Both stay as they are.
     Kept,
@@ -45,7 +45,7 @@ pub enum Decision {
     Consumed,
 }
 
-/// What becomes of a relocation: a `Decision`, or an element of the caller's own array that says as
+/// What becomes of a relocation: a [`Decision`](crate::rewriting::Decision), or an element of the caller's own array that says as
 /// much.
 pub trait AsDecision: Copy {
     /// The decision.
@@ -85,7 +85,8 @@ impl FromDeletion for (u64, u32) {
 }
 
 /// Why a section isn't rewritten.
-#[derive(Clone, Copy, Debug, PartialEq, Eq)]
+#[cfg_attr(not(exhaustive), non_exhaustive)]
+#[derive(Clone, Copy, Debug, PartialEq, Eq, Hash)]
 pub enum RewritingError {
     /// There are fewer decisions than relocations, or less room for deletions than there are.
     TooShort,

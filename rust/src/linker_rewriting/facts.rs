@@ -10,7 +10,7 @@ use crate::elf::{Architecture, LinkFacts, Operands};
 /// What a linker knows of a symbol of an object once names are resolved. A table of these has those
 /// of an object at the indexes that its relocations name (`r_sym`). By default no fact holds.
 #[repr(C)]
-#[derive(Default, Clone, Copy, Debug, PartialEq, Eq)]
+#[derive(Default, Clone, Copy, Debug, PartialEq, Eq, Hash)]
 pub struct SymbolFacts {
     /// It is defined in this output, and no other definition can replace it at run time.
     pub is_local: bool,

@@ -23,7 +23,7 @@ use crate::riscv64::{RelaxationKind, RiscVRelocation};
 use crate::utils::u32_from_slice;
 
 /// What the instruction of a relocation is of an address.
-#[derive(Clone, Copy, PartialEq, Eq, Debug)]
+#[derive(Clone, Copy, PartialEq, Eq, Debug, Hash)]
 pub(crate) enum Part {
     /// A high part, with its opcode.
     High(u32),
@@ -312,31 +312,12 @@ fn keeping_symbol(
     )
 }
 
-/// Notes which symbols of an object keep the `lui` and `auipc` of their address, since a relocation
-/// of this section of code is of such an instruction, or of a low part, and can't be rewritten: it
-/// isn't marked by `R_RISCV_RELAX`, its instruction is another one, or S + A is neither within
-/// 2 KiB of the global pointer, from 2,048 below it to 2,047 above it, nor of 0 (RISC-V ELF psABI,
-/// "Global-pointer Relaxation" and "Zero-page Relaxation"). All symbols of a section stay whose
-/// relocations don't ascend, and all where the output isn't an executable that is always loaded at
-/// the address that it is linked for.
-///
-/// `rewrite_global_pointer` rewrites all of a symbol or none by these notes, so survey each section
-/// of code of the object before one of them is rewritten, with one table, all of whose elements are
-/// false at first. What stays there already stays. A symbol without an element stays.
-///
-/// `gp` is the address of `__global_pointer$`. `symbols` and `values` both have an object's symbols
-/// at the indexes that its relocations name, and `kept` has an element for each. For other
-/// architectures than RISC-V nothing is noted.
-///
-/// # Errors
-///
-/// `kept` is as before. `symbols` and `values` contradict each other about the symbol of a
-/// relocation, as `RewritingError::Contradiction` says: the index of the first such symbol.
+/// `crate::link::survey_global_pointer`, with more parameters.
 ///
 /// ```
-/// use linker_utils::rewriting::{OutputFacts, SymbolFacts};
-/// use linker_utils::rewriting::survey_global_pointer;
-/// use linker_utils::section::{Addresses, Symbol};
+/// use linker_utils::source::rewriting::{OutputFacts, SymbolFacts};
+/// use linker_utils::source::rewriting::survey_global_pointer;
+/// use linker_utils::source::section::{Addresses, Symbol};
 /// use linker_utils::elf::Architecture;
 ///
 /// // lui a0, %hi(x), with R_RISCV_HI20 of symbol 1 and R_RISCV_RELAX, where x is 2,048 above gp
@@ -571,37 +552,13 @@ fn turn_all<D: AsDecision>(decisions: &[D], relocations: &mut [u8]) {
     }
 }
 
-/// Has each `lui` and `auipc` of an address go whose symbol doesn't stay by `kept`, once addresses
-/// are known and before code gets shorter: `survey_global_pointer` made it of all sections of code
-/// of the object with the same facts and addresses. The bytes stay as they are until what is listed
-/// in `deleted`, each instruction of four bytes, is deleted: by their offset in the section and how
-/// many they are, in the order of their relocations, which ascend. Returns how many there are.
-///
-/// The relocation of such an instruction gets the type 0. Those of the low parts of these symbols
-/// get the symbol and the addend of the address and the type `GPREL_I` or `GPREL_S`, which no other
-/// call knows: `finish_gp_relaxation` writes the base of their instruction once all addresses are
-/// final, and gives them the type whose value is then written. What became of each relocation is in
-/// `decisions`, which needs room for each of them.
-///
-/// The premise is that x3 is the address of `__global_pointer$` wherever the code of the section
-/// runs, and never changes: what sets it isn't marked. An instruction that is deleted leaves its
-/// register as it was, so that only low parts of the same symbol may read what it wrote.
-///
-/// # Errors
-///
-/// The relocations are as before. `Contradiction`, as in `survey_global_pointer`, comes first.
-/// `TooShort`: there are more relocations than `decisions`, or
-/// `deleted` has less room than there are deletions. `NotSurveyed`: a relocation of a symbol that
-/// doesn't stay can't be rewritten; it never comes where the section was surveyed into the table
-/// with the same facts. `Overlaps`: the instruction of the relocation with the index overlaps one
-/// of a relocation before it that is rewritten too; where none do, its field is the first that has a
-/// byte of another one's `lui` or `auipc` that goes.
+/// `crate::link::rewrite_global_pointer`, with more parameters.
 ///
 /// ```
-/// use linker_utils::rewriting::Decision;
-/// use linker_utils::rewriting::{OutputFacts, SymbolFacts};
-/// use linker_utils::rewriting::{GPREL_I, rewrite_global_pointer};
-/// use linker_utils::section::{Addresses, Symbol};
+/// use linker_utils::source::rewriting::Decision;
+/// use linker_utils::source::rewriting::{OutputFacts, SymbolFacts};
+/// use linker_utils::source::rewriting::{GPREL_I, rewrite_global_pointer};
+/// use linker_utils::source::section::{Addresses, Symbol};
 /// use linker_utils::elf::Architecture;
 ///
 /// // lui a0, %hi(x) and lw a0, %lo(x)(a0), both marked, where x is 2,047 above gp
@@ -782,21 +739,11 @@ fn set_bases(
     }
 }
 
-/// Writes the base of each low part that `rewrite_global_pointer` left without one, once all
-/// addresses are final and nothing else of the section will be deleted, and before its values are
-/// written: x0 where 12 bits hold S + A, and else x3. The relocation gets the type `R_RISCV_LO12_I`
-/// or `R_RISCV_LO12_S`, and an addend that is less by what the base has, so that its value is the
-/// distance from the base. Other relocations and other bytes stay.
-///
-/// # Errors
-///
-/// The section and its relocations are as before. The index of the first relocation whose S + A is
-/// neither within 2 KiB of `gp`, from 2,048 below it to 2,047 above it, nor of 0; whose symbol
-/// isn't in the table; or whose instruction isn't in the section.
+/// `crate::link::finish_gp_relaxation`, with more parameters.
 ///
 /// ```
-/// use linker_utils::rewriting::{GPREL_I, finish_gp_relaxation};
-/// use linker_utils::section::{Addresses, Symbol};
+/// use linker_utils::source::rewriting::{GPREL_I, finish_gp_relaxation};
+/// use linker_utils::source::section::{Addresses, Symbol};
 ///
 /// // lw a0, %lo(x)(a0), whose lui was deleted, becomes lw a0, 5(gp), where x is 5 above gp
 /// let mut section = [0x03, 0x25, 0x05, 0];

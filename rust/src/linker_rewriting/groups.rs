@@ -18,7 +18,7 @@ use crate::x86_64::X86_64Relocation;
 
 /// A kind of groups. The relocations of a group are those of one kind and one symbol in an object,
 /// whatever their addends; of local-dynamic TLS all of an object.
-#[derive(Clone, Copy, Debug, PartialEq, Eq)]
+#[derive(Clone, Copy, Debug, PartialEq, Eq, Hash)]
 pub enum Group {
     /// Loads of an offset from the thread pointer, of initial-exec TLS; in the phase of these
     /// offsets the instructions that have them.
@@ -35,7 +35,7 @@ pub enum Group {
 }
 
 /// What is rewritten together with the instruction of a relocation in a phase.
-#[derive(Clone, Copy, Debug, PartialEq, Eq)]
+#[derive(Clone, Copy, Debug, PartialEq, Eq, Hash)]
 pub enum Scope {
     /// It isn't rewritten.
     NotRelaxable,
@@ -59,17 +59,17 @@ pub enum Scope {
 /// (`r_sym`). That of index 0 is of all of the object: it has local-dynamic TLS, and what stays
 /// whichever symbol it is of. By default none stays.
 #[repr(C)]
-#[derive(Default, Clone, Copy, Debug, PartialEq, Eq)]
+#[derive(Default, Clone, Copy, Debug, PartialEq, Eq, Hash)]
 pub struct UnrelaxableGroups {
-    /// Those of `Group::InitialExec`.
+    /// Those of [`Group::InitialExec`](crate::rewriting::Group::InitialExec).
     pub initial_exec: bool,
-    /// Those of `Group::GeneralDynamic`.
+    /// Those of [`Group::GeneralDynamic`](crate::rewriting::Group::GeneralDynamic).
     pub general_dynamic: bool,
-    /// Those of `Group::LocalDynamic`.
+    /// Those of [`Group::LocalDynamic`](crate::rewriting::Group::LocalDynamic).
     pub local_dynamic: bool,
-    /// Those of `Group::Descriptor`.
+    /// Those of [`Group::Descriptor`](crate::rewriting::Group::Descriptor).
     pub descriptor: bool,
-    /// Those of `Group::GotLoad`.
+    /// Those of [`Group::GotLoad`](crate::rewriting::Group::GotLoad).
     pub got_load: bool,
 }
 
@@ -363,7 +363,7 @@ pub fn scope_in(architecture: Architecture, phase: Phase, code: u32) -> Scope {
     }
 }
 
-/// The table of `has_rewrites`.
+/// The table of [`has_rewrites`](crate::rewriting::has_rewrites()).
 #[inline(always)]
 fn is_listed(architecture: Architecture, phase: Phase) -> bool {
     match architecture {
@@ -381,7 +381,7 @@ fn is_listed(architecture: Architecture, phase: Phase) -> bool {
 }
 
 /// Whether an architecture has rewrites in a phase. In one without them a linker surveys and
-/// rewrites nothing: each relocation is `Scope::NotRelaxable`.
+/// rewrites nothing: each relocation is [`Scope::NotRelaxable`](crate::rewriting::Scope::NotRelaxable).
 ///
 /// ```
 /// use linker_utils::rewriting::has_rewrites;

@@ -16,7 +16,7 @@ use crate::ppc64::Ppc64Relocation;
 /// What choices read of a symbol and of the output, a bit for each fact; 0 where nothing is kept. A
 /// table of these has those of an object at the indexes that its relocations name (`r_sym`).
 #[repr(C)]
-#[derive(Default, Clone, Copy, Debug, PartialEq, Eq)]
+#[derive(Default, Clone, Copy, Debug, PartialEq, Eq, Hash)]
 pub struct FactsSnapshot {
     /// The bits, as `kept_bits` says.
     pub bits: u16,
@@ -26,14 +26,14 @@ pub struct FactsSnapshot {
 #[derive(Clone, Copy, Debug, PartialEq, Eq)]
 pub enum WritingError {
     /// The tables of facts and of addresses contradict each other about the symbol with this index,
-    /// as `RewritingError::Contradiction` says.
+    /// as [`RewritingError::Contradiction`](crate::rewriting::RewritingError::Contradiction) says.
     Contradiction(usize),
     /// Of the symbol of the relocation with this index other facts hold than those that are kept.
     Changed(usize),
     /// The relocation with this index is an `R_PPC64_REL24` of a function of another file, which
     /// may return with another TOC pointer, and whose symbol has no stub that keeps the caller's.
     NeedsStub(usize),
-    /// A value isn't written, as `relocate_section` says.
+    /// A value isn't written, as [`relocate_section`](crate::section::relocate_section()) says.
     Section(SectionError),
 }
 
@@ -66,13 +66,7 @@ fn facts_snapshot(output: &OutputFacts, symbol: &SymbolFacts) -> FactsSnapshot {
     }
 }
 
-/// Keeps what choices read of an object's symbols and of the output. A linker calls this when it
-/// chooses rewrites, with the facts that it passes to `survey` and `rewrite_section`, and passes
-/// what is kept to `relocate_rewritten_section`.
-///
-/// # Requires
-///
-/// - room: `symbols.len() == kept.len()`
+/// `crate::link::snapshot_facts`, with more parameters.
 #[cfg_attr(debug_assertions, track_caller)]
 pub fn snapshot_facts(output: &OutputFacts, symbols: &[SymbolFacts], kept: &mut [FactsSnapshot]) {
     debug_assert!(symbols.len() == kept.len());
@@ -97,9 +91,7 @@ fn is_as_kept(
     }
 }
 
-/// The index of the first relocation of whose symbol other facts hold than those that are kept;
-/// none where all are the same. A relocation that a rewrite took along counts too: the facts of its
-/// symbol were read.
+/// `crate::link::first_changed`, with more parameters.
 #[must_use]
 pub fn first_changed(
     output: &OutputFacts,
@@ -165,24 +157,12 @@ fn first_without_stub(
     None
 }
 
-/// Writes the values of a section whose instructions were rewritten, as `relocate_section` does,
-/// where choices would still read the same facts: `facts` and `output` are those that hold now, and
-/// `kept` those of `snapshot_facts` when rewrites were chosen. So a symbol that was bound then and
-/// isn't any more doesn't get code that bypasses its GOT entry. A relocation that needs an entry
-/// which the linker hasn't made is an error of `relocate_section` (`NoEntry`).
-///
-/// # Errors
-///
-/// The section is as before. The first that applies of `Contradiction`: `facts` and `symbols`
-/// contradict each other about the symbol of a relocation, with the index of the first such symbol;
-/// `Changed`: of a symbol other facts hold than are kept, or none are kept, with the index of the
-/// first such relocation; `NeedsStub`: a call of PowerPC64 may lose its TOC pointer, with the index
-/// of the first one; `Section`: a value isn't written.
+/// `crate::link::relocate_rewritten_section`, with more parameters.
 ///
 /// ```
-/// use linker_utils::rewriting::{OutputFacts, SymbolFacts};
-/// use linker_utils::rewriting::{FactsSnapshot, WritingError, snapshot_facts, relocate_rewritten_section};
-/// use linker_utils::section::{Addresses, Symbol};
+/// use linker_utils::source::rewriting::{OutputFacts, SymbolFacts};
+/// use linker_utils::source::rewriting::{FactsSnapshot, WritingError, snapshot_facts, relocate_rewritten_section};
+/// use linker_utils::source::section::{Addresses, Symbol};
 /// use linker_utils::elf::Architecture;
 ///
 /// // addr32 call f, with R_X86_64_PC32 of symbol 1 at 2, which was call *f@GOTPCREL(%rip)
@@ -215,10 +195,6 @@ fn first_without_stub(
 /// assert_eq!(written, Err(WritingError::Changed(0)));
 /// assert_eq!(section, [0x67, 0xe8, 0, 0, 0, 0]);
 /// ```
-///
-/// # Requires
-///
-/// - memory: `memory` has at least `memory_len(relocations)` words
 pub fn relocate_rewritten_section(
     architecture: Architecture,
     output: &OutputFacts,

@@ -3,7 +3,7 @@
 //! When rewrites are made.
 
 /// When a rewrite is made: what a linker has to know before.
-#[derive(Clone, Copy, Debug, PartialEq, Eq)]
+#[derive(Clone, Copy, Debug, PartialEq, Eq, Hash)]
 pub enum Phase {
     /// Before addresses are known.
     PreLayout,

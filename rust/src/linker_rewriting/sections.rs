@@ -61,43 +61,13 @@ fn make_changes<D: AsDecision>(
     }
 }
 
-/// Rewrites the instructions of a section of code as `choose` says before addresses are known, and
-/// turns its relocations into those after it. It decides by all of the section's bytes before it
-/// rewrites one.
-///
-/// An instruction whose relocation is `Scope::Independent` is rewritten where it can be. Those of a group
-/// are all rewritten, or none is where the group stays by `kept`, which `survey` made of all
-/// sections of code of the object with the same facts. A relocation that a rewrite takes along gets
-/// the type 0, so that indexes stay. A relocation of a symbol that isn't in the table isn't
-/// rewritten.
-///
-/// What became of each relocation is in `decisions`, which needs room for each of them. Nothing is
-/// deleted. Since no address is known, a value after a rewrite may turn out to be out of reach.
-/// What this call doesn't rewrite, a linker may rewrite by `choose`.
-///
-/// A value out of reach is an error of `relocate_section`, with two exceptions, both of LoongArch.
-/// What its load from the GOT becomes takes any distance (`R_LARCH_PCALA_HI20`), and what its
-/// initial-exec TLS and descriptors become takes any offset from the thread pointer
-/// (`R_LARCH_TLS_LE_HI20`). Nothing tests that 32 signed bits hold these. So a load from the GOT
-/// becomes a distance only by `has_near_symbols` of the output, and that of an absolute symbol never
-/// does. Where 32 bits may not hold the offset of a thread-local symbol, note its `initial_exec`,
-/// `general_dynamic` and `descriptor` in `kept` before the rewrite.
-///
-/// # Errors
-///
-/// The section and its relocations are as before. `TooShort`: there are more relocations than
-/// `decisions`. `NotSurveyed`: a relocation of a group that doesn't stay has no rewrite; it never
-/// comes where the section was surveyed into the table with the same facts. `Overlaps`: the bytes
-/// of two rewrites overlap, or those of the second lie below those of the first, so the relocations
-/// of instructions that can be rewritten have to ascend by offset. Where no other error is, it is of
-/// the first relocation whose field has a byte that the rewrite of another one changes, and which
-/// that rewrite doesn't take along. All other relocations may be in any order.
+/// `crate::link::rewrite_section`, with more parameters.
 ///
 /// ```
-/// use linker_utils::rewriting::Decision;
-/// use linker_utils::rewriting::{OutputFacts, SymbolFacts};
-/// use linker_utils::rewriting::UnrelaxableGroups;
-/// use linker_utils::rewriting::rewrite_section;
+/// use linker_utils::source::rewriting::Decision;
+/// use linker_utils::source::rewriting::{OutputFacts, SymbolFacts};
+/// use linker_utils::source::rewriting::UnrelaxableGroups;
+/// use linker_utils::source::rewriting::rewrite_section;
 /// use linker_utils::elf::Architecture;
 ///
 /// // call *f@GOTPCREL(%rip), with R_X86_64_GOTPCRELX of symbol 1 at 2, becomes addr32 call f
@@ -188,51 +158,15 @@ fn list_changes<D: AsDecision, L: FromDeletion>(
     }
 }
 
-/// Rewrites the instructions of a section of code in a phase, once addresses are known, and turns
-/// its relocations into those after it, as `rewrite_section` does before. What is in the way of a
-/// group, as a distance out of reach or a missing mark, keeps all of it, by the table that
-/// `survey_placed_section` made of all sections of code of the object for the phase with the same
-/// facts and addresses.
-///
-/// `symbols` and `values` both have an object's symbols at the indexes that its relocations name.
-/// Each address has to be that by which values are written later, or differ from it by less than
-/// the reach that is left: a linker that deletes bytes afterwards makes distances shorter, never
-/// longer.
-///
-/// Bytes that are to be deleted are listed in `deleted` by their offset in the section and how many
-/// they are, ascending, as `SectionRelaxDeltas::new` of `linker_base::relaxation` takes them. They
-/// are in the section, apart from each other and from all that is rewritten, and still there.
-/// `Phase::TlsLocalExec` alone has any. Returns how many there are. A relocation that goes, with
-/// its instruction or without, gets the type 0.
-///
-/// - `TlsLocalExec`: where an offset from the thread pointer has 12 bits, RISC-V's and LoongArch's
-///   `lui` and `add` of it are deleted, and loads and stores are over the thread pointer; where it
-///   has 16 bits, PowerPC64's `addis` becomes a `nop`. An instruction of RISC-V and LoongArch has
-///   to be marked for that. RISC-V's TLS descriptors become such offsets too, all of a label or
-///   none: what is left out is deleted where the high part is marked, and a `nop` elsewhere. Their
-///   relocations are then of the symbol and the addend of the high part
-///   (`Decision::RewrittenWithSymbol`).
-/// - `GotToPcRel`: AArch64's loads of an address from the GOT become `adrp` and `add`, where both
-///   relocations are next to each other and have no addend. RISC-V's become `auipc` and `addi`,
-///   where all of a label are marked.
-/// - `ShortPcRel`: AArch64's `adrp` and `add` next to each other become `nop` and `adr`. Where a
-///   distance from the TOC pointer has 16 bits, PowerPC64's `addis` becomes a `nop`, and what reads
-///   it is over the TOC pointer.
-///
-/// # Errors
-///
-/// The section and its relocations are as before. `Contradiction`: `symbols` and `values` contradict
-/// each other about the symbol of a relocation, with the index of the first such symbol; an
-/// undefined weak symbol that the dynamic linker may define is none. Those of `rewrite_section`, and
-/// `TooShort` where `deleted` has less room than there are deletions.
+/// `crate::link::rewrite_placed_section`, with more parameters.
 ///
 /// ```
-/// use linker_utils::rewriting::Decision;
-/// use linker_utils::rewriting::{OutputFacts, SymbolFacts};
-/// use linker_utils::rewriting::UnrelaxableGroups;
-/// use linker_utils::rewriting::Phase;
-/// use linker_utils::rewriting::rewrite_placed_section;
-/// use linker_utils::section::{Addresses, Symbol};
+/// use linker_utils::source::rewriting::Decision;
+/// use linker_utils::source::rewriting::{OutputFacts, SymbolFacts};
+/// use linker_utils::source::rewriting::UnrelaxableGroups;
+/// use linker_utils::source::rewriting::Phase;
+/// use linker_utils::source::rewriting::rewrite_placed_section;
+/// use linker_utils::source::section::{Addresses, Symbol};
 /// use linker_utils::elf::Architecture;
 ///
 /// // adrp x0, x and add x0, x0, :lo12:x, at 0x1000, where x is at 0x2004, become nop and adr x0, x

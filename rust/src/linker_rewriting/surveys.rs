@@ -172,7 +172,7 @@ fn next_keeping(context: &RelaxContext<'_>, relocations: &[u8], from: usize) -> 
     )
 }
 
-/// Notes which groups stay in a phase, by a section, as `survey` and `survey_placed_section` say.
+/// Notes which groups stay in a phase, by a section, as [`survey`](crate::rewriting::survey()) and [`survey_placed_section`](crate::rewriting::survey_placed_section()) say.
 #[inline(always)]
 fn survey_in(
     context: &RelaxContext<'_>,
@@ -199,22 +199,12 @@ fn survey_in(
     }
 }
 
-/// Notes which groups of an object stay as they are, since a relocation of this section is of them
-/// and has no rewrite: its instruction is none that a rewrite is meant for, its symbol may be of
-/// another file, or what the rewrite takes along isn't there. `rewrite_section` rewrites all of a
-/// group or none by these notes, so survey each section of code of an object before one of them is
-/// rewritten, with one table for the object, whose entries are `UnrelaxableGroups::default()` at
-/// first. What is noted there already is kept. A group is unrelaxable too where the table has no
-/// entry for its symbol.
-///
-/// An offset in the module's TLS block that stands in data counts from the block, also where code no
-/// longer does. Where data of the object has one that is loaded, as `R_X86_64_DTPOFF64`, note
-/// `local_dynamic` at index 0.
+/// `crate::link::survey`, with more parameters.
 ///
 /// ```
-/// use linker_utils::rewriting::{OutputFacts, SymbolFacts};
-/// use linker_utils::rewriting::UnrelaxableGroups;
-/// use linker_utils::rewriting::survey;
+/// use linker_utils::source::rewriting::{OutputFacts, SymbolFacts};
+/// use linker_utils::source::rewriting::UnrelaxableGroups;
+/// use linker_utils::source::rewriting::survey;
 /// use linker_utils::elf::Architecture;
 ///
 /// // nop, with R_X86_64_TLSDESC_CALL of symbol 1: not a call by a descriptor
@@ -246,25 +236,14 @@ pub fn survey(
     survey_in(&context, relocations, section, kept);
 }
 
-/// Notes which groups of an object stay in a phase once addresses are known, by a section, as
-/// `survey` does before. `rewrite_placed_section` rewrites all of a group or none by these notes,
-/// so survey each section of code of an object before one of them is rewritten in the phase, with
-/// one table for the object and the phase. A group stays too where a table has no entry for its
-/// symbol. Relocations of a label of RISC-V aren't surveyed: all of a label are in one section.
-///
-/// `symbols` and `values` both have an object's symbols at the indexes that its relocations name.
-///
-/// # Errors
-///
-/// `kept` is as before. `symbols` and `values` contradict each other about the symbol of a
-/// relocation, as `RewritingError::Contradiction` says: the index of the first such symbol.
+/// `crate::link::survey_placed_section`, with more parameters.
 ///
 /// ```
-/// use linker_utils::rewriting::{OutputFacts, SymbolFacts};
-/// use linker_utils::rewriting::UnrelaxableGroups;
-/// use linker_utils::rewriting::Phase;
-/// use linker_utils::rewriting::survey_placed_section;
-/// use linker_utils::section::{Addresses, Symbol};
+/// use linker_utils::source::rewriting::{OutputFacts, SymbolFacts};
+/// use linker_utils::source::rewriting::UnrelaxableGroups;
+/// use linker_utils::source::rewriting::Phase;
+/// use linker_utils::source::rewriting::survey_placed_section;
+/// use linker_utils::source::section::{Addresses, Symbol};
 /// use linker_utils::elf::Architecture;
 ///
 /// // lui a0, 0, with R_RISCV_TPREL_HI20 of symbol 1, which no mark follows

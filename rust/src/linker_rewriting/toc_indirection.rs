@@ -200,30 +200,12 @@ fn keeping_word(
     }
 }
 
-/// Notes which words of an object's section of addresses stay, since a relocation of this section
-/// of code is of an instruction that loads one and can't compute its address: it is none that the
-/// rewrite is meant for, the address may be of another file or in another place each time, or it is
-/// out of reach. `rewrite_toc_loads` rewrites all loads of a word or none by these notes, so
-/// survey each section of code of the object before one of them is rewritten, with one table for
-/// the section of addresses, all of whose elements are false at first. What stays there already
-/// stays. A word without an element stays.
-///
-/// `words` are the relocations of the section of addresses, as `linker_output`'s description names
-/// it, and have to ascend by offset; `kept` has an element for each. `words_start` is its address.
-/// A relocation is of a word where it refers to its address, whichever its symbol. `symbols` and
-/// `values` both have an object's symbols at the indexes that its relocations name. Only PowerPC64
-/// has such a section: of other architectures nothing is noted.
-///
-/// # Errors
-///
-/// `kept` is as before. `symbols` and `values` contradict each other about the symbol of a
-/// relocation of the section, as `RewritingError::Contradiction` says: the index of the first such
-/// symbol. Those of words are compared by the call that writes the words' values by both tables.
+/// `crate::link::survey_toc_loads`, with more parameters.
 ///
 /// ```
-/// use linker_utils::rewriting::{OutputFacts, SymbolFacts};
-/// use linker_utils::rewriting::survey_toc_loads;
-/// use linker_utils::section::{Addresses, Symbol};
+/// use linker_utils::source::rewriting::{OutputFacts, SymbolFacts};
+/// use linker_utils::source::rewriting::survey_toc_loads;
+/// use linker_utils::source::section::{Addresses, Symbol};
 /// use linker_utils::elf::Architecture;
 ///
 /// // lwz 3,.toc@toc@l(3), with R_PPC64_TOC16_LO_DS of `.toc`, whose word is that of symbol 2: no
@@ -392,31 +374,13 @@ fn decide_loads<D: AsDecision>(
     }
 }
 
-/// Has the instructions of a section of code compute the addresses that they load from the words of
-/// an object's section of addresses, and turns their relocations into those after it, once
-/// addresses are known. They are then of the symbol and the addend of the word's relocation
-/// (`Decision::RewrittenWithSymbol`). All loads of a word are rewritten, or none is where the word
-/// stays by `kept`, which `survey_toc_loads` made of all sections of code of the object with the
-/// same facts, addresses and `words`. It decides by all of the section's bytes before it rewrites
-/// one.
-///
-/// What became of each relocation is in `decisions`, which needs room for each of them. Nothing is
-/// deleted.
-///
-/// # Errors
-///
-/// The section and its relocations are as before. `TooShort`: there are more relocations than
-/// `decisions`. `NotSurveyed`: a load of a word that doesn't stay can't be rewritten; it never
-/// comes where the section was surveyed into the table with the same facts. `Overlaps`: the bytes
-/// of two rewrites overlap, or those of the second lie below those of the first; where none do, the
-/// field of the relocation with the index, the first such, has a byte that the rewrite of another
-/// one writes. Before these `Contradiction`, as in `survey_toc_loads`.
+/// `crate::link::rewrite_toc_loads`, with more parameters.
 ///
 /// ```
-/// use linker_utils::rewriting::Decision;
-/// use linker_utils::rewriting::{OutputFacts, SymbolFacts};
-/// use linker_utils::rewriting::rewrite_toc_loads;
-/// use linker_utils::section::{Addresses, Symbol};
+/// use linker_utils::source::rewriting::Decision;
+/// use linker_utils::source::rewriting::{OutputFacts, SymbolFacts};
+/// use linker_utils::source::rewriting::rewrite_toc_loads;
+/// use linker_utils::source::section::{Addresses, Symbol};
 /// use linker_utils::elf::Architecture;
 ///
 /// // addis 3,2,.toc@toc@ha and ld 3,.toc@toc@l(3), where the word at the start of `.toc` is that

@@ -36,7 +36,7 @@ pub struct Relocation {
     pub may_compress: bool,
 }
 
-/// A relocation of a section: a `Relocation`, or an element of the caller's own array that says as
+/// A relocation of a section: a [`Relocation`](crate::runs::Relocation), or an element of the caller's own array that says as
 /// much.
 pub trait AsRelocation: Copy {
     /// The relocation.
@@ -51,7 +51,7 @@ impl AsRelocation for Relocation {
     }
 }
 
-/// An item of a run: an `Item`, or an element of the caller's own array that says as much.
+/// An item of a run: an [`Item`](crate::runs::Item), or an element of the caller's own array that says as much.
 pub trait AsItem: Copy {
     /// The item.
     #[must_use]
@@ -199,7 +199,7 @@ fn item_at<R: AsRelocation>(
 }
 
 /// The items of a section, and which relocation makes each.
-#[derive(Debug)]
+#[derive(Debug, Clone, PartialEq, Eq)]
 pub struct SectionItems {
     /// The items, in the order of the relocations.
     pub items: Vec<Item>,
@@ -207,40 +207,7 @@ pub struct SectionItems {
     pub makers: Vec<usize>,
 }
 
-/// The items that the relocations of a section make, in the relocations' order, and the index of
-/// the relocation that makes each. The section begins at the input offset `base` of the run. The
-/// other relocations make none.
-///
-/// **RISC-V.** `R_RISCV_CALL` and `R_RISCV_CALL_PLT` make a site where `R_RISCV_RELAX` is the next
-/// relocation, at the same offset, the target is in the run, and the bytes are `auipc` and `jalr`
-/// of one register. Its shapes are `TAIL_C` where the `jalr` links x0 and the relocation's
-/// `may_compress` is set, and else `CALL`. `R_RISCV_ALIGN` makes an alignment without a limit, if
-/// there are nops: the addend is how many bytes they have, and the next power of two above it what
-/// they align to (RISC-V ELF psABI, "Linker Relaxation").
-///
-/// Where fewer nops stand before an alignment than it may need at any even address, as the 12 bytes
-/// that assemblers write for `.balign 16` in code without the C extension, the calls between it and
-/// the alignment before it free only multiples of what has to divide its address: then no call
-/// there has `TAIL_C`, and none is a site if that is more than 4.
-///
-/// **LoongArch.** Where `R_LARCH_RELAX` is the next relocation, at the same offset, and the target
-/// is in the run, `R_LARCH_CALL36` makes a `CALL36` if the bytes are `pcaddu18i` and `jirl` of one
-/// register and the `jirl` links `ra` or none. `R_LARCH_PCALA_HI20` makes a `PCALA` if after its
-/// `R_LARCH_RELAX` are `R_LARCH_PCALA_LO12` of the next instruction, with the same target, and an
-/// `R_LARCH_RELAX` there, and the bytes are `pcalau12i` and `addi.d` of one register.
-///
-/// `R_LARCH_ALIGN` makes an alignment, if there are nops. Without a symbol its addend is how many
-/// bytes the nops have, and what they align to is the next power of two above it. With a symbol the
-/// addend's lowest 8 bits are the exponent of two of what they align to, whose nops are 4 bytes
-/// fewer. The other bits are its limit, the most bytes that may stay, if they are above 0 and below
-/// the nops (LoongArch ELF psABI, "Relocations").
-///
-/// `Malformed` names the relocation that `first_malformed` returns. The vectors grow as items are
-/// added. `are_items` returns whether the run can be relaxed.
-///
-/// # Requires
-///
-/// - `(base as u128) + (section.len() as u128) < 1 << 64`
+/// `crate::link::section_items`, with more parameters.
 #[cfg_attr(debug_assertions, track_caller)]
 pub fn section_items<R: AsRelocation>(
     machine: Machine,
@@ -265,18 +232,7 @@ pub fn section_items<R: AsRelocation>(
     Ok(SectionItems { items, makers })
 }
 
-/// `section_items` into memory of the caller's, which has an element of `out` and of `makers` for
-/// each relocation, since each makes one item at most. It returns how many items there are; the
-/// elements from there on are unchanged.
-///
-/// The error is the index that `first_malformed` returns, and nothing is written then. It doesn't
-/// allocate.
-///
-/// # Requires
-///
-/// - base: `(base as u128) + (section.len() as u128) < 1 << 64`
-/// - one_each: `out.len() == relocations.len()`
-/// - makers: `makers.len() == relocations.len()`
+/// `crate::link::section_items_into`, with more parameters.
 #[cfg_attr(debug_assertions, track_caller)]
 pub fn section_items_into<R: AsRelocation, I: AsItem>(
     machine: Machine,

@@ -18,7 +18,7 @@ use crate::linker_base::relaxation::{DeltaSlice, RelaxDelta};
 use crate::elf::Architecture;
 
 /// The architecture of a section's code.
-#[derive(Clone, Copy, Debug, PartialEq, Eq)]
+#[derive(Clone, Copy, Debug, PartialEq, Eq, Hash)]
 pub enum Machine {
     /// RISC-V of 64 bits.
     #[cfg(feature = "riscv64")]
@@ -49,7 +49,8 @@ impl Machine {
 }
 
 /// Why an item isn't written.
-#[derive(Clone, Copy, Debug, PartialEq, Eq)]
+#[cfg_attr(not(exhaustive), non_exhaustive)]
+#[derive(Clone, Copy, Debug, PartialEq, Eq, Hash)]
 pub enum ItemError {
     /// It begins below the end of the item before it.
     Overlaps,
@@ -71,7 +72,7 @@ pub enum ItemError {
 }
 
 /// The first item of a section that can't be written.
-#[derive(Clone, Copy, Debug, PartialEq, Eq)]
+#[derive(Clone, Copy, Debug, PartialEq, Eq, Hash)]
 pub struct RejectedItem {
     /// Its index among the items, or how many there are.
     pub index: usize,
@@ -378,7 +379,7 @@ pub fn packed_run_len(base: u64, len: usize, deltas: &[RelaxDelta]) -> usize {
 /// begins at the input offset `base` of the run. A site of which the linker has decided has none of
 /// these shapes; an alignment has no instructions to be tested.
 ///
-/// Where this is so of a site that `relax` made shorter, `pack_run` can write it: the instruction
+/// Where this is so of a site that [`relax`](crate::runs::relax()) made shorter, [`pack_run`](crate::runs::pack_run()) can write it: the instruction
 /// reaches its target.
 #[must_use]
 pub fn has_its_instructions(machine: Machine, section: &[u8], base: u64, item: &Item) -> bool {
@@ -397,48 +398,7 @@ pub fn has_its_instructions(machine: Machine, section: &[u8], base: u64, item: &
     }
 }
 
-/// Packs a section of a relaxed run into memory of the caller's: the bytes that stay, in order,
-/// with the instructions of its sites and the nops of its alignments written anew.
-///
-/// The section begins at the input offset `base` of the run. The run begins at the address `start`
-/// and loses what `deltas` list, as `relax` returns it; addresses are modulo 2^64. `items` are all
-/// of the run's items that lie in the section and lose bytes, in their order, and any others there.
-/// Targets may lie anywhere in the run.
-///
-/// How many bytes of an item stay, which have to be its first ones, says what is written:
-/// - of RISC-V `c.j` of two bytes for a call that links x0, `jal` of four with the link register of
-///   the `jalr`, and of eight the call as it is, with `R_RISCV_CALL_PLT` applied (RISC-V ELF psABI,
-///   "Function Call Relaxation");
-/// - of LoongArch four bytes of `b` for a call whose `jirl` links none, of `bl` for one that links
-///   `ra`, and of `pcaddi`, with the `addi.d`'s register, for an address; of eight the instructions
-///   as they are, with `R_LARCH_CALL36`, or `R_LARCH_PCALA_HI20` and `R_LARCH_PCALA_LO12`, applied
-///   (LoongArch ELF psABI, "Linker Relaxation"). The instructions tell which of both a site is;
-/// - of an alignment nops: of RISC-V `nop`, and at most one `c.nop` at the end; of LoongArch
-///   `andi zero, zero, 0`.
-///
-/// A site without short shapes, as `fixed` has it, is left as it is.
-///
-/// `relocations` are those of the section, as ELF files have them. Each goes to the offset where its
-/// place goes, with its symbol and addend. That of a site which became shorter has the type of the
-/// one instruction then: `R_RISCV_JAL` or `R_RISCV_RVC_JUMP` in place of `R_RISCV_CALL_PLT` and
-/// `R_RISCV_CALL`, `R_LARCH_B26` in place of `R_LARCH_CALL36`, and `R_LARCH_PCREL20_S2` in place of
-/// `R_LARCH_PCALA_HI20`. So `relocate_section` writes its value, and an output can keep it. The
-/// others at such a site's begin, those of alignments among the items, and those whose byte is
-/// deleted, as `R_LARCH_PCALA_LO12`, have the type 0. Any other keeps its type. One after the
-/// section's end stays as it is, and so do bytes after the last whole relocation.
-///
-/// Requires an output of `packed_run_len` bytes. The deltas are as `SectionRelaxDeltas::deltas`
-/// lists them (`DeltaSlice::has_valid_deltas`). With others the call is safe, but what it writes
-/// isn't specified. The error names the first item that can't be written, or before which bytes are
-/// deleted that are of no item, and nothing is written then.
-///
-/// It doesn't allocate. It takes O(section + deltas + items log deltas), and O(log deltas +
-/// log items) for each relocation.
-///
-/// # Requires
-///
-/// - small: `(base as u128) + (section.len() as u128) < 1 << 64`
-/// - room: `!DeltaSlice::new(deltas).has_valid_deltas() || packed_run_len(base, section.len(), deltas) == out.len()`
+/// `crate::link::pack_run`, with more parameters.
 #[cfg_attr(debug_assertions, track_caller)]
 pub fn pack_run<I: AsItem>(
     machine: Machine,

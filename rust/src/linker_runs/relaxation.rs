@@ -279,8 +279,8 @@ fn relax_items<I: AsItem>(
     keep(items, start, shapes, freed, kept);
 }
 
-/// What `relax` chooses.
-#[derive(Debug)]
+/// What [`relax`](crate::runs::relax()) chooses.
+#[derive(Debug, Clone, PartialEq, Eq)]
 pub struct Plan {
     /// For each item the index of the shape that it has if it is a site.
     pub shapes: Vec<u8>,
@@ -297,7 +297,7 @@ pub struct Plan {
 ///
 /// # Requires
 ///
-/// - items: the items are in order, as `are_items` accepts them
+/// - items: the items are in order, as [`are_items`](crate::runs::are_items()) accepts them
 /// - one_each: `kept.len() == items.len()`
 #[cfg_attr(debug_assertions, track_caller)]
 pub fn deletions<I: AsItem>(
@@ -324,7 +324,7 @@ fn deletions_in<I: AsItem>(
     SectionRelaxDeltas::new(&raw)
 }
 
-/// `relax_into` in memory of its own, with the deletions. It allocates six times, once for each
+/// [`relax_into`](crate::runs::relax_into()) in memory of its own, with the deletions. It allocates six times, once for each
 /// array and as `deletions` does.
 ///
 /// # Requires

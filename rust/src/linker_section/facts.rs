@@ -9,7 +9,7 @@
 /// A relocation takes from it what its psABI's formula names, so that a linker fills in what it has
 /// of a symbol, whichever relocations there are.
 #[repr(C)]
-#[derive(Default, Clone, Copy, Debug, PartialEq, Eq)]
+#[derive(Default, Clone, Copy, Debug, PartialEq, Eq, Hash)]
 pub struct Symbol {
     /// S: its address, and of a thread-local symbol its address in the TLS segment's image.
     pub address: u64,
@@ -40,11 +40,11 @@ pub struct Symbol {
 
 /// What a linker knows of a section and of the output that it is in.
 #[repr(C)]
-#[derive(Default, Clone, Copy, Debug, PartialEq, Eq)]
+#[derive(Default, Clone, Copy, Debug, PartialEq, Eq, Hash)]
 pub struct Addresses {
     /// The address of the section's first byte, from which offsets of relocations count.
     pub section: u64,
-    /// What offsets from the GOT count from, as `Operands::got_base` says.
+    /// What offsets from the GOT count from, as [`Operands::got_base`](crate::elf::Operands::got_base) says.
     pub got_base: u64,
     /// Where the thread pointer points to, as an address in the TLS segment's image: what offsets
     /// from the thread pointer count from. It goes by the segment's alignment, as

@@ -5,7 +5,7 @@
 use crate::elf::{Architecture, EntryUse, RowFacts};
 
 /// What an entry of the GOT holds.
-#[derive(Clone, Copy, Debug, PartialEq, Eq)]
+#[derive(Clone, Copy, Debug, PartialEq, Eq, Hash)]
 pub enum EntryClass {
     /// A word: the address S, or S + A.
     Address,
@@ -20,7 +20,7 @@ pub enum EntryClass {
 }
 
 /// An entry of the GOT that a relocation requires.
-#[derive(Clone, Copy, Debug, PartialEq, Eq)]
+#[derive(Clone, Copy, Debug, PartialEq, Eq, Hash)]
 pub struct Entry {
     /// What it holds.
     pub class: EntryClass,
@@ -30,7 +30,7 @@ pub struct Entry {
 }
 
 /// What a relocation requires.
-#[derive(Clone, Copy, Debug, PartialEq, Eq)]
+#[derive(Clone, Copy, Debug, PartialEq, Eq, Hash)]
 pub struct Requirements {
     /// The entry of the GOT whose address its value depends on. Of PowerPC64's calls that load the
     /// function's address themselves, as `R_PPC64_PLT16_LO_DS`, it is a word with that address.
@@ -99,7 +99,7 @@ fn requirements_by(facts: &RowFacts, addend: i64, is_thread_local: bool) -> Requ
 
 /// What a relocation with a code, `r_type` in ELF files, and an addend requires of a linker, by
 /// whether its symbol is thread-local (`STT_TLS`). None of a code without a row, which no object's
-/// relocation has. Its `entry` is what the value of `Operands::got_entry` is the address of.
+/// relocation has. Its `entry` is what the value of [`Operands::got_entry`](crate::elf::Operands::got_entry) is the address of.
 ///
 /// Where a relocation is rewritten, those of the one that it becomes count.
 ///

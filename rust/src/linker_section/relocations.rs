@@ -8,7 +8,7 @@ use crate::linker_base::utils::{u32_from_slice, u64_from_slice};
 pub const RELA_LEN: usize = 24;
 
 /// A relocation of a section, `Elf64_Rela` (ELF specification, "Relocation").
-#[derive(Clone, Copy, Debug, PartialEq, Eq)]
+#[derive(Clone, Copy, Debug, PartialEq, Eq, Hash)]
 pub struct Rela {
     /// Its place, `r_offset`: an offset in the section.
     pub offset: u64,

@@ -14,7 +14,8 @@ use crate::linker_base::utils::{self, Uleb128Error};
 use crate::elf::{Architecture, RelocateError, RelocationKind, Row};
 
 /// Why a relocation's value isn't written.
-#[derive(Clone, Copy, Debug, PartialEq, Eq)]
+#[cfg_attr(not(exhaustive), non_exhaustive)]
+#[derive(Clone, Copy, Debug, PartialEq, Eq, Hash)]
 pub enum RelocationError {
     /// It has no value.
     Value(ValueError),
@@ -23,7 +24,7 @@ pub enum RelocationError {
     /// The instruction there is shorter or longer than its form: one of RISC-V, or one of PowerPC64
     /// without a prefix at a relocation of 34 bits.
     OtherLength,
-    /// Its value can't be written, as `Row::write` says. An offset past the section's end is
+    /// Its value can't be written, as [`Row::write`](crate::elf::Row::write) says. An offset past the section's end is
     /// `TooShort`. A relocation of a ULEB128 number is `Unsupported` where it isn't of a pair. An
     /// offset from the thread pointer is `OutOfReach` also where the instruction's base register is
     /// the thread pointer, and the offset isn't in -0x800..0x800: of `R_RISCV_TPREL_LO12_I`,
@@ -480,40 +481,18 @@ fn write_values(
     )
 }
 
-/// How many elements of memory `relocate_section` takes: one for each relocation.
+/// How many elements of memory [`relocate_section`](crate::section::relocate_section()) takes: one for each relocation.
 #[must_use]
 #[inline(always)]
 pub fn memory_len(relocations: &[u8]) -> usize {
     relocations_len(relocations)
 }
 
-/// Writes the values of a section's relocations, `value`'s. Bytes that are in no relocation's field
-/// stay. `memory` is for its work: as many elements as `memory_len` says, with any numbers.
-///
-/// The bytes that a relocation writes are its field. Relocations whose fields overlap have to
-/// compose: to be at one offset and, in their order,
-///
-/// - to change the number that those before them set or change, in as many bytes (`R_RISCV_SET8`,
-///   `R_RISCV_ADD8`, `R_RISCV_SUB8` and those of 16, 32 and 64 bits, LoongArch's of these names and
-///   of 24 bits; and `R_RISCV_SET6`, `R_RISCV_SUB6`, `R_LARCH_ADD6` and `R_LARCH_SUB6`), or
-/// - to be a pair at a ULEB128 number, next to each other.
-///
-/// A relocation without a value, as `R_RISCV_RELAX`, has no field. Where code would be wrong with
-/// its value, it isn't written (`NotAligned`, `NeedsStub`, `OtherLength`, `OutOfReach`). A linker
-/// that removes the nops of an alignment itself sets the relocation's code to 0. n relocations that
-/// ascend by offset take time in proportion to n, also most that are two such lists, one after the
-/// other. In any other order their indexes are sorted in `memory` first, and the time is in
-/// proportion to n log n; each low part of RISC-V then takes up to n more.
-///
-/// # Errors
-///
-/// Nothing is written, and the error has the least index of a relocation that has no value, whose
-/// field overlaps that of an earlier one with which it doesn't compose, whose instruction has
-/// another length, or whose value can't be written, and the first of these that applies.
+/// `crate::link::relocate_section`, with more parameters.
 ///
 /// ```
-/// use linker_utils::section::{Addresses, Symbol};
-/// use linker_utils::section::{memory_len, relocate_section};
+/// use linker_utils::source::section::{Addresses, Symbol};
+/// use linker_utils::source::section::{memory_len, relocate_section};
 /// use linker_utils::elf::Architecture;
 ///
 /// // call f, with R_X86_64_PLT32 of symbol 1 at offset 1, whose addend is -4
@@ -530,10 +509,6 @@ pub fn memory_len(relocations: &[u8]) -> usize {
 /// relocate_section(of, &addresses, &relocations, &symbols, &mut section, &mut memory).unwrap();
 /// assert_eq!(section, [0xe8, 0x00, 0x10, 0, 0]);
 /// ```
-///
-/// # Requires
-///
-/// - memory: `memory_len(relocations) <= memory.len()`
 #[cfg_attr(debug_assertions, track_caller)]
 pub fn relocate_section(
     architecture: Architecture,

@@ -15,7 +15,8 @@ use crate::elf::RiscVInstruction;
 use crate::x86_64::X86_64Relocation;
 
 /// Why a relocation has no value.
-#[derive(Clone, Copy, Debug, PartialEq, Eq)]
+#[cfg_attr(not(exhaustive), non_exhaustive)]
+#[derive(Clone, Copy, Debug, PartialEq, Eq, Hash)]
 pub enum ValueError {
     /// Its code has no row: no object's relocation has it.
     UnknownType,
@@ -29,15 +30,15 @@ pub enum ValueError {
     /// It is a low part of RISC-V, and no high part is at the label that its symbol is.
     NoHighPart,
     /// `R_RISCV_ALIGN` or `R_LARCH_ALIGN`: what is after its nops isn't aligned, since the section
-    /// wasn't packed. Only of `relocate_section`.
+    /// wasn't packed. Only of [`relocate_section`](crate::section::relocate_section()).
     NotAligned,
     /// `R_PPC64_REL24` of a function that may return with another TOC pointer (the high three bits
     /// of `st_other` are 1), and that has no stub, which would keep the caller's. Only of
-    /// `relocate_section`.
+    /// [`relocate_section`](crate::section::relocate_section()).
     NeedsStub,
     /// A `*_HI20` of LoongArch whose value isn't a number of 32 signed bits, and that has no
     /// `*64*_LO20` of its symbol and addend: 8 bytes after it where it is relative to the place, and
-    /// else anywhere in the section. Only of `relocate_section`.
+    /// else anywhere in the section. Only of [`relocate_section`](crate::section::relocate_section()).
     OutOfReach,
 }
 
@@ -484,7 +485,7 @@ pub(crate) fn value_of(
     low_value(architecture, addresses, symbols, row, high)
 }
 
-/// The value of a relocation among those of its section, which `relocation_at` reads. None of a
+/// The value of a relocation among those of its section, which [`relocation_at`](crate::section::relocation_at()) reads. None of a
 /// type without a value, as an alignment.
 ///
 /// It is that of the psABI's formula, with the operands that its relocation takes:
@@ -503,7 +504,7 @@ pub(crate) fn value_of(
 ///
 /// # Errors
 ///
-/// `UnknownType`, `NoSymbol`, `NoEntry`, `NoTlsBase` and `NoHighPart`, as `ValueError` says.
+/// `UnknownType`, `NoSymbol`, `NoEntry`, `NoTlsBase` and `NoHighPart`, as [`ValueError`](crate::section::ValueError) says.
 ///
 /// ```
 /// use linker_utils::section::{Addresses, Symbol};

@@ -8,10 +8,10 @@ use crate::linker_base::rewrite::{has_window, overwrite};
 use crate::linker_base::utils::u32_from_slice;
 use crate::linker_elf::elf::RiscVInstruction;
 
-/// The least distance that `distance_fits_jal` accepts, in bytes.
+/// The least distance that [`distance_fits_jal`](crate::riscv64::distance_fits_jal()) accepts, in bytes.
 pub const JAL_MIN: i64 = -1048576;
 
-/// The greatest distance that `distance_fits_jal` accepts, in bytes. The J-immediate holds even
+/// The greatest distance that [`distance_fits_jal`](crate::riscv64::distance_fits_jal()) accepts, in bytes. The J-immediate holds even
 /// distances, so that the greatest that `jal` reaches is one less.
 pub const JAL_MAX: i64 = 1048575;
 
@@ -84,7 +84,7 @@ impl AsCall for (u64, u64) {
 #[derive(Debug, Clone, Copy, PartialEq, Eq, Hash)]
 pub enum LinkRegister {
     /// The register of the `auipc`, as `RelaxationKind::CallToJal` takes it. The call itself links
-    /// it only where `is_plain_call` holds.
+    /// it only where [`is_plain_call`](crate::riscv64::is_plain_call()) holds.
     OfAuipc,
     /// The register of the `jalr`, which is the one that the call links and that linkers take:
     /// x0 for `tail f`, t0 for `call t0, f`.
@@ -172,8 +172,8 @@ pub(super) fn test_distance(distance: i64) -> Result<(), CallError> {
 }
 
 /// Turns the `auipc` at a site of a section into a `jal` by a distance in bytes, with the `auipc`'s
-/// destination register: `CallToJal` and then the J-immediate. `is_plain_call` returns whether the
-/// call links that register; `jal_site_with` takes the `jalr`'s.
+/// destination register: `CallToJal` and then the J-immediate. [`is_plain_call`](crate::riscv64::is_plain_call()) returns whether the
+/// call links that register; [`jal_site_with`](crate::riscv64::jal_site_with()) takes the `jalr`'s.
 ///
 /// On an error the section is unchanged. The errors are `OutOfSection`, `OddDistance` and `TooFar`,
 /// the first of them that applies.
@@ -243,7 +243,7 @@ pub(super) fn jump_of(
     })
 }
 
-/// Replaces a call by a jump as `jal_site` does, in a section whose bytes are where they were
+/// Replaces a call by a jump as [`jal_site`](crate::riscv64::jal_site()) does, in a section whose bytes are where they were
 /// before the deletions: the distance is that from the site's output offset to the target's, so
 /// that the jump is right once the deleted bytes are gone. A target inside a deletion is what
 /// follows the deletion. The target may be the section's end.
@@ -252,7 +252,7 @@ pub(super) fn jump_of(
 /// `OddDistance` and `TooFar`, the first of them that applies.
 ///
 /// The jump links the register of the `auipc`, which for a plain call is the `jalr`'s too:
-/// `is_plain_call` distinguishes these from others, as `tail f`.
+/// [`is_plain_call`](crate::riscv64::is_plain_call()) distinguishes these from others, as `tail f`.
 pub fn relax_call(
     section: &mut [u8],
     deltas: &SectionRelaxDeltas,
@@ -262,7 +262,7 @@ pub fn relax_call(
     relax_call_over(section, &deltas.as_delta_slice(), site, target)
 }
 
-/// `relax_call` over deltas that anyone owns. It is safe for any deltas, and does what `relax_call`
+/// [`relax_call`](crate::riscv64::relax_call()) over deltas that anyone owns. It is safe for any deltas, and does what [`relax_call`](crate::riscv64::relax_call())
 /// does where they are valid. It takes three searches.
 pub fn relax_call_over(
     section: &mut [u8],

@@ -67,7 +67,7 @@ pub fn calls_apart(calls: &[(u64, u64)]) -> bool {
 }
 
 /// Tests a call, and puts its jump into a packed section that has room for it. The errors are those
-/// of `CallError` in their order, with `NotACall` after `SiteDeleted`.
+/// of [`CallError`](crate::riscv64::CallError) in their order, with `NotACall` after `SiteDeleted`.
 fn put_call(
     section: &[u8],
     deltas: &DeltaSlice<'_>,
@@ -121,8 +121,8 @@ pub fn packed_len(section: &[u8], deltas: &[RelaxDelta]) -> usize {
 /// chosen. A deletion that reaches past the section's end deletes up to there, and one past it
 /// nothing.
 ///
-/// Requires sites that ascend by at least 4 (`calls_apart`), and an output of `packed_len` bytes.
-/// The deltas are as `SectionRelaxDeltas::deltas` lists them (`DeltaSlice::has_valid_deltas`). With
+/// Requires sites that ascend by at least 4 ([`calls_apart`](crate::relaxation::calls_apart())), and an output of [`packed_len`](crate::relaxation::packed_len()) bytes.
+/// The deltas are as [`SectionRelaxDeltas::deltas`](crate::relaxation::SectionRelaxDeltas::deltas) lists them ([`DeltaSlice::has_valid_deltas`](crate::relaxation::DeltaSlice::has_valid_deltas)). With
 /// others the call is safe, but what it writes isn't specified. The error names the first call that
 /// can't become a jump, and nothing is written then. It takes O(section + deltas + calls log
 /// deltas).
@@ -152,8 +152,8 @@ pub fn pack_into<C: AsCall>(
 /// `jal` to where the target goes, with the `auipc`'s destination register.
 /// A deletion that reaches past the section's end deletes up to there, and one past it nothing.
 ///
-/// Requires sites that ascend by at least 4 (`calls_apart`). It allocates once, before it looks
-/// at the calls, and O(section + deltas + calls log deltas). `pack_into` links the register of the
+/// Requires sites that ascend by at least 4 ([`calls_apart`](crate::relaxation::calls_apart())). It allocates once, before it looks
+/// at the calls, and O(section + deltas + calls log deltas). [`pack_into`](crate::relaxation::pack_into()) links the register of the
 /// `jalr`, which `tail f` and `call t0, f` need.
 ///
 /// # Requires

@@ -230,7 +230,7 @@ fn shrinkable_targets_len<C: AsCall>(calls: &[C]) -> usize {
 /// The index of the first call that can't be shrunk with those before it: its site is less than 8
 /// above the site before it, one of its eight bytes is deleted, the deletion of the last four can't
 /// be merged, or one of these calls has a target strictly inside what another, or itself, deletes.
-/// None where `shrink_calls` accepts the calls.
+/// None where [`shrink_calls`](crate::relaxation::shrink_calls()) accepts the calls.
 ///
 /// It doesn't allocate. For k calls and n deltas the work is O(k log n + k log k).
 #[must_use]
@@ -244,7 +244,7 @@ pub fn first_not_shrinkable<C: AsCall>(deltas: &[RelaxDelta], calls: &[C]) -> Op
     }
 }
 
-/// Whether `shrink_calls` accepts the calls: their sites ascend by at least 8, the eight bytes at
+/// Whether [`shrink_calls`](crate::relaxation::shrink_calls()) accepts the calls: their sites ascend by at least 8, the eight bytes at
 /// each site are kept, the four bytes after each call's first instruction may be deleted all
 /// together, and no target is strictly inside four such bytes.
 #[must_use]
@@ -252,11 +252,11 @@ pub fn calls_shrinkable(deltas: &SectionRelaxDeltas, calls: &[(u64, u64)]) -> bo
     first_not_shrinkable(deltas.deltas(), calls).is_none()
 }
 
-/// `shrink_calls` into memory of the caller's: an element for each call, `true` or 1 where it is
+/// [`shrink_calls`](crate::relaxation::shrink_calls()) into memory of the caller's: an element for each call, `true` or 1 where it is
 /// chosen, and else `false` or 0.
 ///
-/// Requires calls that `first_not_shrinkable` accepts, and as many elements as calls. The deltas
-/// are as `SectionRelaxDeltas::deltas` lists them (`DeltaSlice::has_valid_deltas`). With others the
+/// Requires calls that [`first_not_shrinkable`](crate::relaxation::first_not_shrinkable()) accepts, and as many elements as calls. The deltas
+/// are as [`SectionRelaxDeltas::deltas`](crate::relaxation::SectionRelaxDeltas::deltas) lists them ([`DeltaSlice::has_valid_deltas`](crate::relaxation::DeltaSlice::has_valid_deltas)). With others the
 /// call is safe, but what it writes isn't specified. It takes 9 KiB of the stack.
 ///
 /// All calls are chosen at first. Sweeps over them, up and down in turn, drop those out of reach
@@ -293,11 +293,11 @@ pub fn shrink_calls_into<C: AsCall, A: AsChoice>(
 /// A choice of calls is in reach where, once each of them has lost its four bytes and the
 /// deltas' bytes are gone too, the distance from each one's site to its target is even and in the
 /// range of `jal`. The choice that is returned is the greatest: each choice in reach is part of it.
-/// So it deletes the most bytes, and once its deletions (site + 4, 4) are merged, `pack_section`
+/// So it deletes the most bytes, and once its deletions (site + 4, 4) are merged, [`pack_section`](crate::relaxation::pack_section())
 /// rejects none of its calls for its distance (`shrunk_calls_are_accepted`).
 ///
-/// Requires calls that `calls_shrinkable` accepts. It allocates once, for what it returns, before
-/// anything else. `shrink_calls_into` says how long it takes. `relax` of a run, which knows of
+/// Requires calls that [`calls_shrinkable`](crate::relaxation::calls_shrinkable()) accepts. It allocates once, for what it returns, before
+/// anything else. [`shrink_calls_into`](crate::relaxation::shrink_calls_into()) says how long it takes. [`relax`](crate::runs::relax()) of a run, which knows of
 /// alignments and of other sites, is the call for a linker.
 ///
 /// # Requires
@@ -314,7 +314,7 @@ pub fn shrink_calls(
     Ok(chosen)
 }
 
-/// Once the four bytes of each chosen call of a choice in reach are deleted too, `pack_section` and
-/// `pack_into` reject no chosen call with `OddDistance` or `TooFar`.
+/// Once the four bytes of each chosen call of a choice in reach are deleted too, [`pack_section`](crate::relaxation::pack_section()) and
+/// [`pack_into`](crate::relaxation::pack_into()) reject no chosen call with `OddDistance` or `TooFar`.
 #[doc(hidden)]
 pub fn shrunk_calls_are_accepted() {}

@@ -159,7 +159,7 @@ pub(super) fn count_blocks(len: usize) -> usize {
     len / BLOCK_LEN + usize::from(len % BLOCK_LEN > 0)
 }
 
-/// The output offset of `input_offset`, as `SectionRelaxDeltas::input_to_output_offset` returns it.
+/// The output offset of `input_offset`, as [`SectionRelaxDeltas::input_to_output_offset`](crate::relaxation::SectionRelaxDeltas::input_to_output_offset) returns it.
 ///
 /// Requires a count of at most `u32::MAX`. With B blocks it takes at most as many looks as B has
 /// binary digits, and eight.
@@ -181,7 +181,7 @@ pub fn input_to_output_counted<K: Looks>(looks: &mut K, input_offset: u64) -> u6
 }
 
 /// The input offset of the kept byte at `output_offset`, as
-/// `SectionRelaxDeltas::output_to_input_offset` returns it.
+/// [`SectionRelaxDeltas::output_to_input_offset`](crate::relaxation::SectionRelaxDeltas::output_to_input_offset) returns it.
 ///
 /// Requires an offset that `output_fits` accepts, and a count of at most `u32::MAX`. With B blocks
 /// it takes at most as many looks as B has binary digits, and eight.

@@ -25,7 +25,7 @@ impl<'a> RelaxCursor<'a> {
         }
     }
 
-    /// The output offset of `input_offset`, as `SectionRelaxDeltas::input_to_output_offset` returns
+    /// The output offset of `input_offset`, as [`SectionRelaxDeltas::input_to_output_offset`](crate::relaxation::SectionRelaxDeltas::input_to_output_offset) returns
     /// it, where all deltas that were passed before begin strictly below it. Of a lower offset, a
     /// step back, it is `input_offset` less the bytes of all passed deltas.
     ///

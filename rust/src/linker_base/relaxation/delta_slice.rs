@@ -11,10 +11,10 @@ use super::walk::Reached;
 /// A borrowed list of deltas, of any contents, and the heads of their blocks, or none.
 ///
 /// Each call is safe for any deltas and heads. What it returns is specified where the deltas are
-/// valid: they list deletions as `SectionRelaxDeltas::new` requires them, each with the sum of the
+/// valid: they list deletions as [`SectionRelaxDeltas::new`](crate::relaxation::SectionRelaxDeltas::new) requires them, each with the sum of the
 /// bytes up to it. Searches also need the heads to be those that `write_heads` writes, if there
 /// are any.
-#[derive(Debug, Clone, Copy)]
+#[derive(Debug, Clone, Copy, PartialEq, Eq, Hash)]
 pub struct DeltaSlice<'a> {
     deltas: &'a [RelaxDelta],
     heads: &'a [BlockHead],
@@ -66,14 +66,14 @@ impl<'a> DeltaSlice<'a> {
         self.deltas
     }
 
-    /// Whether the deltas are valid: they list deletions as `SectionRelaxDeltas::new` requires
+    /// Whether the deltas are valid: they list deletions as [`SectionRelaxDeltas::new`](crate::relaxation::SectionRelaxDeltas::new) requires
     /// them, each with the sum of the bytes up to it. O(n).
     #[must_use]
     pub fn has_valid_deltas(&self) -> bool {
         are_valid(self.deltas) && have_sums(self.deltas)
     }
 
-    /// How many blocks of `BLOCK_LEN` deltas there are; the last may be shorter.
+    /// How many blocks of [`BLOCK_LEN`](crate::relaxation::BLOCK_LEN) deltas there are; the last may be shorter.
     #[must_use]
     #[inline]
     pub fn block_count(&self) -> usize {

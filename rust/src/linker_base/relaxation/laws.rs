@@ -25,6 +25,6 @@ pub fn cursor_gives_ranks() {}
 /// every merge.
 pub fn merges_shorten_distances() {}
 
-/// What `RelaxDeltaMap::get_mut` lends is of one section: those of the others are as before when it
+/// What [`RelaxDeltaMap::get_mut`](crate::relaxation::RelaxDeltaMap::get_mut) lends is of one section: those of the others are as before when it
 /// is handed back.
 pub fn other_sections_stay() {}

@@ -394,7 +394,7 @@ const fn index(name: AArch64Relocation) -> usize {
     relocations!(index_of_name(AArch64Relocation, name))
 }
 
-/// What a relocation means. It takes a name; `AArch64Relocation::from_elf` gives the name of a
+/// What a relocation means. It takes a name; [`AArch64Relocation::from_elf`](crate::aarch64::AArch64Relocation::from_elf) gives the name of a
 /// code. Returns `None` for `Other`. The bias is added before the page mask is applied, and both
 /// before the bits are taken.
 ///

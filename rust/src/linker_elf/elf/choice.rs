@@ -78,7 +78,7 @@ pub struct Choice<K, R> {
 impl<K: InstructionRewrite, R: Copy + PartialEq> Choice<K, R> {
     /// Whether the choice at a relocation with a name leaves both as they are: the rewrite is
     /// `NoOp`, and the relocation after it has the same name. The rewrite of another instruction
-    /// may still change the relocation (`OtherRelocation`).
+    /// may still change the relocation ([`OtherRelocation`](crate::elf::OtherRelocation)).
     ///
     /// ```
     /// use linker_utils::elf::{LinkFacts, Operands};
@@ -102,7 +102,7 @@ impl<K: InstructionRewrite, R: Copy + PartialEq> Choice<K, R> {
 
 /// The relocation of another instruction that a rewrite changes too. Whatever relocation is there
 /// becomes this one, whether its value was written before the rewrite or is written after it.
-#[derive(Clone, Copy, PartialEq, Eq, Debug)]
+#[derive(Clone, Copy, PartialEq, Eq, Debug, Hash)]
 pub struct OtherRelocation<R> {
     /// Where it is, in bytes from the offset of the rewrite's own relocation.
     pub offset: i64,

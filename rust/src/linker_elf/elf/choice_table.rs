@@ -5,7 +5,7 @@
 use crate::linker_elf::elf::{Choice, InstructionRewrite, LinkFacts, Operands, Row};
 
 /// The definition in this output is what is used at run time, and is no indirect function:
-/// `is_local` and not `is_ifunc`. This and the constants below are the facts of `LinkFacts` that an
+/// `is_local` and not `is_ifunc`. This and the constants below are the facts of [`LinkFacts`](crate::elf::LinkFacts) that an
 /// entry may require, each a bit of a mask.
 pub const BOUND: u32 = 1 << 0;
 

@@ -3,7 +3,7 @@
 //! What a relocation requires of a linker, and how its value is found: facts of its row.
 
 /// Which entry of the GOT, or which word, a formula has.
-#[derive(Clone, Copy)]
+#[derive(Clone, Copy, Debug, PartialEq, Eq, Hash)]
 pub enum EntryUse {
     /// None.
     Without,
@@ -22,7 +22,7 @@ pub enum EntryUse {
 }
 
 /// How the value of a relocation is found among those of a section.
-#[derive(Clone, Copy)]
+#[derive(Clone, Copy, Debug, PartialEq, Eq, Hash)]
 pub enum Way {
     /// By all tests.
     Other,
@@ -40,7 +40,7 @@ pub enum Way {
 
 /// How long the instruction of a relocation is, where those of its architecture have several
 /// lengths.
-#[derive(Clone, Copy)]
+#[derive(Clone, Copy, Debug, PartialEq, Eq, Hash)]
 pub enum Length {
     /// Any, or none.
     Any,
@@ -53,7 +53,7 @@ pub enum Length {
 }
 
 /// What a linker asks of a relocation's row.
-#[derive(Clone, Copy)]
+#[derive(Clone, Copy, Debug, PartialEq, Eq, Hash)]
 pub struct RowFacts {
     /// The entry that its formula has.
     pub entry: EntryUse,

@@ -6,11 +6,11 @@
 #[repr(C)]
 #[derive(Clone, Copy, Debug, PartialEq, Eq, Hash)]
 pub struct RelocationNumbers {
-    /// What its value is computed from: the place of the kind in the enum `RelocationKind`.
+    /// What its value is computed from: the place of the kind in the enum [`RelocationKind`](crate::elf::RelocationKind).
     pub kind: u32,
     /// The place of the instruction's form in the enum of its architecture's forms; 0 for bytes.
     pub form: u32,
-    /// Which addresses are cut to their page: 0 for none, else the place in the enum `PageMask` and
+    /// Which addresses are cut to their page: 0 for none, else the place in the enum [`PageMask`](crate::elf::PageMask) and
     /// 1.
     pub mask: u32,
     /// `e_machine` of the form's architecture; 0 for bytes.

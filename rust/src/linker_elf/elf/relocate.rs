@@ -40,6 +40,7 @@ pub enum RelocateError {
 }
 
 /// Why a relocation isn't applied.
+#[cfg_attr(not(exhaustive), non_exhaustive)]
 #[derive(Debug, Clone, Copy, PartialEq, Eq, Hash)]
 pub enum ApplyError {
     /// It has no value.

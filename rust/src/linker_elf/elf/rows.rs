@@ -50,7 +50,7 @@ pub(crate) struct WriteTests {
 }
 
 /// What a relocation of the library's tables means. Each architecture's `row` returns it for a
-/// name, and `Architecture::row` for a code.
+/// name, and [`Architecture::row`](crate::elf::Architecture::row) for a code.
 ///
 /// ```
 /// use linker_utils::elf::Operands;
@@ -188,7 +188,7 @@ impl Row {
     /// applied after that, modulo 2^64 and read in two's complement. The first that applies of
     /// `NoEntry`, `NoTlsBase` and `NoValue`.
     ///
-    /// Of LoongArch's high halves it is `highest_relocation_with_bias` of the symbol or the GOT
+    /// Of LoongArch's high halves it is [`highest_relocation_with_bias`](crate::loongarch64::highest_relocation_with_bias()) of the symbol or the GOT
     /// entry. The place is that of the relocated instruction, which is the third of the sequence of
     /// five for bits 32 to 51 and the fourth for bits 52 to 63.
     ///
@@ -291,7 +291,7 @@ impl Row {
         write_row(self.entry, value, dest)
     }
 
-    /// The same, with `ApplyError`.
+    /// The same, with [`ApplyError`](crate::elf::ApplyError).
     #[inline(always)]
     fn write_applied(&self, value: i64, dest: &mut [u8]) -> Result<(), ApplyError> {
         match self.write(value, dest) {
@@ -329,7 +329,7 @@ fn has_no_bits(low_bits: u8, value: i64, _alignment: u64) -> bool {
     value as u64 & low_bits as u64 == 0
 }
 
-/// `Row::write`, of the row of an entry. Only rows that don't take all values look at the
+/// [`Row::write`](crate::elf::Row::write), of the row of an entry. Only rows that don't take all values look at the
 /// instruction.
 #[inline(always)]
 fn write_row(entry: &'static TableRow, value: i64, dest: &mut [u8]) -> Result<(), RelocateError> {

@@ -54,6 +54,7 @@ pub struct Operands {
 }
 
 /// Why a relocation's formula has no value.
+#[cfg_attr(not(exhaustive), non_exhaustive)]
 #[derive(Debug, Clone, Copy, PartialEq, Eq, Hash)]
 pub enum FormulaError {
     /// It has the address of an entry of the GOT, or of the word that PowerPC64's calls load, and
@@ -138,7 +139,7 @@ impl RelocationKind {
     }
 }
 
-/// What `highest_relocation_with_bias` takes as `pc`.
+/// What [`highest_relocation_with_bias`](crate::loongarch64::highest_relocation_with_bias()) takes as `pc`.
 #[inline(always)]
 fn pc_of_sequence(size: RelocationSize, place: u64) -> u64 {
     match size {

@@ -269,7 +269,7 @@ const fn index(name: LoongArch64Relocation) -> usize {
     relocations!(index_of_name(LoongArch64Relocation, name))
 }
 
-/// What a relocation means. It takes a name; `LoongArch64Relocation::from_elf` gives the name of a
+/// What a relocation means. It takes a name; [`LoongArch64Relocation::from_elf`](crate::loongarch64::LoongArch64Relocation::from_elf) gives the name of a
 /// code. Returns `None` for `Other`.
 ///
 /// # Ranges of pairs

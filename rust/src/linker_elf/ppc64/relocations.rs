@@ -352,7 +352,7 @@ const fn index(name: Ppc64Relocation) -> usize {
     relocations!(index_of_name(Ppc64Relocation, name))
 }
 
-/// What a relocation means. It takes a name; `Ppc64Relocation::from_elf` gives the name of a code.
+/// What a relocation means. It takes a name; [`Ppc64Relocation::from_elf`](crate::ppc64::Ppc64Relocation::from_elf) gives the name of a code.
 /// Returns `None` for `Other`. The adjusted parts (`_HA`, `_HIGHA`, `_HIGHERA`, `_HIGHESTA`) have a
 /// bias of 0x8000. Checked halves have a range of 16 signed bits.
 ///

@@ -204,7 +204,7 @@ const fn index(name: RiscVRelocation) -> usize {
     relocations!(index_of_name(RiscVRelocation, name))
 }
 
-/// What a relocation means. It takes a name; `RiscVRelocation::from_elf` gives the name of a code.
+/// What a relocation means. It takes a name; [`RiscVRelocation::from_elf`](crate::riscv64::RiscVRelocation::from_elf) gives the name of a code.
 /// Returns `None` for `Other`.
 ///
 /// The value of the relocations of TLS descriptors ("TLS Descriptors") is the distance from the

@@ -154,7 +154,7 @@ const fn index(name: X86_64Relocation) -> usize {
     relocations!(index_of_name(X86_64Relocation, name))
 }
 
-/// What a relocation means. It takes a name; `X86_64Relocation::from_elf` gives the name of a code.
+/// What a relocation means. It takes a name; [`X86_64Relocation::from_elf`](crate::x86_64::X86_64Relocation::from_elf) gives the name of a code.
 /// Returns `None` for `Other`. Fields of 8 bytes are not checked. An address in 16 or 8 bits may be
 /// signed or unsigned.
 #[must_use]

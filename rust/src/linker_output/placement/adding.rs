@@ -4,10 +4,10 @@
 
 use crate::support::*;
 use super::laying::passed;
-use super::{Branch, Code, Group, Part, State, StubAt, Way};
+use super::{Branch, Code, StubCounts, Part, State, StubAt, Way};
 use crate::linker_base::relaxation::OutOfMemory;
 
-impl Group {
+impl StubCounts {
     /// How many stubs of a part there are.
     #[inline(always)]
     fn stubs_of(self, part: Part) -> u64 {
@@ -20,7 +20,7 @@ impl Group {
 
     /// The same with one more.
     #[inline(always)]
-    fn with_one(mut self, part: Part) -> Group {
+    fn with_one(mut self, part: Part) -> StubCounts {
         match part {
             Part::Front => self.front += 1,
             Part::Middle => self.middle += 1,

@@ -2,7 +2,7 @@
 // Made by tools/generate of crates/linker_output/src/placement/laying.rt.
 //! Where stubs are, and what branches reach, by how many stubs there are at each boundary.
 
-use super::{Branch, Code, Group, Part, StubAt, StubShape, Way};
+use super::{Branch, Code, StubCounts, Part, StubAt, StubShape, Way};
 
 /// Whether a target is in reach.
 #[inline(always)]
@@ -32,7 +32,7 @@ pub(super) fn passed(boundaries: &[u64], offset: u64) -> usize {
 impl StubShape {
     /// How many bytes the stubs at a boundary take.
     #[inline(always)]
-    fn size_of(&self, group: Group) -> u64 {
+    fn size_of(&self, group: StubCounts) -> u64 {
         let stubs = group.front + group.middle + group.back;
         let bytes = self.len * stubs;
         bytes + (self.unit - bytes % self.unit) % self.unit
@@ -40,7 +40,7 @@ impl StubShape {
 }
 
 /// How many bytes of stubs there are before those at each boundary, and at the end how many in all.
-pub(super) fn lay_out(shape: &StubShape, groups: &[Group], before: &mut [u64]) {
+pub(super) fn lay_out(shape: &StubShape, groups: &[StubCounts], before: &mut [u64]) {
     let mut bytes = 0;
     for index in 0..groups.len() {
         before[index] = bytes;
@@ -62,7 +62,7 @@ impl Code<'_> {
     }
 
     /// Where a stub is.
-    pub(super) fn place_of(&self, groups: &[Group], before: &[u64], stub: &StubAt) -> u64 {
+    pub(super) fn place_of(&self, groups: &[StubCounts], before: &[u64], stub: &StubAt) -> u64 {
         let start = self.boundaries[stub.boundary] + before[stub.boundary];
         let group = groups[stub.boundary];
         match stub.part {

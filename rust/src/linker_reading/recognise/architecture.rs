@@ -46,12 +46,10 @@ fn all_by_code<N: RecognisedName>(
     by_code
 }
 
-/// Which rewrites, and relocations after them, a linker may have made at the relocation with a
-/// code, `r_type` in ELF files, as `recognise` of this crate says. `window_of` returns the window
-/// that it wants, and `destination_of` the address that one of them leads to.
+/// `crate::recognise::recognise`, with more parameters.
 ///
 /// ```
-/// use linker_utils::recognise::architecture::recognise;
+/// use linker_utils::source::recognise::architecture::recognise;
 /// use linker_utils::architecture::Relaxation;
 /// use linker_utils::elf::Architecture;
 /// use linker_utils::x86_64::RelaxationKind;
@@ -65,10 +63,6 @@ fn all_by_code<N: RecognisedName>(
 /// assert_eq!(Architecture::X86_64.name(made.choice.relocation), Some("R_X86_64_PC32"));
 /// assert_eq!(made.value.unwrap().number(), Some(0x2010));
 /// ```
-///
-/// # Requires
-///
-/// - `original.len() <= 64`
 #[must_use]
 #[cfg_attr(debug_assertions, track_caller)]
 pub fn recognise(
@@ -85,12 +79,7 @@ pub fn recognise(
     }))
 }
 
-/// The choice that `choose` makes by what the linker knows, if it leaves the linked bytes, as
-/// `recognise_chosen` of this crate says.
-///
-/// # Requires
-///
-/// - `original.len() <= 64`
+/// `crate::recognise::recognise_chosen`, with more parameters.
 #[must_use]
 #[cfg_attr(debug_assertions, track_caller)]
 pub fn recognise_chosen(
@@ -108,8 +97,8 @@ pub fn recognise_chosen(
     }))
 }
 
-/// The window that `recognise` wants, in bytes of an object around the relocation with a code at an
-/// offset of them. It begins at the last byte, and ends at the first one, with which `recognise`
+/// The window that [`recognise`](crate::recognise::recognise()) wants, in bytes of an object around the relocation with a code at an
+/// offset of them. It begins at the last byte, and ends at the first one, with which [`recognise`](crate::recognise::recognise())
 /// finds each choice that it finds in all of these bytes. So it has the bytes that their rewrites
 /// write and delete, those that `matches` reads, and the fields of the relocations after them. What
 /// other relocations write there is to be named in `others`. It begins `back` bytes before the

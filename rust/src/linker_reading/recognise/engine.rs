@@ -21,7 +21,7 @@ pub const MAX_WINDOW: usize = 64;
 pub type Choices<K, R> = ([Choice<K, R>; CANDIDATES], usize);
 
 /// A choice that leaves the linked bytes, and what stands in the field of its relocation there.
-#[derive(Clone, Copy, Debug, PartialEq, Eq)]
+#[derive(Clone, Copy, Debug, PartialEq, Eq, Hash)]
 pub struct Recognised<K, R> {
     /// The rewrite, and the relocation after it.
     pub choice: Choice<K, R>,
@@ -30,7 +30,7 @@ pub struct Recognised<K, R> {
     pub offset: u64,
     /// What is known of the value of the relocation after the rewrite from the linked bytes at the
     /// offset, as `reading::read` returns it. None of a relocation without a row, and of one whose
-    /// field isn't its value. `solve` makes the address of it, with the addend that `apply` leaves:
+    /// field isn't its value. [`solve`](crate::reading::solve()) makes the address of it, with the addend that `apply` leaves:
     /// of x86-64's absolute rewrites it is 4 more than before.
     pub value: Option<FieldValue>,
 }
@@ -156,7 +156,7 @@ fn choices_of<O, K: Copy, R: Copy>(
 }
 
 /// A choice with what stands in its field, if its rewrite is meant for what is at the offset and it
-/// leaves the linked bytes, as `recognise` says. In a loop LLVM would compute for every rewrite
+/// leaves the linked bytes, as [`recognise`](crate::recognise::recognise()) says. In a loop LLVM would compute for every rewrite
 /// what some need.
 #[inline(never)]
 fn recognise_one<N: RecognisedName>(
@@ -202,32 +202,10 @@ fn first_at<N: RecognisedName>(
     Some(choices[index])
 }
 
-/// Which rewrites, and relocations after them, a linker may have made at the relocation with a
-/// name, whose offset in the original bytes is given: those after which the original bytes differ
-/// from the linked ones only in the field of the relocation after it and in `others`. They have
-/// their places in the table of `choose`, after which is `NoOp` and the same name. A choice that
-/// is listed twice has the first one, so that none is returned twice.
-///
-/// - Both windows may begin before the relocation, at the same place. The original one has at most
-///   `MAX_WINDOW` bytes. After a rewrite that deletes bytes the linked window is shorter by these,
-///   and empty if they are all of the original one.
-/// - A window that is wider than the rewrite has to name in `others` what else differs in it. The
-///   least one has the bytes of each rewrite (`window` of its kind) and the field of the relocation
-///   after it. A window without the relocation's field has no choice, and an empty one has none.
-/// - `others` are bits of the original window that other relocations write, as
-///   `FieldBits::of_row` gives them, among them those of a relocation that the choice skips. Of an
-///   instruction that another relocation rewrites or deletes they are all bits. Where a skipped
-///   relocation isn't named, its field is compared with what the rewrite left, since it isn't
-///   applied.
-/// - Nothing needs to be known of the symbol. So several choices are returned where their bytes are
-///   the same, as where only the relocation changes. Each comes with the offset of its field in the
-///   linked bytes and with what `reading::read` returns there.
-/// - A choice is returned only if its rewrite is meant for what is at the offset, as `matches`
-///   says, and the field is in the window. Each that `choose` makes, whatever the linker knows, is
-///   one of them if it leaves the linked bytes so.
+/// `crate::recognise::recognise`, with more parameters.
 ///
 /// ```
-/// use linker_utils::recognise::recognise;
+/// use linker_utils::source::recognise::recognise;
 /// use linker_utils::riscv64::RiscVRelocation;
 /// use linker_utils::x86_64::{RelaxationKind, X86_64Relocation};
 ///
@@ -248,10 +226,6 @@ fn first_at<N: RecognisedName>(
 /// let mut choices = recognise(name, &original, 0, &[], &linked).into_iter().flatten();
 /// assert_eq!(choices.next().unwrap().choice.relocation, RiscVRelocation::R_RISCV_JAL);
 /// ```
-///
-/// # Requires
-///
-/// - `original.len() <= 64`
 #[must_use]
 #[cfg_attr(debug_assertions, track_caller)]
 pub fn recognise<N: RecognisedName>(
@@ -272,12 +246,7 @@ pub fn recognise<N: RecognisedName>(
     found
 }
 
-/// The choice that `choose` makes by what the linker knows, if it leaves the linked bytes, as
-/// `recognise` says.
-///
-/// # Requires
-///
-/// - `original.len() <= 64`
+/// `crate::recognise::recognise_chosen`, with more parameters.
 #[must_use]
 #[cfg_attr(debug_assertions, track_caller)]
 pub fn recognise_chosen<N: RecognisedName>(

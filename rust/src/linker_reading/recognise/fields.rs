@@ -7,7 +7,7 @@ use crate::linker_elf::elf::{RelocateError, RelocationKind, RelocationSize, Row}
 
 /// Some of the bits of the eight bytes from an offset of a window on.
 #[repr(C)]
-#[derive(Clone, Copy, Debug, PartialEq, Eq)]
+#[derive(Clone, Copy, Debug, PartialEq, Eq, Hash)]
 pub struct FieldBits {
     /// The offset in bytes.
     pub offset: u64,
@@ -193,6 +193,6 @@ pub fn same_but_for(row: &Row, a: &[u8], b: &[u8]) -> bool {
 }
 
 /// A write of the value of any row to its window changes bits of the row's field only, which are
-/// those that `field_bits` returns.
+/// those that [`field_bits`](crate::recognise::field_bits()) returns.
 #[doc(hidden)]
 pub fn writes_change_fields() {}

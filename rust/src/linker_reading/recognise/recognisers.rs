@@ -14,7 +14,7 @@ mod riscv64;
 mod x86_64;
 
 /// Where a rewrite is applied, the value of the relocation after it is written, and the deleted
-/// bytes are taken out, the choice of both leaves the bytes that stay. So `recognise` returns what
+/// bytes are taken out, the choice of both leaves the bytes that stay. So [`recognise`](crate::recognise::recognise()) returns what
 /// `choose` chose, after `apply` and `write`.
 #[doc(hidden)]
 pub fn written_choices_are_left() {}

@@ -9,7 +9,8 @@ use crate::linker_runs::shapes::fixed;
 use crate::linker_base::relaxation::AsDeletion;
 
 /// Why no items are made of a section that was rewritten.
-#[derive(Clone, Copy, Debug, PartialEq, Eq)]
+#[cfg_attr(not(exhaustive), non_exhaustive)]
+#[derive(Clone, Copy, Debug, PartialEq, Eq, Hash)]
 pub enum RewrittenItemsError {
     /// The index of the first relocation that isn't what the psABI allows.
     Malformed(usize),
@@ -168,40 +169,7 @@ fn list_items<R: AsRelocation, L: AsDeletion, I: AsItem>(
     Ok(list_deletions(base, len, deleted, u64::MAX, listed, out, makers).count)
 }
 
-/// The items of a section that was rewritten, into memory of the caller's: those that its
-/// relocations make, as `section_items`, and what rewrites delete. The section begins at the input
-/// offset `base` of the run. Its bytes and relocations are as `rewrite_section` and
-/// `rewrite_placed_section` of `linker_rewriting::sections` left them; a relocation that has gone
-/// has the type 0 and makes no item. `deleted` is what the latter lists: offsets in the section,
-/// ascending, whose bytes are still there.
-///
-/// Each deletion is a site of which no byte stays (`fixed`). So `relax` counts distances over it,
-/// `deletions` lists it, and `pack_run` leaves its bytes out.
-///
-/// The items ascend, and none begins below the end of the one before it. `out` and `makers` have an
-/// element for each relocation and each deletion. The maker of an item is the index of its
-/// relocation, or that of its deletion and as many more as there are relocations. Returns how many
-/// items there are; the elements from there on are unchanged.
-///
-/// Whether code may be compressed is taken from `may_compress`, so from the `e_flags` of the
-/// relocation's object: those of an output say that of all code.
-///
-/// # Errors
-///
-/// The first that applies. `Malformed` names the relocation that `first_malformed` returns.
-/// `Misplaced` names the first deletion that begins below the end of the one before it, or
-/// doesn't lie in the section. Nothing is written then. `Overlaps` names a relocation whose
-/// item begins below the end of that of an earlier relocation, or has deleted bytes: what is
-/// written then isn't specified.
-///
-/// A target inside deleted bytes is no error here, since it may be another section's: `relax` says
-/// `TargetInside` of the item. It doesn't allocate.
-///
-/// # Requires
-///
-/// - base: `(base as u128) + (section.len() as u128) < 1 << 64`
-/// - room: `(out.len() as u128) == (relocations.len() as u128) + (deleted.len() as u128)`
-/// - makers: `(makers.len() as u128) == (relocations.len() as u128) + (deleted.len() as u128)`
+/// `crate::link::rewritten_items_into`, with more parameters.
 #[cfg_attr(debug_assertions, track_caller)]
 pub fn rewritten_items_into<R: AsRelocation, L: AsDeletion, I: AsItem>(
     machine: Machine,

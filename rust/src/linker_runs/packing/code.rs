@@ -5,7 +5,7 @@
 use crate::linker_elf::elf::{Operands, Row};
 
 /// The bytes of an instruction or of two.
-#[derive(Clone, Copy)]
+#[derive(Clone, Copy, Debug, PartialEq, Eq, Hash)]
 pub(crate) enum Code {
     Half([u8; 2]),
     Word([u8; 4]),

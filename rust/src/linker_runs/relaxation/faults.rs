@@ -209,8 +209,8 @@ fn first_run_fault<I: AsItem>(items: &ItemList<'_, I>, start: u64) -> Option<Ite
     None
 }
 
-/// The first faulty item of a run at an address, and its first fault; none where `relax` and
-/// `relax_into` accept the run.
+/// The first faulty item of a run at an address, and its first fault; none where [`relax`](crate::runs::relax()) and
+/// [`relax_into`](crate::runs::relax_into()) accept the run.
 ///
 /// The faults from `UnevenShape` on are about an item among the others. They count only where no
 /// item has one of those before.
@@ -228,7 +228,7 @@ fn first_fault<I: AsItem>(items: &ItemList<'_, I>, start: u64) -> Option<ItemFau
     first_run_fault(items, start)
 }
 
-/// Whether `relax` and `relax_into` accept a run at an address.
+/// Whether [`relax`](crate::runs::relax()) and [`relax_into`](crate::runs::relax_into()) accept a run at an address.
 ///
 /// The items ascend, none reaches past the next, and the address after the last is below 2^64. No
 /// shape of a site keeps more bytes than the site has, and each keeps fewer than the next. Each
@@ -248,7 +248,7 @@ fn first_fault<I: AsItem>(items: &ItemList<'_, I>, start: u64) -> Option<ItemFau
 /// what lies in between frees multiples of w: each shape of a site; an alignment with a limit where
 /// w divides the alignment, its nops and the bytes from there.
 ///
-/// It doesn't allocate, and takes O(n log n) for n items. `first_faulty` says what is wrong.
+/// It doesn't allocate, and takes O(n log n) for n items. [`first_faulty`](crate::runs::first_faulty()) says what is wrong.
 #[must_use]
 pub fn are_items<I: AsItem>(items: &[I], start: u64) -> bool {
     first_faulty(items, start).is_none()

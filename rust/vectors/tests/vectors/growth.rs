@@ -9,22 +9,22 @@ use super::ratio::{LONG, Named, ORDERS, SHORT, expect_growth, mixed, pair};
 use super::runs::{aligned, cascade, site};
 use linker_utils::elf::Architecture;
 use linker_utils::placement::{Branch, Code, StubShape, place_stubs};
-use linker_utils::recognise::{self, FieldBits};
+use linker_utils::recognise::{self, FieldBits, Windows};
 use linker_utils::relaxation::{
     AsDeletion, BlockHead, Call, DeltaSlice, RelaxDelta, RelaxDeltaMap, SectionRelaxDeltas,
     calls_apart, calls_shrinkable, first_invalid, first_not_apart, first_not_shrinkable,
     pack_section, shrink_calls,
 };
 use linker_utils::rewriting::{
-    Decision, OutputFacts, Phase, SymbolFacts, UnrelaxableGroups, rewrite_global_pointer,
+    Decision, Phase, SymbolFacts, UnrelaxableGroups, rewrite_global_pointer,
     rewrite_placed_section, rewrite_section, survey, survey_global_pointer,
 };
-use linker_utils::runs::items::{Relocation, first_malformed, section_items};
-use linker_utils::runs::packing::{Machine, pack_run, packed_run_len};
-use linker_utils::runs::relaxation::{Item, are_items, deletions, first_faulty, relax};
 use linker_utils::runs::shapes::riscv64::CALL;
+use linker_utils::runs::{Item, Machine, Relocation, Run, are_items, deletions, first_faulty};
+use linker_utils::runs::{first_malformed, pack_run, packed_run_len, relax, section_items};
 use linker_utils::section::{
-    Addresses, Rela, RelocationError, SectionError, Symbol, memory_len, relocate_section,
+    Link, Object, Rela, RelocationError, Section, SectionError, Symbol, memory_len,
+    relocate_section,
 };
 use std::cell::Cell;
 use std::hint::black_box;
@@ -250,7 +250,7 @@ fn chains() -> [Named<Call>; 4] {
             let behind = |index| Call { site: site_of(index), target: site_of(index) - REACH - 4 };
             (0..count).map(behind).collect()
         }),
-        // out of reach once those after it are of which the turn comes first
+        // out of reach once those behind it are of which the turn comes first
         ("in no order", |count| {
             let turns = mixed(count);
             let left = not_below(&turns);
@@ -352,27 +352,26 @@ fn expect_sections(count: usize) {
     };
     expect_growth("items of RISC-V", count, of_riscv, |(section, relocations)| {
         assert_eq!(first_malformed(Machine::RiscV64, &section, &relocations), None);
-        let items =
-            section_items(Machine::RiscV64, &section, 0, &relocations).expect("memory").items;
-        assert_eq!(items.len(), section.len() / 8);
+        let made = section_items(Machine::RiscV64, &Section::new(&section, []), &relocations);
+        assert_eq!(made.expect("memory").items.len(), section.len() / 8);
     });
     expect_growth("items of LoongArch", count, of_loongarch, |(section, relocations)| {
         assert_eq!(first_malformed(Machine::LoongArch64, &section, &relocations), None);
-        let items =
-            section_items(Machine::LoongArch64, &section, 0, &relocations).expect("memory").items;
-        assert_eq!(items.len(), section.len() / 8);
+        let made = section_items(Machine::LoongArch64, &Section::new(&section, []), &relocations);
+        assert_eq!(made.expect("memory").items.len(), section.len() / 8);
     });
     let to_pack = |count: usize| {
         let (section, relocations) = of_riscv(count);
-        let items =
-            section_items(Machine::RiscV64, &section, 0, &relocations).expect("memory").items;
+        let made = section_items(Machine::RiscV64, &Section::new(&section, []), &relocations);
+        let items = made.expect("memory").items;
         let plan = relax(&items, 0).expect("memory");
         let deltas = deletions(&items, 0, &plan.kept).expect("memory");
         (section, items, deltas)
     };
     expect_growth("packing of a run", count, to_pack, |(section, items, deltas)| {
         let mut packed = vec![0; packed_run_len(0, section.len(), deltas.deltas())];
-        pack_run(Machine::RiscV64, &section, 0, &items, deltas.deltas(), 0, &mut [], &mut packed)
+        let run = Run { start: 0, items: &items, deltas: deltas.deltas() };
+        pack_run(Machine::RiscV64, &mut Section::new(section, []), &run, &mut packed)
             .expect("items");
     });
     let shrunk = |count: usize| {
@@ -447,19 +446,18 @@ fn expect_relocated(count: usize) {
     for (name, made) in relocated() {
         let name = format!("a section relocated, {name}");
         expect_growth(&name, count, made, |mut it| {
-            let addresses = Addresses { section: 0x10_0000, ..Addresses::default() };
+            let object = Object { values: &it.symbols, ..Object::default() };
+            let section = Section::new(&mut it.section, &it.relocations);
+            let mut section = Section { address: 0x10_0000, ..section };
             let mut memory = vec![0; memory_len(&it.relocations)];
-            relocate_section(
-                Architecture::RiscV,
-                &addresses,
-                &it.relocations,
-                &it.symbols,
-                &mut it.section,
-                &mut memory,
-            )
-            .expect("values");
+            relocate_section(&Link::new(Architecture::RiscV), &object, &mut section, &mut memory)
+                .expect("values");
         });
     }
+}
+
+fn executable(architecture: Architecture) -> Link {
+    Link { is_executable: true, is_fixed: true, has_near_symbols: true, ..Link::new(architecture) }
 }
 
 /// Rewrites before addresses are known: all of one symbol, and each of its own.
@@ -492,24 +490,17 @@ fn expect_rewritten(count: usize) {
             let name = format!("rewrites of {name}, one symbol: {is_one}");
             expect_growth(&name, count, made, |mut relocations| {
                 let count = relocations.len() / 24;
-                let (is_executable, is_fixed, has_near_symbols) = (true, true, true);
-                let output = OutputFacts { is_executable, is_fixed, has_near_symbols };
+                let link = executable(architecture);
                 let facts = SymbolFacts { is_local: true, ..SymbolFacts::default() };
-                let (symbols, mut kept) =
+                let (facts, mut kept) =
                     (vec![facts; count], vec![UnrelaxableGroups::default(); count]);
-                let mut section = section[..relocation(count, 0).offset as usize & !3].to_vec();
-                survey(architecture, &output, &symbols, &relocations, &section, &mut kept);
+                let object = Object { facts: &facts, ..Object::default() };
+                let bytes = section[..relocation(count, 0).offset as usize & !3].to_vec();
+                let mut section = Section::new(bytes, &mut relocations);
+                survey(&link, &object, &section, &mut kept);
+                let object = Object { unrelaxable_groups: &kept, ..object };
                 let mut decisions = vec![Decision::Kept; count];
-                rewrite_section(
-                    architecture,
-                    &output,
-                    &symbols,
-                    &kept,
-                    &mut relocations,
-                    &mut section,
-                    &mut decisions,
-                )
-                .expect("rewrites");
+                rewrite_section(&link, &object, &mut section, &mut decisions).expect("rewrites");
                 assert!(!decisions.contains(&Decision::Kept), "{name}");
             });
         }
@@ -538,57 +529,28 @@ fn expect_labels(count: usize) {
         let name = format!("a section with {labels} labels, in phase {phase:?}");
         expect_growth(&name, count, made, |mut relocations| {
             let len = relocations.len() / 24;
-            let (is_executable, is_fixed, has_near_symbols) = (true, true, true);
-            let output = OutputFacts { is_executable, is_fixed, has_near_symbols };
             let facts = [SymbolFacts { is_local: true, ..SymbolFacts::default() }; 4];
             let values = [0, AT, AT + 4, 16].map(|address| Symbol { address, ..Symbol::default() });
-            let addresses = Addresses { section: AT, ..Addresses::default() };
             // auipc a0, 0 and addi a0, a0, 0
-            let mut section =
-                [[0x17, 0x05, 0, 0].repeat(labels), [0x13, 5, 5, 0].repeat(len)].concat();
-            let (mut kept, riscv) = ([false; 4], Architecture::RiscV);
+            let bytes = [[0x17, 0x05, 0, 0].repeat(labels), [0x13, 5, 5, 0].repeat(len)].concat();
+            let link = executable(Architecture::RiscV);
+            let object = Object { facts: &facts, values: &values, ..Object::default() };
+            let mut section = Section { address: AT, ..Section::new(bytes, &mut relocations) };
+            let mut kept = [false; 4];
             let (mut decisions, mut deleted) = (vec![Decision::Kept; len], vec![(0, 0); len]);
             if phase == Phase::ShortPcRel {
-                survey_global_pointer(
-                    riscv,
-                    &output,
-                    &facts,
-                    &addresses,
-                    &values,
-                    0,
-                    &relocations,
-                    &section,
-                    &mut kept,
-                )
-                .expect("tables that agree");
-                let made = rewrite_global_pointer(
-                    riscv,
-                    &output,
-                    &facts,
-                    &addresses,
-                    &values,
-                    0,
-                    &kept,
-                    &mut relocations,
-                    &section,
-                    &mut decisions,
-                    &mut deleted,
-                );
+                survey_global_pointer(&link, &object, &section, &mut kept)
+                    .expect("tables that agree");
+                let object = Object { kept_high_parts: &kept, ..object };
+                let (made, listed) = (&mut decisions, &mut deleted);
+                let made = rewrite_global_pointer(&link, &object, &mut section, made, listed);
                 assert!(made.is_ok(), "{name}: {made:?}");
             } else {
-                let made = rewrite_placed_section(
-                    riscv,
-                    phase,
-                    &output,
-                    &facts,
-                    &addresses,
-                    &values,
-                    &[UnrelaxableGroups::default(); 4],
-                    &mut relocations,
-                    &mut section,
-                    &mut decisions,
-                    &mut deleted,
-                );
+                let object =
+                    Object { unrelaxable_groups: &[UnrelaxableGroups::default(); 4], ..object };
+                let (made, listed) = (&mut decisions, &mut deleted);
+                let made =
+                    rewrite_placed_section(&link, &object, &mut section, phase, made, listed);
                 assert!(made.is_ok(), "{name}: {made:?}");
             }
         });
@@ -604,8 +566,8 @@ fn expect_recognising(count: usize) {
     let (was, is) = ([0xff, 0x15, 0, 0, 0, 0], [0x67, 0xe8, 0, 0, 0, 0]);
     expect_growth("recognising", count, others, |others| {
         for _ in 0..4 {
-            let found =
-                recognise::architecture::recognise(Architecture::X86_64, 41, &was, 2, &others, &is);
+            let windows = Windows { original: &was, offset: 2, others: &others, linked: &is };
+            let found = recognise::architecture::recognise(Architecture::X86_64, 41, &windows);
             assert!(found.iter().flatten().count() > 0);
         }
     });
@@ -623,10 +585,10 @@ fn expect_relocating(count: usize) {
             let memory = vec![0; memory_len(&relocations)];
             (relocations, vec![0; 8 * count + 8], memory)
         };
-        let relocate = |relocations: &[u8], section: &mut [u8], memory: &mut [u64]| {
-            let symbols = [Symbol::default(); 2];
-            let of = Architecture::X86_64;
-            relocate_section(of, &Addresses::default(), relocations, &symbols, section, memory)
+        let relocate = |relocations: &[u8], bytes: &mut [u8], memory: &mut [u64]| {
+            let object = Object { values: &[Symbol::default(); 2], ..Object::default() };
+            let mut section = Section::new(bytes, relocations);
+            relocate_section(&Link::new(Architecture::X86_64), &object, &mut section, memory)
         };
         let apart = |count| given(relocations(&pairs(count)), count);
         expect_growth(&format!("relocating, {order}"), count, apart, |it| {
@@ -643,7 +605,7 @@ fn expect_relocating(count: usize) {
             let (relocations, mut section, mut memory) = it;
             let (index, error) = (memory.len() - 1, RelocationError::Overlaps);
             let rejected = relocate(&relocations, &mut section, &mut memory);
-            assert_eq!(rejected, Err(SectionError { index, error }));
+            assert_eq!(rejected, Err(SectionError { index, error, rejected: None }));
         });
     }
 }
@@ -668,7 +630,7 @@ fn expect_placements(count: usize) {
         (branches.collect(), targets, (1..=count as u64 / 16 + 1).map(|at| at << 14).collect())
     };
     expect_growth("place_stubs over long code", count, long, place);
-    // each reaches its target until the branch after it has a stub
+    // each reaches its target until the branch behind it has a stub
     let chain = |count: usize| {
         let branch = |index: usize| {
             let offset = (index as u64 + 1) << 10;

@@ -12,7 +12,9 @@ use linker_utils::elf::{
 use linker_utils::loongarch64::{LoongArch64Relocation, RelaxationKind as LoongArchKind};
 use linker_utils::ppc64::{Ppc64Relocation, RelaxationKind as Ppc64Kind};
 use linker_utils::reading::FieldValue;
-use linker_utils::recognise::{FieldBits, Recognised, architecture, recognise, same_but_for};
+use linker_utils::recognise::{
+    FieldBits, Recognised, Windows, architecture, recognise, same_but_for,
+};
 use linker_utils::riscv64::{RelaxationKind as RiscVKind, RiscVRelocation};
 use linker_utils::x86_64::{RelaxationKind as X86Kind, X86_64Relocation};
 use std::collections::BTreeSet;
@@ -47,7 +49,10 @@ const LOCAL_EXEC: [u8; 17] = [
 fn a_sequence_that_gnu_ld_rewrote_is_recognised() {
     let name = X86_64Relocation::R_X86_64_TLSGD;
     let local_exec = x86_64_choice(X86Kind::TlsGdToLocalExec, X86_64Relocation::R_X86_64_TPOFF32);
-    let found = recognise(name, &GENERAL_DYNAMIC, 4, &[], &LOCAL_EXEC);
+    let found = recognise(
+        name,
+        &Windows { original: &GENERAL_DYNAMIC, offset: 4, others: &[], linked: &LOCAL_EXEC },
+    );
     // lea -0xcb8(%rax), %rax
     let made = Recognised { choice: local_exec, offset: 12, value: Some(whole(-0xcb8)) };
     assert_eq!(found, [Some(made), None, None, None, None, None]);
@@ -56,7 +61,10 @@ fn a_sequence_that_gnu_ld_rewrote_is_recognised() {
     for at in [10, 16] {
         let mut altered = LOCAL_EXEC;
         altered[at] ^= 8;
-        let found = recognise(name, &GENERAL_DYNAMIC, 4, &[], &altered);
+        let found = recognise(
+            name,
+            &Windows { original: &GENERAL_DYNAMIC, offset: 4, others: &[], linked: &altered },
+        );
         assert_eq!(found, [None; 6]);
     }
 }
@@ -70,13 +78,22 @@ fn fields_of_other_relocations_are_ignored_and_their_neighbours_are_not() {
     let name = X86_64Relocation::R_X86_64_TLSGD;
     let unchanged = x86_64_choice(X86Kind::NoOp, name);
     let call = FieldBits { offset: 12, bits: 0xffff_ffff };
-    let found = recognise(name, &GENERAL_DYNAMIC, 4, &[call], &linked);
+    let found = recognise(
+        name,
+        &Windows { original: &GENERAL_DYNAMIC, offset: 4, others: &[call], linked: &linked },
+    );
     let made = Recognised { choice: unchanged, offset: 4, value: Some(whole(0x10)) };
     assert_eq!(found, [None, None, None, Some(made), None, None]);
-    let found = recognise(name, &GENERAL_DYNAMIC, 4, &[], &linked);
+    let found = recognise(
+        name,
+        &Windows { original: &GENERAL_DYNAMIC, offset: 4, others: &[], linked: &linked },
+    );
     assert_eq!(found, [None; 6]);
     linked[11] ^= 1;
-    let found = recognise(name, &GENERAL_DYNAMIC, 4, &[call], &linked);
+    let found = recognise(
+        name,
+        &Windows { original: &GENERAL_DYNAMIC, offset: 4, others: &[call], linked: &linked },
+    );
     assert_eq!(found, [None; 6]);
 }
 
@@ -101,7 +118,15 @@ fn instructions_of_aarch64_that_lld_rewrote_are_recognised() {
             12,
         ),
     ] {
-        let found = recognise(name, &[0x01, 0x00, 0x40, 0xf9], 0, &[], &linked);
+        let found = recognise(
+            name,
+            &Windows {
+                original: &[0x01, 0x00, 0x40, 0xf9],
+                offset: 0,
+                others: &[],
+                linked: &linked,
+            },
+        );
         let mut choices = found.into_iter().flatten();
         let made = Recognised {
             choice: Choice { kind, relocation },
@@ -122,11 +147,12 @@ fn what_linkers_deleted_on_riscv_is_not_compared() {
         Choice { kind: RiscVKind::Hi20ToCLui, relocation: RiscVRelocation::R_RISCV_RVC_LUI };
     let name = RiscVRelocation::R_RISCV_HI20;
     let lui = [0x37, 0x05, 0x00, 0x00];
-    let found = recognise(name, &lui, 0, &[], &[]);
+    let found = recognise(name, &Windows { original: &lui, offset: 0, others: &[], linked: &[] });
     let deleted = Recognised { choice: delete, offset: 0, value: None };
     assert_eq!(found, [Some(deleted), None, None, None, None, None]);
     let lui = [0xb7, 0x04, 0x00, 0x00];
-    let found = recognise(name, &lui, 0, &[], &[0x89, 0x64]);
+    let found =
+        recognise(name, &Windows { original: &lui, offset: 0, others: &[], linked: &[0x89, 0x64] });
     let made = found[1].expect("a choice");
     assert_eq!(found, [None, Some(made), None, None, None, None]);
     assert_eq!((made.choice, made.offset), (compress, 0));
@@ -135,7 +161,8 @@ fn what_linkers_deleted_on_riscv_is_not_compared() {
         assert_eq!(value.is_of(number), is_read);
     }
     // `c.li s1, 2` isn't what a linker makes of it
-    let found = recognise(name, &lui, 0, &[], &[0x89, 0x44]);
+    let found =
+        recognise(name, &Windows { original: &lui, offset: 0, others: &[], linked: &[0x89, 0x44] });
     assert_eq!(found, [None; 6]);
 }
 
@@ -145,9 +172,15 @@ fn what_linkers_made_of_clui_is_recognised() {
     let name = RiscVRelocation::R_RISCV_RVC_LUI;
     let zeroed = Choice { kind: RiscVKind::CLuiToCLi, relocation: RiscVRelocation::R_RISCV_NONE };
     let made = Recognised { choice: zeroed, offset: 0, value: None };
-    let found = recognise(name, &[0x05, 0x65], 0, &[], &[0x01, 0x45]);
+    let found = recognise(
+        name,
+        &Windows { original: &[0x05, 0x65], offset: 0, others: &[], linked: &[0x01, 0x45] },
+    );
     assert_eq!(found, [Some(made), None, None, None, None, None]);
-    let found = recognise(name, &[0x05, 0x65], 0, &[], &[0x81, 0x45]);
+    let found = recognise(
+        name,
+        &Windows { original: &[0x05, 0x65], offset: 0, others: &[], linked: &[0x81, 0x45] },
+    );
     assert_eq!(found, [None; 6]);
 }
 
@@ -166,18 +199,27 @@ fn what_gnu_ld_made_on_loongarch_is_recognised() {
     let pair = [0x04, 0x00, 0x00, 0x1a, 0x84, 0x00, 0xc0, 0x28];
     let linked = [0xc4, 0xec, 0x0f, 0x18, 0x04, 0x64, 0x00, 0x1a];
     let name = LoongArch64Relocation::R_LARCH_GOT_PC_HI20;
-    let found = recognise(name, &pair, 0, &[second], &linked);
+    let found = recognise(
+        name,
+        &Windows { original: &pair, offset: 0, others: &[second], linked: &linked },
+    );
     // `pcaddi a0, 0x7f66`, in units of 4 bytes
     let made = Recognised { choice: near, offset: 0, value: Some(whole(0x1fd98)) };
     assert_eq!(found, [Some(made), None, None, None, None, None]);
     let name = LoongArch64Relocation::R_LARCH_GOT_PC_LO12;
-    let found = recognise(name, &pair, 4, &[first], &linked[..4]);
+    let found = recognise(
+        name,
+        &Windows { original: &pair, offset: 4, others: &[first], linked: &linked[..4] },
+    );
     let made = Recognised { choice: delete, offset: 4, value: None };
     assert_eq!(found, [Some(made), None, None, None, None, None]);
     // into another register
     let altered = [0xc5, 0xec, 0x0f, 0x18, 0x04, 0x64, 0x00, 0x1a];
     let name = LoongArch64Relocation::R_LARCH_GOT_PC_HI20;
-    let found = recognise(name, &pair, 0, &[second], &altered);
+    let found = recognise(
+        name,
+        &Windows { original: &pair, offset: 0, others: &[second], linked: &altered },
+    );
     assert_eq!(found, [None; 6]);
 }
 
@@ -189,12 +231,28 @@ fn what_linkers_made_on_powerpc64_is_recognised() {
     let low = Choice { kind: Ppc64Kind::BaseToToc, relocation: Ppc64Relocation::R_PPC64_TOC16 };
     let name = Ppc64Relocation::R_PPC64_TOC16_HA;
     let original = 0x3c62_0000u32.to_le_bytes();
-    let found = recognise(name, &original, 0, &[], &0x6000_0000u32.to_le_bytes());
+    let found = recognise(
+        name,
+        &Windows {
+            original: &original,
+            offset: 0,
+            others: &[],
+            linked: &0x6000_0000u32.to_le_bytes(),
+        },
+    );
     let made = Recognised { choice: nop, offset: 0, value: None };
     assert_eq!(found, [Some(made), None, None, None, None, None]);
     let name = Ppc64Relocation::R_PPC64_TOC16_LO;
     let original = 0x3863_0000u32.to_le_bytes();
-    let found = recognise(name, &original, 0, &[], &0x3862_8100u32.to_le_bytes());
+    let found = recognise(
+        name,
+        &Windows {
+            original: &original,
+            offset: 0,
+            others: &[],
+            linked: &0x3862_8100u32.to_le_bytes(),
+        },
+    );
     let made = Recognised { choice: low, offset: 0, value: Some(whole(-32512)) };
     assert_eq!(found, [Some(made), None, None, None, None, None]);
     // `addis 9, 13, 0` became `nop`, and `lwz 3, 0(9)` became `lwz 3, -28656(13)`, by GNU ld
@@ -203,12 +261,28 @@ fn what_linkers_made_on_powerpc64_is_recognised() {
         Choice { kind: Ppc64Kind::BaseToThread, relocation: Ppc64Relocation::R_PPC64_TPREL16 };
     let name = Ppc64Relocation::R_PPC64_TPREL16_HA;
     let original = 0x3d2d_0000u32.to_le_bytes();
-    let found = recognise(name, &original, 0, &[], &0x6000_0000u32.to_le_bytes());
+    let found = recognise(
+        name,
+        &Windows {
+            original: &original,
+            offset: 0,
+            others: &[],
+            linked: &0x6000_0000u32.to_le_bytes(),
+        },
+    );
     let made = Recognised { choice: nop, offset: 0, value: None };
     assert_eq!(found, [Some(made), None, None, None, None, None]);
     let name = Ppc64Relocation::R_PPC64_TPREL16_LO;
     let original = 0x8069_0000u32.to_le_bytes();
-    let found = recognise(name, &original, 0, &[], &0x806d_9010u32.to_le_bytes());
+    let found = recognise(
+        name,
+        &Windows {
+            original: &original,
+            offset: 0,
+            others: &[],
+            linked: &0x806d_9010u32.to_le_bytes(),
+        },
+    );
     let made = Recognised { choice: low, offset: 0, value: Some(whole(-28656)) };
     assert_eq!(found, [Some(made), None, None, None, None, None]);
 }
@@ -245,12 +319,20 @@ fn a_relocation_is_recognised_by_its_code() {
         offset: 0,
         value: Some(whole(-8)),
     };
-    let found = architecture::recognise(Architecture::RiscV, 19, &pair, 0, &[], &jal);
+    let found = architecture::recognise(
+        Architecture::RiscV,
+        19,
+        &Windows { original: &pair, offset: 0, others: &[], linked: &jal },
+    );
     assert_eq!(found, [None, None, Some(made), None, None, None]);
     // nothing is known that lets `choose` choose it
     let facts = LinkFacts::default();
-    let found =
-        architecture::recognise_chosen(Architecture::RiscV, 19, &pair, 0, &[], &jal, &facts);
+    let found = architecture::recognise_chosen(
+        Architecture::RiscV,
+        19,
+        &Windows { original: &pair, offset: 0, others: &[], linked: &jal },
+        &facts,
+    );
     assert_eq!(found, None);
 }
 
@@ -264,7 +346,7 @@ fn no_choice_is_returned_twice() {
         offset: 0,
         value: None,
     };
-    let found = recognise(name, &auipc, 0, &[], &[]);
+    let found = recognise(name, &Windows { original: &auipc, offset: 0, others: &[], linked: &[] });
     assert_eq!(found, [Some(made), None, None, None, None, None]);
 }
 
@@ -274,7 +356,15 @@ fn no_choice_is_returned_twice() {
 fn jumps_and_kept_moves_are_recognised() {
     let name = LoongArch64Relocation::R_LARCH_PCALA_LO12;
     let before = 0x4c00_0180u32.to_le_bytes();
-    let found = recognise(name, &before, 0, &[], &0x4ff8_0180u32.to_le_bytes());
+    let found = recognise(
+        name,
+        &Windows {
+            original: &before,
+            offset: 0,
+            others: &[],
+            linked: &0x4ff8_0180u32.to_le_bytes(),
+        },
+    );
     let choice = Choice { kind: LoongArchKind::NoOp, relocation: name };
     let made = Recognised { choice, offset: 0, value: Some(low_bits(12, 0x800)) };
     assert!(found.contains(&Some(made)), "{found:?}");
@@ -413,10 +503,7 @@ fn found_in_window(site: &Site) -> (Vec<Choice<Relaxation, u32>>, Vec<u8>, u64) 
     let found = architecture::recognise(
         site.architecture,
         site.code,
-        original,
-        window.back,
-        &others,
-        linked,
+        &Windows { original, offset: window.back, others: &others, linked },
     );
     let choices = found.into_iter().flatten().map(|made| made.choice).collect();
     (choices, original.to_vec(), window.back)
@@ -594,7 +681,11 @@ fn a_branch_leads_to_the_symbol_of_its_local_entry() {
         let (original, linked) = (before.to_le_bytes(), after.to_le_bytes());
         let (original, linked) = (&original[..len], &linked[..len]);
         let of = Architecture::Ppc64;
-        let found = architecture::recognise(of, code, original, 0, &[], linked);
+        let found = architecture::recognise(
+            of,
+            code,
+            &Windows { original, offset: 0, others: &[], linked },
+        );
         let made = found.into_iter().flatten().next().expect("a choice");
         let operands = Operands { place, ..Operands::default() };
         let led = architecture::destination_of(of, &made, original, 0, &operands);

@@ -9,7 +9,7 @@ mod rewritten;
 
 pub use relax::cascade;
 
-use linker_utils::runs::relaxation::{Alignment, Item, Shapes, Site};
+use linker_utils::runs::{Alignment, Item, Shapes, Site};
 
 /// A site of eight bytes.
 pub fn site(offset: u64, target: u64, shapes: Shapes) -> Item {

@@ -2,10 +2,19 @@
 //! Relocations and bytes as assemblers make them.
 
 use super::{aligned, site};
-use linker_utils::runs::items::{ItemsError, Relocation, section_items};
-use linker_utils::runs::packing::Machine::{self, LoongArch64, RiscV64};
-use linker_utils::runs::relaxation::{Item, are_items};
-use linker_utils::runs::shapes;
+use linker_utils::runs::Machine::{self, LoongArch64, RiscV64};
+use linker_utils::runs::{self, Item, ItemsError, Relocation, SectionItems, are_items, shapes};
+use linker_utils::section::Section;
+
+/// The items of a section at an input offset.
+fn section_items(
+    machine: Machine,
+    section: &[u8],
+    base: u64,
+    relocations: &[Relocation],
+) -> Result<SectionItems, ItemsError> {
+    runs::section_items(machine, &Section { base, ..Section::new(section, []) }, relocations)
+}
 
 fn relocation(offset: u64, code: u32, addend: i64, target: Option<u64>) -> Relocation {
     Relocation { offset, code, has_symbol: false, addend, target, may_compress: true }

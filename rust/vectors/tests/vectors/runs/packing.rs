@@ -3,11 +3,12 @@
 
 use super::{aligned, site};
 use linker_utils::relaxation::RelaxDelta;
-use linker_utils::runs::packing::{ItemError, Machine, RejectedItem, pack_run, packed_run_len};
-use linker_utils::runs::relaxation::{Item, are_items, relax};
 use linker_utils::runs::shapes::fixed;
 use linker_utils::runs::shapes::loongarch64::{CALL36, PCALA};
 use linker_utils::runs::shapes::riscv64::{CALL, TAIL_C};
+use linker_utils::runs::{Item, ItemError, Machine, RejectedItem, Run, are_items, pack_run};
+use linker_utils::runs::{packed_run_len, relax};
+use linker_utils::section::Section;
 
 /// Requires that items of a section at the input offset 0x100 are packed so, or rejected.
 fn expect(
@@ -22,7 +23,8 @@ fn expect(
     let len = packed_run_len(0x100, section.len(), deltas);
     assert!(len <= out.len());
     let packed = &mut out[..len];
-    let result = pack_run(machine, section, 0x100, items, deltas, 0xff08, &mut [], packed);
+    let mut section = Section { base: 0x100, ..Section::new(section, []) };
+    let result = pack_run(machine, &mut section, &Run { start: 0xff08, items, deltas }, packed);
     assert_eq!(result, expected);
     assert_eq!(&packed[..bytes.len().min(len)], bytes);
 }

@@ -2,9 +2,7 @@
 //! Random runs compared with a model, which lays a run out byte for byte and tries every choice.
 
 use super::aligned;
-use linker_utils::runs::relaxation::{
-    Alignment, Item, Plan, Shape, Shapes, Site, are_items, relax,
-};
+use linker_utils::runs::{Alignment, Item, Plan, Shape, Shapes, Site, are_items, relax};
 
 /// Numbers that only look random (Knuth's linear congruential generator MMIX).
 struct Random {

@@ -2,10 +2,8 @@
 //! Runs worked by hand.
 
 use super::{aligned, site};
-use linker_utils::runs::relaxation::{
-    Fault, Item, ItemFault, Shape, Shapes, are_items, first_faulty, relax,
-};
 use linker_utils::runs::shapes::{fixed, loongarch64, riscv64};
+use linker_utils::runs::{Fault, Item, ItemFault, Shape, Shapes, are_items, first_faulty, relax};
 
 /// Requires these shapes and kept bytes of a run.
 fn expect_plan(items: &[Item], shapes: &[u8], kept: &[u64]) {

@@ -3,17 +3,17 @@
 
 use super::aligned;
 use linker_utils::elf::Architecture;
+use linker_utils::output::Origins;
 use linker_utils::relaxation::DeltaSlice;
 use linker_utils::rewriting::{
-    Decision, OutputFacts, Phase, SymbolFacts, UnrelaxableGroups, rewrite_placed_section,
-    survey_placed_section,
+    Decision, Phase, SymbolFacts, UnrelaxableGroups, rewrite_placed_section, survey_placed_section,
 };
-use linker_utils::runs::items::{Relocation, RewrittenItemsError, rewritten_items_into};
-use linker_utils::runs::packing::Machine::{self, LoongArch64, RiscV64};
-use linker_utils::runs::packing::{pack_run, packed_run_len};
-use linker_utils::runs::relaxation::{Fault, Item, ItemFault, Site, first_faulty, relax};
+use linker_utils::runs::Machine::{self, LoongArch64, RiscV64};
 use linker_utils::runs::shapes::fixed;
-use linker_utils::section::{Addresses, Symbol, memory_len, relocate_section, relocation_at};
+use linker_utils::runs::{Fault, Item, ItemFault, Relocation, RewrittenItemsError, Run, Site};
+use linker_utils::runs::{first_faulty, pack_run, packed_run_len, relax, rewritten_items_into};
+use linker_utils::section::{Link, Object, Section, Symbol};
+use linker_utils::section::{memory_len, relocate_section, relocation_at};
 
 /// Where the section begins in its run, and where the run does.
 const BASE: u64 = 0x100;
@@ -31,6 +31,8 @@ fn is_in_run(symbol: u32, f: u64) -> Option<u64> {
     }
 }
 
+type Bytes = Section<Vec<u8>, Vec<u8>>;
+
 /// The bytes of a section of relocations.
 fn table(entries: &[Entry]) -> Vec<u8> {
     let mut bytes = Vec::new();
@@ -42,53 +44,39 @@ fn table(entries: &[Entry]) -> Vec<u8> {
     bytes
 }
 
-/// The section after `Phase::TlsLocalExec`, its relocations and what is deleted.
+fn link(architecture: Architecture) -> Link {
+    let origins = Some(Origins { thread_pointer: 0x20000, module_block: 0 });
+    Link { is_executable: true, is_fixed: true, origins, ..Link::new(architecture) }
+}
+
+/// The section after `Phase::TlsLocalExec`, and what is deleted.
 fn without_thread_offsets(
     architecture: Architecture,
     section: &[u8],
     entries: &[Entry],
-) -> (Vec<u8>, Vec<u8>, Vec<(u64, u32)>) {
-    let output = OutputFacts { is_executable: true, is_fixed: true, has_near_symbols: true };
-    let facts = [SymbolFacts { is_local: true, ..SymbolFacts::default() }; 4];
-    let addresses = Addresses {
-        section: START + BASE,
-        thread_origin: 0x20000,
-        has_tls: true,
-        ..Addresses::default()
+) -> (Bytes, Vec<(u64, u32)>) {
+    let link = link(architecture);
+    let object = Object {
+        facts: &[SymbolFacts { is_local: true, ..SymbolFacts::default() }; 4],
+        values: &[Symbol { address: 0x20000, is_thread_local: true, ..Symbol::default() }; 4],
+        ..Object::default()
     };
-    let values = [Symbol { address: 0x20000, is_thread_local: true, ..Symbol::default() }; 4];
-    let (mut section, mut rela) = (section.to_vec(), table(entries));
+    let mut section = Section {
+        bytes: section.to_vec(),
+        relocations: table(entries),
+        address: START + BASE,
+        base: BASE,
+    };
     let mut kept = [UnrelaxableGroups::default(); 4];
     let phase = Phase::TlsLocalExec;
-    survey_placed_section(
-        architecture,
-        phase,
-        &output,
-        &facts,
-        &addresses,
-        &values,
-        &rela,
-        &section,
-        &mut kept,
-    )
-    .expect("tables that agree");
+    survey_placed_section(&link, &object, &section, phase, &mut kept).expect("tables that agree");
+    let object = Object { unrelaxable_groups: &kept, ..object };
     let mut decisions = vec![Decision::Kept; entries.len()];
     let mut deleted = vec![(0, 0); entries.len()];
-    let count = rewrite_placed_section(
-        architecture,
-        phase,
-        &output,
-        &facts,
-        &addresses,
-        &values,
-        &kept,
-        &mut rela,
-        &mut section,
-        &mut decisions,
-        &mut deleted,
-    );
+    let (made, listed) = (&mut decisions, &mut deleted);
+    let count = rewrite_placed_section(&link, &object, &mut section, phase, made, listed);
     deleted.truncate(count.unwrap());
-    (section, rela, deleted)
+    (section, deleted)
 }
 
 /// Requires that a section is rewritten, relaxed and packed so, and that its relocations with a value
@@ -102,10 +90,10 @@ fn expect(
     expected: &[u8],
     types: &[(u64, u32)],
 ) {
-    let (section, mut rela, deleted) = without_thread_offsets(architecture, section, entries);
+    let (mut section, deleted) = without_thread_offsets(architecture, section, entries);
     assert_eq!(deleted, [(8, 4), (12, 4)]);
     let relocations: Vec<_> = (0..entries.len())
-        .map(|index| relocation_at(&rela, index).unwrap())
+        .map(|index| relocation_at(&section.relocations, index).unwrap())
         .map(|it| Relocation {
             offset: it.offset,
             code: it.code,
@@ -117,16 +105,9 @@ fn expect(
         .collect();
     let mut items = vec![aligned(0, 0, 1, None); relocations.len() + 2];
     let mut makers = vec![0; relocations.len() + 2];
-    let count = rewritten_items_into(
-        machine,
-        &section,
-        BASE,
-        &relocations,
-        &deleted,
-        &mut items,
-        &mut makers,
-    )
-    .unwrap();
+    let (listed, of) = (&mut items, &mut makers);
+    let count =
+        rewritten_items_into(machine, &section, &relocations, &deleted, listed, of).unwrap();
     items.truncate(count);
     for (item, &maker) in items.iter().zip(&makers) {
         let offset = relocations.get(maker).map(|it| it.offset);
@@ -137,30 +118,28 @@ fn expect(
     let plan = relax(&items, START).unwrap();
     let deltas = plan.deletions.deltas();
     assert!(DeltaSlice::new(deltas).has_valid_deltas());
-    let mut packed = vec![0xee; packed_run_len(BASE, section.len(), deltas)];
-    pack_run(machine, &section, BASE, &items, deltas, START, &mut rela, &mut packed).unwrap();
+    let mut packed = vec![0xee; packed_run_len(BASE, section.bytes.len(), deltas)];
+    let run = Run { start: START, items: &items, deltas };
+    pack_run(machine, &mut section, &run, &mut packed).unwrap();
     assert_eq!(packed, expected);
     let is_mark = |code| code == 0 || code == 51 || code == 100; // `R_RISCV_RELAX`, `R_LARCH_RELAX`
     let left: Vec<_> = (0..entries.len())
-        .map(|index| relocation_at(&rela, index).unwrap())
+        .map(|index| relocation_at(&section.relocations, index).unwrap())
         .filter(|it| !is_mark(it.code))
         .map(|it| (it.offset, it.code))
         .collect();
     assert_eq!(left, types);
     // values leave these bytes, and follow a symbol that is elsewhere
-    let addresses = Addresses {
-        section: START + BASE,
-        thread_origin: 0x20000,
-        has_tls: true,
-        ..Addresses::default()
-    };
     let mut symbols = [Symbol { address: 0x20000, is_thread_local: true, ..Symbol::default() }; 4];
     let f = START + DeltaSlice::new(deltas).input_to_output_offset(BASE + f);
     symbols[2] = Symbol { address: f, ..Symbol::default() };
     symbols[3] = Symbol { address: START + BASE, ..Symbol::default() };
-    let mut memory = vec![0; memory_len(&rela)];
-    let mut write = |symbols: &[Symbol], section: &mut [u8]| {
-        relocate_section(architecture, &addresses, &rela, symbols, section, &mut memory)
+    let mut memory = vec![0; memory_len(&section.relocations)];
+    let mut write = |values: &[Symbol], packed: &mut [u8]| {
+        let object = Object { values, ..Object::default() };
+        let packed = Section::new(packed, &section.relocations);
+        let mut packed = Section { address: START + BASE, ..packed };
+        relocate_section(&link(architecture), &object, &mut packed, &mut memory)
     };
     assert_eq!(write(&symbols, &mut packed), Ok(()));
     assert_eq!(packed, expected);
@@ -252,9 +231,9 @@ fn items_without(
 ) -> Result<(Vec<Item>, Vec<usize>), RewrittenItemsError> {
     let room = relocations.len() + deleted.len();
     let (mut items, mut makers) = (vec![aligned(0, 0, 1, None); room], vec![usize::MAX; room]);
-    let made =
-        rewritten_items_into(RiscV64, &RISC_V, BASE, relocations, deleted, &mut items, &mut makers);
-    let count = made?;
+    let section = Section { base: BASE, ..Section::new(&RISC_V, []) };
+    let (listed, of) = (&mut items, &mut makers);
+    let count = rewritten_items_into(RiscV64, &section, relocations, deleted, listed, of)?;
     assert!(makers[count..].iter().all(|&maker| maker == usize::MAX));
     items.truncate(count);
     makers.truncate(count);
