@@ -90,7 +90,6 @@ void import(struct section *in, Elf64_Rela *r, const struct linker_utils_require
  * and its section in the library say how it is aligned. */
 static void make_copy(struct symbol *s) {
     const struct library *l = s->library;
-    struct output *bss = output_of(".bss");
     uint64_t align = s->there->st_value & -s->there->st_value, most = 64;
     if (s->there->st_shndx < l->file.sections_len)
         most = l->file.heads[s->there->st_shndx].sh_addralign;
@@ -98,7 +97,6 @@ static void make_copy(struct symbol *s) {
         fail_of(&l->file, ".dynsym: '%s' can't be copied", s->name);
     if (!most || most & (most - 1) || most > MOST_ALIGN)
         fail_of(&l->file, ".dynsym: '%s' can't be aligned so", s->name);
-    bss->flags |= SHF_WRITE | SHF_ALLOC;
     uint64_t at = make_room(bss, align && align < most ? align : most, s->there->st_size);
     add_row(bss, at, types.copy, s, 0);
     for (size_t i = 0; i <= l->file.symbols_len; i++) { /* at last itself, if by its version */
@@ -223,14 +221,9 @@ static void list_dynamic(void) {
     if (verneed->len) make_room(versym, 2, 2 * listed_len);
 }
 
-/* An entry of `.dynamic`, at the place that is next. */
-static uint64_t entries_len;
-
 static void put_entry(int64_t tag, uint64_t value) {
     Elf64_Dyn entry = {.d_tag = tag, .d_un.d_val = value};
-    uint64_t at = entries_len++ * sizeof entry;
-    if (at == dynamic->len) make_room(dynamic, 8, sizeof entry);
-    memcpy(dynamic->bytes + at, &entry, sizeof entry);
+    append(dynamic, 8, &entry, sizeof entry);
 }
 
 /* Where a table is that isn't empty; where there are tags for them, its length and an element's. */
@@ -261,7 +254,7 @@ static void put_entries(void) {
     static uint32_t name;
     bool is_static = false;
     if (own_name && !name) name = add_name(dynstr, own_name);
-    entries_len = 0;
+    dynamic->len = 0;
     for (const struct library *l = libraries; l; l = l->next) put_entry(DT_NEEDED, l->name_at);
     if (name) put_entry(DT_SONAME, name);
     put_function(DT_INIT, "_init");

@@ -23,13 +23,12 @@ static struct stub *added; /* the last */
 static uint64_t add_stub(struct output *o, uint32_t kind, const char *name,
                          const struct output *target, uint64_t target_offset) {
     struct linker_utils_stub stub;
-    struct stub *s = take(1, sizeof *s);
     if (linker_utils_get_stub(machine, kind, &stub)) fail("there is no stub to '%s'", name);
-    *s = (struct stub){.part = {.name = name, .output = o, .len = stub.len}, .before = added,
-                       .target = target, .target_offset = target_offset, .kind = kind};
-    add_part_of(o, &s->part, 8);
-    added = s;
-    return s->part.offset + stub.entry;
+    struct stub made = {.part = {.name = name, .output = o, .len = stub.len}, .before = added,
+                        .target = target, .target_offset = target_offset, .kind = kind};
+    added = keep(&made, sizeof made);
+    add_part_of(o, &added->part, 8);
+    return added->part.offset + stub.entry;
 }
 
 /* Adds a stub that goes to the address in a word, and a dynamic relocation of the word. Returns the
@@ -70,9 +69,8 @@ static void add_entry(struct section *s, Elf64_Rela *r,
         fail_at(s, r, " is not supported");
     while (*at && ((*at)->class != needs->entry_class || (*at)->addend != needs->entry_addend))
         at = &(*at)->next;
-    if (!*at) *at = take(1, sizeof **at);
-    (*at)->class = needs->entry_class;
-    (*at)->addend = needs->entry_addend;
+    struct entry made = {.addend = needs->entry_addend, .class = needs->entry_class};
+    if (!*at) *at = keep(&made, sizeof made);
     got->has_bytes = true;
     if (needs->entry_addend) refer(s->object, r, to, needs->entry_addend);
 }
@@ -122,15 +120,15 @@ void require(struct object *o) {
         if (needs.entry_class && !is_rewritten) add_entry(s, r, &needs);
         if (is_ifunc(to)) to->needs_stub = true;
         if (is_dynamic) import(s, r, &needs);
-        bool is_by_word = needs.may_use_stub && (is_ifunc(to) || to->is_imported);
-        if (is_by_word) r->r_addend += entered_at(s, r);
+        bool is_by_word = is_ifunc(to) || to->is_imported;
+        if (needs.may_use_stub && is_by_word) r->r_addend += entered_at(s, r);
     }
 }
 
 /* An indirect function's address is that of its stub, which goes to the address in a slot. When the
  * program starts, the function is called, which says which address that is. */
 static void make_stub(struct symbol *s) {
-    struct symbol *resolver = memcpy(take(1, sizeof *s), s, sizeof *s);
+    struct symbol *resolver = keep(s, sizeof *s);
     s->output = stubs;
     s->offset = add_slot(resolver, types.irelative);
     s->elf.st_shndx = SHN_ABS;
@@ -159,11 +157,10 @@ void write_entries(void) {
     if (got->len && known_got.has_header) memcpy(got->bytes, &known_got.header, 8);
     EACH_SYMBOL(s)
         for (const struct entry *e = s->entries; e && !s->is_imported; e = e->next) {
-            bool is_absent = is_undefined_weak(s);
-            uint64_t at = is_absent ? 0 : address_of(s->output, s->offset);
-            if (is_absent && e->class == LINKER_UTILS_ENTRY_MODULE_OFFSET) at = tls.image;
-            if (is_absent && e->class == LINKER_UTILS_ENTRY_THREAD_OFFSET)
-                at = tls.origins.thread_pointer;
+            uint64_t at = !is_undefined_weak(s) ? address_of(s->output, s->offset)
+                          : e->class == LINKER_UTILS_ENTRY_MODULE_OFFSET ? tls.image
+                          : e->class == LINKER_UTILS_ENTRY_THREAD_OFFSET ? linked.thread_origin
+                                                                         : 0;
             if (!linker_utils_static_words(e->class, at + (uint64_t)e->addend, &tls.origins, &held))
                 memcpy(got->bytes + e->offset, &held, 8 * linker_utils_get_entry_words(e->class));
         }
@@ -174,25 +171,24 @@ static struct symbol *thunk_to(struct output *o, struct symbol *s, uint64_t abov
     struct symbol *t = s->thunks;
     while (t && (t->output != o || t->elf.st_value != above)) t = t->thunks;
     if (t) return t;
-    t = take(1, sizeof *t);
-    *t = (struct symbol){.object = s->object, .name = s->name, .output = o, .is_thunk = true,
-                         .elf = {.st_shndx = SHN_ABS, .st_value = above}, .thunks = s->thunks};
-    t->offset = add_stub(o, LINKER_UTILS_STUB_JUMP, s->name, s->has_stub ? stubs : s->output,
+    struct symbol made = {.object = s->object, .name = s->name, .output = o, .is_thunk = true,
+                          .elf = {.st_shndx = SHN_ABS, .st_value = above}, .thunks = s->thunks};
+    made.offset = add_stub(o, LINKER_UTILS_STUB_JUMP, s->name, s->has_stub ? stubs : s->output,
                          (s->has_stub ? s->stub : s->offset) + above);
-    return s->thunks = t;
+    return s->thunks = keep(&made, sizeof made);
 }
 
 /* Has a branch in code go by a thunk, if it doesn't reach its target, or its function expects other
- * registers. Whether it has added one. Where it reaches what is near is computed once. */
-static bool add_thunk(struct section *s, Elf64_Rela *r, const struct linker_utils_stub *stub) {
+ * registers. Where it reaches what is near is computed once. */
+static void add_thunk(struct section *s, Elf64_Rela *r, const struct linker_utils_stub *stub) {
     struct kind *kind = kind_of(s, r);
     struct symbol *to = symbol_at(s, r);
-    if (!kind->needs[0].may_use_stub || to->is_thunk) return false;
+    if (!kind->needs[0].may_use_stub || to->is_thunk) return;
     bool reaches_all = !kind->reach.has_range || span < (uint64_t)kind->reach.max / 2;
     bool is_near = reaches_all && to->output && to->offset <= to->output->len && !to->has_stub &&
                    !r->r_addend;
     bool *is_direct = &kind->is_direct[to->elf.st_other & ~3];
-    if (is_near && *is_direct) return false;
+    if (is_near && *is_direct) return;
     struct linker_utils_route route;
     Elf64_Rela one = {r->r_offset, ELF64_R_INFO(UINT64_C(1), type_of(r)), r->r_addend};
     struct linker_utils_symbol known[2] = {{.address = 0}, known_symbol(to, 0)};
@@ -201,21 +197,20 @@ static bool add_thunk(struct section *s, Elf64_Rela *r, const struct linker_util
     uint32_t status = linker_utils_route_at(&linked, &object, &here, 0, &route);
     if (status == LINKER_UTILS_NO_ROOM) check(s, r, status);
     *is_direct |= is_near && !status && !route.is_by_stub;
-    if (status || !route.is_by_stub) return false;
+    if (status || !route.is_by_stub) return;
     if (to->is_saver) fail_at(s, r, ": '%s' is too far, and takes what a stub changes", to->name);
     uint64_t from = to->has_stub ? known[1].stub : known[1].address;
     refer(s->object, r, thunk_to(s->output, to, route.target - from), 0);
     r->r_addend = (int64_t)(route.entry - stub->entry);
-    return true;
 }
 
 /* Adds the thunks of all branches. Whether there are more: then addresses change. */
 bool add_thunks(void) {
-    bool has_added = false;
+    const struct stub *before = added;
     struct linker_utils_stub stub;
     if (linker_utils_get_stub(machine, LINKER_UTILS_STUB_JUMP, &stub)) return false;
     EACH_SECTION(s)
         if (s->output && s->output->flags & SHF_EXECINSTR)
-            EACH_RELOCATION(s, r) has_added |= add_thunk(s, r, &stub);
-    return has_added;
+            EACH_RELOCATION(s, r) add_thunk(s, r, &stub);
+    return added != before;
 }

@@ -22,9 +22,8 @@ struct output *output_of(const char *name) {
     EACH_OUTPUT(o) if (o->name == kind) return o;
     EACH_OUTPUT(o) if (!strcmp(o->name, kind)) return o;
     if (outputs_len == MOST_OUTPUTS) fail("too many sections");
-    struct output *o = outputs[outputs_len++] = take(1, sizeof *o);
-    *o = (struct output){.name = kind, .align = 1, .priority = priority};
-    return o;
+    struct output made = {.name = kind, .align = 1, .priority = priority};
+    return outputs[outputs_len++] = keep(&made, sizeof made);
 }
 
 static unsigned rank_of(const struct output *o) {
@@ -35,10 +34,14 @@ static unsigned rank_of(const struct output *o) {
                  {".fini_array", RANK_ARRAYS + 2}, {".data.rel.ro", RANK_RELOCATED},
                  {".dynamic", RANK_RELOCATED}, {".got", RANK_GOT},
                  {".sdata", RANK_SMALL_DATA}, {".sbss", RANK_BSS}, {".bss", RANK_BSS}};
+    char words[LINKER_UTILS_NAME_SIZE + 1] = {0}; /* where compilers keep addresses */
+    size_t len;
     if (o == headers) return RANK_HEADERS;
     if (o->flags & SHF_EXECINSTR) return RANK_CODE;
     if (o->flags & SHF_TLS) return o->has_bytes ? RANK_TLS : RANK_TLS_BSS;
-    if (is_of_addresses(o->name)) return RANK_GOT + 1;
+    if (!linker_utils_address_section(machine, (uint8_t *)words, sizeof words - 1, &len) &&
+        !strcmp(o->name, words))
+        return RANK_ADDRESSES;
     for (unsigned i = 0; i < sizeof ranks / sizeof *ranks; i++)
         if (!strncmp(o->name, ranks[i].name, strlen(ranks[i].name))) return ranks[i].rank;
     return !(o->flags & SHF_WRITE) ? RANK_FIXED : o->has_bytes ? RANK_DATA : RANK_BSS;
@@ -100,10 +103,9 @@ static struct output *part_for(struct output *o, uint64_t len) {
         linker_utils_get_stub(machine, LINKER_UTILS_STUB_JUMP, &stub))
         return o;
     if (outputs_len == MOST_OUTPUTS) fail("too many sections");
-    outputs[outputs_len++] = o->behind = take(1, sizeof *o);
-    *o->behind = (struct output){.name = o->name, .align = 1, .priority = o->priority,
-                                 .part = o->part + 1, .whole = o->whole ? o->whole : o};
-    return o->behind;
+    struct output made = {.name = o->name, .align = 1, .priority = o->priority,
+                          .part = o->part + 1, .whole = o->whole ? o->whole : o};
+    return outputs[outputs_len++] = o->behind = keep(&made, sizeof made);
 }
 
 /* Says which section a section goes into, and what that one is like. */
@@ -285,9 +287,13 @@ void set_addresses(void) {
         const struct output *from = o->flags & SHF_TLS ? first_tls : o;
         o->address = address_in(from->run, from->base) + (o->base - from->base);
     }
-    expect_ok(linker_utils_get_got(machine, got->address, dynamic ? dynamic->address : 0, &known_got));
+    uint64_t of_dynamic = dynamic ? dynamic->address : 0;
+    expect_ok(linker_utils_get_got(machine, got->address, of_dynamic, &known_got));
     linked.got_base = known_got.base;
     linked.module_entry = module.entries ? address_of(got, module.entries->offset) : 0;
+    const struct symbol *pointer = named("__global_pointer$");
+    if (relaxes && relaxes_near && pointer->output)
+        linked.global_pointer = address_of(pointer->output, pointer->offset);
     span = last->address + last->len - outputs[0]->address;
     tls.image = first_tls ? first_tls->address : 0;
     /* (where code is still to become shorter the image isn't aligned so far) */
@@ -296,8 +302,8 @@ void set_addresses(void) {
     linked.module_origin = tls.origins.module_block += tls.image;
     linked.has_tls = tls.len > 0;
     bool is_at_pointer = tls.has_base && linked.is_executable;
-    if (!module_base) return;
-    module_base->offset = is_at_pointer ? tls.origins.thread_pointer : tls.origins.module_block;
+    uint64_t base = is_at_pointer ? linked.thread_origin : linked.module_origin;
+    if (module_base) module_base->offset = base;
 }
 
 uint64_t address_of(const struct output *o, uint64_t offset) {

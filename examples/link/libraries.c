@@ -86,10 +86,10 @@ void find_version(struct symbol *s) {
 }
 
 void read_library(struct object file) {
-    struct library *l = take(1, sizeof *l);
-    *l = (struct library){.file = file, .versions = take(MOST_VERSIONS + 1, sizeof *l->versions)};
-    l->name = strrchr(file.path, '/') ? strrchr(file.path, '/') + 1 : file.path;
-    *libraries_end = l;
+    const char *slash = strrchr(file.path, '/');
+    struct library made = {.file = file, .name = slash ? slash + 1 : file.path,
+                           .versions = take(MOST_VERSIONS + 1, sizeof *made.versions)};
+    struct library *l = *libraries_end = keep(&made, sizeof made);
     libraries_end = &l->next;
     read_heads(&l->file, ET_DYN, "not a shared library");
     EACH_SECTION_OF(&l->file, s) {
@@ -97,12 +97,11 @@ void read_library(struct object file) {
         if (type == SHT_DYNSYM) l->names = s;
         if (type == SHT_GNU_versym) l->numbers = s;
         if (type == SHT_GNU_verdef) read_versions(l, s);
-        for (uint64_t at = 0; type == SHT_DYNAMIC && at < s->head->sh_size; at += 16) {
-            Elf64_Dyn entry;
-            memcpy(&entry, bytes_in(s, at, sizeof entry), sizeof entry);
-            if (entry.d_tag == DT_NULL) break;
-            if (entry.d_tag == DT_SONAME) l->name = text_at(s, entry.d_un.d_val);
-        }
+        if (type != SHT_DYNAMIC) continue;
+        size_t len;
+        const Elf64_Dyn *entry = table_of(&l->file, s->head, sizeof *entry, &len);
+        for (; len && entry->d_tag != DT_NULL; len--, entry++)
+            if (entry->d_tag == DT_SONAME) l->name = text_at(s, entry->d_un.d_val);
     }
     demand(&l->file, l->names, "a shared library without dynamic symbols");
     read_dynamic_symbols(l);

@@ -45,7 +45,11 @@
 /* the order of the sections of the linked file; there are three kinds of arrays, and after the GOT
  * is what is of addresses as it */
 enum { RANK_HEADERS, RANK_FIXED, RANK_CODE, RANK_TLS, RANK_TLS_BSS, RANK_ARRAYS, RANK_RELOCATED = 8,
-       RANK_GOT, RANK_DATA = RANK_GOT + 2, RANK_SMALL_DATA, RANK_BSS };
+       RANK_GOT, RANK_ADDRESSES, RANK_DATA, RANK_SMALL_DATA, RANK_BSS };
+
+/* in place of a phase: high parts of addresses near the global pointer are deleted; once all
+ * addresses are final the low parts that stay get their base */
+enum { NEAR = 100, FROM_POINTER };
 
 /* each section of the linked file, each that objects have, and each symbol, in their order */
 #define EACH_OUTPUT(o) for (struct output *o, **o##_at = outputs; (o = *o##_at); o##_at++)
@@ -84,8 +88,8 @@ struct run {
 struct output {
     const char *name;
     uint64_t flags, align, len, element; /* of an element, where there is more than one byte */
-    uint64_t place, address; /* by the command line; and at last, or if all bytes stayed */
-    uint64_t in_file;
+    /* by the command line; at last, or if all bytes stayed; and in the file */
+    uint64_t place, address, in_file;
     uint8_t *bytes;
     size_t room;
     /* in the file; by the command line; code that relaxes; the linker's own, of no object */
@@ -217,7 +221,7 @@ extern struct symbol *symbols;       /* all that objects mention, in their order
 extern struct symbol *module_base;   /* `_TLS_MODULE_BASE_`; null where no object requires it */
 extern struct symbol module;         /* has the entry of the GOT that is the module's, if any */
 extern struct output *outputs[MOST_OUTPUTS + 3]; /* null after them */
-extern struct output *headers, *got, *stubs, *slots, *rela, *frames, *index_of;
+extern struct output *headers, *got, *stubs, *slots, *rela, *frames, *index_of, *bss;
 /* null where there is none: */
 extern struct output *interpreter, *dynamic, *dynsym, *dynstr, *hash_table, *versym, *verneed;
 extern size_t symbols_len, outputs_len;
@@ -255,6 +259,7 @@ void expect_ok(uint32_t status);
 void *zeros(uint64_t count, size_t size), *take(uint64_t count, size_t size);
 void *grow(void *array, size_t need, size_t *room, size_t size);
 uint64_t round_up(uint64_t at, uint64_t align);
+void *keep(const void *value, size_t size);
 /* objects.c */
 void read_heads(struct object *o, uint16_t type, const char *otherwise);
 const char *text_at(const struct section *s, uint64_t at);
@@ -296,8 +301,6 @@ struct linker_utils_section section_of(const struct section *s);
 void relocate_section(struct section *s, const struct linker_utils_object *known);
 /* rewrite.c */
 void rewrite_object(struct object *o, uint32_t first, uint32_t last), relocate(void);
-void relax_near(bool is_final);
-bool is_of_addresses(const char *name);
 /* entries.c */
 void require(struct object *o), make_entries(void), write_entries(void), write_stubs(void);
 bool add_thunks(void);

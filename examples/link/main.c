@@ -7,7 +7,8 @@
  * referred to and that no object defines; archives search each other. The output has all symbols,
  * and section headers, but with `-s`, with which only a static executable lacks the latter. With
  * `--no-relax` only instructions of thread-local storage are rewritten. Its status is 0, or 1 after
- * an error, which it prints; on a terminal it names the object that it has come to, from a second on. */
+ * an error, which it prints; on a terminal it names the object that it has come to, from a second
+ * on. */
 #include <time.h>
 #include <unistd.h>
 #include "link.h"
@@ -16,18 +17,17 @@ uint16_t machine;
 uint32_t machine_flags;
 bool is_dynamic, shrinks, relaxes = true, has_short_offsets, relaxes_near, has_code_on_stack;
 struct output *headers, *got, *stubs, *slots, *rela, *frames, *index_of, *interpreter, *dynamic;
-struct output *dynsym, *dynstr, *hash_table, *versym, *verneed;
+struct output *bss, *dynsym, *dynstr, *hash_table, *versym, *verneed;
 
 static const char usage[] =
-    "usage: link [-s] [--no-relax | --short-offsets | --relax-gp] [-pie | -shared [-soname NAME]] "
-    "-o OUTPUT [--section-start=NAME=ADDRESS]... FILE...";
+    "usage: link [-s] [--no-relax | --short-offsets | --relax-gp] [-pie | -shared [-soname NAME]]"
+    " -o OUTPUT [--section-start=NAME=ADDRESS]... FILE...";
 static const char *path; /* of the output */
 static bool has_symbols = true, is_placed = false;
-
-static bool has_progress = false;
-
 /* Ends a line of an error, or clears the one that names an object. */
-void end_line(const char *end) { fprintf(stderr, "%s%s", has_progress ? "\033[K" : "", end); }
+void end_line(const char *end) {
+    fprintf(stderr, "%s%s", isatty(STDERR_FILENO) ? "\033[K" : "", end);
+}
 
 /* Ends with an error where a call fails that can't by what it is passed. */
 void expect_ok(uint32_t status) {
@@ -39,7 +39,6 @@ void progress(const char *step, const struct object *o) {
     static time_t start = 0;
     if (!start) start = time(NULL);
     if (time(NULL) < start + 2 || !isatty(STDERR_FILENO)) return;
-    has_progress = true;
     fprintf(stderr, "%s %s\033[K\r", step, o->path);
 }
 
@@ -61,6 +60,9 @@ void *take(uint64_t count, size_t size) {
     return (block += len) - len;
 }
 
+/* A copy of a value, for good. */
+void *keep(const void *value, size_t size) { return memcpy(take(1, size), value, size); }
+
 /* An array with room for so many elements: at first for as many as `room` says, and twice as many
  * where it has to grow. */
 void *grow(void *array, size_t need, size_t *room, size_t size) {
@@ -77,8 +79,8 @@ uint64_t round_up(uint64_t at, uint64_t align) { return (at + align - 1) & ~(ali
 
 /* A section that the linker itself fills; a table has a type, elements of so many bytes where these
  * are more than one, and refers to another. */
-static struct output *own_section(const char *name, uint64_t flags, uint32_t type, uint64_t element,
-                                  const struct output *link) {
+static struct output *own_section(const char *name, uint64_t flags, uint32_t type,
+                                  uint64_t element, const struct output *link) {
     struct output *o = output_of(name);
     o->flags = SHF_ALLOC | flags;
     o->has_bytes = o->is_own = true;
@@ -89,15 +91,16 @@ static struct output *own_section(const char *name, uint64_t flags, uint32_t typ
 }
 
 static void make_sections(void) {
-    const char *name = is_dynamic ? ".rela.dyn" : ".rela_iplt";
     got = own_section(".got", SHF_WRITE, 0, 0, NULL);
     got->has_bytes = false;
-    got->align = 16; /* for instructions whose distance to what is aligned so has to be a multiple */
+    got->align = 16; /* for instructions whose distance to what is aligned so is a multiple */
     stubs = own_section(is_dynamic ? ".plt" : ".iplt", SHF_EXECINSTR, 0, 0, NULL);
     slots = own_section(is_dynamic ? ".got.plt" : ".igot.plt", SHF_WRITE, 0, 0, NULL);
     index_of = own_section(".eh_frame_hdr", 0, 0, 0, NULL);
     headers = own_section("the headers", 0, 0, 0, NULL);
     frames = output_of(".eh_frame");
+    bss = output_of(".bss");
+    bss->flags = SHF_ALLOC | SHF_WRITE;
     if (is_dynamic && linked.is_executable) interpreter = own_section(".interp", 0, 0, 0, NULL);
     if (is_dynamic) {
         dynstr = own_section(".dynstr", 0, SHT_STRTAB, 0, NULL);
@@ -107,6 +110,7 @@ static void make_sections(void) {
         verneed = own_section(".gnu.version_r", 0, SHT_GNU_verneed, 0, dynstr);
         dynamic = own_section(".dynamic", SHF_WRITE, SHT_DYNAMIC, sizeof(Elf64_Dyn), dynstr);
     }
+    const char *name = is_dynamic ? ".rela.dyn" : ".rela_iplt";
     rela = own_section(name, 0, SHT_RELA, sizeof(Elf64_Rela), dynsym);
     module.output = got;
     list_symbol(&module);

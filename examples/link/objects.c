@@ -47,19 +47,15 @@ const char *text_at(const struct section *s, uint64_t at) {
 }
 
 /* Leaves out the sections of a group that an earlier object has too. */
-static void read_group(const struct section *s) {
+static void read_group(const struct section *s, const struct section *table) {
     const struct object *o = s->object;
-    Elf64_Shdr head = *s->head, table = o->heads[head.sh_link < o->sections_len ? head.sh_link : 0];
-    const struct section symbols = {s->object, s->name, .head = &table};
+    Elf64_Shdr head = *s->head;
     size_t len;
     head.sh_entsize = sizeof(Elf32_Word);
     const Elf32_Word *words = table_of(o, &head, sizeof *words, &len);
-    if (table.sh_type != SHT_SYMTAB || head.sh_info >= table.sh_size / sizeof(Elf64_Sym) || !len)
+    if (!table || head.sh_link != table - o->sections || head.sh_info >= o->mentions_len || !len)
         fail_in(s, "a group without its symbol");
-    Elf64_Sym symbol;
-    uint64_t at = table.sh_offset + head.sh_info * sizeof symbol;
-    memcpy(&symbol, bytes_at(o, at, sizeof symbol), sizeof symbol);
-    struct symbol *signature = named(text_at(&symbols, symbol.st_name));
+    struct symbol *signature = named(text_at(table, o->mentions[head.sh_info].st_name));
     bool is_comdat = words[0] & GRP_COMDAT, is_discarded = is_comdat && signature->has_group;
     signature->has_group |= is_comdat;
     for (size_t i = 1; i < len; i++) {
@@ -91,8 +87,8 @@ static void check_symbol(const struct object *o, size_t i, bool is_local, const 
     const Elf64_Sym *elf = &o->mentions[i];
     uint16_t at = elf->st_shndx;
     bool is_tls = ELF64_ST_TYPE(elf->st_info) == STT_TLS, has_section = at < o->sections_len;
-    if ((!has_section && at != SHN_ABS && at != SHN_COMMON) ||
-        (at == SHN_COMMON && is_local) || (is_tls && !has_section) ||
+    bool has_place = at == SHN_ABS || (at == SHN_COMMON && !is_local);
+    if ((!has_section && (is_tls || !has_place)) ||
         (ELF64_ST_BIND(elf->st_info) == STB_LOCAL) != is_local)
         fail_of(o, "symbol %zu, '%s', is of a kind that is not supported", i, name);
     if (is_tls && at && has_section && !(o->heads[at].sh_flags & SHF_TLS))
@@ -103,8 +99,6 @@ static void read_symbols(const struct section *table) {
     static uint32_t *hashes; /* of the global ones of one object after another */
     static size_t room;
     struct object *o = table->object;
-    demand(o, !o->symbols, "two tables of symbols");
-    o->mentions = table_of(o, table->head, sizeof *o->mentions, &o->mentions_len);
     size_t len = o->symbols_len = o->symbols_room = o->mentions_len, first = table->head->sh_info;
     struct symbol *local = take(first < len ? first : len, sizeof *local);
     o->symbols = zeros(len, sizeof *o->symbols);
@@ -153,9 +147,7 @@ void read_heads(struct object *o, uint16_t type, const char *otherwise) {
         const Elf64_Shdr *s = &o->heads[i];
         o->sections[i] = (struct section){o, text_at(&all, s->sh_name), .head = s,
                                           .is_discarded = s->sh_flags & SHF_EXCLUDE};
-        bool has_bytes = s->sh_type != SHT_NOBITS;
-        if (has_bytes && (s->sh_offset > o->len || s->sh_size > o->len - s->sh_offset))
-            fail_in(&o->sections[i], "it ends too early");
+        if (s->sh_type != SHT_NOBITS) bytes_at(o, s->sh_offset, s->sh_size);
     }
     uint64_t unit = linker_utils_code_unit(machine, head.e_flags);
     uint32_t joined = 0, flags = o == objects ? head.e_flags : machine_flags;
@@ -167,16 +159,22 @@ void read_heads(struct object *o, uint16_t type, const char *otherwise) {
 
 /* Reads an object, and puts it after the others. */
 static void read_object(const char *path, struct bytes file) {
-    struct object *o = take(1, sizeof *o);
-    *o = (struct object){.path = path, .bytes = file.at, .len = file.len};
-    *objects_end = o;
+    struct object made = {.path = path, .bytes = file.at, .len = file.len};
+    struct object *o = *objects_end = keep(&made, sizeof made);
     objects_end = &o->next;
     read_heads(o, ET_REL, "not a relocatable object");
-    EACH_SECTION_OF(o, s) if (s->head->sh_type == SHT_GROUP) read_group(s);
+    const struct section *table = NULL;
+    EACH_SECTION_OF(o, s) {
+        if (s->head->sh_type != SHT_SYMTAB) continue;
+        demand(o, !table, "two tables of symbols");
+        o->mentions = table_of(o, s->head, sizeof *o->mentions, &o->mentions_len);
+        table = s;
+    }
+    EACH_SECTION_OF(o, s) if (s->head->sh_type == SHT_GROUP) read_group(s, table);
+    if (table) read_symbols(table);
     EACH_SECTION_OF(o, s) {
         uint32_t type = s->head->sh_type, of = s->head->sh_info;
         if (type == SHT_PROGBITS) continue;
-        if (type == SHT_SYMTAB) read_symbols(s);
         /* relocations in other forms: CREL and RELR, and Android's two */
         if (type > SHT_SYMTAB_SHNDX && type <= SHT_LOOS + 2)
             fail_in(s, "such sections are not supported");
@@ -190,11 +188,10 @@ static void read_object(const char *path, struct bytes file) {
 /* What an archive's member has after its header. */
 static struct bytes member_at(const struct archive *a, uint64_t offset) {
     const struct ar_hdr *head = (const void *)bytes_at(&a->file, offset, sizeof *head);
-    char size[sizeof head->ar_size + 1] = {0}, *end;
-    memcpy(size, head->ar_size, sizeof head->ar_size);
-    uint64_t len = strtoull(size, &end, 10);
-    demand(&a->file, !memcmp(head->ar_fmag, ARFMAG, 2) && end != size && *size != '-',
-           "a member's header is not there");
+    char *end = NULL;
+    bool holds = !memcmp(head->ar_fmag, ARFMAG, 2); /* no digit, so that the number ends there */
+    uint64_t len = holds ? strtoull(head->ar_size, &end, 10) : 0;
+    demand(&a->file, holds && end != head->ar_size, "a member's header is not there");
     return (struct bytes){bytes_at(&a->file, offset + sizeof *head, len), len};
 }
 
@@ -221,9 +218,9 @@ static uint32_t big_endian(const uint8_t *bytes) {
 
 /* Offers what the index of an archive names. A member that is needed already is read at once. */
 static void read_archive(struct object file) {
-    struct archive *a = take(1, sizeof *a);
+    struct archive made = {.file = file, .is_loaded = take(file.len / 2 + 1, 1)};
+    struct archive *a = keep(&made, sizeof made);
     struct bytes index = {NULL, 0}, member;
-    *a = (struct archive){.file = file, .is_loaded = take(file.len / 2 + 1, 1)};
     /* the special ones are first */
     for (uint64_t at = SARMAG, i = 0; i < 2 && at < file.len; i++) {
         const char *name = (const char *)file.bytes + at;

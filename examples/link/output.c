@@ -96,9 +96,7 @@ static void write_parts(const char *path, const Elf64_Ehdr *head) {
     if (!file) fail("%s: can't be written", path);
     write_part(file, 0, head, sizeof *head);
     write_part(file, head->e_phoff, loads, head->e_phnum * sizeof *loads);
-    EACH_OUTPUT(o)
-        if (o->index && o->has_bytes)
-            write_part(file, o->in_file, o->bytes, o->len);
+    EACH_OUTPUT(o) if (o->index && o->has_bytes) write_part(file, o->in_file, o->bytes, o->len);
     write_part(file, head->e_shoff, heads, head->e_shnum * sizeof *heads);
     bool is_ordinary = !fstat(fileno(file), &status) && S_ISREG(status.st_mode);
     bool holds = !ferror(file) && (!is_ordinary || !fchmod(fileno(file), 0755));

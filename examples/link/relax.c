@@ -53,39 +53,37 @@ static void add_items(struct section *s) {
     items_len += made.items_used;
 }
 
-/* Writes a section anew: what becomes shorter, and without what it loses. Its relocations go to
- * where their bytes are. Items that lose nothing count no more. Returns how long it is then. */
-static uint64_t pack(struct section *s, uint8_t *packed) {
-    const struct run *run = s->output->run;
-    struct linker_utils_section here = section_of(s);
-    uint64_t len = s->len;
-    size_t first = s->first_item, last = first, at = SIZE_MAX;
-    for (size_t i = first; i < first + s->items_len; i++) {
+/* Leaves out those items of a section that lose nothing: their bytes stay as they are. */
+static void leave_whole_items(struct section *s) {
+    size_t last = s->first_item;
+    for (size_t i = last; i < s->first_item + s->items_len; i++) {
         if (stay[i] == items[i].len) continue;
-        len -= items[i].len - stay[i];
         items[last] = items[i];
         makers[last++] = makers[i];
     }
-    s->items_len = (uint32_t)(last - first);
-    struct linker_utils_run part = {run->start, items + first, s->items_len, run->deltas,
-                                    run->deltas_len};
-    uint32_t status = linker_utils_pack_run(machine, &here, &part, packed, len, &at);
-    check_items(s, at < s->items_len ? makers[first + at] : SIZE_MAX, status);
-    return len;
+    s->items_len = (uint32_t)(last - s->first_item);
 }
 
-/* Writes code anew, with what stays of the gaps between its parts. */
+/* Writes code anew: what becomes shorter, and without what it loses, with what stays of the gaps
+ * between its sections. Their relocations go to where their bytes are. */
 static void pack_output(struct output *o) {
+    const struct run *run = o->run;
     uint8_t *packed = zeros(o->len, 1);
-    uint64_t from = 0, to = 0;
+    uint64_t from = 0, to = 0, start = address_of(o, 0);
     for (struct section *s = o->first; s; s = s->behind) {
-        uint64_t end = s->offset + s->len, lost = s->gap ? s->gap - stay[s->first_item - 1] : 0;
-        uint64_t at = to + (s->offset - from - lost);
+        leave_whole_items(s);
+        struct linker_utils_section here = section_of(s);
+        struct linker_utils_run part = {run->start, items + s->first_item, s->items_len,
+                                        run->deltas, run->deltas_len};
+        uint64_t at = address_of(o, s->offset) - start;
+        size_t len = linker_utils_packed_run_len(&here, &part), faulty = SIZE_MAX;
         memcpy(packed + to, o->bytes + from, at - to);
-        s->len = pack(s, packed + at);
+        uint32_t status = linker_utils_pack_run(machine, &here, &part, packed + at, len, &faulty);
+        check_items(s, faulty < s->items_len ? makers[s->first_item + faulty] : SIZE_MAX, status);
+        from = s->offset + s->len;
         s->offset = at;
-        from = end;
-        to = at + s->len;
+        s->len = len;
+        to = at + len;
     }
     free(o->bytes);
     o->bytes = packed;
@@ -136,13 +134,13 @@ static void relax_run(struct run *run) {
 /* Relaxes all code. */
 void relax(void) {
     uint32_t phase = LINKER_UTILS_PHASE_TLS_LOCAL_EXEC;
-    EACH_OBJECT(o)
+    EACH_OBJECT(o) {
         if (o->is_threaded && (shrinks || (has_short_offsets && relaxes)))
             rewrite_object(o, phase, phase);
-    relax_near(false);
+        rewrite_object(o, NEAR, NEAR);
+    }
     EACH_OUTPUT(o) if (shrinks && !o->run->deltas) relax_run(o->run);
     set_addresses();
-    relax_near(true);
     EACH_OUTPUT(o) {
         uint64_t align = o->flags & SHF_TLS && o->address == tls.image ? tls.align : o->align;
         uint64_t wanted = o->is_placed ? o->place : o->address;

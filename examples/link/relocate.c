@@ -27,7 +27,7 @@ void read_relocations(struct section *s) {
     const struct object *o = s->object;
     size_t len;
     const Elf64_Rela *elf = table_of(o, s->table, sizeof *elf, &len);
-    bool has_addresses = is_of_addresses(s->name);
+    bool has_addresses = s->output->rank == RANK_ADDRESSES;
     bool is_beside = s->output == frames || !strcmp(s->output->name, ".gcc_except_table");
     s->relocations = memcpy(take(len, sizeof *elf), elf, len * sizeof *elf);
     s->relocations_len = (uint32_t)len;
@@ -92,13 +92,12 @@ struct linker_utils_section section_of(const struct section *s) {
 
 /* Adds the value of a relocation to a ULEB128 number, or subtracts it, modulo what its bytes hold,
  * as in ld.lld. */
-static void change_number(const struct section *s, Elf64_Rela *r, int64_t value) {
+static void change_number(const struct section *s, Elf64_Rela *r, uint64_t value) {
     uint64_t number = 0;
     size_t used = 0, len = r->r_offset < s->len ? s->len - r->r_offset : 0;
     uint8_t *bytes = s->output->bytes + s->offset + s->len - len;
     check(s, r, linker_utils_read_uleb128(bytes, len, &number, &used));
-    bool subtracts = kind_of(s, r)->role == LINKER_UTILS_ROLE_SUBTRACTS;
-    number += (uint64_t)(subtracts ? -value : value);
+    number += kind_of(s, r)->role == LINKER_UTILS_ROLE_SUBTRACTS ? -value : value;
     if (used < 9) number &= (UINT64_C(1) << 7 * used) - 1;
     check(s, r, linker_utils_write_uleb128(bytes, len, number));
     drop(r);
@@ -116,7 +115,7 @@ void relocate_section(struct section *s, const struct linker_utils_object *known
         Elf64_Rela *r = &s->relocations[at];
         if (kind_of(s, r)->role == LINKER_UTILS_ROLE_NONE) continue;
         check(s, r, linker_utils_value_at(&linked, known, &here, at, &value));
-        change_number(s, r, value);
+        change_number(s, r, (uint64_t)value);
     }
     size_t memory_len = linker_utils_relocate_memory(&here);
     memory = grow(memory, memory_len, &room, sizeof *memory);

@@ -8,8 +8,10 @@
 static struct linker_utils_symbol_facts *facts;
 static struct linker_utils_symbol *values;
 struct linker_utils_unrelaxable_groups *kept;
+static bool *kept_high_parts;
 static struct linker_utils_object known;
 static const struct symbol *tls_get_addr;
+static bool hides; /* whether relocations of the object may have to be hidden */
 
 /* Whether the library is not shown a relocation: nothing here has its symbol, or it would be
  * relaxed where nothing is to be, as by a mark, which has no symbol. What loads the address of a
@@ -26,17 +28,19 @@ static bool is_code(const struct section *s) {
     return s->output && s->relocations_len && s->head->sh_flags & SHF_EXECINSTR;
 }
 
-/* Notes what is known of an object's symbols, and returns whether relocations may have to be
- * hidden. What choices read is the same in each phase: also of a variable that is copied here and of
- * an indirect function that has a stub, and whatever other relocations have got symbols since. */
-static bool note_symbols(struct object *o) {
-    static size_t rooms[3];
-    bool hides = !relaxes || has_far_symbols;
+/* Notes what is known of an object's symbols. What choices read is the same in each phase: also of
+ * a variable that is copied here and of an indirect function that has a stub, and whatever other
+ * relocations have got symbols since. */
+static void note_symbols(struct object *o) {
+    static size_t rooms[4];
     size_t len = o->symbols_len;
+    hides = !relaxes || has_far_symbols;
     tls_get_addr = named("__tls_get_addr");
     facts = grow(facts, len, &rooms[0], sizeof *facts);
     values = grow(values, len, &rooms[1], sizeof *values);
     kept = grow(kept, len + 1, &rooms[2], sizeof *kept);
+    kept_high_parts = grow(kept_high_parts, len, &rooms[3], sizeof *kept_high_parts);
+    memset(kept_high_parts, 0, len);
     for (size_t i = 1; i < len; i++) {
         const struct symbol *s = o->symbols[i];
         __builtin_prefetch(o->symbols[i + 8 < len ? i + 8 : i]);
@@ -54,10 +58,14 @@ static bool note_symbols(struct object *o) {
     known = (struct linker_utils_object){facts + at, more, .facts_snapshot = o->facts + at,
                                          .facts_snapshot_len = more};
     expect_ok(linker_utils_snapshot_facts(&linked, &known));
-    known = (struct linker_utils_object){facts, len, values, len, kept, len, .facts_snapshot = o->facts,
-                                         .facts_snapshot_len = len};
+    known = (struct linker_utils_object){facts, len, values, len, kept, len, o->facts, len,
+                                         kept_high_parts, len};
     o->facts_len = len;
-    return hides;
+}
+
+static int by_offset(const void *left, const void *right) {
+    const struct linker_utils_deletion *a = left, *b = right;
+    return order(a->offset, b->offset);
 }
 
 /* Rewrites a section of an object in a phase, or notes which groups of it stay. With words of
@@ -71,15 +79,23 @@ static void rewrite_in(uint32_t phase, struct section *s, const struct linker_ut
     made.deleted = grow(made.deleted, len, &made.deleted_len, sizeof *made.deleted);
     made.deleted_used = 0;
     uint32_t status =
-        is_survey && words ? linker_utils_survey_toc_loads(&linked, &known, &here, words)
+        phase == FROM_POINTER ? linker_utils_finish_gp_relaxation(&linked, &known, &here, &at)
+        : is_survey && words ? linker_utils_survey_toc_loads(&linked, &known, &here, words)
+        : is_survey && phase == NEAR ? linker_utils_survey_global_pointer(&linked, &known, &here)
         : is_survey ? linker_utils_survey_placed_section(&linked, &known, &here, phase)
         : words ? linker_utils_rewrite_toc_loads(&linked, &known, &here, words, &made, &at)
-                : linker_utils_rewrite_placed_section(&linked, &known, &here, phase, &made, &at);
+        : phase == NEAR
+            ? linker_utils_rewrite_global_pointer(&linked, &known, &here, &made, &at)
+            : linker_utils_rewrite_placed_section(&linked, &known, &here, phase, &made, &at);
     check(s, &s->relocations[at < len ? at : 0], status);
     if (!made.deleted_used) return;
-    s->deleted_len = (uint32_t)made.deleted_used;
-    s->deleted = memcpy(take(s->deleted_len, sizeof *s->deleted), made.deleted,
-                        s->deleted_len * sizeof *s->deleted);
+    struct linker_utils_deletion *all = take(s->deleted_len + made.deleted_used, sizeof *all);
+    memcpy(all, made.deleted, made.deleted_used * sizeof *all);
+    if (s->deleted_len)
+        memcpy(all + made.deleted_used, s->deleted, s->deleted_len * sizeof *all);
+    s->deleted_len += (uint32_t)made.deleted_used;
+    s->deleted = all;
+    qsort(all, s->deleted_len, sizeof *all, by_offset);
 }
 
 /* Whether the loads from the GOT of a section stay: all of it or none, as in ld.lld. One stays too
@@ -94,109 +110,53 @@ static bool keeps_got_loads(const struct section *s) {
 
 /* Hides relocations of an object's code from the library, and when called again shows them. */
 static void hide(struct object *o) {
+    if (!hides) return;
     EACH_SECTION_OF(o, s)
         if (is_code(s) || s->kept_words)
             EACH_RELOCATION(s, r)
                 if (r->r_info & HIDDEN || is_hidden(s, r)) r->r_info ^= HIDDEN;
 }
 
-/* Whether data has an offset in the module's block. It stays, and so does the code that computes
- * where the block is. */
-static bool has_offsets(struct object *o) {
-    EACH_SECTION_OF(o, s)
-        if (s->output && s->output != frames && !(s->head->sh_flags & SHF_EXECINSTR))
-            EACH_RELOCATION(s, r)
-                if (kind_of(s, r)->row.kind == LINKER_UTILS_KIND_DTP_OFF) return true;
-    return false;
+/* Rewrites all code of an object in a phase, or by words of addresses, after a survey. */
+static void rewrite_all(struct object *o, uint32_t phase, const struct linker_utils_words *words) {
+    bool is_of_got = phase == LINKER_UTILS_PHASE_GOT_TO_PC_REL && !words;
+    for (int is_survey = phase != FROM_POINTER; is_survey >= 0; is_survey--)
+        EACH_SECTION_OF(o, s) {
+            if (!is_code(s) || (phase >= NEAR && !s->output->shrinks)) continue;
+            if (is_of_got && (!s->has_loads || (!is_survey && keeps_got_loads(s)))) continue;
+            rewrite_in(phase, s, words, is_survey);
+        }
 }
 
 /* Rewrites the instructions of an object in some phases, all of a group or none. */
 void rewrite_object(struct object *o, uint32_t first, uint32_t last) {
-    bool is_early = first == LINKER_UTILS_PHASE_PRE_LAYOUT, hides = note_symbols(o);
-    bool keeps = is_early && o->is_threaded && has_offsets(o);
-    if (hides) hide(o);
+    if (first >= NEAR && !linked.global_pointer) return;
+    note_symbols(o);
+    bool is_early = first == LINKER_UTILS_PHASE_PRE_LAYOUT, keeps = false;
+    /* data may have offsets in the module's block, which stay, and so does the code that computes
+     * where the block is */
+    if (is_early && o->is_threaded)
+        EACH_SECTION_OF(o, s)
+            if (s->output != frames && !is_code(s))
+                EACH_RELOCATION(s, r) keeps |= kind_of(s, r)->row.kind == LINKER_UTILS_KIND_DTP_OFF;
+    hide(o);
     EACH_SECTION_OF(o, of) {
         if (!of->kept_words || first != LINKER_UTILS_PHASE_GOT_TO_PC_REL) continue;
         size_t len = of->relocations_len;
         struct linker_utils_words words = {of->output->address + of->offset, of->relocations, len,
                                            of->kept_words, len};
-        for (int is_survey = 1; is_survey >= 0; is_survey--)
-            EACH_SECTION_OF(o, s) if (is_code(s)) rewrite_in(first, s, &words, is_survey);
+        rewrite_all(o, first, &words);
     }
     for (uint32_t phase = first; phase <= last; phase++) {
-        bool is_of_got = phase == LINKER_UTILS_PHASE_GOT_TO_PC_REL;
         memset(kept, 0, (o->symbols_len + 1) * sizeof *kept);
         for (size_t i = 1; has_far_symbols && i < o->symbols_len; i++)
             if (o->symbols[i]->is_far)
                 kept[i].initial_exec = kept[i].general_dynamic = kept[i].descriptor = true;
-        if (!linker_utils_has_rewrites(machine, phase)) continue;
         kept->got_load = is_early; /* as in ld.lld */
         kept->local_dynamic = keeps;
-        for (int is_survey = 1; is_survey >= 0; is_survey--)
-            EACH_SECTION_OF(o, s)
-                if (is_code(s) && (!is_of_got || (s->has_loads &&
-                                                  (is_survey || !keeps_got_loads(s)))))
-                    rewrite_in(phase, s, NULL, is_survey);
+        if (phase >= NEAR || linker_utils_has_rewrites(machine, phase)) rewrite_all(o, phase, NULL);
     }
-    if (hides) hide(o);
-}
-
-/* Whether compilers keep addresses in a section, beside the GOT. */
-bool is_of_addresses(const char *name) {
-    static char known[LINKER_UTILS_NAME_SIZE + 1];
-    size_t used;
-    if (!*known &&
-        linker_utils_address_section(machine, (uint8_t *)known, sizeof known - 1, &used))
-        return false; /* there is none */
-    return !strcmp(name, known);
-}
-
-static int by_offset(const void *left, const void *right) {
-    const struct linker_utils_deletion *a = left, *b = right;
-    return order(a->offset, b->offset);
-}
-
-/* Deletes the high parts of addresses near the pointer in a section, all of a symbol or none. */
-static uint32_t rewrite_near(struct section *s, const struct linker_utils_section *here,
-                             size_t *at) {
-    size_t len = s->relocations_len;
-    struct linker_utils_deletion *deleted = take(s->deleted_len + len, sizeof *deleted);
-    if (s->deleted_len) memcpy(deleted, s->deleted, s->deleted_len * sizeof *deleted);
-    struct linker_utils_rewritten made = {zeros(len, sizeof *made.decisions), len,
-                                          deleted + s->deleted_len, len, 0};
-    uint32_t status = linker_utils_rewrite_global_pointer(&linked, &known, here, &made, at);
-    free(made.decisions);
-    s->deleted_len += (uint32_t)made.deleted_used;
-    s->deleted = deleted;
-    qsort(deleted, s->deleted_len, sizeof *deleted, by_offset);
-    return status;
-}
-
-/* The same in all code, if there is a global pointer. Once all addresses are final: gives the low
- * parts that stay their base. */
-void relax_near(bool is_final) {
-    const struct symbol *to = named("__global_pointer$");
-    if (!relaxes || !relaxes_near || !to || !to->output) return;
-    linked.global_pointer = address_of(to->output, to->offset);
-    EACH_OBJECT(o) {
-        size_t at = 0;
-        bool hides = note_symbols(o);
-        known.kept_high_parts = zeros(o->symbols_len, 1);
-        known.kept_high_parts_len = o->symbols_len;
-        if (hides) hide(o);
-        for (int step = is_final ? 2 : 0; step < (is_final ? 3 : 2); step++)
-            EACH_SECTION_OF(o, s) {
-                if (!is_code(s) || !s->output->shrinks) continue;
-                struct linker_utils_section here = section_of(s);
-                uint32_t status =
-                    step == 1  ? rewrite_near(s, &here, &at)
-                    : is_final ? linker_utils_finish_gp_relaxation(&linked, &known, &here, &at)
-                               : linker_utils_survey_global_pointer(&linked, &known, &here);
-                check(s, &s->relocations[at < s->relocations_len ? at : 0], status);
-            }
-        if (hides) hide(o);
-        free(known.kept_high_parts);
-    }
+    hide(o);
 }
 
 /* Makes the rewrites of each object that wait for all addresses, and writes its values. */
@@ -204,6 +164,7 @@ void relocate(void) {
     uint32_t last = LINKER_UTILS_PHASE_SHORT_PC_REL;
     EACH_OBJECT(o) {
         progress("relocating", o);
+        rewrite_object(o, FROM_POINTER, FROM_POINTER);
         rewrite_object(o, relaxes ? LINKER_UTILS_PHASE_GOT_TO_PC_REL : last + 1, last);
         EACH_SECTION_OF(o, s) if (s->relocations_len) relocate_section(s, &known);
     }

@@ -197,15 +197,15 @@ static void define_base(const char *name, bool is_at_pointer) {
 
 /* The symbols that linkers provide for the machine. */
 static void define_provided(void) {
-    struct linker_utils_provided_symbol symbol;
+    struct linker_utils_provided_symbol is;
     char name[LINKER_UTILS_NAME_SIZE + 1];
     uint8_t *text = (uint8_t *)name;
     size_t most = sizeof name - 1, len = 0;
-    for (size_t i = 0; !linker_utils_get_provided_symbol(machine, i, text, most, &len, &symbol); i++) {
+    for (size_t i = 0; !linker_utils_get_provided_symbol(machine, i, text, most, &len, &is); i++) {
         name[len] = 0;
-        bool is_in_data = symbol.place == LINKER_UTILS_PLACE_SMALL_DATA;
-        if (symbol.place == LINKER_UTILS_PLACE_THREAD_LOCAL) define_base(name, true);
-        else define(name, is_in_data ? output_of(".sdata") : got, symbol.offset);
+        bool is_in_data = is.place == LINKER_UTILS_PLACE_SMALL_DATA;
+        if (is.place == LINKER_UTILS_PLACE_THREAD_LOCAL) define_base(name, true);
+        else define(name, is_in_data ? output_of(".sdata") : got, is.offset);
     }
 }
 
@@ -228,7 +228,7 @@ void define_symbols(void) {
     output_of(".preinit_array"), output_of(".init_array"), output_of(".fini_array");
     output_of(".sdata");
     define_runs();
-    define("__bss_start", output_of(".bss"), 0);
+    define("__bss_start", bss, 0);
     sort_outputs();
     EACH_OUTPUT(o) define_end(o, false); /* the first counts */
     for (size_t i = outputs_len; i > 0; i--) define_end(outputs[i - 1], true);
@@ -246,9 +246,8 @@ void place_symbols(void) {
     uint64_t most = INT32_MAX / 2 - MOST_ALIGN, tls_len = 0;
     EACH_SYMBOL(s) {
         if (s->elf.st_shndx != SHN_COMMON) continue;
-        s->output = output_of(".bss");
-        s->output->flags |= SHF_WRITE | SHF_ALLOC;
-        s->offset = make_room(s->output, s->elf.st_value, s->elf.st_size);
+        s->output = bss;
+        s->offset = make_room(bss, s->elf.st_value, s->elf.st_size);
     }
     EACH_SECTION(s) copy_section(s);
     EACH_OUTPUT(o) tls_len += o->flags & SHF_TLS ? o->len : 0;
