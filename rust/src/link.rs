@@ -322,10 +322,8 @@ pub fn relocate_section<B: AsMut<[u8]>, R: AsRef<[u8]>>(
 /// let object = Object { facts: &[SymbolFacts::default(); 2], ..Object::default() };
 /// let mut kept = [UnrelaxableGroups::default(); 2];
 /// survey(&link, &object, &Section::new([0x90], relocations), &mut kept);
-/// assert_eq!(
-///     kept,
-///     [UnrelaxableGroups::default(), UnrelaxableGroups { descriptor: true, ..UnrelaxableGroups::default() }],
-/// );
+/// let none = UnrelaxableGroups::default();
+/// assert_eq!(kept, [none, UnrelaxableGroups { descriptor: true, ..none }]);
 /// ```
 #[inline]
 pub fn survey<B: AsRef<[u8]>, R: AsRef<[u8]>>(
@@ -512,7 +510,9 @@ pub fn survey_placed_section<B: AsRef<[u8]>, R: AsRef<[u8]>>(
 ///
 /// ```
 /// use linker_utils::elf::Architecture;
-/// use linker_utils::rewriting::{Decision, UnrelaxableGroups, Phase, SymbolFacts, rewrite_placed_section};
+/// use linker_utils::rewriting::{
+///     Decision, Phase, SymbolFacts, UnrelaxableGroups, rewrite_placed_section,
+/// };
 /// use linker_utils::section::{Link, Object, Section, Symbol};
 ///
 /// // adrp x0, x and add x0, x0, :lo12:x, at 0x1000, where x is at 0x2004, become nop and adr x0, x
