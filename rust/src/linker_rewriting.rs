@@ -16,7 +16,6 @@ pub mod groups;
 pub mod kept;
 pub mod phases;
 mod relocations;
-#[cfg(feature = "riscv64")]
 mod riscv_pcrel_groups;
 pub mod sections;
 mod sequences;

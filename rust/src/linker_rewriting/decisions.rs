@@ -10,10 +10,7 @@ use crate::linker_rewriting::facts::{OutputFacts, RelaxContext, SymbolFacts};
 use crate::linker_rewriting::groups::{Scope, UnrelaxableGroups, group_stays, scope_in};
 use crate::linker_rewriting::phases::Phase;
 use crate::linker_rewriting::relocations::relocation_in;
-#[cfg(feature = "riscv64")]
-use crate::linker_rewriting::riscv_pcrel_groups::{
-    high_of, is_note, label_candidate, note_labels, set_all,
-};
+use crate::linker_rewriting::riscv_pcrel_groups::{high_of, is_note, label_candidate, note_labels, set_all};
 use crate::linker_base::rewrite::DeletedBytes;
 use crate::linker_section::facts::{Addresses, Symbol};
 use crate::linker_section::relocations::{Rela, relocation_at, relocations_len};
@@ -177,7 +174,6 @@ fn label_decision(phase: Phase, chosen: Choice<Relaxation, u32>, high: &Rela) ->
 }
 
 /// What becomes of a relocation of a label whose group stays or doesn't.
-#[cfg(feature = "riscv64")]
 fn decide_label(
     stays: bool,
     context: &RelaxContext<'_>,
@@ -206,7 +202,6 @@ fn decide_label(
 
 /// What becomes of a relocation that no other takes along. `stays` is what was noted of its label.
 /// None if its group doesn't stay, but it can't be rewritten.
-#[cfg(feature = "riscv64")]
 #[inline(always)]
 fn decide(
     stays: bool,
@@ -267,7 +262,6 @@ fn is_left(
 }
 
 /// What becomes of a relocation, which another may take along.
-#[cfg(feature = "riscv64")]
 fn decide_after(
     is_taken: bool,
     stays: bool,
@@ -325,7 +319,6 @@ pub(crate) fn end_after(start: u64, own: u64, end: u64) -> Option<u64> {
 }
 
 /// The same as `decide_section`, but relocations may be in the bytes of others.
-#[cfg(feature = "riscv64")]
 #[inline(always)]
 fn decide_all<D: AsDecision>(
     architecture: Architecture,
@@ -385,7 +378,6 @@ fn decide_all<D: AsDecision>(
 }
 
 /// The same, compiled for each architecture and phase.
-#[cfg(feature = "riscv64")]
 fn decide_each<D: AsDecision>(
     context: &RelaxContext<'_>,
     kept: &[UnrelaxableGroups],
@@ -402,7 +394,6 @@ fn decide_each<D: AsDecision>(
 
 /// Decides what becomes of each relocation of a section and of its instruction, in the caller's
 /// memory. Nothing is rewritten. False if all stay as they are by their codes.
-#[cfg(feature = "riscv64")]
 pub(crate) fn decide_section<D: AsDecision>(
     context: &RelaxContext<'_>,
     kept: &[UnrelaxableGroups],

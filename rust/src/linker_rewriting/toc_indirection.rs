@@ -11,7 +11,6 @@ use crate::linker_rewriting::decisions::{AsDecision, Decision, RewritingError, S
 use crate::linker_rewriting::facts::{OutputFacts, RelaxContext, SymbolFacts, address_in, link_facts};
 use crate::linker_rewriting::phases::Phase;
 use crate::linker_rewriting::relocations::relocation_in;
-#[cfg(feature = "riscv64")]
 use crate::linker_rewriting::riscv_pcrel_groups::high_at;
 use crate::linker_rewriting::sections::make_all;
 use crate::linker_section::facts::{Addresses, Symbol};
@@ -95,7 +94,6 @@ fn word_offset(
 
 /// What a relocation loads: the code for an entry of the GOT, and the index of the word's
 /// relocation.
-#[cfg(feature = "riscv64")]
 fn load_of(
     context: &RelaxContext<'_>,
     start: u64,
@@ -172,7 +170,6 @@ pub(crate) fn keep_word(kept: &mut [bool], word: Option<usize>) {
 }
 
 /// The word that a relocation keeps, since it loads it and has no rewrite.
-#[cfg(feature = "riscv64")]
 #[inline(always)]
 fn keeping_word(
     context: &RelaxContext<'_>,
@@ -231,7 +228,6 @@ fn keeping_word(
 /// .unwrap();
 /// assert_eq!(kept, [true]);
 /// ```
-#[cfg(feature = "riscv64")]
 pub fn survey_toc_loads(
     architecture: Architecture,
     output: &OutputFacts,
@@ -281,7 +277,6 @@ pub(crate) fn subject_of(word: &Rela) -> Subject {
 }
 
 /// What becomes of a relocation. None if it loads a word that doesn't stay, but can't be rewritten.
-#[cfg(feature = "riscv64")]
 fn decide_load(
     context: &RelaxContext<'_>,
     start: u64,
@@ -316,7 +311,6 @@ fn decide_load(
 }
 
 /// The same as `decide_loads`, but relocations may be in the bytes of others.
-#[cfg(feature = "riscv64")]
 fn decide_each_load<D: AsDecision>(
     context: &RelaxContext<'_>,
     start: u64,
@@ -357,7 +351,6 @@ fn decide_each_load<D: AsDecision>(
 
 /// Decides what becomes of each relocation of a section and of its instruction, in the caller's
 /// memory. Nothing is rewritten.
-#[cfg(feature = "riscv64")]
 fn decide_loads<D: AsDecision>(
     context: &RelaxContext<'_>,
     start: u64,
@@ -411,7 +404,6 @@ fn decide_loads<D: AsDecision>(
 /// assert_eq!((relocations[8], relocations[12]), (50, 2));
 /// assert_eq!((relocations[32], relocations[36]), (48, 2));
 /// ```
-#[cfg(feature = "riscv64")]
 pub fn rewrite_toc_loads<D: AsDecision>(
     architecture: Architecture,
     output: &OutputFacts,
