@@ -364,6 +364,29 @@ fn variants(source: &str, name: &str) -> Numbers {
     lines.map(name_at).zip(0..).collect()
 }
 
+/// The number of each fate: what `IsWrittenAs` says of a decision.
+fn fates() -> Numbers {
+    let specs = repository("crates/linker_utils_c/specs/Rewriting.antt");
+    let (_, equations) = specs
+        .split_once("abbrev pub IsWrittenAs ")
+        .expect("its declaration");
+    let (equations, _) = equations.split_once("\n\n").expect("its end");
+    let of_decision = |equation: &str| {
+        let (pattern, says) = equation.split_once('=').expect("an equation");
+        let mut names = names_in(pattern);
+        let name = names.find(|word| word.starts_with(char::is_uppercase));
+        let (_, fate) = ["numbers.fate ≡ ", "of_fate "]
+            .iter()
+            .find_map(|word| says.split_once(word))
+            .expect("a fate");
+        let fate: String = fate.chars().take_while(char::is_ascii_digit).collect();
+        let name = name.expect("a name").to_string();
+        (name, fate.parse().expect("a number"))
+    };
+    let each = equations.split("\nIsWrittenAs ").skip(1);
+    each.map(of_decision).collect()
+}
+
 #[test]
 fn the_numbers_are_those_of_the_library() {
     let mut statuses = equations("linker_utils_c/specs/Status", "code");
@@ -430,10 +453,7 @@ fn the_numbers_are_those_of_the_library() {
         numbers(EntryClass::ALL, EntryClass::number),
         equations("linker_utils_c/specs/Sections", "class_number")
     );
-    assert_eq!(
-        numbers(Fate::ALL, Fate::number),
-        equations("linker_utils_c/specs/Rewriting", "fate_number")
-    );
+    assert_eq!(numbers(Fate::ALL, Fate::number), fates());
     assert_eq!(
         numbers(Phase::ALL, Phase::number),
         equations("linker_utils_c/specs/Rewriting", "phase_number")
