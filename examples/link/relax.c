@@ -64,7 +64,7 @@ static void leave_whole_items(struct section *s) {
     s->items_len = (uint32_t)(last - s->first_item);
 }
 
-/* Writes code anew: what becomes shorter, and without what it loses, with what stays of the gaps
+/* Writes code anew: what becomes shorter, and without what it loses, with what is left of the gaps
  * between its sections. Their relocations go to where their bytes are. */
 static void pack_output(struct output *o) {
     const struct run *run = o->run;

@@ -165,7 +165,7 @@ static bool choose(Context<E> &ctx, InputSection<E> &isec, std::span<ElfRel<E>> 
     facts.group_fits = true;
     facts.operands.addend = high.r_addend;
     if (has_addresses) {
-        // an instruction that stays has had the scan make an entry, so that all of the symbol stay
+        // where an instruction is kept the scan made an entry, so that all of the symbol are kept
         u64 entry = entry_of(ctx, sym, entry_class);
         facts.group_fits = !entry;
         facts.has_local_exec_base = has_local_exec_base(ctx);
@@ -373,7 +373,7 @@ void EhFrameSection<E>::apply_eh_reloc(Context<E> &ctx, InputSection<E> &isec,
 
 #if MOLD_RV64LE || MOLD_LOONGARCH64
 // Rewrites a section in the input file's private mapping, and notes which bytes go: mold copies the
-// others to the output. What is chosen here stays, also where more would reach afterwards.
+// others to the output. What is chosen here is kept, also where more would reach afterwards.
 template <>
 void shrink_section(Context<E> &ctx, InputSection<E> &isec) {
     std::span<ElfRel<E>> rels = isec.get_rels(ctx);

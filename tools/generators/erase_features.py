@@ -6,7 +6,7 @@ import textwrap
 # The words of an identifier that names an architecture, by the feature.
 WORDS = {"aarch64": "AArch64|AARCH64|aarch64", "loongarch64": "LoongArch|LARCH|LOONGARCH|loongarch",
          "ppc64": "Ppc64|PPC64|ppc64", "riscv64": "RiscV|RISCV|riscv", "x86_64": "X86_64|x86_64"}
-# What stays in each crate: kinds that stand in one arm with others, whose code would be there twice,
+# What each crate keeps: kinds that stand in one arm with others, whose code would be there twice,
 # and a module that a call of all architectures reads.
 SHARED = {"RelativeRiscVLow12", "PairSubtractionULEB128RiscV", "PairSubtractionULEB128LoongArch",
           "riscv_pcrel_groups"}
