@@ -1,5 +1,5 @@
 // SPDX-License-Identifier: MIT OR Apache-2.0
-// Made by tools/generate of crates/linker_aarch64/src/lib.rt.
+// Made by tools/generate of crates/linker_utils/src/aarch64.rt.
 //! AArch64: instruction forms, relaxation rewrites, and the moves that load a number of 64 bits.
 //!
 #![doc = include_str!("../doc/aarch64.md")]

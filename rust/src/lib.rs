@@ -201,18 +201,18 @@ pub mod placement {
     };
 }
 
-pub mod architecture;
-pub mod elf;
-pub mod relaxation;
-
 #[cfg(feature = "aarch64")]
 pub mod aarch64;
-pub use crate::linker_base::{bit_misc, utils};
+pub mod architecture;
+pub mod elf;
 #[cfg(feature = "loongarch64")]
 pub mod loongarch64;
 #[cfg(feature = "ppc64")]
 pub mod ppc64;
+pub mod relaxation;
 #[cfg(feature = "riscv64")]
 pub mod riscv64;
 #[cfg(feature = "x86_64")]
 pub mod x86_64;
+
+pub use crate::linker_base::{bit_misc, utils};

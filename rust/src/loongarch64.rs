@@ -1,5 +1,5 @@
 // SPDX-License-Identifier: MIT OR Apache-2.0
-// Made by tools/generate of crates/linker_loongarch64/src/lib.rt.
+// Made by tools/generate of crates/linker_utils/src/loongarch64.rt.
 //! LoongArch: instruction forms, relaxation rewrites, what relocations mean, and addresses made by
 //! five instructions.
 //!

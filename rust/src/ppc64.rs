@@ -1,5 +1,5 @@
 // SPDX-License-Identifier: MIT OR Apache-2.0
-// Made by tools/generate of crates/linker_ppc64/src/lib.rt.
+// Made by tools/generate of crates/linker_utils/src/ppc64.rt.
 //! PowerPC64: instruction forms, what relocations mean, rewrites and their choice, and addresses in
 //! two halves.
 //!

@@ -1,5 +1,5 @@
 // SPDX-License-Identifier: MIT OR Apache-2.0
-// Made by tools/generate of crates/linker_riscv64/src/lib.rt.
+// Made by tools/generate of crates/linker_utils/src/riscv64.rt.
 //! RISC-V: instruction forms, fields of instructions, relaxation rewrites, what relocations mean,
 //! and calls that become jumps.
 //!

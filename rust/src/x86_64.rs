@@ -1,5 +1,5 @@
 // SPDX-License-Identifier: MIT OR Apache-2.0
-// Made by tools/generate of crates/linker_x86_64/src/lib.rt.
+// Made by tools/generate of crates/linker_utils/src/x86_64.rt.
 //! x86-64: relaxation rewrites, and what relocations mean.
 //!
 #![doc = include_str!("../doc/x86_64.md")]

@@ -428,7 +428,6 @@ LEFT_OUT = {"linkfix/src/sections.rt", "linkfix/src/tests.rt", "linker_output/sr
 ARCHITECTURES = ["aarch64", "loongarch64", "ppc64", "riscv64", "x86_64"]
 # The crates of the library that are a module here, and paths of crates here.
 MODULES = {"linker_base": "linker_base", "linker_elf": "linker_elf"}
-MODULES |= {f"linker_{name}": name for name in ARCHITECTURES}
 MODULES |= {f"linker_{name}": f"linker_{name}" for name in ("runs", "reading", "section", "rewriting", "output")}
 PATHS = {crate: f"crate::{module}" for crate, module in MODULES.items()} | {"linker_utils": "crate"}
 # Each crate of the source: its folder and root here, and its paths that move. What its root begins with
@@ -493,7 +492,8 @@ def make():
                         erased = erased if is_there else re.sub(
                             rf"(#\[.*\]\n)*(pub )?mod {Path(it).stem};\n", "", erased)
             if is_library and name != root:
-                for of in (Path(name).stem, Path(root).stem):
+                above = Path(name).parent if crate == "linker_utils" else Path(root)
+                for of in (Path(name).stem, above.stem):
                     erased = add_pages(erased, ROOT / "rust/doc" / of, pages)
             docs = re.match(r"(//!.*\n)*", erased)[0]
             module = Path(root).stem if name == root else name.removeprefix(folder + "/").removesuffix(".rs")

@@ -1,9 +1,9 @@
 -- Rewritten sequences of TLS descriptors of AArch64 do what the object's do, and in the final bytes.
 use Rattle.std.proofs.Common.{◌≡◌, ℕ, ◌+◌, ◌≤◌, List, [], length, refl, sym, ap, subst, ◌∙◌, inl, inr, arith, true, Some, None, cond}
 use Rattle.std.specs.Prelude.{slice_get}
-use Rattle.linker_aarch64.specs.AArch64Rewrites.{aarch64_entries, to_initial_exec, to_local_exec, aarch64_rewrite, rewrites_where}
-use Rattle.linker_aarch64.specs.declared.rewrites.RelaxationKind.{RelaxationKind}
-use Rattle.linker_aarch64.specs.declared.rewrites.RelaxationKind.TheVariants as kinds
+use Rattle.linker_utils.specs.AArch64Rewrites.{aarch64_entries, to_initial_exec, to_local_exec, aarch64_rewrite, rewrites_where}
+use Rattle.linker_utils.specs.declared.aarch64.rewrites.RelaxationKind.{RelaxationKind}
+use Rattle.linker_utils.specs.declared.aarch64.rewrites.RelaxationKind.TheVariants as kinds
 use Rattle.linker_elf.specs.AArch64Relocations.{aarch64_name, insn_row}
 use Rattle.linker_elf.specs.Choices.{entry}
 use Rattle.linker_elf.specs.Rows.{aligned_row, entry_pages, paged_row, signed_row}

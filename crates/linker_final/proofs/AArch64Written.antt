@@ -1,9 +1,9 @@
 -- Instructions of AArch64 and their relocations in the final bytes of a section.
 use Rattle.std.proofs.Common.{◌≡◌, ℕ, ℤ, ◌+◌, ◌<◌, ◌≤◌, List, length, sym, ap, subst, ◌∙◌, refl, arith, Some, Ok, Bool, true, IsSomeAnd}
 use Rattle.std.specs.Prelude.{slice_get}
-use Rattle.linker_aarch64.specs.AArch64Rewrites.{AArch64Entry, aarch64_rewrite, nop, rewrites_where}
-use Rattle.linker_aarch64.specs.declared.rewrites.RelaxationKind.TheVariants as kinds
-use Rattle.linker_aarch64.specs.declared.rewrites.RelaxationKind.{RelaxationKind}
+use Rattle.linker_utils.specs.AArch64Rewrites.{AArch64Entry, aarch64_rewrite, nop, rewrites_where}
+use Rattle.linker_utils.specs.declared.aarch64.rewrites.RelaxationKind.TheVariants as kinds
+use Rattle.linker_utils.specs.declared.aarch64.rewrites.RelaxationKind.{RelaxationKind}
 use Rattle.linker_base.specs.Rewrite.{addend_after, offset_after}
 use Rattle.linker_elf.specs.AArch64Relocations.{aarch64_name, aarch64_row}
 use Rattle.linker_elf.specs.Applied.{IsApplied}

@@ -20,8 +20,8 @@ use Rattle.linker_final.proofs.Written.{are_rewritten, word_same}
 use Rattle.linker_final.specs.Final.{AreRewritten, UntouchedInstruction, Linked, IsLinked, count, instruction_at}
 use Rattle.linker_final.specs.LoongArchFinal.{Anywhere, HighDoesTheSame, HighHalves, HighHalvesAnywhere, InPlace, LowDoesTheSame, LowHalves, LowHalvesAnywhere, LowParts, MovedLowParts, named_as}
 use Rattle.linker_laws.specs.LoongArchRewriteLaws.{HighHalfToLu12i, Laws, word_of}
-use Rattle.linker_loongarch64.specs.LoongArchRewrites.{IsLd, IsPcalau12i, adds_low12, by_low_part, rd_of, rj_of, to_local_exec, tp}
-use Rattle.linker_loongarch64.specs.declared.rewrites.RelaxationKind.TheVariants as kinds
+use Rattle.linker_utils.specs.LoongArchRewrites.{IsLd, IsPcalau12i, adds_low12, by_low_part, rd_of, rj_of, to_local_exec, tp}
+use Rattle.linker_utils.specs.declared.loongarch64.rewrites.RelaxationKind.TheVariants as kinds
 use Rattle.linker_rewriting.specs.Decisions.{decision_at}
 use Rattle.linker_rewriting.specs.declared.decisions.Decision.TheVariants.{Rewritten}
 use Rattle.linker_section.specs.Relocations.{relocation_in}

@@ -10,9 +10,9 @@ use Rattle.linker_final.proofs.Chosen.{IsChosen, chosen_at}
 use Rattle.linker_final.proofs.PreLayout.{AreEarly, IsListed, are_early, listed_at}
 use Rattle.linker_final.proofs.Entries.{IsOfEntry, IsOfOne, of_one}
 use Rattle.linker_final.specs.Final.{Linked, count}
-use Rattle.linker_loongarch64.specs.LoongArchRewrites.{HasPattern, LoongArchApplies, LoongArchEntry, loongarch_entries}
-use Rattle.linker_loongarch64.specs.declared.rewrites.RelaxationKind.{RelaxationKind}
-use Rattle.linker_loongarch64.specs.declared.rewrites.RelaxationKind.TheVariants as kinds
+use Rattle.linker_utils.specs.LoongArchRewrites.{HasPattern, LoongArchApplies, LoongArchEntry, loongarch_entries}
+use Rattle.linker_utils.specs.declared.loongarch64.rewrites.RelaxationKind.{RelaxationKind}
+use Rattle.linker_utils.specs.declared.loongarch64.rewrites.RelaxationKind.TheVariants as kinds
 use Rattle.linker_rewriting.specs.Decisions.{AreDecidedIn, decision_at}
 use Rattle.linker_rewriting.specs.Groups.{IsScopeIn, loongarch_scope, loongarch_scope_in}
 use Rattle.linker_rewriting.specs.RiscVPcrelGroups.{is_labelled}

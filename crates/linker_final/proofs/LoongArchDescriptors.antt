@@ -24,8 +24,8 @@ use Rattle.linker_final.proofs.Written.{are_rewritten, word_same}
 use Rattle.linker_final.specs.Final.{UntouchedInstruction, Linked, IsLinked, count, instruction_at}
 use Rattle.linker_final.specs.LoongArchFinal.{Anywhere, AnywhereUnchanged, AnywhereUnwritten, CallDoesNothing, Descriptors, DescriptorsAnywhere, EachAnywhere, HasOffsetEntry, HighDoesTheSame, InPlaceByEntry, InPlaceUnwritten, IsAny, IsKind, LoadDoesNothing, LowLoadsOffset, LowMakesOffset, PageDoesTheSame, named_as, with_entry}
 use Rattle.linker_laws.specs.LoongArchRewriteLaws.{IsRelocated, Laws, word_of}
-use Rattle.linker_loongarch64.specs.LoongArchRewrites.{IsCallOfDescriptor, IsLoadOfDescriptor, IsLowOfDescriptor, IsPageOfDescriptor, page_to_initial_exec, to_initial_exec, to_local_exec}
-use Rattle.linker_loongarch64.specs.declared.rewrites.RelaxationKind.TheVariants as kinds
+use Rattle.linker_utils.specs.LoongArchRewrites.{IsCallOfDescriptor, IsLoadOfDescriptor, IsLowOfDescriptor, IsPageOfDescriptor, page_to_initial_exec, to_initial_exec, to_local_exec}
+use Rattle.linker_utils.specs.declared.loongarch64.rewrites.RelaxationKind.TheVariants as kinds
 use Rattle.linker_rewriting.specs.declared.decisions.Decision.TheVariants.{Rewritten}
 use Rattle.linker_section.specs.Relocations.{relocation_in}
 use Rattle.linker_section.specs.Values.{operands_by, operands_in, operands_with}

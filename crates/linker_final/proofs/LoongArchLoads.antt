@@ -22,8 +22,8 @@ use Rattle.linker_final.proofs.Written.{are_rewritten, rela, stays, with_operand
 use Rattle.linker_final.specs.Final.{UntouchedInstructions, Linked, IsLinked, IsRewrittenByNoOther, instruction_at}
 use Rattle.linker_final.specs.LoongArchFinal.{GotLoads, LoadsTheSame}
 use Rattle.linker_laws.specs.LoongArchRewriteLaws.{IsPair, IsRewritten, Laws, following, word_of}
-use Rattle.linker_loongarch64.specs.LoongArchRewrites.{AreOfOneRegister, IsLd, bound_by_pages}
-use Rattle.linker_loongarch64.specs.declared.rewrites.RelaxationKind.TheVariants as kinds
+use Rattle.linker_utils.specs.LoongArchRewrites.{AreOfOneRegister, IsLd, bound_by_pages}
+use Rattle.linker_utils.specs.declared.loongarch64.rewrites.RelaxationKind.TheVariants as kinds
 use Rattle.linker_rewriting.specs.Facts.{RelaxContext}
 use Rattle.linker_section.specs.Relocations.{relocation_in}
 use Rattle.linker_section.specs.Values.{operands_with}

@@ -25,7 +25,7 @@ use Rattle.linker_laws.specs.LoongArchMachine.{State}
 use Rattle.linker_laws.specs.LoongArchRelocationLaws as relocation_laws
 use Rattle.linker_laws.specs.LoongArchRewriteLaws.{Fits32, following, pair}
 use Rattle.linker_laws.specs.Schemes.{AreAddresses, plt_address, symbol_address}
-use Rattle.linker_loongarch64.specs.LoongArchRewrites.{rd_of, word_at}
+use Rattle.linker_utils.specs.LoongArchRewrites.{rd_of, word_at}
 use Rattle.linker_runs.specs.LoongArchSites.{destination}
 use Rattle.linker_runs.specs.declared.packing.Machine.TheVariants.{LoongArch64}
 use Rattle.linker_section.specs.Relocations.{relocation_in}

@@ -19,9 +19,9 @@ use Rattle.linker_final.proofs.Written.{IsRowOf, applied_after, are_rewritten, b
 use Rattle.linker_final.specs.Final.{AreRewritten, UntouchedInstruction, Linked, IsLinked, IsWrittenByNoOther, count, instruction_at}
 use Rattle.linker_final.specs.LoongArchFinal.{named_as}
 use Rattle.linker_laws.specs.LoongArchRewriteLaws.{BeginsRewritten, IsRelocated, IsRewritten}
-use Rattle.linker_loongarch64.specs.LoongArchRewrites.{loongarch_rewrite, rewrites_word}
-use Rattle.linker_loongarch64.specs.declared.rewrites.RelaxationKind.{RelaxationKind}
-use Rattle.linker_loongarch64.specs.declared.rewrites.RelaxationKind.TheVariants as kinds
+use Rattle.linker_utils.specs.LoongArchRewrites.{loongarch_rewrite, rewrites_word}
+use Rattle.linker_utils.specs.declared.loongarch64.rewrites.RelaxationKind.{RelaxationKind}
+use Rattle.linker_utils.specs.declared.loongarch64.rewrites.RelaxationKind.TheVariants as kinds
 use Rattle.linker_rewriting.specs.Decisions.{decision_at}
 use Rattle.linker_rewriting.specs.Rewritten.{AreDone, IsDone, IsMade, relocation_after}
 use Rattle.linker_rewriting.specs.declared.decisions.Decision.TheVariants.{Rewritten}

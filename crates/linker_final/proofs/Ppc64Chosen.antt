@@ -9,9 +9,9 @@ use Rattle.linker_elf.specs.declared.ppc64.relocations.Ppc64Relocation.TheVarian
 use Rattle.linker_final.proofs.Chosen.{chosen_at}
 use Rattle.linker_final.proofs.Entries.{IsOfEntry as IsOfEntryIn, IsOfOne as IsOfOneIn, of_entry as of_entry_in, of_one as of_one_in}
 use Rattle.linker_final.specs.Final.{AreRewritten, Linked, count}
-use Rattle.linker_ppc64.specs.Ppc64Rewrites.{Ppc64Applies, ppc64_entries, ppc64_matches}
-use Rattle.linker_ppc64.specs.declared.rewrites.RelaxationKind.{RelaxationKind}
-use Rattle.linker_ppc64.specs.declared.rewrites.RelaxationKind.TheVariants as kinds
+use Rattle.linker_utils.specs.Ppc64Rewrites.{Ppc64Applies, ppc64_entries, ppc64_matches}
+use Rattle.linker_utils.specs.declared.ppc64.rewrites.RelaxationKind.{RelaxationKind}
+use Rattle.linker_utils.specs.declared.ppc64.rewrites.RelaxationKind.TheVariants as kinds
 use Rattle.linker_rewriting.specs.Decisions.{decision_at}
 use Rattle.linker_rewriting.specs.Groups.{IsScopeIn, ppc64_scope, ppc64_scope_in}
 use Rattle.linker_rewriting.specs.RiscVPcrelGroups.{is_labelled}

@@ -21,9 +21,9 @@ use Rattle.linker_final.specs.Ppc64Final.{NopIsAlike, OverBaseIsAlike, ThreadHal
 use Rattle.linker_laws.specs.Ppc64RewriteLaws.{IsRelocated, Laws, Leads, LowHalfLeads, OverBase, ToNop, Use, VectorOverBase, at_place, with_entry}
 use Rattle.linker_laws.specs.Ppc64RewriteLaws.{accesses, adds, ds_access, from_thread, from_toc, is_d_over, is_ds_over_base}
 use Rattle.linker_laws.specs.Schemes.{AreAddresses}
-use Rattle.linker_ppc64.specs.Ppc64Rewrites.{HasTest, is_addi, is_addis_over, nop, over_base, ppc64_rewrite, rewrites_word, without_high_offset, without_high_part}
-use Rattle.linker_ppc64.specs.declared.rewrites.RelaxationKind.{RelaxationKind}
-use Rattle.linker_ppc64.specs.declared.rewrites.RelaxationKind.TheVariants as kinds
+use Rattle.linker_utils.specs.Ppc64Rewrites.{HasTest, is_addi, is_addis_over, nop, over_base, ppc64_rewrite, rewrites_word, without_high_offset, without_high_part}
+use Rattle.linker_utils.specs.declared.ppc64.rewrites.RelaxationKind.{RelaxationKind}
+use Rattle.linker_utils.specs.declared.ppc64.rewrites.RelaxationKind.TheVariants as kinds
 use Rattle.linker_rewriting.specs.Decisions.{decision_at}
 use Rattle.linker_rewriting.specs.declared.decisions.Decision.TheVariants.{Rewritten}
 use Rattle.linker_section.specs.Relocations.{relocation_in}

@@ -16,9 +16,9 @@ use Rattle.linker_final.specs.Ppc64Anywhere.{Becomes, EachAnywhere, Goes, IsCall
 use Rattle.linker_final.specs.Ppc64Final.{EachRewritten, ForOperands, IfAlone, IfAloneAfter, IfUntouchedCall, IsCallBy, LeavesEntry, NearArguments, NearIsAlike, NearToInitialExec, NearToLocalExec, NearToModule, final, object, offset_of}
 use Rattle.linker_laws.specs.Ppc64Machine.{State}
 use Rattle.linker_laws.specs.Ppc64RewriteLaws.{CallLeaves, IsRelocated, Laws, Leaves, at_place, from_thread, one, only, two, with_entry, word_of}
-use Rattle.linker_ppc64.specs.Ppc64Rewrites.{addis_of_thread, is_addi, ppc64_entries, registers_of, rewrites_call, rewrites_word, rt_of, to_initial_exec, to_local_exec, to_module, to_near_initial_exec}
-use Rattle.linker_ppc64.specs.declared.rewrites.RelaxationKind.{RelaxationKind}
-use Rattle.linker_ppc64.specs.declared.rewrites.RelaxationKind.TheVariants as kinds
+use Rattle.linker_utils.specs.Ppc64Rewrites.{addis_of_thread, is_addi, ppc64_entries, registers_of, rewrites_call, rewrites_word, rt_of, to_initial_exec, to_local_exec, to_module, to_near_initial_exec}
+use Rattle.linker_utils.specs.declared.ppc64.rewrites.RelaxationKind.{RelaxationKind}
+use Rattle.linker_utils.specs.declared.ppc64.rewrites.RelaxationKind.TheVariants as kinds
 use Rattle.linker_rewriting.specs.Decisions.{decision_at}
 use Rattle.linker_rewriting.specs.declared.decisions.Decision.TheVariants.{Rewritten}
 use Rattle.linker_section.specs.Relocations.{relocation_in}

@@ -22,9 +22,9 @@ use Rattle.linker_laws.specs.Ppc64Machine.{access_with, word_access_with}
 use Rattle.linker_laws.specs.Ppc64RewriteLaws.{OverVariable, indexed_access}
 use Rattle.linker_laws.specs.Ppc64RewriteLaws.{IsRelocated, IsRewritten, Laws, Leads, OverOffset, Use, accesses, adds, at_place, entry_from_toc, with_entry, word_of}
 use Rattle.linker_laws.specs.Schemes.{AreAddresses}
-use Rattle.linker_ppc64.specs.Ppc64Rewrites.{HasTest, access_of, addis_of_thread, by_displacement, by_word_displacement, direct, is_add_of_thread, is_indexed, is_indexed_any, is_indexed_word, is_ld, ppc64_rewrite, registers_of, rewrites_marked, rewrites_word, rt_of, to_local_exec, to_local_exec_words, to_move, to_prefixed_local_exec}
-use Rattle.linker_ppc64.specs.declared.rewrites.RelaxationKind.{RelaxationKind}
-use Rattle.linker_ppc64.specs.declared.rewrites.RelaxationKind.TheVariants as kinds
+use Rattle.linker_utils.specs.Ppc64Rewrites.{HasTest, access_of, addis_of_thread, by_displacement, by_word_displacement, direct, is_add_of_thread, is_indexed, is_indexed_any, is_indexed_word, is_ld, ppc64_rewrite, registers_of, rewrites_marked, rewrites_word, rt_of, to_local_exec, to_local_exec_words, to_move, to_prefixed_local_exec}
+use Rattle.linker_utils.specs.declared.ppc64.rewrites.RelaxationKind.{RelaxationKind}
+use Rattle.linker_utils.specs.declared.ppc64.rewrites.RelaxationKind.TheVariants as kinds
 use Rattle.linker_rewriting.specs.Decisions.{decision_at}
 use Rattle.linker_rewriting.specs.declared.decisions.Decision.TheVariants.{Rewritten}
 use Rattle.linker_section.specs.Relocations.{relocation_in}

@@ -25,8 +25,8 @@ use Rattle.linker_laws.specs.Ppc64Machine.{State}
 use Rattle.linker_laws.specs.Ppc64RewriteLaws.{IsPrefixed, Laws}
 use Rattle.linker_laws.specs.Ppc64RewriteLaws.{IsRewritten, with_entry, word_of}
 use Rattle.linker_laws.specs.Schemes.{AreAddresses}
-use Rattle.linker_ppc64.specs.Ppc64Rewrites.{HasTwo, is_pla, is_pld, paddi_of_thread, pld, to_module, to_prefixed_initial_exec, to_prefixed_local_exec}
-use Rattle.linker_ppc64.specs.declared.rewrites.RelaxationKind.TheVariants as kinds
+use Rattle.linker_utils.specs.Ppc64Rewrites.{HasTwo, is_pla, is_pld, paddi_of_thread, pld, to_module, to_prefixed_initial_exec, to_prefixed_local_exec}
+use Rattle.linker_utils.specs.declared.ppc64.rewrites.RelaxationKind.TheVariants as kinds
 use Rattle.linker_rewriting.specs.Decisions.{decision_at}
 use Rattle.linker_rewriting.specs.declared.decisions.Decision.TheVariants.{Rewritten}
 use Rattle.linker_section.specs.Relocations.{relocation_in}

@@ -29,10 +29,10 @@ use Rattle.linker_laws.proofs.AArch64Pairs.{word_is, word_made}
 use Rattle.linker_laws.proofs.Ppc64Words.{step_nop}
 use Rattle.linker_laws.specs.Ppc64Machine.{AreAlikeBut, Formats, State, access_with, go_on, step, Access, loads, loads_signed, stores, word_access_with}
 use Rattle.linker_laws.specs.Ppc64RewriteLaws.{AgreeBut, Changes, HasOffset, IsRelocated, Laws, Leads, Leaves, LowHalfLeads, ReadsSame, StepSo, Use, access_number, accesses, adds, after_access, at_place, from_thread, from_toc, is_d_over, is_d_over_base, one, only, thread_offset, with_entry, with_register, without_register, word_of, ds_access, is_ds_over_base}
-use Rattle.linker_ppc64.specs.Ppc64Rewrites.{access_of, addis_of_thread, by_displacement, is_access, is_add_of_thread, is_addi, is_indexed, is_ld, is_over_thread, is_store, nop, opcode_of, ppc64_rewrite, ra_of, registers_of, rewrites_word, rt_of, to_local_exec, to_toc_distance, without_high_offset, without_high_part, by_word_displacement, is_ds_access, is_indexed_word, is_word_access}
+use Rattle.linker_utils.specs.Ppc64Rewrites.{access_of, addis_of_thread, by_displacement, is_access, is_add_of_thread, is_addi, is_indexed, is_ld, is_over_thread, is_store, nop, opcode_of, ppc64_rewrite, ra_of, registers_of, rewrites_word, rt_of, to_local_exec, to_toc_distance, without_high_offset, without_high_part, by_word_displacement, is_ds_access, is_indexed_word, is_word_access}
 use Rattle.linker_laws.specs.Schemes.{AreAddresses}
-use Rattle.linker_ppc64.specs.declared.rewrites.RelaxationKind.{RelaxationKind}
-use Rattle.linker_ppc64.specs.declared.rewrites.RelaxationKind.TheVariants as kinds
+use Rattle.linker_utils.specs.declared.ppc64.rewrites.RelaxationKind.{RelaxationKind}
+use Rattle.linker_utils.specs.declared.ppc64.rewrites.RelaxationKind.TheVariants as kinds
 use Rattle.linker_section.specs.Needed.{entry_of}
 use Rattle.linker_section.specs.Relocations.{relocation_in}
 use Rattle.linker_section.specs.Values.{entry_address, operands_by, operands_with}

@@ -9,9 +9,9 @@ use Rattle.linker_elf.specs.declared.riscv64.relocations.RiscVRelocation.{RiscVR
 use Rattle.linker_final.proofs.Chosen.{choice_of, chosen_or_labelled}
 use Rattle.linker_final.proofs.Entries.{IsOfApplied, of_first}
 use Rattle.linker_final.specs.Final.{AreRewritten, Linked, count}
-use Rattle.linker_riscv64.specs.RiscVRewrites.{AppliesToRiscV, HasPattern, IsRiscVChoice, RiscVEntry, riscv_entries}
-use Rattle.linker_riscv64.specs.declared.rewrites.RelaxationKind.{RelaxationKind}
-use Rattle.linker_riscv64.specs.declared.rewrites.RelaxationKind.TheVariants as kinds
+use Rattle.linker_utils.specs.RiscVRewrites.{AppliesToRiscV, HasPattern, IsRiscVChoice, RiscVEntry, riscv_entries}
+use Rattle.linker_utils.specs.declared.riscv64.rewrites.RelaxationKind.{RelaxationKind}
+use Rattle.linker_utils.specs.declared.riscv64.rewrites.RelaxationKind.TheVariants as kinds
 use Rattle.linker_rewriting.specs.Candidates.{IsCandidateWith}
 use Rattle.linker_rewriting.specs.Decisions.{IsLabelDecision, decision_at, label_decision}
 use Rattle.linker_rewriting.specs.Facts.{RelaxContext}

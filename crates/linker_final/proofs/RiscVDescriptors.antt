@@ -26,9 +26,9 @@ use Rattle.linker_final.specs.Final.{AreBytes, AreRewritten, UntouchedInstructio
 use Rattle.linker_final.specs.RiscVFinal.{Descriptors, DescriptorsAnywhere, IsOfDescriptor, OffsetIsTheSameAnywhere, ShortDescriptors, ShortDescriptorsAnywhere, ShortOffsetIsTheSameAnywhere, named_as}
 use Rattle.linker_laws.specs.Machine.{Relocated}
 use Rattle.linker_laws.specs.RiscVRewriteLaws.{Laws, after_rewrite}
-use Rattle.linker_riscv64.specs.RiscVRewrites.{riscv_entries, riscv_rewrite, rewrites_word}
-use Rattle.linker_riscv64.specs.declared.rewrites.RelaxationKind.{RelaxationKind}
-use Rattle.linker_riscv64.specs.declared.rewrites.RelaxationKind.TheVariants as kinds
+use Rattle.linker_utils.specs.RiscVRewrites.{riscv_entries, riscv_rewrite, rewrites_word}
+use Rattle.linker_utils.specs.declared.riscv64.rewrites.RelaxationKind.{RelaxationKind}
+use Rattle.linker_utils.specs.declared.riscv64.rewrites.RelaxationKind.TheVariants as kinds
 use Rattle.linker_rewriting.specs.Rewritten.{IsMade}
 use Rattle.linker_rewriting.specs.declared.decisions.Decision.TheVariants.{RewrittenWithSymbol}
 use Rattle.linker_rewriting.specs.declared.decisions.Subject.{Subject}

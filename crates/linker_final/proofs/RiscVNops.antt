@@ -21,8 +21,8 @@ use Rattle.linker_final.specs.RiscVJoined.{PackedNops, PackedNopsOf}
 use Rattle.linker_laws.specs.RiscVMachine.{Hart}
 use Rattle.linker_laws.specs.RiscVRewriteLaws.{AreAlike, EndSo, HaveGoneOn, Laws, after_rewrite}
 use Rattle.linker_elf.specs.Value.{sum_64}
-use Rattle.linker_riscv64.specs.RiscVRewrites.{riscv_entries}
-use Rattle.linker_riscv64.specs.declared.rewrites.RelaxationKind.TheVariants as kinds
+use Rattle.linker_utils.specs.RiscVRewrites.{riscv_entries}
+use Rattle.linker_utils.specs.declared.riscv64.rewrites.RelaxationKind.TheVariants as kinds
 use Rattle.linker_rewriting.specs.Decisions.{decision_at}
 use Rattle.linker_rewriting.specs.Rewritten.{IsMade}
 use Rattle.linker_rewriting.specs.declared.decisions.Decision.TheVariants.{RewrittenWithSymbol}

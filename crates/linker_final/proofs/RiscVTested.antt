@@ -20,9 +20,9 @@ use Rattle.linker_final.proofs.Entries.{IsOfApplied, of_first}
 use Rattle.linker_final.specs.Final.{count}
 use Rattle.linker_final.specs.RiscVFinal.{OffsetsAreLow, OffsetsAreLowOf}
 use Rattle.linker_laws.specs.RiscVRewriteLaws.{IsLowOffset}
-use Rattle.linker_riscv64.specs.RiscVRewrites.{AppliesToRiscV, HasPattern, IsRiscVChoice, by_low_offset, riscv_entries}
-use Rattle.linker_riscv64.specs.declared.rewrites.RelaxationKind.{RelaxationKind}
-use Rattle.linker_riscv64.specs.declared.rewrites.RelaxationKind.TheVariants as kinds
+use Rattle.linker_utils.specs.RiscVRewrites.{AppliesToRiscV, HasPattern, IsRiscVChoice, by_low_offset, riscv_entries}
+use Rattle.linker_utils.specs.declared.riscv64.rewrites.RelaxationKind.{RelaxationKind}
+use Rattle.linker_utils.specs.declared.riscv64.rewrites.RelaxationKind.TheVariants as kinds
 use Rattle.linker_rewriting.specs.Facts.{RelaxContext, address_in, facts_at, facts_by, facts_with}
 use Rattle.linker_rewriting.specs.Groups.{IsScopeIn, riscv_scope_in}
 use Rattle.linker_rewriting.specs.RiscVPcrelGroups.{is_labelled}

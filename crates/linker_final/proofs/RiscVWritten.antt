@@ -24,8 +24,8 @@ use Rattle.linker_rewriting.specs.Rewritten.{IsDone, IsMade, relocation_after}
 use Rattle.linker_rewriting.specs.declared.decisions.Decision.{Decision}
 use Rattle.linker_rewriting.specs.declared.decisions.Decision.TheVariants.{RewrittenWithSymbol, Rewritten}
 use Rattle.linker_rewriting.specs.declared.decisions.Subject.{Subject}
-use Rattle.linker_riscv64.specs.RiscVRewrites.{rewrites_word, riscv_rewrite}
-use Rattle.linker_riscv64.specs.declared.rewrites.RelaxationKind.{RelaxationKind}
+use Rattle.linker_utils.specs.RiscVRewrites.{rewrites_word, riscv_rewrite}
+use Rattle.linker_utils.specs.declared.riscv64.rewrites.RelaxationKind.{RelaxationKind}
 use Rattle.linker_section.specs.Needed.{entry_of}
 use Rattle.linker_section.specs.Relocations.{relocation_in}
 use Rattle.linker_section.specs.Sections.{IsRowValue}

@@ -17,9 +17,9 @@ use Rattle.linker_utils.specs.Architectures.{IsArchitectureChoice, relaxation_no
 use Rattle.linker_utils.specs.declared.architecture.Relaxation.{Relaxation}
 use Rattle.linker_utils.specs.declared.architecture.Relaxation.TheVariants as relaxations
 use Rattle.linker_utils.specs.declared.elf.Architecture.TheVariants.{X86_64}
-use Rattle.linker_x86_64.specs.X86Rewrites.{HasPattern, IsX86Choice, Original, Table, X86Entry, opcode_at, x86_64_after, x86_64_table}
-use Rattle.linker_x86_64.specs.declared.rewrites.RelaxationKind.{RelaxationKind}
-use Rattle.linker_x86_64.specs.declared.rewrites.RelaxationKind.TheVariants as kinds
+use Rattle.linker_utils.specs.X86Rewrites.{HasPattern, IsX86Choice, Original, Table, X86Entry, opcode_at, x86_64_after, x86_64_table}
+use Rattle.linker_utils.specs.declared.x86_64.rewrites.RelaxationKind.{RelaxationKind}
+use Rattle.linker_utils.specs.declared.x86_64.rewrites.RelaxationKind.TheVariants as kinds
 
 -- It is that of an entry, for a relocation with an addend.
 pub record IsOfEntry (pattern : List Original) (e : X86Entry) (section : List ℕ) (o : ℕ) (addend : ℤ)

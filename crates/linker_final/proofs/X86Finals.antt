@@ -32,9 +32,9 @@ use Rattle.linker_section.specs.declared.relocations.Rela.{Rela}
 use Rattle.linker_utils.specs.Architectures.{IsRow}
 use Rattle.linker_utils.specs.declared.architecture.Relaxation.{Relaxation}
 use Rattle.linker_utils.specs.declared.elf.Architecture.TheVariants.{X86_64}
-use Rattle.linker_x86_64.specs.X86RelocationsAfter.{x86_64_relocation_after}
-use Rattle.linker_x86_64.specs.X86Rewrites.{x86_64_rewrite, x86_64_originals}
-use Rattle.linker_x86_64.specs.declared.rewrites.RelaxationKind.{RelaxationKind}
+use Rattle.linker_utils.specs.X86RelocationsAfter.{x86_64_relocation_after}
+use Rattle.linker_utils.specs.X86Rewrites.{x86_64_rewrite, x86_64_originals}
+use Rattle.linker_utils.specs.declared.x86_64.rewrites.RelaxationKind.{RelaxationKind}
 
 pub some_and : {A : Type 0} (P : A → Type 0) (q : Option A) (x : A) → q ≡ Some x → IsSomeAnd q P → P x
 some_and {A} P q x is h = subst (λ z. IsSomeAnd z P) is h

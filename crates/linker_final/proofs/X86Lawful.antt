@@ -16,11 +16,11 @@ use Rattle.linker_final.specs.X86Final.{GotOperand, got_operand}
 use Rattle.linker_laws.specs.X86RewriteLaws.{DoesTheSame, Laws, address, thread_offset}
 use Rattle.linker_utils.specs.declared.architecture.Relaxation.{Relaxation}
 use Rattle.linker_utils.specs.declared.architecture.Relaxation.TheVariants as relaxations
-use Rattle.linker_x86_64.specs.X86RelocationsAfter.{x86_64_relocation_after, immediate_of}
-use Rattle.linker_x86_64.specs.X86Rewrites as x86
-use Rattle.linker_x86_64.specs.X86Rewrites.{Original, is_one_at, legacy, x86_64_matches, opcode_at, x86_64_originals, x86_64_rewrite, x86_64_after, x86_64_table, HasPattern, X86Entry, Table}
-use Rattle.linker_x86_64.specs.declared.rewrites.RelaxationKind.{RelaxationKind}
-use Rattle.linker_x86_64.specs.declared.rewrites.RelaxationKind.TheVariants as kinds
+use Rattle.linker_utils.specs.X86RelocationsAfter.{x86_64_relocation_after, immediate_of}
+use Rattle.linker_utils.specs.X86Rewrites as x86
+use Rattle.linker_utils.specs.X86Rewrites.{Original, is_one_at, legacy, x86_64_matches, opcode_at, x86_64_originals, x86_64_rewrite, x86_64_after, x86_64_table, HasPattern, X86Entry, Table}
+use Rattle.linker_utils.specs.declared.x86_64.rewrites.RelaxationKind.{RelaxationKind}
+use Rattle.linker_utils.specs.declared.x86_64.rewrites.RelaxationKind.TheVariants as kinds
 
 -- ---- the shape of a rewrite
 

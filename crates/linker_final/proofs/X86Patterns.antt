@@ -4,7 +4,7 @@ use Rattle.std.proofs.lemmas.Bool.{and_parts, leb-true}
 use Rattle.std.proofs.lemmas.List.{length-drop, get_or-drop}
 use Rattle.std.specs.Prelude.{bit_and}
 use Rattle.linker_final.proofs.X86Lawful.{AreOf, HasShape, HaveShape}
-use Rattle.linker_x86_64.specs.X86Rewrites.{Original, is_one_at, is_at, begins}
+use Rattle.linker_utils.specs.X86Rewrites.{Original, is_one_at, is_at, begins}
 
 both : (a b : Bool) → a ≡ true → b ≡ true → (a && b) ≡ true
 both true b is too = too

@@ -36,9 +36,9 @@ use Rattle.linker_utils.specs.Architectures.{relaxation_skipped}
 use Rattle.linker_utils.specs.declared.architecture.Relaxation.{Relaxation}
 use Rattle.linker_utils.specs.declared.architecture.Relaxation.TheVariants as relaxations
 use Rattle.linker_utils.specs.declared.elf.Architecture.TheVariants.{X86_64}
-use Rattle.linker_x86_64.specs.X86Rewrites.{HasPattern, Original, general_dynamic_table, local_dynamic_table, original, puts, x86_64_matches, x86_64_originals, x86_64_rewrite, x86_64_skipped}
-use Rattle.linker_x86_64.specs.declared.rewrites.RelaxationKind.{RelaxationKind}
-use Rattle.linker_x86_64.specs.declared.rewrites.RelaxationKind.TheVariants as kinds
+use Rattle.linker_utils.specs.X86Rewrites.{HasPattern, Original, general_dynamic_table, local_dynamic_table, original, puts, x86_64_matches, x86_64_originals, x86_64_rewrite, x86_64_skipped}
+use Rattle.linker_utils.specs.declared.x86_64.rewrites.RelaxationKind.{RelaxationKind}
+use Rattle.linker_utils.specs.declared.x86_64.rewrites.RelaxationKind.TheVariants as kinds
 
 -- ---- the call's relocation
 

@@ -26,8 +26,8 @@ use Rattle.linker_section.specs.declared.needed.EntryClass.TheVariants.{ThreadOf
 use Rattle.linker_section.specs.declared.relocations.Rela.{Rela}
 use Rattle.linker_section.specs.declared.values.ValueError.TheVariants.{NoEntry}
 use Rattle.linker_utils.specs.declared.elf.Architecture.TheVariants.{X86_64}
-use Rattle.linker_x86_64.specs.X86Rewrites.{x86_64_rewrite}
-use Rattle.linker_x86_64.specs.declared.rewrites.RelaxationKind.{RelaxationKind}
+use Rattle.linker_utils.specs.X86Rewrites.{x86_64_rewrite}
+use Rattle.linker_utils.specs.declared.x86_64.rewrites.RelaxationKind.{RelaxationKind}
 
 abbrev offset_entry : Entry
 offset_entry = record { class = ThreadOffset; addend = pos 0 }

@@ -41,8 +41,8 @@ use Rattle.linker_utils.specs.Architectures.{IsRow, relaxation_rewrite}
 use Rattle.linker_utils.specs.declared.architecture.Relaxation.{Relaxation}
 use Rattle.linker_utils.specs.declared.architecture.Relaxation.TheVariants as relaxations
 use Rattle.linker_utils.specs.declared.elf.Architecture.TheVariants.{X86_64}
-use Rattle.linker_x86_64.specs.X86Rewrites.{x86_64_rewrite, x86_64_matches, x86_64_originals, Original, is_one_at}
-use Rattle.linker_x86_64.specs.declared.rewrites.RelaxationKind.{RelaxationKind}
+use Rattle.linker_utils.specs.X86Rewrites.{x86_64_rewrite, x86_64_matches, x86_64_originals, Original, is_one_at}
+use Rattle.linker_utils.specs.declared.x86_64.rewrites.RelaxationKind.{RelaxationKind}
 
 -- ---- lists and numbers
 

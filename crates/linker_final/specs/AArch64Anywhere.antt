@@ -2,9 +2,9 @@
 -- rewriting left are applied to them, whatever applies them. So another phase may come between. The
 -- bytes after are `l.final`, of which nothing is known but what a premise says.
 use Rattle.std.specs.Prelude.{◌≡◌, ℕ, ◌+◌, ◌<◌, ◌^◌, ◌==◌, Bool, false, ⊤}
-use Rattle.linker_aarch64.specs.declared.rewrites.RelaxationKind.TheVariants.{AdrpX0, LdrX0, MovkX0}
-use Rattle.linker_aarch64.specs.declared.rewrites.RelaxationKind.TheVariants.{MovzX0Lsl16}
-use Rattle.linker_aarch64.specs.declared.rewrites.RelaxationKind.{RelaxationKind}
+use Rattle.linker_utils.specs.declared.aarch64.rewrites.RelaxationKind.TheVariants.{AdrpX0, LdrX0, MovkX0}
+use Rattle.linker_utils.specs.declared.aarch64.rewrites.RelaxationKind.TheVariants.{MovzX0Lsl16}
+use Rattle.linker_utils.specs.declared.aarch64.rewrites.RelaxationKind.{RelaxationKind}
 use Rattle.linker_elf.specs.AArch64Relocations.{aarch64_name}
 use Rattle.linker_elf.specs.ElfNames.{IsNameOf, code_of}
 use Rattle.linker_elf.specs.declared.aarch64.relocations.AArch64Relocation.{AArch64Relocation}

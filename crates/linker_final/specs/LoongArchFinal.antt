@@ -26,9 +26,9 @@ use Rattle.linker_laws.specs.LoongArchRewriteLaws.{thread_offset, with_register}
 use Rattle.linker_laws.specs.LoongArchRewriteLaws.{without_register, word_of}
 use Rattle.linker_laws.specs.Machine.{loaded}
 use Rattle.linker_laws.specs.Schemes.{AreAddresses, entry_and_addend, symbol_address}
-use Rattle.linker_loongarch64.specs.LoongArchRewrites.{rd_of, rj_of, signed_12, tp}
-use Rattle.linker_loongarch64.specs.declared.rewrites.RelaxationKind.{RelaxationKind}
-use Rattle.linker_loongarch64.specs.declared.rewrites.RelaxationKind.TheVariants as kinds
+use Rattle.linker_utils.specs.LoongArchRewrites.{rd_of, rj_of, signed_12, tp}
+use Rattle.linker_utils.specs.declared.loongarch64.rewrites.RelaxationKind.{RelaxationKind}
+use Rattle.linker_utils.specs.declared.loongarch64.rewrites.RelaxationKind.TheVariants as kinds
 use Rattle.linker_rewriting.specs.Decisions.{AreDecidedIn, decision_at}
 use Rattle.linker_rewriting.specs.Facts.{pre_layout}
 use Rattle.linker_rewriting.specs.Rewritten.{AreDone}

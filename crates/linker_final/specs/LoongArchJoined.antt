@@ -18,7 +18,7 @@ use Rattle.linker_final.specs.LoongArchFinal.{LowLoadsOffset, LowMakesOffset, Lo
 use Rattle.linker_final.specs.LoongArchFinal.{PageDoesTheSame, with_entry}
 use Rattle.linker_final.specs.LoongArchPacked.{operands_at}
 use Rattle.linker_final.specs.Packed.{IsUnwritten, Packed, StayTogether, place_of}
-use Rattle.linker_loongarch64.specs.declared.rewrites.RelaxationKind.TheVariants as kinds
+use Rattle.linker_utils.specs.declared.loongarch64.rewrites.RelaxationKind.TheVariants as kinds
 use Rattle.linker_rewriting.specs.Decisions.{decision_at}
 use Rattle.linker_rewriting.specs.declared.decisions.Decision.TheVariants.{Rewritten}
 use Rattle.linker_runs.specs.declared.packing.Machine.TheVariants.{LoongArch64 as loongarch64}

@@ -20,9 +20,9 @@ use Rattle.linker_laws.specs.LoongArchRewriteLaws.{IsRelocated, IsRewritten, Loa
 use Rattle.linker_laws.specs.LoongArchRewriteLaws.{no_register, pair, word_of}
 use Rattle.linker_laws.specs.Machine.{Relocated, loaded}
 use Rattle.linker_laws.specs.Schemes.{AreAddresses, entry_and_addend, plt_address, symbol_address}
-use Rattle.linker_loongarch64.specs.LoongArchRewrites.{IsAddTp, IsLd, IsLu12i, rd_of, rj_of}
-use Rattle.linker_loongarch64.specs.LoongArchRewrites.{signed_12, tp, word_at}
-use Rattle.linker_loongarch64.specs.declared.rewrites.RelaxationKind.TheVariants as kinds
+use Rattle.linker_utils.specs.LoongArchRewrites.{IsAddTp, IsLd, IsLu12i, rd_of, rj_of}
+use Rattle.linker_utils.specs.LoongArchRewrites.{signed_12, tp, word_at}
+use Rattle.linker_utils.specs.declared.loongarch64.rewrites.RelaxationKind.TheVariants as kinds
 use Rattle.linker_runs.specs.LoongArchSites.{IsCall36At, IsPcalaAt, destination}
 use Rattle.linker_runs.specs.declared.packing.Machine.TheVariants.{LoongArch64}
 use Rattle.linker_runs.specs.declared.relaxation.Site.{Site as site}

@@ -33,10 +33,10 @@ use Rattle.linker_laws.specs.Ppc64RewriteLaws.{without_register}
 use Rattle.linker_laws.specs.Ppc64RewriteLaws.{thread_offset, with_entry, with_register}
 use Rattle.linker_laws.specs.Ppc64RewriteLaws.{is_vector_over_base, word_of, two}
 use Rattle.linker_laws.specs.Schemes.{AreAddresses, symbol_address}
-use Rattle.linker_ppc64.specs.Ppc64Rewrites.{access_of, is_add_of_thread, is_addi, is_indexed}
-use Rattle.linker_ppc64.specs.Ppc64Rewrites.{is_indexed_any, is_indexed_word, ra_of, rt_of}
-use Rattle.linker_ppc64.specs.declared.rewrites.RelaxationKind.{RelaxationKind}
-use Rattle.linker_ppc64.specs.declared.rewrites.RelaxationKind.TheVariants as kinds
+use Rattle.linker_utils.specs.Ppc64Rewrites.{access_of, is_add_of_thread, is_addi, is_indexed}
+use Rattle.linker_utils.specs.Ppc64Rewrites.{is_indexed_any, is_indexed_word, ra_of, rt_of}
+use Rattle.linker_utils.specs.declared.ppc64.rewrites.RelaxationKind.{RelaxationKind}
+use Rattle.linker_utils.specs.declared.ppc64.rewrites.RelaxationKind.TheVariants as kinds
 use Rattle.linker_rewriting.specs.Decisions.{decision_at}
 use Rattle.linker_rewriting.specs.declared.decisions.Decision.TheVariants.{Rewritten}
 use Rattle.linker_section.specs.Relocations.{relocation_in}

@@ -13,7 +13,7 @@ use Rattle.linker_laws.specs.Ppc64RewriteLaws.{prefixed_target}
 use Rattle.linker_laws.specs.Ppc64RewriteLaws.{AgreeBut, Changes, IsRelocated, StepSo, Use, both}
 use Rattle.linker_laws.specs.Ppc64RewriteLaws.{from_thread, thread_offset, without_register}
 use Rattle.linker_laws.specs.Ppc64RewriteLaws.{word_of}
-use Rattle.linker_ppc64.specs.Ppc64Rewrites.{ra_of}
+use Rattle.linker_utils.specs.Ppc64Rewrites.{ra_of}
 use Rattle.linker_section.specs.Relocations.{relocation_in}
 
 -- ---- where instructions are

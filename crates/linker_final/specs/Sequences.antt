@@ -4,7 +4,7 @@ use Rattle.std.specs.Prelude.{ℕ, ◌+◌, ◌*◌, ◌++◌, ℤ, pos, false}
 use Rattle.std.specs.Int.{w64, to_le_bytes}
 use Rattle.std.specs.Option.{unwrap_or}
 use Rattle.linker_base.specs.Bits.{field}
-use Rattle.linker_aarch64.specs.AArch64Rewrites.{moved4, rd_of}
+use Rattle.linker_utils.specs.AArch64Rewrites.{moved4, rd_of}
 use Rattle.linker_elf.specs.LoongArch.{upper_and_lower_value, five_instructions}
 use Rattle.linker_elf.specs.Ppc64.{pair}
 use Rattle.linker_elf.specs.RiscV.{riscv_form}

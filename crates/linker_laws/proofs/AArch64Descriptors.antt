@@ -5,8 +5,8 @@ use Rattle.std.specs.Prelude.{IsSomeAnd, ◌||◌}
 use Rattle.std.proofs.lemmas.Bool.{ne_eqb, cond-true, cond-false, or_parts}
 use Rattle.std.proofs.lemmas.Bool.Decides.{eqb_tells}
 use Rattle.linker_elf.specs.AArch64.{aarch64_form}
-use Rattle.linker_aarch64.specs.AArch64Rewrites.{rd_of, rn_of}
-use Rattle.linker_aarch64.specs.AArch64Rewrites.{IsAdrp, IsLdr64}
+use Rattle.linker_utils.specs.AArch64Rewrites.{rd_of, rn_of}
+use Rattle.linker_utils.specs.AArch64Rewrites.{IsAdrp, IsLdr64}
 use Rattle.linker_elf.specs.Value.{sum_64}
 use Rattle.linker_elf.specs.declared.aarch64.forms.AArch64Instruction.TheVariants.{Add}
 use Rattle.linker_elf.specs.declared.elf.value.Operands.{Operands}

@@ -8,7 +8,7 @@ use Rattle.std.proofs.lemmas.Bool.{eq-eqb, ne_eqb, cond-true, cond-false, or_par
 use Rattle.std.proofs.lemmas.Bool.Decides.{eqb_tells}
 use Rattle.std.proofs.lemmas.Int.{ints, int_rem_euclid_is}
 use Rattle.linker_base.specs.Bits.{field}
-use Rattle.linker_aarch64.specs.AArch64Rewrites.{rd_of}
+use Rattle.linker_utils.specs.AArch64Rewrites.{rd_of}
 use Rattle.linker_elf.specs.AArch64.{aarch64_form, shift_of}
 use Rattle.linker_elf.specs.Agrees.{bits_from}
 use Rattle.linker_elf.specs.Elf.{bit_bounds}

@@ -4,7 +4,7 @@ use Rattle.std.proofs.Common.{take, drop, [], ◌∷◌, ◌+◌, ◌*◌, refl,
 use Rattle.std.specs.Int.{w32, from_le_bytes, to_le_bytes, w64}
 use Rattle.std.proofs.lemmas.Nat.{from_le_bytes-to_le_bytes_4}
 use Rattle.linker_elf.specs.AArch64.{aarch64_form}
-use Rattle.linker_aarch64.specs.AArch64Rewrites.{nop, rn_of}
+use Rattle.linker_utils.specs.AArch64Rewrites.{nop, rn_of}
 use Rattle.linker_elf.specs.LoongArch.{page}
 use Rattle.linker_elf.specs.declared.aarch64.forms.AArch64Instruction.TheVariants.{Adr, Add, LdSt}
 use Rattle.linker_elf.specs.declared.elf.value.Operands.{Operands}

@@ -5,7 +5,7 @@ use Rattle.std.proofs.Common.{None, unsigned_abs}
 use Rattle.std.specs.Prelude.{IsSomeAnd}
 use Rattle.std.proofs.lemmas.Bool.{eq-eqb, ne_eqb, cond-true, cond-false}
 use Rattle.std.proofs.lemmas.Int.{ints}
-use Rattle.linker_aarch64.specs.AArch64Rewrites.{rd_of, rn_of}
+use Rattle.linker_utils.specs.AArch64Rewrites.{rd_of, rn_of}
 use Rattle.linker_elf.specs.AArch64.{aarch64_form}
 use Rattle.linker_elf.specs.declared.aarch64.forms.AArch64Instruction.TheVariants.{LdSt}
 use Rattle.linker_laws.specs.Schemes.{IsAddress}

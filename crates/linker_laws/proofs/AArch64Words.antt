@@ -11,10 +11,10 @@ use Rattle.linker_base.specs.Bits.{field}
 use Rattle.linker_base.specs.Form.{ImmediateBit, is_placed, BitsWritten, or_bits_to}
 use Rattle.linker_base.specs.declared.bit_misc.BitRange.{BitRange}
 use Rattle.linker_base.proofs.Fields.{same_fields, bit_at_run}
-use Rattle.linker_aarch64.specs.AArch64Rewrites.{rd_of, rn_of}
+use Rattle.linker_utils.specs.AArch64Rewrites.{rd_of, rn_of}
 use Rattle.linker_elf.specs.AArch64.{movn_opcode, movz_opcode, movk_opcode}
 use Rattle.linker_elf.specs.AArch64.{imm16_places, move_opcode, moved_bits, shift_of}
-use Rattle.linker_aarch64.specs.AArch64Rewrites.{IsAdrp, IsLdr64}
+use Rattle.linker_utils.specs.AArch64Rewrites.{IsAdrp, IsLdr64}
 use Rattle.linker_elf.specs.Inner.Runs.{words_below}
 use Rattle.linker_elf.specs.Relocate.{InstructionWritten, ored_cleared, bits_taken}
 use Rattle.linker_elf.specs.Relocate.{with_bit_31_if}

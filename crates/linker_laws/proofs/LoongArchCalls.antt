@@ -9,16 +9,16 @@ use Rattle.std.proofs.lemmas.List.Elements.{All-drop}
 use Rattle.linker_base.specs.Bits.{field, signed}
 use Rattle.linker_base.specs.Form.{bits_to}
 use Rattle.linker_elf.specs.LoongArch.{loongarch_form, call36_high, call36_low, reach}
-use Rattle.linker_loongarch64.specs.LoongArchRewrites.{IsCall, adds_low12}
+use Rattle.linker_utils.specs.LoongArchRewrites.{IsCall, adds_low12}
 use Rattle.linker_elf.specs.LoongArchRelocations.{loongarch_row}
 use Rattle.linker_elf.specs.declared.loongarch64.relocations.LoongArch64Relocation.TheVariants as names
-use Rattle.linker_loongarch64.specs.LoongArchRewrites.{rd_of, rj_of}
+use Rattle.linker_utils.specs.LoongArchRewrites.{rd_of, rj_of}
 use Rattle.linker_elf.specs.Relocate.{InstructionWritten, ored_cleared}
 use Rattle.linker_elf.specs.Value.{sum_64}
 use Rattle.linker_elf.specs.declared.elf.RelocationInstruction.TheVariants.{LoongArch64}
 use Rattle.linker_elf.specs.declared.elf.value.Operands.{Operands}
 use Rattle.linker_elf.specs.declared.loongarch64.forms.LoongArch64Instruction.TheVariants.{Branch26, Call36}
-use Rattle.linker_loongarch64.specs.declared.rewrites.RelaxationKind.TheVariants as kinds
+use Rattle.linker_utils.specs.declared.loongarch64.rewrites.RelaxationKind.TheVariants as kinds
 use Rattle.linker_laws.specs.LoongArchRelocationLaws as relocation_laws
 use Rattle.linker_laws.specs.Schemes.{IsAddress, plt_address}
 use Rattle.linker_laws.specs.LoongArchRewriteLaws.{word_of, pair}

@@ -26,8 +26,8 @@ use Rattle.linker_elf.specs.declared.loongarch64.forms.LoongArch64Instruction.Th
 use Rattle.linker_elf.specs.declared.loongarch64.relocations.LoongArch64Relocation.TheVariants as names
 use Rattle.linker_elf.proofs.LoongArch.{shift5_places}
 use Rattle.linker_elf.proofs.LoongArchAddresses.{page_and_distance}
-use Rattle.linker_loongarch64.specs.declared.rewrites.RelaxationKind.TheVariants as kinds
-use Rattle.linker_loongarch64.specs.LoongArchRewrites.{rd_of, rj_of, signed_32, IsLowOfDescriptor}
+use Rattle.linker_utils.specs.declared.loongarch64.rewrites.RelaxationKind.TheVariants as kinds
+use Rattle.linker_utils.specs.LoongArchRewrites.{rd_of, rj_of, signed_32, IsLowOfDescriptor}
 use Rattle.linker_elf.specs.Applied.{IsApplied}
 use Rattle.linker_laws.specs.Schemes.{IsAddress, AreAddresses, symbol_address, entry_and_addend, tls_base}
 use Rattle.linker_laws.proofs.Applied.{value_is, taken_bits}

@@ -13,12 +13,12 @@ use Rattle.linker_elf.specs.declared.elf.value.Operands.{Operands}
 use Rattle.linker_elf.specs.Choices.{ValueIsWithin, RowIsWithin}
 use Rattle.linker_elf.specs.Elf.{IsWithin}
 use Rattle.linker_elf.specs.LoongArch.{page}
-use Rattle.linker_loongarch64.specs.LoongArchRewrites.{signed_32, signed_12}
+use Rattle.linker_utils.specs.LoongArchRewrites.{signed_32, signed_12}
 use Rattle.linker_elf.specs.LoongArchRelocations.{loongarch_row}
 use Rattle.linker_elf.specs.declared.loongarch64.relocations.LoongArch64Relocation.TheVariants as names
-use Rattle.linker_loongarch64.specs.declared.rewrites.RelaxationKind.TheVariants as kinds
-use Rattle.linker_loongarch64.specs.LoongArchRewrites.{adds_low12}
-use Rattle.linker_loongarch64.specs.LoongArchRewrites.{rd_of, rj_of}
+use Rattle.linker_utils.specs.declared.loongarch64.rewrites.RelaxationKind.TheVariants as kinds
+use Rattle.linker_utils.specs.LoongArchRewrites.{adds_low12}
+use Rattle.linker_utils.specs.LoongArchRewrites.{rd_of, rj_of}
 use Rattle.linker_laws.specs.LoongArchRelocationLaws as relocation_laws
 use Rattle.linker_laws.specs.Schemes.{IsAddress, AreAddresses, symbol_address}
 use Rattle.linker_laws.proofs.Applied.{value_is, taken_bits}

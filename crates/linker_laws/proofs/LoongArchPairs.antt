@@ -6,8 +6,8 @@ use Rattle.std.proofs.lemmas.Int.{ints, to_z_pos}
 use Rattle.linker_base.specs.Bits.{field, signed}
 use Rattle.linker_elf.specs.Choices.{ValueIsWithin}
 use Rattle.linker_elf.specs.LoongArch.{pcalau12i, loongarch_form}
-use Rattle.linker_loongarch64.specs.LoongArchRewrites.{signed_32}
-use Rattle.linker_loongarch64.specs.LoongArchRewrites.{rd_of, rj_of}
+use Rattle.linker_utils.specs.LoongArchRewrites.{signed_32}
+use Rattle.linker_utils.specs.LoongArchRewrites.{rd_of, rj_of}
 use Rattle.linker_elf.specs.Relocate.{is_jirl, IsWritten, InstructionWritten}
 use Rattle.linker_elf.specs.declared.elf.RelocationInstruction.TheVariants.{LoongArch64}
 use Rattle.linker_elf.specs.declared.elf.RelocationKind.TheVariants.{AbsoluteLowPart}
@@ -17,7 +17,7 @@ use Rattle.linker_elf.specs.Value.{sum_64}
 use Rattle.linker_elf.specs.declared.elf.value.Operands.{Operands}
 use Rattle.linker_elf.specs.declared.loongarch64.forms.LoongArch64Instruction.TheVariants.{Shift5, Shift10}
 use Rattle.linker_elf.specs.declared.loongarch64.relocations.LoongArch64Relocation.TheVariants as names
-use Rattle.linker_loongarch64.specs.declared.rewrites.RelaxationKind.TheVariants as kinds
+use Rattle.linker_utils.specs.declared.loongarch64.rewrites.RelaxationKind.TheVariants as kinds
 use Rattle.linker_base.proofs.Bits.{cast_negative}
 use Rattle.linker_laws.specs.LoongArchRelocationLaws as relocation_laws
 use Rattle.linker_laws.specs.Schemes.{IsAddress, symbol_address, entry_and_addend}

@@ -5,8 +5,8 @@ use Rattle.std.specs.Prelude.{◌&&◌, ◌||◌, ◌==◌, not}
 use Rattle.std.proofs.lemmas.Bool.{and_parts, eqb-true, false≢true, cond-true, cond-false, eq-eqb, ne_eqb}
 use Rattle.linker_base.specs.Bits.{field}
 use Rattle.linker_elf.specs.Ppc64.{ppc64_form}
-use Rattle.linker_ppc64.specs.Ppc64Rewrites.{is_addis_of_toc, is_ld, is_add_of_thread, is_over_thread}
-use Rattle.linker_ppc64.specs.Ppc64Rewrites.{opcode_of, rt_of, ra_of, rb_of, registers_of, nop, addis_of_thread, over_base}
+use Rattle.linker_utils.specs.Ppc64Rewrites.{is_addis_of_toc, is_ld, is_add_of_thread, is_over_thread}
+use Rattle.linker_utils.specs.Ppc64Rewrites.{opcode_of, rt_of, ra_of, rb_of, registers_of, nop, addis_of_thread, over_base}
 use Rattle.linker_elf.specs.Relocate.{ppc64_reads}
 use Rattle.linker_elf.specs.declared.elf.value.Operands.{Operands}
 use Rattle.linker_elf.specs.declared.ppc64.forms.Ppc64Instruction.TheVariants.{D, Ds}

@@ -12,7 +12,7 @@ use Rattle.linker_elf.specs.Value.{sum_64}
 use Rattle.linker_elf.specs.declared.elf.value.Operands.{Operands}
 use Rattle.linker_elf.specs.declared.ppc64.forms.Ppc64Instruction.TheVariants.{D, Ds, Branch24}
 use Rattle.linker_elf.specs.declared.ppc64.relocations.Ppc64Relocation.TheVariants as names
-use Rattle.linker_ppc64.specs.Ppc64Rewrites.{opcode_of, rt_of, ra_of, rb_of, registers_of, addis_of_thread, nop}
+use Rattle.linker_utils.specs.Ppc64Rewrites.{opcode_of, rt_of, ra_of, rb_of, registers_of, addis_of_thread, nop}
 use Rattle.linker_laws.specs.Ppc64RelocationLaws as relocation_laws
 use Rattle.linker_laws.specs.Machine.{moved, loaded}
 use Rattle.linker_laws.specs.Ppc64RewriteLaws.{word_of, from_thread, thread_offset, AgreeBut, Changes, HasArgument}

@@ -5,7 +5,7 @@ use Rattle.std.specs.Prelude.{◌&&◌, ◌==◌}
 use Rattle.std.proofs.lemmas.Bool.{and_parts, eqb-true}
 use Rattle.linker_base.specs.Bits.{field}
 use Rattle.linker_base.specs.Form.{place_sum}
-use Rattle.linker_ppc64.specs.Ppc64Rewrites.{opcode_of, nop, two_words}
+use Rattle.linker_utils.specs.Ppc64Rewrites.{opcode_of, nop, two_words}
 use Rattle.linker_elf.specs.Value.{sum_64}
 use Rattle.linker_laws.specs.Machine.{loaded}
 use Rattle.linker_laws.specs.Ppc64RewriteLaws.{word_of}

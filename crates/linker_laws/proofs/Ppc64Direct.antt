@@ -6,10 +6,10 @@ use Rattle.std.proofs.lemmas.Bool.{and_parts, eqb-true, cond-false, ne_eqb}
 use Rattle.std.proofs.lemmas.Bool.{false≢true}
 use Rattle.linker_base.specs.Bits.{field}
 use Rattle.linker_elf.specs.Ppc64.{ppc64_form}
-use Rattle.linker_ppc64.specs.Ppc64Rewrites.{is_access, is_store, is_d_access, is_indexed}
-use Rattle.linker_ppc64.specs.Ppc64Rewrites.{is_over_thread, keeps_base}
-use Rattle.linker_ppc64.specs.Ppc64Rewrites.{opcode_of, rt_of, ra_of, rb_of, access_of, over_base}
-use Rattle.linker_ppc64.specs.Ppc64Rewrites.{by_displacement, addis_of_thread, nop}
+use Rattle.linker_utils.specs.Ppc64Rewrites.{is_access, is_store, is_d_access, is_indexed}
+use Rattle.linker_utils.specs.Ppc64Rewrites.{is_over_thread, keeps_base}
+use Rattle.linker_utils.specs.Ppc64Rewrites.{opcode_of, rt_of, ra_of, rb_of, access_of, over_base}
+use Rattle.linker_utils.specs.Ppc64Rewrites.{by_displacement, addis_of_thread, nop}
 use Rattle.linker_elf.specs.Value.{sum_64}
 use Rattle.linker_elf.specs.declared.ppc64.forms.Ppc64Instruction.TheVariants.{D}
 use Rattle.linker_laws.specs.Ppc64RelocationLaws as relocation_laws

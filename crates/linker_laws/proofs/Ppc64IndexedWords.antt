@@ -1,5 +1,5 @@
 -- PowerPC64: indexed accesses of whole words at an offset from the thread pointer.
-use Rattle.linker_ppc64.specs.Ppc64Rewrites.{is_indexed_word, is_word_access}
+use Rattle.linker_utils.specs.Ppc64Rewrites.{is_indexed_word, is_word_access}
 use Rattle.std.proofs.Common.{◌≡◌, ◌≢◌, ℕ, ◌+◌, ◌*◌, ◌^◌, Bool, true, false, refl, sym, ◌∙◌, ap, subst}
 use Rattle.std.proofs.Common.{arith, [], ◌∷◌, eqb, pos, ◌*ℤ◌, ◌+ℤ◌, Some, inl, inr, ◌<◌, if◌then◌else◌}
 use Rattle.std.specs.Prelude.{◌&&◌, ◌||◌, ◌==◌, not}
@@ -7,10 +7,10 @@ use Rattle.std.proofs.lemmas.Bool.{and_parts, eqb-true, cond-true, cond-false, n
 use Rattle.std.proofs.lemmas.Bool.{false≢true, or_cases}
 use Rattle.linker_base.specs.Bits.{field}
 use Rattle.linker_elf.specs.Ppc64.{ppc64_form}
-use Rattle.linker_ppc64.specs.Ppc64Rewrites.{is_access, is_store}
-use Rattle.linker_ppc64.specs.Ppc64Rewrites.{is_over_thread, keeps_base}
-use Rattle.linker_ppc64.specs.Ppc64Rewrites.{opcode_of, rt_of, ra_of, rb_of, access_of}
-use Rattle.linker_ppc64.specs.Ppc64Rewrites.{by_word_displacement, registers_of, addis_of_thread, nop}
+use Rattle.linker_utils.specs.Ppc64Rewrites.{is_access, is_store}
+use Rattle.linker_utils.specs.Ppc64Rewrites.{is_over_thread, keeps_base}
+use Rattle.linker_utils.specs.Ppc64Rewrites.{opcode_of, rt_of, ra_of, rb_of, access_of}
+use Rattle.linker_utils.specs.Ppc64Rewrites.{by_word_displacement, registers_of, addis_of_thread, nop}
 use Rattle.linker_elf.specs.Value.{sum_64}
 use Rattle.linker_elf.specs.declared.ppc64.forms.Ppc64Instruction.TheVariants.{D, Ds}
 use Rattle.linker_laws.specs.Ppc64RelocationLaws as relocation_laws

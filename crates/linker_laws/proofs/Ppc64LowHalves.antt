@@ -13,10 +13,10 @@ use Rattle.linker_elf.specs.declared.ppc64.forms.Ppc64Instruction.{Ppc64Instruct
 use Rattle.linker_elf.specs.declared.ppc64.forms.Ppc64Instruction.TheVariants.{D, Ds}
 use Rattle.linker_elf.specs.declared.ppc64.relocations.Ppc64Relocation.{Ppc64Relocation}
 use Rattle.linker_elf.specs.declared.ppc64.relocations.Ppc64Relocation.TheVariants as names
-use Rattle.linker_ppc64.specs.Ppc64Rewrites.{opcode_of, rt_of, ra_of, over_base, is_addi}
-use Rattle.linker_ppc64.specs.Ppc64Rewrites.{is_ds_access, is_vector_access}
-use Rattle.linker_ppc64.specs.declared.rewrites.RelaxationKind.{RelaxationKind}
-use Rattle.linker_ppc64.specs.declared.rewrites.RelaxationKind.TheVariants as kinds
+use Rattle.linker_utils.specs.Ppc64Rewrites.{opcode_of, rt_of, ra_of, over_base, is_addi}
+use Rattle.linker_utils.specs.Ppc64Rewrites.{is_ds_access, is_vector_access}
+use Rattle.linker_utils.specs.declared.ppc64.rewrites.RelaxationKind.{RelaxationKind}
+use Rattle.linker_utils.specs.declared.ppc64.rewrites.RelaxationKind.TheVariants as kinds
 use Rattle.linker_laws.specs.Ppc64RelocationLaws as relocation_laws
 use Rattle.linker_laws.specs.Schemes.{AreAddresses, symbol_address, IsAddress}
 use Rattle.linker_laws.specs.Machine.{moved}

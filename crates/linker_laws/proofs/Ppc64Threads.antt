@@ -8,9 +8,9 @@ use Rattle.std.proofs.lemmas.Bool.Decides.{eqb_tells}
 use Rattle.linker_base.specs.Bits.{field}
 use Rattle.linker_base.specs.Form.{place_sum}
 use Rattle.linker_elf.specs.Ppc64.{ppc64_form}
-use Rattle.linker_ppc64.specs.Ppc64Rewrites.{is_addi}
-use Rattle.linker_ppc64.specs.Ppc64Rewrites.{opcode_of, rt_of, ra_of, rb_of, registers_of}
-use Rattle.linker_ppc64.specs.Ppc64Rewrites.{addis_of_thread, nop}
+use Rattle.linker_utils.specs.Ppc64Rewrites.{is_addi}
+use Rattle.linker_utils.specs.Ppc64Rewrites.{opcode_of, rt_of, ra_of, rb_of, registers_of}
+use Rattle.linker_utils.specs.Ppc64Rewrites.{addis_of_thread, nop}
 use Rattle.linker_elf.specs.Value.{sum_64}
 use Rattle.linker_elf.specs.declared.elf.value.Operands.{Operands}
 use Rattle.linker_elf.specs.declared.ppc64.forms.Ppc64Instruction.TheVariants.{D, Ds, Branch24}

@@ -6,7 +6,7 @@ use Rattle.std.proofs.lemmas.Bool.{and_parts}
 use Rattle.linker_elf.specs.Ppc64.{ppc64_form}
 use Rattle.linker_elf.specs.Relocate.{ppc64_reads}
 use Rattle.linker_elf.specs.declared.ppc64.forms.Ppc64Instruction.TheVariants.{D, Ds}
-use Rattle.linker_ppc64.specs.Ppc64Rewrites.{is_vector_access, opcode_of, rt_of, ra_of, over_base, nop}
+use Rattle.linker_utils.specs.Ppc64Rewrites.{is_vector_access, opcode_of, rt_of, ra_of, over_base, nop}
 use Rattle.linker_laws.specs.Ppc64RelocationLaws as relocation_laws
 use Rattle.linker_laws.specs.Schemes.{symbol_address}
 use Rattle.linker_laws.specs.Machine.{moved}

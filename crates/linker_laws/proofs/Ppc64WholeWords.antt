@@ -1,5 +1,5 @@
 -- PowerPC64: accesses of whole words near the TOC pointer, and at an offset from the thread pointer.
-use Rattle.linker_ppc64.specs.Ppc64Rewrites.{is_ds_access}
+use Rattle.linker_utils.specs.Ppc64Rewrites.{is_ds_access}
 use Rattle.std.proofs.Common.{◌≡◌, ◌≢◌, ℕ, ◌^◌, Bool, true, false, refl, sym, ◌∙◌, ap, subst}
 use Rattle.std.proofs.Common.{arith, [], eqb, cond, pos, ◌*ℤ◌, ◌+ℤ◌, Some, inl, inr, ◌-◌, ◌%◌, if◌then◌else◌}
 use Rattle.std.specs.Prelude.{◌&&◌, ◌||◌, ◌==◌, not}
@@ -7,9 +7,9 @@ use Rattle.std.proofs.lemmas.Bool.{and_parts, eqb-true, cond-false}
 use Rattle.std.proofs.lemmas.Bool.{false≢true, or_cases}
 use Rattle.linker_base.specs.Bits.{field}
 use Rattle.linker_elf.specs.Ppc64.{ppc64_form}
-use Rattle.linker_ppc64.specs.Ppc64Rewrites.{keeps_base}
-use Rattle.linker_ppc64.specs.Ppc64Rewrites.{opcode_of, rt_of, ra_of, over_base}
-use Rattle.linker_ppc64.specs.Ppc64Rewrites.{nop}
+use Rattle.linker_utils.specs.Ppc64Rewrites.{keeps_base}
+use Rattle.linker_utils.specs.Ppc64Rewrites.{opcode_of, rt_of, ra_of, over_base}
+use Rattle.linker_utils.specs.Ppc64Rewrites.{nop}
 use Rattle.linker_elf.specs.declared.ppc64.forms.Ppc64Instruction.TheVariants.{D, Ds}
 use Rattle.linker_laws.specs.Ppc64RelocationLaws as relocation_laws
 use Rattle.linker_laws.specs.Schemes.{symbol_address, IsAddress}

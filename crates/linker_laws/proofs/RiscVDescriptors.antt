@@ -18,10 +18,10 @@ use Rattle.linker_elf.specs.declared.elf.RelocationKind.{RelocationKind}
 use Rattle.linker_elf.specs.declared.elf.RelocationKind.TheVariants.{TpOff, TlsDesc, GotTpOff, GotRelative, Relative, RelativeRiscVLow12}
 use Rattle.linker_elf.specs.declared.elf.value.Operands.{Operands}
 use Rattle.linker_elf.specs.declared.riscv64.forms.RiscVInstruction.TheVariants.{UType, IType}
-use Rattle.linker_riscv64.specs.RiscVRewrites.{opcode_of, funct3_of, rd_of}
-use Rattle.linker_riscv64.specs.RiscVRewrites.{rewrites_word, load_to_addi}
+use Rattle.linker_utils.specs.RiscVRewrites.{opcode_of, funct3_of, rd_of}
+use Rattle.linker_utils.specs.RiscVRewrites.{rewrites_word, load_to_addi}
 use Rattle.linker_base.specs.Rewrite.{rewritten}
-use Rattle.linker_riscv64.specs.declared.rewrites.RelaxationKind.TheVariants as kinds
+use Rattle.linker_utils.specs.declared.riscv64.rewrites.RelaxationKind.TheVariants as kinds
 use Rattle.linker_base.proofs.Bits.{cast_negative}
 use Rattle.linker_laws.specs.RiscVRelocationLaws.{DescriptorAddresses, EntryAddresses, ThreadAddresses, RelativeAddresses}
 use Rattle.linker_elf.specs.Applied.{IsApplied}

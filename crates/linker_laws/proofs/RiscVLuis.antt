@@ -6,13 +6,13 @@ use Rattle.std.proofs.Common.{Some, w64, subst, pos}
 use Rattle.std.specs.Int.{cast_signed, w16, w32, from_le_bytes}
 use Rattle.linker_base.specs.Bits.{field, signed}
 use Rattle.linker_base.specs.Form.{place_sum}
-use Rattle.linker_riscv64.specs.RiscVRewrites.{hi20_to_clui, clui_to_cli}
-use Rattle.linker_riscv64.specs.RiscVCalls.{word_at}
+use Rattle.linker_utils.specs.RiscVRewrites.{hi20_to_clui, clui_to_cli}
+use Rattle.linker_utils.specs.RiscVCalls.{word_at}
 use Rattle.linker_elf.specs.RiscV.{riscv_places}
-use Rattle.linker_riscv64.specs.RiscVRewrites.{rd_of, IsLui, half_at}
+use Rattle.linker_utils.specs.RiscVRewrites.{rd_of, IsLui, half_at}
 use Rattle.linker_elf.specs.declared.riscv64.forms.RiscVInstruction.TheVariants.{UType, CluiType}
-use Rattle.linker_riscv64.specs.declared.rewrites.RelaxationKind.TheVariants as kinds
-use Rattle.linker_riscv64.proofs.RiscVRewrites.{half_of_front}
+use Rattle.linker_utils.specs.declared.riscv64.rewrites.RelaxationKind.TheVariants as kinds
+use Rattle.linker_utils.proofs.RiscVRewrites.{half_of_front}
 use Rattle.linker_laws.specs.Schemes.{symbol_address}
 use Rattle.linker_laws.proofs.Sums.{sum_below}
 use Rattle.linker_laws.specs.Machine.{deleted, wrapped}

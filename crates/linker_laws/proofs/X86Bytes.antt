@@ -6,9 +6,9 @@ use Rattle.std.proofs.lemmas.Bool.{cases_lt, eqb-true, and_parts, false≢true}
 use Rattle.std.specs.Int.{bit_at}
 use Rattle.std.specs.List.{All}
 use Rattle.std.proofs.lemmas.List.Elements.{All-head, All-tail}
-use Rattle.linker_x86_64.specs.X86Rewrites as x86
-use Rattle.linker_x86_64.specs.X86Rewrites.{begins, byte, rip_operand, rex, rex2, field4}
-use Rattle.linker_x86_64.specs.X86Rewrites.{evex_registers}
+use Rattle.linker_utils.specs.X86Rewrites as x86
+use Rattle.linker_utils.specs.X86Rewrites.{begins, byte, rip_operand, rex, rex2, field4}
+use Rattle.linker_utils.specs.X86Rewrites.{evex_registers}
 use Rattle.linker_laws.specs.X86Machine.{is_relative, is_register, is_rex, reg_of, rm_of}
 use Rattle.linker_laws.specs.X86Machine.{is_map_4, evex_reg, evex_rm}
 

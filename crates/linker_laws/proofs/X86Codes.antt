@@ -6,10 +6,10 @@ use Rattle.std.proofs.lemmas.Bool.{and_parts, leb-true}
 use Rattle.std.proofs.Math.Bool.{or-false}
 use Rattle.std.proofs.lemmas.List.{length-drop}
 use Rattle.linker_base.specs.Rewrite.{rewritten, replaces}
-use Rattle.linker_x86_64.specs.X86Rewrites as x86
-use Rattle.linker_x86_64.specs.X86Rewrites.{absolute, operand, prefixed_operand, evex_operand, puts}
-use Rattle.linker_x86_64.specs.X86Rewrites.{Original, is_one_at, is_at, begins}
-use Rattle.linker_x86_64.specs.declared.rewrites.RelaxationKind.TheVariants.{JmpIndirectToRelative}
+use Rattle.linker_utils.specs.X86Rewrites as x86
+use Rattle.linker_utils.specs.X86Rewrites.{absolute, operand, prefixed_operand, evex_operand, puts}
+use Rattle.linker_utils.specs.X86Rewrites.{Original, is_one_at, is_at, begins}
+use Rattle.linker_utils.specs.declared.x86_64.rewrites.RelaxationKind.TheVariants.{JmpIndirectToRelative}
 use Rattle.linker_laws.proofs.X86Sections.{original_code, rewritten_code}
 
 -- an instruction of one pattern

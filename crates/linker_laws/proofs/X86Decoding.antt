@@ -5,7 +5,7 @@ use Rattle.std.specs.Int.{bit_at}
 use Rattle.std.proofs.lemmas.Bool.{cond-true, cond-false}
 use Rattle.linker_elf.specs.Relocate.{number_of_bytes}
 use Rattle.linker_elf.specs.Value.{sum_64}
-use Rattle.linker_x86_64.specs.X86Rewrites as x86
+use Rattle.linker_utils.specs.X86Rewrites as x86
 use Rattle.linker_laws.specs.X86Machine.{Prefix, Operation, State, Decoded, decode, decode_opcode}
 use Rattle.linker_laws.specs.X86Machine.{decode_modrm, decode_relative, on_immediate, rex_prefix}
 use Rattle.linker_laws.specs.X86Machine.{rex2_prefix}

@@ -11,11 +11,11 @@ use Rattle.std.proofs.lemmas.List.Elements.{All-drop}
 use Rattle.linker_base.specs.Rewrite.{rewritten, replaces}
 use Rattle.linker_elf.specs.Relocate.{number_of_bytes}
 use Rattle.linker_elf.specs.Value.{sum_64, difference_64}
-use Rattle.linker_x86_64.specs.X86Rewrites.{x86_64_rewrite, absolute, prefixed_operand}
-use Rattle.linker_x86_64.specs.X86Rewrites.{x86_64_matches, field4}
+use Rattle.linker_utils.specs.X86Rewrites.{x86_64_rewrite, absolute, prefixed_operand}
+use Rattle.linker_utils.specs.X86Rewrites.{x86_64_matches, field4}
 use Rattle.linker_elf.specs.declared.elf.value.Operands.{Operands}
 use Rattle.linker_elf.specs.declared.x86_64.relocations.X86_64Relocation.TheVariants as names
-use Rattle.linker_x86_64.specs.declared.rewrites.RelaxationKind.TheVariants as kinds
+use Rattle.linker_utils.specs.declared.x86_64.rewrites.RelaxationKind.TheVariants as kinds
 use Rattle.linker_elf.specs.Applied.{IsApplied}
 use Rattle.linker_laws.specs.Schemes.{AreAddresses}
 use Rattle.linker_laws.proofs.Sums.{difference_below}

@@ -10,11 +10,11 @@ use Rattle.linker_base.specs.Bits.{field}
 use Rattle.linker_base.specs.Rewrite.{rewritten, IsRewritable}
 use Rattle.linker_elf.specs.Relocate.{number_of_bytes}
 use Rattle.linker_elf.specs.Value.{sum_64}
-use Rattle.linker_x86_64.specs.X86Rewrites as x86
-use Rattle.linker_x86_64.specs.X86Rewrites.{absolute, evex_operand}
-use Rattle.linker_x86_64.specs.X86Rewrites.{Original, is_one_at, is_at, with_evex, evex_any_v}
-use Rattle.linker_x86_64.specs.X86Rewrites.{evex_new_destination, evex_no_v, evex_same_destination}
-use Rattle.linker_x86_64.specs.X86Rewrites.{legacy_or_evex}
+use Rattle.linker_utils.specs.X86Rewrites as x86
+use Rattle.linker_utils.specs.X86Rewrites.{absolute, evex_operand}
+use Rattle.linker_utils.specs.X86Rewrites.{Original, is_one_at, is_at, with_evex, evex_any_v}
+use Rattle.linker_utils.specs.X86Rewrites.{evex_new_destination, evex_no_v, evex_same_destination}
+use Rattle.linker_utils.specs.X86Rewrites.{legacy_or_evex}
 use Rattle.linker_elf.specs.declared.elf.value.Operands.{Operands}
 use Rattle.linker_laws.proofs.Sums.{difference_below}
 use Rattle.linker_laws.specs.X86RewriteLaws.{IsBefore, IsRelocatedBy, thread_offset}

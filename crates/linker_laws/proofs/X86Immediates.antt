@@ -8,11 +8,11 @@ use Rattle.std.proofs.lemmas.List.Elements.{All-drop}
 use Rattle.linker_base.specs.Rewrite.{rewritten, IsRewritable}
 use Rattle.linker_elf.specs.Relocate.{number_of_bytes}
 use Rattle.linker_elf.specs.Value.{sum_64, difference_64}
-use Rattle.linker_x86_64.specs.X86Rewrites as x86
-use Rattle.linker_x86_64.specs.X86Rewrites.{absolute, operand, prefixed_operand}
-use Rattle.linker_x86_64.specs.X86Rewrites.{original, rip_operand, with_rex, rex, with_rex2, rex2}
-use Rattle.linker_x86_64.specs.X86Rewrites.{is_one_at}
-use Rattle.linker_x86_64.specs.X86Rewrites.{plain}
+use Rattle.linker_utils.specs.X86Rewrites as x86
+use Rattle.linker_utils.specs.X86Rewrites.{absolute, operand, prefixed_operand}
+use Rattle.linker_utils.specs.X86Rewrites.{original, rip_operand, with_rex, rex, with_rex2, rex2}
+use Rattle.linker_utils.specs.X86Rewrites.{is_one_at}
+use Rattle.linker_utils.specs.X86Rewrites.{plain}
 use Rattle.linker_elf.specs.declared.elf.value.Operands.{Operands}
 use Rattle.linker_elf.specs.Applied.{IsApplied}
 use Rattle.linker_laws.specs.Schemes.{AreAddresses}

@@ -17,12 +17,12 @@ use Rattle.std.proofs.lemmas.List.Elements.{All-head, All-tail, All-drop}
 use Rattle.linker_base.specs.Rewrite.{rewritten}
 use Rattle.linker_elf.specs.Relocate.{number_of_bytes}
 use Rattle.linker_elf.specs.Value.{sum_64, difference_64}
-use Rattle.linker_x86_64.specs.X86Rewrites.{x86_64_rewrite, puts}
-use Rattle.linker_x86_64.specs.X86Rewrites.{begins, byte, is_at, is_one_at, general_dynamic}
-use Rattle.linker_x86_64.specs.X86Rewrites.{original}
-use Rattle.linker_x86_64.specs.X86Rewrites.{field4, lea_rdi, Original}
+use Rattle.linker_utils.specs.X86Rewrites.{x86_64_rewrite, puts}
+use Rattle.linker_utils.specs.X86Rewrites.{begins, byte, is_at, is_one_at, general_dynamic}
+use Rattle.linker_utils.specs.X86Rewrites.{original}
+use Rattle.linker_utils.specs.X86Rewrites.{field4, lea_rdi, Original}
 use Rattle.linker_elf.specs.declared.elf.value.Operands.{Operands}
-use Rattle.linker_x86_64.specs.declared.rewrites.RelaxationKind.TheVariants as kinds
+use Rattle.linker_utils.specs.declared.x86_64.rewrites.RelaxationKind.TheVariants as kinds
 use Rattle.linker_laws.proofs.Sums.{difference_below}
 use Rattle.linker_laws.specs.X86RewriteLaws.{IsBefore, thread_offset}
 use Rattle.linker_laws.specs.X86Machine.{State, load, extended, with_register, execute}

@@ -5,7 +5,7 @@ use Rattle.std.specs.Prelude.{[], List, Option, Some, None, IsSomeAnd, ◌≡◌
 use Rattle.std.specs.Int.{w64, bit_at, from_le_bytes, int_rem_euclid}
 use Rattle.linker_base.specs.Bits.{field}
 use Rattle.linker_elf.specs.AArch64.{aarch64_form, shift_of}
-use Rattle.linker_aarch64.specs.AArch64Rewrites.{rd_of, rn_of, nop, is_ldr64}
+use Rattle.linker_utils.specs.AArch64Rewrites.{rd_of, rn_of, nop, is_ldr64}
 use Rattle.linker_elf.specs.AArch64.{opcode_of, movn_opcode, movz_opcode, movk_opcode}
 use Rattle.linker_elf.specs.LoongArch.{page}
 use Rattle.linker_elf.specs.Value.{sum_64}

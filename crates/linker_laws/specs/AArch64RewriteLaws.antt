@@ -5,27 +5,27 @@ use Rattle.std.specs.Prelude.{drop, take, None, ⊤, ◌-◌, Option, Some, IsSo
 use Rattle.std.specs.Prelude.{◌/◌}
 use Rattle.std.specs.Int.{w32, from_le_bytes}
 use Rattle.linker_base.specs.Rewrite.{Rewrite, IsRewritable, rewritten}
-use Rattle.linker_aarch64.specs.AArch64Rewrites.{aarch64_rewrite, rd_of, rn_of}
-use Rattle.linker_aarch64.specs.AArch64Rewrites.{AreOfDescriptor}
-use Rattle.linker_aarch64.specs.AArch64Rewrites.{IsAdrp, IsAdd64, IsLdr64, AreOfOneRegister}
-use Rattle.linker_aarch64.specs.AArch64Rewrites.{IsIntoOwnSource}
+use Rattle.linker_utils.specs.AArch64Rewrites.{aarch64_rewrite, rd_of, rn_of}
+use Rattle.linker_utils.specs.AArch64Rewrites.{AreOfDescriptor}
+use Rattle.linker_utils.specs.AArch64Rewrites.{IsAdrp, IsAdd64, IsLdr64, AreOfOneRegister}
+use Rattle.linker_utils.specs.AArch64Rewrites.{IsIntoOwnSource}
 use Rattle.linker_elf.specs.LoongArch.{page}
 use Rattle.linker_elf.specs.AArch64Relocations.{aarch64_row}
 use Rattle.linker_elf.specs.Value.{sum_64, difference_64}
 use Rattle.linker_elf.specs.declared.aarch64.relocations.AArch64Relocation.{AArch64Relocation}
 use Rattle.linker_elf.specs.declared.aarch64.relocations.AArch64Relocation.TheVariants as names
-use Rattle.linker_aarch64.specs.declared.rewrites.RelaxationKind.{RelaxationKind}
-use Rattle.linker_aarch64.specs.declared.rewrites.RelaxationKind.TheVariants.{LdrToAdd}
-use Rattle.linker_aarch64.specs.declared.rewrites.RelaxationKind.TheVariants.{MovzXnLsl16}
-use Rattle.linker_aarch64.specs.declared.rewrites.RelaxationKind.TheVariants.{MovkXn}
-use Rattle.linker_aarch64.specs.declared.rewrites.RelaxationKind.TheVariants.{MovzX0Lsl16}
-use Rattle.linker_aarch64.specs.declared.rewrites.RelaxationKind.TheVariants.{MovkX0, AdrpX0}
-use Rattle.linker_aarch64.specs.declared.rewrites.RelaxationKind.TheVariants.{LdrX0}
-use Rattle.linker_aarch64.specs.declared.rewrites.RelaxationKind.TheVariants.{ReplaceWithNop}
-use Rattle.linker_aarch64.specs.declared.rewrites.RelaxationKind.TheVariants.{AdrpAddToNopAdr}
-use Rattle.linker_aarch64.specs.declared.rewrites.RelaxationKind.TheVariants.{AdrpToAdr}
-use Rattle.linker_aarch64.specs.declared.rewrites.RelaxationKind.TheVariants.{AddToAdr}
-use Rattle.linker_aarch64.specs.declared.rewrites.RelaxationKind.TheVariants.{LdrToAdr}
+use Rattle.linker_utils.specs.declared.aarch64.rewrites.RelaxationKind.{RelaxationKind}
+use Rattle.linker_utils.specs.declared.aarch64.rewrites.RelaxationKind.TheVariants.{LdrToAdd}
+use Rattle.linker_utils.specs.declared.aarch64.rewrites.RelaxationKind.TheVariants.{MovzXnLsl16}
+use Rattle.linker_utils.specs.declared.aarch64.rewrites.RelaxationKind.TheVariants.{MovkXn}
+use Rattle.linker_utils.specs.declared.aarch64.rewrites.RelaxationKind.TheVariants.{MovzX0Lsl16}
+use Rattle.linker_utils.specs.declared.aarch64.rewrites.RelaxationKind.TheVariants.{MovkX0, AdrpX0}
+use Rattle.linker_utils.specs.declared.aarch64.rewrites.RelaxationKind.TheVariants.{LdrX0}
+use Rattle.linker_utils.specs.declared.aarch64.rewrites.RelaxationKind.TheVariants.{ReplaceWithNop}
+use Rattle.linker_utils.specs.declared.aarch64.rewrites.RelaxationKind.TheVariants.{AdrpAddToNopAdr}
+use Rattle.linker_utils.specs.declared.aarch64.rewrites.RelaxationKind.TheVariants.{AdrpToAdr}
+use Rattle.linker_utils.specs.declared.aarch64.rewrites.RelaxationKind.TheVariants.{AddToAdr}
+use Rattle.linker_utils.specs.declared.aarch64.rewrites.RelaxationKind.TheVariants.{LdrToAdr}
 use Rattle.linker_elf.specs.declared.elf.value.Operands.{Operands}
 use Rattle.linker_elf.specs.Applied.{IsApplied}
 use Rattle.linker_laws.specs.Schemes.{AreAddresses, symbol_address, plt_address}

@@ -5,8 +5,8 @@ use Rattle.std.specs.Prelude.{◌∷◌, Option, Some, None, IsSomeAnd, ◌≡�
 use Rattle.std.specs.Prelude.{bit_and, if◌then◌else◌}
 use Rattle.linker_base.specs.Bits.{field, signed}
 use Rattle.linker_elf.specs.LoongArch.{loongarch_form, pcalau12i}
-use Rattle.linker_loongarch64.specs.LoongArchRewrites.{adds_low12}
-use Rattle.linker_loongarch64.specs.LoongArchRewrites.{rd_of, rj_of}
+use Rattle.linker_utils.specs.LoongArchRewrites.{adds_low12}
+use Rattle.linker_utils.specs.LoongArchRewrites.{rd_of, rj_of}
 use Rattle.linker_elf.specs.Value.{sum_64}
 use Rattle.linker_elf.specs.declared.loongarch64.forms.LoongArch64Instruction.TheVariants.{Shift5}
 use Rattle.linker_elf.specs.declared.loongarch64.forms.LoongArch64Instruction.TheVariants.{Branch26}

@@ -5,22 +5,22 @@ use Rattle.std.specs.Prelude.{IsSomeAnd, IsTrue, ⊤, ◌/◌, ◌^◌, Option, 
 use Rattle.std.specs.Int.{w32, from_le_bytes}
 use Rattle.linker_base.specs.Rewrite.{Rewrite}
 use Rattle.linker_elf.specs.Choices.{RowIsWithin}
-use Rattle.linker_loongarch64.specs.LoongArchRewrites.{IsLowOfDescriptor, IsLoadOfDescriptor}
-use Rattle.linker_loongarch64.specs.LoongArchRewrites.{IsCallOfDescriptor, IsPcalau12i}
-use Rattle.linker_loongarch64.specs.LoongArchRewrites.{signed_32, unsigned_12}
-use Rattle.linker_loongarch64.specs.LoongArchRewrites.{signed_12}
-use Rattle.linker_loongarch64.specs.LoongArchRewrites.{IsAddi, IsLd, AreOfOneRegister, IsCall}
-use Rattle.linker_loongarch64.specs.LoongArchRewrites.{IsLu12i}
-use Rattle.linker_loongarch64.specs.LoongArchRewrites.{IsAddTp, adds_low12}
+use Rattle.linker_utils.specs.LoongArchRewrites.{IsLowOfDescriptor, IsLoadOfDescriptor}
+use Rattle.linker_utils.specs.LoongArchRewrites.{IsCallOfDescriptor, IsPcalau12i}
+use Rattle.linker_utils.specs.LoongArchRewrites.{signed_32, unsigned_12}
+use Rattle.linker_utils.specs.LoongArchRewrites.{signed_12}
+use Rattle.linker_utils.specs.LoongArchRewrites.{IsAddi, IsLd, AreOfOneRegister, IsCall}
+use Rattle.linker_utils.specs.LoongArchRewrites.{IsLu12i}
+use Rattle.linker_utils.specs.LoongArchRewrites.{IsAddTp, adds_low12}
 use Rattle.linker_elf.specs.LoongArch.{page}
 use Rattle.linker_elf.specs.LoongArchRelocations.{loongarch_row}
-use Rattle.linker_loongarch64.specs.LoongArchRewrites.{loongarch_rewrite, rd_of, rj_of, tp}
+use Rattle.linker_utils.specs.LoongArchRewrites.{loongarch_rewrite, rd_of, rj_of, tp}
 use Rattle.linker_elf.specs.Value.{sum_64, difference_64}
 use Rattle.linker_elf.specs.declared.elf.value.Operands.{Operands}
 use Rattle.linker_elf.specs.declared.loongarch64.relocations.LoongArch64Relocation.{LoongArch64Relocation}
 use Rattle.linker_elf.specs.declared.loongarch64.relocations.LoongArch64Relocation.TheVariants as names
-use Rattle.linker_loongarch64.specs.declared.rewrites.RelaxationKind.{RelaxationKind}
-use Rattle.linker_loongarch64.specs.declared.rewrites.RelaxationKind.TheVariants as kinds
+use Rattle.linker_utils.specs.declared.loongarch64.rewrites.RelaxationKind.{RelaxationKind}
+use Rattle.linker_utils.specs.declared.loongarch64.rewrites.RelaxationKind.TheVariants as kinds
 use Rattle.linker_elf.specs.Applied.{IsApplied}
 use Rattle.linker_laws.specs.Schemes.{AreAddresses, symbol_address, plt_address}
 use Rattle.linker_laws.specs.Schemes.{entry_and_addend}

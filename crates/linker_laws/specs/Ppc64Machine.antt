@@ -7,8 +7,8 @@ use Rattle.std.specs.Prelude.{if◌then◌else◌, true, false, List, [], ◌∷
 use Rattle.std.specs.Prelude.{Option, Some, None, IsSomeAnd}
 use Rattle.linker_base.specs.Bits.{field}
 use Rattle.linker_elf.specs.Ppc64.{ppc64_form}
-use Rattle.linker_ppc64.specs.Ppc64Rewrites.{is_access, is_word_access}
-use Rattle.linker_ppc64.specs.Ppc64Rewrites.{opcode_of, rt_of, ra_of, rb_of, access_of, nop}
+use Rattle.linker_utils.specs.Ppc64Rewrites.{is_access, is_word_access}
+use Rattle.linker_utils.specs.Ppc64Rewrites.{opcode_of, rt_of, ra_of, rb_of, access_of, nop}
 use Rattle.linker_elf.specs.Value.{sum_64}
 use Rattle.linker_elf.specs.declared.ppc64.forms.Ppc64Instruction.TheVariants.{D, Ds, Branch24}
 use Rattle.linker_elf.specs.declared.ppc64.forms.Ppc64Instruction.TheVariants.{Prefixed}

@@ -11,19 +11,19 @@ use Rattle.linker_base.specs.Rewrite.{rewritten}
 use Rattle.linker_elf.specs.Choices.{low_12_bounds, symbol_and_addend}
 use Rattle.linker_elf.specs.Elf.{IsWithin}
 use Rattle.linker_elf.specs.Originals.{HasWord}
-use Rattle.linker_riscv64.specs.RiscVRewrites.{riscv_rewrite, tp, a0}
-use Rattle.linker_riscv64.specs.RiscVCalls.{word_at, IsCallPair}
-use Rattle.linker_riscv64.specs.RiscVRewrites.{riscv_matches, opcode_of, funct3_of, rd_of, IsLui}
-use Rattle.linker_riscv64.specs.RiscVRewrites.{IsAddTp, IsAuipc, IsLd, IsAddiToA0}
-use Rattle.linker_riscv64.specs.RiscVRewrites.{IsCallOfDescriptor, half_at}
+use Rattle.linker_utils.specs.RiscVRewrites.{riscv_rewrite, tp, a0}
+use Rattle.linker_utils.specs.RiscVCalls.{word_at, IsCallPair}
+use Rattle.linker_utils.specs.RiscVRewrites.{riscv_matches, opcode_of, funct3_of, rd_of, IsLui}
+use Rattle.linker_utils.specs.RiscVRewrites.{IsAddTp, IsAuipc, IsLd, IsAddiToA0}
+use Rattle.linker_utils.specs.RiscVRewrites.{IsCallOfDescriptor, half_at}
 use Rattle.linker_elf.specs.RiscVRelocations.{riscv_row, clui_row, riscv_relocation}
 use Rattle.linker_elf.specs.Value.{sum_64, difference_64}
 use Rattle.linker_elf.specs.declared.elf.RelocationKindInfo.{RelocationKindInfo}
 use Rattle.linker_elf.specs.declared.elf.value.Operands.{Operands}
 use Rattle.linker_elf.specs.declared.riscv64.relocations.RiscVRelocation.{RiscVRelocation}
 use Rattle.linker_elf.specs.declared.riscv64.relocations.RiscVRelocation.TheVariants as names
-use Rattle.linker_riscv64.specs.declared.rewrites.RelaxationKind.{RelaxationKind}
-use Rattle.linker_riscv64.specs.declared.rewrites.RelaxationKind.TheVariants as kinds
+use Rattle.linker_utils.specs.declared.riscv64.rewrites.RelaxationKind.{RelaxationKind}
+use Rattle.linker_utils.specs.declared.riscv64.rewrites.RelaxationKind.TheVariants as kinds
 use Rattle.linker_laws.specs.RiscVRelocationLaws.{even}
 use Rattle.linker_laws.specs.Schemes.{AreAddresses, symbol_address, plt_address}
 use Rattle.linker_laws.specs.Schemes.{entry_and_addend}

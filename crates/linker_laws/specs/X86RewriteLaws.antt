@@ -6,17 +6,17 @@ use Rattle.std.specs.List.{All}
 use Rattle.linker_base.specs.Rewrite.{rewritten, offset_after}
 use Rattle.linker_elf.specs.Choices.{operands_after}
 use Rattle.linker_elf.specs.Value.{difference_64}
-use Rattle.linker_x86_64.specs.X86Rewrites.{x86_64_rewrite}
-use Rattle.linker_x86_64.specs.X86Rewrites.{Original, is_one_at, legacy, x86_64_matches}
-use Rattle.linker_x86_64.specs.X86Rewrites.{x86_64_originals}
+use Rattle.linker_utils.specs.X86Rewrites.{x86_64_rewrite}
+use Rattle.linker_utils.specs.X86Rewrites.{Original, is_one_at, legacy, x86_64_matches}
+use Rattle.linker_utils.specs.X86Rewrites.{x86_64_originals}
 use Rattle.linker_elf.specs.X86Relocations.{x86_64_row}
-use Rattle.linker_x86_64.specs.X86RelocationsAfter.{x86_64_relocation_after}
+use Rattle.linker_utils.specs.X86RelocationsAfter.{x86_64_relocation_after}
 use Rattle.linker_elf.specs.declared.elf.RelocationKindInfo.{RelocationKindInfo}
 use Rattle.linker_elf.specs.declared.elf.value.Operands.{Operands}
 use Rattle.linker_elf.specs.declared.x86_64.relocations.X86_64Relocation.{X86_64Relocation}
 use Rattle.linker_elf.specs.declared.x86_64.relocations.X86_64Relocation.TheVariants as names
-use Rattle.linker_x86_64.specs.declared.rewrites.RelaxationKind.{RelaxationKind}
-use Rattle.linker_x86_64.specs.declared.rewrites.RelaxationKind.TheVariants as kinds
+use Rattle.linker_utils.specs.declared.x86_64.rewrites.RelaxationKind.{RelaxationKind}
+use Rattle.linker_utils.specs.declared.x86_64.rewrites.RelaxationKind.TheVariants as kinds
 use Rattle.linker_elf.specs.Applied.{IsApplied}
 use Rattle.linker_laws.specs.Schemes.{AreAddresses}
 use Rattle.linker_laws.specs.X86Machine.{State, load, step}

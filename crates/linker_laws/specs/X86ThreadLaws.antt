@@ -7,17 +7,17 @@ use Rattle.linker_base.specs.Rewrite.{rewritten, offset_after}
 use Rattle.linker_elf.specs.Choices.{operands_after}
 use Rattle.linker_elf.specs.Relocate.{number_of_bytes}
 use Rattle.linker_elf.specs.Value.{sum_64, difference_64}
-use Rattle.linker_x86_64.specs.X86Rewrites.{x86_64_rewrite}
-use Rattle.linker_x86_64.specs.X86Rewrites.{x86_64_matches, Original, original, byte, field4}
-use Rattle.linker_x86_64.specs.X86Rewrites.{is_one_at, lea_of_descriptor}
+use Rattle.linker_utils.specs.X86Rewrites.{x86_64_rewrite}
+use Rattle.linker_utils.specs.X86Rewrites.{x86_64_matches, Original, original, byte, field4}
+use Rattle.linker_utils.specs.X86Rewrites.{is_one_at, lea_of_descriptor}
 use Rattle.linker_elf.specs.X86Relocations.{x86_64_row}
-use Rattle.linker_x86_64.specs.X86RelocationsAfter.{x86_64_relocation_after}
+use Rattle.linker_utils.specs.X86RelocationsAfter.{x86_64_relocation_after}
 use Rattle.std.specs.Prelude.{IsFalse, [], ◌∷◌}
 use Rattle.linker_elf.specs.declared.elf.value.Operands.{Operands}
 use Rattle.linker_elf.specs.declared.x86_64.relocations.X86_64Relocation.TheVariants as names
 use Rattle.linker_elf.specs.declared.x86_64.relocations.X86_64Relocation.{X86_64Relocation}
-use Rattle.linker_x86_64.specs.declared.rewrites.RelaxationKind.{RelaxationKind}
-use Rattle.linker_x86_64.specs.declared.rewrites.RelaxationKind.TheVariants as kinds
+use Rattle.linker_utils.specs.declared.x86_64.rewrites.RelaxationKind.{RelaxationKind}
+use Rattle.linker_utils.specs.declared.x86_64.rewrites.RelaxationKind.TheVariants as kinds
 use Rattle.linker_elf.specs.Applied.{IsApplied}
 use Rattle.linker_laws.specs.Schemes.{AreAddresses}
 use Rattle.linker_laws.specs.X86RewriteLaws.{IsBefore, IsRelocated, thread_offset}

@@ -4,7 +4,7 @@ use Rattle.std.proofs.Common.{List, [], ◌∷◌, eqb, cond, Some, None, Option
 use Rattle.std.specs.Prelude.{IsSomeAnd, ◌||◌}
 use Rattle.std.proofs.lemmas.Bool.{eq-eqb, cond-true}
 use Rattle.linker_base.specs.Bits.{field}
-use Rattle.linker_aarch64.specs.AArch64Rewrites.{rd_of, rn_of, IsLdr64}
+use Rattle.linker_utils.specs.AArch64Rewrites.{rd_of, rn_of, IsLdr64}
 use Rattle.linker_elf.specs.Value.{sum_64}
 use Rattle.linker_elf.specs.declared.aarch64.relocations.AArch64Relocation.TheVariants as r
 use Rattle.linker_laws.specs.AArch64Machine.{State, step, run, load_64, adrp_address, loaded, added, add, ldr, go_to}

@@ -11,7 +11,7 @@ use Rattle.linker_elf.specs.declared.loongarch64.relocations.LoongArch64Relocati
 use Rattle.linker_laws.specs.LoongArchMachine as machine
 use Rattle.linker_laws.specs.LoongArchMachine.{State, read, write, go_to, next_pc, sum_of, register_target}
 use Rattle.linker_laws.specs.LoongArchRelocationLaws as relocation_laws
-use Rattle.linker_loongarch64.specs.LoongArchRewrites.{rd_of, rj_of}
+use Rattle.linker_utils.specs.LoongArchRewrites.{rd_of, rj_of}
 use Rattle.linker_laws.specs.LoongArchRewriteLaws.{word_of}
 use Rattle.linker_laws.specs.Machine.{wrapped, loaded}
 use Rattle.linker_laws.specs.Schemes.{IsAddress, symbol_address}

@@ -8,7 +8,7 @@ use Rattle.std.proofs.lemmas.List.{append-nil}
 use Rattle.std.proofs.lemmas.List.Elements.{All-cons, All-nil}
 use Rattle.linker_elf.specs.LoongArchRelocations.{loongarch_name, loongarch_row}
 use Rattle.linker_elf.specs.declared.loongarch64.relocations.LoongArch64Relocation.TheVariants as r
-use Rattle.linker_loongarch64.specs.LoongArchRewrites.{rd_of, rj_of, IsCall}
+use Rattle.linker_utils.specs.LoongArchRewrites.{rd_of, rj_of, IsCall}
 use Rattle.linker_laws.specs.LoongArchMachine.{State, step, decode, pcaddu_18, jirl, run, execute, write, next_pc, continue, go_to, go_on, page_address, far_address, register_target}
 use Rattle.linker_laws.specs.LoongArchRelocationLaws as relocation_laws
 use Rattle.linker_laws.specs.LoongArchRewriteLaws.{word_of}

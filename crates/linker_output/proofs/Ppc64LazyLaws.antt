@@ -33,7 +33,7 @@ use Rattle.linker_output.specs.Ppc64Stubs.{Counted, step_counted, with_state, mo
 use Rattle.linker_output.specs.Tables.{field_of, code_of_words}
 use Rattle.linker_output.specs.declared.lazy_plt.LazyField.{LazyField}
 use Rattle.linker_output.specs.declared.lazy_plt.LazyTarget.TheVariants.{Word, Header}
-use Rattle.linker_ppc64.specs.Ppc64Rewrites.{opcode_of}
+use Rattle.linker_utils.specs.Ppc64Rewrites.{opcode_of}
 
 -- ---- `b`
 

@@ -24,7 +24,7 @@ use Rattle.linker_output.specs.Ppc64Stubs.{Counted, step_counted, stepped, lifte
 use Rattle.linker_output.specs.Ppc64Stubs as stubs
 use Rattle.linker_output.specs.Stubs.{StubCode, operands_of}
 use Rattle.linker_output.specs.Tables.{field_of}
-use Rattle.linker_ppc64.specs.Ppc64Rewrites.{opcode_of, rt_of, ra_of}
+use Rattle.linker_utils.specs.Ppc64Rewrites.{opcode_of, rt_of, ra_of}
 
 -- ---- steps
 

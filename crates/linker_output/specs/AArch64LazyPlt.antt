@@ -4,7 +4,7 @@ use Rattle.std.specs.Prelude.{◌≡◌, ◌==◌, ◌||◌, ◌≤◌, ◌/◌,
 use Rattle.std.specs.Prelude.{Some, ◌+ℤ◌, ◌*ℤ◌, pos}
 use Rattle.std.specs.Prelude.{IsSomeAnd, if◌then◌else◌}
 use Rattle.linker_base.specs.Bits.{field, signed}
-use Rattle.linker_aarch64.specs.AArch64Rewrites.{rd_of, rn_of}
+use Rattle.linker_utils.specs.AArch64Rewrites.{rd_of, rn_of}
 use Rattle.linker_elf.specs.Value.{sum_64, difference_64}
 use Rattle.linker_laws.specs.AArch64Machine as machine
 use Rattle.linker_laws.specs.AArch64Machine.{State, read_x, write_x_or_sp, go_on, load_64}

@@ -2,7 +2,7 @@
 -- C6.2).
 use Rattle.std.specs.Prelude.{◌≡◌, ◌==◌, ◌&&◌, ◌||◌, ◌/◌, ◌^◌, ◌<◌, ◌∷◌, [], ℕ, List, Bool, false}
 use Rattle.std.specs.Prelude.{Option, Some, None, IsSomeAnd, if◌then◌else◌, drop}
-use Rattle.linker_aarch64.specs.AArch64Rewrites.{rd_of, rn_of}
+use Rattle.linker_utils.specs.AArch64Rewrites.{rd_of, rn_of}
 use Rattle.linker_elf.specs.Value.{sum_64}
 use Rattle.linker_laws.specs.AArch64Machine.{State, read_x, go_to, load_64, run}
 use Rattle.linker_laws.specs.AArch64RewriteLaws.{word_of}

@@ -8,7 +8,7 @@ use Rattle.linker_elf.specs.Value.{sum_64, difference_64}
 use Rattle.linker_laws.specs.LoongArchMachine as machine
 use Rattle.linker_laws.specs.LoongArchMachine.{State, read, write, go_on}
 use Rattle.linker_laws.specs.Machine.{loaded, wrapped}
-use Rattle.linker_loongarch64.specs.LoongArchRewrites.{rd_of, rj_of}
+use Rattle.linker_utils.specs.LoongArchRewrites.{rd_of, rj_of}
 use Rattle.linker_output.specs.LazyPlt.{IsCode, header_places}
 use Rattle.linker_output.specs.LazyPlts.{loongarch_entry, loongarch_header}
 use Rattle.linker_output.specs.LazyRuns.{words, or_else, run_by}

@@ -14,7 +14,7 @@ use Rattle.linker_output.specs.Layout.{Run}
 use Rattle.linker_output.specs.Ppc64Output.{ppc64_output}
 use Rattle.linker_output.specs.Ppc64Saves.{Returns, step, words_from, is_from}
 use Rattle.linker_output.specs.Ppc64Stubs.{Counted, with_state}
-use Rattle.linker_ppc64.specs.Ppc64Rewrites.{opcode_of, rt_of}
+use Rattle.linker_utils.specs.Ppc64Rewrites.{opcode_of, rt_of}
 
 -- ---- the vector registers
 

@@ -27,7 +27,7 @@ use Rattle.linker_output.specs.declared.routes.RouteError.{RouteError}
 use Rattle.linker_output.specs.declared.routes.RouteError.TheVariants as errors
 use Rattle.linker_output.specs.declared.stubs.StubKind.{StubKind}
 use Rattle.linker_output.specs.declared.stubs.StubKind.TheVariants.{Load, Jump}
-use Rattle.linker_ppc64.specs.Ppc64Rewrites.{HasTwo}
+use Rattle.linker_utils.specs.Ppc64Rewrites.{HasTwo}
 use Rattle.linker_section.specs.Conditions.{changes_toc}
 use Rattle.linker_section.specs.Needed.{may_use_stub}
 use Rattle.linker_section.specs.Sections.{IsRejected}

@@ -16,7 +16,7 @@ use Rattle.linker_reading.specs.FieldsOfBytes.{is_field_bit, is_size_bit, is_val
 use Rattle.linker_reading.specs.Recognised.{DifferOnlyInFields}
 use Rattle.linker_reading.specs.X86WrittenFields.{WritesField, X86WrittenIsLeft}
 use Rattle.linker_base.specs.Rewrite.{rewritten, offset_after}
-use Rattle.linker_x86_64.specs.X86Rewrites.{x86_64_rewrite}
+use Rattle.linker_utils.specs.X86Rewrites.{x86_64_rewrite}
 use Rattle.linker_elf.specs.declared.elf.RelocationKind.TheVariants.{AbsoluteSetWord6, AbsoluteAdditionWord6, AbsoluteSubtractionWord6}
 use Rattle.linker_reading.specs.declared.recognise.fields.FieldBits.{FieldBits}
 

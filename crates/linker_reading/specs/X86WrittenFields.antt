@@ -10,8 +10,8 @@ use Rattle.linker_reading.specs.FieldsOfBytes.{AreSameButFor}
 use Rattle.linker_reading.specs.Recognised.{DiffersOnlyInFields}
 use Rattle.linker_reading.specs.declared.recognise.fields.FieldBits.{FieldBits}
 use Rattle.linker_utils.specs.declared.architecture.Relaxation.TheVariants.{X86_64}
-use Rattle.linker_x86_64.specs.X86Rewrites.{x86_64_rewrite}
-use Rattle.linker_x86_64.specs.declared.rewrites.RelaxationKind.{RelaxationKind}
+use Rattle.linker_utils.specs.X86Rewrites.{x86_64_rewrite}
+use Rattle.linker_utils.specs.declared.x86_64.rewrites.RelaxationKind.{RelaxationKind}
 
 -- a write changes bits of the row's field only
 abbrev pub WritesField : RelocationKindInfo → Type 0

@@ -9,7 +9,7 @@ use Rattle.linker_elf.specs.ElfNames.{code_of}
 use Rattle.linker_elf.specs.LoongArchRelocations.{loongarch_name}
 use Rattle.linker_elf.specs.declared.loongarch64.relocations.LoongArch64Relocation.{LoongArch64Relocation}
 use Rattle.linker_elf.specs.declared.loongarch64.relocations.LoongArch64Relocation.TheVariants as r
-use Rattle.linker_loongarch64.specs.LoongArchRewrites.{IsAddi, IsCall, IsPair}
+use Rattle.linker_utils.specs.LoongArchRewrites.{IsAddi, IsCall, IsPair}
 use Rattle.linker_runs.specs.declared.shapes.loongarch64.TheConstants.{CALL36, PCALA}
 use Rattle.linker_runs.specs.declared.relaxation.Site.{Site as site}
 use Rattle.linker_runs.specs.declared.relaxation.Alignment.{Alignment}

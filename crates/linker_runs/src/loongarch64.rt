@@ -18,7 +18,7 @@ use crate::items::{
 };
 use crate::relaxation::{Alignment, Item, Shapes, Site};
 use crate::shapes::loongarch64::{CALL36, PCALA};
-use linker_loongarch64::{LoongArch64Relocation, RelaxationKind};
+use linker_utils::loongarch64::{LoongArch64Relocation, RelaxationKind};
 
 /// Whether a relocation has a name.
 #[inline(always)]

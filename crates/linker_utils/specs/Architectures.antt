@@ -2,44 +2,44 @@
 use Rattle.std.specs.Prelude.{◌≡◌, ◌↔◌, ℕ, Bool, IsTrue, List, slice_get, Option, Some, None, false}
 use Rattle.linker_base.specs.Rewrite.{Rewrite}
 use Rattle.linker_base.specs.declared.relaxation.RelocationModifier.{RelocationModifier}
-use Rattle.linker_aarch64.specs.AArch64Rewrites.{aarch64_rewrite, aarch64_modifier, aarch64_other}
+use Rattle.linker_utils.specs.AArch64Rewrites.{aarch64_rewrite, aarch64_modifier, aarch64_other}
 use Rattle.linker_elf.specs.AArch64.{aarch64_forms}
-use Rattle.linker_aarch64.specs.AArch64Rewrites.{aarch64_rewrites}
-use Rattle.linker_aarch64.specs.AArch64Rewrites.{IsAArch64Choice}
-use Rattle.linker_aarch64.specs.AArch64Rewrites.{aarch64_matches}
+use Rattle.linker_utils.specs.AArch64Rewrites.{aarch64_rewrites}
+use Rattle.linker_utils.specs.AArch64Rewrites.{IsAArch64Choice}
+use Rattle.linker_utils.specs.AArch64Rewrites.{aarch64_matches}
 use Rattle.linker_elf.specs.AArch64Relocations.{aarch64_name, aarch64_row}
 use Rattle.linker_elf.specs.Choices.{with_group}
 use Rattle.linker_elf.specs.ElfNames.{ElfName, IsNameOf, code_of}
 use Rattle.linker_elf.specs.LoongArch.{loongarch64_forms}
-use Rattle.linker_loongarch64.specs.LoongArchRewrites.{IsLoongArchChoice}
-use Rattle.linker_loongarch64.specs.LoongArchRewrites.{loongarch_matches}
+use Rattle.linker_utils.specs.LoongArchRewrites.{IsLoongArchChoice}
+use Rattle.linker_utils.specs.LoongArchRewrites.{loongarch_matches}
 use Rattle.linker_elf.specs.LoongArchRelocations.{loongarch_name, loongarch_row}
 use Rattle.linker_elf.specs.LoongArchRelocations.{loongarch_uleb128_role}
-use Rattle.linker_loongarch64.specs.LoongArchRewrites.{loongarch_rewrite, loongarch_modifier}
-use Rattle.linker_loongarch64.specs.LoongArchRewrites.{loongarch_deleted, loongarch64_rewrites}
+use Rattle.linker_utils.specs.LoongArchRewrites.{loongarch_rewrite, loongarch_modifier}
+use Rattle.linker_utils.specs.LoongArchRewrites.{loongarch_deleted, loongarch64_rewrites}
 use Rattle.linker_elf.specs.Ppc64.{ppc64_forms}
-use Rattle.linker_ppc64.specs.Ppc64Rewrites.{IsPpc64Choice}
-use Rattle.linker_ppc64.specs.Ppc64Rewrites.{ppc64_matches}
-use Rattle.linker_ppc64.specs.Ppc64Rewrites.{ppc64_skipped, ppc64_may_be_skipped}
+use Rattle.linker_utils.specs.Ppc64Rewrites.{IsPpc64Choice}
+use Rattle.linker_utils.specs.Ppc64Rewrites.{ppc64_matches}
+use Rattle.linker_utils.specs.Ppc64Rewrites.{ppc64_skipped, ppc64_may_be_skipped}
 use Rattle.linker_elf.specs.Ppc64Relocations.{ppc64_name, ppc64_row}
-use Rattle.linker_ppc64.specs.Ppc64Rewrites.{ppc64_rewrites, ppc64_rewrite, ppc64_modifier}
+use Rattle.linker_utils.specs.Ppc64Rewrites.{ppc64_rewrites, ppc64_rewrite, ppc64_modifier}
 use Rattle.linker_elf.specs.RiscV.{riscv_forms}
-use Rattle.linker_riscv64.specs.RiscVRewrites.{riscv_rewrites, riscv_rewrite, riscv_modifier}
-use Rattle.linker_riscv64.specs.RiscVRewrites.{riscv_deleted}
-use Rattle.linker_riscv64.specs.RiscVRewrites.{IsRiscVChoice}
-use Rattle.linker_riscv64.specs.RiscVRewrites.{riscv_matches}
-use Rattle.linker_riscv64.specs.RiscVRewrites.{riscv_skipped, riscv_may_be_skipped}
+use Rattle.linker_utils.specs.RiscVRewrites.{riscv_rewrites, riscv_rewrite, riscv_modifier}
+use Rattle.linker_utils.specs.RiscVRewrites.{riscv_deleted}
+use Rattle.linker_utils.specs.RiscVRewrites.{IsRiscVChoice}
+use Rattle.linker_utils.specs.RiscVRewrites.{riscv_matches}
+use Rattle.linker_utils.specs.RiscVRewrites.{riscv_skipped, riscv_may_be_skipped}
 use Rattle.linker_elf.specs.RiscVRelocations.{riscv_relocation, riscv_name, riscv_uleb128_role}
-use Rattle.linker_x86_64.specs.X86Rewrites.{x86_64_rewrites, x86_64_rewrite, x86_64_modifier}
-use Rattle.linker_x86_64.specs.X86Rewrites.{IsX86Choice}
-use Rattle.linker_x86_64.specs.X86Rewrites.{x86_64_matches}
-use Rattle.linker_x86_64.specs.X86Rewrites.{x86_64_skipped, x86_64_may_be_skipped}
+use Rattle.linker_utils.specs.X86Rewrites.{x86_64_rewrites, x86_64_rewrite, x86_64_modifier}
+use Rattle.linker_utils.specs.X86Rewrites.{IsX86Choice}
+use Rattle.linker_utils.specs.X86Rewrites.{x86_64_matches}
+use Rattle.linker_utils.specs.X86Rewrites.{x86_64_skipped, x86_64_may_be_skipped}
 use Rattle.linker_elf.specs.X86Relocations.{x86_64_name, x86_64_row}
-use Rattle.linker_aarch64.specs.declared.rewrites.RelaxationKind.TheVariants as aarch64
-use Rattle.linker_loongarch64.specs.declared.rewrites.RelaxationKind.TheVariants as loongarch64
-use Rattle.linker_ppc64.specs.declared.rewrites.RelaxationKind.TheVariants as ppc64
-use Rattle.linker_riscv64.specs.declared.rewrites.RelaxationKind.TheVariants as riscv64
-use Rattle.linker_x86_64.specs.declared.rewrites.RelaxationKind.TheVariants as x86_64
+use Rattle.linker_utils.specs.declared.aarch64.rewrites.RelaxationKind.TheVariants as aarch64
+use Rattle.linker_utils.specs.declared.loongarch64.rewrites.RelaxationKind.TheVariants as loongarch64
+use Rattle.linker_utils.specs.declared.ppc64.rewrites.RelaxationKind.TheVariants as ppc64
+use Rattle.linker_utils.specs.declared.riscv64.rewrites.RelaxationKind.TheVariants as riscv64
+use Rattle.linker_utils.specs.declared.x86_64.rewrites.RelaxationKind.TheVariants as x86_64
 use Rattle.linker_utils.specs.declared.architecture.Relaxation.{Relaxation}
 use Rattle.linker_utils.specs.declared.architecture.Relaxation.TheVariants as relaxations
 use Rattle.linker_utils.specs.declared.elf.Architecture.{Architecture}

@@ -1,9 +1,18 @@
+pub mod AArch64Rewrites
 pub mod Architectures
 pub mod Handles
 pub mod Inner
+pub mod LoongArchRewrites
 pub mod Machines
+pub mod Packing
+pub mod Ppc64Rewrites
+pub mod RiscVCalls
+pub mod RiscVRewrites
+pub mod Shrinking
 pub mod Uleb128
 pub mod WriteErrors
+pub mod X86RelocationsAfter
+pub mod X86Rewrites
 -- the definitions that public contracts of the crates below cite
 pub use Rattle.linker_base.specs.Bits
 pub use Rattle.linker_base.specs.Blocks
@@ -45,15 +54,6 @@ pub use Rattle.linker_elf.specs.RiscVRelocations
 pub use Rattle.linker_elf.specs.Rows
 pub use Rattle.linker_elf.specs.Value
 pub use Rattle.linker_elf.specs.X86Relocations
-pub use Rattle.linker_aarch64.specs.AArch64Rewrites
-pub use Rattle.linker_riscv64.specs.Packing
-pub use Rattle.linker_riscv64.specs.RiscVCalls
-pub use Rattle.linker_riscv64.specs.RiscVRewrites
-pub use Rattle.linker_riscv64.specs.Shrinking
-pub use Rattle.linker_loongarch64.specs.LoongArchRewrites
-pub use Rattle.linker_ppc64.specs.Ppc64Rewrites
-pub use Rattle.linker_x86_64.specs.X86Rewrites
-pub use Rattle.linker_x86_64.specs.X86RelocationsAfter
 -- the types whose values these definitions and contracts name
 pub use Rattle.linker_base.specs.declared.bit_misc.BitRange
 pub use Rattle.linker_base.specs.declared.relaxation.OutOfMemory
@@ -77,7 +77,3 @@ pub use Rattle.linker_elf.specs.declared.loongarch64.relocations.LoongArch64Relo
 pub use Rattle.linker_elf.specs.declared.ppc64.relocations.Ppc64Relocation
 pub use Rattle.linker_elf.specs.declared.riscv64.relocations.RiscVRelocation
 pub use Rattle.linker_elf.specs.declared.x86_64.relocations.X86_64Relocation
-pub use Rattle.linker_riscv64.specs.declared.calls.CallError
-pub use Rattle.linker_riscv64.specs.declared.calls.JumpError
-pub use Rattle.linker_riscv64.specs.declared.calls.LinkRegister
-pub use Rattle.linker_riscv64.specs.declared.packing.PackError

@@ -2,7 +2,7 @@
 
 ghost use Rattle.std.specs.Prelude.{◌≡◌, ◌≢◌, IfOk, IfErr, IfSome, IfNone, slice_get};
 ghost use Rattle.linker_base.specs.Rewrite.{CanRewrite};
-ghost use Rattle.linker_riscv64.specs.RiscVRewrites.{riscv_rewrite, riscv_rewrites};
+ghost use Rattle.linker_utils.specs.RiscVRewrites.{riscv_rewrite, riscv_rewrites};
 ghost use Rattle.linker_utils.specs.Architectures.{relaxation_rewrite, relaxation_modifier};
 ghost use Rattle.linker_utils_c.specs.Rewrites.{named_rewrite, modifier_number, TakesRewrite};
 ghost use Rattle.linker_utils_c.specs.Rewrites.{IsRewritten, MatchesRewrite};

@@ -2,7 +2,7 @@
 
 ghost use Rattle.std.specs.Prelude.{◌≡◌, ◌≢◌, ◌<◌, ◌≤◌, ◌++◌, ◌⊎◌, Some, length, drop};
 ghost use Rattle.std.specs.Int.{from_le_bytes, w32};
-ghost use Rattle.linker_aarch64.specs.AArch64Rewrites.{mov_words, mov4};
+ghost use Rattle.linker_utils.specs.AArch64Rewrites.{mov_words, mov4};
 ghost use Rattle.linker_elf.specs.LoongArch.{MakesAddress, high_distance};
 ghost use Rattle.linker_elf.specs.Ppc64.{PairHolds, KeepsHigh};
 ghost use Rattle.linker_utils_c.specs.Status.{code, HasRoom};

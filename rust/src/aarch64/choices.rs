@@ -1,5 +1,5 @@
 // SPDX-License-Identifier: MIT OR Apache-2.0
-// Made by tools/generate of crates/linker_aarch64/src/choices.rt.
+// Made by tools/generate of crates/linker_utils/src/aarch64/choices.rt.
 //! The rewrites that a linker of AArch64 chooses.
 
 use super::rewrites::{

@@ -1,5 +1,5 @@
 // SPDX-License-Identifier: MIT OR Apache-2.0
-// Made by tools/generate of crates/linker_aarch64/src/rewrites.rt.
+// Made by tools/generate of crates/linker_utils/src/aarch64/rewrites.rt.
 //! Relaxation rewrites of AArch64.
 
 use crate::linker_base::bit_misc::BitExtraction;
@@ -44,12 +44,12 @@ pub enum RelaxationKind {
     /// Writes `ldr x0, [x0]`.
     LdrX0,
     /// Turns `add` into `adr`: clears bits 24, 27 and 31. The immediate is unchanged, and
-    /// [`AArch64Instruction::Adr`](crate::elf::AArch64Instruction::Adr) only ORs a value into them: the caller clears bits 5 to 23, 29 and
+    /// [`AArch64Instruction::Adr`](crate::aarch64::AArch64Instruction::Adr) only ORs a value into them: the caller clears bits 5 to 23, 29 and
     /// 30 before that write.
     AddToAdr,
     /// Turns `ldr` with an unsigned offset into `adr`: clears bits 24, 27 and 31. The immediate's
     /// old bits are unchanged, as are bits 22, 29 and 30 of the opcode, which are immediate bits of
-    /// `adr`: the caller clears bits 5 to 23, 29 and 30 before it writes [`AArch64Instruction::Adr`](crate::elf::AArch64Instruction::Adr).
+    /// `adr`: the caller clears bits 5 to 23, 29 and 30 before it writes [`AArch64Instruction::Adr`](crate::aarch64::AArch64Instruction::Adr).
     LdrToAdr,
     /// Turns LDR (immediate), 64 bits with an unsigned offset, into ADD (immediate). Bits 0 to 20
     /// are unchanged. Requires such an instruction.

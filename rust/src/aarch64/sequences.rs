@@ -1,5 +1,5 @@
 // SPDX-License-Identifier: MIT OR Apache-2.0
-// Made by tools/generate of crates/linker_aarch64/src/sequences.rt.
+// Made by tools/generate of crates/linker_utils/src/aarch64/sequences.rt.
 //! Moves that load a number of 64 bits.
 
 use super::rewrites::put_word;

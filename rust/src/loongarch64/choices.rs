@@ -1,5 +1,5 @@
 // SPDX-License-Identifier: MIT OR Apache-2.0
-// Made by tools/generate of crates/linker_loongarch64/src/choices.rt.
+// Made by tools/generate of crates/linker_utils/src/loongarch64/choices.rt.
 //! LoongArch: which rewrite a linker chooses for a relocation.
 
 use super::rewrites::{

@@ -1,5 +1,5 @@
 // SPDX-License-Identifier: MIT OR Apache-2.0
-// Made by tools/generate of crates/linker_loongarch64/src/rewrites.rt.
+// Made by tools/generate of crates/linker_utils/src/loongarch64/rewrites.rt.
 //! LoongArch: relaxation rewrites.
 
 use crate::linker_base::relaxation::RelocationModifier;

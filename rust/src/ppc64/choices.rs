@@ -1,5 +1,5 @@
 // SPDX-License-Identifier: MIT OR Apache-2.0
-// Made by tools/generate of crates/linker_ppc64/src/choices.rt.
+// Made by tools/generate of crates/linker_utils/src/ppc64/choices.rt.
 //! PowerPC64: which rewrite a linker chooses for a relocation.
 
 use super::rewrites::RelaxationKind;

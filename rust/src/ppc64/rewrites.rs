@@ -1,5 +1,5 @@
 // SPDX-License-Identifier: MIT OR Apache-2.0
-// Made by tools/generate of crates/linker_ppc64/src/rewrites.rt.
+// Made by tools/generate of crates/linker_utils/src/ppc64/rewrites.rt.
 //! Relaxation rewrites of PowerPC64.
 
 use crate::linker_base::relaxation::RelocationModifier;

@@ -1,5 +1,5 @@
 // SPDX-License-Identifier: MIT OR Apache-2.0
-// Made by tools/generate of crates/linker_riscv64/src/calls.rt.
+// Made by tools/generate of crates/linker_utils/src/riscv64/calls.rt.
 //! RISC-V: calls that become jumps.
 
 use super::fields::{base, destination, function, opcode};

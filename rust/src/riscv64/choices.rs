@@ -1,5 +1,5 @@
 // SPDX-License-Identifier: MIT OR Apache-2.0
-// Made by tools/generate of crates/linker_riscv64/src/choices.rt.
+// Made by tools/generate of crates/linker_utils/src/riscv64/choices.rt.
 //! RISC-V: which rewrite a linker chooses for a relocation.
 
 use super::fields::word_at;

@@ -1,5 +1,5 @@
 // SPDX-License-Identifier: MIT OR Apache-2.0
-// Made by tools/generate of crates/linker_riscv64/src/fields.rt.
+// Made by tools/generate of crates/linker_utils/src/riscv64/fields.rt.
 //! RISC-V: the fields of an instruction of four bytes, as its base formats have them (RISC-V
 //! unprivileged ISA, "Base Instruction Formats").
 //!

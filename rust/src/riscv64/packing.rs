@@ -1,5 +1,5 @@
 // SPDX-License-Identifier: MIT OR Apache-2.0
-// Made by tools/generate of crates/linker_riscv64/src/packing.rt.
+// Made by tools/generate of crates/linker_utils/src/riscv64/packing.rt.
 //! The kept bytes of a section, with its calls made jumps.
 
 use alloc::vec::Vec;

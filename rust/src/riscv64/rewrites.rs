@@ -1,5 +1,5 @@
 // SPDX-License-Identifier: MIT OR Apache-2.0
-// Made by tools/generate of crates/linker_riscv64/src/rewrites.rt.
+// Made by tools/generate of crates/linker_utils/src/riscv64/rewrites.rt.
 //! RISC-V: relaxation rewrites.
 
 use super::calls::{is_call_pair, is_plain_call};

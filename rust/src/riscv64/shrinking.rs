@@ -1,5 +1,5 @@
 // SPDX-License-Identifier: MIT OR Apache-2.0
-// Made by tools/generate of crates/linker_riscv64/src/shrinking.rt.
+// Made by tools/generate of crates/linker_utils/src/riscv64/shrinking.rt.
 //! The calls of a section that can become jumps at once.
 
 use alloc::vec::Vec;

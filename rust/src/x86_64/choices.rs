@@ -1,5 +1,5 @@
 // SPDX-License-Identifier: MIT OR Apache-2.0
-// Made by tools/generate of crates/linker_x86_64/src/choices.rt.
+// Made by tools/generate of crates/linker_utils/src/x86_64/choices.rt.
 //! Which rewrite is chosen for a relocation of x86-64.
 
 use super::rewrites::{is_lea_of_descriptor, is_legacy};

@@ -1,5 +1,5 @@
 // SPDX-License-Identifier: MIT OR Apache-2.0
-// Made by tools/generate of crates/linker_x86_64/src/rewrites.rt.
+// Made by tools/generate of crates/linker_utils/src/x86_64/rewrites.rt.
 //! Relaxation rewrites of x86-64.
 
 use super::X86_64Relocation;

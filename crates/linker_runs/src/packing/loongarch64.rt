@@ -21,7 +21,7 @@ use crate::relaxation::Shapes;
 use crate::shapes::loongarch64::{CALL36, PCALA};
 use linker_base::utils::u32_from_slice;
 use linker_elf::elf::{AllowedRange, Row, Sign};
-use linker_loongarch64::{self, LoongArch64Relocation};
+use linker_utils::loongarch64::{self, LoongArch64Relocation};
 
 /// The instructions of a site.
 #[derive(Clone, Copy)]
@@ -38,7 +38,7 @@ fn row_of(name: LoongArch64Relocation) -> Row
     requires { IsSomeAnd (loongarch_row name) (λ _. ⊤) }
     ensures { loongarch_row name ≡ Some result }
 {
-    match linker_loongarch64::row(name) {
+    match linker_utils::loongarch64::row(name) {
         Some(row) => row,
         None => unreachable!(),
     }

@@ -18,9 +18,9 @@ use crate::relaxation::Item;
 use linker_base::packing::{Position, position_from, position_of};
 use linker_base::relaxation::RelaxDelta;
 use linker_base::rewrite::overwrite;
-use linker_loongarch64::LoongArch64Relocation;
-use linker_riscv64::RiscVRelocation;
 use linker_section::relocations::{RELA_LEN, Rela, relocation_at, relocations_len};
+use linker_utils::loongarch64::LoongArch64Relocation;
+use linker_utils::riscv64::RiscVRelocation;
 
 /// The type of a relocation at a site whose instructions became one of n bytes: that of the
 /// one instruction. 0 where it isn't that of the site.

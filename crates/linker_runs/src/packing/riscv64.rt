@@ -5,8 +5,8 @@ ghost use Rattle.std.specs.Prelude.{None, IfOk, IfErr, OnOk, length, IsTrue, ◌
 ghost use Rattle.std.specs.Prelude.{IsSomeAnd, IfSome, IfNone, ⊤};
 ghost use Rattle.std.specs.Int.{w32, to_le_bytes};
 ghost use Rattle.linker_elf.specs.RiscVRelocations.{riscv_relocation};
-ghost use Rattle.linker_riscv64.specs.RiscVCalls.{link_register};
-ghost use Rattle.linker_riscv64.specs.declared.calls.LinkRegister.TheVariants.{OfJalr};
+ghost use Rattle.linker_utils.specs.RiscVCalls.{link_register};
+ghost use Rattle.linker_utils.specs.declared.riscv64.calls.LinkRegister.TheVariants.{OfJalr};
 ghost use Rattle.linker_runs.specs.RiscVSites.{riscv_template, RiscVBecomes, RiscVAccepts};
 ghost use Rattle.linker_runs.specs.RiscVSites.{RiscVCause};
 ghost use Rattle.linker_runs.specs.Origins.{HasRiscVShapes};
@@ -18,7 +18,7 @@ use crate::relaxation::Shapes;
 use crate::riscv64::link_at;
 use crate::shapes::riscv64::{CALL, TAIL_C};
 use linker_elf::elf::Row;
-use linker_riscv64::{self, RiscVRelocation};
+use linker_utils::riscv64::{self, RiscVRelocation};
 
 /// What a relocation means that has a row.
 #[inline(always)]
@@ -26,7 +26,7 @@ fn row_of(name: RiscVRelocation) -> Row
     requires { IsSomeAnd ((riscv_relocation name).row) (λ _. ⊤) }
     ensures { (riscv_relocation name).row ≡ Some result }
 {
-    match linker_riscv64::row(name) {
+    match linker_utils::riscv64::row(name) {
         Some(row) => row,
         None => unreachable!(),
     }

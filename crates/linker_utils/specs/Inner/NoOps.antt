@@ -1,11 +1,11 @@
 -- The rewrite that leaves the instruction as it is keeps the law of rewrites.
 use Rattle.std.proofs.Common.{◌≡◌, None, ap}
 use Rattle.linker_base.specs.declared.relaxation.RelocationModifier.TheVariants.{Normal}
-use Rattle.linker_aarch64.specs.AArch64Rewrites.{aarch64_rewrite, aarch64_modifier}
-use Rattle.linker_loongarch64.specs.LoongArchRewrites.{loongarch_rewrite, loongarch_modifier}
-use Rattle.linker_ppc64.specs.Ppc64Rewrites.{ppc64_rewrite, ppc64_modifier}
-use Rattle.linker_riscv64.specs.RiscVRewrites.{riscv_rewrite, riscv_modifier}
-use Rattle.linker_x86_64.specs.X86Rewrites.{x86_64_rewrite, x86_64_modifier}
+use Rattle.linker_utils.specs.AArch64Rewrites.{aarch64_rewrite, aarch64_modifier}
+use Rattle.linker_utils.specs.LoongArchRewrites.{loongarch_rewrite, loongarch_modifier}
+use Rattle.linker_utils.specs.Ppc64Rewrites.{ppc64_rewrite, ppc64_modifier}
+use Rattle.linker_utils.specs.RiscVRewrites.{riscv_rewrite, riscv_modifier}
+use Rattle.linker_utils.specs.X86Rewrites.{x86_64_rewrite, x86_64_modifier}
 use Rattle.linker_utils.specs.Architectures.{relaxation_rewrite, relaxation_modifier}
 use Rattle.linker_utils.specs.Architectures.{relaxation_no_op}
 use Rattle.linker_utils.specs.declared.architecture.Relaxation.{Relaxation}

@@ -8,11 +8,11 @@ use crate::linker_runs::relaxation::Item;
 use crate::linker_base::packing::{Position, position_from, position_of};
 use crate::linker_base::relaxation::RelaxDelta;
 use crate::linker_base::rewrite::overwrite;
+use crate::linker_section::relocations::{RELA_LEN, Rela, relocation_at, relocations_len};
 #[cfg(feature = "loongarch64")]
 use crate::loongarch64::LoongArch64Relocation;
 #[cfg(feature = "riscv64")]
 use crate::riscv64::RiscVRelocation;
-use crate::linker_section::relocations::{RELA_LEN, Rela, relocation_at, relocations_len};
 
 /// The type of a relocation at a site whose instructions became one of n bytes: that of the
 /// one instruction. 0 where it isn't that of the site.

@@ -10,25 +10,25 @@ use Rattle.std.proofs.lemmas.Nat.{and_le_r}
 use Rattle.linker_base.specs.Bits.{field}
 use Rattle.linker_base.specs.Form.{place_sum}
 use Rattle.linker_base.specs.Rewrite.{Rewrite, rewrite_window}
-use Rattle.linker_aarch64.specs.AArch64Rewrites.{rd_of, rn_of}
+use Rattle.linker_utils.specs.AArch64Rewrites.{rd_of, rn_of}
 use Rattle.linker_elf.specs.AArch64.{aarch64_form}
 use Rattle.linker_elf.specs.Elf.{IsWithin, bit_bounds}
 use Rattle.linker_elf.specs.LoongArch.{page}
 use Rattle.linker_elf.specs.Value.{sum_64, difference_64}
 use Rattle.linker_elf.specs.declared.elf.Sign.TheVariants.{Signed}
 use Rattle.linker_elf.specs.declared.aarch64.forms.AArch64Instruction.TheVariants.{JumpCall}
-use Rattle.linker_aarch64.specs.declared.rewrites.RelaxationKind.TheVariants.{NoOp}
-use Rattle.linker_aarch64.specs.declared.rewrites.RelaxationKind.TheVariants.{ReplaceWithNop}
-use Rattle.linker_aarch64.specs.declared.rewrites.RelaxationKind.TheVariants.{MovzX0Lsl16}
-use Rattle.linker_aarch64.specs.declared.rewrites.RelaxationKind.TheVariants.{MovkX0}
-use Rattle.linker_aarch64.specs.declared.rewrites.RelaxationKind.TheVariants.{MovzXnLsl16}
-use Rattle.linker_aarch64.specs.declared.rewrites.RelaxationKind.TheVariants.{MovkXn}
-use Rattle.linker_aarch64.specs.declared.rewrites.RelaxationKind.TheVariants.{AdrpToAdr}
-use Rattle.linker_aarch64.specs.declared.rewrites.RelaxationKind.TheVariants.{AdrpX0, LdrX0}
-use Rattle.linker_aarch64.specs.declared.rewrites.RelaxationKind.TheVariants.{AddToAdr}
-use Rattle.linker_aarch64.specs.declared.rewrites.RelaxationKind.TheVariants.{LdrToAdr}
-use Rattle.linker_aarch64.specs.declared.rewrites.RelaxationKind.TheVariants.{LdrToAdd}
-use Rattle.linker_aarch64.specs.declared.rewrites.RelaxationKind.TheVariants.{AdrpAddToNopAdr}
+use Rattle.linker_utils.specs.declared.aarch64.rewrites.RelaxationKind.TheVariants.{NoOp}
+use Rattle.linker_utils.specs.declared.aarch64.rewrites.RelaxationKind.TheVariants.{ReplaceWithNop}
+use Rattle.linker_utils.specs.declared.aarch64.rewrites.RelaxationKind.TheVariants.{MovzX0Lsl16}
+use Rattle.linker_utils.specs.declared.aarch64.rewrites.RelaxationKind.TheVariants.{MovkX0}
+use Rattle.linker_utils.specs.declared.aarch64.rewrites.RelaxationKind.TheVariants.{MovzXnLsl16}
+use Rattle.linker_utils.specs.declared.aarch64.rewrites.RelaxationKind.TheVariants.{MovkXn}
+use Rattle.linker_utils.specs.declared.aarch64.rewrites.RelaxationKind.TheVariants.{AdrpToAdr}
+use Rattle.linker_utils.specs.declared.aarch64.rewrites.RelaxationKind.TheVariants.{AdrpX0, LdrX0}
+use Rattle.linker_utils.specs.declared.aarch64.rewrites.RelaxationKind.TheVariants.{AddToAdr}
+use Rattle.linker_utils.specs.declared.aarch64.rewrites.RelaxationKind.TheVariants.{LdrToAdr}
+use Rattle.linker_utils.specs.declared.aarch64.rewrites.RelaxationKind.TheVariants.{LdrToAdd}
+use Rattle.linker_utils.specs.declared.aarch64.rewrites.RelaxationKind.TheVariants.{AdrpAddToNopAdr}
 use Rattle.linker_elf.specs.declared.elf.value.Operands.{Operands}
 use Rattle.linker_laws.specs.AArch64RelocationLaws as relocation_laws
 use Rattle.linker_laws.specs.Schemes.{AreAddresses, symbol_address, IsAddress, plt_address}
@@ -49,7 +49,7 @@ use Rattle.linker_laws.proofs.AArch64Words.{adr_of_register, of_registers, adrp_
 use Rattle.linker_laws.proofs.AArch64Words.{add_after, masked_field}
 use Rattle.linker_laws.proofs.AArch64Words.{adr_after, decodes_adr, decodes_b, decodes_bl}
 use Rattle.linker_laws.proofs.AArch64Words.{branch_after, adr_of_adrp, adr_of_page, decodes_adrp}
-use Rattle.linker_aarch64.specs.AArch64Rewrites.{IsAdd64}
+use Rattle.linker_utils.specs.AArch64Rewrites.{IsAdd64}
 use Rattle.linker_elf.specs.declared.aarch64.forms.AArch64Instruction.TheVariants.{Add}
 use Rattle.linker_elf.specs.declared.aarch64.relocations.AArch64Relocation.TheVariants as names
 use Rattle.linker_laws.specs.AArch64Machine.{RunAlike}

@@ -1,8 +1,8 @@
 //! What is recognised of AArch64.
 
 ghost use Rattle.std.specs.Prelude.{refl};
-ghost use Rattle.linker_aarch64.proofs.AArch64Choices.{chosen_matches as aarch64_chosen};
-ghost use Rattle.linker_aarch64.specs.contracts.rewrites.RelaxationKind as aarch64_kind;
+ghost use Rattle.linker_utils.proofs.AArch64Choices.{chosen_matches as aarch64_chosen};
+ghost use Rattle.linker_utils.specs.contracts.aarch64.rewrites.RelaxationKind as aarch64_kind;
 ghost use Rattle.linker_elf.specs.contracts.aarch64.relocations.AArch64Relocation as aarch64_name;
 ghost use Rattle.linker_reading.specs.AArch64Recogniser.{aarch64};
 ghost use Rattle.linker_reading.specs.Inner.Equality.{bare_is_equality, enum_is_equality, numbers};

@@ -2,8 +2,8 @@
 
 ghost use Rattle.std.specs.Prelude.{refl};
 ghost use Rattle.linker_elf.specs.contracts.loongarch64.relocations.LoongArch64Relocation as loongarch_name;
-ghost use Rattle.linker_loongarch64.proofs.LoongArchChoices.{chosen_matches as loongarch_chosen};
-ghost use Rattle.linker_loongarch64.specs.contracts.rewrites.RelaxationKind as loongarch_kind;
+ghost use Rattle.linker_utils.proofs.LoongArchChoices.{chosen_matches as loongarch_chosen};
+ghost use Rattle.linker_utils.specs.contracts.loongarch64.rewrites.RelaxationKind as loongarch_kind;
 ghost use Rattle.linker_reading.specs.Inner.Equality.{bare_is_equality, enum_is_equality, numbers};
 ghost use Rattle.linker_reading.specs.Inner.Laws.{laws};
 ghost use Rattle.linker_reading.specs.LoongArchRecogniser.{loongarch};

@@ -2,8 +2,8 @@
 
 ghost use Rattle.std.specs.Prelude.{refl};
 ghost use Rattle.linker_elf.specs.contracts.ppc64.relocations.Ppc64Relocation as ppc64_name;
-ghost use Rattle.linker_ppc64.proofs.Ppc64Choices.{chosen_matches as ppc64_chosen};
-ghost use Rattle.linker_ppc64.specs.contracts.rewrites.RelaxationKind as ppc64_kind;
+ghost use Rattle.linker_utils.proofs.Ppc64Choices.{chosen_matches as ppc64_chosen};
+ghost use Rattle.linker_utils.specs.contracts.ppc64.rewrites.RelaxationKind as ppc64_kind;
 ghost use Rattle.linker_reading.specs.Inner.Equality.{bare_is_equality, enum_is_equality, numbers};
 ghost use Rattle.linker_reading.specs.Inner.Laws.{laws};
 ghost use Rattle.linker_reading.specs.Ppc64Recogniser.{ppc64};

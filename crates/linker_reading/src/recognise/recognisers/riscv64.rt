@@ -5,8 +5,8 @@ ghost use Rattle.linker_elf.specs.contracts.riscv64.relocations.RiscVRelocation 
 ghost use Rattle.linker_reading.specs.Inner.Equality.{bare_is_equality, enum_is_equality, numbers};
 ghost use Rattle.linker_reading.specs.Inner.Laws.{laws};
 ghost use Rattle.linker_reading.specs.RiscVRecogniser.{riscv};
-ghost use Rattle.linker_riscv64.proofs.RiscVChoices.{chosen_matches as riscv_chosen};
-ghost use Rattle.linker_riscv64.specs.contracts.rewrites.RelaxationKind as riscv_kind;
+ghost use Rattle.linker_utils.proofs.RiscVChoices.{chosen_matches as riscv_chosen};
+ghost use Rattle.linker_utils.specs.contracts.riscv64.rewrites.RelaxationKind as riscv_kind;
 
 use crate::recognise::engine::RecognisedName;
 use linker_utils::architecture::Relaxation;

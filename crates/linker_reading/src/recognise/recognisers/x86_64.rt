@@ -5,8 +5,8 @@ ghost use Rattle.linker_elf.specs.contracts.x86_64.relocations.X86_64Relocation 
 ghost use Rattle.linker_reading.specs.Inner.Equality.{enum_is_equality, numbers};
 ghost use Rattle.linker_reading.specs.Inner.Laws.{laws};
 ghost use Rattle.linker_reading.specs.X86Recogniser.{x86_64, x86_64_table_at};
-ghost use Rattle.linker_x86_64.proofs.X86Choices.{chosen_matches as x86_64_chosen};
-ghost use Rattle.linker_x86_64.specs.contracts.rewrites.RelaxationKind as x86_64_kind;
+ghost use Rattle.linker_utils.proofs.X86Choices.{chosen_matches as x86_64_chosen};
+ghost use Rattle.linker_utils.specs.contracts.x86_64.rewrites.RelaxationKind as x86_64_kind;
 
 use crate::recognise::engine::RecognisedName;
 use linker_utils::architecture::Relaxation;

@@ -1,7 +1,0 @@
-use Rattle.std.proofs.Common.{rules, drop}
-use Rattle.linker_aarch64.proofs.AArch64Moves.{moves_load}
-use Rattle.linker_aarch64.proofs.sequences.write_mov_sequence.Goals as goal
-
-pub returns-clause-loads : goal.returns-clause-loads
-returns-clause-loads c =
-    moves_load c.args.rd c.args.value c.requires.register c.ranges.value.fits c.put_word-4.new.section (drop 16 c.args.dest.now) (search rules)

@@ -1,2 +1,0 @@
-pub mod AArch64Rewrites
-pub mod Inner

@@ -1,2 +1,0 @@
-pub mod LoongArchAlike
-pub mod LoongArchChoices

@@ -1,2 +1,0 @@
-pub mod LoongArchRewrites
-pub mod Inner

@@ -1,2 +1,0 @@
-pub mod Ppc64Rewrites
-pub mod Inner

@@ -1,5 +1,0 @@
-pub mod Inner
-pub mod Packing
-pub mod RiscVCalls
-pub mod RiscVRewrites
-pub mod Shrinking

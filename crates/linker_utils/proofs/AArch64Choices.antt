@@ -1,0 +1,126 @@
+-- Which rewrite of AArch64 is chosen: words at offsets, operands after a rewrite, and what follows from
+-- a choice.
+use Rattle.std.proofs.Common.{◌≡◌, ◌<◌, ◌≤◌, ℕ, ℤ, ◌+◌, ◌-◌, ◌%◌, ◌^◌, List, [], ◌∷◌, take, ap, ◌∙◌, refl, subst, arith, rules}
+use Rattle.std.specs.Prelude.{⊤}
+use Rattle.std.specs.Int.{w32, from_le_bytes}
+use Rattle.linker_base.specs.Rewrite.{CanRewrite, offset_after, addend_after}
+use Rattle.linker_utils.specs.AArch64Rewrites.{aarch64_rewrite, rd_of, rn_of}
+use Rattle.linker_utils.specs.AArch64Rewrites.{AreOfDescriptor, IsOfDescriptor, IsEntryLoad, AArch64Applies, AArch64Choice, IsAArch64Choice, aarch64_entries}
+use Rattle.linker_utils.specs.AArch64Rewrites.{IsAdrp, IsLdr64, aarch64_matches}
+use Rattle.linker_elf.specs.Choices.{choice, operands_after}
+use Rattle.linker_elf.specs.Originals.{HasWord}
+use Rattle.linker_elf.specs.Value.{sum_64, difference_64}
+use Rattle.linker_elf.proofs.ChoiceTables.{holds_of_first}
+use Rattle.linker_elf.specs.declared.aarch64.relocations.AArch64Relocation.{AArch64Relocation}
+use Rattle.linker_elf.specs.declared.elf.choice.LinkFacts.{LinkFacts}
+use Rattle.linker_elf.specs.declared.elf.value.Operands.{Operands}
+use Rattle.linker_utils.specs.declared.aarch64.rewrites.RelaxationKind.{RelaxationKind}
+use Rattle.linker_utils.specs.declared.aarch64.rewrites.RelaxationKind.TheVariants.{NoOp, ReplaceWithNop, MovzX0Lsl16, MovkX0, MovzXnLsl16, MovkXn, AdrpToAdr, AdrpX0, LdrX0, AddToAdr, LdrToAdr, LdrToAdd, AdrpAddToNopAdr}
+
+-- ---- words
+
+pub whole_word : (xs : List ℕ) → from_le_bytes w32 (take 4 xs) ≡ from_le_bytes w32 xs
+whole_word [] = refl
+whole_word (a ∷ []) = refl
+whole_word (a ∷ b ∷ []) = refl
+whole_word (a ∷ b ∷ c ∷ []) = refl
+whole_word (a ∷ b ∷ c ∷ d ∷ xs) = refl
+
+-- the same four words
+pub same_descriptor : {a b c d a' b' c' d' : ℕ} → a ≡ a' → b ≡ b' → c ≡ c' → d ≡ d'
+    → AreOfDescriptor a b c d → AreOfDescriptor a' b' c' d'
+same_descriptor {a} {b} {c} {d} {a'} {b'} {c'} {d'} p q r s h =
+    subst (λ x. AreOfDescriptor a' b' c' x) s
+    (subst (λ x. AreOfDescriptor a' b' x d) r
+    (subst (λ x. AreOfDescriptor a' x c d) q (subst (λ x. AreOfDescriptor x b c d) p h)))
+
+-- ---- what a name requires is what its rewrites are meant for
+
+pub load_matches_add : (s : List ℕ) (o : ℕ) → IsEntryLoad s o → aarch64_matches LdrToAdd s o
+load_matches_add s o h = (h.1.1.0, (h.1.1.1.0, h.1.1.1.1.into_own_source.not_31))
+
+-- ---- no rewrite moves the place or changes the addend
+
+same_offset : (kind : RelaxationKind) (o : ℕ) → offset_after (aarch64_rewrite kind) o ≡ o
+same_offset NoOp o = refl
+same_offset ReplaceWithNop o = refl
+same_offset MovzX0Lsl16 o = refl
+same_offset MovkX0 o = refl
+same_offset MovzXnLsl16 o = refl
+same_offset MovkXn o = refl
+same_offset AdrpToAdr o = refl
+same_offset AdrpX0 o = refl
+same_offset LdrX0 o = refl
+same_offset AddToAdr o = refl
+same_offset LdrToAdr o = refl
+same_offset LdrToAdd o = refl
+same_offset AdrpAddToNopAdr o = refl
+
+same_addend : (kind : RelaxationKind) (a : ℤ) → addend_after (aarch64_rewrite kind) a ≡ a
+same_addend NoOp a = refl
+same_addend ReplaceWithNop a = refl
+same_addend MovzX0Lsl16 a = refl
+same_addend MovkX0 a = refl
+same_addend MovzXnLsl16 a = refl
+same_addend MovkXn a = refl
+same_addend AdrpToAdr a = refl
+same_addend AdrpX0 a = refl
+same_addend LdrX0 a = refl
+same_addend AddToAdr a = refl
+same_addend LdrToAdr a = refl
+same_addend LdrToAdd a = refl
+same_addend AdrpAddToNopAdr a = refl
+
+same_place : (p o q : ℕ) → p < 2 ^ 64 → o < 2 ^ 64 → q ≡ o
+    → ((p + q) % 2 ^ 64 + (2 ^ 64 - o)) % 2 ^ 64 ≡ p
+same_place p o q p_fits fits e = omega arith
+
+pub same_operands : (kind : RelaxationKind) (o : ℕ) (operands : Operands) → operands.place < 2 ^ 64
+    → o < 2 ^ 64 → operands_after (aarch64_rewrite kind) o operands ≡ operands
+same_operands kind o operands place_fits fits =
+    ap (λ a. record operands {
+      addend = a;
+      place = difference_64 (sum_64 operands.place (offset_after (aarch64_rewrite kind) o)) o;
+    }) (same_addend kind operands.addend)
+    ∙ ap (λ p. record operands { place = p })
+    (same_place operands.place o (offset_after (aarch64_rewrite kind) o) place_fits fits (same_offset kind o))
+
+-- ---- the four relocations of a descriptor
+
+pub adrp_matches : (s : List ℕ) (o : ℕ) → IsOfDescriptor 0 s o → HasWord s o (λ word. IsAdrp word × (rd_of word ≡ 0))
+adrp_matches s o h =
+    let e : o - 0 ≡ o = omega arith in
+    let within = h.1.within in
+    subst (λ k. HasWord s k (λ word. IsAdrp word × (rd_of word ≡ 0))) e
+    (omega arith, (h.1.instructions.adrp_opcode, h.1.instructions.adrp_into_x0))
+
+pub ldr_matches : (s : List ℕ) (o : ℕ) → IsOfDescriptor 4 s o → HasWord s o (λ word. IsLdr64 word × (rn_of word ≡ 0))
+ldr_matches s o h =
+    let reaches = h.0 in
+    let within = h.1.within in
+    let e : o - 4 + 4 ≡ o = omega arith in
+    subst (λ k. HasWord s k (λ word. IsLdr64 word × (rn_of word ≡ 0))) e
+    (omega arith, (h.1.instructions.ldr_opcode, h.1.instructions.ldr_from_x0))
+
+pub nop_matches : (back : ℕ) (s : List ℕ) (o : ℕ) → back ≤ 12 → IsOfDescriptor back s o → HasWord s o (λ _. ⊤)
+nop_matches back s o small h =
+    let reaches = h.0 in
+    let within = h.1.within in
+    (omega arith, tt)
+
+-- ---- what is chosen
+
+pub chosen_matches : (name : AArch64Relocation) (section : List ℕ) (o : ℕ) (facts : LinkFacts) (c : AArch64Choice)
+    → IsAArch64Choice name section o facts c → aarch64_matches c.kind section o
+chosen_matches name section o facts c =
+    holds_of_first (AArch64Applies name section o facts) (λ x. aarch64_matches x.kind section o) (aarch64_entries name) (choice NoOp name) c
+    (λ e a. a.0.0) tt
+
+can_rewrite : (kind : RelaxationKind) (section : List ℕ) (o : ℕ) → aarch64_matches kind section o
+    → CanRewrite (aarch64_rewrite kind) section o
+can_rewrite NoOp section o matches = tt
+can_rewrite kind section o matches = search rules
+
+pub chosen_rewritable : (name : AArch64Relocation) (section : List ℕ) (o : ℕ) (facts : LinkFacts) (c : AArch64Choice)
+    → IsAArch64Choice name section o facts c → CanRewrite (aarch64_rewrite c.kind) section o
+chosen_rewritable name section o facts c is = can_rewrite c.kind section o (chosen_matches name section o facts c is)

@@ -1,0 +1,38 @@
+-- The instructions that an entry of the code's table of choices is for.
+use Rattle.std.specs.Prelude.{ℕ, List}
+use Rattle.linker_elf.specs.Inner.ChoiceTables.{Tables}
+use Rattle.linker_utils.specs.LoongArchRewrites.{IsAfter, IsSingle, IsPageOfDescriptor}
+use Rattle.linker_utils.specs.LoongArchRewrites.{IsLowOfDescriptor, IsLoadOfDescriptor}
+use Rattle.linker_utils.specs.LoongArchRewrites.{IsCallOfDescriptor, IsPcalau12i, IsPair}
+use Rattle.linker_utils.specs.LoongArchRewrites.{IsAddi, IsLd, IsLu12i, IsAddTp}
+use Rattle.linker_utils.specs.LoongArchRewrites.{loongarch_matches, loongarch_entries}
+use Rattle.linker_utils.specs.LoongArchRewrites.{HasPattern, IsLowOverOther}
+use Rattle.linker_utils.specs.declared.loongarch64.choices.Pattern.{Pattern}
+use Rattle.linker_utils.specs.declared.loongarch64.choices.Pattern.TheVariants as pattern
+use Rattle.linker_utils.specs.declared.loongarch64.rewrites.RelaxationKind.{RelaxationKind}
+use Rattle.linker_utils.specs.declared.loongarch64.rewrites.RelaxationKind.TheVariants as kinds
+use Rattle.linker_elf.specs.declared.loongarch64.relocations.LoongArch64Relocation.{LoongArch64Relocation}
+
+abbrev pub matches_pattern : Pattern → RelaxationKind → List ℕ → ℕ → Type 0
+matches_pattern pattern.OfRewrite kind = loongarch_matches kind
+matches_pattern (pattern.Load back) kind = IsAfter back (IsPair IsLd)
+matches_pattern (pattern.Sum back) kind = IsAfter back (IsPair IsAddi)
+matches_pattern pattern.Pcalau12i kind = IsSingle IsPcalau12i
+matches_pattern pattern.Ld kind = IsSingle IsLd
+matches_pattern pattern.PageOfDescriptor kind = IsSingle IsPageOfDescriptor
+matches_pattern pattern.LowOfDescriptor kind = IsSingle IsLowOfDescriptor
+matches_pattern pattern.LoadOfDescriptor kind = IsSingle IsLoadOfDescriptor
+matches_pattern pattern.CallOfDescriptor kind = IsSingle IsCallOfDescriptor
+matches_pattern pattern.Lu12i kind = IsSingle IsLu12i
+matches_pattern pattern.AddTp kind = IsSingle IsAddTp
+matches_pattern pattern.LowOverOther kind = IsSingle IsLowOverOther
+
+-- the tables; no rewrite moves the place or changes the addend
+abbrev pub loongarch_tables : Tables RelaxationKind LoongArch64Relocation
+loongarch_tables =
+    record {
+      entries = λ name section o. loongarch_entries name;
+      required = λ name at p. HasPattern name;
+      after = λ kind o operands. operands;
+      no_op = kinds.NoOp;
+    }

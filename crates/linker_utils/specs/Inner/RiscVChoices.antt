@@ -1,0 +1,32 @@
+-- The instructions that the entries of RISC-V's tables of choices are for.
+use Rattle.std.specs.Prelude.{ℕ, List}
+use Rattle.linker_elf.specs.Inner.ChoiceTables.{Tables}
+use Rattle.linker_elf.specs.Originals.{HasWord}
+use Rattle.linker_utils.specs.RiscVRewrites.{riscv_matches, IsLui, IsAuipc, IsLd, IsAddTp}
+use Rattle.linker_utils.specs.RiscVRewrites.{IsAddiToA0, IsLowOverOther, HasPattern}
+use Rattle.linker_utils.specs.RiscVRewrites.{riscv_entries}
+use Rattle.linker_utils.specs.declared.riscv64.choices.Pattern.{Pattern}
+use Rattle.linker_utils.specs.declared.riscv64.choices.Pattern.TheVariants as originals
+use Rattle.linker_utils.specs.declared.riscv64.rewrites.RelaxationKind.{RelaxationKind}
+use Rattle.linker_utils.specs.declared.riscv64.rewrites.RelaxationKind.TheVariants as kinds
+use Rattle.linker_elf.specs.declared.riscv64.relocations.RiscVRelocation.{RiscVRelocation}
+
+-- what an entry with a rewrite is for is at an offset of a section
+abbrev pub IsThere : Pattern → RelaxationKind → List ℕ → ℕ → Type 0
+IsThere originals.OfRewrite kind section o = riscv_matches kind section o
+IsThere originals.Lui kind section o = HasWord section o IsLui
+IsThere originals.AddTp kind section o = HasWord section o IsAddTp
+IsThere originals.Auipc kind section o = HasWord section o IsAuipc
+IsThere originals.Ld kind section o = HasWord section o IsLd
+IsThere originals.AddiToA0 kind section o = HasWord section o IsAddiToA0
+IsThere originals.LowOverOther kind section o = HasWord section o IsLowOverOther
+
+-- the tables; no rewrite moves the place or changes the addend
+abbrev pub riscv_tables : Tables RelaxationKind RiscVRelocation
+riscv_tables =
+    record {
+      entries = λ name section o. riscv_entries name;
+      required = λ name at p. HasPattern name;
+      after = λ kind o operands. operands;
+      no_op = kinds.NoOp;
+    }

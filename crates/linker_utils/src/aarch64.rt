@@ -1,0 +1,18 @@
+//! AArch64: instruction forms, relaxation rewrites, and the moves that load a number of 64 bits.
+
+mod choices;
+mod rewrites;
+mod sequences;
+
+pub use choices::{choose, fits, is_tls_descriptor_sequence, relocations_are_chosen_alike};
+pub use linker_elf::aarch64::{
+    AArch64Instruction, AArch64Relocation, relocation_type_from_raw, row,
+};
+pub use rewrites::{RelaxationKind, is_adrp_pair};
+pub use sequences::write_mov_sequence;
+
+/// The distance in bytes from the thread pointer to the first TLS block: the thread control block's
+/// two words (System V ABI for the Arm 64-bit Architecture, "Thread-local storage").
+pub const TLS_TCB_SIZE: u64 = 16;
+
+const _: () = prove!(TLS_TCB_SIZE == 2 * size_of::<u64>() as u64);

@@ -1,0 +1,319 @@
+//! LoongArch: which rewrite a linker chooses for a relocation.
+
+ghost use Rattle.std.specs.Prelude.{◌==◌, ◌/◌, ◌^◌, ◌≡◌, ◌↔◌, IsTrue};
+ghost use Rattle.linker_base.specs.Rewrite.{CanRewrite};
+ghost use Rattle.linker_elf.specs.Choices.{Fits, choice};
+ghost use Rattle.linker_elf.proofs.SameNames.{equalities, exact_code};
+ghost use Rattle.linker_elf.specs.contracts.loongarch64.relocations.LoongArch64Relocation.{enum as names};
+ghost use Rattle.linker_utils.specs.Inner.LoongArchPattern.{matches_pattern, loongarch_tables};
+ghost use Rattle.linker_utils.specs.LoongArchRewrites as rewrites;
+ghost use Rattle.linker_utils.specs.declared.loongarch64.rewrites.RelaxationKind.TheVariants as kinds;
+
+use super::rewrites::{
+    RelaxationKind, are_of_one_register, destination, is_addi, is_ld, is_low_over_other,
+    is_pcalau12i, source, word_at,
+};
+use linker_base::rewrite::has_window;
+use linker_elf::elf::choice_table::{
+    ChoiceTable, Chosen, RewriteSet, SIGNED_12, Table, by_table, choice_by, conditions,
+};
+use linker_elf::elf::{Choice, LinkFacts, Operands};
+use linker_elf::loongarch64::{LoongArch64Relocation, LoongArch64Relocation as Names};
+
+/// Whether `pcalau12i rd`, at an offset, and an instruction of an opcode from rd into rd stand next
+/// to each other.
+#[inline]
+fn is_pair(section: &[u8], offset: u64, opcode: u32) -> bool
+    ensures { IsTrue result
+        ↔ rewrites.IsPair (λ word. word / 2 ^ 22 ≡ opcode) section.now offset }
+{
+    if !has_window(section, offset, 0, 8) {
+        return false;
+    }
+    let second = word_at(section, offset + 4);
+    second >> 22 == opcode && are_of_one_register(word_at(section, offset), second)
+}
+
+/// The instructions that an entry is for, of which the first is n bytes before the offset.
+pub enum Pattern {
+    /// Those that its rewrite is meant for.
+    OfRewrite,
+    /// `pcalau12i rd` and `ld.d rd, rd`.
+    Load(u64),
+    /// `pcalau12i rd` and `addi.d rd, rd`.
+    Sum(u64),
+    /// `pcalau12i`.
+    Pcalau12i,
+    /// `ld.d`.
+    Ld,
+    /// `pcalau12i a0` of a TLS descriptor.
+    PageOfDescriptor,
+    /// `addi.d a0, a0` of a TLS descriptor.
+    LowOfDescriptor,
+    /// `ld.d ra, a0, 0` of a TLS descriptor.
+    LoadOfDescriptor,
+    /// `jirl ra, ra, 0` of a TLS descriptor.
+    CallOfDescriptor,
+    /// `lu12i.w`.
+    Lu12i,
+    /// `add.d rd, rj, tp`.
+    AddTp,
+    /// What adds an immediate of 12 bits, other than a store of its own base.
+    LowOverOther,
+}
+
+impl RewriteSet for RelaxationKind {
+    type Relocation = Names;
+
+    type Originals = Pattern;
+
+    ghost are_at = { matches_pattern };
+
+    ghost tables = { loongarch_tables };
+
+    ghost laws = { equalities kinds.NoOp names (λ x y. x.0 == y.0, tt) (exact_code, tt) };
+
+    #[inline(always)]
+    fn matches_at(self, originals: &Pattern, section: &[u8], offset: u64) -> bool {
+        match *originals {
+            Pattern::OfRewrite => self.matches(section, offset),
+            Pattern::Load(back) => back <= offset && is_pair(section, offset - back, 0x0a3),
+            Pattern::Sum(back) => back <= offset && is_pair(section, offset - back, 0x00b),
+            _ if !has_window(section, offset, 0, 4) => false,
+            Pattern::Pcalau12i => is_pcalau12i(word_at(section, offset)),
+            Pattern::Ld => is_ld(word_at(section, offset)),
+            Pattern::PageOfDescriptor => {
+                let word = word_at(section, offset);
+                is_pcalau12i(word) && destination(word) == 4
+            }
+            Pattern::LowOfDescriptor => {
+                let word = word_at(section, offset);
+                is_addi(word) && destination(word) == 4 && source(word) == 4
+            }
+            Pattern::LoadOfDescriptor => word_at(section, offset) == 0x28c0_0081,
+            Pattern::CallOfDescriptor => word_at(section, offset) == 0x4c00_0021,
+            Pattern::Lu12i => word_at(section, offset) >> 25 == 0x0a,
+            Pattern::AddTp => word_at(section, offset) >> 10 == 0x422,
+            Pattern::LowOverOther => is_low_over_other(word_at(section, offset)),
+        }
+    }
+
+    #[inline(always)]
+    fn operands_after(self, _offset: u64, operands: &Operands) -> Operands {
+        *operands
+    }
+}
+
+/// The numbers of 32 bits in two's complement, and the immediates of `ori`.
+const SIGNED_32: (i64, i64) = (-0x8000_0000, 0x8000_0000);
+
+const UNSIGNED_12: (i64, i64) = (0, 0x1000);
+
+/// The conditions of entries, by the names that the definition has for them. After some stands how
+/// many bytes before the first instruction is.
+macro_rules! when {
+    // by `pcaddi` alone
+    (by_pcaddi $back:literal) => {
+        conditions!(FIXED_DISTANCE + RELAXABLE, InReach(R_LARCH_PCREL20_S2, $back))
+    };
+    // the same of the symbol's definition, in place of its GOT entry
+    (bound_by_pcaddi $back:literal) => {
+        conditions!(
+            BOUND + FIXED_DISTANCE + RELAXABLE,
+            Some(0),
+            InReach(R_LARCH_PCREL20_S2, $back)
+        )
+    };
+    // the GOT entry of general- or local-dynamic by `pcaddi`
+    (entry_by_pcaddi $name:ident, $back:literal) => {
+        conditions!(RELAXABLE + GROUP_FITS, InReach($name, $back))
+    };
+    // the definition by the distance in pages
+    (bound_by_pages $back:literal) => {
+        conditions!(
+            BOUND + FIXED_DISTANCE,
+            Some(0),
+            WithinIfKnown(R_LARCH_PCALA_HI20, SIGNED_32, $back)
+        )
+    };
+    // by `b` or `bl`
+    (by_branch) => {
+        conditions!(FIXED_DISTANCE + RELAXABLE, InReach(R_LARCH_B26))
+    };
+    // the offset from the thread pointer in the instructions, which may stand apart
+    (to_local_exec) => {
+        conditions!(
+            BOUND + EXECUTABLE + GROUP_FITS,
+            Some(0),
+            WithinIfKnown(R_LARCH_TLS_LE_HI20, SIGNED_32)
+        )
+    };
+    // that offset by `ori` alone
+    (to_short_local_exec) => {
+        conditions!(
+            BOUND + EXECUTABLE + GROUP_FITS,
+            Some(0),
+            Within(R_LARCH_TLS_LE_LO12, UNSIGNED_12)
+        )
+    };
+    // the offset in the GOT: of the high half, which has the distance
+    (page_to_initial_exec) => {
+        conditions!(EXECUTABLE + GROUP_FITS, WithinIfKnown(R_LARCH_TLS_IE_PC_HI20, SIGNED_32))
+    };
+    // and of the others
+    (to_initial_exec) => {
+        conditions!(EXECUTABLE + GROUP_FITS)
+    };
+    // the offset from the thread pointer in 12 signed bits
+    (by_low_part) => {
+        conditions!(RELAXABLE, Within(R_LARCH_TLS_LE_LO12_R, SIGNED_12))
+    };
+}
+
+/// The entries of each relocation.
+macro_rules! choices {
+    ($make:ident $arguments:tt) => {
+        $make! {
+            $arguments
+            R_LARCH_GOT_PC_HI20: [
+                PcalaToPcaddi at Load(0) => R_LARCH_PCREL20_S2, bound_by_pcaddi(0);
+                NoOp at Load(0) => R_LARCH_PCALA_HI20, bound_by_pages(0);
+            ]
+            R_LARCH_GOT_PC_LO12: [
+                Delete at Load(4) => R_LARCH_NONE, bound_by_pcaddi(4);
+                LdToAddi at Load(4) => R_LARCH_PCALA_LO12, bound_by_pages(4);
+                DeleteAddi at Sum(4) => R_LARCH_NONE,
+                    entry_by_pcaddi(R_LARCH_TLS_GD_PCREL20_S2, 4);
+            ]
+            R_LARCH_PCALA_HI20: [PcalaToPcaddi at Sum(0) => R_LARCH_PCREL20_S2, by_pcaddi(0)]
+            R_LARCH_PCALA_LO12: [Delete at Sum(4) => R_LARCH_NONE, by_pcaddi(4)]
+            R_LARCH_TLS_GD_PC_HI20: [
+                PcalaToPcaddi at Sum(0) => R_LARCH_TLS_GD_PCREL20_S2,
+                    entry_by_pcaddi(R_LARCH_TLS_GD_PCREL20_S2, 0)
+            ]
+            R_LARCH_TLS_LD_PC_HI20: [
+                PcalaToPcaddi at Sum(0) => R_LARCH_TLS_LD_PCREL20_S2,
+                    entry_by_pcaddi(R_LARCH_TLS_LD_PCREL20_S2, 0)
+            ]
+            R_LARCH_CALL36: [
+                CallToB => R_LARCH_B26, by_branch;
+                CallToBl => R_LARCH_B26, by_branch;
+            ]
+            R_LARCH_TLS_IE_PC_HI20: [
+                ReplaceWithNop at Pcalau12i => R_LARCH_NONE, to_short_local_exec;
+                PcalaToLu12i at Pcalau12i => R_LARCH_TLS_LE_HI20, to_local_exec;
+            ]
+            R_LARCH_TLS_IE_PC_LO12: [
+                LowToOriZero at Ld => R_LARCH_TLS_LE_LO12, to_short_local_exec;
+                LowToOri at Ld => R_LARCH_TLS_LE_LO12, to_local_exec;
+            ]
+            R_LARCH_TLS_DESC_PC_HI20: [
+                PcalaToLu12i at PageOfDescriptor => R_LARCH_TLS_LE_HI20, to_local_exec;
+                NoOp at PageOfDescriptor => R_LARCH_TLS_IE_PC_HI20, page_to_initial_exec;
+            ]
+            R_LARCH_TLS_DESC_PC_LO12: [
+                LowToOri at LowOfDescriptor => R_LARCH_TLS_LE_LO12, to_local_exec;
+                AddiToLd at LowOfDescriptor => R_LARCH_TLS_IE_PC_LO12, to_initial_exec;
+            ]
+            R_LARCH_TLS_DESC_LD: [
+                ReplaceWithNop at LoadOfDescriptor => R_LARCH_NONE, to_local_exec;
+                ReplaceWithNop at LoadOfDescriptor => R_LARCH_NONE, to_initial_exec;
+            ]
+            R_LARCH_TLS_DESC_CALL: [
+                ReplaceWithNop at CallOfDescriptor => R_LARCH_NONE, to_local_exec;
+                ReplaceWithNop at CallOfDescriptor => R_LARCH_NONE, to_initial_exec;
+            ]
+            R_LARCH_TLS_LE_HI20_R: [Delete at Lu12i => R_LARCH_NONE, by_low_part]
+            R_LARCH_TLS_LE_ADD_R: [Delete at AddTp => R_LARCH_NONE, by_low_part]
+            R_LARCH_TLS_LE_LO12_R: [
+                BaseToTp at LowOverOther => R_LARCH_TLS_LE_LO12_R, by_low_part;
+            ]
+        }
+    };
+}
+
+impl ChoiceTable for RelaxationKind {
+    ghost sampled = { λ name none section o. none };
+
+    #[inline(always)]
+    fn entries(name: Names, _section: &[u8], _offset: u64) -> Table<Self> {
+        choices!(by_table(when, name, table => table))
+    }
+
+    #[inline(never)]
+    fn choose_listed(name: Names, section: &[u8], offset: u64, facts: &LinkFacts) -> Chosen<Self> {
+        choices!(by_table(when, name, table => choice_by(table, name, section, offset, facts)))
+    }
+}
+
+/// Which rewrite a linker may make of the instruction or the pair at a relocation's offset, and the
+/// relocation whose value is then written (LoongArch ELF psABI, relaxation and the sequences of
+/// thread-local storage).
+///
+/// ```
+/// use linker_utils::elf::{LinkFacts, Operands};
+/// use linker_utils::loongarch64::{LoongArch64Relocation, RelaxationKind, choose};
+///
+/// // pcaddu18i ra, 0; jirl ra, ra, 0, which calls a function 0x1000 bytes on
+/// let call = [0x01, 0x00, 0x00, 0x1e, 0x21, 0x00, 0x00, 0x4c];
+/// let facts = LinkFacts {
+///     is_pcrel_link_time_constant: true,
+///     is_relaxable: true,
+///     has_addresses: true,
+///     operands: Operands { plt_entry: 0x2000, place: 0x1000, ..Operands::default() },
+///     ..LinkFacts::default()
+/// };
+/// let chosen = choose(LoongArch64Relocation::R_LARCH_CALL36, &call, 0, &facts);
+/// assert_eq!(chosen.kind, RelaxationKind::CallToBl);
+/// assert_eq!(chosen.relocation, LoongArch64Relocation::R_LARCH_B26);
+/// ```
+#[inline]
+pub fn choose(
+    name: LoongArch64Relocation,
+    section: &[u8],
+    offset: u64,
+    facts: &LinkFacts,
+) -> Choice<RelaxationKind, LoongArch64Relocation>
+    ensures chosen { rewrites.IsLoongArchChoice name section.now offset facts.now result }
+    ensures matches { rewrites.loongarch_matches result.kind section.now offset }
+    ensures rewritable { CanRewrite (rewrites.loongarch_rewrite result.kind) section.now offset }
+{
+    RelaxationKind::choose(name, section, offset, facts)
+}
+
+/// Whether a relocation can be rewritten, if all others of its sequence can: whether `choose` with
+/// `group_fits` changes it.
+///
+/// ```
+/// use linker_utils::elf::LinkFacts;
+/// use linker_utils::loongarch64::{LoongArch64Relocation, fits};
+///
+/// // pcalau12i a0, 0 and ld.d a1, a0, 0, which leaves the address of the GOT entry in a0
+/// let section = [0x04, 0, 0, 0x1a, 0x85, 0, 0xc0, 0x28];
+/// let mut facts = LinkFacts { is_local: true, ..LinkFacts::default() };
+/// facts.is_pcrel_link_time_constant = true;
+/// assert!(!fits(LoongArch64Relocation::R_LARCH_GOT_PC_HI20, &section, 0, &facts));
+/// ```
+pub fn fits(name: LoongArch64Relocation, section: &[u8], offset: u64, facts: &LinkFacts) -> bool
+    ensures { IsTrue result
+        ↔ Fits (rewrites.IsLoongArchChoice name section.now offset)
+        (choice kinds.NoOp name) facts.now }
+{
+    RelaxationKind::fits(name, section, offset, facts)
+}
+
+/// With the same facts, except that each has its own place, both relocations of a pair are
+/// rewritten alike or neither is: of a load of a GOT entry, if `group_fits` holds only where the
+/// high half fits; of `pcalau12i` and `addi.d` for the entry of general- or local-dynamic; and of
+/// an address. And so are, wherever they are, where each is at an instruction that it requires, a
+/// high and a low half of initial-exec; the four of a TLS descriptor, all for local-exec, all for
+/// initial-exec, or none, if the high half reaches the entry of initial-exec; and the `lu12i.w` of
+/// an offset from the thread pointer, its `add.d` and its low parts.
+pub fn relocations_are_chosen_alike()
+    ensures got { rewrites.GotPairIsChosenAlike }
+    ensures entry { rewrites.EntryPairsAreChosenAlike }
+    ensures address { rewrites.AddressPairIsChosenAlike }
+    ensures initial_exec { rewrites.InitialExecIsChosenAlike }
+    ensures descriptor { rewrites.DescriptorsAreChosenAlike }
+    ensures thread { rewrites.ThreadOffsetIsChosenAlike }
+{}

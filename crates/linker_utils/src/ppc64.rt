@@ -1,0 +1,11 @@
+//! PowerPC64: instruction forms, what relocations mean, rewrites and their choice, and addresses in
+//! two halves.
+
+mod choices;
+mod rewrites;
+
+pub use choices::{choose, fits, relocations_are_chosen_alike};
+pub use linker_elf::ppc64::{
+    Ppc64Instruction, Ppc64Relocation, relocation_type_from_raw, row, write_ha_lo,
+};
+pub use rewrites::{RelaxationKind, may_be_skipped};

@@ -1,0 +1,257 @@
+//! RISC-V: which rewrite a linker chooses for a relocation.
+
+ghost use Rattle.std.specs.Prelude.{◌==◌, ◌≡◌, ◌↔◌, IsTrue};
+ghost use Rattle.std.specs.Int.{cast_unsigned, w64};
+ghost use Rattle.linker_base.specs.Rewrite.{CanRewrite};
+ghost use Rattle.linker_elf.specs.Choices.{Fits, choice};
+ghost use Rattle.linker_elf.proofs.SameNames.{equalities, exact_code};
+ghost use Rattle.linker_elf.specs.contracts.riscv64.relocations.RiscVRelocation.{enum as names};
+ghost use Rattle.linker_elf.specs.Value.{sum_64};
+ghost use Rattle.linker_utils.specs.Inner.RiscVChoices.{IsThere, riscv_tables};
+ghost use Rattle.linker_utils.specs.RiscVRewrites as rewrites;
+ghost use Rattle.linker_utils.specs.declared.riscv64.rewrites.RelaxationKind.TheVariants as kinds;
+
+use super::fields::word_at;
+use super::rewrites::{is_add_tp, is_addi_to_a0, is_auipc, is_ld, is_low_over_other, is_lui};
+use super::{RelaxationKind, RiscVRelocation, RiscVRelocation as Names};
+use linker_base::rewrite::has_window;
+use linker_elf::elf::choice_table::{
+    ChoiceTable, Chosen, RewriteSet, SIGNED_12, Table, by_table, choice_by, conditions,
+};
+use linker_elf::elf::{Choice, LinkFacts, Operands};
+
+/// The instructions that an entry is for: what its rewrite is meant for, or another one.
+pub enum Pattern {
+    OfRewrite,
+    Lui,
+    AddTp,
+    Auipc,
+    Ld,
+    AddiToA0,
+    LowOverOther,
+}
+
+impl RewriteSet for RelaxationKind {
+    type Relocation = Names;
+
+    type Originals = Pattern;
+
+    ghost are_at = { IsThere };
+
+    ghost tables = { riscv_tables };
+
+    ghost laws = { equalities kinds.NoOp names (λ x y. x.0 == y.0, tt) (exact_code, tt) };
+
+    #[inline(always)]
+    fn matches_at(self, originals: &Pattern, section: &[u8], offset: u64) -> bool {
+        match originals {
+            Pattern::OfRewrite => self.matches(section, offset),
+            _ if !has_window(section, offset, 0, 4) => false,
+            Pattern::Lui => is_lui(word_at(section, offset)),
+            Pattern::AddTp => is_add_tp(word_at(section, offset)),
+            Pattern::Auipc => is_auipc(word_at(section, offset)),
+            Pattern::Ld => is_ld(word_at(section, offset)),
+            Pattern::AddiToA0 => is_addi_to_a0(word_at(section, offset)),
+            Pattern::LowOverOther => is_low_over_other(word_at(section, offset)),
+        }
+    }
+
+    #[inline(always)]
+    fn operands_after(self, _offset: u64, operands: &Operands) -> Operands {
+        *operands
+    }
+}
+
+/// The conditions of entries, by the names that the definition has for them. After some a further
+/// fact stands that has to hold.
+macro_rules! when {
+    // a `jal` reaches the symbol
+    (by_jump) => {
+        conditions!(FIXED_DISTANCE + RELAXABLE + WITHOUT_PLT, InReach(R_RISCV_JAL))
+    };
+    // a `c.j` reaches it
+    (by_short_jump) => {
+        conditions!(
+            FIXED_DISTANCE + COMPRESSIBLE + RELAXABLE + WITHOUT_PLT,
+            InReach(R_RISCV_RVC_JUMP)
+        )
+    };
+    // 12 signed bits hold the address
+    (with_low_part $($fact:ident)?) => {
+        conditions!(FIXED_ADDRESS $(+ $fact)?, Low12)
+    };
+    // a `c.lui` holds the high part
+    (by_short_high_part) => {
+        conditions!(FIXED_ADDRESS + COMPRESSIBLE + RELAXABLE, InReach(R_RISCV_RVC_LUI))
+    };
+    // 12 signed bits hold the offset from the thread pointer
+    (by_low_offset) => {
+        conditions!(RELAXABLE, Within(R_RISCV_TPREL_LO12_I, SIGNED_12))
+    };
+    // that offset in two instructions in place of a descriptor
+    (to_local_exec $($fact:ident)?) => {
+        conditions!(BOUND + EXECUTABLE $(+ $fact)?, Some(0), InReachIfKnown(R_RISCV_TPREL_HI20))
+    };
+    // in one instruction
+    (to_short_local_exec $($fact:ident)?) => {
+        conditions!(
+            BOUND + EXECUTABLE $(+ $fact)?,
+            Some(0),
+            InReachIfKnown(R_RISCV_TPREL_HI20),
+            Within(R_RISCV_TPREL_LO12_I, SIGNED_12)
+        )
+    };
+    // in the GOT
+    (to_initial_exec $($fact:ident)?) => {
+        conditions!(EXECUTABLE $(+ $fact)?, InReachIfKnown(R_RISCV_TLS_GOT_HI20))
+    };
+    // the distance to the symbol in place of its GOT entry
+    (without_got $($fact:ident)?) => {
+        conditions!(
+            BOUND + FIXED_DISTANCE + LABEL_RELAXABLE $(+ $fact)?,
+            Some(0),
+            InReachIfKnown(R_RISCV_PCREL_HI20)
+        )
+    };
+}
+
+/// The entries of each relocation.
+macro_rules! choices {
+    ($make:ident $arguments:tt) => {
+        $make! {
+            $arguments
+            R_RISCV_CALL | R_RISCV_CALL_PLT: [
+                TailToCJ => R_RISCV_RVC_JUMP, by_short_jump;
+                TailToJal => R_RISCV_JAL, by_jump;
+                CallToJal => R_RISCV_JAL, by_jump;
+            ]
+            R_RISCV_HI20: [
+                Hi20Delete => R_RISCV_NONE, with_low_part(RELAXABLE);
+                Hi20ToCLui => R_RISCV_RVC_LUI, by_short_high_part;
+            ]
+            R_RISCV_RVC_LUI: [CLuiToCLi => R_RISCV_NONE, with_low_part]
+            R_RISCV_LO12_I: [Lo12Rs1ToZero => R_RISCV_LO12_I, with_low_part(RELAXABLE)]
+            R_RISCV_LO12_S: [Lo12Rs1ToZero => R_RISCV_LO12_S, with_low_part(RELAXABLE)]
+            R_RISCV_TPREL_HI20: [Delete at Lui => R_RISCV_NONE, by_low_offset]
+            R_RISCV_TPREL_ADD: [Delete at AddTp => R_RISCV_NONE, by_low_offset]
+            R_RISCV_TPREL_LO12_I: [BaseToTp => R_RISCV_TPREL_LO12_I, by_low_offset]
+            R_RISCV_TPREL_LO12_S: [
+                BaseToTp at LowOverOther => R_RISCV_TPREL_LO12_S, by_low_offset;
+            ]
+            R_RISCV_TLSDESC_HI20: [
+                Delete at Auipc => R_RISCV_NONE, to_local_exec(RELAXABLE);
+                ReplaceWithLongNop at Auipc => R_RISCV_NONE, to_local_exec;
+                Delete at Auipc => R_RISCV_NONE, to_initial_exec(RELAXABLE);
+                ReplaceWithLongNop at Auipc => R_RISCV_NONE, to_initial_exec;
+            ]
+            R_RISCV_TLSDESC_LOAD_LO12: [
+                Delete at Ld => R_RISCV_NONE, to_local_exec(RELAXABLE);
+                ReplaceWithLongNop at Ld => R_RISCV_NONE, to_local_exec;
+                Delete at Ld => R_RISCV_NONE, to_initial_exec(RELAXABLE);
+                ReplaceWithLongNop at Ld => R_RISCV_NONE, to_initial_exec;
+            ]
+            R_RISCV_TLSDESC_ADD_LO12: [
+                Delete at AddiToA0 => R_RISCV_NONE, to_short_local_exec(RELAXABLE);
+                ReplaceWithLongNop at AddiToA0 => R_RISCV_NONE, to_short_local_exec;
+                AddiToLui => R_RISCV_TPREL_HI20, to_local_exec;
+                AddiToAuipc => R_RISCV_TLS_GOT_HI20, to_initial_exec;
+            ]
+            R_RISCV_TLSDESC_CALL: [
+                CallToAddiZero => R_RISCV_TPREL_LO12_I, to_short_local_exec;
+                CallToAddi => R_RISCV_TPREL_LO12_I, to_local_exec;
+                CallToLd => R_RISCV_PCREL_LO12_I, to_initial_exec;
+            ]
+            R_RISCV_GOT_HI20: [NoOp at Auipc => R_RISCV_PCREL_HI20, without_got]
+            R_RISCV_PCREL_LO12_I: [LdToAddi => R_RISCV_PCREL_LO12_I, without_got(GOT_HIGH_PART)]
+        }
+    };
+}
+
+impl ChoiceTable for RelaxationKind {
+    ghost sampled = { λ name none section o. none };
+
+    #[inline(always)]
+    fn entries(name: Names, _section: &[u8], _offset: u64) -> Table<Self> {
+        choices!(by_table(when, name, table => table))
+    }
+
+    #[inline(never)]
+    fn choose_listed(name: Names, section: &[u8], offset: u64, facts: &LinkFacts) -> Chosen<Self> {
+        choices!(by_table(when, name, table => choice_by(table, name, section, offset, facts)))
+    }
+}
+
+/// Which rewrite a linker may make of the instruction or the pair at a relocation's offset, and the
+/// relocation whose value is then written (RISC-V ELF psABI, "Linker Relaxation").
+///
+/// ```
+/// use linker_utils::elf::{LinkFacts, Operands};
+/// use linker_utils::riscv64::{RelaxationKind, RiscVRelocation, choose};
+///
+/// // auipc ra, 0; jalr ra, 0(ra), which calls a function 0x1000 bytes on
+/// let call = [0x97, 0x00, 0x00, 0x00, 0xe7, 0x80, 0x00, 0x00];
+/// let facts = LinkFacts {
+///     is_pcrel_link_time_constant: true,
+///     is_relaxable: true,
+///     has_addresses: true,
+///     operands: Operands {
+///         plt_entry: 0x2000,
+///         symbol: 0x2000,
+///         place: 0x1000,
+///         ..Operands::default()
+///     },
+///     ..LinkFacts::default()
+/// };
+/// let chosen = choose(RiscVRelocation::R_RISCV_CALL_PLT, &call, 0, &facts);
+/// assert_eq!(chosen.kind, RelaxationKind::CallToJal);
+/// assert_eq!(chosen.relocation, RiscVRelocation::R_RISCV_JAL);
+/// ```
+#[inline]
+pub fn choose(
+    name: RiscVRelocation,
+    section: &[u8],
+    offset: u64,
+    facts: &LinkFacts,
+) -> Choice<RelaxationKind, RiscVRelocation>
+    ensures chosen { rewrites.IsRiscVChoice name section.now offset facts.now result }
+    ensures matches { rewrites.riscv_matches result.kind section.now offset }
+    ensures rewritable { CanRewrite (rewrites.riscv_rewrite result.kind) section.now offset }
+    // never an immediate of 0, which the ISA reserves
+    ensures compressed { result.kind ≡ RelaxationKind.Hi20ToCLui
+        → rewrites.FitsClui (sum_64 facts.now.operands.symbol
+        (cast_unsigned w64 facts.now.operands.addend)) }
+{
+    RelaxationKind::choose(name, section, offset, facts)
+}
+
+/// Whether a relocation can be rewritten, if all others of its sequence can: whether `choose` with
+/// `group_fits` changes it.
+///
+/// ```
+/// use linker_utils::elf::LinkFacts;
+/// use linker_utils::riscv64::{RiscVRelocation, fits};
+///
+/// // a low part is rewritten at `ld a0, 0(a0)`, and isn't at an auipc, whatever the linker knows
+/// let auipc = [0x17, 0x05, 0, 0];
+/// assert!(!fits(RiscVRelocation::R_RISCV_PCREL_LO12_I, &auipc, 0, &LinkFacts::default()));
+/// ```
+pub fn fits(name: RiscVRelocation, section: &[u8], offset: u64, facts: &LinkFacts) -> bool
+    ensures { IsTrue result
+        ↔ Fits (rewrites.IsRiscVChoice name section.now offset) (choice kinds.NoOp name) facts.now }
+{
+    RelaxationKind::fits(name, section, offset, facts)
+}
+
+/// With the same facts, all four relocations of a TLS descriptor are rewritten for local-exec, all
+/// for initial-exec, or none; and the `auipc` and the `ld` of a GOT entry are both rewritten or
+/// neither is. With the same facts, except that each has its own place, the `lui` of an address is
+/// deleted exactly where a low part of it is rewritten: where it becomes a `c.lui` the low part
+/// stays. And the `lui` of an offset from the thread pointer, its `add` and its low parts are all
+/// rewritten or none is. This holds where each is at an instruction that it requires, wherever that
+/// is.
+pub fn relocations_are_chosen_alike()
+    ensures descriptor { rewrites.DescriptorIsChosenAlike }
+    ensures got { rewrites.GotPairIsChosenAlike }
+    ensures absolute { rewrites.AbsoluteIsChosenAlike }
+    ensures thread { rewrites.ThreadOffsetIsChosenAlike }
+{}

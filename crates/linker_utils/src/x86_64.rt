@@ -1,0 +1,8 @@
+//! x86-64: relaxation rewrites, and what relocations mean.
+
+mod choices;
+mod rewrites;
+
+pub use choices::{choose, fits};
+pub use linker_elf::x86_64::{X86_64Relocation, relocation_from_raw, row};
+pub use rewrites::{RelaxationKind, may_be_skipped};

@@ -1,0 +1,898 @@
+//! Relaxation rewrites of x86-64.
+
+ghost use Rattle.linker_utils.specs.X86Rewrites.{x86_64_rewrites};
+ghost use Rattle.std.proofs.Common.{ap};
+ghost use Rattle.std.specs.Prelude.{slice_get, ◌≡◌, ◌≤◌, ◌↔◌, ◌∷◌, [], IsTrue, Some};
+ghost use Rattle.std.specs.Prelude.{◌<◌, length, IfSome, IfNone};
+ghost use Rattle.linker_base.specs.Rewrite.{IsRewritable, CanRewrite, rewritten, offset_after};
+ghost use Rattle.linker_base.specs.Rewrite.{addend_after};
+ghost use Rattle.linker_base.specs.RewriteWindow.{window_of_rewrite};
+ghost use Rattle.linker_utils.specs.X86Rewrites.{rex_reg_to_rm, evex_reg_to_rm};
+ghost use Rattle.linker_utils.specs.X86Rewrites.{modrm_reg_to_rm, operand, prefixed_operand};
+ghost use Rattle.linker_utils.specs.X86Rewrites.{evex_operand, absolute, by_immediate};
+ghost use Rattle.linker_utils.specs.X86Rewrites.{x86_64_rewrite, x86_64_modifier, KeepsRegister};
+ghost use Rattle.linker_utils.specs.X86Rewrites.{original, begins, is_at, is_one_at, legacy};
+ghost use Rattle.linker_utils.specs.X86Rewrites.{legacy_or_evex, lea_of_descriptor};
+ghost use Rattle.linker_utils.specs.X86Rewrites.{x86_64_originals, x86_64_matches, x86_64_skipped};
+ghost use Rattle.linker_utils.specs.X86Rewrites.{HaveFieldAt, x86_64_may_be_skipped};
+ghost use Rattle.linker_base.specs.declared.relaxation.RelocationModifier.TheVariants.{Normal};
+ghost use Rattle.linker_base.specs.declared.relaxation.RelocationModifier.TheVariants.{SkipNextRelocation};
+ghost use Rattle.linker_utils.specs.declared.x86_64.rewrites.RelaxationKind.TheVariants.{NoOp};
+
+use super::X86_64Relocation;
+use linker_base::relaxation::RelocationModifier;
+use linker_base::rewrite::{RewriteWindow, has_window, overwrite};
+use linker_elf::elf::InstructionRewrite;
+
+/// A rewrite of the instructions around a relocated field of 4 or 8 bytes, whose offset is the
+/// field's (x86-64 psABI, "Optimize GOTPCRELX Relocations", and "ELF Handling For Thread-Local
+/// Storage"). A variant's number is the count of the instruction's bytes before the field: 2
+/// without a prefix, 3 with REX, 4 with REX2, 6 with EVEX. With any other number the prefix is
+/// unchanged.
+///
+/// ```
+/// use linker_utils::x86_64::RelaxationKind;
+///
+/// // jmp *x@GOTPCREL(%rip) becomes jmp x; nop
+/// let (mut section, mut offset, mut addend) = ([0xff, 0x25, 0, 0, 0, 0], 2, -4);
+/// assert!(RelaxationKind::JmpIndirectToRelative.matches(&section, offset));
+/// RelaxationKind::JmpIndirectToRelative.apply(&mut section, &mut offset, &mut addend);
+/// assert_eq!(section, [0xe9, 0, 0, 0, 0, 0x90]);
+/// assert_eq!((offset, addend), (1, -4));
+/// ```
+#[derive(Debug, Default, Clone, Copy, PartialEq, Eq)]
+pub enum RelaxationKind {
+    /// Turns `mov x@GOTPCREL(%rip), %reg` into `lea x(%rip), %reg`.
+    MovIndirectToLea,
+    /// Turns `mov x@GOTPCREL(%rip), %reg` into `mov $x, %reg`, where no prefix names the register.
+    MovIndirectToAbsolute,
+    /// Turns `mov x@GOTPCREL(%rip), %reg` into `mov $x, %reg`.
+    RexMovIndirectToAbsolute(u8),
+    /// Turns `add x@GOTPCREL(%rip), %reg` into `add $x, %reg`.
+    RexAddIndirectToAbsolute(u8),
+    /// Turns `sub x@GOTPCREL(%rip), %reg` into `sub $x, %reg`.
+    RexSubIndirectToAbsolute(u8),
+    /// Turns `cmp x@GOTPCREL(%rip), %reg` into `cmp $x, %reg`.
+    RexCmpIndirectToAbsolute(u8),
+    /// Turns `call *x@GOTPCREL(%rip)` into `addr32 call x`.
+    CallIndirectToRelative,
+    /// Turns `jmp *x@GOTPCREL(%rip)` into `jmp x; nop`. The offset becomes 1 less.
+    JmpIndirectToRelative,
+    /// Leaves the instruction as it is; only the kind of its relocation changes.
+    #[default]
+    NoOp,
+    /// Turns a general-dynamic TLS sequence into a local-exec one.
+    TlsGdToLocalExec,
+    /// Turns the large code model's general-dynamic TLS sequence into a local-exec one.
+    TlsGdToLocalExecLarge,
+    /// Turns a local-dynamic TLS sequence into a local-exec one.
+    TlsLdToLocalExec,
+    /// Turns a local-dynamic TLS sequence whose call goes through the GOT into a local-exec one.
+    TlsLdToLocalExecNoPlt,
+    /// Turns the large code model's local-dynamic TLS sequence into a local-exec one.
+    TlsLdToLocalExec64,
+    /// Turns a general-dynamic TLS sequence into an initial-exec one.
+    TlsGdToInitialExec,
+    /// Turns the `lea` of a TLS descriptor into `mov $x, %reg`.
+    TlsDescToLocalExec(u8),
+    /// Turns the `lea` of a TLS descriptor into `mov x@GOTTPOFF(%rip), %reg`.
+    TlsDescToInitialExec,
+    /// Turns the call through a TLS descriptor into a `nop` of two bytes.
+    SkipTlsDescCall,
+    /// Turns `adc x@GOTPCREL(%rip), %reg` into `adc $x, %reg`.
+    RexAdcIndirectToAbsolute(u8),
+    /// Turns `and x@GOTPCREL(%rip), %reg` into `and $x, %reg`.
+    RexAndIndirectToAbsolute(u8),
+    /// Turns `or x@GOTPCREL(%rip), %reg` into `or $x, %reg`.
+    RexOrIndirectToAbsolute(u8),
+    /// Turns `sbb x@GOTPCREL(%rip), %reg` into `sbb $x, %reg`.
+    RexSbbIndirectToAbsolute(u8),
+    /// Turns `xor x@GOTPCREL(%rip), %reg` into `xor $x, %reg`.
+    RexXorIndirectToAbsolute(u8),
+    /// Turns `test %reg, x@GOTPCREL(%rip)` into `test $x, %reg`.
+    RexTestIndirectToAbsolute(u8),
+}
+
+/// The prefix byte after the register moves from the reg field to the rm field: R moves to B.
+#[inline(always)]
+fn moved_prefix(n: u8, byte: u8) -> u8
+    ensures { result ≡ rex_reg_to_rm n byte }
+{
+    match n {
+        3 => byte & !0x04 | (byte & 0x04) >> 2,
+        4 => byte & !0x44 | (byte & 0x44) >> 2,
+        _ => byte,
+    }
+}
+
+/// The EVEX byte after the register moves from the reg field to the rm field.
+#[inline(always)]
+fn moved_evex(byte: u8) -> u8
+    ensures { result ≡ evex_reg_to_rm byte }
+{
+    let high = if byte & 0x80 == 0 {
+        (byte | 0x80) & !0x20
+    } else {
+        byte
+    };
+    if byte & 0x10 == 0 { high | 0x18 } else { high }
+}
+
+/// A ModRM byte whose rm field is the reg field of `byte`, and whose other bits are `others`.
+#[inline(always)]
+fn moved_modrm(others: u8, byte: u8) -> u8
+    requires { others ≤ 0xf8 }
+    ensures { result ≡ modrm_reg_to_rm others byte }
+{
+    others + (byte >> 3 & 7)
+}
+
+// Constant bytes are copied to a local array before they are written. LLVM then knows that the
+// section doesn't overlap them, and writes them by a few stores.
+
+/// `addr32 call x`, before its field.
+const ADDR32_CALL: [u8; 2] = [0x67, 0xe8];
+
+/// `jmp x; nop`.
+const JMP_NOP: [u8; 6] = [0xe9, 0, 0, 0, 0, 0x90];
+
+/// `mov %fs:0, %rax; lea x(%rax), %rax`, before its field.
+const LOCAL_EXEC: [u8; 12] = [0x64, 0x48, 0x8b, 0x04, 0x25, 0, 0, 0, 0, 0x48, 0x8d, 0x80];
+
+/// `mov %fs:0, %rax; lea x(%rax), %rax; nopw (%rax,%rax)`.
+const LOCAL_EXEC_LARGE: [u8; 22] = [
+    0x64, 0x48, 0x8b, 0x04, 0x25, 0, 0, 0, 0, 0x48, 0x8d, 0x80, 0, 0, 0, 0, 0x66, 0x0f, 0x1f, 0x44,
+    0, 0,
+];
+
+/// `mov %fs:0, %rax`, with prefixes that do nothing.
+const THREAD_POINTER: [u8; 12] = [0x66, 0x66, 0x66, 0x64, 0x48, 0x8b, 0x04, 0x25, 0, 0, 0, 0];
+
+/// The same, a byte longer.
+const THREAD_POINTER_NO_PLT: [u8; 13] = [
+    0x66, 0x66, 0x66, 0x66, 0x64, 0x48, 0x8b, 0x04, 0x25, 0, 0, 0, 0,
+];
+
+/// `nopw %cs:(%rax,%rax); mov %fs:0, %rax`.
+const THREAD_POINTER_LARGE: [u8; 22] = [
+    0x66, 0x66, 0x66, 0x66, 0x2e, 0x0f, 0x1f, 0x84, 0, 0, 0, 0, 0, 0x64, 0x48, 0x8b, 0x04, 0x25, 0,
+    0, 0, 0,
+];
+
+/// `mov %fs:0, %rax; add x@GOTTPOFF(%rip), %rax`, before its field.
+const INITIAL_EXEC: [u8; 12] = [0x64, 0x48, 0x8b, 0x04, 0x25, 0, 0, 0, 0, 0x48, 0x03, 0x05];
+
+/// A `nop` of two bytes.
+const NOP_2: [u8; 2] = [0x66, 0x90];
+
+/// Rewrites an opcode and a ModRM byte.
+#[inline(always)]
+fn put_operand(section: &mut [u8], offset: u64, opcode: u8, others: u8)
+    requires inside { IsRewritable (absolute 2 (operand opcode others)) section.old offset }
+    requires room { others ≤ 0xf8 }
+    ensures { section.new
+        ≡ rewritten (Some (absolute 2 (operand opcode others))) section.old offset }
+{
+    let byte = section[(offset - 1) as usize];
+    overwrite(section, offset - 2, &[opcode, moved_modrm(others, byte)]);
+}
+
+/// Rewrites a prefix byte, an opcode and a ModRM byte.
+#[inline(always)]
+fn put_prefixed(section: &mut [u8], offset: u64, n: u8, opcode: u8, others: u8)
+    requires inside { IsRewritable (absolute 3 (prefixed_operand n opcode others))
+        section.old offset }
+    requires room { others ≤ 0xf8 }
+    ensures { section.new
+        ≡ rewritten (Some (absolute 3 (prefixed_operand n opcode others))) section.old offset }
+{
+    let start = (offset - 3) as usize;
+    let front = moved_prefix(n, section[start]);
+    let last = moved_modrm(others, section[start + 2]);
+    overwrite(section, offset - 3, &[front, opcode, last]);
+}
+
+/// Rewrites an EVEX byte, and the opcode and ModRM byte that begin three bytes after it.
+#[inline(always)]
+fn put_evex(section: &mut [u8], offset: u64, opcode: u8, others: u8)
+    requires inside { IsRewritable (absolute 5 (evex_operand opcode others)) section.old offset }
+    requires room { others ≤ 0xf8 }
+    ensures { section.new
+        ≡ rewritten (Some (absolute 5 (evex_operand opcode others))) section.old offset }
+{
+    let start = (offset - 5) as usize;
+    let front = moved_evex(section[start]);
+    let second = section[start + 1];
+    let third = section[start + 2];
+    let last = moved_modrm(others, section[start + 4]);
+    overwrite(section, offset - 5, &[front, second, third, opcode, last]);
+}
+
+/// Rewrites an operation, with any prefix or none, to take an immediate.
+#[inline(always)]
+fn put_immediate(section: &mut [u8], offset: u64, n: u8, opcode: u8, others: u8)
+    requires inside { IsRewritable (by_immediate n opcode others) section.old offset }
+    requires room { others ≤ 0xf8 }
+    ensures { section.new ≡ rewritten (Some (by_immediate n opcode others)) section.old offset }
+{
+    match n {
+        3 => put_prefixed(section, offset, 3, opcode, others),
+        4 => put_prefixed(section, offset, 4, opcode, others),
+        6 => put_evex(section, offset, opcode, others),
+        _ => put_operand(section, offset, opcode, others),
+    }
+}
+
+/// The same, as a call of its own. With `put_immediate` inlined for each operation the kit's
+/// compiler doesn't inline `rewrite`, which is then too large.
+#[inline]
+fn call_put_immediate(section: &mut [u8], offset: u64, n: u8, opcode: u8, others: u8)
+    requires inside { IsRewritable (by_immediate n opcode others) section.old offset }
+    requires room { others ≤ 0xf8 }
+    ensures { section.new ≡ rewritten (Some (by_immediate n opcode others)) section.old offset }
+{
+    put_immediate(section, offset, n, opcode, others);
+}
+
+/// The masks and values of an instruction's bytes. Each word is that of the definition.
+macro_rules! pattern {
+    ($($byte:tt)*) => {
+        [$(pattern_byte!($byte)),*]
+    };
+}
+
+macro_rules! pattern_byte {
+    (any) => {
+        (0, 0)
+    };
+    (rip) => {
+        (0xc7, 0x05)
+    };
+    (rex) => {
+        (0xf3, 0x40)
+    };
+    (rex_w) => {
+        (0xfb, 0x48)
+    };
+    (rex2) => {
+        (0xb3, 0x00)
+    };
+    (rex2_w) => {
+        (0xbb, 0x08)
+    };
+    (evex_registers) => {
+        (0x6f, 0x64)
+    };
+    (evex_any_v) => {
+        (0x07, 0x04)
+    };
+    (evex_no_v) => {
+        (0x7f, 0x7c)
+    };
+    ((evex_new_destination $fixed:ident)) => {
+        (0xf3 | $fixed, 0x10)
+    };
+    ((evex_same_destination $fixed:ident)) => {
+        (0xfb | $fixed, 0x08)
+    };
+    ($value:expr) => {
+        (0xff, $value)
+    };
+}
+
+const REX_LEA: [(u8, u8); 7] = pattern!(rex_w 0x8d rip any any any any);
+
+const REX2_LEA: [(u8, u8); 8] = pattern!(0xd5 rex2_w 0x8d rip any any any any);
+
+const GENERAL_DYNAMIC: [(u8, u8); 16] = pattern!(
+    0x66 0x48 0x8d 0x3d any any any any 0x66 0x66 0x48 0xe8 any any any any
+);
+
+const GENERAL_DYNAMIC_BY_GOT: [(u8, u8); 16] = pattern!(
+    0x66 0x48 0x8d 0x3d any any any any 0x66 0x48 0xff 0x15 any any any any
+);
+
+const LOCAL_DYNAMIC: [(u8, u8); 12] = pattern!(
+    0x48 0x8d 0x3d any any any any 0xe8 any any any any
+);
+
+const LOCAL_DYNAMIC_BY_GOT: [(u8, u8); 13] = pattern!(
+    0x48 0x8d 0x3d any any any any 0xff 0x15 any any any any
+);
+
+const LARGE_BY_RBX: [(u8, u8); 22] = pattern!(
+    0x48 0x8d 0x3d any any any any 0x48 0xb8 any any any any any any any any 0x48 0x01 0xd8
+    0xff 0xd0
+);
+
+const LARGE_BY_R15: [(u8, u8); 22] = pattern!(
+    0x48 0x8d 0x3d any any any any 0x48 0xb8 any any any any any any any any 0x4c 0x01 0xf8
+    0xff 0xd0
+);
+
+/// Whether bytes begin with an instruction or a sequence.
+#[inline(always)]
+fn begins(bytes: &[u8], pattern: &[(u8, u8)]) -> bool
+    ensures { result ≡ begins pattern.now bytes.now }
+{
+    if bytes.len() < pattern.len() {
+        return false;
+    }
+    for index in 0..pattern.len() {
+        let (mask, value) = pattern[index];
+        if bytes[index] & mask != value {
+            return false;
+        }
+    }
+    true
+}
+
+/// Whether an instruction or a sequence with `back` bytes before the field is in the section, and
+/// the field is at the offset.
+#[inline(always)]
+fn is_original(section: &[u8], offset: u64, back: u64, pattern: &[(u8, u8)]) -> bool
+    requires { 0 < length pattern.now }
+    ensures { result ≡ is_at (original back pattern.now) section.now offset }
+{
+    if offset < back || (section.len() as u64) < offset - back {
+        return false;
+    }
+    begins(&section[(offset - back) as usize..], pattern)
+}
+
+/// Whether one of two is there.
+#[inline(always)]
+fn is_either(
+    section: &[u8],
+    offset: u64,
+    back: u64,
+    first: &[(u8, u8)],
+    second: &[(u8, u8)],
+) -> bool
+    requires first { 0 < length first.now }
+    requires second { 0 < length second.now }
+    ensures { result ≡ is_one_at (original back first.now ∷ original back second.now ∷ [])
+        section.now offset }
+{
+    is_original(section, offset, back, first) || is_original(section, offset, back, second)
+}
+
+/// Whether an instruction with an operand relative to the instruction pointer is there, with `n`
+/// bytes before the field: no prefix, REX or REX2.
+#[inline(always)]
+pub(super) fn is_legacy(section: &[u8], offset: u64, n: u8, opcode: u8) -> bool
+    ensures { result ≡ is_one_at (legacy n opcode) section.now offset }
+{
+    match n {
+        2 => is_original(section, offset, 2, &pattern!(opcode rip any any any any)),
+        3 => is_original(
+            section,
+            offset,
+            3,
+            &pattern!(rex opcode rip any any any any),
+        ),
+        4 => is_original(
+            section,
+            offset,
+            4,
+            &pattern!(0xd5 rex2 opcode rip any any any any),
+        ),
+        _ => false,
+    }
+}
+
+/// The same, or with EVEX, whose bits `fixed` are 0.
+#[inline(always)]
+fn is_legacy_or_evex(section: &[u8], offset: u64, n: u8, fixed: u8, opcode: u8) -> bool
+    ensures { result ≡ is_one_at (legacy_or_evex n fixed opcode) section.now offset }
+{
+    if n == 6 {
+        is_either(
+            section,
+            offset,
+            6,
+            &pattern!(
+                0x62 evex_registers evex_any_v (evex_new_destination fixed) opcode rip
+                any any any any
+            ),
+            &pattern!(
+                0x62 evex_registers evex_no_v (evex_same_destination fixed) opcode rip
+                any any any any
+            ),
+        )
+    } else {
+        is_legacy(section, offset, n, opcode)
+    }
+}
+
+/// Whether the `lea` of a TLS descriptor is there.
+#[inline(always)]
+pub(super) fn is_lea_of_descriptor(section: &[u8], offset: u64, n: u8) -> bool
+    ensures { result ≡ is_one_at (lea_of_descriptor n) section.now offset }
+{
+    match n {
+        3 => is_original(section, offset, 3, &REX_LEA),
+        4 => is_original(section, offset, 4, &REX2_LEA),
+        _ => false,
+    }
+}
+
+impl RelaxationKind {
+    /// The rewrite with a number, its place in the enum. None above the last. The rewrites that
+    /// have a number of bytes before the field take `opcode_len`.
+    #[inline(always)]
+    pub fn from_number(number: u32, opcode_len: u8) -> Option<RelaxationKind>
+        ensures { result ≡ slice_get (x86_64_rewrites opcode_len) number }
+    {
+        let kind = match number {
+            0 => RelaxationKind::MovIndirectToLea,
+            1 => RelaxationKind::MovIndirectToAbsolute,
+            2 => RelaxationKind::RexMovIndirectToAbsolute(opcode_len),
+            3 => RelaxationKind::RexAddIndirectToAbsolute(opcode_len),
+            4 => RelaxationKind::RexSubIndirectToAbsolute(opcode_len),
+            5 => RelaxationKind::RexCmpIndirectToAbsolute(opcode_len),
+            6 => RelaxationKind::CallIndirectToRelative,
+            7 => RelaxationKind::JmpIndirectToRelative,
+            8 => RelaxationKind::NoOp,
+            9 => RelaxationKind::TlsGdToLocalExec,
+            10 => RelaxationKind::TlsGdToLocalExecLarge,
+            11 => RelaxationKind::TlsLdToLocalExec,
+            12 => RelaxationKind::TlsLdToLocalExecNoPlt,
+            13 => RelaxationKind::TlsLdToLocalExec64,
+            14 => RelaxationKind::TlsGdToInitialExec,
+            15 => RelaxationKind::TlsDescToLocalExec(opcode_len),
+            16 => RelaxationKind::TlsDescToInitialExec,
+            17 => RelaxationKind::SkipTlsDescCall,
+            18 => RelaxationKind::RexAdcIndirectToAbsolute(opcode_len),
+            19 => RelaxationKind::RexAndIndirectToAbsolute(opcode_len),
+            20 => RelaxationKind::RexOrIndirectToAbsolute(opcode_len),
+            21 => RelaxationKind::RexSbbIndirectToAbsolute(opcode_len),
+            22 => RelaxationKind::RexXorIndirectToAbsolute(opcode_len),
+            23 => RelaxationKind::RexTestIndirectToAbsolute(opcode_len),
+            _ => return None,
+        };
+        Some(kind)
+    }
+
+    /// The rewrite's number and its count of bytes before the field, which `from_number` takes. The
+    /// count is 0 where the variant has none.
+    #[inline]
+    pub fn number(self) -> (u32, u8)
+        ensures { slice_get (x86_64_rewrites (result.1)) (result.0) ≡ Some self }
+    {
+        match self {
+            RelaxationKind::MovIndirectToLea => (0, 0),
+            RelaxationKind::MovIndirectToAbsolute => (1, 0),
+            RelaxationKind::RexMovIndirectToAbsolute(n) => (2, n),
+            RelaxationKind::RexAddIndirectToAbsolute(n) => (3, n),
+            RelaxationKind::RexSubIndirectToAbsolute(n) => (4, n),
+            RelaxationKind::RexCmpIndirectToAbsolute(n) => (5, n),
+            RelaxationKind::CallIndirectToRelative => (6, 0),
+            RelaxationKind::JmpIndirectToRelative => (7, 0),
+            RelaxationKind::NoOp => (8, 0),
+            RelaxationKind::TlsGdToLocalExec => (9, 0),
+            RelaxationKind::TlsGdToLocalExecLarge => (10, 0),
+            RelaxationKind::TlsLdToLocalExec => (11, 0),
+            RelaxationKind::TlsLdToLocalExecNoPlt => (12, 0),
+            RelaxationKind::TlsLdToLocalExec64 => (13, 0),
+            RelaxationKind::TlsGdToInitialExec => (14, 0),
+            RelaxationKind::TlsDescToLocalExec(n) => (15, n),
+            RelaxationKind::TlsDescToInitialExec => (16, 0),
+            RelaxationKind::SkipTlsDescCall => (17, 0),
+            RelaxationKind::RexAdcIndirectToAbsolute(n) => (18, n),
+            RelaxationKind::RexAndIndirectToAbsolute(n) => (19, n),
+            RelaxationKind::RexOrIndirectToAbsolute(n) => (20, n),
+            RelaxationKind::RexSbbIndirectToAbsolute(n) => (21, n),
+            RelaxationKind::RexXorIndirectToAbsolute(n) => (22, n),
+            RelaxationKind::RexTestIndirectToAbsolute(n) => (23, n),
+        }
+    }
+
+    #[inline(always)]
+    fn rewrite(self, section: &mut [u8], offset_in_section: &mut u64, addend: &mut i64)
+        requires { CanRewrite (x86_64_rewrite self) section.old offset_in_section.old }
+        ensures bytes { section.new
+            ≡ rewritten (x86_64_rewrite self) section.old offset_in_section.old }
+        ensures offset { offset_in_section.new
+            ≡ offset_after (x86_64_rewrite self) offset_in_section.old }
+        ensures addend { addend.new ≡ addend_after (x86_64_rewrite self) addend.old }
+    {
+        let offset = *offset_in_section;
+        match self {
+            RelaxationKind::MovIndirectToLea => overwrite(section, offset - 2, &[0x8d]),
+            RelaxationKind::MovIndirectToAbsolute => {
+                *addend = 0;
+                put_operand(section, offset, 0xc7, 0xc0);
+            }
+            RelaxationKind::RexMovIndirectToAbsolute(n) => {
+                *addend = 0;
+                put_prefixed(section, offset, n, 0xc7, 0xc0);
+            }
+            RelaxationKind::RexAddIndirectToAbsolute(n) => {
+                *addend = 0;
+                put_immediate(section, offset, n, 0x81, 0xc0);
+            }
+            RelaxationKind::RexSubIndirectToAbsolute(n) => {
+                *addend = 0;
+                put_prefixed(section, offset, n, 0x81, 0xe8);
+            }
+            RelaxationKind::RexCmpIndirectToAbsolute(n) => {
+                *addend = 0;
+                put_prefixed(section, offset, n, 0x81, 0xf8);
+            }
+            RelaxationKind::CallIndirectToRelative => {
+                let bytes = ADDR32_CALL;
+                overwrite(section, offset - 2, &bytes);
+            }
+            RelaxationKind::JmpIndirectToRelative => {
+                let bytes = JMP_NOP;
+                overwrite(section, offset - 2, &bytes);
+                *offset_in_section = offset - 1;
+            }
+            RelaxationKind::NoOp => {}
+            RelaxationKind::TlsGdToLocalExec => {
+                *addend = 0;
+                let bytes = LOCAL_EXEC;
+                overwrite(section, offset - 4, &bytes);
+                *offset_in_section = offset + 8;
+            }
+            RelaxationKind::TlsGdToLocalExecLarge => {
+                *addend = 0;
+                let bytes = LOCAL_EXEC_LARGE;
+                overwrite(section, offset - 3, &bytes);
+                *offset_in_section = offset + 9;
+            }
+            RelaxationKind::TlsLdToLocalExec => {
+                let bytes = THREAD_POINTER;
+                overwrite(section, offset - 3, &bytes);
+                *offset_in_section = offset + 5;
+            }
+            RelaxationKind::TlsLdToLocalExecNoPlt => {
+                let bytes = THREAD_POINTER_NO_PLT;
+                overwrite(section, offset - 3, &bytes);
+                *offset_in_section = offset + 5;
+            }
+            RelaxationKind::TlsLdToLocalExec64 => {
+                let bytes = THREAD_POINTER_LARGE;
+                overwrite(section, offset - 3, &bytes);
+                *offset_in_section = offset + 15;
+            }
+            RelaxationKind::TlsGdToInitialExec => {
+                let bytes = INITIAL_EXEC;
+                overwrite(section, offset - 4, &bytes);
+                *offset_in_section = offset + 8;
+            }
+            RelaxationKind::TlsDescToLocalExec(n) => {
+                *addend = 0;
+                put_prefixed(section, offset, n, 0xc7, 0xc0);
+            }
+            RelaxationKind::TlsDescToInitialExec => overwrite(section, offset - 2, &[0x8b]),
+            RelaxationKind::SkipTlsDescCall => {
+                let bytes = NOP_2;
+                overwrite(section, offset, &bytes);
+            }
+            RelaxationKind::RexAdcIndirectToAbsolute(n) => {
+                *addend = 0;
+                call_put_immediate(section, offset, n, 0x81, 0xd0);
+            }
+            RelaxationKind::RexAndIndirectToAbsolute(n) => {
+                *addend = 0;
+                call_put_immediate(section, offset, n, 0x81, 0xe0);
+            }
+            RelaxationKind::RexOrIndirectToAbsolute(n) => {
+                *addend = 0;
+                call_put_immediate(section, offset, n, 0x81, 0xc8);
+            }
+            RelaxationKind::RexSbbIndirectToAbsolute(n) => {
+                *addend = 0;
+                call_put_immediate(section, offset, n, 0x81, 0xd8);
+            }
+            RelaxationKind::RexXorIndirectToAbsolute(n) => {
+                *addend = 0;
+                call_put_immediate(section, offset, n, 0x81, 0xf0);
+            }
+            RelaxationKind::RexTestIndirectToAbsolute(n) => {
+                *addend = 0;
+                call_put_immediate(section, offset, n, 0xf7, 0xc0);
+            }
+        }
+    }
+
+    /// Rewrites the instructions around the field at an offset of a section. The offset becomes
+    /// that of the field afterwards. The addend becomes 0 where the field becomes absolute or an
+    /// offset from the thread pointer. All other bytes are unchanged.
+    ///
+    /// `RexMovIndirectToAbsolute(3)` keeps the register that `mov` names, if bit 0 of the REX byte
+    /// was clear.
+    #[inline(always)]
+    pub fn apply(self, section_bytes: &mut [u8], offset_in_section: &mut u64, addend: &mut i64)
+        requires { CanRewrite (x86_64_rewrite self) section_bytes.old offset_in_section.old }
+        ensures bytes { section_bytes.new
+            ≡ rewritten (x86_64_rewrite self) section_bytes.old offset_in_section.old }
+        ensures offset { offset_in_section.new
+            ≡ offset_after (x86_64_rewrite self) offset_in_section.old }
+        ensures addend { addend.new ≡ addend_after (x86_64_rewrite self) addend.old }
+        ensures register { self ≡ RelaxationKind.RexMovIndirectToAbsolute 3
+            → KeepsRegister section_bytes.old section_bytes.new offset_in_section.old }
+    {
+        self.rewrite(section_bytes, offset_in_section, addend);
+    }
+
+    /// Whether `apply` may be called at an offset of a section: the bytes that it rewrites lie in
+    /// the section. The instruction is not tested.
+    #[inline(always)]
+    pub fn can_apply(self, section: &[u8], offset: u64) -> bool
+        ensures { IsTrue result ↔ CanRewrite (x86_64_rewrite self) section.now offset }
+    {
+        match self {
+            RelaxationKind::MovIndirectToLea => has_window(section, offset, 2, 1),
+            RelaxationKind::MovIndirectToAbsolute => has_window(section, offset, 2, 2),
+            RelaxationKind::RexMovIndirectToAbsolute(_) => has_window(section, offset, 3, 3),
+            RelaxationKind::RexSubIndirectToAbsolute(_) => has_window(section, offset, 3, 3),
+            RelaxationKind::RexCmpIndirectToAbsolute(_) => has_window(section, offset, 3, 3),
+            RelaxationKind::CallIndirectToRelative => has_window(section, offset, 2, 2),
+            RelaxationKind::JmpIndirectToRelative => has_window(section, offset, 2, 6),
+            RelaxationKind::NoOp => true,
+            RelaxationKind::TlsGdToLocalExec => has_window(section, offset, 4, 12),
+            RelaxationKind::TlsGdToLocalExecLarge => has_window(section, offset, 3, 22),
+            RelaxationKind::TlsLdToLocalExec => has_window(section, offset, 3, 12),
+            RelaxationKind::TlsLdToLocalExecNoPlt => has_window(section, offset, 3, 13),
+            RelaxationKind::TlsLdToLocalExec64 => has_window(section, offset, 3, 22),
+            RelaxationKind::TlsGdToInitialExec => has_window(section, offset, 4, 12),
+            RelaxationKind::TlsDescToLocalExec(_) => has_window(section, offset, 3, 3),
+            RelaxationKind::TlsDescToInitialExec => has_window(section, offset, 2, 1),
+            RelaxationKind::SkipTlsDescCall => has_window(section, offset, 0, 2),
+            // apart from the operations below, so that `linker_utils_apply` jumps once for `add`
+            RelaxationKind::RexAddIndirectToAbsolute(n) => match n {
+                3 | 4 => has_window(section, offset, 3, 3),
+                6 => has_window(section, offset, 5, 5),
+                _ => has_window(section, offset, 2, 2),
+            },
+            RelaxationKind::RexAdcIndirectToAbsolute(n)
+            | RelaxationKind::RexAndIndirectToAbsolute(n)
+            | RelaxationKind::RexOrIndirectToAbsolute(n)
+            | RelaxationKind::RexSbbIndirectToAbsolute(n)
+            | RelaxationKind::RexXorIndirectToAbsolute(n)
+            | RelaxationKind::RexTestIndirectToAbsolute(n) => {
+                match n {
+                    3 | 4 => has_window(section, offset, 3, 3),
+                    6 => has_window(section, offset, 5, 5),
+                    _ => has_window(section, offset, 2, 2),
+                }
+            }
+        }
+    }
+
+    /// The bytes that `apply` writes; none for `NoOp`. The field whose value is written afterwards
+    /// lies after them, as the last 4 of the 16 bytes of a general-dynamic sequence; but
+    /// `JmpIndirectToRelative` and `TlsGdToLocalExecLarge` write 0 to their field.
+    #[inline]
+    pub fn window(self) -> RewriteWindow
+        ensures { result ≡ window_of_rewrite (x86_64_rewrite self) }
+    {
+        let (back, len) = match self {
+            RelaxationKind::NoOp => (0, 0),
+            RelaxationKind::MovIndirectToLea | RelaxationKind::TlsDescToInitialExec => (2, 1),
+            RelaxationKind::MovIndirectToAbsolute | RelaxationKind::CallIndirectToRelative => {
+                (2, 2)
+            }
+            RelaxationKind::RexMovIndirectToAbsolute(_)
+            | RelaxationKind::RexSubIndirectToAbsolute(_)
+            | RelaxationKind::RexCmpIndirectToAbsolute(_)
+            | RelaxationKind::TlsDescToLocalExec(_) => (3, 3),
+            RelaxationKind::JmpIndirectToRelative => (2, 6),
+            RelaxationKind::TlsGdToLocalExec | RelaxationKind::TlsGdToInitialExec => (4, 12),
+            RelaxationKind::TlsGdToLocalExecLarge | RelaxationKind::TlsLdToLocalExec64 => (3, 22),
+            RelaxationKind::TlsLdToLocalExec => (3, 12),
+            RelaxationKind::TlsLdToLocalExecNoPlt => (3, 13),
+            RelaxationKind::SkipTlsDescCall => (0, 2),
+            RelaxationKind::RexAddIndirectToAbsolute(n)
+            | RelaxationKind::RexAdcIndirectToAbsolute(n)
+            | RelaxationKind::RexAndIndirectToAbsolute(n)
+            | RelaxationKind::RexOrIndirectToAbsolute(n)
+            | RelaxationKind::RexSbbIndirectToAbsolute(n)
+            | RelaxationKind::RexXorIndirectToAbsolute(n)
+            | RelaxationKind::RexTestIndirectToAbsolute(n) => match n {
+                3 | 4 => (3, 3),
+                6 => (5, 5),
+                _ => (2, 2),
+            },
+        };
+        RewriteWindow { back, len }
+    }
+
+    /// Whether the instruction or the sequence at an offset is one that the rewrite is for.
+    #[inline(always)]
+    fn is_for(self, section: &[u8], offset: u64) -> bool
+        ensures { result ≡ is_one_at (x86_64_originals self) section.now offset }
+    {
+        match self {
+            RelaxationKind::NoOp => true,
+            RelaxationKind::MovIndirectToLea | RelaxationKind::MovIndirectToAbsolute => {
+                is_legacy(section, offset, 2, 0x8b)
+            }
+            RelaxationKind::RexMovIndirectToAbsolute(n) => is_legacy(section, offset, n, 0x8b),
+            RelaxationKind::RexAddIndirectToAbsolute(n) => {
+                is_legacy_or_evex(section, offset, n, 0, 0x03)
+            }
+            RelaxationKind::RexSubIndirectToAbsolute(n) => is_legacy(section, offset, n, 0x2b),
+            RelaxationKind::RexCmpIndirectToAbsolute(n) => is_legacy(section, offset, n, 0x3b),
+            RelaxationKind::RexAdcIndirectToAbsolute(n) => {
+                is_legacy_or_evex(section, offset, n, 4, 0x13)
+            }
+            RelaxationKind::RexAndIndirectToAbsolute(n) => {
+                is_legacy_or_evex(section, offset, n, 0, 0x23)
+            }
+            RelaxationKind::RexOrIndirectToAbsolute(n) => {
+                is_legacy_or_evex(section, offset, n, 0, 0x0b)
+            }
+            RelaxationKind::RexSbbIndirectToAbsolute(n) => {
+                is_legacy_or_evex(section, offset, n, 4, 0x1b)
+            }
+            RelaxationKind::RexXorIndirectToAbsolute(n) => {
+                is_legacy_or_evex(section, offset, n, 0, 0x33)
+            }
+            RelaxationKind::RexTestIndirectToAbsolute(n) => is_legacy(section, offset, n, 0x85),
+            RelaxationKind::CallIndirectToRelative => {
+                is_original(section, offset, 2, &pattern!(0xff 0x15 any any any any))
+            }
+            RelaxationKind::JmpIndirectToRelative => {
+                is_original(section, offset, 2, &pattern!(0xff 0x25 any any any any))
+            }
+            RelaxationKind::TlsGdToLocalExec | RelaxationKind::TlsGdToInitialExec => is_either(
+                section,
+                offset,
+                4,
+                &GENERAL_DYNAMIC,
+                &GENERAL_DYNAMIC_BY_GOT,
+            ),
+            RelaxationKind::TlsGdToLocalExecLarge | RelaxationKind::TlsLdToLocalExec64 => {
+                is_either(section, offset, 3, &LARGE_BY_RBX, &LARGE_BY_R15)
+            }
+            RelaxationKind::TlsLdToLocalExec => is_original(section, offset, 3, &LOCAL_DYNAMIC),
+            RelaxationKind::TlsLdToLocalExecNoPlt => {
+                is_original(section, offset, 3, &LOCAL_DYNAMIC_BY_GOT)
+            }
+            RelaxationKind::TlsDescToLocalExec(n) => is_lea_of_descriptor(section, offset, n),
+            RelaxationKind::TlsDescToInitialExec => {
+                is_lea_of_descriptor(section, offset, 3) || is_lea_of_descriptor(section, offset, 4)
+            }
+            RelaxationKind::SkipTlsDescCall => {
+                is_original(section, offset, 0, &pattern!(0xff 0x10))
+            }
+        }
+    }
+
+    /// Whether `apply` may be called at an offset of a section, and the bytes there are an
+    /// instruction or a whole sequence that the rewrite is for: its prefix, opcode, ModRM byte and
+    /// registers, around fields of any value. A number of bytes before the field for which there is
+    /// no such instruction matches nothing, and `NoOp` matches any bytes.
+    ///
+    /// Bytes before the instruction are not tested: `MovIndirectToLea` takes any prefix, which
+    /// stays, and for the others the relocation's type says where the instruction begins. With a
+    /// prefix 0x66 for operands of 16 bits assemblers write `R_X86_64_GOTPCREL`, which no rewrite
+    /// is for.
+    #[inline]
+    pub fn matches(self, section: &[u8], offset: u64) -> bool
+        ensures { IsTrue result ↔ x86_64_matches self section.now offset }
+    {
+        self.can_apply(section, offset) && self.is_for(section, offset)
+    }
+
+    /// What happens to the next relocation: the TLS sequences skip that of their call.
+    #[inline]
+    pub fn next_modifier(&self) -> RelocationModifier
+        ensures { result ≡ x86_64_modifier self.now }
+    {
+        match self {
+            RelaxationKind::TlsGdToLocalExec
+            | RelaxationKind::TlsGdToLocalExecLarge
+            | RelaxationKind::TlsLdToLocalExec
+            | RelaxationKind::TlsLdToLocalExecNoPlt
+            | RelaxationKind::TlsLdToLocalExec64
+            | RelaxationKind::TlsGdToInitialExec => RelocationModifier::SkipNextRelocation,
+            RelaxationKind::MovIndirectToLea
+            | RelaxationKind::MovIndirectToAbsolute
+            | RelaxationKind::RexMovIndirectToAbsolute(_)
+            | RelaxationKind::RexAddIndirectToAbsolute(_)
+            | RelaxationKind::RexSubIndirectToAbsolute(_)
+            | RelaxationKind::RexCmpIndirectToAbsolute(_)
+            | RelaxationKind::CallIndirectToRelative
+            | RelaxationKind::JmpIndirectToRelative
+            | RelaxationKind::NoOp
+            | RelaxationKind::TlsDescToLocalExec(_)
+            | RelaxationKind::TlsDescToInitialExec
+            | RelaxationKind::SkipTlsDescCall
+            | RelaxationKind::RexAdcIndirectToAbsolute(_)
+            | RelaxationKind::RexAndIndirectToAbsolute(_)
+            | RelaxationKind::RexOrIndirectToAbsolute(_)
+            | RelaxationKind::RexSbbIndirectToAbsolute(_)
+            | RelaxationKind::RexXorIndirectToAbsolute(_)
+            | RelaxationKind::RexTestIndirectToAbsolute(_) => RelocationModifier::Normal,
+        }
+    }
+
+    /// Where the relocation is that `next_modifier` skips, in bytes from the offset of the
+    /// rewrite's own relocation on: that of the sequence's call, whose field of 4 bytes, or of 8 in
+    /// a `movabs`, is there. `None` where none is skipped.
+    ///
+    /// The rewrite needs a relocation there whose type `may_be_skipped` and whose symbol is
+    /// `__tls_get_addr`. Without it the next relocation may be that of another call.
+    ///
+    /// ```
+    /// use linker_utils::x86_64::RelaxationKind;
+    ///
+    /// // lea x@tlsld(%rip), %rdi; call __tls_get_addr@PLT
+    /// let sequence = [0x48, 0x8d, 0x3d, 0, 0, 0, 0, 0xe8, 0, 0, 0, 0];
+    /// assert!(RelaxationKind::TlsLdToLocalExec.matches(&sequence, 3));
+    /// assert_eq!(RelaxationKind::TlsLdToLocalExec.skipped_offset(), Some(5));
+    /// ```
+    #[inline]
+    pub fn skipped_offset(self) -> Option<u64>
+        ensures exactly { result ≡ x86_64_skipped self }
+        ensures skipped { IfSome result (λ _. x86_64_modifier self ≡ SkipNextRelocation) }
+        ensures kept { IfNone result (x86_64_modifier self ≡ Normal) }
+        ensures field { IfSome result (λ n. HaveFieldAt n (x86_64_originals self)) }
+    {
+        match self {
+            RelaxationKind::TlsGdToLocalExec | RelaxationKind::TlsGdToInitialExec => Some(8),
+            RelaxationKind::TlsLdToLocalExec => Some(5),
+            RelaxationKind::TlsGdToLocalExecLarge
+            | RelaxationKind::TlsLdToLocalExecNoPlt
+            | RelaxationKind::TlsLdToLocalExec64 => Some(6),
+            _ => None,
+        }
+    }
+}
+
+/// Whether a relocation has a type that the call of `__tls_get_addr` has in a sequence of
+/// general-dynamic or local-dynamic TLS: only such a one may be skipped after a rewrite, where
+/// `skipped_offset` says.
+#[inline]
+pub fn may_be_skipped(name: X86_64Relocation) -> bool
+    ensures { result ≡ x86_64_may_be_skipped name }
+{
+    matches!(
+        name,
+        X86_64Relocation::R_X86_64_PLT32
+            | X86_64Relocation::R_X86_64_PC32
+            | X86_64Relocation::R_X86_64_GOTPCREL
+            | X86_64Relocation::R_X86_64_GOTPCRELX
+            | X86_64Relocation::R_X86_64_PLTOFF64
+    )
+}
+
+impl InstructionRewrite for RelaxationKind {
+    ghost rewrite = { x86_64_rewrite };
+
+    ghost modifier = { x86_64_modifier };
+
+    ghost no_op = { λ kind. kind ≡ NoOp };
+
+    ghost stays = { λ kind is. (ap x86_64_rewrite is, ap x86_64_modifier is) };
+
+    #[inline(always)]
+    fn apply(self, section: &mut [u8], offset: &mut u64, addend: &mut i64) {
+        RelaxationKind::apply(self, section, offset, addend);
+    }
+
+    #[inline(always)]
+    fn can_apply(self, section: &[u8], offset: u64) -> bool {
+        RelaxationKind::can_apply(self, section, offset)
+    }
+
+    #[inline(always)]
+    fn window(self) -> RewriteWindow {
+        RelaxationKind::window(self)
+    }
+
+    #[inline(always)]
+    fn next_modifier(&self) -> RelocationModifier {
+        RelaxationKind::next_modifier(self)
+    }
+
+    #[inline(always)]
+    fn is_no_op(self) -> bool {
+        matches!(self, RelaxationKind::NoOp)
+    }
+}

@@ -1,7 +1,0 @@
-use Rattle.linker_x86_64.specs.X86Rewrites.{x86_64_table, opcode_at}
-use Rattle.linker_x86_64.proofs.X86Choices.{chosen_matches}
-use Rattle.linker_x86_64.proofs.choices.choose.Goals as goal
-
-pub returns-clause-matches : goal.returns-clause-matches
-returns-clause-matches c =
-    chosen_matches (x86_64_table c.args.name (opcode_at c.args.name c.args.section.now c.args.offset)) c.args.name c.args.section.now c.args.offset c.args.facts.now c.choose.result c.choose.ensures

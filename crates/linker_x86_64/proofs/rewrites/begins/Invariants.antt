@@ -1,7 +1,0 @@
-use Rattle.std.proofs.Common.{◌≡◌, drop}
-use Rattle.linker_x86_64.specs.X86Rewrites.{begins}
-use Rattle.linker_x86_64.proofs.rewrites.begins.Given as goal
-
--- what is left to compare
-abbrev pub invariant-loop-index : goal.invariant-loop-index
-invariant-loop-index l = begins l.pattern l.bytes ≡ begins (drop l.index l.pattern) (drop l.index l.bytes)

@@ -1,3 +1,0 @@
-pub mod Inner
-pub mod X86Rewrites
-pub mod X86RelocationsAfter

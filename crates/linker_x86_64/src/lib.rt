@@ -1,9 +1,0 @@
-//! x86-64: relaxation rewrites, and what relocations mean.
-#![tactic(auto)]
-
-mod choices;
-mod rewrites;
-
-pub use choices::{choose, fits};
-pub use linker_elf::x86_64::{X86_64Relocation, relocation_from_raw, row};
-pub use rewrites::{RelaxationKind, may_be_skipped};
