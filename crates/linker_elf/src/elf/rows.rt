@@ -9,6 +9,7 @@ ghost use Rattle.linker_elf.specs.Entries.{IsGotAnswer, IsPltAnswer};
 ghost use Rattle.linker_elf.specs.Facts.{facts_of};
 ghost use Rattle.linker_elf.specs.Relocate.{Reaches, IsInReach, WritesRow, RejectsValue};
 ghost use Rattle.linker_elf.specs.Relocate.{window_len, is_supported, IsAligned, IsWritten};
+ghost use Rattle.linker_elf.specs.Elf.{IsWithin};
 ghost use Rattle.linker_elf.specs.Numbers.{numbers_of};
 ghost use Rattle.linker_elf.specs.Reach.{reach_of};
 ghost use Rattle.linker_elf.specs.Value.{value_of, value_given, completed, lacks};
@@ -450,6 +451,16 @@ fn write_plain(entry: &'static TableRow, value: i64, dest: &mut [u8])
 }
 
 impl RelocationKindInfo {
+    /// Whether a value is between the ends of `reach`, and a multiple of the row's alignment.
+    #[inline(always)]
+    fn is_between(&self, tests: &WriteTests, value: i64) -> bool
+        requires { tests.now ≡ tests_of self.now }
+        ensures { IsTrue result ↔ ((is_supported self.now ≡ true)
+            × IsWithin (reach_of self.now) value × IsAligned self.now.alignment value) }
+    {
+        tests.is_supported && self.is_aligned(value) && tests.least <= value && value <= tests.last
+    }
+
     /// Whether a value is within `reach`, an encoding holds it, and it is a multiple of the row's
     /// alignment.
     #[inline(always)]
@@ -457,10 +468,7 @@ impl RelocationKindInfo {
         requires { tests.now ≡ tests_of self.now }
         ensures { IsTrue result ↔ IsInReach self.now value }
     {
-        tests.is_supported
-            && self.is_aligned(value)
-            && (tests.least <= value && value <= tests.last)
-            && is_encoded(self.size, value)
+        self.is_between(tests, value) && is_encoded(self.size, value)
     }
 
     /// `write`, of a row whose bits fit its instruction.

@@ -376,14 +376,17 @@ fn write_plain(entry: &'static TableRow, value: i64, dest: &mut [u8]) {
 }
 
 impl RelocationKindInfo {
+    /// Whether a value is between the ends of `reach`, and a multiple of the row's alignment.
+    #[inline(always)]
+    fn is_between(&self, tests: &WriteTests, value: i64) -> bool {
+        tests.is_supported && self.is_aligned(value) && tests.least <= value && value <= tests.last
+    }
+
     /// Whether a value is within `reach`, an encoding holds it, and it is a multiple of the row's
     /// alignment.
     #[inline(always)]
     fn is_in_reach(&self, tests: &WriteTests, value: i64) -> bool {
-        tests.is_supported
-            && self.is_aligned(value)
-            && (tests.least <= value && value <= tests.last)
-            && is_encoded(self.size, value)
+        self.is_between(tests, value) && is_encoded(self.size, value)
     }
 
     /// `write`, of a row whose bits fit its instruction.
