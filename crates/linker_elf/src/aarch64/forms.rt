@@ -277,12 +277,8 @@ impl AArch64Instruction {
         ensures { result.bounds ≡ aarch64_reach self bits range.bounds }
     {
         match (self, range.bounds) {
-            (AArch64Instruction::Movnz, None) => {
-                if bits.end > 48 {
-                    range
-                } else {
-                    AllowedRange::from_bit_size(bits.end as u32 + 1, Sign::Signed)
-                }
+            (AArch64Instruction::Movnz, None) if bits.end <= 48 => {
+                AllowedRange::from_bit_size(bits.end as u32 + 1, Sign::Signed)
             }
             _ => range,
         }

@@ -7,7 +7,7 @@ ghost use Rattle.linker_elf.specs.ElfNames.{IsNameOf, code_of, text_of};
 ghost use Rattle.linker_elf.specs.Readings.{LoongArchRowReadsNoOther};
 ghost use Rattle.linker_elf.specs.LoongArchRelocations.{loongarch_name, loongarch_row};
 ghost use Rattle.linker_elf.specs.LoongArchRelocations.{loongarch_uleb128_role, loongarch_raw_row};
-ghost use Rattle.linker_elf.specs.Inner.RowTables.{raw_kind, with_raw_kind};
+ghost use Rattle.linker_elf.specs.Inner.RowTables.{with_raw_kind};
 ghost use Rattle.linker_elf.specs.contracts.loongarch64.relocations.LoongArch64Relocation as names;
 
 use crate::elf::choice_table::RelocationName;
@@ -262,28 +262,20 @@ impl RelocationName for LoongArch64Relocation {
     }
 }
 
-/// The kind that the crate `linker-utils` has for a row's kind: there `R_LARCH_ALIGN` has no kind
-/// of its own.
-#[inline(always)]
-fn raw_kind(kind: RelocationKind) -> RelocationKind
-    ensures { result ≡ raw_kind kind }
-{
-    match kind {
-        RelocationKind::Alignment => RelocationKind::None,
-        _ => kind,
-    }
-}
-
-/// The row with that kind. Not by the name: LLVM compiles a match of it to a jump by the code.
+/// The row with the kind that the crate `linker-utils` has: there `R_LARCH_ALIGN` has no kind of its
+/// own. Not by the name: LLVM compiles a match of it to a jump by the code.
 #[inline(always)]
 fn with_raw_kind(row: Option<RelocationKindInfo>) -> Option<RelocationKindInfo>
     ensures { result ≡ with_raw_kind row }
 {
     match row {
-        Some(row) => Some(RelocationKindInfo {
-            kind: raw_kind(row.kind),
-            ..row
-        }),
+        Some(row) => {
+            let kind = match row.kind {
+                RelocationKind::Alignment => RelocationKind::None,
+                kind => kind,
+            };
+            Some(RelocationKindInfo { kind, ..row })
+        }
         None => None,
     }
 }

@@ -182,12 +182,8 @@ impl Ppc64Instruction {
         ensures { result.bounds ≡ ppc64_reach self bits range.bounds }
     {
         match (self, range.bounds) {
-            (Ppc64Instruction::D, None) => {
-                if bits.start == 16 {
-                    AllowedRange::from_bit_size(32, Sign::Signed)
-                } else {
-                    range
-                }
+            (Ppc64Instruction::D, None) if bits.start == 16 => {
+                AllowedRange::from_bit_size(32, Sign::Signed)
             }
             _ => range,
         }
