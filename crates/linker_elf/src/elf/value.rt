@@ -313,6 +313,9 @@ impl RelocationKindInfo {
         requires { terms.now ≡ terms_of self.now }
         ensures { result ≡ value_given self.now operands.now }
     {
-        Ok(self.value_modulo(terms, operands)?.cast_signed())
+        match self.value_modulo(terms, operands) {
+            Ok(value) => Ok(value.cast_signed()),
+            Err(error) => Err(error),
+        }
     }
 }

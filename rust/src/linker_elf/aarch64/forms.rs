@@ -233,12 +233,8 @@ impl AArch64Instruction {
     #[inline(always)]
     pub(crate) fn reach(self, bits: BitRange, range: AllowedRange) -> AllowedRange {
         match (self, range.bounds) {
-            (AArch64Instruction::Movnz, None) => {
-                if bits.end > 48 {
-                    range
-                } else {
-                    AllowedRange::from_bit_size(bits.end as u32 + 1, Sign::Signed)
-                }
+            (AArch64Instruction::Movnz, None) if bits.end <= 48 => {
+                AllowedRange::from_bit_size(bits.end as u32 + 1, Sign::Signed)
             }
             _ => range,
         }

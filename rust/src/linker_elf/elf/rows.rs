@@ -419,12 +419,12 @@ impl RelocationKindInfo {
     }
 }
 
-/// What is made of an architecture's relocations, which its `relocations!` lists as `code NAME (row)`
-/// in the order of the enum of names: with `name_of` and that enum the name with a code, and with
-/// `code_of`, `text_of` and `index_of` what a name has, the last in its list and in the table; with
-/// `table` that of the rows, by the names' indices. The last entry is that of `Other`. The forms of
-/// the architecture are a variant of `RelocationInstruction`, their enum and their `e_machine`. Codes
-/// are split into parts that are dense enough for a table, each below a number, and the rest.
+/// What is made of the relocations of an architecture. Its `relocations!` lists them as `code NAME
+/// (row)` in the order of the enum of names. Codes are split into parts that are dense enough for a
+/// table, each below a number, and the rest. `name_of` makes the name with a code; `code_of` and
+/// `text_of` the code and the text of a name; `index_of` its index in the list. `table` makes the
+/// table of rows by these indices, whose last entry is that of `Other`. It is given the variant of
+/// `RelocationInstruction`, the enum of the forms and the `e_machine` of the architecture.
 macro_rules! listed {
     (
         (name_of $names:ident, $code:ident)
@@ -437,36 +437,27 @@ macro_rules! listed {
             }
         })else+
     };
-    (
-        (code_of $names:ident, $value:expr)
-        $($(below $end:literal)? { $($number:literal $name:ident $row:tt)* })+
-    ) => {
+    ($made:tt $($(below $end:literal)? { $($relocation:tt)* })+) => {
+        $crate::linker_elf::elf::rows::listed!(@ $made $($($relocation)*)+)
+    };
+    (@ (code_of $names:ident, $value:expr) $($number:literal $name:ident $row:tt)*) => {
         match $value {
-            $($($names::$name => $number,)*)+
+            $($names::$name => $number,)*
             $names::Other(code) => code,
         }
     };
-    (
-        (text_of $names:ident, $value:expr)
-        $($(below $end:literal)? { $($number:literal $name:ident $row:tt)* })+
-    ) => {
+    (@ (text_of $names:ident, $value:expr) $($number:literal $name:ident $row:tt)*) => {
         match $value {
-            $($($names::$name => stringify!($name),)*)+
+            $($names::$name => stringify!($name),)*
             $names::Other(_) => "unknown relocation",
         }
     };
-    (
-        (table $forms:tt)
-        $($(below $end:literal)? { $($number:literal $name:ident $row:tt)* })+
-    ) => {
-        [$($(Some($crate::linker_elf::elf::rows::row!($forms $row)),)*)+ None]
+    (@ (table $forms:tt) $($number:literal $name:ident $row:tt)*) => {
+        [$(Some($crate::linker_elf::elf::rows::row!($forms $row)),)* None]
     };
-    (
-        (index_of $names:ident, $value:expr)
-        $($(below $end:literal)? { $($number:literal $name:ident $row:tt)* })+
-    ) => {
+    (@ (index_of $names:ident, $value:expr) $($number:literal $name:ident $row:tt)*) => {
         $crate::linker_elf::elf::rows::listed!(
-            @ $names, $value, [$($($name)*)+] []
+            @ $names, $value, [$($name)*] []
             0 1 2 3 4 5 6 7 8 9 10 11 12 13 14 15 16 17 18 19 20 21 22 23 24 25 26 27 28 29 30 31
             32 33 34 35 36 37 38 39 40 41 42 43 44 45 46 47 48 49 50 51 52 53 54 55 56 57 58 59 60
             61 62 63 64 65 66 67 68 69 70 71 72 73 74 75 76 77 78 79 80 81 82 83 84 85 86 87 88 89

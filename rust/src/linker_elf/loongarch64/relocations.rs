@@ -243,24 +243,18 @@ impl RelocationName for LoongArch64Relocation {
     }
 }
 
-/// The kind that the crate `linker-utils` has for a row's kind: there `R_LARCH_ALIGN` has no kind
-/// of its own.
-#[inline(always)]
-const fn raw_kind(kind: RelocationKind) -> RelocationKind {
-    match kind {
-        RelocationKind::Alignment => RelocationKind::None,
-        _ => kind,
-    }
-}
-
-/// The row with that kind. Not by the name: LLVM compiles a match of it to a jump by the code.
+/// The row with the kind that the crate `linker-utils` has: there `R_LARCH_ALIGN` has no kind of its
+/// own. Not by the name: LLVM compiles a match of it to a jump by the code.
 #[inline(always)]
 const fn with_raw_kind(row: Option<RelocationKindInfo>) -> Option<RelocationKindInfo> {
     match row {
-        Some(row) => Some(RelocationKindInfo {
-            kind: raw_kind(row.kind),
-            ..row
-        }),
+        Some(row) => {
+            let kind = match row.kind {
+                RelocationKind::Alignment => RelocationKind::None,
+                kind => kind,
+            };
+            Some(RelocationKindInfo { kind, ..row })
+        }
         None => None,
     }
 }

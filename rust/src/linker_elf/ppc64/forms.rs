@@ -169,12 +169,8 @@ impl Ppc64Instruction {
     #[inline(always)]
     pub(crate) fn reach(self, bits: BitRange, range: AllowedRange) -> AllowedRange {
         match (self, range.bounds) {
-            (Ppc64Instruction::D, None) => {
-                if bits.start == 16 {
-                    AllowedRange::from_bit_size(32, Sign::Signed)
-                } else {
-                    range
-                }
+            (Ppc64Instruction::D, None) if bits.start == 16 => {
+                AllowedRange::from_bit_size(32, Sign::Signed)
             }
             _ => range,
         }
