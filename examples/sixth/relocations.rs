@@ -1,9 +1,7 @@
 //! The sixth architecture: what its relocations mean. Its instructions are those of AArch64.
 
 use crate::linker_elf::elf::choice_table::RelocationName;
-use crate::linker_elf::elf::rows::{
-    TableRow, code_of_name, index_of_name, info_in, name_of_code, row, row_in, table, text_of_name,
-};
+use crate::linker_elf::elf::rows::{TableRow, info_in, listed, row_in};
 use crate::linker_elf::elf::{RelocationKindInfo, Row};
 use core::fmt;
 
@@ -32,56 +30,39 @@ pub enum SixthRelocation {
 }
 
 macro_rules! relocations {
-    ($make:ident $arguments:tt) => {
-        $make! {
-            $arguments
-            {
-                0 R_SIXTH_NONE => Some(row!(None, (0 bytes), any)),
-                // R_RISCV_GOT_HI20
-                20 R_SIXTH_PAGE =>
-                    Some(row!(Relative, (12..33 AArch64::Adr), signed 33, mask: PLACE_PAGES)),
-                // R_RISCV_PCREL_LO12_I
-                24 R_SIXTH_ADD_LOW => Some(row!(AbsoluteLowPart, (0..12 AArch64::Add), any)),
-                // R_RISCV_ALIGN
-                43 R_SIXTH_CALL =>
-                    Some(row!(PltRelative, (2..28 AArch64::JumpCall), signed 28, alignment: 4,
-                        thunkable: true)),
-                // R_PPC64_TOC16_HA
-                50 R_SIXTH_TLS_OFFSET_LOW => Some(row!(TpOff, (0..12 AArch64::Add), any)),
-                // R_RISCV_RELAX
-                51 R_SIXTH_JUMP =>
-                    Some(row!(PltRelative, (2..28 AArch64::JumpCall), signed 28, alignment: 4,
-                        thunkable: true)),
-                // R_RISCV_TLSDESC_HI20
-                62 R_SIXTH_LOAD_LOW =>
-                    Some(row!(AbsoluteLowPart, (3..12 AArch64::LdSt), any, alignment: 8)),
-                // R_LARCH_PCALA_HI20
-                71 R_SIXTH_GOT_PAGE =>
-                    Some(row!(GotRelative, (12..33 AArch64::Adr), signed 33, mask: ENTRY_PAGES)),
-                // R_LARCH_PCALA_LO12
-                72 R_SIXTH_GOT_LOAD =>
-                    Some(row!(Got, (3..12 AArch64::LdSt), any, alignment: 8)),
-                // R_LARCH_RELAX
-                100 R_SIXTH_TLS_GOT_PAGE =>
-                    Some(row!(GotTpOff, (12..33 AArch64::Adr), signed 33, mask: ENTRY_PAGES)),
-                // R_LARCH_ALIGN
-                102 R_SIXTH_TLS_GOT_LOAD =>
-                    Some(row!(GotTpOffGot, (3..12 AArch64::LdrRegister), any, alignment: 8)),
-                // R_PPC64_REL24_NOTOC
-                116 R_SIXTH_TLS_OFFSET_HIGH =>
-                    Some(row!(TpOff, (12..24 AArch64::Add), unsigned 24)),
-                // R_AARCH64_ABS64
-                257 R_SIXTH_TLS_PAIR_PAGE =>
-                    Some(row!(TlsGd, (12..33 AArch64::Adr), signed 33, mask: ENTRY_PAGES)),
-                // R_AARCH64_JUMP26
-                282 R_SIXTH_TLS_PAIR_ADD => Some(row!(TlsGdGot, (0..12 AArch64::Add), any)),
-                // R_AARCH64_CALL26
-                283 R_SIXTH_GOT_DISTANCE => Some(row!(SymRelGotBase, (8 bytes), any)),
-                // R_AARCH64_RELATIVE
-                1027 R_SIXTH_WORD => Some(row!(Absolute, (8 bytes), any)),
-            }
-        }
-    };
+    ($($made:tt)+) => { listed! { ($($made)+) {
+        0 R_SIXTH_NONE (None, 0 bytes, any)
+        // R_RISCV_GOT_HI20
+        20 R_SIXTH_PAGE (Relative, 12..33 Adr, signed 33, mask: PLACE_PAGES)
+        // R_RISCV_PCREL_LO12_I
+        24 R_SIXTH_ADD_LOW (AbsoluteLowPart, 0..12 Add, any)
+        // R_RISCV_ALIGN
+        43 R_SIXTH_CALL (PltRelative, 2..28 JumpCall, signed 28, alignment: 4, thunkable: true)
+        // R_PPC64_TOC16_HA
+        50 R_SIXTH_TLS_OFFSET_LOW (TpOff, 0..12 Add, any)
+        // R_RISCV_RELAX
+        51 R_SIXTH_JUMP (PltRelative, 2..28 JumpCall, signed 28, alignment: 4, thunkable: true)
+        // R_RISCV_TLSDESC_HI20
+        62 R_SIXTH_LOAD_LOW (AbsoluteLowPart, 3..12 LdSt, any, alignment: 8)
+        // R_LARCH_PCALA_HI20
+        71 R_SIXTH_GOT_PAGE (GotRelative, 12..33 Adr, signed 33, mask: ENTRY_PAGES)
+        // R_LARCH_PCALA_LO12
+        72 R_SIXTH_GOT_LOAD (Got, 3..12 LdSt, any, alignment: 8)
+        // R_LARCH_RELAX
+        100 R_SIXTH_TLS_GOT_PAGE (GotTpOff, 12..33 Adr, signed 33, mask: ENTRY_PAGES)
+        // R_LARCH_ALIGN
+        102 R_SIXTH_TLS_GOT_LOAD (GotTpOffGot, 3..12 LdrRegister, any, alignment: 8)
+        // R_PPC64_REL24_NOTOC
+        116 R_SIXTH_TLS_OFFSET_HIGH (TpOff, 12..24 Add, unsigned 24)
+        // R_AARCH64_ABS64
+        257 R_SIXTH_TLS_PAIR_PAGE (TlsGd, 12..33 Adr, signed 33, mask: ENTRY_PAGES)
+        // R_AARCH64_JUMP26
+        282 R_SIXTH_TLS_PAIR_ADD (TlsGdGot, 0..12 Add, any)
+        // R_AARCH64_CALL26
+        283 R_SIXTH_GOT_DISTANCE (SymRelGotBase, 8 bytes, any)
+        // R_AARCH64_RELATIVE
+        1027 R_SIXTH_WORD (Absolute, 8 bytes, any)
+    } } };
 }
 
 impl fmt::Debug for SixthRelocation {
@@ -97,26 +78,26 @@ impl SixthRelocation {
     #[must_use]
     #[inline(always)]
     pub const fn from_elf(code: u32) -> SixthRelocation {
-        relocations!(name_of_code(SixthRelocation, code))
+        relocations!(name_of SixthRelocation, code)
     }
 
     #[must_use]
     #[inline]
     pub const fn elf_code(self) -> u32 {
-        relocations!(code_of_name(SixthRelocation, self))
+        relocations!(code_of SixthRelocation, self)
     }
 
     #[must_use]
     pub const fn name(self) -> &'static str {
-        relocations!(text_of_name(SixthRelocation, self))
+        relocations!(text_of SixthRelocation, self)
     }
 }
 
-static ROWS: &[Option<TableRow>] = &relocations!(table());
+static ROWS: &[Option<TableRow>] = &relocations!(table [AArch64 AArch64Instruction EM_AARCH64]);
 
 #[inline(always)]
 const fn index(name: SixthRelocation) -> usize {
-    relocations!(index_of_name(SixthRelocation, name))
+    relocations!(index_of SixthRelocation, name)
 }
 
 #[must_use]

@@ -436,7 +436,7 @@ def make_types():
     for path in sorted((ROOT / "crates/linker_elf/src").glob("*/relocations.rt")):
         table, codes = path.read_text(), {}
         table += (ROOT / f"crates/linker_output/src/{path.parent.name}.rt").read_text()
-        for code, name in re.findall(r'(?m)(?:^ +|named!\()(\d+),? "?(R_\w+)"?(?: =>|\))', table):
+        for code, name in re.findall(r'(?m)(?:^ +|named!\()(\d+),? "?(R_\w+)"?(?: \(|\))', table):
             if codes.setdefault(name, int(code)) != int(code):
                 stop(f"{name} has two codes")
         if len(set(codes.values())) < len(codes):

@@ -13,8 +13,8 @@ mod relocate;
 pub(crate) mod rows;
 pub(crate) mod value;
 
-ghost use Rattle.std.specs.Prelude.{◌≡◌, ◌≤◌, ◌<◌, ◌*◌, ◌-◌, ◌↔◌, ◌==◌, IsTrue, Option};
-ghost use Rattle.std.specs.Prelude.{Some, None, if◌then◌else◌, length, drop, ℕ};
+ghost use Rattle.std.specs.Prelude.{◌≡◌, ◌≤◌, ◌<◌, ◌*◌, ◌-◌, ◌↔◌, ◌==◌, IsTrue, Option, Some, None};
+ghost use Rattle.std.specs.Prelude.{if◌then◌else◌, length, drop, ℕ};
 ghost use Rattle.std.specs.Int.{byte_len, cast_unsigned, w64};
 ghost use Rattle.linker_base.specs.Form.{Form, window_of, Fits, Written, MachineReads, IsReadBack};
 ghost use Rattle.linker_base.specs.Form.{WriteKeepsOtherBits, WriteBackChangesNothing};
@@ -22,8 +22,7 @@ ghost use Rattle.linker_base.specs.Rewrite.{Rewrite, CanRewrite, rewritten, offs
 ghost use Rattle.linker_base.specs.Rewrite.{addend_after};
 ghost use Rattle.linker_base.specs.RewriteWindow.{window_of_rewrite};
 ghost use Rattle.linker_base.specs.declared.relaxation.RelocationModifier.{RelocationModifier};
-ghost use Rattle.linker_elf.specs.Elf.{relocation_form, bit_bounds};
-ghost use Rattle.linker_elf.specs.Elf.{IsAllowed};
+ghost use Rattle.linker_elf.specs.Elf.{relocation_form, bit_bounds, IsAllowed};
 ghost use Rattle.linker_elf.specs.Inner.FormLaws.{relocation_keeps, relocation_restored};
 
 pub use crate::aarch64::AArch64Instruction;
@@ -489,6 +488,20 @@ pub trait InstructionRewrite: Copy {
         ensures { IsTrue result ↔ no_op self };
 }
 
+/// What is made of a form, whichever architecture it is of.
+macro_rules! of_form {
+    ($insn:expr, $form:ident => $made:expr) => {
+        match $insn {
+            RelocationInstruction::AArch64($form) => $made,
+            RelocationInstruction::RiscV($form) => $made,
+            RelocationInstruction::Ppc64($form) => $made,
+            RelocationInstruction::LoongArch64($form) => $made,
+        }
+    };
+}
+
+pub(crate) use of_form;
+
 impl InstructionForm for RelocationInstruction {
     ghost form = { relocation_form };
 
@@ -498,41 +511,21 @@ impl InstructionForm for RelocationInstruction {
 
     #[inline]
     fn window(self) -> usize {
-        match self {
-            RelocationInstruction::AArch64(insn) => insn.window(),
-            RelocationInstruction::RiscV(insn) => insn.window(),
-            RelocationInstruction::Ppc64(insn) => insn.window(),
-            RelocationInstruction::LoongArch64(insn) => insn.window(),
-        }
+        of_form!(self, insn => insn.window())
     }
 
     #[inline]
     fn fits(self, value: u64, bytes: &[u8]) -> bool {
-        match self {
-            RelocationInstruction::AArch64(insn) => insn.fits(value, bytes),
-            RelocationInstruction::RiscV(insn) => insn.fits(value, bytes),
-            RelocationInstruction::Ppc64(insn) => insn.fits(value, bytes),
-            RelocationInstruction::LoongArch64(insn) => insn.fits(value, bytes),
-        }
+        of_form!(self, insn => insn.fits(value, bytes))
     }
 
     #[inline]
     fn write(self, value: u64, negative: bool, dest: &mut [u8]) {
-        match self {
-            RelocationInstruction::AArch64(insn) => insn.write(value, negative, dest),
-            RelocationInstruction::RiscV(insn) => insn.write(value, negative, dest),
-            RelocationInstruction::Ppc64(insn) => insn.write(value, negative, dest),
-            RelocationInstruction::LoongArch64(insn) => insn.write(value, negative, dest),
-        }
+        of_form!(self, insn => insn.write(value, negative, dest))
     }
 
     #[inline]
     fn read(self, bytes: &[u8]) -> (u64, bool) {
-        match self {
-            RelocationInstruction::AArch64(insn) => insn.read(bytes),
-            RelocationInstruction::RiscV(insn) => insn.read(bytes),
-            RelocationInstruction::Ppc64(insn) => insn.read(bytes),
-            RelocationInstruction::LoongArch64(insn) => insn.read(bytes),
-        }
+        of_form!(self, insn => insn.read(bytes))
     }
 }

@@ -460,35 +460,35 @@ pub trait InstructionRewrite: Copy {
     fn is_no_op(self) -> bool;
 }
 
+/// What is made of a form, whichever architecture it is of.
+macro_rules! of_form {
+    ($insn:expr, $form:ident => $made:expr) => {
+        match $insn {
+            #[cfg(feature = "aarch64")]
+            RelocationInstruction::AArch64($form) => $made,
+            #[cfg(feature = "riscv64")]
+            RelocationInstruction::RiscV($form) => $made,
+            #[cfg(feature = "ppc64")]
+            RelocationInstruction::Ppc64($form) => $made,
+            #[cfg(feature = "loongarch64")]
+            RelocationInstruction::LoongArch64($form) => $made,
+        }
+    };
+}
+
+pub(crate) use of_form;
+
 impl InstructionForm for RelocationInstruction {
     #[inline]
     fn window(self) -> usize {
-        match self {
-            #[cfg(feature = "aarch64")]
-            RelocationInstruction::AArch64(insn) => insn.window(),
-            #[cfg(feature = "riscv64")]
-            RelocationInstruction::RiscV(insn) => insn.window(),
-            #[cfg(feature = "ppc64")]
-            RelocationInstruction::Ppc64(insn) => insn.window(),
-            #[cfg(feature = "loongarch64")]
-            RelocationInstruction::LoongArch64(insn) => insn.window(),
-        }
+        of_form!(self, insn => insn.window())
     }
 
     #[cfg_attr(debug_assertions, track_caller)]
     #[inline]
     fn fits(self, value: u64, bytes: &[u8]) -> bool {
         debug_assert!(self.window() <= bytes.len());
-        match self {
-            #[cfg(feature = "aarch64")]
-            RelocationInstruction::AArch64(insn) => insn.fits(value, bytes),
-            #[cfg(feature = "riscv64")]
-            RelocationInstruction::RiscV(insn) => insn.fits(value, bytes),
-            #[cfg(feature = "ppc64")]
-            RelocationInstruction::Ppc64(insn) => insn.fits(value, bytes),
-            #[cfg(feature = "loongarch64")]
-            RelocationInstruction::LoongArch64(insn) => insn.fits(value, bytes),
-        }
+        of_form!(self, insn => insn.fits(value, bytes))
     }
 
     #[cfg_attr(debug_assertions, track_caller)]
@@ -496,31 +496,13 @@ impl InstructionForm for RelocationInstruction {
     fn write(self, value: u64, negative: bool, dest: &mut [u8]) {
         debug_assert!(self.window() <= dest.len());
         debug_assert!(self.fits(value, dest));
-        match self {
-            #[cfg(feature = "aarch64")]
-            RelocationInstruction::AArch64(insn) => insn.write(value, negative, dest),
-            #[cfg(feature = "riscv64")]
-            RelocationInstruction::RiscV(insn) => insn.write(value, negative, dest),
-            #[cfg(feature = "ppc64")]
-            RelocationInstruction::Ppc64(insn) => insn.write(value, negative, dest),
-            #[cfg(feature = "loongarch64")]
-            RelocationInstruction::LoongArch64(insn) => insn.write(value, negative, dest),
-        }
+        of_form!(self, insn => insn.write(value, negative, dest))
     }
 
     #[cfg_attr(debug_assertions, track_caller)]
     #[inline]
     fn read(self, bytes: &[u8]) -> (u64, bool) {
         debug_assert!(self.window() <= bytes.len());
-        match self {
-            #[cfg(feature = "aarch64")]
-            RelocationInstruction::AArch64(insn) => insn.read(bytes),
-            #[cfg(feature = "riscv64")]
-            RelocationInstruction::RiscV(insn) => insn.read(bytes),
-            #[cfg(feature = "ppc64")]
-            RelocationInstruction::Ppc64(insn) => insn.read(bytes),
-            #[cfg(feature = "loongarch64")]
-            RelocationInstruction::LoongArch64(insn) => insn.read(bytes),
-        }
+        of_form!(self, insn => insn.read(bytes))
     }
 }

@@ -1,22 +1,20 @@
 //! AArch64 instructions that hold a value.
 
-ghost use Rattle.std.specs.Prelude.{slice_get, ◌≡◌, ◌≤◌, ◌<◌, ◌-◌, ◌∷◌, []};
-ghost use Rattle.std.specs.Prelude.{IsTrue, length, drop, ◌*◌, ◌^◌};
+ghost use Rattle.std.specs.Prelude.{slice_get, ◌≡◌, ◌≤◌, ◌<◌, ◌-◌, ◌∷◌, [], IsTrue, length, drop};
+ghost use Rattle.std.specs.Prelude.{◌*◌, ◌^◌};
 ghost use Rattle.std.specs.Int.{byte_len, cast_unsigned, w64};
-ghost use Rattle.linker_elf.specs.AArch64.{aarch64_forms};
-ghost use Rattle.linker_base.specs.Form.{window_of, BitsWritten, Fits, Written};
-ghost use Rattle.linker_base.specs.Form.{MachineReads, IsReadBack};
+ghost use Rattle.linker_elf.specs.AArch64.{aarch64_forms, aarch64_form, access_scale, moved_bits};
+ghost use Rattle.linker_elf.specs.AArch64.{move_opcode};
+ghost use Rattle.linker_base.specs.Form.{window_of, BitsWritten, Fits, Written, MachineReads};
+ghost use Rattle.linker_base.specs.Form.{IsReadBack};
 ghost use Rattle.linker_elf.specs.Inner.FormLaws.{aarch64_keeps, aarch64_restored};
-ghost use Rattle.linker_elf.specs.AArch64.{aarch64_form};
-ghost use Rattle.linker_elf.specs.AArch64.{access_scale};
-ghost use Rattle.linker_elf.specs.AArch64.{moved_bits, move_opcode};
 ghost use Rattle.linker_elf.specs.Entries.{is_aarch64_branch};
 ghost use Rattle.linker_elf.specs.Forms.{aarch64_mask, immediate_of};
 ghost use Rattle.linker_elf.specs.Reach.{aarch64_reach};
 ghost use Rattle.linker_elf.specs.Relocate.{ored_cleared, is_32_bit_move, is_movk};
 ghost use Rattle.linker_elf.specs.Inner.Runs.{code_of, moves_places};
 
-use crate::elf::engine::{self, Encoding, Step, Window, form};
+use crate::elf::engine::{self, Encoding, Step, Window, forms};
 use crate::elf::{AllowedRange, InstructionForm, RelocationInstruction, Sign};
 use linker_base::bit_misc::{BitExtraction, BitRange};
 
@@ -61,27 +59,29 @@ pub enum AArch64Instruction {
 
 /// The forms, in the order of their enum.
 macro_rules! aarch64_forms {
-    ($($part:tt)+) => {
-        [
-            form!([$($part)+] Four, 0..21, [0, 29, 2 or] [2, 5, 19 or]; signs: 1 << 20),
-            form!([$($part)+] Four, 0..16, [0, 5, 16 or]; signs: 1 << 15),
-            form!([$($part)+] Four, 0..16, [0, 5, 16]),
-            form!([$($part)+] Four, 0..19, [0, 5, 19 or]; signs: 1 << 18),
-            form!([$($part)+] Four, 0..12, [0, 10, 12 or]),
-            form!([$($part)+] Four, 0..12, [0, 10, 12 or]),
-            form!([$($part)+] Four, 0..12, [0, 10, 12 or]; signs: 1 << 11),
-            form!([$($part)+] Four, 0..14, [0, 5, 14 or]; signs: 1 << 13),
-            form!([$($part)+] Four, 0..19, [0, 5, 19 or]; signs: 1 << 18),
-            form!([$($part)+] Four, 0..26, [0, 0, 26 or]; signs: 1 << 25),
-            form!([$($part)+] Four, 0..12, [0, 10, 12]),
-        ]
-    };
+    ($($part:tt)+) => { forms! { [$($part)+]
+        (Adr Four, 0..21, [0, 29, 2 or] [2, 5, 19 or]; signs: 1 << 20)
+        (Movkz Four, 0..16, [0, 5, 16 or]; signs: 1 << 15)
+        (Movnz Four, 0..16, [0, 5, 16])
+        (Ldr Four, 0..19, [0, 5, 19 or]; signs: 1 << 18)
+        (LdrRegister Four, 0..12, [0, 10, 12 or])
+        (Add Four, 0..12, [0, 10, 12 or])
+        (LdSt Four, 0..12, [0, 10, 12 or]; signs: 1 << 11)
+        (TstBr Four, 0..14, [0, 5, 14 or]; signs: 1 << 13)
+        (Bcond Four, 0..19, [0, 5, 19 or]; signs: 1 << 18)
+        (JumpCall Four, 0..26, [0, 0, 26 or]; signs: 1 << 25)
+        (MachOLow12 Four, 0..12, [0, 10, 12])
+    } };
 }
 
 // Tables, since with a match LLVM would jump by the form.
 const CODES: [Encoding; 11] = aarch64_forms!(code);
 
 const STEPS: [[Step; 2]; 11] = aarch64_forms!(2 steps);
+
+/// The forms by their numbers. A table, since a match becomes a jump by the number where what
+/// follows differs by the form.
+const FORMS: &[AArch64Instruction] = &aarch64_forms!(variant AArch64Instruction);
 
 /// The 16 bits and the opcode that `Movnz` writes, the latter where it stands in the instruction
 /// (DDI 0487, "MOVN" and "MOVZ").
@@ -225,18 +225,18 @@ impl AArch64Instruction {
                     false,
                 )
             }
-            _ => engine::read(
-                RelocationInstruction::AArch64(self),
-                self.code(),
-                self.steps(),
-                bytes,
-            ),
+            _ => engine::read(RelocationInstruction::AArch64(self), code, steps, bytes),
         }
     }
-}
 
-/// What other modules use of a form.
-impl AArch64Instruction {
+    /// The form with a number, its place in the enum. None above the last.
+    #[inline(always)]
+    pub fn from_number(number: u32) -> Option<AArch64Instruction>
+        ensures { result ≡ slice_get aarch64_forms number }
+    {
+        FORMS.get(number as usize).copied()
+    }
+
     /// The bits of an instruction that a write of the form may change: of `Movnz` also those of the
     /// opcode except for the size of the register.
     #[inline]
@@ -277,12 +277,8 @@ impl AArch64Instruction {
         ensures { result.bounds ≡ aarch64_reach self bits range.bounds }
     {
         match (self, range.bounds) {
-            (AArch64Instruction::Movnz, None) => {
-                if bits.end > 48 {
-                    range
-                } else {
-                    AllowedRange::from_bit_size(bits.end as u32 + 1, Sign::Signed)
-                }
+            (AArch64Instruction::Movnz, None) if bits.end <= 48 => {
+                AllowedRange::from_bit_size(bits.end as u32 + 1, Sign::Signed)
             }
             _ => range,
         }
@@ -336,31 +332,5 @@ impl InstructionForm for AArch64Instruction {
     #[inline]
     fn read(self, bytes: &[u8]) -> (u64, bool) {
         self.read_value(bytes)
-    }
-}
-
-/// The forms by their numbers. A table, since a match becomes a jump by the number where what
-/// follows differs by the form.
-const FORMS: &[AArch64Instruction] = &[
-    AArch64Instruction::Adr,
-    AArch64Instruction::Movkz,
-    AArch64Instruction::Movnz,
-    AArch64Instruction::Ldr,
-    AArch64Instruction::LdrRegister,
-    AArch64Instruction::Add,
-    AArch64Instruction::LdSt,
-    AArch64Instruction::TstBr,
-    AArch64Instruction::Bcond,
-    AArch64Instruction::JumpCall,
-    AArch64Instruction::MachOLow12,
-];
-
-impl AArch64Instruction {
-    /// The form with a number, its place in the enum. None above the last.
-    #[inline(always)]
-    pub fn from_number(number: u32) -> Option<AArch64Instruction>
-        ensures { result ≡ slice_get aarch64_forms number }
-    {
-        FORMS.get(number as usize).copied()
     }
 }

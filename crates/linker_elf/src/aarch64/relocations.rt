@@ -5,14 +5,11 @@ ghost use denote.Enum.Declared.{tag_of};
 ghost use Rattle.linker_elf.specs.Agrees.{RowAgrees, RowFits};
 ghost use Rattle.linker_elf.specs.ElfNames.{IsNameOf, code_of, text_of};
 ghost use Rattle.linker_elf.specs.Readings.{RowReadsNoOther};
-ghost use Rattle.linker_elf.specs.AArch64Relocations.{aarch64_name};
-ghost use Rattle.linker_elf.specs.AArch64Relocations.{aarch64_row};
+ghost use Rattle.linker_elf.specs.AArch64Relocations.{aarch64_name, aarch64_row};
 ghost use Rattle.linker_elf.specs.contracts.aarch64.relocations.AArch64Relocation as names;
 
 use crate::elf::choice_table::RelocationName;
-use crate::elf::rows::{
-    TableRow, code_of_name, index_of_name, info_in, name_of_code, row, row_in, table, text_of_name,
-};
+use crate::elf::rows::{TableRow, info_in, listed, row_in};
 use crate::elf::{RelocationKindInfo, Row};
 use std::fmt;
 
@@ -140,225 +137,126 @@ pub enum AArch64Relocation {
 
 /// Each relocation: its code, its name and its row, in the order of the enum of names.
 macro_rules! relocations {
-    ($make:ident $arguments:tt) => {
-        $make! {
-            $arguments
-            below 257 {
-                0 R_AARCH64_NONE => Some(row!(None, (0 bytes), any)),
-            }
-            below 512 {
-                257 R_AARCH64_ABS64 => Some(row!(Absolute, (8 bytes), any)),
-                258 R_AARCH64_ABS32 => Some(row!(Absolute, (4 bytes), signed_or_unsigned 32)),
-                259 R_AARCH64_ABS16 => Some(row!(Absolute, (2 bytes), signed_or_unsigned 16)),
-                260 R_AARCH64_PREL64 => Some(row!(Relative, (8 bytes), any)),
-                261 R_AARCH64_PREL32 => Some(row!(Relative, (4 bytes), signed_or_unsigned 32)),
-                262 R_AARCH64_PREL16 => Some(row!(Relative, (2 bytes), signed_or_unsigned 16)),
-                263 R_AARCH64_MOVW_UABS_G0 =>
-                    Some(row!(Absolute, (0..16 AArch64::Movkz), unsigned 16)),
-                264 R_AARCH64_MOVW_UABS_G0_NC => Some(row!(Absolute, (0..16 AArch64::Movkz), any)),
-                265 R_AARCH64_MOVW_UABS_G1 =>
-                    Some(row!(Absolute, (16..32 AArch64::Movkz), unsigned 32)),
-                266 R_AARCH64_MOVW_UABS_G1_NC => Some(row!(Absolute, (16..32 AArch64::Movkz), any)),
-                267 R_AARCH64_MOVW_UABS_G2 =>
-                    Some(row!(Absolute, (32..48 AArch64::Movkz), unsigned 48)),
-                268 R_AARCH64_MOVW_UABS_G2_NC => Some(row!(Absolute, (32..48 AArch64::Movkz), any)),
-                269 R_AARCH64_MOVW_UABS_G3 => Some(row!(Absolute, (48..64 AArch64::Movkz), any)),
-                270 R_AARCH64_MOVW_SABS_G0 =>
-                    Some(row!(Absolute, (0..16 AArch64::Movnz), signed 17)),
-                271 R_AARCH64_MOVW_SABS_G1 =>
-                    Some(row!(Absolute, (16..32 AArch64::Movnz), signed 33)),
-                272 R_AARCH64_MOVW_SABS_G2 =>
-                    Some(row!(Absolute, (32..48 AArch64::Movnz), signed 49)),
-                273 R_AARCH64_LD_PREL_LO19 =>
-                    Some(row!(Relative, (2..21 AArch64::Ldr), signed 21, alignment: 4)),
-                274 R_AARCH64_ADR_PREL_LO21 =>
-                    Some(row!(Relative, (0..21 AArch64::Adr), signed 21)),
-                275 R_AARCH64_ADR_PREL_PG_HI21 =>
-                    Some(row!(Relative, (12..33 AArch64::Adr), signed 33, mask: PLACE_PAGES)),
-                276 R_AARCH64_ADR_PREL_PG_HI21_NC =>
-                    Some(row!(Relative, (12..33 AArch64::Adr), any, mask: PLACE_PAGES)),
-                277 R_AARCH64_ADD_ABS_LO12_NC =>
-                    Some(row!(AbsoluteLowPart, (0..12 AArch64::Add), any)),
-                278 R_AARCH64_LDST8_ABS_LO12_NC =>
-                    Some(row!(AbsoluteLowPart, (0..12 AArch64::LdSt), any)),
-                279 R_AARCH64_TSTBR14 =>
-                    Some(row!(Relative, (2..16 AArch64::TstBr), signed 16, alignment: 4)),
-                280 R_AARCH64_CONDBR19 =>
-                    Some(row!(Relative, (2..21 AArch64::Bcond), signed 21, alignment: 4)),
-                282 R_AARCH64_JUMP26 =>
-                    Some(row!(PltRelative, (2..28 AArch64::JumpCall), signed 28, alignment: 4,
-                        thunkable: true)),
-                283 R_AARCH64_CALL26 =>
-                    Some(row!(PltRelative, (2..28 AArch64::JumpCall), signed 28, alignment: 4,
-                        thunkable: true)),
-                284 R_AARCH64_LDST16_ABS_LO12_NC =>
-                    Some(row!(AbsoluteLowPart, (1..12 AArch64::LdSt), any, alignment: 2)),
-                285 R_AARCH64_LDST32_ABS_LO12_NC =>
-                    Some(row!(AbsoluteLowPart, (2..12 AArch64::LdSt), any, alignment: 4)),
-                286 R_AARCH64_LDST64_ABS_LO12_NC =>
-                    Some(row!(AbsoluteLowPart, (3..12 AArch64::LdSt), any, alignment: 8)),
-                287 R_AARCH64_MOVW_PREL_G0 =>
-                    Some(row!(Relative, (0..16 AArch64::Movnz), any reach signed 17)),
-                288 R_AARCH64_MOVW_PREL_G0_NC => Some(row!(Relative, (0..16 AArch64::Movkz), any)),
-                289 R_AARCH64_MOVW_PREL_G1 =>
-                    Some(row!(Relative, (16..32 AArch64::Movnz), any reach signed 33)),
-                290 R_AARCH64_MOVW_PREL_G1_NC => Some(row!(Relative, (16..32 AArch64::Movkz), any)),
-                291 R_AARCH64_MOVW_PREL_G2 =>
-                    Some(row!(Relative, (32..48 AArch64::Movnz), any reach signed 49)),
-                292 R_AARCH64_MOVW_PREL_G2_NC => Some(row!(Relative, (32..48 AArch64::Movkz), any)),
-                293 R_AARCH64_MOVW_PREL_G3 => Some(row!(Relative, (48..64 AArch64::Movnz), any)),
-                299 R_AARCH64_LDST128_ABS_LO12_NC =>
-                    Some(row!(AbsoluteLowPart, (4..12 AArch64::LdSt), any, alignment: 16)),
-                300 R_AARCH64_MOVW_GOTOFF_G0 =>
-                    Some(row!(GotRelGotBase, (0..16 AArch64::Movnz), any reach signed 17)),
-                301 R_AARCH64_MOVW_GOTOFF_G0_NC =>
-                    Some(row!(GotRelGotBase, (0..16 AArch64::Movkz), any)),
-                302 R_AARCH64_MOVW_GOTOFF_G1 =>
-                    Some(row!(GotRelGotBase, (16..32 AArch64::Movnz), any reach signed 33)),
-                303 R_AARCH64_MOVW_GOTOFF_G1_NC =>
-                    Some(row!(GotRelGotBase, (16..32 AArch64::Movkz), any)),
-                304 R_AARCH64_MOVW_GOTOFF_G2 =>
-                    Some(row!(GotRelGotBase, (32..48 AArch64::Movnz), any reach signed 49)),
-                305 R_AARCH64_MOVW_GOTOFF_G2_NC =>
-                    Some(row!(GotRelGotBase, (32..48 AArch64::Movkz), any)),
-                306 R_AARCH64_MOVW_GOTOFF_G3 =>
-                    Some(row!(GotRelGotBase, (48..64 AArch64::Movnz), any)),
-                307 R_AARCH64_GOTREL64 => Some(row!(SymRelGotBase, (8 bytes), any)),
-                308 R_AARCH64_GOTREL32 => Some(row!(SymRelGotBase, (4 bytes), signed 32)),
-                309 R_AARCH64_GOT_LD_PREL19 =>
-                    Some(row!(GotRelative, (2..21 AArch64::Ldr), signed 21, alignment: 4)),
-                310 R_AARCH64_LD64_GOTOFF_LO15 =>
-                    Some(row!(GotRelGotBase, (3..15 AArch64::LdSt), unsigned 15, alignment: 8)),
-                311 R_AARCH64_ADR_GOT_PAGE =>
-                    Some(row!(GotRelative, (12..33 AArch64::Adr), signed 33, mask: ENTRY_PAGES)),
-                312 R_AARCH64_LD64_GOT_LO12_NC =>
-                    Some(row!(Got, (3..12 AArch64::LdSt), any, alignment: 8)),
-                313 R_AARCH64_LD64_GOTPAGE_LO15 =>
-                    Some(row!(GotRelGotBase, (3..15 AArch64::LdSt), unsigned 15, alignment: 8,
-                        mask: GOT_PAGE)),
-                314 R_AARCH64_PLT32 => Some(row!(PltRelative, (4 bytes), signed 32)),
-                315 R_AARCH64_GOTPCREL32 => Some(row!(GotRelative, (4 bytes), signed 32)),
-            }
-            {
-                512 R_AARCH64_TLSGD_ADR_PREL21 =>
-                    Some(row!(TlsGd, (0..21 AArch64::Adr), signed 21)),
-                513 R_AARCH64_TLSGD_ADR_PAGE21 =>
-                    Some(row!(TlsGd, (12..33 AArch64::Adr), signed 33, mask: ENTRY_PAGES)),
-                514 R_AARCH64_TLSGD_ADD_LO12_NC => Some(row!(TlsGdGot, (0..12 AArch64::Add), any)),
-                515 R_AARCH64_TLSGD_MOVW_G1 =>
-                    Some(row!(TlsGdGotBase, (16..32 AArch64::Movnz), any reach signed 33)),
-                516 R_AARCH64_TLSGD_MOVW_G0_NC =>
-                    Some(row!(TlsGdGotBase, (0..16 AArch64::Movkz), any)),
-                517 R_AARCH64_TLSLD_ADR_PREL21 =>
-                    Some(row!(TlsLd, (0..21 AArch64::Adr), signed 21)),
-                518 R_AARCH64_TLSLD_ADR_PAGE21 =>
-                    Some(row!(TlsLd, (12..33 AArch64::Adr), signed 33, mask: ENTRY_PAGES)),
-                519 R_AARCH64_TLSLD_ADD_LO12_NC => Some(row!(TlsLdGot, (0..12 AArch64::Add), any)),
-                520 R_AARCH64_TLSLD_MOVW_G1 =>
-                    Some(row!(TlsLdGotBase, (16..32 AArch64::Movnz), any reach signed 33)),
-                521 R_AARCH64_TLSLD_MOVW_G0_NC =>
-                    Some(row!(TlsLdGotBase, (0..16 AArch64::Movkz), any)),
-                522 R_AARCH64_TLSLD_LD_PREL19 =>
-                    Some(row!(TlsLd, (2..21 AArch64::Ldr), signed 21, alignment: 4)),
-                523 R_AARCH64_TLSLD_MOVW_DTPREL_G2 =>
-                    Some(row!(DtpOff, (32..48 AArch64::Movnz), any reach signed 49)),
-                524 R_AARCH64_TLSLD_MOVW_DTPREL_G1 =>
-                    Some(row!(DtpOff, (16..32 AArch64::Movnz), any reach signed 33)),
-                525 R_AARCH64_TLSLD_MOVW_DTPREL_G1_NC =>
-                    Some(row!(DtpOff, (16..32 AArch64::Movkz), any)),
-                526 R_AARCH64_TLSLD_MOVW_DTPREL_G0 =>
-                    Some(row!(DtpOff, (0..16 AArch64::Movnz), any reach signed 17)),
-                527 R_AARCH64_TLSLD_MOVW_DTPREL_G0_NC =>
-                    Some(row!(DtpOff, (0..16 AArch64::Movkz), any)),
-                528 R_AARCH64_TLSLD_ADD_DTPREL_HI12 =>
-                    Some(row!(DtpOff, (12..24 AArch64::Add), unsigned 24)),
-                529 R_AARCH64_TLSLD_ADD_DTPREL_LO12 =>
-                    Some(row!(DtpOff, (0..12 AArch64::Add), unsigned 12)),
-                530 R_AARCH64_TLSLD_ADD_DTPREL_LO12_NC =>
-                    Some(row!(DtpOff, (0..12 AArch64::Add), any)),
-                531 R_AARCH64_TLSLD_LDST8_DTPREL_LO12 =>
-                    Some(row!(DtpOff, (0..12 AArch64::LdSt), unsigned 12)),
-                532 R_AARCH64_TLSLD_LDST8_DTPREL_LO12_NC =>
-                    Some(row!(DtpOff, (0..12 AArch64::LdSt), any)),
-                533 R_AARCH64_TLSLD_LDST16_DTPREL_LO12 =>
-                    Some(row!(DtpOff, (1..12 AArch64::LdSt), unsigned 12, alignment: 2)),
-                534 R_AARCH64_TLSLD_LDST16_DTPREL_LO12_NC =>
-                    Some(row!(DtpOff, (1..12 AArch64::LdSt), any, alignment: 2)),
-                535 R_AARCH64_TLSLD_LDST32_DTPREL_LO12 =>
-                    Some(row!(DtpOff, (2..12 AArch64::LdSt), unsigned 12, alignment: 4)),
-                536 R_AARCH64_TLSLD_LDST32_DTPREL_LO12_NC =>
-                    Some(row!(DtpOff, (2..12 AArch64::LdSt), any, alignment: 4)),
-                537 R_AARCH64_TLSLD_LDST64_DTPREL_LO12 =>
-                    Some(row!(DtpOff, (3..12 AArch64::LdSt), unsigned 12, alignment: 8)),
-                538 R_AARCH64_TLSLD_LDST64_DTPREL_LO12_NC =>
-                    Some(row!(DtpOff, (3..12 AArch64::LdSt), any, alignment: 8)),
-                539 R_AARCH64_TLSIE_MOVW_GOTTPREL_G1 =>
-                    Some(row!(GotTpOffGotBase, (16..32 AArch64::Movnz), any reach signed 33)),
-                540 R_AARCH64_TLSIE_MOVW_GOTTPREL_G0_NC =>
-                    Some(row!(GotTpOffGotBase, (0..16 AArch64::Movkz), any)),
-                541 R_AARCH64_TLSIE_ADR_GOTTPREL_PAGE21 =>
-                    Some(row!(GotTpOff, (12..33 AArch64::Adr), signed 33, mask: ENTRY_PAGES)),
-                542 R_AARCH64_TLSIE_LD64_GOTTPREL_LO12_NC =>
-                    Some(row!(GotTpOffGot, (3..12 AArch64::LdrRegister), any, alignment: 8)),
-                543 R_AARCH64_TLSIE_LD_GOTTPREL_PREL19 =>
-                    Some(row!(GotTpOff, (2..21 AArch64::Ldr), signed 21, alignment: 4)),
-                544 R_AARCH64_TLSLE_MOVW_TPREL_G2 =>
-                    Some(row!(TpOff, (32..48 AArch64::Movnz), any reach signed 49)),
-                545 R_AARCH64_TLSLE_MOVW_TPREL_G1 =>
-                    Some(row!(TpOff, (16..32 AArch64::Movnz), any reach signed 33)),
-                546 R_AARCH64_TLSLE_MOVW_TPREL_G1_NC =>
-                    Some(row!(TpOff, (16..32 AArch64::Movkz), any)),
-                547 R_AARCH64_TLSLE_MOVW_TPREL_G0 =>
-                    Some(row!(TpOff, (0..16 AArch64::Movnz), any reach signed 17)),
-                548 R_AARCH64_TLSLE_MOVW_TPREL_G0_NC =>
-                    Some(row!(TpOff, (0..16 AArch64::Movkz), any)),
-                549 R_AARCH64_TLSLE_ADD_TPREL_HI12 =>
-                    Some(row!(TpOff, (12..24 AArch64::Add), unsigned 24)),
-                550 R_AARCH64_TLSLE_ADD_TPREL_LO12 =>
-                    Some(row!(TpOff, (0..12 AArch64::Add), unsigned 12)),
-                551 R_AARCH64_TLSLE_ADD_TPREL_LO12_NC =>
-                    Some(row!(TpOff, (0..12 AArch64::Add), any)),
-                552 R_AARCH64_TLSLE_LDST8_TPREL_LO12 =>
-                    Some(row!(TpOff, (0..12 AArch64::LdSt), unsigned 12)),
-                553 R_AARCH64_TLSLE_LDST8_TPREL_LO12_NC =>
-                    Some(row!(TpOff, (0..12 AArch64::LdSt), any)),
-                554 R_AARCH64_TLSLE_LDST16_TPREL_LO12 =>
-                    Some(row!(TpOff, (1..12 AArch64::LdSt), unsigned 12, alignment: 2)),
-                555 R_AARCH64_TLSLE_LDST16_TPREL_LO12_NC =>
-                    Some(row!(TpOff, (1..12 AArch64::LdSt), any, alignment: 2)),
-                556 R_AARCH64_TLSLE_LDST32_TPREL_LO12 =>
-                    Some(row!(TpOff, (2..12 AArch64::LdSt), unsigned 12, alignment: 4)),
-                557 R_AARCH64_TLSLE_LDST32_TPREL_LO12_NC =>
-                    Some(row!(TpOff, (2..12 AArch64::LdSt), any, alignment: 4)),
-                558 R_AARCH64_TLSLE_LDST64_TPREL_LO12 =>
-                    Some(row!(TpOff, (3..12 AArch64::LdSt), unsigned 12, alignment: 8)),
-                559 R_AARCH64_TLSLE_LDST64_TPREL_LO12_NC =>
-                    Some(row!(TpOff, (3..12 AArch64::LdSt), any, alignment: 8)),
-                560 R_AARCH64_TLSDESC_LD_PREL19 =>
-                    Some(row!(TlsDesc, (2..21 AArch64::Ldr), signed 21, alignment: 4)),
-                561 R_AARCH64_TLSDESC_ADR_PREL21 =>
-                    Some(row!(TlsDesc, (0..21 AArch64::Adr), signed 21)),
-                562 R_AARCH64_TLSDESC_ADR_PAGE21 =>
-                    Some(row!(TlsDesc, (12..33 AArch64::Adr), signed 33, mask: ENTRY_PAGES)),
-                563 R_AARCH64_TLSDESC_LD64_LO12 =>
-                    Some(row!(TlsDescGot, (3..12 AArch64::LdrRegister), any, alignment: 8)),
-                564 R_AARCH64_TLSDESC_ADD_LO12 => Some(row!(TlsDescGot, (0..12 AArch64::Add), any)),
-                565 R_AARCH64_TLSDESC_OFF_G1 =>
-                    Some(row!(TlsDescGotBase, (16..32 AArch64::Movnz), signed 33)),
-                566 R_AARCH64_TLSDESC_OFF_G0_NC =>
-                    Some(row!(TlsDescGotBase, (0..16 AArch64::Movkz), any)),
-                569 R_AARCH64_TLSDESC_CALL => Some(row!(TlsDescCall, (0 bytes), any)),
-                570 R_AARCH64_TLSLE_LDST128_TPREL_LO12 =>
-                    Some(row!(TpOff, (4..12 AArch64::LdSt), unsigned 12, alignment: 16)),
-                571 R_AARCH64_TLSLE_LDST128_TPREL_LO12_NC =>
-                    Some(row!(TpOff, (4..12 AArch64::LdSt), any, alignment: 16)),
-                572 R_AARCH64_TLSLD_LDST128_DTPREL_LO12 =>
-                    Some(row!(DtpOff, (4..12 AArch64::LdSt), unsigned 12, alignment: 16)),
-                573 R_AARCH64_TLSLD_LDST128_DTPREL_LO12_NC =>
-                    Some(row!(DtpOff, (4..12 AArch64::LdSt), any, alignment: 16)),
-            }
-        }
-    };
+    ($($made:tt)+) => { listed! { ($($made)+) below 257 {
+        0 R_AARCH64_NONE (None, 0 bytes, any)
+    } below 512 {
+        257 R_AARCH64_ABS64 (Absolute, 8 bytes, any)
+        258 R_AARCH64_ABS32 (Absolute, 4 bytes, signed_or_unsigned 32)
+        259 R_AARCH64_ABS16 (Absolute, 2 bytes, signed_or_unsigned 16)
+        260 R_AARCH64_PREL64 (Relative, 8 bytes, any)
+        261 R_AARCH64_PREL32 (Relative, 4 bytes, signed_or_unsigned 32)
+        262 R_AARCH64_PREL16 (Relative, 2 bytes, signed_or_unsigned 16)
+        263 R_AARCH64_MOVW_UABS_G0 (Absolute, 0..16 Movkz, unsigned 16)
+        264 R_AARCH64_MOVW_UABS_G0_NC (Absolute, 0..16 Movkz, any)
+        265 R_AARCH64_MOVW_UABS_G1 (Absolute, 16..32 Movkz, unsigned 32)
+        266 R_AARCH64_MOVW_UABS_G1_NC (Absolute, 16..32 Movkz, any)
+        267 R_AARCH64_MOVW_UABS_G2 (Absolute, 32..48 Movkz, unsigned 48)
+        268 R_AARCH64_MOVW_UABS_G2_NC (Absolute, 32..48 Movkz, any)
+        269 R_AARCH64_MOVW_UABS_G3 (Absolute, 48..64 Movkz, any)
+        270 R_AARCH64_MOVW_SABS_G0 (Absolute, 0..16 Movnz, signed 17)
+        271 R_AARCH64_MOVW_SABS_G1 (Absolute, 16..32 Movnz, signed 33)
+        272 R_AARCH64_MOVW_SABS_G2 (Absolute, 32..48 Movnz, signed 49)
+        273 R_AARCH64_LD_PREL_LO19 (Relative, 2..21 Ldr, signed 21, alignment: 4)
+        274 R_AARCH64_ADR_PREL_LO21 (Relative, 0..21 Adr, signed 21)
+        275 R_AARCH64_ADR_PREL_PG_HI21 (Relative, 12..33 Adr, signed 33, mask: PLACE_PAGES)
+        276 R_AARCH64_ADR_PREL_PG_HI21_NC (Relative, 12..33 Adr, any, mask: PLACE_PAGES)
+        277 R_AARCH64_ADD_ABS_LO12_NC (AbsoluteLowPart, 0..12 Add, any)
+        278 R_AARCH64_LDST8_ABS_LO12_NC (AbsoluteLowPart, 0..12 LdSt, any)
+        279 R_AARCH64_TSTBR14 (Relative, 2..16 TstBr, signed 16, alignment: 4)
+        280 R_AARCH64_CONDBR19 (Relative, 2..21 Bcond, signed 21, alignment: 4)
+        282 R_AARCH64_JUMP26 (PltRelative, 2..28 JumpCall, signed 28, alignment: 4, thunkable: true)
+        283 R_AARCH64_CALL26 (PltRelative, 2..28 JumpCall, signed 28, alignment: 4, thunkable: true)
+        284 R_AARCH64_LDST16_ABS_LO12_NC (AbsoluteLowPart, 1..12 LdSt, any, alignment: 2)
+        285 R_AARCH64_LDST32_ABS_LO12_NC (AbsoluteLowPart, 2..12 LdSt, any, alignment: 4)
+        286 R_AARCH64_LDST64_ABS_LO12_NC (AbsoluteLowPart, 3..12 LdSt, any, alignment: 8)
+        287 R_AARCH64_MOVW_PREL_G0 (Relative, 0..16 Movnz, any, reach: signed 17)
+        288 R_AARCH64_MOVW_PREL_G0_NC (Relative, 0..16 Movkz, any)
+        289 R_AARCH64_MOVW_PREL_G1 (Relative, 16..32 Movnz, any, reach: signed 33)
+        290 R_AARCH64_MOVW_PREL_G1_NC (Relative, 16..32 Movkz, any)
+        291 R_AARCH64_MOVW_PREL_G2 (Relative, 32..48 Movnz, any, reach: signed 49)
+        292 R_AARCH64_MOVW_PREL_G2_NC (Relative, 32..48 Movkz, any)
+        293 R_AARCH64_MOVW_PREL_G3 (Relative, 48..64 Movnz, any)
+        299 R_AARCH64_LDST128_ABS_LO12_NC (AbsoluteLowPart, 4..12 LdSt, any, alignment: 16)
+        300 R_AARCH64_MOVW_GOTOFF_G0 (GotRelGotBase, 0..16 Movnz, any, reach: signed 17)
+        301 R_AARCH64_MOVW_GOTOFF_G0_NC (GotRelGotBase, 0..16 Movkz, any)
+        302 R_AARCH64_MOVW_GOTOFF_G1 (GotRelGotBase, 16..32 Movnz, any, reach: signed 33)
+        303 R_AARCH64_MOVW_GOTOFF_G1_NC (GotRelGotBase, 16..32 Movkz, any)
+        304 R_AARCH64_MOVW_GOTOFF_G2 (GotRelGotBase, 32..48 Movnz, any, reach: signed 49)
+        305 R_AARCH64_MOVW_GOTOFF_G2_NC (GotRelGotBase, 32..48 Movkz, any)
+        306 R_AARCH64_MOVW_GOTOFF_G3 (GotRelGotBase, 48..64 Movnz, any)
+        307 R_AARCH64_GOTREL64 (SymRelGotBase, 8 bytes, any)
+        308 R_AARCH64_GOTREL32 (SymRelGotBase, 4 bytes, signed 32)
+        309 R_AARCH64_GOT_LD_PREL19 (GotRelative, 2..21 Ldr, signed 21, alignment: 4)
+        310 R_AARCH64_LD64_GOTOFF_LO15 (GotRelGotBase, 3..15 LdSt, unsigned 15, alignment: 8)
+        311 R_AARCH64_ADR_GOT_PAGE (GotRelative, 12..33 Adr, signed 33, mask: ENTRY_PAGES)
+        312 R_AARCH64_LD64_GOT_LO12_NC (Got, 3..12 LdSt, any, alignment: 8)
+        313 R_AARCH64_LD64_GOTPAGE_LO15 (GotRelGotBase, 3..15 LdSt, unsigned 15, alignment: 8,
+            mask: GOT_PAGE)
+        314 R_AARCH64_PLT32 (PltRelative, 4 bytes, signed 32)
+        315 R_AARCH64_GOTPCREL32 (GotRelative, 4 bytes, signed 32)
+    } {
+        512 R_AARCH64_TLSGD_ADR_PREL21 (TlsGd, 0..21 Adr, signed 21)
+        513 R_AARCH64_TLSGD_ADR_PAGE21 (TlsGd, 12..33 Adr, signed 33, mask: ENTRY_PAGES)
+        514 R_AARCH64_TLSGD_ADD_LO12_NC (TlsGdGot, 0..12 Add, any)
+        515 R_AARCH64_TLSGD_MOVW_G1 (TlsGdGotBase, 16..32 Movnz, any, reach: signed 33)
+        516 R_AARCH64_TLSGD_MOVW_G0_NC (TlsGdGotBase, 0..16 Movkz, any)
+        517 R_AARCH64_TLSLD_ADR_PREL21 (TlsLd, 0..21 Adr, signed 21)
+        518 R_AARCH64_TLSLD_ADR_PAGE21 (TlsLd, 12..33 Adr, signed 33, mask: ENTRY_PAGES)
+        519 R_AARCH64_TLSLD_ADD_LO12_NC (TlsLdGot, 0..12 Add, any)
+        520 R_AARCH64_TLSLD_MOVW_G1 (TlsLdGotBase, 16..32 Movnz, any, reach: signed 33)
+        521 R_AARCH64_TLSLD_MOVW_G0_NC (TlsLdGotBase, 0..16 Movkz, any)
+        522 R_AARCH64_TLSLD_LD_PREL19 (TlsLd, 2..21 Ldr, signed 21, alignment: 4)
+        523 R_AARCH64_TLSLD_MOVW_DTPREL_G2 (DtpOff, 32..48 Movnz, any, reach: signed 49)
+        524 R_AARCH64_TLSLD_MOVW_DTPREL_G1 (DtpOff, 16..32 Movnz, any, reach: signed 33)
+        525 R_AARCH64_TLSLD_MOVW_DTPREL_G1_NC (DtpOff, 16..32 Movkz, any)
+        526 R_AARCH64_TLSLD_MOVW_DTPREL_G0 (DtpOff, 0..16 Movnz, any, reach: signed 17)
+        527 R_AARCH64_TLSLD_MOVW_DTPREL_G0_NC (DtpOff, 0..16 Movkz, any)
+        528 R_AARCH64_TLSLD_ADD_DTPREL_HI12 (DtpOff, 12..24 Add, unsigned 24)
+        529 R_AARCH64_TLSLD_ADD_DTPREL_LO12 (DtpOff, 0..12 Add, unsigned 12)
+        530 R_AARCH64_TLSLD_ADD_DTPREL_LO12_NC (DtpOff, 0..12 Add, any)
+        531 R_AARCH64_TLSLD_LDST8_DTPREL_LO12 (DtpOff, 0..12 LdSt, unsigned 12)
+        532 R_AARCH64_TLSLD_LDST8_DTPREL_LO12_NC (DtpOff, 0..12 LdSt, any)
+        533 R_AARCH64_TLSLD_LDST16_DTPREL_LO12 (DtpOff, 1..12 LdSt, unsigned 12, alignment: 2)
+        534 R_AARCH64_TLSLD_LDST16_DTPREL_LO12_NC (DtpOff, 1..12 LdSt, any, alignment: 2)
+        535 R_AARCH64_TLSLD_LDST32_DTPREL_LO12 (DtpOff, 2..12 LdSt, unsigned 12, alignment: 4)
+        536 R_AARCH64_TLSLD_LDST32_DTPREL_LO12_NC (DtpOff, 2..12 LdSt, any, alignment: 4)
+        537 R_AARCH64_TLSLD_LDST64_DTPREL_LO12 (DtpOff, 3..12 LdSt, unsigned 12, alignment: 8)
+        538 R_AARCH64_TLSLD_LDST64_DTPREL_LO12_NC (DtpOff, 3..12 LdSt, any, alignment: 8)
+        539 R_AARCH64_TLSIE_MOVW_GOTTPREL_G1 (GotTpOffGotBase, 16..32 Movnz, any, reach: signed 33)
+        540 R_AARCH64_TLSIE_MOVW_GOTTPREL_G0_NC (GotTpOffGotBase, 0..16 Movkz, any)
+        541 R_AARCH64_TLSIE_ADR_GOTTPREL_PAGE21 (GotTpOff, 12..33 Adr, signed 33, mask: ENTRY_PAGES)
+        542 R_AARCH64_TLSIE_LD64_GOTTPREL_LO12_NC (GotTpOffGot, 3..12 LdrRegister, any,
+            alignment: 8)
+        543 R_AARCH64_TLSIE_LD_GOTTPREL_PREL19 (GotTpOff, 2..21 Ldr, signed 21, alignment: 4)
+        544 R_AARCH64_TLSLE_MOVW_TPREL_G2 (TpOff, 32..48 Movnz, any, reach: signed 49)
+        545 R_AARCH64_TLSLE_MOVW_TPREL_G1 (TpOff, 16..32 Movnz, any, reach: signed 33)
+        546 R_AARCH64_TLSLE_MOVW_TPREL_G1_NC (TpOff, 16..32 Movkz, any)
+        547 R_AARCH64_TLSLE_MOVW_TPREL_G0 (TpOff, 0..16 Movnz, any, reach: signed 17)
+        548 R_AARCH64_TLSLE_MOVW_TPREL_G0_NC (TpOff, 0..16 Movkz, any)
+        549 R_AARCH64_TLSLE_ADD_TPREL_HI12 (TpOff, 12..24 Add, unsigned 24)
+        550 R_AARCH64_TLSLE_ADD_TPREL_LO12 (TpOff, 0..12 Add, unsigned 12)
+        551 R_AARCH64_TLSLE_ADD_TPREL_LO12_NC (TpOff, 0..12 Add, any)
+        552 R_AARCH64_TLSLE_LDST8_TPREL_LO12 (TpOff, 0..12 LdSt, unsigned 12)
+        553 R_AARCH64_TLSLE_LDST8_TPREL_LO12_NC (TpOff, 0..12 LdSt, any)
+        554 R_AARCH64_TLSLE_LDST16_TPREL_LO12 (TpOff, 1..12 LdSt, unsigned 12, alignment: 2)
+        555 R_AARCH64_TLSLE_LDST16_TPREL_LO12_NC (TpOff, 1..12 LdSt, any, alignment: 2)
+        556 R_AARCH64_TLSLE_LDST32_TPREL_LO12 (TpOff, 2..12 LdSt, unsigned 12, alignment: 4)
+        557 R_AARCH64_TLSLE_LDST32_TPREL_LO12_NC (TpOff, 2..12 LdSt, any, alignment: 4)
+        558 R_AARCH64_TLSLE_LDST64_TPREL_LO12 (TpOff, 3..12 LdSt, unsigned 12, alignment: 8)
+        559 R_AARCH64_TLSLE_LDST64_TPREL_LO12_NC (TpOff, 3..12 LdSt, any, alignment: 8)
+        560 R_AARCH64_TLSDESC_LD_PREL19 (TlsDesc, 2..21 Ldr, signed 21, alignment: 4)
+        561 R_AARCH64_TLSDESC_ADR_PREL21 (TlsDesc, 0..21 Adr, signed 21)
+        562 R_AARCH64_TLSDESC_ADR_PAGE21 (TlsDesc, 12..33 Adr, signed 33, mask: ENTRY_PAGES)
+        563 R_AARCH64_TLSDESC_LD64_LO12 (TlsDescGot, 3..12 LdrRegister, any, alignment: 8)
+        564 R_AARCH64_TLSDESC_ADD_LO12 (TlsDescGot, 0..12 Add, any)
+        565 R_AARCH64_TLSDESC_OFF_G1 (TlsDescGotBase, 16..32 Movnz, signed 33)
+        566 R_AARCH64_TLSDESC_OFF_G0_NC (TlsDescGotBase, 0..16 Movkz, any)
+        569 R_AARCH64_TLSDESC_CALL (TlsDescCall, 0 bytes, any)
+        570 R_AARCH64_TLSLE_LDST128_TPREL_LO12 (TpOff, 4..12 LdSt, unsigned 12, alignment: 16)
+        571 R_AARCH64_TLSLE_LDST128_TPREL_LO12_NC (TpOff, 4..12 LdSt, any, alignment: 16)
+        572 R_AARCH64_TLSLD_LDST128_DTPREL_LO12 (DtpOff, 4..12 LdSt, unsigned 12, alignment: 16)
+        573 R_AARCH64_TLSLD_LDST128_DTPREL_LO12_NC (DtpOff, 4..12 LdSt, any, alignment: 16)
+    } } };
 }
 
 impl fmt::Debug for AArch64Relocation {
@@ -376,7 +274,7 @@ impl AArch64Relocation {
     pub fn from_elf(code: u32) -> AArch64Relocation
         ensures { IsNameOf aarch64_name code result }
     {
-        relocations!(name_of_code(AArch64Relocation, code))
+        relocations!(name_of AArch64Relocation, code)
     }
 
     /// The code, `r_type` in ELF files.
@@ -384,25 +282,25 @@ impl AArch64Relocation {
     pub fn elf_code(self) -> u32
         ensures { result ≡ code_of (aarch64_name self) }
     {
-        relocations!(code_of_name(AArch64Relocation, self))
+        relocations!(code_of AArch64Relocation, self)
     }
 
     /// The name, as "R_AARCH64_CALL26"; "unknown relocation" for `Other`.
     pub fn name(self) -> &'static str
         ensures { result.now ≡ text_of (aarch64_name self) }
     {
-        relocations!(text_of_name(AArch64Relocation, self))
+        relocations!(text_of AArch64Relocation, self)
     }
 }
 
-static ROWS: &[Option<TableRow>] = &relocations!(table());
+static ROWS: &[Option<TableRow>] = &relocations!(table [AArch64 AArch64Instruction EM_AARCH64]);
 
 /// The index of a name in the table.
 #[inline(always)]
 fn index(name: AArch64Relocation) -> usize
     ensures { result ≡ tag_of names.the_type name }
 {
-    relocations!(index_of_name(AArch64Relocation, name))
+    relocations!(index_of AArch64Relocation, name)
 }
 
 /// What a relocation means. It takes a name; `AArch64Relocation::from_elf` gives the name of a

@@ -4,10 +4,9 @@ ghost use Rattle.std.specs.Prelude.{◌≡◌, ◌==◌, ◌↔◌, ◌≤◌, �
 ghost use Rattle.std.specs.Prelude.{false, not, length};
 ghost use Rattle.linker_elf.specs.Choices.{Fits, ConditionHolds, choice};
 ghost use Rattle.linker_elf.specs.Inner.ChoiceTables.{is_held, facts_hold, value_condition};
-ghost use Rattle.linker_elf.specs.Inner.ChoiceTables.{seldom_facts_hold, AreSampled};
-ghost use Rattle.linker_elf.specs.Inner.ChoiceTables.{ValuesHold, EntryApplies};
-ghost use Rattle.linker_elf.specs.Inner.ChoiceTables.{IsFirstOf, IsChoiceAt, IsTableOf};
-ghost use Rattle.linker_elf.specs.Inner.ChoiceTables.{Tables, IsChoice, AreEqualities};
+ghost use Rattle.linker_elf.specs.Inner.ChoiceTables.{seldom_facts_hold, AreSampled, ValuesHold};
+ghost use Rattle.linker_elf.specs.Inner.ChoiceTables.{EntryApplies, IsFirstOf, IsChoiceAt};
+ghost use Rattle.linker_elf.specs.Inner.ChoiceTables.{IsTableOf, Tables, IsChoice, AreEqualities};
 ghost use Rattle.linker_elf.specs.declared.elf.RelocationKindInfo.{RelocationKindInfo};
 ghost use Rattle.linker_elf.specs.declared.elf.value.Operands.{Operands};
 

@@ -4,8 +4,7 @@ ghost use Rattle.std.specs.Prelude.{◌≡◌, ◌<◌, ◌≤◌, ◌^◌, ℕ,
 ghost use Rattle.std.specs.Int.{from_le_bytes, byte_len, cast_unsigned, w64};
 ghost use Rattle.linker_base.specs.Form.{ImmediateBit, BitsWritten, Written, window_of, place_sum};
 ghost use Rattle.linker_elf.specs.Elf.{relocation_form};
-ghost use Rattle.linker_elf.specs.Inner.Runs.{width_of, bits_of, writes, reads};
-ghost use Rattle.linker_elf.specs.Inner.Runs.{code_of, is_plain};
+ghost use Rattle.linker_elf.specs.Inner.Runs.{width_of, bits_of, writes, reads, code_of, is_plain};
 
 use crate::elf::RelocationInstruction;
 use linker_base::bit_misc::BitRange;
@@ -54,17 +53,35 @@ pub(crate) const UNSIGNED: Encoding = Encoding {
     flag: !0,
 };
 
-/// One part of a form: with `code` what it is beside its steps, with `2 steps` or `6 steps` these,
-/// and as many that move nothing as are left. The form is its window, which bits of its number the
-/// immediate has, its steps and how it is read. A step is its runs, each a bit of the value, one of
-/// the window, and their length; with `or` a run is only ORed.
+/// A part of each form: with `code` what it is beside its steps; with `2 steps` or `6 steps` these,
+/// and as many that move nothing as are left; with `variant` and the forms' enum its variant; with
+/// `window` the length of its window in bytes. With `by`, what is done with a form, in an arm for
+/// each. A form is its name, its window, which bits of its number the immediate has, its steps and
+/// how it is read. A step is its runs, each a bit of the value, one of the window, and their length;
+/// with `or` a run is only ORed.
+macro_rules! forms {
+    ([by $forms:ident $value:expr, $form:ident: $done:expr] $(($name:ident $($part:tt)+))+) => {
+        match $value {
+            $($forms::$name => {
+                let $form = $forms::$name;
+                $done
+            })+
+        }
+    };
+    ($part:tt $($form:tt)+) => { [$($crate::elf::engine::form!($part $form)),+] };
+}
+
 macro_rules! form {
-    (
-        [code] $window:ident, $start:literal .. $end:literal,
+    ([variant $forms:ident] ($name:ident $($part:tt)+)) => { $forms::$name };
+    ([window] ($name:ident Two, $($part:tt)+)) => { 2 };
+    ([window] ($name:ident Four, $($part:tt)+)) => { 4 };
+    ([window] ($name:ident Eight, $($part:tt)+)) => { 8 };
+    ([code] (
+        $name:ident $window:ident, $start:literal .. $end:literal,
         $([$(added $added:literal:)? $($from:literal, $to:literal, $len:literal $($or:ident)?);+])+
         $(clear $clear:literal, $clear_len:literal)?
         $(; $($field:ident: $read:expr),+)?
-    ) => {
+    )) => {
         $crate::elf::engine::Encoding {
             window: $crate::elf::engine::Window::$window,
             bits: BitRange { start: $start, end: $end },
@@ -75,16 +92,13 @@ macro_rules! form {
             ..$crate::elf::engine::UNSIGNED
         }
     };
-    (
-        [$slots:tt steps] $window:ident, $start:literal .. $end:literal,
+    ([$slots:tt steps] (
+        $name:ident $window:ident, $start:literal .. $end:literal,
         $([$(added $added:literal:)? $($from:literal, $to:literal, $len:literal $($or:ident)?);+])+
         $(clear $clear:literal, $clear_len:literal)?
         $(; $($field:ident: $read:expr),+)?
-    ) => {
-        $crate::elf::engine::steps!(
-            $slots []
-            $([0 $(+ $added)?; $($from, $to, $len);+])+
-        )
+    )) => {
+        $crate::elf::engine::steps!($slots [] $([0 $(+ $added)?; $($from, $to, $len);+])+)
     };
 }
 
@@ -92,15 +106,11 @@ macro_rules! form {
 /// its first run. The mask would be another if that of a further run were another.
 macro_rules! steps {
     (2 $($rest:tt)*) => { $crate::elf::engine::steps!([none none] $($rest)*) };
-    (6 $($rest:tt)*) => {
-        $crate::elf::engine::steps!([none none none none none none] $($rest)*)
-    };
+    (6 $($rest:tt)*) => { $crate::elf::engine::steps!([none none none none none none] $($rest)*) };
     ([$($slot:ident)*] [$($step:expr,)*]) => {
         [$($step,)* $($crate::elf::engine::steps!($slot)),*]
     };
-    (none) => {
-        $crate::elf::engine::Step { added: 0, up: 0, mask: 0 }
-    };
+    (none) => { $crate::elf::engine::Step { added: 0, up: 0, mask: 0 } };
     (
         [none $($slot:ident)*] [$($step:expr,)*]
         [
@@ -136,6 +146,7 @@ macro_rules! run {
 }
 
 pub(crate) use form;
+pub(crate) use forms;
 pub(crate) use run;
 pub(crate) use steps;
 

@@ -7,7 +7,7 @@ ghost use Rattle.linker_elf.specs.Elf.{relocation_form};
 ghost use Rattle.linker_elf.specs.Entries.{is_branch_insn};
 ghost use Rattle.linker_elf.specs.Forms.{instruction_mask, immediate_of};
 
-use crate::elf::{InstructionForm, RelocationInstruction};
+use crate::elf::{InstructionForm, RelocationInstruction, of_form};
 use linker_base::bit_misc::BitRange;
 
 impl RelocationInstruction {
@@ -32,12 +32,7 @@ impl RelocationInstruction {
     pub fn value_bits(self) -> BitRange
         ensures { result ≡ immediate_of self }
     {
-        match self {
-            RelocationInstruction::AArch64(insn) => insn.value_bits(),
-            RelocationInstruction::RiscV(insn) => insn.value_bits(),
-            RelocationInstruction::Ppc64(insn) => insn.value_bits(),
-            RelocationInstruction::LoongArch64(insn) => insn.value_bits(),
-        }
+        of_form!(self, insn => insn.value_bits())
     }
 
     /// Whether the value goes into a branch.

@@ -1,21 +1,15 @@
 //! Writes the value of a relocation.
 
-ghost use Rattle.std.specs.Prelude.{◌≡◌, ◌≤◌, ◌<◌, ◌+◌, ◌^◌, ◌↔◌, ◌++◌, IsTrue};
-ghost use Rattle.std.specs.Prelude.{true, false, length, drop};
+ghost use Rattle.std.specs.Prelude.{◌≡◌, ◌≤◌, ◌<◌, ◌+◌, ◌^◌, ◌↔◌, ◌++◌, IsTrue, true, false};
+ghost use Rattle.std.specs.Prelude.{length, drop};
 ghost use Rattle.std.specs.Int.{byte_len, from_le_bytes};
 ghost use Rattle.linker_base.specs.Form.{window_of, Fits};
 ghost use Rattle.linker_elf.specs.AArch64.{aarch64_form};
 ghost use Rattle.linker_elf.specs.Elf.{relocation_form};
-ghost use Rattle.linker_elf.specs.Relocate.{number_of_bytes, low_bytes, number_written};
-ghost use Rattle.linker_elf.specs.Relocate.{bits_taken};
-ghost use Rattle.linker_elf.specs.Relocate.{InstructionWritten, IsWritten};
-ghost use Rattle.linker_elf.specs.Relocate.{window_len};
-ghost use Rattle.linker_elf.specs.Relocate.{IsAligned};
-ghost use Rattle.linker_elf.specs.Relocate.{IsInUnits, IsMultiple};
-ghost use Rattle.linker_elf.specs.Relocate.{size_len};
-ghost use Rattle.linker_elf.specs.Relocate.{bits_at};
-ghost use Rattle.linker_elf.specs.Relocate.{stays_movk, insn_at, is_low_jump, low_part};
-ghost use Rattle.linker_elf.specs.Relocate.{IsInWords, IsEncoded};
+ghost use Rattle.linker_elf.specs.Relocate.{number_of_bytes, low_bytes, number_written, bits_taken};
+ghost use Rattle.linker_elf.specs.Relocate.{InstructionWritten, IsWritten, window_len, IsAligned};
+ghost use Rattle.linker_elf.specs.Relocate.{IsInUnits, IsMultiple, size_len, bits_at, stays_movk};
+ghost use Rattle.linker_elf.specs.Relocate.{insn_at, is_low_jump, low_part, IsInWords, IsEncoded};
 ghost use Rattle.linker_elf.specs.Inner.RowTables.{is_over};
 
 use crate::aarch64::is_movk;

@@ -1,18 +1,17 @@
 //! Rows of the relocation tables, and the macros that make them from each architecture's list.
 
-ghost use Rattle.std.specs.Prelude.{◌≡◌, ◌-◌, ◌<◌, ◌≤◌, ◌↔◌, IfErr, IfSome, IsTrue, OnOk};
-ghost use Rattle.std.specs.Prelude.{length, true, false};
+ghost use Rattle.std.specs.Prelude.{◌≡◌, ◌-◌, ◌<◌, ◌≤◌, ◌↔◌, IfErr, IfSome, IsTrue, OnOk, length};
+ghost use Rattle.std.specs.Prelude.{true, false};
 ghost use Rattle.linker_elf.specs.Agrees.{RowFits};
 ghost use Rattle.linker_elf.specs.Applied.{IsApplied, IsRejected};
 ghost use Rattle.linker_elf.specs.AppliedRows.{IsAppliedBy, IsWrittenOrRejected};
 ghost use Rattle.linker_elf.specs.Entries.{IsGotAnswer, IsPltAnswer};
 ghost use Rattle.linker_elf.specs.Facts.{facts_of};
-ghost use Rattle.linker_elf.specs.Relocate.{Reaches, IsInReach};
+ghost use Rattle.linker_elf.specs.Relocate.{Reaches, IsInReach, WritesRow, RejectsValue};
+ghost use Rattle.linker_elf.specs.Relocate.{window_len, is_supported, IsAligned, IsWritten};
+ghost use Rattle.linker_elf.specs.Elf.{IsWithin};
 ghost use Rattle.linker_elf.specs.Numbers.{numbers_of};
 ghost use Rattle.linker_elf.specs.Reach.{reach_of};
-ghost use Rattle.linker_elf.specs.Relocate.{WritesRow, RejectsValue, window_len, is_supported};
-ghost use Rattle.linker_elf.specs.Relocate.{IsAligned, IsWritten};
-ghost use Rattle.linker_elf.specs.Elf.{IsWithin};
 ghost use Rattle.linker_elf.specs.Value.{value_of, value_given, completed, lacks};
 ghost use Rattle.linker_elf.specs.Inner.RowTables.{info_in, info_of, raw_info_in, IsSound};
 ghost use Rattle.linker_elf.specs.Inner.RowTables.{tests_of, takes_all, is_unit};
@@ -507,544 +506,334 @@ impl RelocationKindInfo {
     }
 }
 
-// The macros below are given to an architecture's `relocations!`, which lists each relocation as
-// `code NAME => row,` in the order of the enum of names. Codes are split into parts that are dense
-// enough for a table, each below a number, and the rest.
-
-/// The name with a code.
-macro_rules! name_of_code {
+/// What is made of the relocations of an architecture. Its `relocations!` lists them as `code NAME
+/// (row)` in the order of the enum of names. Codes are split into parts that are dense enough for a
+/// table, each below a number, and the rest. `name_of` makes the name with a code; `code_of` and
+/// `text_of` the code and the text of a name; `index_of` its index in the list. `table` makes the
+/// table of rows by these indices, whose last entry is that of `Other`. It is given the variant of
+/// `RelocationInstruction`, the enum of the forms and the `e_machine` of the architecture.
+macro_rules! listed {
     (
-        ($names:ident, $code:ident)
-        $(below $end:literal { $($low:literal $low_name:ident => $low_row:expr,)* })*
-        { $($number:literal $name:ident => $row:expr,)* }
+        (name_of $names:ident, $code:ident)
+        $($(below $end:literal)? { $($number:literal $name:ident $row:tt)* })+
     ) => {
-        $(if $code < $end {
-            match $code {
-                $($low => $names::$low_name,)*
-                _ => $names::Other($code),
-            }
-        } else)* {
+        $($(if $code < $end)? {
             match $code {
                 $($number => $names::$name,)*
                 _ => $names::Other($code),
             }
-        }
+        })else+
     };
-}
-
-/// The code of a name.
-macro_rules! code_of_name {
-    (
-        ($names:ident, $value:expr)
-        $(below $end:literal { $($low:literal $low_name:ident => $low_row:expr,)* })*
-        { $($number:literal $name:ident => $row:expr,)* }
-    ) => {
+    ($made:tt $($(below $end:literal)? { $($relocation:tt)* })+) => {
+        $crate::elf::rows::listed!(@ $made $($($relocation)*)+)
+    };
+    (@ (code_of $names:ident, $value:expr) $($number:literal $name:ident $row:tt)*) => {
         match $value {
-            $($($names::$low_name => $low,)*)*
             $($names::$name => $number,)*
             $names::Other(code) => code,
         }
     };
-}
-
-/// The text of a name.
-macro_rules! text_of_name {
-    (
-        ($names:ident, $value:expr)
-        $(below $end:literal { $($low:literal $low_name:ident => $low_row:expr,)* })*
-        { $($number:literal $name:ident => $row:expr,)* }
-    ) => {
+    (@ (text_of $names:ident, $value:expr) $($number:literal $name:ident $row:tt)*) => {
         match $value {
-            $($($names::$low_name => stringify!($low_name),)*)*
             $($names::$name => stringify!($name),)*
             $names::Other(_) => "unknown relocation",
         }
     };
-}
-
-/// The table of rows, by the names' indices. The last entry is that of `Other`.
-macro_rules! table {
-    (
-        ()
-        $(below $end:literal { $($low:literal $low_name:ident => $low_row:expr,)* })*
-        { $($number:literal $name:ident => $row:expr,)* }
-    ) => {
-        [$($($low_row,)*)* $($row,)* None]
+    (@ (table $forms:tt) $($number:literal $name:ident $row:tt)*) => {
+        [$(Some($crate::elf::rows::row!($forms $row)),)* None]
     };
-}
-
-/// The index of a name in its list, and in the table.
-macro_rules! index_of_name {
-    (
-        ($names:ident, $value:expr)
-        $(below $end:literal { $($low:literal $low_name:ident => $low_row:expr,)* })*
-        { $($number:literal $name:ident => $row:expr,)* }
-    ) => {
-        $crate::elf::rows::index_of_name!(
-            @ $names, $value, [$($($low_name)*)* $($name)*] []
-            [0 1 2 3 4 5 6 7] [8 9 10 11 12 13 14 15] [16 17 18 19 20 21 22 23]
-            [24 25 26 27 28 29 30 31] [32 33 34 35 36 37 38 39] [40 41 42 43 44 45 46 47]
-            [48 49 50 51 52 53 54 55] [56 57 58 59 60 61 62 63] [64 65 66 67 68 69 70 71]
-            [72 73 74 75 76 77 78 79] [80 81 82 83 84 85 86 87] [88 89 90 91 92 93 94 95]
-            [96 97 98 99 100 101 102 103] [104 105 106 107 108 109 110 111]
-            [112 113 114 115 116 117 118 119] [120 121 122 123 124 125 126 127]
+    (@ (index_of $names:ident, $value:expr) $($number:literal $name:ident $row:tt)*) => {
+        $crate::elf::rows::listed!(
+            @ $names, $value, [$($name)*] []
+            0 1 2 3 4 5 6 7 8 9 10 11 12 13 14 15 16 17 18 19 20 21 22 23 24 25 26 27 28 29 30 31
+            32 33 34 35 36 37 38 39 40 41 42 43 44 45 46 47 48 49 50 51 52 53 54 55 56 57 58 59 60
+            61 62 63 64 65 66 67 68 69 70 71 72 73 74 75 76 77 78 79 80 81 82 83 84 85 86 87 88 89
+            90 91 92 93 94 95 96 97 98 99 100 101 102 103 104 105 106 107 108 109 110 111 112 113
+            114 115 116 117 118 119 120 121 122 123 124 125 126 127
         )
     };
     (
-        @ $names:ident, $value:expr,
-        [$a:ident $b:ident $c:ident $d:ident $e:ident $f:ident $g:ident $h:ident $($rest:ident)*]
-        [$($arms:tt)*]
-        [$i:literal $j:literal $k:literal $l:literal $m:literal $n:literal $o:literal $p:literal]
-        $($numbers:tt)*
+        @ $names:ident, $value:expr, [$first:ident $($rest:ident)*] [$($arms:tt)*]
+        $number:literal $($numbers:literal)*
     ) => {
-        $crate::elf::rows::index_of_name!(
-            @ $names, $value, [$($rest)*]
-            [$($arms)* $a $i $b $j $c $k $d $l $e $m $f $n $g $o $h $p] $($numbers)*
+        $crate::elf::rows::listed!(
+            @ $names, $value, [$($rest)*] [$($arms)* $names::$first => $number,] $($numbers)*
         )
     };
-    (
-        @ $names:ident, $value:expr, [$a:ident $($rest:ident)*] [$($arms:tt)*]
-        [$i:literal $($number:literal)*] $($numbers:tt)*
-    ) => {
-        $crate::elf::rows::index_of_name!(
-            @ $names, $value, [$($rest)*] [$($arms)* $a $i] [$($number)*] $($numbers)*
-        )
-    };
-    (
-        @ $names:ident, $value:expr, [] [$($name:ident $number:literal)*]
-        [$i:literal $($unused:literal)*] $($numbers:tt)*
-    ) => {
-        match $value {
-            $($names::$name => $number,)*
-            $names::Other(_) => $i,
-        }
-    };
-    (
-        @ $names:ident, $value:expr, [] [$($name:ident $number:literal)*] []
-        [$i:literal $($unused:literal)*] $($numbers:tt)*
-    ) => {
-        match $value {
-            $($names::$name => $number,)*
-            $names::Other(_) => $i,
-        }
+    (@ $names:ident, $value:expr, [] [$($arms:tt)*] $number:literal $($numbers:literal)*) => {
+        match $value { $($arms)* $names::Other(_) => $number }
     };
 }
 
-/// Where a row's value goes: `(4 bytes)`, or as `(12..32 RiscV::UType)` the value's bits from 12
-/// up, below 32, into an instruction.
-macro_rules! size {
-    (($bytes:literal bytes)) => {
-        $crate::elf::RelocationSize::ByteSize($bytes)
+/// A row of an architecture: its kind; where its value goes, `4 bytes`, or as `12..33 Adr` the
+/// value's bits from 12 up, below 33, into an instruction of a form; its range; and the fields that
+/// most rows don't have. `reach` gives the row's reach where that isn't its range.
+macro_rules! row {
+    ($forms:tt ($kind:ident, $bytes:tt bytes, $($rest:tt)+)) => {
+        $crate::elf::rows::row!(
+            @ $kind [Bytes Bytes $kind 0 0 $bytes] [$crate::elf::RelocationSize::ByteSize($bytes)]
+            [form: 0, machine: 0, is_bits: 0, byte_size: $bytes, first_bit: 0, end_bit: 0]
+            $($rest)+
+        )
     };
-    (($start:literal .. $end:literal $architecture:ident :: $form:ident)) => {
-        $crate::elf::RelocationSize::BitMasking {
-            range: linker_base::bit_misc::BitRange {
-                start: $start,
-                end: $end,
+    (
+        [$architecture:ident $forms:ident $machine:ident]
+        ($kind:ident, $start:tt .. $end:tt $form:ident, $($rest:tt)+)
+    ) => {
+        $crate::elf::rows::row!(
+            @ $kind [$form $architecture $kind $start $end 0]
+            [$crate::elf::RelocationSize::BitMasking {
+                range: linker_base::bit_misc::BitRange { start: $start, end: $end },
+                insn: $crate::elf::RelocationInstruction::$architecture($crate::elf::$forms::$form),
+            }]
+            [
+                form: $crate::elf::$forms::$form as u32, machine: $crate::elf::$machine, is_bits: 1,
+                byte_size: 0, first_bit: $start, end_bit: $end
+            ]
+            $($rest)+
+        )
+    };
+    (
+        @ $kind:ident [$($row:tt)+] [$size:expr] [$($of_size:tt)+]
+        $range:ident $($number:literal $(.. $end:literal)?)?
+        $(, reach: $reach:ident $reach_number:literal $(.. $reach_end:literal)?)?
+        $(, alignment: $alignment:literal)?
+        $(, mask: $mask:ident)?
+        $(, bias: $bias:expr)?
+        $(, thunkable: $thunkable:literal)?
+        $(, own: $own:literal)?
+    ) => {
+        $crate::elf::rows::TableRow {
+            kind: $crate::elf::RelocationKind::$kind,
+            size: $size,
+            mask: $crate::elf::rows::mask!($($mask)?),
+            numbers: $crate::elf::RelocationNumbers {
+                kind: $crate::elf::RelocationKind::$kind as u32,
+                mask: $crate::elf::rows::bits!(number $($mask)?),
+                has_range: $crate::elf::rows::bound!(has_range $range),
+                thunkable: 0 $(+ $thunkable as u8)?,
+                implicit_addend: 0,
+                min: $crate::elf::rows::bound!(min $range $($number $(.. $end)?)?),
+                max: $crate::elf::rows::bound!(max $range $($number $(.. $end)?)?),
+                alignment: 1 $(* $alignment)?,
+                bias: 0 $(+ $bias)?,
+                $($of_size)+
             },
-            insn: $crate::elf::rows::insn!($architecture, $form),
+            tests: $crate::elf::rows::WriteTests {
+                is_supported: !$crate::elf::rows::fact!(rejected $($row)+),
+                takes_all: !$crate::elf::rows::fact!(looks $($row)+),
+                low_bits: 0 $(+ $alignment - 1)?,
+                window: $crate::elf::rows::fact!(window $($row)+),
+                least: $crate::elf::rows::bound!(
+                    least [$($reach $reach_number $(.. $reach_end)?)?]
+                    $range $($number $(.. $end)?)?
+                ),
+                last: $crate::elf::rows::bound!(
+                    last [$($reach $reach_number $(.. $reach_end)?)?]
+                    $range $($number $(.. $end)?)?
+                ),
+            },
+            terms: $crate::elf::value::FormulaTerms {
+                bias: 0 $(+ $bias)?,
+                symbol: $crate::elf::rows::bits!(symbol $($mask)?),
+                entry: $crate::elf::rows::bits!(entry $($mask)?),
+                entry_addend: $crate::elf::rows::bits!(entry_addend $($row)+),
+                place: $crate::elf::rows::bits!(place $($mask)? $($row)+),
+                got: $crate::elf::rows::bits!(got $($mask)?),
+            },
+            facts: $crate::elf::RowFacts {
+                entry: $crate::elf::rows::entry!($($row)+),
+                entry_has_addend: $crate::elf::rows::fact!(addend $($row)+),
+                is_branch: $crate::elf::rows::fact!(branch $($row)+),
+                may_use_stub: $crate::elf::rows::fact!(stub $($row)+),
+                stub_only_if_undefined: $crate::elf::rows::fact!(bound $($row)+),
+                is_word: $crate::elf::rows::fact!(word $($row)+),
+                depends_on_load: $crate::elf::rows::fact!(load $($row)+),
+                way: $crate::elf::rows::fact!(way $($row)+),
+                length: $crate::elf::rows::fact!(length $($row)+),
+            },
+            is_own: false $(| $own)?,
         }
     };
 }
 
-macro_rules! insn {
-    (AArch64, $form:ident) => {
-        $crate::elf::RelocationInstruction::AArch64($crate::elf::AArch64Instruction::$form)
-    };
-    (RiscV, $form:ident) => {
-        $crate::elf::RelocationInstruction::RiscV($crate::elf::RiscVInstruction::$form)
-    };
-    (LoongArch64, $form:ident) => {
-        $crate::elf::RelocationInstruction::LoongArch64($crate::elf::LoongArch64Instruction::$form)
-    };
-    (Ppc64, $form:ident) => {
-        $crate::elf::RelocationInstruction::Ppc64($crate::elf::Ppc64Instruction::$form)
-    };
-}
-
-/// Whether a row is one that the crate `linker-utils` lacks.
-macro_rules! is_own {
-    () => { false };
-    (own) => { true };
-}
-
-/// A number of a row.
-macro_rules! number {
-    (form ($bytes:literal bytes)) => { 0 };
-    (form ($start:literal .. $end:literal AArch64 :: $form:ident)) => {
-        $crate::elf::AArch64Instruction::$form as u32
-    };
-    (form ($start:literal .. $end:literal RiscV :: $form:ident)) => {
-        $crate::elf::RiscVInstruction::$form as u32
-    };
-    (form ($start:literal .. $end:literal LoongArch64 :: $form:ident)) => {
-        $crate::elf::LoongArch64Instruction::$form as u32
-    };
-    (form ($start:literal .. $end:literal Ppc64 :: $form:ident)) => {
-        $crate::elf::Ppc64Instruction::$form as u32
-    };
-    (machine ($bytes:literal bytes)) => { 0 };
-    (machine ($start:literal .. $end:literal AArch64 :: $form:ident)) => {
-        $crate::elf::EM_AARCH64
-    };
-    (machine ($start:literal .. $end:literal RiscV :: $form:ident)) => { $crate::elf::EM_RISCV };
-    (machine ($start:literal .. $end:literal LoongArch64 :: $form:ident)) => {
-        $crate::elf::EM_LOONGARCH
-    };
-    (machine ($start:literal .. $end:literal Ppc64 :: $form:ident)) => { $crate::elf::EM_PPC64 };
-    (is_bits ($bytes:literal bytes)) => { 0 };
-    (is_bits $size:tt) => { 1 };
-    (byte_size ($bytes:literal bytes)) => { $bytes };
-    (byte_size $size:tt) => { 0 };
-    (first_bit ($bytes:literal bytes)) => { 0 };
-    (first_bit ($start:literal .. $end:literal $architecture:ident :: $form:ident)) => { $start };
-    (end_bit ($bytes:literal bytes)) => { 0 };
-    (end_bit ($start:literal .. $end:literal $architecture:ident :: $form:ident)) => { $end };
-    (mask) => { 0 };
-    (mask PLACE_PAGES) => { 1 };
-    (mask ENTRY_PAGES) => { 2 };
-    (mask GOT_PAGE) => { 3 };
-    (thunkable) => { 0 };
-    (thunkable true) => { 1 };
-    (alignment) => { 1 };
-    (alignment $alignment:literal) => { $alignment };
-    (bias) => { 0 };
-    (bias $bias:expr) => { $bias };
-}
-
-/// Whether `write` takes rows of a kind and a size: not those of ULEB128 numbers and of `Call30`.
-macro_rules! is_supported {
-    (Relative, (0 bytes)) => { false };
-    (PairSubtractionULEB128RiscV, $size:tt) => { false };
-    (PairSubtractionULEB128LoongArch, $size:tt) => { false };
-    ($kind:ident, ($start:literal .. $end:literal LoongArch64 :: Call30)) => { false };
-    ($kind:ident, $size:tt) => { true };
-}
-
-/// Whether rows of a kind and a size take all values, whatever instruction there is: not those at
-/// which a word of DQ-form, a `jirl` or a MOVK may stand, nor those of `c.lui`.
-macro_rules! takes_all {
-    ($kind:ident, ($start:literal .. $end:literal Ppc64 :: Ds)) => { false };
-    (AbsoluteLowPart, ($start:literal .. $end:literal LoongArch64 :: Shift10)) => { false };
-    ($kind:ident, ($start:literal .. $end:literal AArch64 :: Movnz)) => { false };
-    ($kind:ident, ($start:literal .. $end:literal RiscV :: CluiType)) => { false };
-    ($kind:ident, $size:tt) => { $crate::elf::rows::is_supported!($kind, $size) };
-}
-
-/// How many bytes a row writes.
-macro_rules! window {
-    (($bytes:literal bytes)) => { $bytes };
-    (($start:literal .. $end:literal RiscV :: $form:ident)) => {
-        $crate::riscv64::forms::WINDOWS[$crate::elf::RiscVInstruction::$form as usize]
-    };
-    (($start:literal .. $end:literal LoongArch64 :: Call30)) => { 8 };
-    (($start:literal .. $end:literal LoongArch64 :: Call36)) => { 8 };
-    (($start:literal .. $end:literal Ppc64 :: Prefixed)) => { 8 };
-    (($start:literal .. $end:literal $architecture:ident :: $form:ident)) => { 4 };
-}
-
-/// What a linker asks of a row, `facts_of` of `specs/`, by its kind and size.
-macro_rules! facts {
-    ($kind:ident, $size:tt) => {
-        $crate::elf::RowFacts {
-            entry: $crate::elf::rows::entry!($kind, $size),
-            entry_has_addend: $crate::elf::rows::fact!(addend $kind, $size),
-            is_branch: $crate::elf::rows::fact!(branch $size),
-            may_use_stub: $crate::elf::rows::fact!(stub $kind, $size),
-            stub_only_if_undefined: $crate::elf::rows::fact!(bound $size),
-            is_word: $crate::elf::rows::fact!(word $kind, $size),
-            depends_on_load: $crate::elf::rows::fact!(load $kind, $size),
-            way: $crate::elf::rows::way!($kind, $size),
-            length: $crate::elf::rows::length!($size),
-        }
-    };
-}
-
-/// The entry that a row's formula has.
-macro_rules! entry {
-    ($kind:ident, ($start:literal .. $end:literal RiscV :: IType)) => {
-        $crate::elf::EntryUse::Without
-    };
-    (PltRelGotBase, ($start:literal .. $end:literal Ppc64 :: $form:ident)) => {
-        $crate::elf::EntryUse::Address
-    };
-    (PltRelative, ($start:literal .. $end:literal Ppc64 :: $form:ident)) => {
-        $crate::elf::EntryUse::Address
-    };
-    ($kind:ident, ($start:literal .. $end:literal LoongArch64 :: $form:ident)) => {
-        $crate::elf::rows::class!(low_half $kind)
-    };
-    ($kind:ident, $size:tt) => { $crate::elf::rows::class!(use_of $kind) };
-}
-
-/// What is made of the entry that a kind's formula has.
-macro_rules! class {
-    ($make:ident GotRelative) => { $crate::elf::rows::class!(@ $make Address) };
-    ($make:ident GotRelativeLoongArch64) => { $crate::elf::rows::class!(@ $make Address) };
-    ($make:ident GotRelGotBase) => { $crate::elf::rows::class!(@ $make Address) };
-    ($make:ident Got) => { $crate::elf::rows::class!(@ $make Address) };
-    ($make:ident GotTpOff) => { $crate::elf::rows::class!(@ $make ThreadOffset) };
-    ($make:ident GotTpOffGot) => { $crate::elf::rows::class!(@ $make ThreadOffset) };
-    ($make:ident GotTpOffGotBase) => { $crate::elf::rows::class!(@ $make ThreadOffset) };
-    ($make:ident GotTpOffLoongArch64) => { $crate::elf::rows::class!(@ $make ThreadOffset) };
-    ($make:ident TlsGd) => { $crate::elf::rows::class!(@ $make ModuleOffset) };
-    ($make:ident TlsGdGot) => { $crate::elf::rows::class!(@ $make ModuleOffset) };
-    ($make:ident TlsGdGotBase) => { $crate::elf::rows::class!(@ $make ModuleOffset) };
-    ($make:ident TlsLd) => { $crate::elf::rows::class!(@ $make Module) };
-    ($make:ident TlsLdGot) => { $crate::elf::rows::class!(@ $make Module) };
-    ($make:ident TlsLdGotBase) => { $crate::elf::rows::class!(@ $make Module) };
-    ($make:ident TlsDesc) => { $crate::elf::rows::class!(@ $make Descriptor) };
-    ($make:ident TlsDescGot) => { $crate::elf::rows::class!(@ $make Descriptor) };
-    ($make:ident TlsDescGotBase) => { $crate::elf::rows::class!(@ $make Descriptor) };
-    ($make:ident TlsDescLoongArch64) => { $crate::elf::rows::class!(@ $make Descriptor) };
-    ($make:ident $kind:ident) => { $crate::elf::rows::class!(@ $make Without) };
-    (@ low_half Address) => { $crate::elf::EntryUse::LowHalf };
-    (@ low_half $entry:ident) => { $crate::elf::EntryUse::$entry };
-    (@ use_of $entry:ident) => { $crate::elf::EntryUse::$entry };
-    (@ has_addend Module) => { false };
-    (@ has_addend Without) => { false };
-    (@ has_addend $entry:ident) => { true };
-}
-
-/// A fact of a row.
-macro_rules! fact {
-    (addend PltRelGotBase, ($start:literal .. $end:literal Ppc64 :: $form:ident)) => { true };
-    (addend PltRelative, ($start:literal .. $end:literal Ppc64 :: $form:ident)) => { true };
-    (addend $kind:ident, ($start:literal .. $end:literal Ppc64 :: $form:ident)) => {
-        $crate::elf::rows::class!(has_addend $kind)
-    };
-    (addend $kind:ident, ($start:literal .. $end:literal AArch64 :: $form:ident)) => {
-        $crate::elf::rows::class!(has_addend $kind)
-    };
-    (bound ($start:literal .. $end:literal AArch64 :: TstBr)) => { true };
-    (bound ($start:literal .. $end:literal AArch64 :: Bcond)) => { true };
-    (bound ($start:literal .. $end:literal RiscV :: BType)) => { true };
-    (bound ($start:literal .. $end:literal RiscV :: JType)) => { true };
-    (bound ($start:literal .. $end:literal RiscV :: CbType)) => { true };
-    (bound ($start:literal .. $end:literal RiscV :: CjType)) => { true };
-    (branch ($start:literal .. $end:literal AArch64 :: JumpCall)) => { true };
-    (branch ($start:literal .. $end:literal RiscV :: UiType)) => { true };
-    (branch ($start:literal .. $end:literal Ppc64 :: Branch14)) => { true };
-    (branch ($start:literal .. $end:literal Ppc64 :: Branch24)) => { true };
-    (branch ($start:literal .. $end:literal LoongArch64 :: Branch21)) => { true };
-    (branch ($start:literal .. $end:literal LoongArch64 :: Branch26)) => { true };
-    (branch ($start:literal .. $end:literal LoongArch64 :: Call30)) => { true };
-    (branch ($start:literal .. $end:literal LoongArch64 :: Call36)) => { true };
-    (branch (2 .. 18 LoongArch64 :: Shift10)) => { true };
-    (branch $size:tt) => { $crate::elf::rows::fact!(bound $size) };
-    (stub PltRelGotBase, ($start:literal .. $end:literal Ppc64 :: $form:ident)) => { false };
-    (stub PltRelative, ($start:literal .. $end:literal Ppc64 :: $form:ident)) => { false };
-    (stub PltRelGotBase, $size:tt) => { true };
-    (stub PltRelative, $size:tt) => { true };
-    (stub $kind:ident, $size:tt) => { $crate::elf::rows::fact!(branch $size) };
-    (word Absolute, (8 bytes)) => { true };
-    (load $kind:ident, ($start:literal .. 12 $architecture:ident :: $form:ident)) => { false };
-    (load $kind:ident, ($start:literal .. $end:literal RiscV :: IType)) => { false };
-    (load $kind:ident, ($start:literal .. $end:literal RiscV :: SType)) => { false };
-    (load Absolute, $size:tt) => { true };
-    (load AbsoluteLowPart, $size:tt) => { true };
-    (load Got, $size:tt) => { true };
-    (load TlsGdGot, $size:tt) => { true };
-    (load TlsLdGot, $size:tt) => { true };
-    (load GotTpOffGot, $size:tt) => { true };
-    (load TlsDescGot, $size:tt) => { true };
-    ($fact:ident $($given:tt)*) => { false };
-}
-
-/// How the value of a row is found.
-macro_rules! way {
-    ($kind:ident, (0 bytes)) => { $crate::elf::Way::Other };
-    (TpOff, $size:tt) => { $crate::elf::Way::Other };
-    (DtpOff, $size:tt) => { $crate::elf::Way::ModuleOffset };
-    (PairSubtractionULEB128RiscV, $size:tt) => { $crate::elf::Way::Other };
-    (PairSubtractionULEB128LoongArch, $size:tt) => { $crate::elf::Way::Other };
-    (RelativeRiscVLow12, $size:tt) => { $crate::elf::Way::Low };
-    (TlsDesc, ($start:literal .. $end:literal RiscV :: IType)) => { $crate::elf::Way::Other };
-    (PltRelGotBase, ($start:literal .. $end:literal Ppc64 :: $form:ident)) => {
-        $crate::elf::Way::Other
-    };
-    (PltRelative, ($start:literal .. $end:literal Ppc64 :: $form:ident)) => {
-        $crate::elf::Way::Other
-    };
-    (Relative, ($start:literal .. $end:literal RiscV :: UType)) => { $crate::elf::Way::High };
-    (GotRelative, ($start:literal .. $end:literal RiscV :: UType)) => { $crate::elf::Way::High };
-    (GotTpOff, ($start:literal .. $end:literal RiscV :: UType)) => { $crate::elf::Way::High };
-    (TlsGd, ($start:literal .. $end:literal RiscV :: UType)) => { $crate::elf::Way::High };
-    ($kind:ident, $size:tt) => { $crate::elf::Way::Plain };
-}
-
-/// How long the instruction of a row is.
-macro_rules! length {
-    (($start:literal .. $end:literal RiscV :: CbType)) => { $crate::elf::Length::Two };
-    (($start:literal .. $end:literal RiscV :: CjType)) => { $crate::elf::Length::Two };
-    (($start:literal .. $end:literal RiscV :: CluiType)) => { $crate::elf::Length::Two };
-    (($start:literal .. $end:literal RiscV :: $form:ident)) => { $crate::elf::Length::Four };
-    (($start:literal .. $end:literal Ppc64 :: Prefixed)) => { $crate::elf::Length::Prefixed };
-    ($size:tt) => { $crate::elf::Length::Any };
-}
-
-/// The terms of a row's formula.
-macro_rules! terms {
-    ($kind:ident, $size:tt, ($($mask:ident)?), ($($bias:expr)?)) => {
-        $crate::elf::value::FormulaTerms {
-            bias: $crate::elf::rows::number!(bias $($bias)?),
-            symbol: $crate::elf::rows::bits!(symbol $($mask)?),
-            entry: $crate::elf::rows::bits!(entry $($mask)?),
-            entry_addend: $crate::elf::rows::bits!(entry_addend $size),
-            place: $crate::elf::rows::bits!(place $kind, $size, $($mask)?),
-            got: $crate::elf::rows::bits!(got $($mask)?),
-        }
-    };
-}
-
-/// The bits of a term that count: all, those of its page of 4 KiB, or none.
-macro_rules! bits {
-    (symbol PLACE_PAGES) => { !0xfff };
-    (entry ENTRY_PAGES) => { !0xfff };
-    (place Relative, (0 bytes), $($mask:ident)?) => { 0 };
-    (place $kind:ident, $size:tt, PLACE_PAGES) => { !0xfff };
-    (place $kind:ident, $size:tt, ENTRY_PAGES) => { !0xfff };
-    (got GOT_PAGE) => { !0xfff };
-    (entry_addend ($start:literal .. $end:literal AArch64 :: $form:ident)) => { 0 };
-    (entry_addend ($start:literal .. $end:literal Ppc64 :: $form:ident)) => { 0 };
-    ($term:ident $($given:tt)*) => { u64::MAX };
+/// A bound of a range, or of a reach: `any`; `signed`, `unsigned` or `signed_or_unsigned` numbers
+/// of n bits; those `within a..b`; or those of a `pair` of RISC-V, whose low part is signed, so that
+/// it reaches 0x800 less than 32 signed bits.
+macro_rules! bound {
+    (has_range any) => { 0 };
+    (has_range $range:ident) => { 1 };
+    (least [] any) => { i64::MIN };
+    (last [] any) => { i64::MAX };
+    (least [] pair) => { -0x80000800 };
+    (last [] pair) => { 0x7ffff7ff };
+    (least [] $($range:tt)+) => { $crate::elf::rows::bound!(min $($range)+) };
+    (last [] $($range:tt)+) => { $crate::elf::rows::bound!(max $($range)+) - 1 };
+    ($end:ident [$($reach:tt)+] $($range:tt)+) => { $crate::elf::rows::bound!($end [] $($reach)+) };
+    ($end:ident any) => { 0 };
+    ($end:ident pair) => { $crate::elf::rows::bound!($end signed_or_unsigned 32) };
+    (min within $min:literal .. $max:literal) => { $min };
+    (max within $min:literal .. $max:literal) => { $max };
+    (min unsigned $bits:literal) => { 0 };
+    (min $range:ident $bits:literal) => { -(1 << ($bits - 1)) };
+    (max signed $bits:literal) => { 1 << ($bits - 1) };
+    (max $range:ident $bits:literal) => { 1 << $bits };
 }
 
 /// Which addresses of a row are cut to their pages of 4 KiB.
 macro_rules! mask {
     () => { None };
-    (PLACE_PAGES) => {
-        Some($crate::elf::PageMask::SymbolPlusAddendAndPosition(
-            $crate::elf::PageMaskPattern::Size4KB,
-        ))
-    };
-    (ENTRY_PAGES) => {
-        Some($crate::elf::PageMask::GotEntryAndPosition($crate::elf::PageMaskPattern::Size4KB))
-    };
-    (GOT_PAGE) => {
-        Some($crate::elf::PageMask::GotBase($crate::elf::PageMaskPattern::Size4KB))
-    };
+    (PLACE_PAGES) => { $crate::elf::rows::mask!(@ SymbolPlusAddendAndPosition) };
+    (ENTRY_PAGES) => { $crate::elf::rows::mask!(@ GotEntryAndPosition) };
+    (GOT_PAGE) => { $crate::elf::rows::mask!(@ GotBase) };
+    (@ $mask:ident) => { Some($crate::elf::PageMask::$mask($crate::elf::PageMaskPattern::Size4KB)) };
 }
 
-/// A row: its kind, its `size!`, its range, and the fields that most rows don't have. Ranges are
-/// `any`; `signed`, `unsigned` or `signed_or_unsigned` numbers of n bits; or those `within`
-/// two bounds, the second one excluded. `reach` gives the row's reach where that isn't its range.
-macro_rules! row {
-    ($kind:ident, $size:tt, any $(, $($field:tt)*)?) => {
-        $crate::elf::rows::row!(@ $kind, $size, (0, 0, 0, i64::MIN, i64::MAX) $(, $($field)*)?)
+/// The number of a mask; or the bits of a term that count: all, those of its page of 4 KiB, or none.
+macro_rules! bits {
+    (number) => { 0 };
+    (number PLACE_PAGES) => { 1 };
+    (number ENTRY_PAGES) => { 2 };
+    (number GOT_PAGE) => { 3 };
+    (symbol PLACE_PAGES) => { !0xfff };
+    (entry ENTRY_PAGES) => { !0xfff };
+    (got GOT_PAGE) => { !0xfff };
+    (place PLACE_PAGES $($row:tt)+) => { !0xfff };
+    (place ENTRY_PAGES $($row:tt)+) => { !0xfff };
+    (place Bytes Bytes Relative 0 0 0) => { 0 };
+    (entry_addend $form:ident AArch64 $($row:tt)+) => { 0 };
+    (entry_addend $form:ident Ppc64 $($row:tt)+) => { 0 };
+    ($term:ident $($given:tt)*) => { u64::MAX };
+}
+
+// The macros below take a row as its form, the form's architecture, its kind, its first bit, its end
+// bit and its bytes. Where its value goes into bytes, its form and architecture are `Bytes`.
+
+/// A fact of a row: what a write of it tests, and `facts_of` of `specs/`.
+macro_rules! fact {
+    // `write` doesn't take those of ULEB128 numbers and of `Call30`
+    (rejected Bytes Bytes Relative 0 0 0) => { true };
+    (rejected $form:ident $machine:ident PairSubtractionULEB128RiscV $($bits:tt)+) => { true };
+    (rejected $form:ident $machine:ident PairSubtractionULEB128LoongArch $($bits:tt)+) => { true };
+    (rejected Call30 $($row:tt)+) => { true };
+    // it looks where a word of DQ-form, a `jirl` or a MOVK may stand, and at the value of `c.lui`
+    (looks Ds $($row:tt)+) => { true };
+    (looks Shift10 LoongArch64 AbsoluteLowPart $($bits:tt)+) => { true };
+    (looks Movnz $($row:tt)+) => { true };
+    (looks CluiType $($row:tt)+) => { true };
+    (looks $($row:tt)+) => { $crate::elf::rows::fact!(rejected $($row)+) };
+    (window Bytes Bytes $kind:ident 0 0 $bytes:tt) => { $bytes };
+    (window $form:ident RiscV $($row:tt)+) => {
+        $crate::riscv64::forms::WINDOWS[$crate::elf::RiscVInstruction::$form as usize]
     };
-    ($kind:ident, $size:tt, any reach signed $bits:literal $(, $($field:tt)*)?) => {
-        $crate::elf::rows::row!(
-            @ $kind, $size, (0, 0, 0, -(1 << ($bits - 1)), (1 << ($bits - 1)) - 1)
-            $(, $($field)*)?
-        )
+    (window Call30 $($row:tt)+) => { 8 };
+    (window Call36 $($row:tt)+) => { 8 };
+    (window Prefixed $($row:tt)+) => { 8 };
+    (window $($row:tt)+) => { 4 };
+    (length CbType $($row:tt)+) => { $crate::elf::Length::Two };
+    (length CjType $($row:tt)+) => { $crate::elf::Length::Two };
+    (length CluiType $($row:tt)+) => { $crate::elf::Length::Two };
+    (length $form:ident RiscV $($row:tt)+) => { $crate::elf::Length::Four };
+    (length Prefixed $($row:tt)+) => { $crate::elf::Length::Prefixed };
+    (length $($row:tt)+) => { $crate::elf::Length::Any };
+    (addend $form:ident Ppc64 PltRelGotBase $($bits:tt)+) => { true };
+    (addend $form:ident Ppc64 PltRelative $($bits:tt)+) => { true };
+    (addend $form:ident Ppc64 $kind:ident $($bits:tt)+) => {
+        $crate::elf::rows::entry!(has_addend $kind)
     };
-    ($kind:ident, $size:tt, signed $bits:literal $(, $($field:tt)*)?) => {
-        $crate::elf::rows::row!(
-            $kind, $size, within -(1 << ($bits - 1)), 1 << ($bits - 1) $(, $($field)*)?
-        )
+    (addend $form:ident AArch64 $kind:ident $($bits:tt)+) => {
+        $crate::elf::rows::entry!(has_addend $kind)
     };
-    ($kind:ident, $size:tt, unsigned $bits:literal $(, $($field:tt)*)?) => {
-        $crate::elf::rows::row!($kind, $size, within 0, 1 << $bits $(, $($field)*)?)
+    (bound TstBr $($row:tt)+) => { true };
+    (bound Bcond $($row:tt)+) => { true };
+    (bound BType $($row:tt)+) => { true };
+    (bound JType $($row:tt)+) => { true };
+    (bound CbType $($row:tt)+) => { true };
+    (bound CjType $($row:tt)+) => { true };
+    (branch JumpCall $($row:tt)+) => { true };
+    (branch UiType $($row:tt)+) => { true };
+    (branch Branch14 $($row:tt)+) => { true };
+    (branch Branch24 $($row:tt)+) => { true };
+    (branch Branch21 $($row:tt)+) => { true };
+    (branch Branch26 $($row:tt)+) => { true };
+    (branch Call30 $($row:tt)+) => { true };
+    (branch Call36 $($row:tt)+) => { true };
+    (branch Shift10 LoongArch64 $kind:ident 2 18 0) => { true };
+    (branch $($row:tt)+) => { $crate::elf::rows::fact!(bound $($row)+) };
+    (stub $form:ident Ppc64 PltRelGotBase $($bits:tt)+) => { false };
+    (stub $form:ident Ppc64 PltRelative $($bits:tt)+) => { false };
+    (stub $form:ident $machine:ident PltRelGotBase $($bits:tt)+) => { true };
+    (stub $form:ident $machine:ident PltRelative $($bits:tt)+) => { true };
+    (stub $($row:tt)+) => { $crate::elf::rows::fact!(branch $($row)+) };
+    (word Bytes Bytes Absolute 0 0 8) => { true };
+    (load $form:ident $machine:ident $kind:ident $start:tt 12 0) => { false };
+    (load IType $($row:tt)+) => { false };
+    (load SType $($row:tt)+) => { false };
+    (load $form:ident $machine:ident Absolute $($bits:tt)+) => { true };
+    (load $form:ident $machine:ident AbsoluteLowPart $($bits:tt)+) => { true };
+    (load $form:ident $machine:ident Got $($bits:tt)+) => { true };
+    (load $form:ident $machine:ident TlsGdGot $($bits:tt)+) => { true };
+    (load $form:ident $machine:ident TlsLdGot $($bits:tt)+) => { true };
+    (load $form:ident $machine:ident GotTpOffGot $($bits:tt)+) => { true };
+    (load $form:ident $machine:ident TlsDescGot $($bits:tt)+) => { true };
+    (way Bytes Bytes $kind:ident 0 0 0) => { $crate::elf::Way::Other };
+    (way $form:ident $machine:ident TpOff $($bits:tt)+) => { $crate::elf::Way::Other };
+    (way $form:ident $machine:ident DtpOff $($bits:tt)+) => { $crate::elf::Way::ModuleOffset };
+    (way Bytes Bytes PairSubtractionULEB128RiscV $($bits:tt)+) => { $crate::elf::Way::Other };
+    (way Bytes Bytes PairSubtractionULEB128LoongArch $($bits:tt)+) => { $crate::elf::Way::Other };
+    (way $form:ident RiscV RelativeRiscVLow12 $($bits:tt)+) => { $crate::elf::Way::Low };
+    (way IType RiscV TlsDesc $($bits:tt)+) => { $crate::elf::Way::Other };
+    (way $form:ident Ppc64 PltRelGotBase $($bits:tt)+) => { $crate::elf::Way::Other };
+    (way $form:ident Ppc64 PltRelative $($bits:tt)+) => { $crate::elf::Way::Other };
+    (way UType RiscV Relative $($bits:tt)+) => { $crate::elf::Way::High };
+    (way UType RiscV GotRelative $($bits:tt)+) => { $crate::elf::Way::High };
+    (way UType RiscV GotTpOff $($bits:tt)+) => { $crate::elf::Way::High };
+    (way UType RiscV TlsGd $($bits:tt)+) => { $crate::elf::Way::High };
+    (way $($row:tt)+) => { $crate::elf::Way::Plain };
+    ($fact:ident $($row:tt)+) => { false };
+}
+
+/// The entry that a row's formula has; or what is made of that of a kind's formula.
+macro_rules! entry {
+    (IType $($row:tt)+) => { $crate::elf::EntryUse::Without };
+    ($form:ident Ppc64 PltRelGotBase $($bits:tt)+) => { $crate::elf::EntryUse::Address };
+    ($form:ident Ppc64 PltRelative $($bits:tt)+) => { $crate::elf::EntryUse::Address };
+    ($form:ident LoongArch64 $kind:ident $start:tt $end:tt $bytes:tt) => {
+        $crate::elf::rows::entry!(low_half $kind)
     };
-    ($kind:ident, $size:tt, signed_or_unsigned $bits:literal $(, $($field:tt)*)?) => {
-        $crate::elf::rows::row!(
-            $kind, $size, within -(1 << ($bits - 1)), 1 << $bits $(, $($field)*)?
-        )
+    ($form:ident $machine:ident $kind:ident $start:tt $end:tt $bytes:tt) => {
+        $crate::elf::rows::entry!(use_of $kind)
     };
-    ($kind:ident, $size:tt, within $min:expr, $max:expr $(, $($field:tt)*)?) => {
-        $crate::elf::rows::row!(@ $kind, $size, (1, $min, $max, $min, $max - 1) $(, $($field)*)?)
-    };
-    (
-        $kind:ident, $size:tt, signed $bits:literal reach $min:expr, $max:expr
-        $(, $($field:tt)*)?
-    ) => {
-        $crate::elf::rows::row!(
-            @ $kind, $size, (1, -(1 << ($bits - 1)), 1 << ($bits - 1), $min, $max - 1)
-            $(, $($field)*)?
-        )
-    };
-    (
-        $kind:ident, $size:tt, signed_or_unsigned $bits:literal reach $min:expr, $max:expr
-        $(, $($field:tt)*)?
-    ) => {
-        $crate::elf::rows::row!(
-            @ $kind, $size, (1, -(1 << ($bits - 1)), 1 << $bits, $min, $max - 1)
-            $(, $($field)*)?
-        )
-    };
-    (
-        $kind:ident, $size:tt, unsigned $bits:literal reach $min:expr, $max:expr
-        $(, $($field:tt)*)?
-    ) => {
-        $crate::elf::rows::row!(
-            @ $kind, $size, (1, 0, 1 << $bits, $min, $max - 1) $(, $($field)*)?
-        )
-    };
-    (
-        @ $kind:ident, $size:tt,
-        ($has_range:expr, $min:expr, $max:expr, $least:expr, $last:expr)
-        $(, alignment: $alignment:literal)?
-        $(, mask: $mask:ident)?
-        $(, bias: $bias:expr)?
-        $(, thunkable: $thunkable:ident)?
-        $(, origin: $origin:ident)?
-    ) => {
-        $crate::elf::rows::TableRow {
-            kind: $crate::elf::RelocationKind::$kind,
-            size: $crate::elf::rows::size!($size),
-            mask: $crate::elf::rows::mask!($($mask)?),
-            numbers: $crate::elf::RelocationNumbers {
-                kind: $crate::elf::RelocationKind::$kind as u32,
-                form: $crate::elf::rows::number!(form $size),
-                mask: $crate::elf::rows::number!(mask $($mask)?),
-                machine: $crate::elf::rows::number!(machine $size),
-                is_bits: $crate::elf::rows::number!(is_bits $size),
-                byte_size: $crate::elf::rows::number!(byte_size $size),
-                first_bit: $crate::elf::rows::number!(first_bit $size),
-                end_bit: $crate::elf::rows::number!(end_bit $size),
-                has_range: $has_range,
-                thunkable: $crate::elf::rows::number!(thunkable $($thunkable)?),
-                implicit_addend: 0,
-                min: $min,
-                max: $max,
-                alignment: $crate::elf::rows::number!(alignment $($alignment)?),
-                bias: $crate::elf::rows::number!(bias $($bias)?),
-            },
-            tests: $crate::elf::rows::WriteTests {
-                is_supported: $crate::elf::rows::is_supported!($kind, $size),
-                takes_all: $crate::elf::rows::takes_all!($kind, $size),
-                low_bits: $crate::elf::rows::number!(alignment $($alignment)?) - 1,
-                window: $crate::elf::rows::window!($size),
-                least: $least,
-                last: $last,
-            },
-            terms: $crate::elf::rows::terms!($kind, $size, ($($mask)?), ($($bias)?)),
-            facts: $crate::elf::rows::facts!($kind, $size),
-            is_own: $crate::elf::rows::is_own!($($origin)?),
-        }
-    };
+    ($make:ident GotRelative) => { $crate::elf::rows::entry!(@ $make Address) };
+    ($make:ident GotRelativeLoongArch64) => { $crate::elf::rows::entry!(@ $make Address) };
+    ($make:ident GotRelGotBase) => { $crate::elf::rows::entry!(@ $make Address) };
+    ($make:ident Got) => { $crate::elf::rows::entry!(@ $make Address) };
+    ($make:ident GotTpOff) => { $crate::elf::rows::entry!(@ $make ThreadOffset) };
+    ($make:ident GotTpOffGot) => { $crate::elf::rows::entry!(@ $make ThreadOffset) };
+    ($make:ident GotTpOffGotBase) => { $crate::elf::rows::entry!(@ $make ThreadOffset) };
+    ($make:ident GotTpOffLoongArch64) => { $crate::elf::rows::entry!(@ $make ThreadOffset) };
+    ($make:ident TlsGd) => { $crate::elf::rows::entry!(@ $make ModuleOffset) };
+    ($make:ident TlsGdGot) => { $crate::elf::rows::entry!(@ $make ModuleOffset) };
+    ($make:ident TlsGdGotBase) => { $crate::elf::rows::entry!(@ $make ModuleOffset) };
+    ($make:ident TlsLd) => { $crate::elf::rows::entry!(@ $make Module) };
+    ($make:ident TlsLdGot) => { $crate::elf::rows::entry!(@ $make Module) };
+    ($make:ident TlsLdGotBase) => { $crate::elf::rows::entry!(@ $make Module) };
+    ($make:ident TlsDesc) => { $crate::elf::rows::entry!(@ $make Descriptor) };
+    ($make:ident TlsDescGot) => { $crate::elf::rows::entry!(@ $make Descriptor) };
+    ($make:ident TlsDescGotBase) => { $crate::elf::rows::entry!(@ $make Descriptor) };
+    ($make:ident TlsDescLoongArch64) => { $crate::elf::rows::entry!(@ $make Descriptor) };
+    ($make:ident $kind:ident) => { $crate::elf::rows::entry!(@ $make Without) };
+    (@ low_half Address) => { $crate::elf::EntryUse::LowHalf };
+    (@ has_addend Module) => { false };
+    (@ has_addend Without) => { false };
+    (@ has_addend $entry:ident) => { true };
+    (@ $make:ident $entry:ident) => { $crate::elf::EntryUse::$entry };
 }
 
 pub(crate) use bits;
-pub(crate) use class;
-pub(crate) use code_of_name;
+pub(crate) use bound;
 pub(crate) use entry;
 pub(crate) use fact;
-pub(crate) use facts;
-pub(crate) use index_of_name;
-pub(crate) use insn;
-pub(crate) use is_own;
-pub(crate) use is_supported;
-pub(crate) use length;
+pub(crate) use listed;
 pub(crate) use mask;
-pub(crate) use name_of_code;
-pub(crate) use number;
 pub(crate) use row;
-pub(crate) use size;
-pub(crate) use table;
-pub(crate) use takes_all;
-pub(crate) use terms;
-pub(crate) use text_of_name;
-pub(crate) use way;
-pub(crate) use window;

@@ -284,18 +284,12 @@ impl RelocationKindInfo {
             | RelocationKind::TlsDescGot => terms.entry(operands),
             RelocationKind::SymRelGotBase => Ok(terms.symbol(operands).wrapping_sub(got)),
             RelocationKind::PltRelGotBase => {
-                Ok(
-                    terms
-                        .plt(self.size.loads_plt_word(self.kind), operands)?
-                        .wrapping_sub(got),
-                )
+                let is_word = self.size.loads_plt_word(self.kind);
+                Ok(terms.plt(is_word, operands)?.wrapping_sub(got))
             }
             RelocationKind::PltRelative => {
-                Ok(
-                    terms
-                        .plt(self.size.loads_plt_word(self.kind), operands)?
-                        .wrapping_sub(place),
-                )
+                let is_word = self.size.loads_plt_word(self.kind);
+                Ok(terms.plt(is_word, operands)?.wrapping_sub(place))
             }
             RelocationKind::SymbolSize => {
                 Ok(terms.sum(operands.symbol_size, operands.addend.cast_unsigned()))

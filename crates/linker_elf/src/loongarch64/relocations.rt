@@ -5,17 +5,13 @@ ghost use denote.Enum.Declared.{tag_of};
 ghost use Rattle.linker_elf.specs.Agrees.{LoongArchRowAgrees, RowFits};
 ghost use Rattle.linker_elf.specs.ElfNames.{IsNameOf, code_of, text_of};
 ghost use Rattle.linker_elf.specs.Readings.{LoongArchRowReadsNoOther};
-ghost use Rattle.linker_elf.specs.LoongArchRelocations.{loongarch_name};
-ghost use Rattle.linker_elf.specs.LoongArchRelocations.{loongarch_row, loongarch_uleb128_role};
-ghost use Rattle.linker_elf.specs.LoongArchRelocations.{loongarch_raw_row};
-ghost use Rattle.linker_elf.specs.Inner.RowTables.{raw_kind, with_raw_kind};
+ghost use Rattle.linker_elf.specs.LoongArchRelocations.{loongarch_name, loongarch_row};
+ghost use Rattle.linker_elf.specs.LoongArchRelocations.{loongarch_uleb128_role, loongarch_raw_row};
+ghost use Rattle.linker_elf.specs.Inner.RowTables.{with_raw_kind};
 ghost use Rattle.linker_elf.specs.contracts.loongarch64.relocations.LoongArch64Relocation as names;
 
 use crate::elf::choice_table::RelocationName;
-use crate::elf::rows::{
-    TableRow, code_of_name, index_of_name, name_of_code, raw_info_in, row, row_in, table,
-    text_of_name,
-};
+use crate::elf::rows::{TableRow, listed, raw_info_in, row_in};
 use crate::elf::{RelocationKind, RelocationKindInfo, Row, SIZE_2KB, Uleb128Role};
 use std::fmt;
 
@@ -106,126 +102,81 @@ pub enum LoongArch64Relocation {
 
 /// Each relocation: its code, its name and its row, in the order of the enum of names.
 macro_rules! relocations {
-    ($make:ident $arguments:tt) => {
-        $make! {
-            $arguments
-            {
-                0 R_LARCH_NONE => Some(row!(None, (0 bytes), any)),
-                1 R_LARCH_32 => Some(row!(Absolute, (4 bytes), signed_or_unsigned 32)),
-                2 R_LARCH_64 => Some(row!(Absolute, (8 bytes), any)),
-                8 R_LARCH_TLS_DTPREL32 => Some(row!(DtpOff, (4 bytes), any)),
-                9 R_LARCH_TLS_DTPREL64 => Some(row!(DtpOff, (8 bytes), any)),
-                20 R_LARCH_MARK_LA => Some(row!(None, (0 bytes), any, origin: own)),
-                47 R_LARCH_ADD8 => Some(row!(AbsoluteAddition, (1 bytes), any)),
-                48 R_LARCH_ADD16 => Some(row!(AbsoluteAddition, (2 bytes), any)),
-                49 R_LARCH_ADD24 => Some(row!(AbsoluteAddition, (3 bytes), any)),
-                50 R_LARCH_ADD32 => Some(row!(AbsoluteAddition, (4 bytes), any)),
-                51 R_LARCH_ADD64 => Some(row!(AbsoluteAddition, (8 bytes), any)),
-                52 R_LARCH_SUB8 => Some(row!(AbsoluteSubtraction, (1 bytes), any)),
-                53 R_LARCH_SUB16 => Some(row!(AbsoluteSubtraction, (2 bytes), any)),
-                54 R_LARCH_SUB24 => Some(row!(AbsoluteSubtraction, (3 bytes), any)),
-                55 R_LARCH_SUB32 => Some(row!(AbsoluteSubtraction, (4 bytes), any)),
-                56 R_LARCH_SUB64 => Some(row!(AbsoluteSubtraction, (8 bytes), any)),
-                64 R_LARCH_B16 =>
-                    Some(row!(Relative, (2..18 LoongArch64::Shift10), signed 18, alignment: 4)),
-                65 R_LARCH_B21 =>
-                    Some(row!(Relative, (2..23 LoongArch64::Branch21), signed 23, alignment: 4)),
-                66 R_LARCH_B26 =>
-                    Some(row!(PltRelative, (2..28 LoongArch64::Branch26), signed 28, alignment: 4)),
-                67 R_LARCH_ABS_HI20 => Some(row!(Absolute, (12..32 LoongArch64::Shift5), any)),
-                68 R_LARCH_ABS_LO12 => Some(row!(Absolute, (0..12 LoongArch64::Shift10), any)),
-                69 R_LARCH_ABS64_LO20 => Some(row!(Absolute, (32..52 LoongArch64::Shift5), any)),
-                70 R_LARCH_ABS64_HI12 => Some(row!(Absolute, (52..64 LoongArch64::Shift10), any)),
-                71 R_LARCH_PCALA_HI20 =>
-                    Some(row!(Relative, (12..32 LoongArch64::Shift5), any, mask: PLACE_PAGES,
-                        bias: SIZE_2KB)),
-                72 R_LARCH_PCALA_LO12 =>
-                    Some(row!(AbsoluteLowPart, (0..12 LoongArch64::Shift10), any)),
-                73 R_LARCH_PCALA64_LO20 =>
-                    Some(row!(RelativeLoongArchHigh, (32..52 LoongArch64::Shift5), any)),
-                74 R_LARCH_PCALA64_HI12 =>
-                    Some(row!(RelativeLoongArchHigh, (52..64 LoongArch64::Shift10), any)),
-                75 R_LARCH_GOT_PC_HI20 =>
-                    Some(row!(GotRelative, (12..32 LoongArch64::Shift5), any, mask: ENTRY_PAGES,
-                        bias: SIZE_2KB)),
-                76 R_LARCH_GOT_PC_LO12 => Some(row!(Got, (0..12 LoongArch64::Shift10), any)),
-                77 R_LARCH_GOT64_PC_LO20 =>
-                    Some(row!(GotRelativeLoongArch64, (32..52 LoongArch64::Shift5), any)),
-                78 R_LARCH_GOT64_PC_HI12 =>
-                    Some(row!(GotRelativeLoongArch64, (52..64 LoongArch64::Shift10), any)),
-                83 R_LARCH_TLS_LE_HI20 => Some(row!(TpOff, (12..32 LoongArch64::Shift5), any)),
-                84 R_LARCH_TLS_LE_LO12 => Some(row!(TpOff, (0..12 LoongArch64::Shift10), any)),
-                85 R_LARCH_TLS_LE64_LO20 => Some(row!(TpOff, (32..52 LoongArch64::Shift5), any)),
-                86 R_LARCH_TLS_LE64_HI12 => Some(row!(TpOff, (52..64 LoongArch64::Shift10), any)),
-                87 R_LARCH_TLS_IE_PC_HI20 =>
-                    Some(row!(GotTpOff, (12..32 LoongArch64::Shift5), any, mask: ENTRY_PAGES,
-                        bias: SIZE_2KB)),
-                88 R_LARCH_TLS_IE_PC_LO12 =>
-                    Some(row!(GotTpOffGot, (0..12 LoongArch64::Shift10), any)),
-                89 R_LARCH_TLS_IE64_PC_LO20 =>
-                    Some(row!(GotTpOffLoongArch64, (32..52 LoongArch64::Shift5), any)),
-                90 R_LARCH_TLS_IE64_PC_HI12 =>
-                    Some(row!(GotTpOffLoongArch64, (52..64 LoongArch64::Shift10), any)),
-                91 R_LARCH_TLS_IE_HI20 =>
-                    Some(row!(GotTpOffGot, (12..32 LoongArch64::Shift5), any)),
-                92 R_LARCH_TLS_IE_LO12 =>
-                    Some(row!(GotTpOffGot, (0..12 LoongArch64::Shift10), any)),
-                93 R_LARCH_TLS_IE64_LO20 =>
-                    Some(row!(GotTpOffGot, (32..52 LoongArch64::Shift5), any)),
-                94 R_LARCH_TLS_IE64_HI12 =>
-                    Some(row!(GotTpOffGot, (52..64 LoongArch64::Shift10), any)),
-                95 R_LARCH_TLS_LD_PC_HI20 =>
-                    Some(row!(TlsGd, (12..32 LoongArch64::Shift5), any, mask: ENTRY_PAGES,
-                        bias: SIZE_2KB)),
-                96 R_LARCH_TLS_LD_HI20 => Some(row!(TlsGdGot, (12..32 LoongArch64::Shift5), any)),
-                97 R_LARCH_TLS_GD_PC_HI20 =>
-                    Some(row!(TlsGd, (12..32 LoongArch64::Shift5), any, mask: ENTRY_PAGES,
-                        bias: SIZE_2KB)),
-                98 R_LARCH_TLS_GD_HI20 => Some(row!(TlsGdGot, (12..32 LoongArch64::Shift5), any)),
-                99 R_LARCH_32_PCREL => Some(row!(Relative, (4 bytes), signed 32)),
-                100 R_LARCH_RELAX => Some(row!(None, (0 bytes), any)),
-                102 R_LARCH_ALIGN => Some(row!(Alignment, (0 bytes), any)),
-                103 R_LARCH_PCREL20_S2 =>
-                    Some(row!(Relative, (2..22 LoongArch64::Shift5), signed 22, alignment: 4)),
-                105 R_LARCH_ADD6 => Some(row!(AbsoluteAdditionWord6, (1 bytes), any)),
-                106 R_LARCH_SUB6 => Some(row!(AbsoluteSubtractionWord6, (1 bytes), any)),
-                107 R_LARCH_ADD_ULEB128 => Some(row!(Relative, (0 bytes), any)),
-                108 R_LARCH_SUB_ULEB128 =>
-                    Some(row!(PairSubtractionULEB128LoongArch, (8 bytes), any)),
-                109 R_LARCH_64_PCREL => Some(row!(Relative, (8 bytes), any)),
-                110 R_LARCH_CALL36 =>
-                    Some(row!(PltRelative, (2..38 LoongArch64::Call36), signed 38
-                        reach -0x2000020000, 0x1ffffe0000, alignment: 4)),
-                111 R_LARCH_TLS_DESC_PC_HI20 =>
-                    Some(row!(TlsDesc, (12..32 LoongArch64::Shift5), any, mask: ENTRY_PAGES,
-                        bias: SIZE_2KB)),
-                112 R_LARCH_TLS_DESC_PC_LO12 =>
-                    Some(row!(TlsDescGot, (0..12 LoongArch64::Shift10), any)),
-                113 R_LARCH_TLS_DESC64_PC_LO20 =>
-                    Some(row!(TlsDescLoongArch64, (32..52 LoongArch64::Shift5), any)),
-                114 R_LARCH_TLS_DESC64_PC_HI12 =>
-                    Some(row!(TlsDescLoongArch64, (52..64 LoongArch64::Shift10), any)),
-                119 R_LARCH_TLS_DESC_LD => Some(row!(None, (0 bytes), any)),
-                120 R_LARCH_TLS_DESC_CALL => Some(row!(TlsDescCall, (0 bytes), any)),
-                121 R_LARCH_TLS_LE_HI20_R =>
-                    Some(row!(TpOff, (12..32 LoongArch64::Shift5), any, bias: SIZE_2KB)),
-                122 R_LARCH_TLS_LE_ADD_R => Some(row!(None, (0 bytes), any)),
-                123 R_LARCH_TLS_LE_LO12_R => Some(row!(TpOff, (0..12 LoongArch64::Shift10), any)),
-                124 R_LARCH_TLS_LD_PCREL20_S2 =>
-                    Some(row!(TlsGd, (2..22 LoongArch64::Shift5), signed 22,
-                        alignment: 4, origin: own)),
-                125 R_LARCH_TLS_GD_PCREL20_S2 =>
-                    Some(row!(TlsGd, (2..22 LoongArch64::Shift5), signed 22,
-                        alignment: 4, origin: own)),
-                126 R_LARCH_TLS_DESC_PCREL20_S2 =>
-                    Some(row!(TlsDesc, (2..22 LoongArch64::Shift5), signed 22,
-                        alignment: 4, origin: own)),
-                127 R_LARCH_CALL30 => Some(row!(Relative, (2..19 LoongArch64::Call30), any)),
-                128 R_LARCH_PCADD_HI20 =>
-                    Some(row!(Relative, (12..32 LoongArch64::Shift5), any, bias: SIZE_2KB)),
-            }
-        }
-    };
+    ($($made:tt)+) => { listed! { ($($made)+) {
+        0 R_LARCH_NONE (None, 0 bytes, any)
+        1 R_LARCH_32 (Absolute, 4 bytes, signed_or_unsigned 32)
+        2 R_LARCH_64 (Absolute, 8 bytes, any)
+        8 R_LARCH_TLS_DTPREL32 (DtpOff, 4 bytes, any)
+        9 R_LARCH_TLS_DTPREL64 (DtpOff, 8 bytes, any)
+        20 R_LARCH_MARK_LA (None, 0 bytes, any, own: true)
+        47 R_LARCH_ADD8 (AbsoluteAddition, 1 bytes, any)
+        48 R_LARCH_ADD16 (AbsoluteAddition, 2 bytes, any)
+        49 R_LARCH_ADD24 (AbsoluteAddition, 3 bytes, any)
+        50 R_LARCH_ADD32 (AbsoluteAddition, 4 bytes, any)
+        51 R_LARCH_ADD64 (AbsoluteAddition, 8 bytes, any)
+        52 R_LARCH_SUB8 (AbsoluteSubtraction, 1 bytes, any)
+        53 R_LARCH_SUB16 (AbsoluteSubtraction, 2 bytes, any)
+        54 R_LARCH_SUB24 (AbsoluteSubtraction, 3 bytes, any)
+        55 R_LARCH_SUB32 (AbsoluteSubtraction, 4 bytes, any)
+        56 R_LARCH_SUB64 (AbsoluteSubtraction, 8 bytes, any)
+        64 R_LARCH_B16 (Relative, 2..18 Shift10, signed 18, alignment: 4)
+        65 R_LARCH_B21 (Relative, 2..23 Branch21, signed 23, alignment: 4)
+        66 R_LARCH_B26 (PltRelative, 2..28 Branch26, signed 28, alignment: 4)
+        67 R_LARCH_ABS_HI20 (Absolute, 12..32 Shift5, any)
+        68 R_LARCH_ABS_LO12 (Absolute, 0..12 Shift10, any)
+        69 R_LARCH_ABS64_LO20 (Absolute, 32..52 Shift5, any)
+        70 R_LARCH_ABS64_HI12 (Absolute, 52..64 Shift10, any)
+        71 R_LARCH_PCALA_HI20 (Relative, 12..32 Shift5, any, mask: PLACE_PAGES, bias: SIZE_2KB)
+        72 R_LARCH_PCALA_LO12 (AbsoluteLowPart, 0..12 Shift10, any)
+        73 R_LARCH_PCALA64_LO20 (RelativeLoongArchHigh, 32..52 Shift5, any)
+        74 R_LARCH_PCALA64_HI12 (RelativeLoongArchHigh, 52..64 Shift10, any)
+        75 R_LARCH_GOT_PC_HI20 (GotRelative, 12..32 Shift5, any, mask: ENTRY_PAGES, bias: SIZE_2KB)
+        76 R_LARCH_GOT_PC_LO12 (Got, 0..12 Shift10, any)
+        77 R_LARCH_GOT64_PC_LO20 (GotRelativeLoongArch64, 32..52 Shift5, any)
+        78 R_LARCH_GOT64_PC_HI12 (GotRelativeLoongArch64, 52..64 Shift10, any)
+        83 R_LARCH_TLS_LE_HI20 (TpOff, 12..32 Shift5, any)
+        84 R_LARCH_TLS_LE_LO12 (TpOff, 0..12 Shift10, any)
+        85 R_LARCH_TLS_LE64_LO20 (TpOff, 32..52 Shift5, any)
+        86 R_LARCH_TLS_LE64_HI12 (TpOff, 52..64 Shift10, any)
+        87 R_LARCH_TLS_IE_PC_HI20 (GotTpOff, 12..32 Shift5, any, mask: ENTRY_PAGES, bias: SIZE_2KB)
+        88 R_LARCH_TLS_IE_PC_LO12 (GotTpOffGot, 0..12 Shift10, any)
+        89 R_LARCH_TLS_IE64_PC_LO20 (GotTpOffLoongArch64, 32..52 Shift5, any)
+        90 R_LARCH_TLS_IE64_PC_HI12 (GotTpOffLoongArch64, 52..64 Shift10, any)
+        91 R_LARCH_TLS_IE_HI20 (GotTpOffGot, 12..32 Shift5, any)
+        92 R_LARCH_TLS_IE_LO12 (GotTpOffGot, 0..12 Shift10, any)
+        93 R_LARCH_TLS_IE64_LO20 (GotTpOffGot, 32..52 Shift5, any)
+        94 R_LARCH_TLS_IE64_HI12 (GotTpOffGot, 52..64 Shift10, any)
+        95 R_LARCH_TLS_LD_PC_HI20 (TlsGd, 12..32 Shift5, any, mask: ENTRY_PAGES, bias: SIZE_2KB)
+        96 R_LARCH_TLS_LD_HI20 (TlsGdGot, 12..32 Shift5, any)
+        97 R_LARCH_TLS_GD_PC_HI20 (TlsGd, 12..32 Shift5, any, mask: ENTRY_PAGES, bias: SIZE_2KB)
+        98 R_LARCH_TLS_GD_HI20 (TlsGdGot, 12..32 Shift5, any)
+        99 R_LARCH_32_PCREL (Relative, 4 bytes, signed 32)
+        100 R_LARCH_RELAX (None, 0 bytes, any)
+        102 R_LARCH_ALIGN (Alignment, 0 bytes, any)
+        103 R_LARCH_PCREL20_S2 (Relative, 2..22 Shift5, signed 22, alignment: 4)
+        105 R_LARCH_ADD6 (AbsoluteAdditionWord6, 1 bytes, any)
+        106 R_LARCH_SUB6 (AbsoluteSubtractionWord6, 1 bytes, any)
+        107 R_LARCH_ADD_ULEB128 (Relative, 0 bytes, any)
+        108 R_LARCH_SUB_ULEB128 (PairSubtractionULEB128LoongArch, 8 bytes, any)
+        109 R_LARCH_64_PCREL (Relative, 8 bytes, any)
+        110 R_LARCH_CALL36 (PltRelative, 2..38 Call36, signed 38,
+            reach: within -0x2000020000..0x1ffffe0000, alignment: 4)
+        111 R_LARCH_TLS_DESC_PC_HI20 (TlsDesc, 12..32 Shift5, any, mask: ENTRY_PAGES,
+            bias: SIZE_2KB)
+        112 R_LARCH_TLS_DESC_PC_LO12 (TlsDescGot, 0..12 Shift10, any)
+        113 R_LARCH_TLS_DESC64_PC_LO20 (TlsDescLoongArch64, 32..52 Shift5, any)
+        114 R_LARCH_TLS_DESC64_PC_HI12 (TlsDescLoongArch64, 52..64 Shift10, any)
+        119 R_LARCH_TLS_DESC_LD (None, 0 bytes, any)
+        120 R_LARCH_TLS_DESC_CALL (TlsDescCall, 0 bytes, any)
+        121 R_LARCH_TLS_LE_HI20_R (TpOff, 12..32 Shift5, any, bias: SIZE_2KB)
+        122 R_LARCH_TLS_LE_ADD_R (None, 0 bytes, any)
+        123 R_LARCH_TLS_LE_LO12_R (TpOff, 0..12 Shift10, any)
+        124 R_LARCH_TLS_LD_PCREL20_S2 (TlsGd, 2..22 Shift5, signed 22, alignment: 4, own: true)
+        125 R_LARCH_TLS_GD_PCREL20_S2 (TlsGd, 2..22 Shift5, signed 22, alignment: 4, own: true)
+        126 R_LARCH_TLS_DESC_PCREL20_S2 (TlsDesc, 2..22 Shift5, signed 22, alignment: 4, own: true)
+        127 R_LARCH_CALL30 (Relative, 2..19 Call30, any)
+        128 R_LARCH_PCADD_HI20 (Relative, 12..32 Shift5, any, bias: SIZE_2KB)
+    } } };
 }
 
 impl fmt::Debug for LoongArch64Relocation {
@@ -243,7 +194,7 @@ impl LoongArch64Relocation {
     pub fn from_elf(code: u32) -> LoongArch64Relocation
         ensures { IsNameOf loongarch_name code result }
     {
-        relocations!(name_of_code(LoongArch64Relocation, code))
+        relocations!(name_of LoongArch64Relocation, code)
     }
 
     /// The code, `r_type` in ELF files.
@@ -251,14 +202,14 @@ impl LoongArch64Relocation {
     pub fn elf_code(self) -> u32
         ensures { result ≡ code_of (loongarch_name self) }
     {
-        relocations!(code_of_name(LoongArch64Relocation, self))
+        relocations!(code_of LoongArch64Relocation, self)
     }
 
     /// The name, as "R_LARCH_32"; "unknown relocation" for `Other`.
     pub fn name(self) -> &'static str
         ensures { result.now ≡ text_of (loongarch_name self) }
     {
-        relocations!(text_of_name(LoongArch64Relocation, self))
+        relocations!(text_of LoongArch64Relocation, self)
     }
 
     /// What a relocation of a ULEB128 number does; `None` for all others.
@@ -273,14 +224,15 @@ impl LoongArch64Relocation {
     }
 }
 
-static ROWS: &[Option<TableRow>] = &relocations!(table());
+static ROWS: &[Option<TableRow>] =
+    &relocations!(table [LoongArch64 LoongArch64Instruction EM_LOONGARCH]);
 
 /// The index of a name in the table.
 #[inline(always)]
 fn index(name: LoongArch64Relocation) -> usize
     ensures { result ≡ tag_of names.the_type name }
 {
-    relocations!(index_of_name(LoongArch64Relocation, name))
+    relocations!(index_of LoongArch64Relocation, name)
 }
 
 /// What a relocation means. It takes a name; `LoongArch64Relocation::from_elf` gives the name of a
@@ -310,28 +262,20 @@ impl RelocationName for LoongArch64Relocation {
     }
 }
 
-/// The kind that the crate `linker-utils` has for a row's kind: there `R_LARCH_ALIGN` has no kind
-/// of its own.
-#[inline(always)]
-fn raw_kind(kind: RelocationKind) -> RelocationKind
-    ensures { result ≡ raw_kind kind }
-{
-    match kind {
-        RelocationKind::Alignment => RelocationKind::None,
-        _ => kind,
-    }
-}
-
-/// The row with that kind. Not by the name: LLVM compiles a match of it to a jump by the code.
+/// The row with the kind that the crate `linker-utils` has: there `R_LARCH_ALIGN` has no kind of its
+/// own. Not by the name: LLVM compiles a match of it to a jump by the code.
 #[inline(always)]
 fn with_raw_kind(row: Option<RelocationKindInfo>) -> Option<RelocationKindInfo>
     ensures { result ≡ with_raw_kind row }
 {
     match row {
-        Some(row) => Some(RelocationKindInfo {
-            kind: raw_kind(row.kind),
-            ..row
-        }),
+        Some(row) => {
+            let kind = match row.kind {
+                RelocationKind::Alignment => RelocationKind::None,
+                kind => kind,
+            };
+            Some(RelocationKindInfo { kind, ..row })
+        }
         None => None,
     }
 }

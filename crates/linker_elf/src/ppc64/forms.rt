@@ -2,17 +2,16 @@
 
 ghost use Rattle.std.specs.Prelude.{slice_get, ◌≡◌, ◌≤◌, length, drop, IsTrue};
 ghost use Rattle.std.specs.Int.{byte_len, cast_unsigned, w64};
-ghost use Rattle.linker_elf.specs.Ppc64.{ppc64_forms};
+ghost use Rattle.linker_elf.specs.Ppc64.{ppc64_forms, ppc64_form};
 ghost use Rattle.linker_base.specs.Form.{window_of, Written, MachineReads, IsReadBack};
 ghost use Rattle.linker_elf.specs.Inner.FormLaws.{ppc64_keeps, ppc64_restored};
 ghost use Rattle.linker_elf.specs.Inner.Runs.{code_of, moves_places};
 ghost use Rattle.linker_elf.specs.Entries.{is_ppc64_branch};
 ghost use Rattle.linker_elf.specs.Forms.{ppc64_mask, is_dq_at, immediate_of};
-ghost use Rattle.linker_elf.specs.Ppc64.{ppc64_form};
 ghost use Rattle.linker_elf.specs.Reach.{ppc64_reach};
 ghost use Rattle.linker_elf.specs.Relocate.{number_placed};
 
-use crate::elf::engine::{self, Encoding, Step, Window, form};
+use crate::elf::engine::{self, Encoding, Step, Window, forms};
 use crate::elf::{AllowedRange, InstructionForm, RelocationInstruction, Sign};
 use linker_base::bit_misc::BitRange;
 
@@ -45,22 +44,27 @@ pub enum Ppc64Instruction {
 
 /// The forms, in the order of their enum.
 macro_rules! ppc64_forms {
-    ($($part:tt)+) => {
-        [
-            form!([$($part)+] Four, 0..16, [0, 0, 16]),
-            form!([$($part)+] Four, 2..16, [2, 2, 14]),
-            form!([$($part)+] Four, 2..16, [2, 2, 14]),
-            form!([$($part)+] Four, 2..26, [2, 2, 24]),
-            form!([$($part)+] Eight, 0..34, [0, 32, 16] [16, 0, 18]),
-            form!([$($part)+] Four, 0..16, [0, 0, 16]),
-        ]
-    };
+    ($($part:tt)+) => { forms! { [$($part)+]
+        (D Four, 0..16, [0, 0, 16])
+        (Ds Four, 2..16, [2, 2, 14])
+        (Branch14 Four, 2..16, [2, 2, 14])
+        (Branch24 Four, 2..26, [2, 2, 24])
+        (Prefixed Eight, 0..34, [0, 32, 16] [16, 0, 18])
+        (DUnsigned Four, 0..16, [0, 0, 16])
+    } };
 }
 
 // Tables, since with a match LLVM would jump by the form.
 const CODES: [Encoding; 6] = ppc64_forms!(code);
 
 const STEPS: [[Step; 2]; 6] = ppc64_forms!(2 steps);
+
+/// The forms by their numbers. A table, since a match becomes a jump by the number where what
+/// follows differs by the form.
+const FORMS: &[Ppc64Instruction] = &ppc64_forms!(variant Ppc64Instruction);
+
+/// The unit of the displacements of DQ-form: the lowest four bits of such a word are others.
+pub const DQ_UNIT: u64 = 16;
 
 impl Ppc64Instruction {
     /// What the form is beside its steps.
@@ -96,14 +100,8 @@ impl Ppc64Instruction {
             → dest.new ≡ dest.old }
     {
         let insn = RelocationInstruction::Ppc64(self);
-        engine::write(
-            insn,
-            self.code(),
-            self.steps(),
-            extracted_value,
-            negative,
-            dest,
-        );
+        let (code, steps) = (self.code(), self.steps());
+        engine::write(insn, code, steps, extracted_value, negative, dest);
     }
 
     /// The value in the instruction that `bytes` begins with, unsigned: bits of the value that the
@@ -116,20 +114,18 @@ impl Ppc64Instruction {
             ((ppc64_form self).reading (window_of (ppc64_form self) bytes.now)) }
         ensures flag { result.1 ≡ (ppc64_form self).flag (window_of (ppc64_form self) bytes.now) }
     {
-        engine::read(
-            RelocationInstruction::Ppc64(self),
-            self.code(),
-            self.steps(),
-            bytes,
-        )
+        let insn = RelocationInstruction::Ppc64(self);
+        engine::read(insn, self.code(), self.steps(), bytes)
     }
-}
 
-/// The unit of the displacements of DQ-form: the lowest four bits of such a word are others.
-pub const DQ_UNIT: u64 = 16;
+    /// The form with a number, its place in the enum. None above the last.
+    #[inline(always)]
+    pub fn from_number(number: u32) -> Option<Ppc64Instruction>
+        ensures { result ≡ slice_get ppc64_forms number }
+    {
+        FORMS.get(number as usize).copied()
+    }
 
-/// What other modules use of a form.
-impl Ppc64Instruction {
     /// Whether an instruction of DQ-form (Power ISA, "DQ-Form") is where one of DS-form is
     /// expected: `lq`, `lxvp`, `stxvp`, `lxv` or `stxv`.
     #[inline(always)]
@@ -186,12 +182,8 @@ impl Ppc64Instruction {
         ensures { result.bounds ≡ ppc64_reach self bits range.bounds }
     {
         match (self, range.bounds) {
-            (Ppc64Instruction::D, None) => {
-                if bits.start == 16 {
-                    AllowedRange::from_bit_size(32, Sign::Signed)
-                } else {
-                    range
-                }
+            (Ppc64Instruction::D, None) if bits.start == 16 => {
+                AllowedRange::from_bit_size(32, Sign::Signed)
             }
             _ => range,
         }
@@ -243,26 +235,5 @@ impl InstructionForm for Ppc64Instruction {
     #[inline]
     fn read(self, bytes: &[u8]) -> (u64, bool) {
         self.read_value(bytes)
-    }
-}
-
-/// The forms by their numbers. A table, since a match becomes a jump by the number where what
-/// follows differs by the form.
-const FORMS: &[Ppc64Instruction] = &[
-    Ppc64Instruction::D,
-    Ppc64Instruction::Ds,
-    Ppc64Instruction::Branch14,
-    Ppc64Instruction::Branch24,
-    Ppc64Instruction::Prefixed,
-    Ppc64Instruction::DUnsigned,
-];
-
-impl Ppc64Instruction {
-    /// The form with a number, its place in the enum. None above the last.
-    #[inline(always)]
-    pub fn from_number(number: u32) -> Option<Ppc64Instruction>
-        ensures { result ≡ slice_get ppc64_forms number }
-    {
-        FORMS.get(number as usize).copied()
     }
 }

@@ -2,8 +2,7 @@
 
 ghost use Rattle.std.specs.Prelude.{◌≤◌, length};
 ghost use Rattle.std.specs.Int.{from_le_bytes, w32};
-ghost use Rattle.linker_elf.specs.Ppc64.{PairHolds};
-ghost use Rattle.linker_elf.specs.Ppc64.{KeepsHigh};
+ghost use Rattle.linker_elf.specs.Ppc64.{PairHolds, KeepsHigh};
 
 use super::Ppc64Instruction;
 use crate::elf::InstructionForm;

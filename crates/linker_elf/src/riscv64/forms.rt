@@ -2,16 +2,15 @@
 
 ghost use Rattle.std.specs.Prelude.{slice_get, ◌≡◌, ◌≤◌, length, drop, IsTrue};
 ghost use Rattle.std.specs.Int.{byte_len, cast_unsigned, w64};
-ghost use Rattle.linker_elf.specs.RiscV.{riscv_forms};
+ghost use Rattle.linker_elf.specs.RiscV.{riscv_forms, riscv_form, PairReads};
 ghost use Rattle.linker_base.specs.Form.{window_of, Written, MachineReads, IsReadBack};
 ghost use Rattle.linker_elf.specs.Inner.FormLaws.{riscv_keeps, riscv_restored};
 ghost use Rattle.linker_elf.specs.Inner.Runs.{code_of, moves_places};
 ghost use Rattle.linker_elf.specs.Entries.{is_riscv_branch};
 ghost use Rattle.linker_elf.specs.Forms.{riscv_mask, immediate_of};
 ghost use Rattle.linker_elf.specs.Reach.{riscv_reach};
-ghost use Rattle.linker_elf.specs.RiscV.{riscv_form, PairReads};
 
-use crate::elf::engine::{self, Encoding, Step, form};
+use crate::elf::engine::{self, Encoding, Step, forms};
 use crate::elf::{AllowedRange, InstructionForm, RelocationInstruction, SIZE_2GB};
 use linker_base::bit_misc::BitRange;
 
@@ -48,64 +47,35 @@ pub enum RiscVInstruction {
 
 /// The forms, in the order of their enum.
 macro_rules! riscv_forms {
-    ($($part:tt)+) => {
-        [
-            form!(
-                [$($part)+] Four, 12..32,
-                [added 0x800: 12, 12, 20]; signs: 1 << 31, rounded: 0x800
-            ),
-            form!([$($part)+] Four, 0..12, [0, 20, 12]; signs: 1 << 11, flag: 1 << 11),
-            form!([$($part)+] Four, 0..12, [0, 7, 5] [5, 25, 7]; signs: 1 << 11, flag: 1 << 11),
-            form!(
-                [$($part)+] Four, 1..13,
-                [11, 7, 1] [1, 8, 4] [5, 25, 6] [12, 31, 1]; signs: 1 << 12, flag: 1 << 12
-            ),
-            form!(
-                [$($part)+] Four, 1..21,
-                [12, 12, 8] [11, 20, 1] [1, 21, 10] [20, 31, 1]; signs: 1 << 20, flag: 1 << 20
-            ),
-            form!(
-                [$($part)+] Two, 1..9,
-                [5, 2, 1] [1, 3, 2] [6, 5, 2] [3, 10, 2] [8, 12, 1]; signs: 1 << 8, flag: 1 << 8
-            ),
-            form!(
-                [$($part)+] Two, 1..12,
-                [5, 2, 1] [1, 3, 3] [7, 6, 1] [6, 7, 1; 8, 9, 2; 11, 12, 1] [10, 8, 1] [4, 11, 1];
-                signs: 1 << 11, flag: 1 << 11
-            ),
-            form!(
-                [$($part)+] Two, 12..18,
-                [added 0x800: 12, 2, 5] [added 0x800: 17, 12, 1];
-                signs: 1 << 17, rounded: 0x800, flag: 1 << 17
-            ),
-            form!(
-                [$($part)+] Eight, 0..32,
-                [added 0x800: 12, 12, 20] [0, 52, 12]; signs: 1 << 31 | 1 << 11
-            ),
-        ]
-    };
+    ($($part:tt)+) => { forms! { [$($part)+]
+        (UType Four, 12..32, [added 0x800: 12, 12, 20]; signs: 1 << 31, rounded: 0x800)
+        (IType Four, 0..12, [0, 20, 12]; signs: 1 << 11, flag: 1 << 11)
+        (SType Four, 0..12, [0, 7, 5] [5, 25, 7]; signs: 1 << 11, flag: 1 << 11)
+        (BType Four, 1..13, [11, 7, 1] [1, 8, 4] [5, 25, 6] [12, 31, 1];
+            signs: 1 << 12, flag: 1 << 12)
+        (JType Four, 1..21, [12, 12, 8] [11, 20, 1] [1, 21, 10] [20, 31, 1];
+            signs: 1 << 20, flag: 1 << 20)
+        (CbType Two, 1..9, [5, 2, 1] [1, 3, 2] [6, 5, 2] [3, 10, 2] [8, 12, 1];
+            signs: 1 << 8, flag: 1 << 8)
+        (CjType Two, 1..12, [5, 2, 1] [1, 3, 3] [7, 6, 1] [6, 7, 1; 8, 9, 2; 11, 12, 1] [10, 8, 1]
+            [4, 11, 1]; signs: 1 << 11, flag: 1 << 11)
+        (CluiType Two, 12..18, [added 0x800: 12, 2, 5] [added 0x800: 17, 12, 1];
+            signs: 1 << 17, rounded: 0x800, flag: 1 << 17)
+        (UiType Eight, 0..32, [added 0x800: 12, 12, 20] [0, 52, 12]; signs: 1 << 31 | 1 << 11)
+    } };
 }
 
 const CODES: [Encoding; 9] = riscv_forms!(code);
 
 const STEPS: [[Step; 6]; 9] = riscv_forms!(6 steps);
 
-/// What is done with a form, in an arm for each, so that LLVM knows the form's steps.
-macro_rules! by_form {
-    ($self:expr, $form:ident: $done:expr) => {
-        by_form!(
-            $self, $form: $done, UType IType SType BType JType CbType CjType CluiType UiType
-        )
-    };
-    ($self:expr, $form:ident: $done:expr, $($variant:ident)+) => {
-        match $self {
-            $(RiscVInstruction::$variant => {
-                let $form = RiscVInstruction::$variant;
-                $done
-            })+
-        }
-    };
-}
+/// The forms by their numbers. A table, since a match becomes a jump by the number where what
+/// follows differs by the form.
+const FORMS: &[RiscVInstruction] = &riscv_forms!(variant RiscVInstruction);
+
+/// What the pairs and `c.lui` take off each end of the range of their high part, because the low
+/// part is signed.
+const SIGNED_LOW_12: i64 = 0x800;
 
 impl RiscVInstruction {
     /// What the form is beside its steps.
@@ -137,8 +107,8 @@ impl RiscVInstruction {
             → dest.new ≡ dest.old }
     {
         let insn = RelocationInstruction::RiscV(self);
-        by_form!(
-            self,
+        riscv_forms!(
+            by RiscVInstruction self,
             form: engine::write(insn, form.code(), form.steps(), value, negative, dest)
         );
     }
@@ -178,16 +148,19 @@ impl RiscVInstruction {
         ensures flag { result.1 ≡ (riscv_form self).flag (window_of (riscv_form self) bytes.now) }
     {
         let insn = RelocationInstruction::RiscV(self);
-        by_form!(self, form: engine::read(insn, form.code(), form.steps(), bytes))
+        riscv_forms!(
+            by RiscVInstruction self, form: engine::read(insn, form.code(), form.steps(), bytes)
+        )
     }
-}
 
-/// What the pairs and `c.lui` take off each end of the range of their high part, because the low
-/// part is signed.
-const SIGNED_LOW_12: i64 = 0x800;
+    /// The form with a number, its place in the enum. None above the last.
+    #[inline(always)]
+    pub fn from_number(number: u32) -> Option<RiscVInstruction>
+        ensures { result ≡ slice_get riscv_forms number }
+    {
+        FORMS.get(number as usize).copied()
+    }
 
-/// What other modules use of a form.
-impl RiscVInstruction {
     /// The bits of an instruction, or of a pair, that a write of the form may change.
     #[inline]
     pub fn field_mask(self) -> u64
@@ -242,7 +215,7 @@ impl RiscVInstruction {
 
 /// The lengths of the windows, by the forms' places in their enum. LLVM compiles a match to
 /// branches, and a processor may not predict the form.
-pub(crate) const WINDOWS: [usize; 9] = [4, 4, 4, 4, 4, 2, 2, 2, 8];
+pub(crate) const WINDOWS: [usize; 9] = riscv_forms!(window);
 
 impl InstructionForm for RiscVInstruction {
     ghost form = { riscv_form };
@@ -269,29 +242,5 @@ impl InstructionForm for RiscVInstruction {
     #[inline(always)]
     fn read(self, bytes: &[u8]) -> (u64, bool) {
         self.read_value(bytes)
-    }
-}
-
-/// The forms by their numbers. A table, since a match becomes a jump by the number where what
-/// follows differs by the form.
-const FORMS: &[RiscVInstruction] = &[
-    RiscVInstruction::UType,
-    RiscVInstruction::IType,
-    RiscVInstruction::SType,
-    RiscVInstruction::BType,
-    RiscVInstruction::JType,
-    RiscVInstruction::CbType,
-    RiscVInstruction::CjType,
-    RiscVInstruction::CluiType,
-    RiscVInstruction::UiType,
-];
-
-impl RiscVInstruction {
-    /// The form with a number, its place in the enum. None above the last.
-    #[inline(always)]
-    pub fn from_number(number: u32) -> Option<RiscVInstruction>
-        ensures { result ≡ slice_get riscv_forms number }
-    {
-        FORMS.get(number as usize).copied()
     }
 }

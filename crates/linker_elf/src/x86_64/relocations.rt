@@ -8,10 +8,7 @@ ghost use Rattle.linker_elf.specs.X86Relocations.{x86_64_name, x86_64_relocation
 ghost use Rattle.linker_elf.specs.contracts.x86_64.relocations.X86_64Relocation as names;
 
 use crate::elf::choice_table::RelocationName;
-use crate::elf::rows::{
-    TableRow, code_of_name, index_of_name, name_of_code, raw_info_in, row, row_in, table,
-    text_of_name,
-};
+use crate::elf::rows::{TableRow, listed, raw_info_in, row_in};
 use crate::elf::{RelocationKindInfo, Row};
 use std::fmt;
 
@@ -68,54 +65,48 @@ pub enum X86_64Relocation {
 
 /// Each relocation: its code, its name and its row, in the order of the enum of names.
 macro_rules! relocations {
-    ($make:ident $arguments:tt) => {
-        $make! {
-            $arguments
-            {
-                0 R_X86_64_NONE => Some(row!(None, (0 bytes), any)),
-                1 R_X86_64_64 => Some(row!(Absolute, (8 bytes), any)),
-                2 R_X86_64_PC32 => Some(row!(Relative, (4 bytes), signed 32)),
-                3 R_X86_64_GOT32 =>
-                    Some(row!(GotRelGotBase, (4 bytes), unsigned 32 reach -0x80000000, 0x80000000)),
-                4 R_X86_64_PLT32 => Some(row!(PltRelative, (4 bytes), signed 32)),
-                9 R_X86_64_GOTPCREL => Some(row!(GotRelative, (4 bytes), signed 32)),
-                10 R_X86_64_32 => Some(row!(Absolute, (4 bytes), unsigned 32)),
-                11 R_X86_64_32S => Some(row!(Absolute, (4 bytes), signed 32)),
-                12 R_X86_64_16 => Some(row!(Absolute, (2 bytes), signed_or_unsigned 16)),
-                13 R_X86_64_PC16 => Some(row!(Relative, (2 bytes), signed 16)),
-                14 R_X86_64_8 => Some(row!(Absolute, (1 bytes), signed_or_unsigned 8)),
-                15 R_X86_64_PC8 => Some(row!(Relative, (1 bytes), signed 8)),
-                17 R_X86_64_DTPOFF64 => Some(row!(DtpOff, (8 bytes), any)),
-                18 R_X86_64_TPOFF64 => Some(row!(TpOff, (8 bytes), any, origin: own)),
-                19 R_X86_64_TLSGD => Some(row!(TlsGd, (4 bytes), signed 32)),
-                20 R_X86_64_TLSLD => Some(row!(TlsLd, (4 bytes), signed 32)),
-                21 R_X86_64_DTPOFF32 => Some(row!(DtpOff, (4 bytes), signed 32)),
-                22 R_X86_64_GOTTPOFF => Some(row!(GotTpOff, (4 bytes), signed 32)),
-                23 R_X86_64_TPOFF32 => Some(row!(TpOff, (4 bytes), signed 32)),
-                24 R_X86_64_PC64 => Some(row!(Relative, (8 bytes), any)),
-                25 R_X86_64_GOTOFF64 => Some(row!(SymRelGotBase, (8 bytes), any)),
-                26 R_X86_64_GOTPC32 => Some(row!(Relative, (4 bytes), signed 32)),
-                27 R_X86_64_GOT64 => Some(row!(GotRelGotBase, (8 bytes), any)),
-                29 R_X86_64_GOTPC64 => Some(row!(Relative, (8 bytes), any)),
-                31 R_X86_64_PLTOFF64 => Some(row!(PltRelGotBase, (8 bytes), any)),
-                32 R_X86_64_SIZE32 => Some(row!(SymbolSize, (4 bytes), unsigned 32)),
-                33 R_X86_64_SIZE64 => Some(row!(SymbolSize, (8 bytes), any)),
-                34 R_X86_64_GOTPC32_TLSDESC => Some(row!(TlsDesc, (4 bytes), signed 32)),
-                35 R_X86_64_TLSDESC_CALL => Some(row!(TlsDescCall, (0 bytes), any)),
-                41 R_X86_64_GOTPCRELX => Some(row!(GotRelative, (4 bytes), signed 32)),
-                42 R_X86_64_REX_GOTPCRELX => Some(row!(GotRelative, (4 bytes), signed 32)),
-                43 R_X86_64_CODE_4_GOTPCRELX => Some(row!(GotRelative, (4 bytes), signed 32)),
-                44 R_X86_64_CODE_4_GOTTPOFF => Some(row!(GotTpOff, (4 bytes), signed 32)),
-                45 R_X86_64_CODE_4_GOTPC32_TLSDESC => Some(row!(TlsDesc, (4 bytes), signed 32)),
-                46 R_X86_64_CODE_5_GOTPCRELX => Some(row!(GotRelative, (4 bytes), signed 32)),
-                47 R_X86_64_CODE_5_GOTTPOFF => Some(row!(GotTpOff, (4 bytes), signed 32)),
-                48 R_X86_64_CODE_5_GOTPC32_TLSDESC => Some(row!(TlsDesc, (4 bytes), signed 32)),
-                49 R_X86_64_CODE_6_GOTPCRELX => Some(row!(GotRelative, (4 bytes), signed 32)),
-                50 R_X86_64_CODE_6_GOTTPOFF => Some(row!(GotTpOff, (4 bytes), signed 32)),
-                51 R_X86_64_CODE_6_GOTPC32_TLSDESC => Some(row!(TlsDesc, (4 bytes), signed 32)),
-            }
-        }
-    };
+    ($($made:tt)+) => { listed! { ($($made)+) {
+        0 R_X86_64_NONE (None, 0 bytes, any)
+        1 R_X86_64_64 (Absolute, 8 bytes, any)
+        2 R_X86_64_PC32 (Relative, 4 bytes, signed 32)
+        3 R_X86_64_GOT32 (GotRelGotBase, 4 bytes, unsigned 32, reach: signed 32)
+        4 R_X86_64_PLT32 (PltRelative, 4 bytes, signed 32)
+        9 R_X86_64_GOTPCREL (GotRelative, 4 bytes, signed 32)
+        10 R_X86_64_32 (Absolute, 4 bytes, unsigned 32)
+        11 R_X86_64_32S (Absolute, 4 bytes, signed 32)
+        12 R_X86_64_16 (Absolute, 2 bytes, signed_or_unsigned 16)
+        13 R_X86_64_PC16 (Relative, 2 bytes, signed 16)
+        14 R_X86_64_8 (Absolute, 1 bytes, signed_or_unsigned 8)
+        15 R_X86_64_PC8 (Relative, 1 bytes, signed 8)
+        17 R_X86_64_DTPOFF64 (DtpOff, 8 bytes, any)
+        18 R_X86_64_TPOFF64 (TpOff, 8 bytes, any, own: true)
+        19 R_X86_64_TLSGD (TlsGd, 4 bytes, signed 32)
+        20 R_X86_64_TLSLD (TlsLd, 4 bytes, signed 32)
+        21 R_X86_64_DTPOFF32 (DtpOff, 4 bytes, signed 32)
+        22 R_X86_64_GOTTPOFF (GotTpOff, 4 bytes, signed 32)
+        23 R_X86_64_TPOFF32 (TpOff, 4 bytes, signed 32)
+        24 R_X86_64_PC64 (Relative, 8 bytes, any)
+        25 R_X86_64_GOTOFF64 (SymRelGotBase, 8 bytes, any)
+        26 R_X86_64_GOTPC32 (Relative, 4 bytes, signed 32)
+        27 R_X86_64_GOT64 (GotRelGotBase, 8 bytes, any)
+        29 R_X86_64_GOTPC64 (Relative, 8 bytes, any)
+        31 R_X86_64_PLTOFF64 (PltRelGotBase, 8 bytes, any)
+        32 R_X86_64_SIZE32 (SymbolSize, 4 bytes, unsigned 32)
+        33 R_X86_64_SIZE64 (SymbolSize, 8 bytes, any)
+        34 R_X86_64_GOTPC32_TLSDESC (TlsDesc, 4 bytes, signed 32)
+        35 R_X86_64_TLSDESC_CALL (TlsDescCall, 0 bytes, any)
+        41 R_X86_64_GOTPCRELX (GotRelative, 4 bytes, signed 32)
+        42 R_X86_64_REX_GOTPCRELX (GotRelative, 4 bytes, signed 32)
+        43 R_X86_64_CODE_4_GOTPCRELX (GotRelative, 4 bytes, signed 32)
+        44 R_X86_64_CODE_4_GOTTPOFF (GotTpOff, 4 bytes, signed 32)
+        45 R_X86_64_CODE_4_GOTPC32_TLSDESC (TlsDesc, 4 bytes, signed 32)
+        46 R_X86_64_CODE_5_GOTPCRELX (GotRelative, 4 bytes, signed 32)
+        47 R_X86_64_CODE_5_GOTTPOFF (GotTpOff, 4 bytes, signed 32)
+        48 R_X86_64_CODE_5_GOTPC32_TLSDESC (TlsDesc, 4 bytes, signed 32)
+        49 R_X86_64_CODE_6_GOTPCRELX (GotRelative, 4 bytes, signed 32)
+        50 R_X86_64_CODE_6_GOTTPOFF (GotTpOff, 4 bytes, signed 32)
+        51 R_X86_64_CODE_6_GOTPC32_TLSDESC (TlsDesc, 4 bytes, signed 32)
+    } } };
 }
 
 impl fmt::Debug for X86_64Relocation {
@@ -133,7 +124,7 @@ impl X86_64Relocation {
     pub fn from_elf(code: u32) -> X86_64Relocation
         ensures { IsNameOf x86_64_name code result }
     {
-        relocations!(name_of_code(X86_64Relocation, code))
+        relocations!(name_of X86_64Relocation, code)
     }
 
     /// The code, `r_type` in ELF files.
@@ -141,26 +132,26 @@ impl X86_64Relocation {
     pub fn elf_code(self) -> u32
         ensures { result ≡ code_of (x86_64_name self) }
     {
-        relocations!(code_of_name(X86_64Relocation, self))
+        relocations!(code_of X86_64Relocation, self)
     }
 
     /// The name, as "R_X86_64_64"; "unknown relocation" for `Other`.
     pub fn name(self) -> &'static str
         ensures { result.now ≡ text_of (x86_64_name self) }
     {
-        relocations!(text_of_name(X86_64Relocation, self))
+        relocations!(text_of X86_64Relocation, self)
     }
 }
 
 /// A constant, from which LLVM knows which codes have a row, and what all rows share.
-const ROWS: &[Option<TableRow>] = &relocations!(table());
+const ROWS: &[Option<TableRow>] = &relocations!(table []);
 
 /// The index of a name in the table.
 #[inline(always)]
 fn index(name: X86_64Relocation) -> usize
     ensures { result ≡ tag_of names.the_type name }
 {
-    relocations!(index_of_name(X86_64Relocation, name))
+    relocations!(index_of X86_64Relocation, name)
 }
 
 /// What a relocation means. It takes a name; `X86_64Relocation::from_elf` gives the name of a code.

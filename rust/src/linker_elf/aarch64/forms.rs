@@ -2,7 +2,7 @@
 // Made by tools/generate of crates/linker_elf/src/aarch64/forms.rt.
 //! AArch64 instructions that hold a value.
 
-use crate::linker_elf::elf::engine::{self, Encoding, Step, Window, form};
+use crate::linker_elf::elf::engine::{self, Encoding, Step, Window, forms};
 use crate::linker_elf::elf::{AllowedRange, InstructionForm, RelocationInstruction, Sign};
 use crate::linker_base::bit_misc::{BitExtraction, BitRange};
 
@@ -47,27 +47,29 @@ pub enum AArch64Instruction {
 
 /// The forms, in the order of their enum.
 macro_rules! aarch64_forms {
-    ($($part:tt)+) => {
-        [
-            form!([$($part)+] Four, 0..21, [0, 29, 2 or] [2, 5, 19 or]; signs: 1 << 20),
-            form!([$($part)+] Four, 0..16, [0, 5, 16 or]; signs: 1 << 15),
-            form!([$($part)+] Four, 0..16, [0, 5, 16]),
-            form!([$($part)+] Four, 0..19, [0, 5, 19 or]; signs: 1 << 18),
-            form!([$($part)+] Four, 0..12, [0, 10, 12 or]),
-            form!([$($part)+] Four, 0..12, [0, 10, 12 or]),
-            form!([$($part)+] Four, 0..12, [0, 10, 12 or]; signs: 1 << 11),
-            form!([$($part)+] Four, 0..14, [0, 5, 14 or]; signs: 1 << 13),
-            form!([$($part)+] Four, 0..19, [0, 5, 19 or]; signs: 1 << 18),
-            form!([$($part)+] Four, 0..26, [0, 0, 26 or]; signs: 1 << 25),
-            form!([$($part)+] Four, 0..12, [0, 10, 12]),
-        ]
-    };
+    ($($part:tt)+) => { forms! { [$($part)+]
+        (Adr Four, 0..21, [0, 29, 2 or] [2, 5, 19 or]; signs: 1 << 20)
+        (Movkz Four, 0..16, [0, 5, 16 or]; signs: 1 << 15)
+        (Movnz Four, 0..16, [0, 5, 16])
+        (Ldr Four, 0..19, [0, 5, 19 or]; signs: 1 << 18)
+        (LdrRegister Four, 0..12, [0, 10, 12 or])
+        (Add Four, 0..12, [0, 10, 12 or])
+        (LdSt Four, 0..12, [0, 10, 12 or]; signs: 1 << 11)
+        (TstBr Four, 0..14, [0, 5, 14 or]; signs: 1 << 13)
+        (Bcond Four, 0..19, [0, 5, 19 or]; signs: 1 << 18)
+        (JumpCall Four, 0..26, [0, 0, 26 or]; signs: 1 << 25)
+        (MachOLow12 Four, 0..12, [0, 10, 12])
+    } };
 }
 
 // Tables, since with a match LLVM would jump by the form.
 const CODES: [Encoding; 11] = aarch64_forms!(code);
 
 const STEPS: [[Step; 2]; 11] = aarch64_forms!(2 steps);
+
+/// The forms by their numbers. A table, since a match becomes a jump by the number where what
+/// follows differs by the form.
+const FORMS: &[AArch64Instruction] = &aarch64_forms!(variant AArch64Instruction);
 
 /// The 16 bits and the opcode that `Movnz` writes, the latter where it stands in the instruction
 /// (DDI 0487, "MOVN" and "MOVZ").
@@ -184,18 +186,17 @@ impl AArch64Instruction {
                     false,
                 )
             }
-            _ => engine::read(
-                RelocationInstruction::AArch64(self),
-                self.code(),
-                self.steps(),
-                bytes,
-            ),
+            _ => engine::read(RelocationInstruction::AArch64(self), code, steps, bytes),
         }
     }
-}
 
-/// What other modules use of a form.
-impl AArch64Instruction {
+    /// The form with a number, its place in the enum. None above the last.
+    #[must_use]
+    #[inline(always)]
+    pub fn from_number(number: u32) -> Option<AArch64Instruction> {
+        FORMS.get(number as usize).copied()
+    }
+
     /// The bits of an instruction that a write of the form may change: of `Movnz` also those of the
     /// opcode except for the size of the register.
     #[doc(hidden)]
@@ -232,12 +233,8 @@ impl AArch64Instruction {
     #[inline(always)]
     pub(crate) fn reach(self, bits: BitRange, range: AllowedRange) -> AllowedRange {
         match (self, range.bounds) {
-            (AArch64Instruction::Movnz, None) => {
-                if bits.end > 48 {
-                    range
-                } else {
-                    AllowedRange::from_bit_size(bits.end as u32 + 1, Sign::Signed)
-                }
+            (AArch64Instruction::Movnz, None) if bits.end <= 48 => {
+                AllowedRange::from_bit_size(bits.end as u32 + 1, Sign::Signed)
             }
             _ => range,
         }
@@ -287,30 +284,5 @@ impl InstructionForm for AArch64Instruction {
     fn read(self, bytes: &[u8]) -> (u64, bool) {
         debug_assert!(self.window() <= bytes.len());
         self.read_value(bytes)
-    }
-}
-
-/// The forms by their numbers. A table, since a match becomes a jump by the number where what
-/// follows differs by the form.
-const FORMS: &[AArch64Instruction] = &[
-    AArch64Instruction::Adr,
-    AArch64Instruction::Movkz,
-    AArch64Instruction::Movnz,
-    AArch64Instruction::Ldr,
-    AArch64Instruction::LdrRegister,
-    AArch64Instruction::Add,
-    AArch64Instruction::LdSt,
-    AArch64Instruction::TstBr,
-    AArch64Instruction::Bcond,
-    AArch64Instruction::JumpCall,
-    AArch64Instruction::MachOLow12,
-];
-
-impl AArch64Instruction {
-    /// The form with a number, its place in the enum. None above the last.
-    #[must_use]
-    #[inline(always)]
-    pub fn from_number(number: u32) -> Option<AArch64Instruction> {
-        FORMS.get(number as usize).copied()
     }
 }

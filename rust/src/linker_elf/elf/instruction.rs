@@ -2,7 +2,7 @@
 // Made by tools/generate of crates/linker_elf/src/elf/instruction.rt.
 //! What a form says of an instruction, for all architectures.
 
-use crate::linker_elf::elf::{InstructionForm, RelocationInstruction};
+use crate::linker_elf::elf::{InstructionForm, RelocationInstruction, of_form};
 use crate::linker_base::bit_misc::BitRange;
 
 impl RelocationInstruction {
@@ -35,16 +35,7 @@ impl RelocationInstruction {
     #[must_use]
     #[inline]
     pub fn value_bits(self) -> BitRange {
-        match self {
-            #[cfg(feature = "aarch64")]
-            RelocationInstruction::AArch64(insn) => insn.value_bits(),
-            #[cfg(feature = "riscv64")]
-            RelocationInstruction::RiscV(insn) => insn.value_bits(),
-            #[cfg(feature = "ppc64")]
-            RelocationInstruction::Ppc64(insn) => insn.value_bits(),
-            #[cfg(feature = "loongarch64")]
-            RelocationInstruction::LoongArch64(insn) => insn.value_bits(),
-        }
+        of_form!(self, insn => insn.value_bits())
     }
 
     /// Whether the value goes into a branch.

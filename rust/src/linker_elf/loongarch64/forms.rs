@@ -2,7 +2,7 @@
 // Made by tools/generate of crates/linker_elf/src/loongarch64/forms.rt.
 //! LoongArch: the immediates of instructions.
 
-use crate::linker_elf::elf::engine::{self, Encoding, Step, Window, form};
+use crate::linker_elf::elf::engine::{self, Encoding, Step, Window, forms};
 use crate::linker_elf::elf::{AllowedRange, InstructionForm, RelocationInstruction};
 use crate::linker_base::bit_misc::BitRange;
 
@@ -35,25 +35,40 @@ pub enum LoongArch64Instruction {
 
 /// The forms, in the order of their enum.
 macro_rules! loongarch_forms {
-    ($($part:tt)+) => {
-        [
-            form!([$($part)+] Four, 0..20, [0, 5, 20]),
-            form!([$($part)+] Four, 0..16, [0, 10, 12; 12, 22, 4 or]; returned: 0xfff),
-            form!([$($part)+] Four, 0..26, [0, 10, 16] [16, 0, 10]; signs: 1 << 25, flag: 1 << 25),
-            form!([$($part)+] Four, 0..21, [0, 10, 16] [16, 0, 5]; signs: 1 << 20, flag: 1 << 20),
-            form!([$($part)+] Eight, 0..20, [9, 14, 11] [0, 42, 9] clear 5, 9),
-            form!(
-                [$($part)+] Eight, 0..36,
-                [added 0x8000: 16, 5, 20] [0, 42, 16]; signs: 1 << 15, returned: (1 << 36) - 1
-            ),
-        ]
-    };
+    ($($part:tt)+) => { forms! { [$($part)+]
+        (Shift5 Four, 0..20, [0, 5, 20])
+        (Shift10 Four, 0..16, [0, 10, 12; 12, 22, 4 or]; returned: 0xfff)
+        (Branch26 Four, 0..26, [0, 10, 16] [16, 0, 10]; signs: 1 << 25, flag: 1 << 25)
+        (Branch21 Four, 0..21, [0, 10, 16] [16, 0, 5]; signs: 1 << 20, flag: 1 << 20)
+        (Call30 Eight, 0..20, [9, 14, 11] [0, 42, 9] clear 5, 9)
+        (Call36 Eight, 0..36, [added 0x8000: 16, 5, 20] [0, 42, 16];
+            signs: 1 << 15, returned: (1 << 36) - 1)
+    } };
 }
 
 // Tables, since with a match LLVM would jump by the form.
 const CODES: [Encoding; 6] = loongarch_forms!(code);
 
 const STEPS: [[Step; 2]; 6] = loongarch_forms!(2 steps);
+
+/// The forms by their numbers. A table, since a match becomes a jump by the number where what
+/// follows differs by the form.
+const FORMS: &[LoongArch64Instruction] = &loongarch_forms!(variant LoongArch64Instruction);
+
+/// What `Call36` takes off each end of the range of its high part, because the low part is signed.
+const SIGNED_LOW_18: i64 = 0x20000;
+
+/// Whether the immediate of a `Shift10` has 16 bits, where those of a range are taken, and not 12.
+#[inline(always)]
+fn has_16_bits(bits: BitRange) -> bool {
+    bits.end as u32 > bits.start as u32 + 12
+}
+
+/// Whether an instruction is `jirl` (LoongArch Reference Manual, volume 1, "JIRL").
+#[inline(always)]
+pub(crate) fn is_jirl(word: u64) -> bool {
+    word >> 26 == 19
+}
 
 impl LoongArch64Instruction {
     /// What the form is beside its steps.
@@ -81,14 +96,8 @@ impl LoongArch64Instruction {
         debug_assert!(self.window() <= dest.len());
         debug_assert!(self.fits(extracted_value, dest));
         let insn = RelocationInstruction::LoongArch64(self);
-        engine::write(
-            insn,
-            self.code(),
-            self.steps(),
-            extracted_value,
-            negative,
-            dest,
-        );
+        let (code, steps) = (self.code(), self.steps());
+        engine::write(insn, code, steps, extracted_value, negative, dest);
     }
 
     /// The value in the instruction or pair that `bytes` begins with, modulo 2^64, and a flag: for
@@ -112,32 +121,17 @@ impl LoongArch64Instruction {
     // The same of any form.
     #[inline(always)]
     fn read_by_table(self, bytes: &[u8]) -> (u64, bool) {
-        engine::read(
-            RelocationInstruction::LoongArch64(self),
-            self.code(),
-            self.steps(),
-            bytes,
-        )
+        let insn = RelocationInstruction::LoongArch64(self);
+        engine::read(insn, self.code(), self.steps(), bytes)
     }
-}
 
-/// What `Call36` takes off each end of the range of its high part, because the low part is signed.
-const SIGNED_LOW_18: i64 = 0x20000;
+    /// The form with a number, its place in the enum. None above the last.
+    #[must_use]
+    #[inline(always)]
+    pub fn from_number(number: u32) -> Option<LoongArch64Instruction> {
+        FORMS.get(number as usize).copied()
+    }
 
-/// Whether the immediate of a `Shift10` has 16 bits, where those of a range are taken, and not 12.
-#[inline(always)]
-fn has_16_bits(bits: BitRange) -> bool {
-    bits.end as u32 > bits.start as u32 + 12
-}
-
-/// Whether an instruction is `jirl` (LoongArch Reference Manual, volume 1, "JIRL").
-#[inline(always)]
-pub(crate) fn is_jirl(word: u64) -> bool {
-    word >> 26 == 19
-}
-
-/// What other modules use of a form.
-impl LoongArch64Instruction {
     /// The bits of an instruction, or of a pair, that a write of the form may change, where those
     /// of a range are taken.
     #[doc(hidden)]
@@ -228,25 +222,5 @@ impl InstructionForm for LoongArch64Instruction {
     fn read(self, bytes: &[u8]) -> (u64, bool) {
         debug_assert!(self.window() <= bytes.len());
         self.read_value(bytes)
-    }
-}
-
-/// The forms by their numbers. A table, since a match becomes a jump by the number where what
-/// follows differs by the form.
-const FORMS: &[LoongArch64Instruction] = &[
-    LoongArch64Instruction::Shift5,
-    LoongArch64Instruction::Shift10,
-    LoongArch64Instruction::Branch26,
-    LoongArch64Instruction::Branch21,
-    LoongArch64Instruction::Call30,
-    LoongArch64Instruction::Call36,
-];
-
-impl LoongArch64Instruction {
-    /// The form with a number, its place in the enum. None above the last.
-    #[must_use]
-    #[inline(always)]
-    pub fn from_number(number: u32) -> Option<LoongArch64Instruction> {
-        FORMS.get(number as usize).copied()
     }
 }

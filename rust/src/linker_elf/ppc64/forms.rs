@@ -2,7 +2,7 @@
 // Made by tools/generate of crates/linker_elf/src/ppc64/forms.rt.
 //! PowerPC64 instructions that hold a value.
 
-use crate::linker_elf::elf::engine::{self, Encoding, Step, Window, form};
+use crate::linker_elf::elf::engine::{self, Encoding, Step, Window, forms};
 use crate::linker_elf::elf::{AllowedRange, InstructionForm, RelocationInstruction, Sign};
 use crate::linker_base::bit_misc::BitRange;
 
@@ -35,22 +35,27 @@ pub enum Ppc64Instruction {
 
 /// The forms, in the order of their enum.
 macro_rules! ppc64_forms {
-    ($($part:tt)+) => {
-        [
-            form!([$($part)+] Four, 0..16, [0, 0, 16]),
-            form!([$($part)+] Four, 2..16, [2, 2, 14]),
-            form!([$($part)+] Four, 2..16, [2, 2, 14]),
-            form!([$($part)+] Four, 2..26, [2, 2, 24]),
-            form!([$($part)+] Eight, 0..34, [0, 32, 16] [16, 0, 18]),
-            form!([$($part)+] Four, 0..16, [0, 0, 16]),
-        ]
-    };
+    ($($part:tt)+) => { forms! { [$($part)+]
+        (D Four, 0..16, [0, 0, 16])
+        (Ds Four, 2..16, [2, 2, 14])
+        (Branch14 Four, 2..16, [2, 2, 14])
+        (Branch24 Four, 2..26, [2, 2, 24])
+        (Prefixed Eight, 0..34, [0, 32, 16] [16, 0, 18])
+        (DUnsigned Four, 0..16, [0, 0, 16])
+    } };
 }
 
 // Tables, since with a match LLVM would jump by the form.
 const CODES: [Encoding; 6] = ppc64_forms!(code);
 
 const STEPS: [[Step; 2]; 6] = ppc64_forms!(2 steps);
+
+/// The forms by their numbers. A table, since a match becomes a jump by the number where what
+/// follows differs by the form.
+const FORMS: &[Ppc64Instruction] = &ppc64_forms!(variant Ppc64Instruction);
+
+/// The unit of the displacements of DQ-form: the lowest four bits of such a word are others.
+pub const DQ_UNIT: u64 = 16;
 
 impl Ppc64Instruction {
     /// What the form is beside its steps.
@@ -76,14 +81,8 @@ impl Ppc64Instruction {
     pub fn write_to_value(self, extracted_value: u64, negative: bool, dest: &mut [u8]) {
         debug_assert!(self.window() <= dest.len());
         let insn = RelocationInstruction::Ppc64(self);
-        engine::write(
-            insn,
-            self.code(),
-            self.steps(),
-            extracted_value,
-            negative,
-            dest,
-        );
+        let (code, steps) = (self.code(), self.steps());
+        engine::write(insn, code, steps, extracted_value, negative, dest);
     }
 
     /// The value in the instruction that `bytes` begins with, unsigned: bits of the value that the
@@ -97,20 +96,17 @@ impl Ppc64Instruction {
     #[inline]
     pub fn read_value(self, bytes: &[u8]) -> (u64, bool) {
         debug_assert!(self.window() <= bytes.len());
-        engine::read(
-            RelocationInstruction::Ppc64(self),
-            self.code(),
-            self.steps(),
-            bytes,
-        )
+        let insn = RelocationInstruction::Ppc64(self);
+        engine::read(insn, self.code(), self.steps(), bytes)
     }
-}
 
-/// The unit of the displacements of DQ-form: the lowest four bits of such a word are others.
-pub const DQ_UNIT: u64 = 16;
+    /// The form with a number, its place in the enum. None above the last.
+    #[must_use]
+    #[inline(always)]
+    pub fn from_number(number: u32) -> Option<Ppc64Instruction> {
+        FORMS.get(number as usize).copied()
+    }
 
-/// What other modules use of a form.
-impl Ppc64Instruction {
     /// Whether an instruction of DQ-form (Power ISA, "DQ-Form") is where one of DS-form is
     /// expected: `lq`, `lxvp`, `stxvp`, `lxv` or `stxv`.
     ///
@@ -173,12 +169,8 @@ impl Ppc64Instruction {
     #[inline(always)]
     pub(crate) fn reach(self, bits: BitRange, range: AllowedRange) -> AllowedRange {
         match (self, range.bounds) {
-            (Ppc64Instruction::D, None) => {
-                if bits.start == 16 {
-                    AllowedRange::from_bit_size(32, Sign::Signed)
-                } else {
-                    range
-                }
+            (Ppc64Instruction::D, None) if bits.start == 16 => {
+                AllowedRange::from_bit_size(32, Sign::Signed)
             }
             _ => range,
         }
@@ -227,25 +219,5 @@ impl InstructionForm for Ppc64Instruction {
     fn read(self, bytes: &[u8]) -> (u64, bool) {
         debug_assert!(self.window() <= bytes.len());
         self.read_value(bytes)
-    }
-}
-
-/// The forms by their numbers. A table, since a match becomes a jump by the number where what
-/// follows differs by the form.
-const FORMS: &[Ppc64Instruction] = &[
-    Ppc64Instruction::D,
-    Ppc64Instruction::Ds,
-    Ppc64Instruction::Branch14,
-    Ppc64Instruction::Branch24,
-    Ppc64Instruction::Prefixed,
-    Ppc64Instruction::DUnsigned,
-];
-
-impl Ppc64Instruction {
-    /// The form with a number, its place in the enum. None above the last.
-    #[must_use]
-    #[inline(always)]
-    pub fn from_number(number: u32) -> Option<Ppc64Instruction> {
-        FORMS.get(number as usize).copied()
     }
 }

@@ -3,10 +3,7 @@
 //! What the relocations of PowerPC64 mean.
 
 use crate::linker_elf::elf::choice_table::RelocationName;
-use crate::linker_elf::elf::rows::{
-    TableRow, code_of_name, index_of_name, name_of_code, raw_info_in, row, row_in, table,
-    text_of_name,
-};
+use crate::linker_elf::elf::rows::{TableRow, listed, raw_info_in, row_in};
 use crate::linker_elf::elf::{RelocationKindInfo, Row};
 use core::fmt;
 
@@ -122,195 +119,111 @@ pub enum Ppc64Relocation {
 
 /// Each relocation: its code, its name and its row, in the order of the enum of names.
 macro_rules! relocations {
-    ($make:ident $arguments:tt) => {
-        $make! {
-            $arguments
-            below 128 {
-                0 R_PPC64_NONE => Some(row!(None, (0 bytes), any, origin: own)),
-                1 R_PPC64_ADDR32 => Some(row!(Absolute, (4 bytes), signed_or_unsigned 32)),
-                2 R_PPC64_ADDR24 =>
-                    Some(row!(Absolute, (0..26 Ppc64::Branch24), signed 26, alignment: 4,
-                        origin: own)),
-                3 R_PPC64_ADDR16 =>
-                    Some(row!(Absolute, (2 bytes), signed_or_unsigned 16, origin: own)),
-                4 R_PPC64_ADDR16_LO => Some(row!(Absolute, (0..16 Ppc64::D), any, origin: own)),
-                5 R_PPC64_ADDR16_HI =>
-                    Some(row!(Absolute, (16..32 Ppc64::D), any reach signed 32, origin: own)),
-                6 R_PPC64_ADDR16_HA =>
-                    Some(row!(Absolute, (16..32 Ppc64::D), any reach signed 32, bias: 0x8000,
-                        origin: own)),
-                7 R_PPC64_ADDR14 =>
-                    Some(row!(Absolute, (0..16 Ppc64::Branch14), signed 16, alignment: 4,
-                        origin: own)),
-                10 R_PPC64_REL24 =>
-                    Some(row!(Relative, (0..26 Ppc64::Branch24), signed 26, alignment: 4)),
-                11 R_PPC64_REL14 =>
-                    Some(row!(Relative, (0..16 Ppc64::Branch14), signed 16, alignment: 4)),
-                14 R_PPC64_GOT16 =>
-                    Some(row!(GotRelGotBase, (0..16 Ppc64::D), signed 16, origin: own)),
-                15 R_PPC64_GOT16_LO =>
-                    Some(row!(GotRelGotBase, (0..16 Ppc64::D), any, origin: own)),
-                16 R_PPC64_GOT16_HI =>
-                    Some(row!(GotRelGotBase, (16..32 Ppc64::D), any reach signed 32, origin: own)),
-                17 R_PPC64_GOT16_HA =>
-                    Some(row!(GotRelGotBase, (16..32 Ppc64::D), any reach signed 32,
-                        bias: 0x8000, origin: own)),
-                26 R_PPC64_REL32 => Some(row!(Relative, (4 bytes), signed 32)),
-                31 R_PPC64_PLT16_HA =>
-                    Some(row!(PltRelGotBase, (16..32 Ppc64::D), any reach signed 32,
-                        bias: 0x8000, origin: own)),
-                38 R_PPC64_ADDR64 => Some(row!(Absolute, (8 bytes), any)),
-                39 R_PPC64_ADDR16_HIGHER =>
-                    Some(row!(Absolute, (32..48 Ppc64::DUnsigned), any, origin: own)),
-                40 R_PPC64_ADDR16_HIGHERA =>
-                    Some(row!(Absolute, (32..48 Ppc64::DUnsigned), any, bias: 0x8000, origin: own)),
-                41 R_PPC64_ADDR16_HIGHEST =>
-                    Some(row!(Absolute, (48..64 Ppc64::D), any, origin: own)),
-                42 R_PPC64_ADDR16_HIGHESTA =>
-                    Some(row!(Absolute, (48..64 Ppc64::D), any, bias: 0x8000, origin: own)),
-                44 R_PPC64_REL64 => Some(row!(Relative, (8 bytes), any)),
-                47 R_PPC64_TOC16 =>
-                    Some(row!(SymRelGotBase, (0..16 Ppc64::D), signed 16, origin: own)),
-                48 R_PPC64_TOC16_LO => Some(row!(SymRelGotBase, (0..16 Ppc64::D), any)),
-                49 R_PPC64_TOC16_HI =>
-                    Some(row!(SymRelGotBase, (16..32 Ppc64::D), any reach signed 32, origin: own)),
-                50 R_PPC64_TOC16_HA =>
-                    Some(row!(SymRelGotBase, (16..32 Ppc64::D), any reach signed 32, bias: 0x8000)),
-                56 R_PPC64_ADDR16_DS =>
-                    Some(row!(Absolute, (0..16 Ppc64::Ds), signed 16, alignment: 4, origin: own)),
-                57 R_PPC64_ADDR16_LO_DS =>
-                    Some(row!(Absolute, (0..16 Ppc64::Ds), any, alignment: 4, origin: own)),
-                58 R_PPC64_GOT16_DS =>
-                    Some(row!(GotRelGotBase, (0..16 Ppc64::Ds), signed 16, alignment: 4,
-                        origin: own)),
-                59 R_PPC64_GOT16_LO_DS =>
-                    Some(row!(GotRelGotBase, (0..16 Ppc64::Ds), any, alignment: 4, origin: own)),
-                60 R_PPC64_PLT16_LO_DS =>
-                    Some(row!(PltRelGotBase, (0..16 Ppc64::Ds), any, alignment: 4, origin: own)),
-                63 R_PPC64_TOC16_DS =>
-                    Some(row!(SymRelGotBase, (0..16 Ppc64::Ds), signed 16, alignment: 4,
-                        origin: own)),
-                64 R_PPC64_TOC16_LO_DS =>
-                    Some(row!(SymRelGotBase, (0..16 Ppc64::Ds), any, alignment: 4)),
-                67 R_PPC64_TLS => Some(row!(None, (0 bytes), any)),
-                69 R_PPC64_TPREL16 => Some(row!(TpOff, (0..16 Ppc64::D), signed 16)),
-                70 R_PPC64_TPREL16_LO => Some(row!(TpOff, (0..16 Ppc64::D), any)),
-                71 R_PPC64_TPREL16_HI => Some(row!(TpOff, (16..32 Ppc64::D), any reach signed 32)),
-                72 R_PPC64_TPREL16_HA =>
-                    Some(row!(TpOff, (16..32 Ppc64::D), any reach signed 32, bias: 0x8000)),
-                73 R_PPC64_TPREL64 => Some(row!(TpOff, (8 bytes), any)),
-                74 R_PPC64_DTPREL16 => Some(row!(DtpOff, (0..16 Ppc64::D), signed 16)),
-                75 R_PPC64_DTPREL16_LO => Some(row!(DtpOff, (0..16 Ppc64::D), any)),
-                76 R_PPC64_DTPREL16_HI =>
-                    Some(row!(DtpOff, (16..32 Ppc64::D), any reach signed 32)),
-                77 R_PPC64_DTPREL16_HA =>
-                    Some(row!(DtpOff, (16..32 Ppc64::D), any reach signed 32, bias: 0x8000)),
-                78 R_PPC64_DTPREL64 => Some(row!(DtpOff, (8 bytes), any)),
-                79 R_PPC64_GOT_TLSGD16 => Some(row!(TlsGdGotBase, (0..16 Ppc64::D), signed 16)),
-                80 R_PPC64_GOT_TLSGD16_LO => Some(row!(TlsGdGotBase, (0..16 Ppc64::D), any)),
-                81 R_PPC64_GOT_TLSGD16_HI =>
-                    Some(row!(TlsGdGotBase, (16..32 Ppc64::D), any reach signed 32)),
-                82 R_PPC64_GOT_TLSGD16_HA =>
-                    Some(row!(TlsGdGotBase, (16..32 Ppc64::D), any reach signed 32, bias: 0x8000)),
-                83 R_PPC64_GOT_TLSLD16 => Some(row!(TlsLdGotBase, (0..16 Ppc64::D), signed 16)),
-                84 R_PPC64_GOT_TLSLD16_LO => Some(row!(TlsLdGotBase, (0..16 Ppc64::D), any)),
-                85 R_PPC64_GOT_TLSLD16_HI =>
-                    Some(row!(TlsLdGotBase, (16..32 Ppc64::D), any reach signed 32)),
-                86 R_PPC64_GOT_TLSLD16_HA =>
-                    Some(row!(TlsLdGotBase, (16..32 Ppc64::D), any reach signed 32, bias: 0x8000)),
-                87 R_PPC64_GOT_TPREL16_DS =>
-                    Some(row!(GotTpOffGotBase, (0..16 Ppc64::Ds), signed 16, alignment: 4)),
-                88 R_PPC64_GOT_TPREL16_LO_DS =>
-                    Some(row!(GotTpOffGotBase, (0..16 Ppc64::Ds), any, alignment: 4)),
-                89 R_PPC64_GOT_TPREL16_HI =>
-                    Some(row!(GotTpOffGotBase, (16..32 Ppc64::D), any reach signed 32)),
-                90 R_PPC64_GOT_TPREL16_HA =>
-                    Some(row!(GotTpOffGotBase, (16..32 Ppc64::D), any reach signed 32,
-                        bias: 0x8000)),
-                95 R_PPC64_TPREL16_DS =>
-                    Some(row!(TpOff, (0..16 Ppc64::Ds), signed 16, alignment: 4)),
-                96 R_PPC64_TPREL16_LO_DS => Some(row!(TpOff, (0..16 Ppc64::Ds), any, alignment: 4)),
-                97 R_PPC64_TPREL16_HIGHER =>
-                    Some(row!(TpOff, (32..48 Ppc64::DUnsigned), any, origin: own)),
-                98 R_PPC64_TPREL16_HIGHERA =>
-                    Some(row!(TpOff, (32..48 Ppc64::DUnsigned), any, bias: 0x8000, origin: own)),
-                99 R_PPC64_TPREL16_HIGHEST =>
-                    Some(row!(TpOff, (48..64 Ppc64::D), any, origin: own)),
-                100 R_PPC64_TPREL16_HIGHESTA =>
-                    Some(row!(TpOff, (48..64 Ppc64::D), any, bias: 0x8000, origin: own)),
-                101 R_PPC64_DTPREL16_DS =>
-                    Some(row!(DtpOff, (0..16 Ppc64::Ds), signed 16, alignment: 4)),
-                102 R_PPC64_DTPREL16_LO_DS =>
-                    Some(row!(DtpOff, (0..16 Ppc64::Ds), any, alignment: 4)),
-                103 R_PPC64_DTPREL16_HIGHER =>
-                    Some(row!(DtpOff, (32..48 Ppc64::DUnsigned), any, origin: own)),
-                104 R_PPC64_DTPREL16_HIGHERA =>
-                    Some(row!(DtpOff, (32..48 Ppc64::DUnsigned), any, bias: 0x8000, origin: own)),
-                105 R_PPC64_DTPREL16_HIGHEST =>
-                    Some(row!(DtpOff, (48..64 Ppc64::D), any, origin: own)),
-                106 R_PPC64_DTPREL16_HIGHESTA =>
-                    Some(row!(DtpOff, (48..64 Ppc64::D), any, bias: 0x8000, origin: own)),
-                107 R_PPC64_TLSGD => Some(row!(None, (0 bytes), any)),
-                108 R_PPC64_TLSLD => Some(row!(None, (0 bytes), any)),
-                110 R_PPC64_ADDR16_HIGH =>
-                    Some(row!(Absolute, (16..32 Ppc64::DUnsigned), any, origin: own)),
-                111 R_PPC64_ADDR16_HIGHA =>
-                    Some(row!(Absolute, (16..32 Ppc64::DUnsigned), any, bias: 0x8000, origin: own)),
-                112 R_PPC64_TPREL16_HIGH =>
-                    Some(row!(TpOff, (16..32 Ppc64::DUnsigned), any, origin: own)),
-                113 R_PPC64_TPREL16_HIGHA =>
-                    Some(row!(TpOff, (16..32 Ppc64::DUnsigned), any, bias: 0x8000, origin: own)),
-                114 R_PPC64_DTPREL16_HIGH =>
-                    Some(row!(DtpOff, (16..32 Ppc64::DUnsigned), any, origin: own)),
-                115 R_PPC64_DTPREL16_HIGHA =>
-                    Some(row!(DtpOff, (16..32 Ppc64::DUnsigned), any, bias: 0x8000, origin: own)),
-                116 R_PPC64_REL24_NOTOC =>
-                    Some(row!(Relative, (0..26 Ppc64::Branch24), signed 26, alignment: 4,
-                        origin: own)),
-                118 R_PPC64_ENTRY => Some(row!(None, (0 bytes), any, origin: own)),
-                119 R_PPC64_PLTSEQ => Some(row!(None, (0 bytes), any, origin: own)),
-                120 R_PPC64_PLTCALL => Some(row!(None, (0 bytes), any, origin: own)),
-                121 R_PPC64_PLTSEQ_NOTOC => Some(row!(None, (0 bytes), any, origin: own)),
-                122 R_PPC64_PLTCALL_NOTOC => Some(row!(None, (0 bytes), any, origin: own)),
-                123 R_PPC64_PCREL_OPT => Some(row!(None, (0 bytes), any, origin: own)),
-            }
-            {
-                128 R_PPC64_D34 =>
-                    Some(row!(Absolute, (0..34 Ppc64::Prefixed), signed 34, origin: own)),
-                129 R_PPC64_D34_LO =>
-                    Some(row!(Absolute, (0..34 Ppc64::Prefixed), any, origin: own)),
-                130 R_PPC64_D34_HI30 =>
-                    Some(row!(Absolute, (34..64 Ppc64::Prefixed), any, origin: own)),
-                131 R_PPC64_D34_HA30 =>
-                    Some(row!(Absolute, (34..64 Ppc64::Prefixed), any,
-                        bias: 0x200000000, origin: own)),
-                132 R_PPC64_PCREL34 =>
-                    Some(row!(Relative, (0..34 Ppc64::Prefixed), signed 34, origin: own)),
-                133 R_PPC64_GOT_PCREL34 =>
-                    Some(row!(GotRelative, (0..34 Ppc64::Prefixed), signed 34, origin: own)),
-                134 R_PPC64_PLT_PCREL34 =>
-                    Some(row!(PltRelative, (0..34 Ppc64::Prefixed), signed 34, origin: own)),
-                135 R_PPC64_PLT_PCREL34_NOTOC =>
-                    Some(row!(PltRelative, (0..34 Ppc64::Prefixed), signed 34, origin: own)),
-                146 R_PPC64_TPREL34 =>
-                    Some(row!(TpOff, (0..34 Ppc64::Prefixed), signed 34, origin: own)),
-                147 R_PPC64_DTPREL34 =>
-                    Some(row!(DtpOff, (0..34 Ppc64::Prefixed), signed 34, origin: own)),
-                148 R_PPC64_GOT_TLSGD_PCREL34 =>
-                    Some(row!(TlsGd, (0..34 Ppc64::Prefixed), signed 34, origin: own)),
-                149 R_PPC64_GOT_TLSLD_PCREL34 =>
-                    Some(row!(TlsLd, (0..34 Ppc64::Prefixed), signed 34, origin: own)),
-                150 R_PPC64_GOT_TPREL_PCREL34 =>
-                    Some(row!(GotTpOff, (0..34 Ppc64::Prefixed), signed 34, origin: own)),
-                249 R_PPC64_REL16 => Some(row!(Relative, (2 bytes), signed 16, origin: own)),
-                250 R_PPC64_REL16_LO => Some(row!(Relative, (0..16 Ppc64::D), any)),
-                251 R_PPC64_REL16_HI =>
-                    Some(row!(Relative, (16..32 Ppc64::D), any reach signed 32, origin: own)),
-                252 R_PPC64_REL16_HA =>
-                    Some(row!(Relative, (16..32 Ppc64::D), any reach signed 32, bias: 0x8000)),
-            }
-        }
-    };
+    ($($made:tt)+) => { listed! { ($($made)+) below 128 {
+        0 R_PPC64_NONE (None, 0 bytes, any, own: true)
+        1 R_PPC64_ADDR32 (Absolute, 4 bytes, signed_or_unsigned 32)
+        2 R_PPC64_ADDR24 (Absolute, 0..26 Branch24, signed 26, alignment: 4, own: true)
+        3 R_PPC64_ADDR16 (Absolute, 2 bytes, signed_or_unsigned 16, own: true)
+        4 R_PPC64_ADDR16_LO (Absolute, 0..16 D, any, own: true)
+        5 R_PPC64_ADDR16_HI (Absolute, 16..32 D, any, reach: signed 32, own: true)
+        6 R_PPC64_ADDR16_HA (Absolute, 16..32 D, any, reach: signed 32, bias: 0x8000, own: true)
+        7 R_PPC64_ADDR14 (Absolute, 0..16 Branch14, signed 16, alignment: 4, own: true)
+        10 R_PPC64_REL24 (Relative, 0..26 Branch24, signed 26, alignment: 4)
+        11 R_PPC64_REL14 (Relative, 0..16 Branch14, signed 16, alignment: 4)
+        14 R_PPC64_GOT16 (GotRelGotBase, 0..16 D, signed 16, own: true)
+        15 R_PPC64_GOT16_LO (GotRelGotBase, 0..16 D, any, own: true)
+        16 R_PPC64_GOT16_HI (GotRelGotBase, 16..32 D, any, reach: signed 32, own: true)
+        17 R_PPC64_GOT16_HA (GotRelGotBase, 16..32 D, any, reach: signed 32, bias: 0x8000,
+            own: true)
+        26 R_PPC64_REL32 (Relative, 4 bytes, signed 32)
+        31 R_PPC64_PLT16_HA (PltRelGotBase, 16..32 D, any, reach: signed 32, bias: 0x8000,
+            own: true)
+        38 R_PPC64_ADDR64 (Absolute, 8 bytes, any)
+        39 R_PPC64_ADDR16_HIGHER (Absolute, 32..48 DUnsigned, any, own: true)
+        40 R_PPC64_ADDR16_HIGHERA (Absolute, 32..48 DUnsigned, any, bias: 0x8000, own: true)
+        41 R_PPC64_ADDR16_HIGHEST (Absolute, 48..64 D, any, own: true)
+        42 R_PPC64_ADDR16_HIGHESTA (Absolute, 48..64 D, any, bias: 0x8000, own: true)
+        44 R_PPC64_REL64 (Relative, 8 bytes, any)
+        47 R_PPC64_TOC16 (SymRelGotBase, 0..16 D, signed 16, own: true)
+        48 R_PPC64_TOC16_LO (SymRelGotBase, 0..16 D, any)
+        49 R_PPC64_TOC16_HI (SymRelGotBase, 16..32 D, any, reach: signed 32, own: true)
+        50 R_PPC64_TOC16_HA (SymRelGotBase, 16..32 D, any, reach: signed 32, bias: 0x8000)
+        56 R_PPC64_ADDR16_DS (Absolute, 0..16 Ds, signed 16, alignment: 4, own: true)
+        57 R_PPC64_ADDR16_LO_DS (Absolute, 0..16 Ds, any, alignment: 4, own: true)
+        58 R_PPC64_GOT16_DS (GotRelGotBase, 0..16 Ds, signed 16, alignment: 4, own: true)
+        59 R_PPC64_GOT16_LO_DS (GotRelGotBase, 0..16 Ds, any, alignment: 4, own: true)
+        60 R_PPC64_PLT16_LO_DS (PltRelGotBase, 0..16 Ds, any, alignment: 4, own: true)
+        63 R_PPC64_TOC16_DS (SymRelGotBase, 0..16 Ds, signed 16, alignment: 4, own: true)
+        64 R_PPC64_TOC16_LO_DS (SymRelGotBase, 0..16 Ds, any, alignment: 4)
+        67 R_PPC64_TLS (None, 0 bytes, any)
+        69 R_PPC64_TPREL16 (TpOff, 0..16 D, signed 16)
+        70 R_PPC64_TPREL16_LO (TpOff, 0..16 D, any)
+        71 R_PPC64_TPREL16_HI (TpOff, 16..32 D, any, reach: signed 32)
+        72 R_PPC64_TPREL16_HA (TpOff, 16..32 D, any, reach: signed 32, bias: 0x8000)
+        73 R_PPC64_TPREL64 (TpOff, 8 bytes, any)
+        74 R_PPC64_DTPREL16 (DtpOff, 0..16 D, signed 16)
+        75 R_PPC64_DTPREL16_LO (DtpOff, 0..16 D, any)
+        76 R_PPC64_DTPREL16_HI (DtpOff, 16..32 D, any, reach: signed 32)
+        77 R_PPC64_DTPREL16_HA (DtpOff, 16..32 D, any, reach: signed 32, bias: 0x8000)
+        78 R_PPC64_DTPREL64 (DtpOff, 8 bytes, any)
+        79 R_PPC64_GOT_TLSGD16 (TlsGdGotBase, 0..16 D, signed 16)
+        80 R_PPC64_GOT_TLSGD16_LO (TlsGdGotBase, 0..16 D, any)
+        81 R_PPC64_GOT_TLSGD16_HI (TlsGdGotBase, 16..32 D, any, reach: signed 32)
+        82 R_PPC64_GOT_TLSGD16_HA (TlsGdGotBase, 16..32 D, any, reach: signed 32, bias: 0x8000)
+        83 R_PPC64_GOT_TLSLD16 (TlsLdGotBase, 0..16 D, signed 16)
+        84 R_PPC64_GOT_TLSLD16_LO (TlsLdGotBase, 0..16 D, any)
+        85 R_PPC64_GOT_TLSLD16_HI (TlsLdGotBase, 16..32 D, any, reach: signed 32)
+        86 R_PPC64_GOT_TLSLD16_HA (TlsLdGotBase, 16..32 D, any, reach: signed 32, bias: 0x8000)
+        87 R_PPC64_GOT_TPREL16_DS (GotTpOffGotBase, 0..16 Ds, signed 16, alignment: 4)
+        88 R_PPC64_GOT_TPREL16_LO_DS (GotTpOffGotBase, 0..16 Ds, any, alignment: 4)
+        89 R_PPC64_GOT_TPREL16_HI (GotTpOffGotBase, 16..32 D, any, reach: signed 32)
+        90 R_PPC64_GOT_TPREL16_HA (GotTpOffGotBase, 16..32 D, any, reach: signed 32, bias: 0x8000)
+        95 R_PPC64_TPREL16_DS (TpOff, 0..16 Ds, signed 16, alignment: 4)
+        96 R_PPC64_TPREL16_LO_DS (TpOff, 0..16 Ds, any, alignment: 4)
+        97 R_PPC64_TPREL16_HIGHER (TpOff, 32..48 DUnsigned, any, own: true)
+        98 R_PPC64_TPREL16_HIGHERA (TpOff, 32..48 DUnsigned, any, bias: 0x8000, own: true)
+        99 R_PPC64_TPREL16_HIGHEST (TpOff, 48..64 D, any, own: true)
+        100 R_PPC64_TPREL16_HIGHESTA (TpOff, 48..64 D, any, bias: 0x8000, own: true)
+        101 R_PPC64_DTPREL16_DS (DtpOff, 0..16 Ds, signed 16, alignment: 4)
+        102 R_PPC64_DTPREL16_LO_DS (DtpOff, 0..16 Ds, any, alignment: 4)
+        103 R_PPC64_DTPREL16_HIGHER (DtpOff, 32..48 DUnsigned, any, own: true)
+        104 R_PPC64_DTPREL16_HIGHERA (DtpOff, 32..48 DUnsigned, any, bias: 0x8000, own: true)
+        105 R_PPC64_DTPREL16_HIGHEST (DtpOff, 48..64 D, any, own: true)
+        106 R_PPC64_DTPREL16_HIGHESTA (DtpOff, 48..64 D, any, bias: 0x8000, own: true)
+        107 R_PPC64_TLSGD (None, 0 bytes, any)
+        108 R_PPC64_TLSLD (None, 0 bytes, any)
+        110 R_PPC64_ADDR16_HIGH (Absolute, 16..32 DUnsigned, any, own: true)
+        111 R_PPC64_ADDR16_HIGHA (Absolute, 16..32 DUnsigned, any, bias: 0x8000, own: true)
+        112 R_PPC64_TPREL16_HIGH (TpOff, 16..32 DUnsigned, any, own: true)
+        113 R_PPC64_TPREL16_HIGHA (TpOff, 16..32 DUnsigned, any, bias: 0x8000, own: true)
+        114 R_PPC64_DTPREL16_HIGH (DtpOff, 16..32 DUnsigned, any, own: true)
+        115 R_PPC64_DTPREL16_HIGHA (DtpOff, 16..32 DUnsigned, any, bias: 0x8000, own: true)
+        116 R_PPC64_REL24_NOTOC (Relative, 0..26 Branch24, signed 26, alignment: 4, own: true)
+        118 R_PPC64_ENTRY (None, 0 bytes, any, own: true)
+        119 R_PPC64_PLTSEQ (None, 0 bytes, any, own: true)
+        120 R_PPC64_PLTCALL (None, 0 bytes, any, own: true)
+        121 R_PPC64_PLTSEQ_NOTOC (None, 0 bytes, any, own: true)
+        122 R_PPC64_PLTCALL_NOTOC (None, 0 bytes, any, own: true)
+        123 R_PPC64_PCREL_OPT (None, 0 bytes, any, own: true)
+    } {
+        128 R_PPC64_D34 (Absolute, 0..34 Prefixed, signed 34, own: true)
+        129 R_PPC64_D34_LO (Absolute, 0..34 Prefixed, any, own: true)
+        130 R_PPC64_D34_HI30 (Absolute, 34..64 Prefixed, any, own: true)
+        131 R_PPC64_D34_HA30 (Absolute, 34..64 Prefixed, any, bias: 0x200000000, own: true)
+        132 R_PPC64_PCREL34 (Relative, 0..34 Prefixed, signed 34, own: true)
+        133 R_PPC64_GOT_PCREL34 (GotRelative, 0..34 Prefixed, signed 34, own: true)
+        134 R_PPC64_PLT_PCREL34 (PltRelative, 0..34 Prefixed, signed 34, own: true)
+        135 R_PPC64_PLT_PCREL34_NOTOC (PltRelative, 0..34 Prefixed, signed 34, own: true)
+        146 R_PPC64_TPREL34 (TpOff, 0..34 Prefixed, signed 34, own: true)
+        147 R_PPC64_DTPREL34 (DtpOff, 0..34 Prefixed, signed 34, own: true)
+        148 R_PPC64_GOT_TLSGD_PCREL34 (TlsGd, 0..34 Prefixed, signed 34, own: true)
+        149 R_PPC64_GOT_TLSLD_PCREL34 (TlsLd, 0..34 Prefixed, signed 34, own: true)
+        150 R_PPC64_GOT_TPREL_PCREL34 (GotTpOff, 0..34 Prefixed, signed 34, own: true)
+        249 R_PPC64_REL16 (Relative, 2 bytes, signed 16, own: true)
+        250 R_PPC64_REL16_LO (Relative, 0..16 D, any)
+        251 R_PPC64_REL16_HI (Relative, 16..32 D, any, reach: signed 32, own: true)
+        252 R_PPC64_REL16_HA (Relative, 16..32 D, any, reach: signed 32, bias: 0x8000)
+    } } };
 }
 
 impl fmt::Debug for Ppc64Relocation {
@@ -327,29 +240,29 @@ impl Ppc64Relocation {
     #[must_use]
     #[inline(always)]
     pub const fn from_elf(code: u32) -> Ppc64Relocation {
-        relocations!(name_of_code(Ppc64Relocation, code))
+        relocations!(name_of Ppc64Relocation, code)
     }
 
     /// The code, `r_type` in ELF files.
     #[must_use]
     #[inline]
     pub const fn elf_code(self) -> u32 {
-        relocations!(code_of_name(Ppc64Relocation, self))
+        relocations!(code_of Ppc64Relocation, self)
     }
 
     /// The name, as "R_PPC64_REL24"; "unknown relocation" for `Other`.
     #[must_use]
     pub const fn name(self) -> &'static str {
-        relocations!(text_of_name(Ppc64Relocation, self))
+        relocations!(text_of Ppc64Relocation, self)
     }
 }
 
-static ROWS: &[Option<TableRow>] = &relocations!(table());
+static ROWS: &[Option<TableRow>] = &relocations!(table [Ppc64 Ppc64Instruction EM_PPC64]);
 
 /// The index of a name in the table.
 #[inline(always)]
 const fn index(name: Ppc64Relocation) -> usize {
-    relocations!(index_of_name(Ppc64Relocation, name))
+    relocations!(index_of Ppc64Relocation, name)
 }
 
 /// What a relocation means. It takes a name; [`Ppc64Relocation::from_elf`](crate::ppc64::Ppc64Relocation::from_elf) gives the name of a code.

@@ -3,10 +3,7 @@
 //! What the relocations of RISC-V mean.
 
 use crate::linker_elf::elf::choice_table::RelocationName;
-use crate::linker_elf::elf::rows::{
-    TableRow, code_of_name, index_of_name, name_of_code, raw_info_in, row, row_in, table,
-    text_of_name,
-};
+use crate::linker_elf::elf::rows::{TableRow, listed, raw_info_in, row_in};
 use crate::linker_elf::elf::{RelocationKindInfo, Row, Uleb128Role};
 use core::fmt;
 
@@ -72,87 +69,58 @@ pub enum RiscVRelocation {
     Other(u32),
 }
 
-/// A part of a value, or both, of a pair: `row!` of the value's first bits. The low part is signed,
-/// so the pair reaches 0x800 less than 32 signed bits.
-macro_rules! pair {
-    ($kind:ident, $end:literal, $form:ident $(, $($field:tt)*)?) => {
-        row!(
-            $kind, (0..$end RiscV::$form), signed_or_unsigned 32 reach -0x80000800, 0x7ffff800
-            $(, $($field)*)?
-        )
-    };
-}
-
 /// Each relocation: its code, its name and its row, in the order of the enum of names.
 macro_rules! relocations {
-    ($make:ident $arguments:tt) => {
-        $make! {
-            $arguments
-            {
-                0 R_RISCV_NONE => Some(row!(None, (0 bytes), any)),
-                1 R_RISCV_32 => Some(row!(Absolute, (4 bytes), signed_or_unsigned 32)),
-                2 R_RISCV_64 => Some(row!(Absolute, (8 bytes), any)),
-                16 R_RISCV_BRANCH =>
-                    Some(row!(Relative, (0..32 RiscV::BType), within -4096, 4095, alignment: 2)),
-                17 R_RISCV_JAL =>
-                    Some(row!(Relative, (0..32 RiscV::JType), within -1048576, 1048575,
-                        alignment: 2)),
-                18 R_RISCV_CALL => Some(pair!(PltRelative, 64, UiType)),
-                19 R_RISCV_CALL_PLT => Some(pair!(PltRelative, 64, UiType)),
-                20 R_RISCV_GOT_HI20 => Some(pair!(GotRelative, 32, UType)),
-                21 R_RISCV_TLS_GOT_HI20 => Some(pair!(GotTpOff, 32, UType)),
-                22 R_RISCV_TLS_GD_HI20 => Some(pair!(TlsGd, 32, UType)),
-                23 R_RISCV_PCREL_HI20 => Some(pair!(Relative, 32, UType)),
-                24 R_RISCV_PCREL_LO12_I => Some(pair!(RelativeRiscVLow12, 32, IType)),
-                25 R_RISCV_PCREL_LO12_S => Some(pair!(RelativeRiscVLow12, 32, SType)),
-                26 R_RISCV_HI20 => Some(pair!(Absolute, 32, UType)),
-                27 R_RISCV_LO12_I => Some(pair!(Absolute, 32, IType)),
-                28 R_RISCV_LO12_S => Some(pair!(Absolute, 32, SType)),
-                29 R_RISCV_TPREL_HI20 => Some(pair!(TpOff, 32, UType)),
-                30 R_RISCV_TPREL_LO12_I => Some(pair!(TpOff, 32, IType)),
-                31 R_RISCV_TPREL_LO12_S => Some(pair!(TpOff, 32, SType)),
-                32 R_RISCV_TPREL_ADD => Some(row!(None, (0 bytes), any)),
-                33 R_RISCV_ADD8 => Some(row!(AbsoluteAddition, (1 bytes), any)),
-                34 R_RISCV_ADD16 => Some(row!(AbsoluteAddition, (2 bytes), any)),
-                35 R_RISCV_ADD32 => Some(row!(AbsoluteAddition, (4 bytes), any)),
-                36 R_RISCV_ADD64 => Some(row!(AbsoluteAddition, (8 bytes), any)),
-                37 R_RISCV_SUB8 => Some(row!(AbsoluteSubtraction, (1 bytes), any)),
-                38 R_RISCV_SUB16 => Some(row!(AbsoluteSubtraction, (2 bytes), any)),
-                39 R_RISCV_SUB32 => Some(row!(AbsoluteSubtraction, (4 bytes), any)),
-                40 R_RISCV_SUB64 => Some(row!(AbsoluteSubtraction, (8 bytes), any)),
-                41 R_RISCV_GOT32_PCREL =>
-                    Some(row!(GotRelative, (4 bytes), signed_or_unsigned 32 reach -0x80000000,
-                        0x80000000)),
-                43 R_RISCV_ALIGN => Some(row!(Alignment, (0 bytes), any)),
-                44 R_RISCV_RVC_BRANCH =>
-                    Some(row!(Relative, (0..16 RiscV::CbType), within -256, 255, alignment: 2)),
-                45 R_RISCV_RVC_JUMP =>
-                    Some(row!(Relative, (0..16 RiscV::CjType), within -2048, 2047, alignment: 2)),
-                46 R_RISCV_RVC_LUI =>
-                    Some(row!(Absolute, (0..32 RiscV::CluiType), signed_or_unsigned 32
-                        reach -0x20800, 0x1f800, origin: own)),
-                51 R_RISCV_RELAX => Some(row!(None, (0 bytes), any)),
-                52 R_RISCV_SUB6 => Some(row!(AbsoluteSubtractionWord6, (1 bytes), any)),
-                53 R_RISCV_SET6 => Some(row!(AbsoluteSetWord6, (1 bytes), any)),
-                54 R_RISCV_SET8 => Some(row!(AbsoluteSet, (1 bytes), any)),
-                55 R_RISCV_SET16 => Some(row!(AbsoluteSet, (2 bytes), any)),
-                56 R_RISCV_SET32 => Some(row!(AbsoluteSet, (4 bytes), any)),
-                57 R_RISCV_32_PCREL => Some(row!(Relative, (4 bytes), signed_or_unsigned 32)),
-                59 R_RISCV_PLT32 =>
-                    Some(row!(PltRelative, (4 bytes), signed_or_unsigned 32 reach -0x80000000,
-                        0x80000000)),
-                60 R_RISCV_SET_ULEB128 => Some(row!(Relative, (0 bytes), any)),
-                61 R_RISCV_SUB_ULEB128 => Some(row!(PairSubtractionULEB128RiscV, (8 bytes), any)),
-                62 R_RISCV_TLSDESC_HI20 => Some(pair!(TlsDesc, 32, UType, origin: own)),
-                63 R_RISCV_TLSDESC_LOAD_LO12 =>
-                    Some(pair!(TlsDesc, 32, IType, origin: own)),
-                64 R_RISCV_TLSDESC_ADD_LO12 =>
-                    Some(pair!(TlsDesc, 32, IType, origin: own)),
-                65 R_RISCV_TLSDESC_CALL =>
-                    Some(row!(TlsDescCall, (0 bytes), any, origin: own)),
-            }
-        }
-    };
+    ($($made:tt)+) => { listed! { ($($made)+) {
+        0 R_RISCV_NONE (None, 0 bytes, any)
+        1 R_RISCV_32 (Absolute, 4 bytes, signed_or_unsigned 32)
+        2 R_RISCV_64 (Absolute, 8 bytes, any)
+        16 R_RISCV_BRANCH (Relative, 0..32 BType, within -4096..4095, alignment: 2)
+        17 R_RISCV_JAL (Relative, 0..32 JType, within -1048576..1048575, alignment: 2)
+        18 R_RISCV_CALL (PltRelative, 0..64 UiType, pair)
+        19 R_RISCV_CALL_PLT (PltRelative, 0..64 UiType, pair)
+        20 R_RISCV_GOT_HI20 (GotRelative, 0..32 UType, pair)
+        21 R_RISCV_TLS_GOT_HI20 (GotTpOff, 0..32 UType, pair)
+        22 R_RISCV_TLS_GD_HI20 (TlsGd, 0..32 UType, pair)
+        23 R_RISCV_PCREL_HI20 (Relative, 0..32 UType, pair)
+        24 R_RISCV_PCREL_LO12_I (RelativeRiscVLow12, 0..32 IType, pair)
+        25 R_RISCV_PCREL_LO12_S (RelativeRiscVLow12, 0..32 SType, pair)
+        26 R_RISCV_HI20 (Absolute, 0..32 UType, pair)
+        27 R_RISCV_LO12_I (Absolute, 0..32 IType, pair)
+        28 R_RISCV_LO12_S (Absolute, 0..32 SType, pair)
+        29 R_RISCV_TPREL_HI20 (TpOff, 0..32 UType, pair)
+        30 R_RISCV_TPREL_LO12_I (TpOff, 0..32 IType, pair)
+        31 R_RISCV_TPREL_LO12_S (TpOff, 0..32 SType, pair)
+        32 R_RISCV_TPREL_ADD (None, 0 bytes, any)
+        33 R_RISCV_ADD8 (AbsoluteAddition, 1 bytes, any)
+        34 R_RISCV_ADD16 (AbsoluteAddition, 2 bytes, any)
+        35 R_RISCV_ADD32 (AbsoluteAddition, 4 bytes, any)
+        36 R_RISCV_ADD64 (AbsoluteAddition, 8 bytes, any)
+        37 R_RISCV_SUB8 (AbsoluteSubtraction, 1 bytes, any)
+        38 R_RISCV_SUB16 (AbsoluteSubtraction, 2 bytes, any)
+        39 R_RISCV_SUB32 (AbsoluteSubtraction, 4 bytes, any)
+        40 R_RISCV_SUB64 (AbsoluteSubtraction, 8 bytes, any)
+        41 R_RISCV_GOT32_PCREL (GotRelative, 4 bytes, signed_or_unsigned 32, reach: signed 32)
+        43 R_RISCV_ALIGN (Alignment, 0 bytes, any)
+        44 R_RISCV_RVC_BRANCH (Relative, 0..16 CbType, within -256..255, alignment: 2)
+        45 R_RISCV_RVC_JUMP (Relative, 0..16 CjType, within -2048..2047, alignment: 2)
+        46 R_RISCV_RVC_LUI (Absolute, 0..32 CluiType, signed_or_unsigned 32,
+            reach: within -0x20800..0x1f800, own: true)
+        51 R_RISCV_RELAX (None, 0 bytes, any)
+        52 R_RISCV_SUB6 (AbsoluteSubtractionWord6, 1 bytes, any)
+        53 R_RISCV_SET6 (AbsoluteSetWord6, 1 bytes, any)
+        54 R_RISCV_SET8 (AbsoluteSet, 1 bytes, any)
+        55 R_RISCV_SET16 (AbsoluteSet, 2 bytes, any)
+        56 R_RISCV_SET32 (AbsoluteSet, 4 bytes, any)
+        57 R_RISCV_32_PCREL (Relative, 4 bytes, signed_or_unsigned 32)
+        59 R_RISCV_PLT32 (PltRelative, 4 bytes, signed_or_unsigned 32, reach: signed 32)
+        60 R_RISCV_SET_ULEB128 (Relative, 0 bytes, any)
+        61 R_RISCV_SUB_ULEB128 (PairSubtractionULEB128RiscV, 8 bytes, any)
+        62 R_RISCV_TLSDESC_HI20 (TlsDesc, 0..32 UType, pair, own: true)
+        63 R_RISCV_TLSDESC_LOAD_LO12 (TlsDesc, 0..32 IType, pair, own: true)
+        64 R_RISCV_TLSDESC_ADD_LO12 (TlsDesc, 0..32 IType, pair, own: true)
+        65 R_RISCV_TLSDESC_CALL (TlsDescCall, 0 bytes, any, own: true)
+    } } };
 }
 
 impl fmt::Debug for RiscVRelocation {
@@ -169,20 +137,20 @@ impl RiscVRelocation {
     #[must_use]
     #[inline(always)]
     pub const fn from_elf(code: u32) -> RiscVRelocation {
-        relocations!(name_of_code(RiscVRelocation, code))
+        relocations!(name_of RiscVRelocation, code)
     }
 
     /// The code, `r_type` in ELF files.
     #[must_use]
     #[inline]
     pub const fn elf_code(self) -> u32 {
-        relocations!(code_of_name(RiscVRelocation, self))
+        relocations!(code_of RiscVRelocation, self)
     }
 
     /// The name, as "R_RISCV_32"; "unknown relocation" for `Other`.
     #[must_use]
     pub const fn name(self) -> &'static str {
-        relocations!(text_of_name(RiscVRelocation, self))
+        relocations!(text_of RiscVRelocation, self)
     }
 
     /// What a relocation of a ULEB128 number does; `None` for all others.
@@ -196,12 +164,12 @@ impl RiscVRelocation {
     }
 }
 
-static ROWS: &[Option<TableRow>] = &relocations!(table());
+static ROWS: &[Option<TableRow>] = &relocations!(table [RiscV RiscVInstruction EM_RISCV]);
 
 /// The index of a name in the table.
 #[inline(always)]
 const fn index(name: RiscVRelocation) -> usize {
-    relocations!(index_of_name(RiscVRelocation, name))
+    relocations!(index_of RiscVRelocation, name)
 }
 
 /// What a relocation means. It takes a name; [`RiscVRelocation::from_elf`](crate::riscv64::RiscVRelocation::from_elf) gives the name of a code.
