@@ -129,9 +129,9 @@ LINKER_UTILS_MUST_USE static inline uint32_t linker_utils_write_relr(
 
 /* Writes the addresses that `words` relocate to the beginning of `addresses`, in the order of the
  * words. `needed` becomes how many they are, with LINKER_UTILS_TOO_SHORT too; SIZE_MAX if those are
- * more. Of the first word that isn't well-formed LINKER_UTILS_NO_ADDRESS, where it is a bitmap and no
- * address is before it, LINKER_UTILS_NOT_ALIGNED, of an address that is no multiple of 8, or
- * LINKER_UTILS_TOO_LARGE, of a bitmap; LINKER_UTILS_TOO_SHORT, of `addresses`. */
+ * more. LINKER_UTILS_NO_ADDRESS, where the first word is a bitmap. Of the first word that isn't
+ * well-formed LINKER_UTILS_NOT_ALIGNED, if it is even, or LINKER_UTILS_TOO_LARGE.
+ * LINKER_UTILS_TOO_SHORT, of `addresses`. */
 LINKER_UTILS_MUST_USE static inline uint32_t linker_utils_read_relr(
     const uint64_t *words, size_t words_len, uint64_t *addresses, size_t addresses_len,
     size_t *needed);

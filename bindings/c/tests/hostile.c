@@ -1509,7 +1509,8 @@ static void call_read_relr(void) {
     for (size_t i = 0; i < count; i++)
         word[i] = i == 0 || once_in(4) ? any_number() & ~(uint64_t)(once_in(100) ? 0 : 7)
                                        : any_number() | 1;
-    size_t addresses_len = once_in(2) ? any_count() : 63 * count;
+    size_t most = count < 8 ? 63 * count : any_count();
+    size_t addresses_len = once_in(2) ? any_count() : most;
     struct buffer *addresses = place(WRITTEN, addresses_len, sizeof(uint64_t));
     size_t *needed = output(sizeof *needed);
     uint32_t status = CALL(read_relr, words->given, LEN(words, uint64_t), addresses->given,
